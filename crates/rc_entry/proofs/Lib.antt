@@ -1,0 +1,4 @@
+pub mod Bytes
+pub mod Written
+pub mod Faults
+pub mod OneSpelling

@@ -1,0 +1,97 @@
+-- What clauses see of the two rings of an io_uring (io_uring(7)): two lists, and the open slot.
+use Rattle.std.specs.Prelude.{◌≡◌, ℕ, ◌+◌, ◌%◌, Bool, true, false, List, [], ◌∷◌, ◌++◌, length, take, drop, Option, Some, None}
+use Rattle.std.specs.Int.{w64, to_le_bytes}
+use Rattle.rc_entry.specs.declared.Entry.{Entry}
+use Rattle.rc_entry.specs.declared.Entry.TheVariants.{Nop, Fsync, Read, Write}
+use Rattle.rc_entry.specs.declared.Cqe.{Cqe}
+use Rattle.rc_entry.specs.Spelling.{SpellsEntry}
+
+-- the open slot: none, one without an entry, or one with the 64 bytes that a prep left
+pub data OpenSlot : Type 0 where
+  NoSlot : OpenSlot
+  VacantSlot : OpenSlot
+  PreparedSlot : (bytes : List ℕ) → OpenSlot
+
+-- the two rings
+pub record Rings : Type 0 where
+  -- how many places the submission ring and the completion ring have
+  pub entries : ℕ
+  pub completion_entries : ℕ
+  -- the 64 bytes of each queued entry, and the completions, from the front
+  pub queued : List (List ℕ)
+  pub completions : List Cqe
+  -- the open slot's place; with none open, the place that the next slot gets
+  pub place : ℕ
+  pub slot : OpenSlot
+  -- whether the open slot is in the ring alone
+  pub parked : Bool
+
+-- two rings with nothing in them
+abbrev pub empty_rings : ℕ → ℕ → ℕ → Rings
+empty_rings entries completion_entries place = record {
+  entries = entries;
+  completion_entries = completion_entries;
+  queued = [];
+  completions = [];
+  place = place;
+  slot = NoSlot;
+  parked = false;
+}
+
+-- how many places of the submission ring the open slot takes
+abbrev pub slot_count : OpenSlot → ℕ
+slot_count NoSlot = 0
+slot_count VacantSlot = 1
+slot_count (PreparedSlot bytes) = 1
+
+-- how many places of the submission ring are taken: an open slot counts as an entry
+abbrev pub used : Rings → ℕ
+used rings = length rings.queued + slot_count rings.slot
+
+-- whether the open slot has an entry
+abbrev pub is_prepared : OpenSlot → Bool
+is_prepared NoSlot = false
+is_prepared VacantSlot = false
+is_prepared (PreparedSlot bytes) = true
+
+-- the bytes that a prep left in the open slot
+abbrev pub bytes_of : OpenSlot → List ℕ
+bytes_of NoSlot = []
+bytes_of VacantSlot = []
+bytes_of (PreparedSlot bytes) = bytes
+
+-- the place, if a slot is open
+abbrev pub place_if_open : ℕ → OpenSlot → Option ℕ
+place_if_open place NoSlot = None
+place_if_open place VacantSlot = Some place
+place_if_open place (PreparedSlot bytes) = Some place
+
+-- the open slot's place, if there is one
+abbrev pub open_place : Rings → Option ℕ
+open_place rings = place_if_open rings.place rings.slot
+
+-- a prep of the entry, whose user_data is 0, into the open slot: its bytes spell the entry, and nothing else changes
+pub record Prepares (old new : Rings) (entry : Entry) : Type 0 where
+  pub bytes : List ℕ
+  pub spells : SpellsEntry entry bytes
+  pub after : new ≡ record old { slot = PreparedSlot bytes }
+
+-- the bytes of an entry with another user_data, which lies at 32 to 39 with its lowest byte first
+-- (io_uring_sqe_set_data64(3))
+abbrev pub bytes_with_data : ℕ → List ℕ → List ℕ
+bytes_with_data user_data bytes = take 32 bytes ++ to_le_bytes w64 user_data ++ drop 40 bytes
+
+-- the entry with another user_data
+abbrev pub entry_with_data : ℕ → Entry → Entry
+entry_with_data given (Nop user_data) = Nop given
+entry_with_data given (Fsync fd datasync user_data) = Fsync fd datasync given
+entry_with_data given (Read fd addr len off user_data) = Read fd addr len off given
+entry_with_data given (Write fd addr len off user_data) = Write fd addr len off given
+
+-- the open slot's entry, with the user_data, goes last into the queue, and the slot is closed
+abbrev pub after_queueing : Rings → ℕ → Rings
+after_queueing rings user_data = record rings {
+  queued = rings.queued ++ bytes_with_data user_data (bytes_of rings.slot) ∷ [];
+  place = (rings.place + 1) % rings.entries;
+  slot = NoSlot;
+}
