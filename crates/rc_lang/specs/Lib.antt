@@ -1,0 +1,4 @@
+pub mod Nesting
+pub mod Numbers
+pub mod Parts
+pub mod Program

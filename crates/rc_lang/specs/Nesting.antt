@@ -1,0 +1,79 @@
+-- Which blocks are open at a place of a thread, and which lines may stand there.
+use Rattle.std.specs.Prelude.{ℕ, ◌≡◌, ◌+◌, ◌-◌, ◌≤◌, Bool, true, false, ◌||◌, List, [], ◌∷◌, ◌++◌, length, take, Option, Some, None, slice_get}
+use Rattle.rc_lang.specs.declared.lines.Block.{Block}
+use Rattle.rc_lang.specs.declared.lines.Block.TheVariants.{InLock, InPeek, InArm}
+use Rattle.rc_lang.specs.declared.lines.Line.{Line}
+use Rattle.rc_lang.specs.declared.lines.Stmt.{Stmt}
+use Rattle.rc_lang.specs.declared.lines.Stmt.TheVariants.{Do, Lock, EndLock, Peek, Case, Other, Nothing, EndArm, EndPeek}
+
+-- Blocks stand with the innermost last.
+abbrev pub innermost : List Block → Option Block
+innermost blocks = slice_get blocks (length blocks - 1)
+
+abbrev pub without_innermost : List Block → List Block
+without_innermost blocks = take (length blocks - 1) blocks
+
+-- The blocks that are open behind a line at place j, from those that are open before it.
+abbrev pub blocks_behind : List Block → ℕ → Stmt → List Block
+blocks_behind blocks j (Do op) = blocks
+blocks_behind blocks j Lock = blocks ++ InLock j ∷ []
+blocks_behind blocks j (EndLock o) = without_innermost blocks
+blocks_behind blocks j (Peek x) = blocks ++ InPeek j ∷ []
+blocks_behind blocks j (Case o u) = blocks ++ InArm o ∷ []
+blocks_behind blocks j (Other o) = blocks ++ InArm o ∷ []
+blocks_behind blocks j (Nothing o) = blocks ++ InArm o ∷ []
+blocks_behind blocks j (EndArm o) = without_innermost blocks
+blocks_behind blocks j (EndPeek o) = without_innermost blocks
+
+-- The blocks that are open behind these lines, the first of which stands at place j.
+abbrev pub blocks_after : List Block → ℕ → List Line → List Block
+blocks_after blocks j [] = blocks
+blocks_after blocks j (line ∷ lines) = blocks_after (blocks_behind blocks j line.stmt) (j + 1) lines
+
+-- The blocks that are open at a place.
+abbrev pub blocks_at : List Line → ℕ → List Block
+blocks_at lines j = blocks_after [] 0 (take j lines)
+
+abbrev pub is_lock : Block → Bool
+is_lock (InLock o) = true
+is_lock (InPeek o) = false
+is_lock (InArm o) = false
+
+abbrev pub is_peek : Block → Bool
+is_peek (InLock o) = false
+is_peek (InPeek o) = true
+is_peek (InArm o) = false
+
+abbrev pub in_lock : List Block → Bool
+in_lock [] = false
+in_lock (b ∷ bs) = is_lock b || in_lock bs
+
+abbrev pub in_peek : List Block → Bool
+in_peek [] = false
+in_peek (b ∷ bs) = is_peek b || in_peek bs
+
+-- Directly in a peek stand only its arms.
+abbrev pub is_some_peek : Option Block → Bool
+is_some_peek None = false
+is_some_peek (Some b) = is_peek b
+
+abbrev pub directly_in_peek : List Block → Bool
+directly_in_peek blocks = is_some_peek (innermost blocks)
+
+-- The line may stand where these blocks are open.
+abbrev pub IsNestedIn : List Block → Stmt → Type 0
+IsNestedIn blocks (Do op) = directly_in_peek blocks ≡ false
+IsNestedIn blocks Lock = (in_lock blocks ≡ false) × (in_peek blocks ≡ false)
+IsNestedIn blocks (EndLock o) = innermost blocks ≡ Some (InLock o)
+IsNestedIn blocks (Peek x) = in_peek blocks ≡ false
+IsNestedIn blocks (Case o u) = innermost blocks ≡ Some (InPeek o)
+IsNestedIn blocks (Other o) = innermost blocks ≡ Some (InPeek o)
+IsNestedIn blocks (Nothing o) = innermost blocks ≡ Some (InPeek o)
+IsNestedIn blocks (EndArm o) = innermost blocks ≡ Some (InArm o)
+IsNestedIn blocks (EndPeek o) = innermost blocks ≡ Some (InPeek o)
+
+-- Each line may stand at its place, at most 31 blocks are open inside the thread, and at its end none is.
+pub record IsNested (lines : List Line) : Type 0 where
+  pub each : (j : ℕ) (l : Line) → slice_get lines j ≡ Some l → IsNestedIn (blocks_at lines j) l.stmt
+  pub depth : (j : ℕ) → length (blocks_at lines j) ≤ 31
+  pub closed : blocks_at lines (length lines) ≡ []

@@ -1,0 +1,114 @@
+//! The numbers of the notation: `0`, or digits without a leading zero.
+
+ghost use Rattle.std.specs.Prelude.{◌≡◌, ◌^◌, ◌≤◌, ◌≤ℤ◌, IfSome, pos};
+ghost use Rattle.std.specs.List.{list_all};
+ghost use Rattle.rc_lang.specs.Numbers as spec;
+
+fn all_digits(bytes: &[u8]) -> bool
+    ensures { result ≡ list_all spec.is_digit bytes.now }
+{
+    bytes.iter().all(|b| b.is_ascii_digit())
+}
+
+fn is_number(word: &[u8]) -> bool
+    ensures { result ≡ spec.is_number word.now }
+{
+    match word {
+        [] => false,
+        [digit] => digit.is_ascii_digit(),
+        [first, ..] => *first != b'0' && all_digits(word),
+    }
+}
+
+/// The number that a word spells, where it lies from `low` to `high`.
+pub fn number_of(low: u64, high: u64, word: &[u8]) -> Option<u64>
+    ensures value { result ≡ spec.number_of low high word.now }
+    ensures within { IfSome result (λ n. (low ≤ n) × (n ≤ high)) }
+{
+    if !is_number(word) {
+        return None;
+    }
+    let mut n: u64 = 0;
+    for b in word {
+        let digit = u64::from(*b - b'0');
+        if n > (u64::MAX - digit) / 10 {
+            return None;
+        }
+        n = 10 * n + digit;
+    }
+    (low <= n && n <= high).then_some(n)
+}
+
+fn positive_number_of(low: i64, high: i64, word: &[u8]) -> Option<i64>
+    ensures value { result ≡ spec.signed_in low high (spec.is_number word.now) (pos (spec.value_of word.now)) }
+    ensures within { IfSome result (λ n. (low ≤ℤ n) × (n ≤ℤ high)) }
+{
+    let n = number_of(0, i64::MAX as u64, word)? as i64;
+    (low <= n && n <= high).then_some(n)
+}
+
+fn minus(n: u64) -> i64
+    requires { n ≤ 2 ^ 63 }
+    ensures { result ≡ spec.negative n }
+{
+    match n {
+        0 => 0,
+        n => -1 - (n - 1) as i64,
+    }
+}
+
+fn negative_number_of(low: i64, high: i64, digits: &[u8]) -> Option<i64>
+    ensures value { result ≡ spec.signed_in low high (spec.is_number digits.now) (spec.negative (spec.value_of digits.now)) }
+    ensures within { IfSome result (λ n. (low ≤ℤ n) × (n ≤ℤ high)) }
+{
+    let n = minus(number_of(0, 1 << 63, digits)?);
+    (low <= n && n <= high).then_some(n)
+}
+
+/// The signed number that a word spells, with `-` before it or not, where it lies from `low` to `high`; `-0` is 0.
+pub fn signed_number_of(low: i64, high: i64, word: &[u8]) -> Option<i64>
+    ensures value { result ≡ spec.signed_number_of low high word.now }
+    ensures within { IfSome result (λ n. (low ≤ℤ n) × (n ≤ℤ high)) }
+{
+    match word {
+        [b'-', digits @ ..] => negative_number_of(low, high, digits),
+        _ => positive_number_of(low, high, word),
+    }
+}
+
+#[cfg(test)]
+mod tests {
+    use super::*;
+
+    #[test]
+    fn words_are_numbers_by_their_form_and_range(rt: HostRuntime) {
+        for (word, number, signed) in [
+            ("", None, None),
+            ("-", None, None),
+            ("0", Some(0), Some(0)),
+            ("-0", None, Some(0)),
+            ("00", None, None),
+            ("-01", None, None),
+            ("+1", None, None),
+            ("1x", None, None),
+            ("4096", Some(4096), Some(4096)),
+            ("-4095", None, Some(-4095)),
+            ("9223372036854775808", Some(1 << 63), None),
+            ("-9223372036854775808", None, Some(i64::MIN)),
+            ("-9223372036854775809", None, None),
+            ("18446744073709551615", Some(u64::MAX), None),
+            ("18446744073709551616", None, None),
+        ] {
+            let bytes = word.as_bytes();
+            assert_eq!(rt; number_of(0, u64::MAX, bytes), number, "{word}");
+            assert_eq!(rt;
+                signed_number_of(i64::MIN, i64::MAX, bytes),
+                signed,
+                "{word}"
+            );
+        }
+        assert_eq!(rt; number_of(1, 16, b"0"), None);
+        assert_eq!(rt; number_of(1, 16, b"16"), Some(16));
+        assert_eq!(rt; signed_number_of(-4095, 4096, b"-4096"), None);
+    }
+}

@@ -1,0 +1,29 @@
+//! What a program asks of the kernel.
+
+/// What a request asks for (`io_uring_enter(2)`, the operation codes).
+#[derive(Clone, Copy, PartialEq, Eq, Debug)]
+pub enum Kind {
+    /// Nothing at all: `IORING_OP_NOP`.
+    Nop,
+}
+
+/// A request, from `io_uring_sqe_set_data64(3)` until its completion is reaped.
+///
+/// What a kind doesn't use is 0, and the file number of a nop is -1 (`io_uring_prep_nop(3)`).
+#[derive(Clone, Copy, PartialEq, Eq, Debug)]
+pub struct Request {
+    /// The number of the request among all that the program made, from 1.
+    pub serial: u64,
+    /// What is asked for.
+    pub kind: Kind,
+    /// The file number.
+    pub fd: i32,
+    /// The number of the buffer.
+    pub buffer: u32,
+    /// How many bytes are moved at most.
+    pub len: u32,
+    /// Where in the file, in bytes.
+    pub off: u64,
+    /// What its completion carries too.
+    pub user_data: u64,
+}
