@@ -1,0 +1,10 @@
+pub mod FirstFault
+pub mod Kept
+pub mod KeptArms
+pub mod KeptBlocks
+pub mod KeptDraft
+pub mod KeptForms
+pub mod KeptParts
+pub mod Keys
+pub mod Rows
+pub mod Streams

@@ -1,0 +1,40 @@
+-- What a text is: a program, or the line and the number of a fault.
+use Rattle.std.specs.Prelude.{ℕ, ◌+◌, ◌*◌, List, [], ◌∷◌, Option, Some, None, Result, Ok, Err, Bool, true, false, if◌then◌else◌, max}
+use Rattle.rc_lang.specs.Program.{Program}
+use Rattle.rc_read.specs.declared.parts.Place.{Place}
+use Rattle.rc_read.specs.declared.parts.Place.TheVariants.{Start, Second}
+use Rattle.rc_read.specs.Sentences.{sentences, first_true, is_inside}
+use Rattle.rc_read.specs.Sheets.{Sheet, empty, with_line}
+use Rattle.rc_read.specs.Words.{lines_of}
+
+-- The lines are judged in order. The first with a true sentence is answered, with the least number.
+abbrev pub on_line : Option ℕ → ℕ → Result Sheet (ℕ × ℕ) → Result Sheet (ℕ × ℕ)
+on_line None line rest = rest
+on_line (Some n) line rest = Err (line, n)
+
+abbrev pub judged : Sheet → List (List ℕ) → Result Sheet (ℕ × ℕ)
+judged s [] = Ok s
+judged s (line ∷ lines) = on_line (first_true (sentences s line)) (s.count + 1) (judged (with_line s line) lines)
+
+-- What was read is a program: its completion ring has twice as many entries as its submission ring (io_uring_setup(2)).
+abbrev pub program_of : Sheet → Program
+program_of s = record { entries = s.entries; completion_entries = 2 * s.entries; tokens = s.tokens; threads = s.threads }
+
+-- The faults of the text's end, at its last line: both head lines aren't there, or blocks are open.
+abbrev pub lacks_head : Place → Bool
+lacks_head Start = true
+lacks_head Second = true
+lacks_head _ = false
+
+abbrev pub at_end : Sheet → Result Program (ℕ × ℕ)
+at_end s =
+    if lacks_head s.place then Err (max s.count 1, 2)
+    else (if is_inside s.place then Err (s.count, 7) else Ok (program_of s))
+
+abbrev pub ended : Result Sheet (ℕ × ℕ) → Result Program (ℕ × ℕ)
+ended (Ok s) = at_end s
+ended (Err f) = Err f
+
+-- The answer of a text.
+abbrev pub answer_of : List ℕ → Result Program (ℕ × ℕ)
+answer_of bytes = ended (judged empty (lines_of bytes))

@@ -1,0 +1,11 @@
+pub mod Answer
+pub mod Causes
+pub mod Forms
+pub mod Names
+pub mod OneAnswer
+pub mod Sentences
+pub mod Sheets
+pub mod Stream
+pub mod Texts
+pub mod View
+pub mod Words

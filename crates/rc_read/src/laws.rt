@@ -1,0 +1,14 @@
+//! Laws of reading alone, over lists of bytes.
+
+ghost use Rattle.std.specs.Prelude.{◌≡◌, ◌↔◌, ℕ, List, Result};
+ghost use Rattle.rc_lang.specs.Program.{Program};
+ghost use Rattle.rc_read.specs.Answer.{answer_of};
+ghost use Rattle.rc_read.specs.OneAnswer.{HasAnswer};
+
+/// Each text has exactly one answer. It names a line exactly where that line is the first of which a fault sentence is
+/// true, and then the least number of such a sentence; a fault of the text's end, or a program, comes only where no
+/// line has one.
+pub fn each_text_has_one_answer()
+    ensures some { (bytes : List ℕ) → HasAnswer bytes (answer_of bytes) }
+    ensures one { (bytes : List ℕ) (a b : Result Program (ℕ × ℕ)) → HasAnswer bytes a → HasAnswer bytes b → a ≡ b }
+{}
