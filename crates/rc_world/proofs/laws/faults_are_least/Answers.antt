@@ -1,0 +1,5 @@
+use Rattle.rc_world.proofs.Least.{least}
+use Rattle.rc_world.proofs.laws.faults_are_least.Goals as goal
+
+pub returns : goal.returns
+returns c = least

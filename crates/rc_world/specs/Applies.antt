@@ -1,0 +1,16 @@
+-- What the calls that change a world answer, and what they leave.
+use Rattle.std.specs.Prelude.{◌≡◌, Result, Ok, Err, Some, None}
+use Rattle.rc_world.specs.declared.event.Event.{Event}
+use Rattle.rc_world.specs.declared.event.Item.{Item}
+use Rattle.rc_world.specs.declared.world.Stop.{Stop}
+use Rattle.rc_world.specs.declared.world.Stop.TheVariants.{Fault, OutOfMemory}
+use Rattle.rc_world.specs.Faults.{fault_of}
+use Rattle.rc_world.specs.Items.{item_step}
+use Rattle.rc_world.specs.Machine.{World}
+
+-- The world without a fault makes exactly the step that the item names; a fault is the world's least. A refusal leaves
+-- the world as it was.
+abbrev pub Applies : World → Item → World → Result Event Stop → Type 0
+Applies old item new (Ok e) = (fault_of old ≡ None) × (item_step old item ≡ Some (e, new))
+Applies old item new (Err (Fault f)) = (fault_of old ≡ Some f) × (new ≡ old)
+Applies old item new (Err OutOfMemory) = (fault_of old ≡ None) × (new ≡ old)

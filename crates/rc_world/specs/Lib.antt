@@ -1,0 +1,9 @@
+pub mod Applies
+pub mod FaultNames
+pub mod Faults
+pub mod Items
+pub mod Laws
+pub mod LeastFault
+pub mod Machine
+pub mod Runs
+pub mod Schedule

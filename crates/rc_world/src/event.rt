@@ -1,0 +1,55 @@
+//! What happens in a world, and what a schedule names.
+
+/// A completion queue entry (`io_uring_enter(2)`).
+#[derive(Clone, Copy, PartialEq, Eq, Debug)]
+pub struct Completion {
+    /// The user data of its request.
+    pub user_data: u64,
+    /// The result: a count, or a negative errno.
+    pub res: i32,
+}
+
+/// What a step of a thread did, with the values of its trace line.
+#[derive(Clone, Copy, PartialEq, Eq, Debug)]
+pub enum Action {
+    /// The lock was taken.
+    Locked,
+    /// The lock was released.
+    Released,
+    /// A submission entry was opened.
+    EntryOpened,
+    /// The open entry was made a nop.
+    NopPrepared,
+    /// The open entry got this user data and was queued.
+    DataSet(u64),
+    /// A submit answered this: how many were taken, or a negative errno.
+    Submitted(i32),
+    /// A peek saw this completion.
+    Peeked(Completion),
+    /// A peek saw no completion.
+    PeekedNone,
+    /// The completion of this user data was taken away.
+    Reaped(u64),
+}
+
+/// One event of a run.
+#[derive(Clone, Copy, PartialEq, Eq, Debug)]
+pub enum Event {
+    /// A step of a thread, with the number of its line.
+    ByThread {
+        thread: u32,
+        line: u32,
+        action: Action,
+    },
+    /// A completion by the kernel.
+    ByKernel(Completion),
+}
+
+/// One item of a schedule.
+#[derive(Clone, Copy, PartialEq, Eq, Debug)]
+pub enum Item {
+    /// A step of a thread; at a submit its answer, or all that is queued.
+    Thread { thread: u32, take: Option<i32> },
+    /// The pending request with this user data completes; the first `res` bytes of a read become `fill`.
+    Kernel { user_data: u64, res: i32, fill: u8 },
+}
