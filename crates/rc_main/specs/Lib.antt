@@ -1,0 +1,4 @@
+pub mod Engine
+pub mod Printed
+pub mod Streams
+pub mod Trace

@@ -1,0 +1,105 @@
+//! The whole program, over any reader and writers.
+
+use crate::engine_fault::EngineFault;
+use crate::step_engine::{End, StepEnd, step_engine};
+use crate::streams::{ReadSource, WriteSink};
+use crate::words::{Command, WordsFault, read_words};
+use std::alloc::{AllocError, Global};
+use std::io::{BufWriter, Read, Write};
+use thiserror::Error;
+
+/// Ended or stopped without a fault, or shown.
+pub const GOOD_STATUS: u8 = 0;
+/// A fault was found.
+pub const FAULT_STATUS: u8 = 1;
+/// The text can't be read.
+pub const UNREADABLE_STATUS: u8 = 2;
+/// Wrong words, an unreadable schedule, an item that isn't enabled, memory, or a device that failed.
+pub const DEVICE_STATUS: u8 = 3;
+
+/// Why the program has no answer.
+#[derive(Debug, Drop, Error)]
+pub enum CommandFault {
+    #[error(transparent)]
+    Words(#[from] WordsFault),
+    #[error(transparent)]
+    Engine(#[from] EngineFault),
+}
+
+impl From<AllocError> for CommandFault {
+    fn from(_error: AllocError) -> CommandFault {
+        CommandFault::Engine(EngineFault::OutOfMemory)
+    }
+}
+
+/// Does what the words say, and answers the exit status. Answers go to the writer; wrong words, want of memory and
+/// devices that failed are told on one line of `errors`.
+pub fn command<'a, R, I: Read + Drop, O: Write + Drop, E: Write + Drop>(
+    _rt: &R,
+    alloc: Global,
+    words: &'a [&'a str],
+    reader: I,
+    writer: O,
+    mut errors: E,
+) -> u8 {
+    match answered(alloc, words, reader, writer) {
+        Ok(status) => status,
+        Err(fault) => {
+            let _ = writeln!(errors, "ringcheck: {fault}");
+            DEVICE_STATUS
+        }
+    }
+}
+
+/// Does what the words say.
+fn answered<'a, I: Read + Drop, O: Write + Drop>(
+    alloc: Global,
+    words: &'a [&'a str],
+    reader: I,
+    writer: O,
+) -> Result<u8, CommandFault> {
+    let mut buffered = BufWriter::new(alloc, writer).map_err(|_| EngineFault::OutOfMemory)?;
+    let status = match read_words(alloc, words)? {
+        Command::Step { schedule } => stepped(alloc, reader, schedule, &mut buffered),
+        Command::Show(text) => shown(text.as_str(), &mut buffered),
+    };
+    let flushed = buffered.flush();
+    let status = status?;
+    match flushed {
+        Ok(()) => Ok(status),
+        Err(_) => Err(CommandFault::Engine(EngineFault::Write)),
+    }
+}
+
+/// Shows a text.
+fn shown<W: Write>(text: &str, writer: &mut W) -> Result<u8, EngineFault> {
+    match writer.write_all(text.as_bytes()) {
+        Ok(()) => Ok(GOOD_STATUS),
+        Err(_) => Err(EngineFault::Write),
+    }
+}
+
+/// Steps the program that the reader gives.
+fn stepped<I: Read + Drop, W: Write>(
+    alloc: Global,
+    reader: I,
+    schedule: &str,
+    writer: &mut W,
+) -> Result<u8, EngineFault> {
+    let mut source = ReadSource::new(reader);
+    let mut sink = WriteSink::new(writer);
+    let end = step_engine(alloc, &mut source, schedule, &mut sink)?;
+    Ok(status_of(end))
+}
+
+/// The exit status of a stepped program.
+fn status_of(end: StepEnd) -> u8 {
+    match end {
+        StepEnd::Unreadable(_) => UNREADABLE_STATUS,
+        StepEnd::Schedule(_) => DEVICE_STATUS,
+        StepEnd::Trace(End::Fault(_)) => FAULT_STATUS,
+        StepEnd::Trace(End::NotEnabled(_)) => DEVICE_STATUS,
+        StepEnd::Trace(End::Ended) => GOOD_STATUS,
+        StepEnd::Trace(End::Stopped) => GOOD_STATUS,
+    }
+}

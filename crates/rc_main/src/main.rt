@@ -1,0 +1,49 @@
+//! The program `ringcheck`: steps programs of liburing calls through schedules.
+#![tactic(auto)]
+
+pub mod command;
+pub mod engine_fault;
+pub mod printed;
+pub mod reading;
+pub mod step_engine;
+pub mod streams;
+#[cfg(test)]
+mod tests;
+pub mod words;
+pub mod writing;
+
+use command::{DEVICE_STATUS, command};
+use std::alloc::Global;
+use std::process::ExitCode;
+use std::{env, io};
+
+/// The words of the command line, without the program's name.
+fn given_words(rt: &HostRuntime, alloc: Global) -> io::Result<Vec<String>> {
+    let mut words = Vec::new(alloc);
+    for word in env::args(rt)?.skip(1) {
+        words.push(word)?;
+    }
+    Ok(words)
+}
+
+fn run(rt: &HostRuntime) -> io::Result<u8> {
+    let alloc = rt.alloc();
+    let words = given_words(rt, alloc)?;
+    let mut list = Vec::new(alloc);
+    for word in &words {
+        list.push(word.as_str())?;
+    }
+    let mut writer = io::BufWriter::new(alloc, rt.stdout())?;
+    let status = command(rt, alloc, &list, rt.stdin(), &mut writer, rt.stderr());
+    Ok(status)
+}
+
+fn main(rt: HostRuntime) -> ExitCode {
+    match run(&rt) {
+        Ok(status) => ExitCode::from(status),
+        Err(error) => {
+            let _ = eprintln!(rt; "ringcheck: {error}");
+            ExitCode::from(DEVICE_STATUS)
+        }
+    }
+}
