@@ -1,7 +1,7 @@
 //! Submission entries as bytes.
 
 ghost use Rattle.std.specs.Prelude.{◌≡◌, ◌↔◌, negsuc, IsTrue};
-ghost use Rattle.rc_entry.specs.Spelling.{opcode_of, fd_of, off_of, addr_of, len_of, flags_of, user_data_of, sync_flags, HasFields, IsKnown, AreOthersZero, AreUnusedZero, SpellsEntry, IsFaultOfEntry, IsLeastFault};
+ghost use Rattle.rc_entry.specs.Spelling.{sqe_opcode, sqe_fd, sqe_off, sqe_addr, sqe_len, sqe_flags, sqe_user_data, sync_flags, HasFields, IsKnown, AreOthersZero, AreUnusedZero, SpellsEntry, IsFaultOfEntry, IsLeastEntryFault};
 ghost use Rattle.rc_entry.specs.declared.Entry.{Entry};
 ghost use Rattle.rc_entry.specs.declared.EntryFault.{EntryFault};
 
@@ -113,13 +113,13 @@ impl Fields {
 
     // The fields as they stand in the bytes.
     fn read(bytes: &[u8; 64]) -> Fields
-        ensures opcode { result.opcode ≡ opcode_of bytes.now }
-        ensures fd { result.fd ≡ fd_of bytes.now }
-        ensures off { result.off ≡ off_of bytes.now }
-        ensures addr { result.addr ≡ addr_of bytes.now }
-        ensures len { result.len ≡ len_of bytes.now }
-        ensures flags { result.flags ≡ flags_of bytes.now }
-        ensures user_data { result.user_data ≡ user_data_of bytes.now }
+        ensures opcode { result.opcode ≡ sqe_opcode bytes.now }
+        ensures fd { result.fd ≡ sqe_fd bytes.now }
+        ensures off { result.off ≡ sqe_off bytes.now }
+        ensures addr { result.addr ≡ sqe_addr bytes.now }
+        ensures len { result.len ≡ sqe_len bytes.now }
+        ensures flags { result.flags ≡ sqe_flags bytes.now }
+        ensures user_data { result.user_data ≡ sqe_user_data bytes.now }
     {
         Fields {
             opcode: bytes[0],
@@ -253,7 +253,7 @@ pub fn encode_sqe(entry: &Entry) -> [u8; 64]
 /// [`EntryFault::NonZeroField`], [`EntryFault::NopFd`], [`EntryFault::FsyncFlags`].
 pub fn decode_sqe(bytes: &[u8; 64]) -> Result<Entry, EntryFault>
     ensures value { (entry : Entry) → (result ≡ Ok entry) ↔ SpellsEntry entry bytes.now }
-    ensures fault { (f : EntryFault) → (result ≡ Err f) ↔ IsLeastFault IsFaultOfEntry bytes.now f }
+    ensures fault { (f : EntryFault) → (result ≡ Err f) ↔ IsLeastEntryFault IsFaultOfEntry bytes.now f }
 {
     let fields = Fields::read(bytes);
     if !is_known(fields.opcode) {

@@ -116,6 +116,12 @@ fn entries_are_the_bytes_of_liburing(rt: HostRuntime) {
 #[test]
 fn other_bytes_are_refused_by_the_least_fault(rt: HostRuntime) {
     for (text, last, fault) in [
+        // the read of fd 3 with byte 63 set
+        (
+            "16000000 03000000 0000000000000000 0010000000000000 10000000 00000000 0700000000000000",
+            1,
+            EntryFault::NonZeroField,
+        ),
         // a nop with byte 63 set, and that with opcode 5
         (
             "00000000 ffffffff 0000000000000000 0000000000000000 00000000 00000000 0700000000000000",

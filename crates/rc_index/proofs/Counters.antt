@@ -6,8 +6,10 @@ use native.Mathlib.Nat.{mod-eq-sub-mod, mod-add-mod, mod-lt}
 use Rattle.std.proofs.Math.Pow.{mod-mod-pow}
 use Rattle.std.proofs.lemmas.Nat.{pow_below, pow_pos, and_mask}
 use Rattle.std.proofs.lemmas.Bool.{cases_lt}
+use Rattle.std.proofs.lemmas.List.{get_or_past}
 use Rattle.std.proofs.lemmas.Option.{slice_get-get_or}
-use Rattle.rc_index.specs.RingList.{counter_after, counters_between, places_from, RingList, ring_list, HasRoom, IsRingList}
+use Rattle.rc_index.specs.RingList.{counter_after, counters_between, places_from, RingList, ring_list, IsRingList}
+use Rattle.rc_index.specs.Counters.{HasRoom}
 
 -- a power of two of at most 2048 is 2 to at most 11
 exponent_le : (k : ℕ) → 2 ^ k ≤ 2048 → k ≤ 11
@@ -106,6 +108,25 @@ ring_list-pop n head tail r some =
     ap (λ (k : ℕ). drop 1 (places_from n head k)) less in
     cc
 
+-- behind each place comes the next one, and behind the last the place of the tail
+consecutive_places : (n head tail : ℕ) → HasRoom n head tail → (i : ℕ) → i < counters_between head tail
+    → (get_or (places_from n head (counters_between head tail)) i 0 + 1) % n
+    ≡ get_or (places_from n head (counters_between head tail)) (i + 1) (tail % n)
+consecutive_places n head tail r i below =
+    let count : ℕ = counters_between head tail in
+    let here : get_or (places_from n head count) i 0 ≡ (head + i) % n = get_or-places_from n r.power r.small head count i 0 below in
+    let moved : ((head + i) % n + 1) % n ≡ (head + i + 1) % n = mod-add-mod (head + i) n 1 in
+    let up_to : (get_or (places_from n head count) i 0 + 1) % n ≡ (head + (i + 1)) % n =
+    ap (λ (x : ℕ). (x + 1) % n) here ∙ moved ∙ ap (λ (x : ℕ). x % n) (omega arith) in
+    elim (cases_lt (i + 1) count) [
+      | inl more ↦ up_to ∙ sym (get_or-places_from n r.power r.small head count (i + 1) (tail % n) more)
+      | inr last ↦
+          let at_end : i + 1 ≡ count = omega arith in
+          let none : get_or (places_from n head count) (i + 1) (tail % n) ≡ tail % n =
+          get_or_past (places_from n head count) (i + 1) (tail % n) (omega (arith, length-places_from n head count)) in
+          up_to ∙ ap (λ (k : ℕ). (head + k) % n) at_end ∙ next_is n head tail r ∙ sym none
+    ]
+
 -- every pair of counters with room has a ring list
 pub is_ring_list : (n head tail : ℕ) → HasRoom n head tail → IsRingList (ring_list n head tail)
 is_ring_list n head tail r =
@@ -120,6 +141,7 @@ is_ring_list n head tail r =
       room = omega arith;
       within = λ k d in_range. subst (λ (x : ℕ). x < n) (sym (place_at k d (omega arith))) (mod-lt (head + k) some);
       next_within = mod-lt tail some;
+      consecutive = λ i in_range. consecutive_places n head tail r i (omega arith);
       distinct = λ i j d before in_range same.
           let there : head + i + (j - i) ≡ head + j = omega arith in
           apart n (head + i) (j - i) (omega arith) (omega arith)

@@ -1,1 +1,2 @@
 pub mod RingList
+pub mod Counters

@@ -20,7 +20,8 @@ pub struct Indices {
 
 // Clauses see the list of the places of the items, and the place after it.
 impl Model for Indices {
-    ghost use Rattle.rc_index.specs.RingList.{RingList, ring_list, HasRoom};
+    ghost use Rattle.rc_index.specs.RingList.{RingList, ring_list};
+    ghost use Rattle.rc_index.specs.Counters.{HasRoom};
 
     ghost Value = { RingList };
 

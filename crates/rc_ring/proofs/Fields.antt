@@ -1,42 +1,15 @@
 -- What an entry's bytes spell once its user_data is set.
-use Rattle.std.proofs.Common.{◌≡◌, ℕ, zero, suc, ◌+◌, ◌-◌, ◌/◌, ◌^◌, ◌<◌, ◌≤◌, ℤ, List, [], ◌∷◌, ◌++◌, length, take, drop, get_or, slice_range, sym, refl, ap, subst, ◌∙◌, arith, length-take-le, length-append, length-drop, get_or-take, get_or-drop}
-use Rattle.std.specs.Int.{w32, w64, to_le_bytes, from_le_bytes, bytes_low_first, byte_at, cast_signed}
+use Rattle.std.proofs.Common.{◌≡◌, ℕ, ◌+◌, ◌-◌, ◌^◌, ◌<◌, ◌≤◌, ℤ, List, ◌++◌, length, take, drop, get_or, slice_range, sym, refl, ap, subst, ◌∙◌, arith, length-take-le, length-append, length-drop, get_or-take}
+use Rattle.std.specs.Int.{w32, w64, to_le_bytes, from_le_bytes, cast_signed}
 use Rattle.std.specs.Prelude.{All}
-use native.Mathlib.Nat.{mod-lt}
 use Rattle.std.proofs.lemmas.List.{take_at, drop_at, take-take, drop-drop, append_assoc}
 use Rattle.std.proofs.lemmas.Slice.{between_is}
 use Rattle.std.proofs.lemmas.Nat.{from_le_bytes-to_le_bytes_8}
+use Rattle.rc_entry.proofs.Bytes.{AreBytes, AreBytes-append, AreBytes-take, AreBytes-drop, AreBytes-low_first}
 use Rattle.rc_entry.specs.declared.Entry.{Entry}
 use Rattle.rc_entry.specs.declared.Entry.TheVariants.{Nop, Fsync, Read, Write}
 use Rattle.rc_entry.specs.Spelling.{u32_at, u64_at, i32_at, HasFields, SpellsEntry}
 use Rattle.rc_ring.specs.Rings.{bytes_with_data, entry_with_data}
-
--- each is a byte
-abbrev pub AreBytes : List ℕ → Type 0
-AreBytes xs = (i : ℕ) → get_or xs i 0 < 256
-
-AreBytes-append : (xs ys : List ℕ) → AreBytes xs → AreBytes ys → AreBytes (xs ++ ys)
-AreBytes-append [] ys f g i = g i
-AreBytes-append (x ∷ xs) ys f g zero = f 0
-AreBytes-append (x ∷ xs) ys f g (suc i) = AreBytes-append xs ys (λ j. f (suc j)) g i
-
-AreBytes-take : (n : ℕ) (xs : List ℕ) → AreBytes xs → AreBytes (take n xs)
-AreBytes-take zero xs f i = omega arith
-AreBytes-take (suc n) [] f i = omega arith
-AreBytes-take (suc n) (x ∷ xs) f zero = f 0
-AreBytes-take (suc n) (x ∷ xs) f (suc i) = AreBytes-take n xs (λ j. f (suc j)) i
-
-AreBytes-drop : (n : ℕ) (xs : List ℕ) → AreBytes xs → AreBytes (drop n xs)
-AreBytes-drop n xs f i = subst (λ (x : ℕ). x < 256) (sym (get_or-drop n xs i 0)) (f (n + i))
-
-byte_at-lt : (i n : ℕ) → byte_at i n < 256
-byte_at-lt zero n = omega arith
-byte_at-lt (suc i) n = mod-lt (n / 256 ^ suc i) (omega arith)
-
-AreBytes-low_first : (i k n : ℕ) → AreBytes (bytes_low_first i k n)
-AreBytes-low_first i zero n j = omega arith
-AreBytes-low_first i (suc k) n zero = byte_at-lt i n
-AreBytes-low_first i (suc k) n (suc j) = AreBytes-low_first (suc i) k n j
 
 module _ (given : ℕ) (bytes : List ℕ) (size : length bytes ≡ 64) where
   length-front : length (take 32 bytes) ≡ 32

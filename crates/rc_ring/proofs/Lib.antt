@@ -1,2 +1,4 @@
 pub mod Fields
 pub mod Lists
+pub mod Spelled
+pub mod Alike

@@ -1,8 +1,8 @@
 -- The lists of a `Ring`, as its bytes and ring lists change.
-use Rattle.std.proofs.Common.{◌≡◌, ◌≢◌, ℕ, suc, ◌+◌, ◌*◌, ◌%◌, ◌<◌, ℤ, Bool, true, List, [], ◌∷◌, ◌++◌, length, drop, get_or, set, map, Some, Option, option_map, sym, refl, ap, ap₂, subst, ◌∙◌, arith, get_or-set_same, get_or-set_other, length-set}
+use Rattle.std.proofs.Common.{◌≡◌, ◌≢◌, ℕ, suc, ◌+◌, ◌*◌, ◌%◌, ◌<◌, ℤ, Bool, true, List, [], ◌∷◌, ◌++◌, length, drop, get_or, set, map, Some, Option, option_map, sym, refl, ap, ap₂, subst, ◌∙◌, arith, get_or-set_same, get_or-set_other, length-set, length-drop, ◌^◌, ◌≤◌, false}
 use Rattle.std.specs.Prelude.{slice_get, All, Contains}
 use Rattle.std.specs.Int.{IsPowerOfTwo}
-use Rattle.std.proofs.lemmas.List.{length-map, map_push, drop-map, get_or_default}
+use Rattle.std.proofs.lemmas.List.{length-map, map_push, drop-map, get_or_default, get_or-drop}
 use Rattle.std.proofs.lemmas.Option.{slice_get-map, get_or_from_slice_get, slice_get_within}
 use Rattle.std.proofs.Math.Nat.{pow-succ'}
 use Rattle.std.proofs.lemmas.List.Elements.{All-push, All-drop}
@@ -12,8 +12,10 @@ use Rattle.rc_entry.specs.declared.Cqe.{Cqe}
 use Rattle.rc_entry.specs.Spelling.{SpellsEntry, SpellsCqe}
 use Rattle.rc_ring.specs.declared.rings.Stage.{Stage}
 use Rattle.rc_ring.specs.declared.rings.Stage.TheVariants.{Closed, Vacant, Prepared}
-use Rattle.rc_ring.specs.Rings.{Rings, OpenSlot, NoSlot, VacantSlot, PreparedSlot, slot_count, place_if_open, open_place, is_prepared, bytes_of, Prepares, after_queueing, bytes_with_data}
-use Rattle.rc_ring.specs.Places.{items_at, cqe_of, slot_of, rings_of, IsSound}
+use Rattle.rc_ring.specs.Rings.{Rings, OpenSlot, NoSlot, VacantSlot, PreparedSlot, slot_count, place_if_open, open_place, is_prepared_slot, bytes_of, Prepares, SetData64Call, PostCall, CqeSeenCall, after_call, bytes_with_data, entry_with_data}
+use Rattle.rc_ring.specs.Spelled.{IsSpelling, IsSpelledSlot, HoldEntries}
+use Rattle.rc_ring.specs.Places.{items_at, cqe_of, slot_of, rings_of, IsWellFormed}
+use Rattle.rc_ring.proofs.Fields.{SpellsEntry-with_data}
 
 -- twice a power of two is one
 pub IsPowerOfTwo-twice : (n : ℕ) → IsPowerOfTwo n → IsPowerOfTwo (2 * n)
@@ -56,10 +58,32 @@ place_if_open-one place NoSlot h = cc
 place_if_open-one place VacantSlot h = refl
 place_if_open-one place (PreparedSlot bytes) h = refl
 
-bytes_of-slot_of : (bytes : List ℕ) (stage : Stage) → is_prepared (slot_of bytes stage) ≡ true → bytes_of (slot_of bytes stage) ≡ bytes
+bytes_of-slot_of : (bytes : List ℕ) (stage : Stage) → is_prepared_slot (slot_of bytes stage) ≡ true → bytes_of (slot_of bytes stage) ≡ bytes
 bytes_of-slot_of bytes Closed h = cc
 bytes_of-slot_of bytes Vacant h = cc
 bytes_of-slot_of bytes Prepared h = refl
+
+-- the bytes in a prepared slot spell an entry where the slot does
+IsSpelledSlot-bytes : (bytes : List ℕ) (stage : Stage) → is_prepared_slot (slot_of bytes stage) ≡ true → IsSpelledSlot (slot_of bytes stage) → IsSpelling bytes
+IsSpelledSlot-bytes bytes Closed h spelled = cc
+IsSpelledSlot-bytes bytes Vacant h spelled = cc
+IsSpelledSlot-bytes bytes Prepared h spelled = spelled
+
+-- the place of the first completion, with none the one that the next gets
+abbrev head_of : RingList → ℕ
+head_of cq = get_or cq.places 0 cq.next
+
+-- a completion behind the others leaves it
+head-push : (places : List ℕ) (next after : ℕ) → get_or (places ++ next ∷ []) 0 after ≡ get_or places 0 next
+head-push [] next after = refl
+head-push (p ∷ places) next after = refl
+
+-- without the first completion it is the next one of the ring
+head-drop : (cq : RingList) → IsRingList cq → 0 < length cq.places → get_or (drop 1 cq.places) 0 cq.next ≡ (head_of cq + 1) % cq.entries
+head-drop cq law some =
+    get_or-drop 1 cq.places 0 cq.next
+    ∙ sym (law.consecutive 0 some)
+    ∙ ap (λ (p : ℕ). (p + 1) % cq.entries) (get_or_default cq.places 0 0 cq.next some)
 
 abbrev made : ℕ → ℤ → Cqe
 made user_data res = record { user_data = user_data; res = res }
@@ -69,7 +93,7 @@ cqe_of-spelled : (cqe : Cqe) (bytes : List ℕ) → SpellsCqe cqe bytes → cqe_
 cqe_of-spelled cqe bytes h = ap₂ (λ (user_data : ℕ) (res : ℤ). made user_data res) h.user_data_is h.res_is
 
 module _ (sq cq : RingList) (sqes cqes : List (List ℕ)) (parked : Bool) (stage : Stage) (old : Rings)
-    (sound : IsSound sq cq sqes cqes parked stage) (view_is : rings_of sq cq sqes cqes parked stage ≡ old) where
+    (sound : IsWellFormed sq cq sqes cqes parked stage) (view_is : rings_of sq cq sqes cqes parked stage ≡ old) where
   place_is : sq.next ≡ old.place
   place_is = ap (λ (r : Rings). r.place) view_is
 
@@ -102,11 +126,33 @@ module _ (sq cq : RingList) (sqes cqes : List (List ℕ)) (parked : Bool) (stage
             ∙ ap (λ (r : Rings). record r { slot = PreparedSlot bytes }) view_is;
       }
 
+  pub sound_after_prepare : (place : ℕ) (entry : Entry) (bytes : List ℕ) → open_place old ≡ Some place → SpellsEntry entry bytes
+      → IsWellFormed sq cq (set sqes place bytes) cqes parked Prepared
+  sound_after_prepare place entry bytes here spells =
+      let there : (slot_count old.slot ≡ 1) × (place ≡ old.place) = slot_count-open old.place place old.slot here in
+      let at_next : sq.next ≡ place = place_is ∙ sym there.1 in
+      let within : sq.next < length sqes = omega (arith, sound.sqes_len, sound.submissions.next_within) in
+      let free : length sq.places < sq.entries = has_room there.0 in
+      let items : items_at (set sqes sq.next bytes) sq.places ≡ items_at sqes sq.places = items_at-set_other sqes sq.next bytes sq.places (sound.submissions.fresh free) in
+      let written : get_or (set sqes sq.next bytes) sq.next [] ≡ bytes = get_or-set_same sqes sq.next bytes [] within in
+      let whole : IsWellFormed sq cq (set sqes sq.next bytes) cqes parked Prepared = record {
+        submissions = sound.submissions;
+        completions = sound.completions;
+        sqes_len = length-set sqes sq.next bytes ∙ sound.sqes_len;
+        cqes_len = sound.cqes_len;
+        room = omega arith;
+        open_where_parked = λ is. refl;
+        queue = subst (λ (xs : List (List ℕ)). All IsSpelling xs) (sym items) sound.queue;
+        prepared = subst (λ (xs : List ℕ). IsSpelling xs) (sym written) (entry, spells);
+        spelled = sound.spelled;
+      } in
+      subst (λ (p : ℕ). IsWellFormed sq cq (set sqes p bytes) cqes parked Prepared) at_next whole
+
   -- the open slot's entry with its user_data, queued
-  pub after_queue : (sq' : RingList) (place given : ℕ) (item bytes : List ℕ) → open_place old ≡ Some place → is_prepared old.slot ≡ true
+  pub after_queue : (sq' : RingList) (place given : ℕ) (item bytes : List ℕ) → open_place old ≡ Some place → is_prepared_slot old.slot ≡ true
       → sq' ≡ record sq { places = sq.places ++ sq.next ∷ []; next = (sq.next + 1) % sq.entries }
       → item ≡ get_or sqes place item → bytes ≡ bytes_with_data given item
-      → rings_of sq' cq (set sqes place bytes) cqes parked Closed ≡ after_queueing old given
+      → rings_of sq' cq (set sqes place bytes) cqes parked Closed ≡ after_call (SetData64Call given) old
   after_queue sq' place given item bytes here prepared moved was with =
       let there : (slot_count old.slot ≡ 1) × (place ≡ old.place) = slot_count-open old.place place old.slot here in
       let at_next : place ≡ sq.next = there.1 ∙ sym place_is in
@@ -115,7 +161,7 @@ module _ (sq cq : RingList) (sqes cqes : List (List ℕ)) (parked : Bool) (stage
       let item_is : item ≡ get_or sqes sq.next [] = was ∙ ap (λ (p : ℕ). get_or sqes p item) at_next ∙ get_or_default sqes sq.next item [] within in
       let in_slot : bytes_of old.slot ≡ get_or sqes sq.next [] =
       ap (λ (s : OpenSlot). bytes_of s) (sym slot_is)
-      ∙ bytes_of-slot_of (get_or sqes sq.next []) stage (ap (λ (s : OpenSlot). is_prepared s) slot_is ∙ prepared) in
+      ∙ bytes_of-slot_of (get_or sqes sq.next []) stage (ap (λ (s : OpenSlot). is_prepared_slot s) slot_is ∙ prepared) in
       let written : bytes ≡ bytes_with_data given (bytes_of old.slot) = with ∙ ap (λ (xs : List ℕ). bytes_with_data given xs) (item_is ∙ sym in_slot) in
       let items : items_at (set sqes sq.next bytes) (sq.places ++ sq.next ∷ []) ≡ items_at sqes sq.places ++ bytes ∷ [] =
       items_at-push sqes sq.next bytes sq.places within (sound.submissions.fresh free) in
@@ -139,10 +185,81 @@ module _ (sq cq : RingList) (sqes cqes : List (List ℕ)) (parked : Bool) (stage
         slot = NoSlot;
       }) view_is
 
+  pub sound_after_queue : (sq' : RingList) (place given : ℕ) (item bytes : List ℕ) → open_place old ≡ Some place → is_prepared_slot old.slot ≡ true
+      → given < 2 ^ 64 → sq' ≡ record sq { places = sq.places ++ sq.next ∷ []; next = (sq.next + 1) % sq.entries } → IsRingList sq'
+      → parked ≡ false → item ≡ get_or sqes place item → bytes ≡ bytes_with_data given item
+      → IsWellFormed sq' cq (set sqes place bytes) cqes parked Closed
+  sound_after_queue sq' place given item bytes here prepared fits moved law out was with =
+      let there : (slot_count old.slot ≡ 1) × (place ≡ old.place) = slot_count-open old.place place old.slot here in
+      let at_next : place ≡ sq.next = there.1 ∙ sym place_is in
+      let within : sq.next < length sqes = omega (arith, sound.sqes_len, sound.submissions.next_within) in
+      let free : length sq.places < sq.entries = has_room there.0 in
+      let item_is : get_or sqes sq.next [] ≡ item = sym (was ∙ ap (λ (p : ℕ). get_or sqes p item) at_next ∙ get_or_default sqes sq.next item [] within) in
+      let spelling : IsSpelling item =
+      subst (λ (xs : List ℕ). IsSpelling xs) item_is
+      (IsSpelledSlot-bytes (get_or sqes sq.next []) stage (ap (λ (s : OpenSlot). is_prepared_slot s) slot_is ∙ prepared) sound.prepared) in
+      let queued : IsSpelling bytes =
+      (entry_with_data given spelling.0, subst (λ (xs : List ℕ). SpellsEntry (entry_with_data given spelling.0) xs) (sym with) (SpellsEntry-with_data given spelling.0 item fits spelling.1)) in
+      let places_are : sq'.places ≡ sq.places ++ sq.next ∷ [] = ap (λ (q : RingList). q.places) moved in
+      let entries_are : sq'.entries ≡ sq.entries = ap (λ (q : RingList). q.entries) moved in
+      let items : items_at (set sqes place bytes) sq'.places ≡ items_at sqes sq.places ++ bytes ∷ [] =
+      ap (λ (p : ℕ). items_at (set sqes p bytes) sq'.places) at_next
+      ∙ ap (λ (ps : List ℕ). items_at (set sqes sq.next bytes) ps) places_are
+      ∙ items_at-push sqes sq.next bytes sq.places within (sound.submissions.fresh free) in
+      record {
+        submissions = law;
+        completions = sound.completions;
+        sqes_len = length-set sqes place bytes ∙ sound.sqes_len ∙ sym entries_are;
+        cqes_len = sound.cqes_len;
+        room = omega (arith, law.room);
+        open_where_parked = λ is. cc;
+        queue = subst (λ (xs : List (List ℕ)). All IsSpelling xs) (sym items) (All-push IsSpelling (items_at sqes sq.places) bytes sound.queue queued);
+        prepared = tt;
+        spelled = sound.spelled;
+      }
+
+  -- the first entry off the queue
+  pub sound_after_take : (sq' : RingList) → sq' ≡ record sq { places = drop 1 sq.places } → IsRingList sq' → IsWellFormed sq' cq sqes cqes parked stage
+  sound_after_take sq' moved law =
+      let places_are : sq'.places ≡ drop 1 sq.places = ap (λ (q : RingList). q.places) moved in
+      let entries_are : sq.entries ≡ sq'.entries = sym (ap (λ (q : RingList). q.entries) moved) in
+      let next_is : sq.next ≡ sq'.next = sym (ap (λ (q : RingList). q.next) moved) in
+      let items : items_at sqes sq'.places ≡ drop 1 (items_at sqes sq.places) =
+      ap (λ (ps : List ℕ). items_at sqes ps) places_are ∙ items_at-drop sqes 1 sq.places in
+      let fewer : length sq'.places ≤ length sq.places = omega (arith, ap (λ (ps : List ℕ). length ps) places_are, length-drop 1 sq.places) in
+      record {
+        submissions = law;
+        completions = sound.completions;
+        sqes_len = sound.sqes_len ∙ entries_are;
+        cqes_len = sound.cqes_len;
+        room = omega (arith, sound.room);
+        open_where_parked = sound.open_where_parked;
+        queue = subst (λ (xs : List (List ℕ)). All IsSpelling xs) (sym items) (All-drop IsSpelling 1 (items_at sqes sq.places) sound.queue);
+        prepared = subst (λ (p : ℕ). IsSpelledSlot (slot_of (get_or sqes p []) stage)) next_is sound.prepared;
+        spelled = sound.spelled;
+      }
+
+  -- the bytes at the i-th place are those of the i-th queued entry
+  pub queued_is : (i place : ℕ) (bytes : List ℕ) → Some place ≡ slice_get sq.places i → bytes ≡ get_or sqes place bytes
+      → Some bytes ≡ slice_get old.queued i
+  queued_is i place bytes at was =
+      let within : i < length sq.places = slice_get_within sq.places i place (sym at) in
+      let place_at : get_or sq.places i place ≡ place = get_or_from_slice_get sq.places i place place (sym at) in
+      let below : place < sq.entries = subst (λ (p : ℕ). p < sq.entries) place_at (sound.submissions.within i place within) in
+      let here : get_or sqes place [] ≡ bytes = get_or_default sqes place [] bytes (omega (arith, sound.sqes_len)) ∙ sym was in
+      sym (ap (λ (r : Rings). slice_get r.queued i) (sym view_is)
+      ∙ slice_get-map (λ (p : ℕ). get_or sqes p []) sq.places i
+      ∙ ap (λ (o : Option ℕ). option_map (λ (p : ℕ). get_or sqes p []) o) (sym at)
+      ∙ ap (λ (x : List ℕ). Some x) here)
+
+  -- the law of the rings
+  pub hold_entries : HoldEntries old
+  hold_entries = subst (λ (r : Rings). HoldEntries r) view_is (record { queue = sound.queue; prepared = sound.prepared })
+
   -- a completion behind the others
   pub after_post : (cq' : RingList) (place : ℕ) (cqe : Cqe) (bytes : List ℕ) → SpellsCqe cqe bytes → length cq.places < cq.entries
       → place ≡ cq.next → cq' ≡ record cq { places = cq.places ++ cq.next ∷ []; next = (cq.next + 1) % cq.entries }
-      → rings_of sq cq' sqes (set cqes place bytes) parked stage ≡ record old { completions = old.completions ++ cqe ∷ [] }
+      → rings_of sq cq' sqes (set cqes place bytes) parked stage ≡ after_call (PostCall cqe) old
   after_post cq' place cqe bytes spells free there moved =
       let within : cq.next < length cqes = omega (arith, sound.cqes_len, sound.completions.next_within) in
       let items : items_at (set cqes cq.next bytes) (cq.places ++ cq.next ∷ []) ≡ items_at cqes cq.places ++ bytes ∷ [] =
@@ -151,14 +268,17 @@ module _ (sq cq : RingList) (sqes cqes : List (List ℕ)) (parked : Bool) (stage
       ap (λ (xs : List (List ℕ)). map cqe_of xs) items
       ∙ map_push cqe_of (items_at cqes cq.places) bytes
       ∙ ap (λ (x : Cqe). map cqe_of (items_at cqes cq.places) ++ x ∷ []) (cqe_of-spelled cqe bytes spells) in
+      let head : get_or (cq.places ++ cq.next ∷ []) 0 ((cq.next + 1) % cq.entries) ≡ get_or cq.places 0 cq.next = head-push cq.places cq.next ((cq.next + 1) % cq.entries) in
+      let moved_on : rings_of sq (record cq { places = cq.places ++ cq.next ∷ []; next = (cq.next + 1) % cq.entries }) sqes (set cqes cq.next bytes) parked stage
+      ≡ after_call (PostCall cqe) (rings_of sq cq sqes cqes parked stage) = cc in
       ap (λ (q : RingList). rings_of sq q sqes (set cqes place bytes) parked stage) moved
       ∙ ap (λ (p : ℕ). rings_of sq (record cq { places = cq.places ++ cq.next ∷ []; next = (cq.next + 1) % cq.entries }) sqes (set cqes p bytes) parked stage) there
-      ∙ ap (λ (cs : List Cqe). record (rings_of sq cq sqes cqes parked stage) { completions = cs }) read
-      ∙ ap (λ (r : Rings). record r { completions = r.completions ++ cqe ∷ [] }) view_is
+      ∙ moved_on
+      ∙ ap (λ (r : Rings). after_call (PostCall cqe) r) view_is
 
   pub sound_after_post : (cq' : RingList) (place : ℕ) (cqe : Cqe) (bytes : List ℕ) → SpellsCqe cqe bytes → length cq.places < cq.entries
       → place ≡ cq.next → cq' ≡ record cq { places = cq.places ++ cq.next ∷ []; next = (cq.next + 1) % cq.entries } → IsRingList cq'
-      → IsSound sq cq' sqes (set cqes place bytes) parked stage
+      → IsWellFormed sq cq' sqes (set cqes place bytes) parked stage
   sound_after_post cq' place cqe bytes spells free there moved law =
       let within : cq.next < length cqes = omega (arith, sound.cqes_len, sound.completions.next_within) in
       let places_are : cq'.places ≡ cq.places ++ cq.next ∷ [] = ap (λ (q : RingList). q.places) moved in
@@ -179,10 +299,26 @@ module _ (sq cq : RingList) (sqes cqes : List (List ℕ)) (parked : Bool) (stage
         cqes_len = length-set cqes place bytes ∙ sound.cqes_len ∙ sym entries_are;
         room = sound.room;
         open_where_parked = sound.open_where_parked;
+        queue = sound.queue;
+        prepared = sound.prepared;
         spelled = subst (λ (xs : List (List ℕ)). All (λ (b : List ℕ). SpellsCqe (cqe_of b) b) xs) (sym items') all;
       }
 
-  pub sound_after_seen : (cq' : RingList) → cq' ≡ record cq { places = drop 1 cq.places } → IsRingList cq' → IsSound sq cq' sqes cqes parked stage
+  -- the first completion away
+  pub after_seen : (cq' : RingList) → 0 < length old.completions → cq' ≡ record cq { places = drop 1 cq.places }
+      → rings_of sq cq' sqes cqes parked stage ≡ after_call CqeSeenCall old
+  after_seen cq' some moved =
+      let count : length (map cqe_of (items_at cqes cq.places)) ≡ length cq.places = length-map (items_at cqes cq.places) cqe_of ∙ length-map cq.places (λ (p : ℕ). get_or cqes p []) in
+      let same : length (map cqe_of (items_at cqes cq.places)) ≡ length old.completions = ap (λ (r : Rings). length r.completions) view_is in
+      let head : get_or (drop 1 cq.places) 0 cq.next ≡ (get_or cq.places 0 cq.next + 1) % cq.entries = head-drop cq sound.completions (omega arith) in
+      let read : map cqe_of (items_at cqes (drop 1 cq.places)) ≡ drop 1 (map cqe_of (items_at cqes cq.places)) =
+      ap (λ (xs : List (List ℕ)). map cqe_of xs) (items_at-drop cqes 1 cq.places) ∙ sym (drop-map cqe_of 1 (items_at cqes cq.places)) in
+      let moved_on : rings_of sq (record cq { places = drop 1 cq.places }) sqes cqes parked stage ≡ after_call CqeSeenCall (rings_of sq cq sqes cqes parked stage) = cc in
+      ap (λ (q : RingList). rings_of sq q sqes cqes parked stage) moved
+      ∙ moved_on
+      ∙ ap (λ (r : Rings). after_call CqeSeenCall r) view_is
+
+  pub sound_after_seen : (cq' : RingList) → cq' ≡ record cq { places = drop 1 cq.places } → IsRingList cq' → IsWellFormed sq cq' sqes cqes parked stage
   sound_after_seen cq' moved law =
       let items : items_at cqes cq'.places ≡ drop 1 (items_at cqes cq.places) =
       ap (λ (q : RingList). items_at cqes q.places) moved ∙ items_at-drop cqes 1 cq.places in
@@ -193,6 +329,8 @@ module _ (sq cq : RingList) (sqes cqes : List (List ℕ)) (parked : Bool) (stage
         cqes_len = sound.cqes_len ∙ sym (ap (λ (q : RingList). q.entries) moved);
         room = sound.room;
         open_where_parked = sound.open_where_parked;
+        queue = sound.queue;
+        prepared = sound.prepared;
         spelled = subst (λ (xs : List (List ℕ)). All (λ (b : List ℕ). SpellsCqe (cqe_of b) b) xs) (sym items)
             (All-drop (λ (b : List ℕ). SpellsCqe (cqe_of b) b) 1 (items_at cqes cq.places) sound.spelled);
       }

@@ -1,2 +1,4 @@
 pub mod Rings
+pub mod Spelled
+pub mod Alike
 pub mod Places

@@ -1,4 +1,4 @@
--- What clauses see of the two rings of an io_uring (io_uring(7)): two lists, and the open slot.
+-- What clauses see of the two rings of an io_uring (io_uring(7)): two lists, and the open slot; and what each call does.
 use Rattle.std.specs.Prelude.{◌≡◌, ℕ, ◌+◌, ◌%◌, Bool, true, false, List, [], ◌∷◌, ◌++◌, length, take, drop, Option, Some, None}
 use Rattle.std.specs.Int.{w64, to_le_bytes}
 use Rattle.rc_entry.specs.declared.Entry.{Entry}
@@ -25,10 +25,13 @@ pub record Rings : Type 0 where
   pub slot : OpenSlot
   -- whether the open slot is in the ring alone
   pub parked : Bool
+  -- the places at the completion ring's head and tail: that of the first completion, and the one that the next gets
+  pub completion_head : ℕ
+  pub completion_tail : ℕ
 
--- two rings with nothing in them
-abbrev pub empty_rings : ℕ → ℕ → ℕ → Rings
-empty_rings entries completion_entries place = record {
+-- two rings with nothing in them, and the place that comes first in each
+abbrev pub empty_rings : ℕ → ℕ → ℕ → ℕ → Rings
+empty_rings entries completion_entries place completion_place = record {
   entries = entries;
   completion_entries = completion_entries;
   queued = [];
@@ -36,6 +39,8 @@ empty_rings entries completion_entries place = record {
   place = place;
   slot = NoSlot;
   parked = false;
+  completion_head = completion_place;
+  completion_tail = completion_place;
 }
 
 -- how many places of the submission ring the open slot takes
@@ -49,10 +54,10 @@ abbrev pub used : Rings → ℕ
 used rings = length rings.queued + slot_count rings.slot
 
 -- whether the open slot has an entry
-abbrev pub is_prepared : OpenSlot → Bool
-is_prepared NoSlot = false
-is_prepared VacantSlot = false
-is_prepared (PreparedSlot bytes) = true
+abbrev pub is_prepared_slot : OpenSlot → Bool
+is_prepared_slot NoSlot = false
+is_prepared_slot VacantSlot = false
+is_prepared_slot (PreparedSlot bytes) = true
 
 -- the bytes that a prep left in the open slot
 abbrev pub bytes_of : OpenSlot → List ℕ
@@ -69,12 +74,6 @@ place_if_open place (PreparedSlot bytes) = Some place
 -- the open slot's place, if there is one
 abbrev pub open_place : Rings → Option ℕ
 open_place rings = place_if_open rings.place rings.slot
-
--- a prep of the entry, whose user_data is 0, into the open slot: its bytes spell the entry, and nothing else changes
-pub record Prepares (old new : Rings) (entry : Entry) : Type 0 where
-  pub bytes : List ℕ
-  pub spells : SpellsEntry entry bytes
-  pub after : new ≡ record old { slot = PreparedSlot bytes }
 
 -- the bytes of an entry with another user_data, which lies at 32 to 39 with its lowest byte first
 -- (io_uring_sqe_set_data64(3))
@@ -95,3 +94,39 @@ after_queueing rings user_data = record rings {
   place = (rings.place + 1) % rings.entries;
   slot = NoSlot;
 }
+
+-- the calls that change the rings, with what they are given, and a prep with the bytes that it leaves
+pub data RingCall : Type 0 where
+  GetSqeCall : RingCall
+  PrepCall : (bytes : List ℕ) → RingCall
+  SetData64Call : (user_data : ℕ) → RingCall
+  AbandonCall : RingCall
+  ParkCall : RingCall
+  ResumeCall : RingCall
+  SubmitCall : (count : ℕ) → RingCall
+  PostCall : (cqe : Cqe) → RingCall
+  CqeSeenCall : RingCall
+
+-- the rings after the call; a `get_sqe` that answers none and a `post` that overflows change nothing instead
+abbrev pub after_call : RingCall → Rings → Rings
+after_call GetSqeCall rings = record rings { slot = VacantSlot }
+after_call (PrepCall bytes) rings = record rings { slot = PreparedSlot bytes }
+after_call (SetData64Call user_data) rings = after_queueing rings user_data
+after_call AbandonCall rings = record rings { slot = NoSlot }
+after_call ParkCall rings = record rings { parked = true }
+after_call ResumeCall rings = record rings { parked = false }
+after_call (SubmitCall count) rings = record rings { queued = drop count rings.queued }
+after_call (PostCall cqe) rings = record rings {
+  completions = rings.completions ++ cqe ∷ [];
+  completion_tail = (rings.completion_tail + 1) % rings.completion_entries;
+}
+after_call CqeSeenCall rings = record rings {
+  completions = drop 1 rings.completions;
+  completion_head = (rings.completion_head + 1) % rings.completion_entries;
+}
+
+-- a prep of the entry, whose user_data is 0, into the open slot: its bytes spell the entry, and nothing else changes
+pub record Prepares (old new : Rings) (entry : Entry) : Type 0 where
+  pub bytes : List ℕ
+  pub spells : SpellsEntry entry bytes
+  pub after : new ≡ after_call (PrepCall bytes) old

@@ -5,6 +5,7 @@
 //! spent by `set_data64`, `abandon` or `park`.
 #![tactic(auto)]
 
+pub mod laws;
 mod rings;
 mod slots;
 #[cfg(test)]

@@ -4,7 +4,8 @@ ghost use Rattle.std.specs.Prelude.{◌≡◌, ◌+◌, ◌*◌, ◌%◌, ◌<�
 ghost use Rattle.std.specs.Int.{IsPowerOfTwo};
 ghost use Rattle.std.specs.Option.{option_copied};
 ghost use Rattle.rc_index.specs.RingList.{IsRingList};
-ghost use Rattle.rc_ring.specs.Rings.{NoSlot, VacantSlot, empty_rings, slot_count, used, is_prepared, bytes_of, open_place, Prepares, after_queueing, entry_with_data, bytes_with_data};
+ghost use Rattle.rc_ring.specs.Rings.{NoSlot, empty_rings, slot_count, used, is_prepared_slot, bytes_of, open_place, Prepares, GetSqeCall, SetData64Call, AbandonCall, ParkCall, ResumeCall, SubmitCall, PostCall, CqeSeenCall, after_call, entry_with_data, bytes_with_data};
+ghost use Rattle.rc_ring.specs.Spelled.{HoldEntries};
 ghost use Rattle.rc_entry.specs.declared.Entry.{Entry};
 ghost use Rattle.rc_entry.specs.Spelling.{SpellsEntry};
 
@@ -45,11 +46,11 @@ impl Model for Ring {
 
     ghost Value = { Rings };
 
-    ghost use Rattle.rc_ring.specs.Places.{rings_of, IsSound};
+    ghost use Rattle.rc_ring.specs.Places.{rings_of, IsWellFormed};
 
     ghost view = { λ a. rings_of a.submissions a.completions a.sqes.items a.cqes.items a.parked a.stage };
 
-    ghost invariant = { λ a. IsSound a.submissions a.completions a.sqes.items a.cqes.items a.parked a.stage };
+    ghost invariant = { λ a. IsWellFormed a.submissions a.completions a.sqes.items a.cqes.items a.parked a.stage };
 }
 
 impl Ring {
@@ -62,7 +63,7 @@ impl Ring {
     pub fn new(alloc: Global, entries: u32) -> Result<Ring, AllocError>
         requires power { IsPowerOfTwo entries }
         requires small { entries ≤ 1024 }
-        ensures { IfOk result (λ ring. ring ≡ empty_rings entries (2 * entries) 0) }
+        ensures { IfOk result (λ ring. ring ≡ empty_rings entries (2 * entries) 0 0) }
     {
         Ring::with_cq(alloc, entries, 2 * entries)
     }
@@ -79,7 +80,7 @@ impl Ring {
         requires cq_power { IsPowerOfTwo cq }
         requires cq_least { entries ≤ cq }
         requires cq_small { cq ≤ 2048 }
-        ensures { IfOk result (λ ring. ring ≡ empty_rings entries cq 0) }
+        ensures { IfOk result (λ ring. ring ≡ empty_rings entries cq 0 0) }
     {
         Ring::over(alloc, Indices::new(entries), Indices::new(cq))
     }
@@ -93,7 +94,8 @@ impl Ring {
     pub fn opened_at(alloc: Global, entries: u32, sq: u32, cq: u32) -> Result<Ring, AllocError>
         requires power { IsPowerOfTwo entries }
         requires small { entries ≤ 1024 }
-        ensures { IfOk result (λ ring. ring ≡ empty_rings entries (2 * entries) (sq % entries)) }
+        ensures { IfOk result (λ ring. ring
+            ≡ empty_rings entries (2 * entries) (sq % entries) (cq % (2 * entries))) }
     {
         let submissions = Indices::opened_at(entries, sq);
         let completions = Indices::opened_at(2 * entries, cq);
@@ -106,7 +108,8 @@ impl Ring {
         requires submissions_empty { submissions.places ≡ [] }
         requires completions_law { IsRingList completions }
         requires completions_empty { completions.places ≡ [] }
-        ensures { IfOk result (λ ring. ring ≡ empty_rings submissions.entries completions.entries submissions.next) }
+        ensures { IfOk result (λ ring. ring
+            ≡ empty_rings submissions.entries completions.entries submissions.next completions.next) }
     {
         let sqes = vec![in alloc; [0; 64]; submissions.entries() as usize]?;
         let cqes = vec![in alloc; [0; 16]; completions.entries() as usize]?;
@@ -125,7 +128,7 @@ impl Ring {
         requires { self.old.slot ≡ NoSlot }
         ensures full { IsNone result ↔ (used self.old ≡ self.old.entries) }
         ensures place { IfSome result (λ slot. slot ≡ self.old.place) }
-        ensures some { OnSome result (self.new ≡ record self.old { slot = VacantSlot }) }
+        ensures some { OnSome result (self.new ≡ after_call GetSqeCall self.old) }
         ensures out { OnSome result (self.new.parked ≡ false) }
         ensures none { IfNone result (self.new ≡ self.old) }
     {
@@ -150,7 +153,7 @@ impl Ring {
 
     /// Whether a slot is open that has an entry.
     pub fn open_prepared(&self) -> bool
-        ensures { result ≡ is_prepared self.now.slot }
+        ensures { result ≡ is_prepared_slot self.now.slot }
     {
         self.stage == Stage::Prepared
     }
@@ -166,9 +169,9 @@ impl Ring {
     /// Hands out the parked slot, which has no entry.
     pub fn resume_vacant(&mut self) -> Slot<Vacant>
         requires parked { self.old.parked ≡ true }
-        requires stage { is_prepared self.old.slot ≡ false }
+        requires stage { is_prepared_slot self.old.slot ≡ false }
         ensures place { open_place self.old ≡ Some result }
-        ensures after { self.new ≡ record self.old { parked = false } }
+        ensures after { self.new ≡ after_call ResumeCall self.old }
     {
         Slot::opened(self.resumed())
     }
@@ -176,16 +179,17 @@ impl Ring {
     /// Hands out the parked slot with its entry.
     pub fn resume_prepared(&mut self) -> Slot<Prepared>
         requires parked { self.old.parked ≡ true }
-        requires stage { is_prepared self.old.slot ≡ true }
+        requires stage { is_prepared_slot self.old.slot ≡ true }
         ensures place { open_place self.old ≡ Some result }
-        ensures after { self.new ≡ record self.old { parked = false } }
+        ensures after { self.new ≡ after_call ResumeCall self.old }
     {
         Slot::prepared(self.resumed())
     }
 
     /// The bytes of the `i`-th queued entry, counted from 0 at the front, or `None` where there are no more than `i`.
     pub fn queued_sqe(&self, i: u32) -> Option<&[u8; 64]>
-        ensures { option_copied result ≡ slice_get self.now.queued i }
+        ensures value { option_copied result ≡ slice_get self.now.queued i }
+        ensures law { HoldEntries self.now }
     {
         match self.submissions.place(i) {
             None => None,
@@ -199,7 +203,7 @@ impl Ring {
         requires closed { self.old.slot ≡ NoSlot }
         requires queued { take ≤ length self.old.queued }
         ensures left { result ≡ length self.new.queued }
-        ensures after { self.new ≡ record self.old { queued = drop take self.old.queued } }
+        ensures after { self.new ≡ after_call (SubmitCall take) self.old }
     {
         for _ in 0..take {
             self.take_first();
@@ -210,7 +214,7 @@ impl Ring {
     // Takes the first entry off the queue.
     fn take_first(&mut self)
         requires { 0 < length self.old.queued }
-        ensures { self.new ≡ record self.old { queued = drop 1 self.old.queued } }
+        ensures { self.new ≡ after_call (SubmitCall 1) self.old }
     {
         self.submissions.advance_head();
     }
@@ -222,7 +226,7 @@ impl Ring {
     /// [`Overflow`] where the completion ring is full, and nothing changes.
     pub fn post(&mut self, cqe: Cqe) -> Result<(), Overflow>
         ensures full { IsErr result ↔ (length self.old.completions ≡ self.old.completion_entries) }
-        ensures ok { OnOk result (self.new ≡ record self.old { completions = self.old.completions ++ cqe ∷ [] }) }
+        ensures ok { OnOk result (self.new ≡ after_call (PostCall cqe) self.old) }
         ensures err { OnErr result (self.new ≡ self.old) }
     {
         match self.completions.push_place() {
@@ -248,7 +252,7 @@ impl Ring {
     /// Takes the first completion away (io_uring_cqe_seen(3)).
     pub fn cqe_seen(&mut self)
         requires { 0 < length self.old.completions }
-        ensures { self.new ≡ record self.old { completions = drop 1 self.old.completions } }
+        ensures { self.new ≡ after_call CqeSeenCall self.old }
     {
         self.completions.advance_head();
     }
@@ -272,7 +276,7 @@ impl Ring {
     fn resumed(&mut self) -> u32
         requires { self.old.parked ≡ true }
         ensures place { open_place self.old ≡ Some result }
-        ensures after { self.new ≡ record self.old { parked = false } }
+        ensures after { self.new ≡ after_call ResumeCall self.old }
     {
         self.parked = false;
         self.submissions.push_place().unwrap()
@@ -281,7 +285,7 @@ impl Ring {
     // Writes an entry into the open slot.
     pub(crate) fn prepare(&mut self, place: u32, entry: &Entry)
         requires place { open_place self.old ≡ Some place }
-        requires stage { is_prepared self.old.slot ≡ false }
+        requires stage { is_prepared_slot self.old.slot ≡ false }
         ensures { Prepares self.old self.new entry.now }
     {
         self.sqes[place as usize] = encode_sqe(entry);
@@ -291,9 +295,9 @@ impl Ring {
     // Gives the open slot's entry its user_data, and queues it.
     pub(crate) fn queue(&mut self, place: u32, user_data: u64)
         requires place { open_place self.old ≡ Some place }
-        requires stage { is_prepared self.old.slot ≡ true }
+        requires stage { is_prepared_slot self.old.slot ≡ true }
         requires out { self.old.parked ≡ false }
-        ensures after { self.new ≡ after_queueing self.old user_data }
+        ensures after { self.new ≡ after_call (SetData64Call user_data) self.old }
         ensures spells { (entry : Entry) → SpellsEntry entry (bytes_of self.old.slot)
             → SpellsEntry (entry_with_data user_data entry) (bytes_with_data user_data (bytes_of self.old.slot)) }
     {
@@ -306,7 +310,7 @@ impl Ring {
     // Closes the open slot.
     pub(crate) fn close(&mut self)
         requires { self.old.parked ≡ false }
-        ensures { self.new ≡ record self.old { slot = NoSlot } }
+        ensures { self.new ≡ after_call AbandonCall self.old }
     {
         self.stage = Stage::Closed;
     }
@@ -314,7 +318,7 @@ impl Ring {
     // Parks the open slot.
     pub(crate) fn keep(&mut self)
         requires { slot_count self.old.slot ≡ 1 }
-        ensures { self.new ≡ record self.old { parked = true } }
+        ensures { self.new ≡ after_call ParkCall self.old }
     {
         self.parked = true;
     }

@@ -1,7 +1,7 @@
 //! Slots of the submission ring, with their stage in their type.
 
 ghost use Rattle.std.specs.Prelude.{◌≡◌, negsuc, Bool, true, false, Some};
-ghost use Rattle.rc_ring.specs.Rings.{NoSlot, Prepares, open_place, is_prepared, bytes_of, after_queueing, entry_with_data, bytes_with_data};
+ghost use Rattle.rc_ring.specs.Rings.{Prepares, SetData64Call, AbandonCall, ParkCall, after_call, open_place, is_prepared_slot, bytes_of, entry_with_data, bytes_with_data};
 ghost use Rattle.rc_entry.specs.declared.Entry.{Entry};
 ghost use Rattle.rc_entry.specs.declared.Entry.TheVariants.{Nop, Fsync, Read, Write};
 ghost use Rattle.rc_entry.specs.Spelling.{SpellsEntry};
@@ -52,9 +52,9 @@ impl<S: SlotStage + Drop> Slot<S> {
     /// Closes the slot and queues nothing.
     pub fn abandon(self, ring: &mut Ring)
         requires place { open_place ring.old ≡ Some self }
-        requires stage { is_prepared ring.old.slot ≡ S.has_entry }
+        requires stage { is_prepared_slot ring.old.slot ≡ S.has_entry }
         requires out { ring.old.parked ≡ false }
-        ensures { ring.new ≡ record ring.old { slot = NoSlot } }
+        ensures { ring.new ≡ after_call AbandonCall ring.old }
     {
         let Slot { place: _, stage: _ } = self;
         ring.close();
@@ -63,9 +63,9 @@ impl<S: SlotStage + Drop> Slot<S> {
     /// Leaves the slot open, with what was prepared in it, in the ring alone.
     pub fn park(self, ring: &mut Ring)
         requires place { open_place ring.old ≡ Some self }
-        requires stage { is_prepared ring.old.slot ≡ S.has_entry }
+        requires stage { is_prepared_slot ring.old.slot ≡ S.has_entry }
         requires out { ring.old.parked ≡ false }
-        ensures { ring.new ≡ record ring.old { parked = true } }
+        ensures { ring.new ≡ after_call ParkCall ring.old }
     {
         let Slot { place: _, stage: _ } = self;
         ring.keep();
@@ -94,7 +94,7 @@ impl Slot<Vacant> {
         off: u64,
     ) -> Slot<Prepared>
         requires place { open_place ring.old ≡ Some self }
-        requires stage { is_prepared ring.old.slot ≡ false }
+        requires stage { is_prepared_slot ring.old.slot ≡ false }
         requires out { ring.old.parked ≡ false }
         ensures entry { Prepares ring.old ring.new (Read fd addr len off 0) }
         ensures slot { result ≡ self }
@@ -122,7 +122,7 @@ impl Slot<Vacant> {
         off: u64,
     ) -> Slot<Prepared>
         requires place { open_place ring.old ≡ Some self }
-        requires stage { is_prepared ring.old.slot ≡ false }
+        requires stage { is_prepared_slot ring.old.slot ≡ false }
         requires out { ring.old.parked ≡ false }
         ensures entry { Prepares ring.old ring.new (Write fd addr len off 0) }
         ensures slot { result ≡ self }
@@ -142,7 +142,7 @@ impl Slot<Vacant> {
     /// Prepares an fsync of a file, or with `datasync` an fdatasync (io_uring_prep_fsync(3)).
     pub fn prep_fsync(self, ring: &mut Ring, fd: i32, datasync: bool) -> Slot<Prepared>
         requires place { open_place ring.old ≡ Some self }
-        requires stage { is_prepared ring.old.slot ≡ false }
+        requires stage { is_prepared_slot ring.old.slot ≡ false }
         requires out { ring.old.parked ≡ false }
         ensures entry { Prepares ring.old ring.new (Fsync fd datasync 0) }
         ensures slot { result ≡ self }
@@ -160,7 +160,7 @@ impl Slot<Vacant> {
     /// Prepares a request that does nothing (io_uring_prep_nop(3)).
     pub fn prep_nop(self, ring: &mut Ring) -> Slot<Prepared>
         requires place { open_place ring.old ≡ Some self }
-        requires stage { is_prepared ring.old.slot ≡ false }
+        requires stage { is_prepared_slot ring.old.slot ≡ false }
         requires out { ring.old.parked ≡ false }
         ensures entry { Prepares ring.old ring.new (Nop 0) }
         ensures slot { result ≡ self }
@@ -171,7 +171,7 @@ impl Slot<Vacant> {
     // Writes the entry into the slot's place.
     fn filled(self, ring: &mut Ring, entry: &Entry) -> Slot<Prepared>
         requires place { open_place ring.old ≡ Some self }
-        requires stage { is_prepared ring.old.slot ≡ false }
+        requires stage { is_prepared_slot ring.old.slot ≡ false }
         ensures entry { Prepares ring.old ring.new entry.now }
         ensures slot { result ≡ self }
     {
@@ -198,9 +198,9 @@ impl Slot<Prepared> {
     /// Gives the entry its `user_data` (io_uring_sqe_set_data64(3)) and queues it.
     pub fn set_data64(self, ring: &mut Ring, user_data: u64)
         requires place { open_place ring.old ≡ Some self }
-        requires stage { is_prepared ring.old.slot ≡ true }
+        requires stage { is_prepared_slot ring.old.slot ≡ true }
         requires out { ring.old.parked ≡ false }
-        ensures after { ring.new ≡ after_queueing ring.old user_data }
+        ensures after { ring.new ≡ after_call (SetData64Call user_data) ring.old }
         ensures spells { (entry : Entry) → SpellsEntry entry (bytes_of ring.old.slot)
             → SpellsEntry (entry_with_data user_data entry) (bytes_with_data user_data (bytes_of ring.old.slot)) }
     {
