@@ -1,4 +1,6 @@
+pub mod Names
 pub mod Nesting
 pub mod Numbers
 pub mod Parts
 pub mod Program
+pub mod Requests

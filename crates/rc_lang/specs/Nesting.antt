@@ -1,10 +1,10 @@
 -- Which blocks are open at a place of a thread, and which lines may stand there.
-use Rattle.std.specs.Prelude.{ℕ, ◌≡◌, ◌+◌, ◌-◌, ◌≤◌, Bool, true, false, ◌||◌, List, [], ◌∷◌, ◌++◌, length, take, Option, Some, None, slice_get}
+use Rattle.std.specs.Prelude.{ℕ, ◌≡◌, ◌+◌, ◌-◌, ◌≤◌, ◌⊎◌, Bool, true, false, ◌||◌, List, [], ◌∷◌, ◌++◌, length, take, Option, Some, None, slice_get}
 use Rattle.rc_lang.specs.declared.lines.Block.{Block}
-use Rattle.rc_lang.specs.declared.lines.Block.TheVariants.{InLock, InPeek, InArm}
+use Rattle.rc_lang.specs.declared.lines.Block.TheVariants.{InLock, InIf, InElse, InPeek, InArm, InLoop}
 use Rattle.rc_lang.specs.declared.lines.Line.{Line}
 use Rattle.rc_lang.specs.declared.lines.Stmt.{Stmt}
-use Rattle.rc_lang.specs.declared.lines.Stmt.TheVariants.{Do, Lock, EndLock, Peek, Case, Other, Nothing, EndArm, EndPeek}
+use Rattle.rc_lang.specs.declared.lines.Stmt.TheVariants.{Do, Lock, EndLock, If, Else, EndIf, Peek, Case, Other, Nothing, EndArm, EndPeek, Loop, EndLoop, Break}
 
 -- Blocks stand with the innermost last.
 abbrev pub innermost : List Block → Option Block
@@ -18,12 +18,18 @@ abbrev pub blocks_behind : List Block → ℕ → Stmt → List Block
 blocks_behind blocks j (Do op) = blocks
 blocks_behind blocks j Lock = blocks ++ InLock j ∷ []
 blocks_behind blocks j (EndLock o) = without_innermost blocks
+blocks_behind blocks j (If test) = blocks ++ InIf j ∷ []
+blocks_behind blocks j (Else o) = without_innermost blocks ++ InElse j ∷ []
+blocks_behind blocks j (EndIf o) = without_innermost blocks
 blocks_behind blocks j (Peek x) = blocks ++ InPeek j ∷ []
 blocks_behind blocks j (Case o u) = blocks ++ InArm o ∷ []
 blocks_behind blocks j (Other o) = blocks ++ InArm o ∷ []
 blocks_behind blocks j (Nothing o) = blocks ++ InArm o ∷ []
 blocks_behind blocks j (EndArm o) = without_innermost blocks
 blocks_behind blocks j (EndPeek o) = without_innermost blocks
+blocks_behind blocks j (Loop k) = blocks ++ InLoop j k ∷ []
+blocks_behind blocks j (EndLoop o k) = without_innermost blocks
+blocks_behind blocks j (Break o releases leaves) = blocks
 
 -- The blocks that are open behind these lines, the first of which stands at place j.
 abbrev pub blocks_after : List Block → ℕ → List Line → List Block
@@ -36,13 +42,19 @@ blocks_at lines j = blocks_after [] 0 (take j lines)
 
 abbrev pub is_lock : Block → Bool
 is_lock (InLock o) = true
+is_lock (InIf o) = false
+is_lock (InElse o) = false
 is_lock (InPeek o) = false
 is_lock (InArm o) = false
+is_lock (InLoop o k) = false
 
 abbrev pub is_peek : Block → Bool
 is_peek (InLock o) = false
+is_peek (InIf o) = false
+is_peek (InElse o) = false
 is_peek (InPeek o) = true
 is_peek (InArm o) = false
+is_peek (InLoop o k) = false
 
 abbrev pub in_lock : List Block → Bool
 in_lock [] = false
@@ -60,17 +72,45 @@ is_some_peek (Some b) = is_peek b
 abbrev pub directly_in_peek : List Block → Bool
 directly_in_peek blocks = is_some_peek (innermost blocks)
 
+-- The way of a break out of the blocks that are open, from the outermost in: the innermost loop, and whether a lock and
+-- a peek stand in it on the way.
+pub record Way : Type 0 where
+  pub loop : Option ℕ
+  pub releases : Bool
+  pub leaves : Bool
+
+abbrev pub way_past : Way → Block → Way
+way_past way (InLock o) = record { loop = way.loop; releases = true; leaves = way.leaves }
+way_past way (InIf o) = way
+way_past way (InElse o) = way
+way_past way (InPeek o) = record { loop = way.loop; releases = way.releases; leaves = true }
+way_past way (InArm o) = way
+way_past way (InLoop o k) = record { loop = Some o; releases = false; leaves = false }
+
+abbrev pub way_through : Way → List Block → Way
+way_through way [] = way
+way_through way (b ∷ bs) = way_through (way_past way b) bs
+
+abbrev pub way_out : List Block → Way
+way_out blocks = way_through (record { loop = None; releases = false; leaves = false }) blocks
+
 -- The line may stand where these blocks are open.
 abbrev pub IsNestedIn : List Block → Stmt → Type 0
 IsNestedIn blocks (Do op) = directly_in_peek blocks ≡ false
 IsNestedIn blocks Lock = (in_lock blocks ≡ false) × (in_peek blocks ≡ false)
 IsNestedIn blocks (EndLock o) = innermost blocks ≡ Some (InLock o)
+IsNestedIn blocks (If test) = directly_in_peek blocks ≡ false
+IsNestedIn blocks (Else o) = innermost blocks ≡ Some (InIf o)
+IsNestedIn blocks (EndIf o) = (innermost blocks ≡ Some (InIf o)) ⊎ (innermost blocks ≡ Some (InElse o))
 IsNestedIn blocks (Peek x) = in_peek blocks ≡ false
 IsNestedIn blocks (Case o u) = innermost blocks ≡ Some (InPeek o)
 IsNestedIn blocks (Other o) = innermost blocks ≡ Some (InPeek o)
 IsNestedIn blocks (Nothing o) = innermost blocks ≡ Some (InPeek o)
 IsNestedIn blocks (EndArm o) = innermost blocks ≡ Some (InArm o)
 IsNestedIn blocks (EndPeek o) = innermost blocks ≡ Some (InPeek o)
+IsNestedIn blocks (Loop k) = in_peek blocks ≡ false
+IsNestedIn blocks (EndLoop o k) = innermost blocks ≡ Some (InLoop o k)
+IsNestedIn blocks (Break o releases leaves) = (directly_in_peek blocks ≡ false) × (way_out blocks ≡ record { loop = Some o; releases = releases; leaves = leaves })
 
 -- Each line may stand at its place, at most 31 blocks are open inside the thread, and at its end none is.
 pub record IsNested (lines : List Line) : Type 0 where

@@ -1,16 +1,36 @@
--- What the parts of a program stand for.
+-- What the parts of a program in the code stand for.
 use Rattle.std.specs.Prelude.{List, map}
+use Rattle.rc_lang.specs.declared.program.Buffer.{Buffer as BufferPart}
 use Rattle.rc_lang.specs.declared.program.Declarations.{Declarations}
 use Rattle.rc_lang.specs.declared.program.Head.{Head}
 use Rattle.rc_lang.specs.declared.program.Items.{Items as ItemsPart}
 use Rattle.rc_lang.specs.declared.program.Thread.{Thread as ThreadPart}
-use Rattle.rc_lang.specs.Program.{Items, Thread, Program}
+use Rattle.rc_lang.specs.Program.{Buffer, Items, Thread, Program}
 
-abbrev pub items_of : ItemsPart → Items
-items_of i = record { tokens = i.tokens.items; credits = i.credits }
+abbrev pub view_buffer : BufferPart → Buffer
+view_buffer b = record { name = b.name.items; bytes = b.bytes; shares = b.shares }
 
-abbrev pub thread_of : ThreadPart → Thread
-thread_of t = record { name = t.name.items; line = t.line; items = items_of t.items; lines = t.lines.items; ends = t.ends.items; variables = t.variables }
+abbrev pub view_items : ItemsPart → Items
+view_items i = record { shares = i.shares.items; tokens = i.tokens.items; credits = i.credits; queue = i.queue }
 
-abbrev pub program_of : Head → Declarations → List ThreadPart → Program
-program_of h d ts = record { entries = h.entries; completion_entries = h.completion_entries; tokens = d.tokens.items; threads = map thread_of ts }
+abbrev pub view_thread : ThreadPart → Thread
+view_thread t = record {
+  name = t.name.items;
+  line = t.line;
+  items = view_items t.items;
+  loops = map view_items t.loops.items;
+  lines = t.lines.items;
+  ends = t.ends.items;
+  variables = t.variables;
+}
+
+abbrev pub view_program : Head → Declarations → List ThreadPart → Program
+view_program h d ts = record {
+  entries = h.entries;
+  completion_entries = h.completion_entries;
+  left = h.left;
+  files = d.files.items;
+  buffers = map view_buffer d.buffers.items;
+  tokens = d.tokens.items;
+  threads = map view_thread ts;
+}

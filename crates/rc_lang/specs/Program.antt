@@ -1,36 +1,61 @@
 -- Programs, and what is kept by each that was made.
-use Rattle.std.specs.Prelude.{ℕ, ◌≡◌, ◌≢◌, ◌^◌, ◌<◌, ◌≤◌, List, [], length, map, Option, Some, None, slice_get, slice_index, nat_eq, All, Contains}
+use Rattle.std.specs.Prelude.{ℕ, ◌≡◌, ◌≢◌, ◌^◌, ◌<◌, ◌≤◌, ◌⊎◌, true, false, List, [], length, map, Option, Some, None, slice_get, slice_index, slice_index_or, nat_eq, position, All, Contains, IfSome}
 use Rattle.std.specs.List.{IsDistinct}
 use Rattle.std.specs.Str.{bytes_eq}
 use Rattle.rc_lang.specs.declared.lines.Line.{Line}
-use Rattle.rc_lang.specs.declared.lines.Op.TheVariants.{GetSqe, PrepNop, SetData64, Submit, CqeSeen}
+use Rattle.rc_lang.specs.declared.lines.Op.{Op}
+use Rattle.rc_lang.specs.declared.lines.Op.TheVariants.{Set, Assign, Add, Subtract, Load, Store, Fill, Print, GetSqe, PrepRead, PrepWrite, PrepFsync, PrepNop, SetData64, Submit, SubmitAndWait, CqeSeen}
+use Rattle.rc_lang.specs.declared.lines.Operand.{Operand}
+use Rattle.rc_lang.specs.declared.lines.Operand.TheVariants.{Variable, Number}
 use Rattle.rc_lang.specs.declared.lines.Stmt.{Stmt}
-use Rattle.rc_lang.specs.declared.lines.Stmt.TheVariants.{Do, Lock, EndLock, Peek, Case, Other, Nothing, EndArm, EndPeek}
+use Rattle.rc_lang.specs.declared.lines.Stmt.TheVariants.{Do, Lock, EndLock, If, Else, EndIf, Peek, Case, Other, Nothing, EndArm, EndPeek, Loop, EndLoop, Break}
+use Rattle.rc_lang.specs.declared.lines.Test.{Test}
+use Rattle.rc_lang.specs.declared.lines.Test.TheVariants.{Compare, ReadyZero, SpaceAtLeast}
+use Rattle.rc_lang.specs.declared.program.File.{File}
+use Rattle.rc_lang.specs.declared.program.Share.{Share}
 use Rattle.rc_lang.specs.declared.program.Token.{Token}
-use Rattle.rc_lang.specs.Nesting.{IsNested}
+use Rattle.rc_lang.specs.declared.program.TokenKind.{TokenKind}
+use Rattle.rc_lang.specs.declared.program.TokenKind.TheVariants.{Read, Write, Fsync, Nop}
+use Rattle.rc_lang.specs.Names.{is_name}
+use Rattle.rc_lang.specs.Nesting.{IsNested, blocks_at, in_lock}
 
--- What a thread holds as it begins: token numbers, and credits for completions.
+-- A buffer: its name, how many bytes it has, and into how many shares it is split.
+pub record Buffer : Type 0 where
+  pub name : List ℕ
+  pub bytes : ℕ
+  pub shares : ℕ
+
+-- What a thread holds, as it begins or at the top of a loop: shares of buffers, tokens, credits for completions, and
+-- how many entries may be queued at most, where that is said.
 pub record Items : Type 0 where
+  pub shares : List Share
   pub tokens : List ℕ
   pub credits : ℕ
+  pub queue : Option ℕ
 
--- A thread: its name and the line of its header, what it holds, its lines, for each peek the place of its closing
--- brace, and how many variables it has.
+-- A thread: its name and the line of its header, what it holds as it begins, the items of its loops, its lines, for
+-- the lines that a jump starts from the place that it leads to, and how many variables it has.
 pub record Thread : Type 0 where
   pub name : List ℕ
   pub line : ℕ
   pub items : Items
+  pub loops : List Items
   pub lines : List Line
   pub ends : List ℕ
   pub variables : ℕ
 
--- A program: how many entries its submission ring and its completion ring have (io_uring_setup(2)), its tokens and
--- its threads, in text order.
+-- A program: how many entries its submission ring and its completion ring have (io_uring_setup(2)), how many entries
+-- may be left queued where the lock is released, and its declarations and threads, in text order.
 pub record Program : Type 0 where
   pub entries : ℕ
   pub completion_entries : ℕ
+  pub left : ℕ
+  pub files : List File
+  pub buffers : List Buffer
   pub tokens : List Token
   pub threads : List Thread
+
+-- ---- look-ups
 
 -- the statement at a place
 abbrev pub stmt_of : Option Line → Option Stmt
@@ -55,33 +80,110 @@ abbrev pub ends_in : Option Thread → List ℕ
 ends_in None = []
 ends_in (Some thread) = thread.ends
 
--- the place of the closing brace of the peek at place j
+-- the place that the line at place j leads to: of an if its else or its closing brace, of an else, a peek and a loop
+-- the closing brace
 abbrev pub end_at : Program → ℕ → ℕ → ℕ
 end_at program i j = slice_index (ends_in (slice_get program.threads i)) j
+
+-- the items of a loop, by their number
+abbrev pub no_items : Items
+no_items = record { shares = []; tokens = []; credits = 0; queue = None }
+
+abbrev pub items_at : List Items → ℕ → Items
+items_at loops k = slice_index_or loops k no_items
+
+-- how many bytes and shares a buffer has
+abbrev pub no_buffer : Buffer
+no_buffer = record { name = []; bytes = 0; shares = 0 }
+
+abbrev pub bytes_at : List Buffer → ℕ → ℕ
+bytes_at buffers b = (slice_index_or buffers b no_buffer).bytes
+
+abbrev pub shares_at : List Buffer → ℕ → ℕ
+shares_at buffers b = (slice_index_or buffers b no_buffer).shares
+
+-- the place of a user data among the tokens
+abbrev pub token_place : List Token → ℕ → Option ℕ
+token_place tokens u = position (λ (t : Token). nat_eq t.user_data u) tokens
+
+-- ---- resolved names
 
 -- The number is a power of two, from 1 to the limit.
 pub record IsRingSize (limit n : ℕ) : Type 0 where
   pub power : (k : ℕ) × (n ≡ 2 ^ k)
   pub within : n ≤ limit
 
-abbrev pub Declares : List Token → ℕ → Type 0
-Declares tokens u = Contains (map (λ (t : Token). t.user_data) tokens) u
+abbrev pub DeclaresToken : Program → ℕ → Type 0
+DeclaresToken program u = Contains (map (λ (t : Token). t.user_data) program.tokens) u
 
--- The names of a line are resolved: its token is declared, its variable is one of the thread's.
-abbrev pub IsResolved : List Token → ℕ → Stmt → Type 0
-IsResolved tokens variables (Do GetSqe) = Unit {0}
-IsResolved tokens variables (Do PrepNop) = Unit {0}
-IsResolved tokens variables (Do (SetData64 u)) = Declares tokens u
-IsResolved tokens variables (Do (Submit x)) = x < variables
-IsResolved tokens variables (Do CqeSeen) = Unit {0}
-IsResolved tokens variables Lock = Unit {0}
-IsResolved tokens variables (EndLock o) = Unit {0}
-IsResolved tokens variables (Peek x) = x < variables
-IsResolved tokens variables (Case o u) = Declares tokens u
-IsResolved tokens variables (Other o) = Unit {0}
-IsResolved tokens variables (Nothing o) = Unit {0}
-IsResolved tokens variables (EndArm o) = Unit {0}
-IsResolved tokens variables (EndPeek o) = Unit {0}
+abbrev pub DeclaresFile : Program → ℕ → Type 0
+DeclaresFile program fd = Contains (map (λ (f : File). f.number) program.files) fd
+
+abbrev pub IsOperand : ℕ → Operand → Type 0
+IsOperand variables (Variable x) = x < variables
+IsOperand variables (Number n) = Unit {0}
+
+-- What a read or a write moves: at most 4,096 bytes, between a declared file, from a place of it up to 1,048,576 on,
+-- and a buffer.
+pub record IsMove (program : Program) (fd b len off : ℕ) : Type 0 where
+  pub file : DeclaresFile program fd
+  pub buffer : b < length program.buffers
+  pub length_within : len ≤ 4096
+  pub place_within : off ≤ 1048576
+
+-- The number is one of shares of the buffer.
+pub record IsShare (program : Program) (b k : ℕ) : Type 0 where
+  pub some : 1 ≤ k
+  pub within : k ≤ shares_at program.buffers b
+
+-- The names of a line are resolved, and its numbers are in their ranges.
+abbrev pub IsResolvedOp : Program → ℕ → Op → Type 0
+IsResolvedOp program variables (Set x n) = x < variables
+IsResolvedOp program variables (Assign x y) = (x < variables) × (y < variables)
+IsResolvedOp program variables (Add x a b) = (x < variables) × IsOperand variables a × IsOperand variables b
+IsResolvedOp program variables (Subtract x a b) = (x < variables) × IsOperand variables a × IsOperand variables b
+IsResolvedOp program variables (Load x b i) = (x < variables) × (b < length program.buffers) × (i ≤ 4095)
+IsResolvedOp program variables (Store b i x) = (b < length program.buffers) × (i ≤ 4095) × (x < variables)
+IsResolvedOp program variables (Fill b x) = (b < length program.buffers) × (x < variables)
+IsResolvedOp program variables (Print x) = x < variables
+IsResolvedOp program variables GetSqe = Unit {0}
+IsResolvedOp program variables (PrepRead fd b len off) = IsMove program fd b len off
+IsResolvedOp program variables (PrepWrite fd b len off k) = IsMove program fd b len off × IsShare program b k
+IsResolvedOp program variables (PrepFsync fd datasync) = DeclaresFile program fd
+IsResolvedOp program variables PrepNop = Unit {0}
+IsResolvedOp program variables (SetData64 u) = DeclaresToken program u
+IsResolvedOp program variables (Submit x) = x < variables
+IsResolvedOp program variables (SubmitAndWait x n) = (x < variables) × (n ≤ 2048)
+IsResolvedOp program variables CqeSeen = Unit {0}
+
+abbrev pub IsResolvedTest : Program → ℕ → Test → Type 0
+IsResolvedTest program variables (Compare x c n) = x < variables
+IsResolvedTest program variables ReadyZero = Unit {0}
+IsResolvedTest program variables (SpaceAtLeast n) = n ≤ program.entries
+
+abbrev pub IsResolved : Program → (variables loops : ℕ) → Stmt → Type 0
+IsResolved program variables loops (Do op) = IsResolvedOp program variables op
+IsResolved program variables loops Lock = Unit {0}
+IsResolved program variables loops (EndLock o) = Unit {0}
+IsResolved program variables loops (If test) = IsResolvedTest program variables test
+IsResolved program variables loops (Else o) = Unit {0}
+IsResolved program variables loops (EndIf o) = Unit {0}
+IsResolved program variables loops (Peek x) = x < variables
+IsResolved program variables loops (Case o u) = DeclaresToken program u
+IsResolved program variables loops (Other o) = Unit {0}
+IsResolved program variables loops (Nothing o) = Unit {0}
+IsResolved program variables loops (EndArm o) = Unit {0}
+IsResolved program variables loops (EndPeek o) = Unit {0}
+IsResolved program variables loops (Loop k) = k < loops
+IsResolved program variables loops (EndLoop o k) = k < loops
+IsResolved program variables loops (Break o releases leaves) = Unit {0}
+
+-- ---- links
+
+-- The line at place j leads ahead to a line that says this.
+pub record HasEnd (lines : List Line) (ends : List ℕ) (j : ℕ) (stmt : Stmt) : Type 0 where
+  pub behind : j < slice_index ends j
+  pub stands : stmt_at lines (slice_index ends j) ≡ Some stmt
 
 -- No line before place j says the same.
 abbrev pub IsFirst : List Line → ℕ → Stmt → Type 0
@@ -93,49 +195,96 @@ pub record IsAhead (lines : List Line) (j : ℕ) (stmt : Stmt) : Type 0 where
   pub behind : j < place
   pub stands : stmt_at lines place ≡ Some stmt
 
--- The lines that belong to the line at place j are there: a peek has its closing brace where the table says, an arm
--- for other user data and one for no completion; no arm stands twice; an arm ends before its peek does.
+-- A peek has its closing brace, an arm for other user data and one for no completion.
 pub record HasArms (lines : List Line) (ends : List ℕ) (j : ℕ) : Type 0 where
-  pub behind : j < slice_index ends j
-  pub stands : stmt_at lines (slice_index ends j) ≡ Some (EndPeek j)
+  pub end : HasEnd lines ends j (EndPeek j)
   pub other : IsAhead lines j (Other j)
   pub none : IsAhead lines j (Nothing j)
 
+-- The lines that belong to the line at place j are there, where the table says: an if leads to its else or its closing
+-- brace, an else, a peek and a loop to the closing brace. No arm stands twice. An arm ends before its peek does, and a
+-- break stands before its loop's end.
 abbrev pub IsLinked : List Line → List ℕ → ℕ → Stmt → Type 0
 IsLinked lines ends j (Do op) = Unit {0}
 IsLinked lines ends j Lock = Unit {0}
 IsLinked lines ends j (EndLock o) = Unit {0}
+IsLinked lines ends j (If test) = HasEnd lines ends j (Else j) ⊎ HasEnd lines ends j (EndIf j)
+IsLinked lines ends j (Else o) = HasEnd lines ends j (EndIf j)
+IsLinked lines ends j (EndIf o) = Unit {0}
 IsLinked lines ends j (Peek x) = HasArms lines ends j
 IsLinked lines ends j (Case o u) = IsFirst lines j (Case o u)
 IsLinked lines ends j (Other o) = IsFirst lines j (Other o)
 IsLinked lines ends j (Nothing o) = IsFirst lines j (Nothing o)
 IsLinked lines ends j (EndArm o) = j < slice_index ends o
 IsLinked lines ends j (EndPeek o) = Unit {0}
+IsLinked lines ends j (Loop k) = HasEnd lines ends j (EndLoop j k)
+IsLinked lines ends j (EndLoop o k) = Unit {0}
+IsLinked lines ends j (Break o releases leaves) = j < slice_index ends o
 
--- What a thread's header may hold: declared tokens, each once, and at most 2,048 credits.
-pub record IsItems (tokens : List Token) (items : Items) : Type 0 where
-  pub declared : All (Declares tokens) items.tokens
-  pub distinct : IsDistinct nat_eq items.tokens
+-- ---- what is kept
+
+-- Items name what is declared, each once: 1 to 16 shares of a buffer, tokens, at most 2,048 credits, and at most as
+-- many queued entries as the ring has.
+pub record IsItems (program : Program) (items : Items) : Type 0 where
+  pub buffers : All (λ (s : Share). s.buffer < length program.buffers) items.shares
+  pub counts : All (λ (s : Share). (1 ≤ s.count) × (s.count ≤ 16)) items.shares
+  pub distinct_buffers : IsDistinct nat_eq (map (λ (s : Share). s.buffer) items.shares)
+  pub tokens : All (DeclaresToken program) items.tokens
+  pub distinct_tokens : IsDistinct nat_eq items.tokens
   pub credits : items.credits ≤ 2048
+  pub queue : IfSome items.queue (λ k. k ≤ program.entries)
+
+-- A bound on queued entries is said of loops in a lock alone.
+abbrev pub MaySayQueue : Thread → ℕ → ℕ → Type 0
+MaySayQueue thread j k = in_lock (blocks_at thread.lines j) ≡ false → (items_at thread.loops k).queue ≡ None
 
 -- A thread of a made program: at most 4,096 lines, with numbers from 1 to 4,096, and 64 variables.
-pub record IsThread (tokens : List Token) (thread : Thread) : Type 0 where
-  pub line : thread.line ≤ 4096
-  pub items : IsItems tokens thread.items
+pub record IsThread (program : Program) (thread : Thread) : Type 0 where
+  pub name : is_name thread.name ≡ true
+  pub line : (1 ≤ thread.line) × (thread.line ≤ 4096)
+  pub items : IsItems program thread.items
+  pub no_queue : thread.items.queue ≡ None
+  pub loops : All (IsItems program) thread.loops
   pub few_lines : length thread.lines ≤ 4096
-  pub numbers : All (λ (l : Line). l.number ≤ 4096) thread.lines
+  pub numbers : All (λ (l : Line). (1 ≤ l.number) × (l.number ≤ 4096)) thread.lines
   pub few_variables : thread.variables ≤ 64
   pub nested : IsNested thread.lines
-  pub resolved : (j : ℕ) (s : Stmt) → stmt_at thread.lines j ≡ Some s → IsResolved tokens thread.variables s
+  pub resolved : (j : ℕ) (s : Stmt) → stmt_at thread.lines j ≡ Some s → IsResolved program thread.variables (length thread.loops) s
   pub linked : (j : ℕ) (s : Stmt) → stmt_at thread.lines j ≡ Some s → IsLinked thread.lines thread.ends j s
+  pub queues : (j k : ℕ) → stmt_at thread.lines j ≡ Some (Loop k) → MaySayQueue thread j k
+
+-- A file has a number up to 1,023 and at most 65,536 bytes, a buffer 1 to 4,096 bytes in 1 to 16 shares.
+pub record IsFile (file : File) : Type 0 where
+  pub number : file.number ≤ 1023
+  pub len : file.len ≤ 65536
+
+pub record IsBuffer (buffer : Buffer) : Type 0 where
+  pub name : is_name buffer.name ≡ true
+  pub bytes : (1 ≤ buffer.bytes) × (buffer.bytes ≤ 4096)
+  pub shares : (1 ≤ buffer.shares) × (buffer.shares ≤ 16)
+
+-- A token of a read or a write names a buffer, and that of a write as many of its shares as it takes.
+abbrev pub IsTokenKind : Program → TokenKind → Type 0
+IsTokenKind program (Read b) = b < length program.buffers
+IsTokenKind program (Write b k) = (b < length program.buffers) × IsShare program b k
+IsTokenKind program Fsync = Unit {0}
+IsTokenKind program Nop = Unit {0}
 
 -- What each made program keeps: the limits, nesting, and resolved names.
 pub record IsProgram (program : Program) : Type 0 where
   pub entries : IsRingSize 1024 program.entries
   pub completion_entries : IsRingSize 2048 program.completion_entries
   pub room : program.entries ≤ program.completion_entries
+  pub left : program.left ≤ program.entries
+  pub few_files : length program.files ≤ 16
+  pub files : All IsFile program.files
+  pub distinct_files : IsDistinct nat_eq (map (λ (f : File). f.number) program.files)
+  pub few_buffers : length program.buffers ≤ 64
+  pub buffers : All IsBuffer program.buffers
+  pub distinct_buffers : IsDistinct bytes_eq (map (λ (b : Buffer). b.name) program.buffers)
   pub few_tokens : length program.tokens ≤ 256
+  pub tokens : All (λ (t : Token). IsTokenKind program t.kind) program.tokens
   pub distinct_tokens : IsDistinct nat_eq (map (λ (t : Token). t.user_data) program.tokens)
   pub few_threads : length program.threads ≤ 16
   pub distinct_names : IsDistinct bytes_eq (map (λ (t : Thread). t.name) program.threads)
-  pub each : (i : ℕ) (t : Thread) → slice_get program.threads i ≡ Some t → IsThread program.tokens t
+  pub each : (i : ℕ) (t : Thread) → slice_get program.threads i ≡ Some t → IsThread program t

@@ -1,22 +1,78 @@
 //! The lines of a thread.
 
-/// A statement without a block.
-#[derive(Clone, Copy, PartialEq, Eq, Debug)]
+/// An operand of a sum: a variable's number, or a number.
+#[derive(Clone, Copy)]
+pub enum Operand {
+    Variable(usize),
+    Number(i64),
+}
+
+/// A comparison of a variable with a number.
+#[derive(Clone, Copy)]
+pub enum Comparison {
+    Equal,
+    NotEqual,
+    Less,
+    AtMost,
+    Greater,
+    AtLeast,
+}
+
+/// A statement without a block. Variables and buffers stand by their numbers, files by the numbers that they are
+/// declared with.
+#[derive(Clone, Copy)]
 pub enum Op {
+    /// `x = n`.
+    Set(usize, i64),
+    /// `x = y`.
+    Assign(usize, usize),
+    /// `x = A + B`, wrapping.
+    Add(usize, Operand, Operand),
+    /// `x = A - B`, wrapping.
+    Subtract(usize, Operand, Operand),
+    /// `x = load B i`: the byte at a place of a buffer, 0 to 4095.
+    Load(usize, usize, u32),
+    /// `store B i x`: writes the low eight bits of a variable at a place of a buffer, 0 to 4095.
+    Store(usize, u32, usize),
+    /// `fill B x`: writes the low eight bits of a variable at every place of a buffer.
+    Fill(usize, usize),
+    /// `print x`.
+    Print(usize),
     /// `get_sqe`: opens the next free submission entry (`io_uring_get_sqe(3)`).
     GetSqe,
+    /// `prep_read F B LEN OFF`: makes the open entry a read of LEN bytes, 0 to 4096, of a file from OFF on, 0 to
+    /// 1048576, into a buffer (`io_uring_prep_read(3)`).
+    PrepRead(u32, usize, u32, u32),
+    /// `prep_write F B LEN OFF K`: the same of a write, which takes K shares of the buffer (`io_uring_prep_write(3)`).
+    PrepWrite(u32, usize, u32, u32, u32),
+    /// `prep_fsync F FLAGS`: makes the open entry an fsync; whether of the data alone (`io_uring_prep_fsync(3)`).
+    PrepFsync(u32, bool),
     /// `prep_nop`: makes the open entry a nop (`io_uring_prep_nop(3)`).
     PrepNop,
     /// `set_data64 U`: gives the open entry its user data and queues it (`io_uring_sqe_set_data64(3)`).
     SetData64(u64),
-    /// `x = submit`: hands queued entries to the kernel (`io_uring_submit(3)`); the variable's number.
+    /// `x = submit`: hands queued entries to the kernel (`io_uring_submit(3)`).
     Submit(usize),
+    /// `x = submit_and_wait n`: the same, and waits for n completions, 0 to 2048 (`io_uring_submit_and_wait(3)`).
+    SubmitAndWait(usize, u32),
     /// `cqe_seen`: takes the front completion away (`io_uring_cqe_seen(3)`).
     CqeSeen,
 }
 
-/// What stands on a line. The blocks of a program are lines of their own.
-#[derive(Clone, Copy, PartialEq, Eq, Debug)]
+/// What an if asks.
+#[derive(Clone, Copy)]
+pub enum Test {
+    /// `if x OP n`.
+    Compare(usize, Comparison, i64),
+    /// `if sq_ready == 0`: whether no entry is queued or open (`io_uring_sq_ready(3)`).
+    ReadyZero,
+    /// `if sq_space_left >= n`: whether at least n entries, 0 to the ring's, are free (`io_uring_sq_space_left(3)`).
+    SpaceAtLeast(u32),
+}
+
+/// What stands on a line. The blocks of a program are lines of their own, and a closing line names the place of the
+/// line that it belongs to.
+#[derive(Clone, Copy)]
 pub enum Stmt {
     /// A statement without a block.
     Do(Op),
@@ -24,6 +80,12 @@ pub enum Stmt {
     Lock,
     /// The closing brace of the lock at this place, where the lock is released.
     EndLock(usize),
+    /// `if .. {`.
+    If(Test),
+    /// `} else {`, of the if at this place.
+    Else(usize),
+    /// The closing brace of the if at this place, or of the else at this place where it has one.
+    EndIf(usize),
     /// `peek_cqe x {`: looks at the front completion (`io_uring_peek_cqe(3)`); the variable's number.
     Peek(usize),
     /// `case U {`: the arm for this user data, of the peek at this place.
@@ -36,10 +98,16 @@ pub enum Stmt {
     EndArm(usize),
     /// The closing brace of the peek at this place.
     EndPeek(usize),
+    /// `loop keeps ITEMS {`: the number of its items among those of the thread's loops.
+    Loop(usize),
+    /// The closing brace of the loop at this place, and the number of that loop's items.
+    EndLoop(usize, usize),
+    /// `break` out of the loop at this place; whether it releases the lock, and whether it leaves an arm of a peek.
+    Break(usize, bool, bool),
 }
 
 /// A line of a thread.
-#[derive(Clone, Copy, PartialEq, Eq, Debug)]
+#[derive(Clone, Copy)]
 pub struct Line {
     /// Its number in the text, from 1.
     pub number: u32,
@@ -48,12 +116,18 @@ pub struct Line {
 }
 
 /// A block of a thread that is open at some place.
-#[derive(Clone, Copy, PartialEq, Eq, Debug)]
+#[derive(Clone, Copy)]
 pub enum Block {
     /// The lock that is opened at this place.
     InLock(usize),
+    /// The first branch of the if at this place.
+    InIf(usize),
+    /// The second branch of an if, which the else at this place begins.
+    InElse(usize),
     /// The peek that is opened at this place.
     InPeek(usize),
     /// An arm of the peek at this place.
     InArm(usize),
+    /// The loop at this place, and the number of its items.
+    InLoop(usize, usize),
 }

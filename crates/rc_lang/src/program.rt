@@ -1,60 +1,114 @@
 //! Programs and their parts.
 
 use crate::lines::Line;
-use crate::request::Kind;
 use std::marker::Model;
 
 /// The head of a program: the numbers of entries of its rings, powers of two (`io_uring_setup(2)`).
-#[derive(Clone, Copy, PartialEq, Eq, Debug)]
+#[derive(Clone, Copy)]
 pub struct Head {
     /// Entries of the submission ring, 1 to 1024.
     pub entries: u32,
     /// Entries of the completion ring, from those of the submission ring to 2048.
     pub completion_entries: u32,
+    /// How many entries may be left queued where the lock is released, 0 to those of the submission ring.
+    pub left: u32,
 }
 
-/// A token: the user data of a request, and what that request asks for.
-#[derive(Clone, Copy, PartialEq, Eq, Debug)]
+/// A file that requests may name.
+#[derive(Clone, Copy)]
+pub struct File {
+    /// Its file number, 0 to 1023.
+    pub number: u32,
+    /// How many bytes it has at the start, 0 to 65536.
+    pub len: u32,
+}
+
+/// A buffer.
+#[derive(Drop)]
+pub struct Buffer {
+    /// Its name, in ASCII.
+    pub name: Vec<u8>,
+    /// How many bytes it has, 1 to 4096.
+    pub bytes: u32,
+    /// Into how many shares it is split, 1 to 16. All of them together allow to write it, each of them to read it.
+    pub shares: u32,
+}
+
+/// What a token's request is, and what it owns while it is in flight.
+#[derive(Clone, Copy)]
+pub enum TokenKind {
+    /// A read into the buffer with this number; all of its shares.
+    Read(usize),
+    /// A write of the buffer with this number; that many of its shares, from 1.
+    Write(usize, u32),
+    /// An fsync.
+    Fsync,
+    /// A nop.
+    Nop,
+}
+
+/// A token: the user data of a request, and what that request is.
+#[derive(Clone, Copy)]
 pub struct Token {
     pub user_data: u64,
-    pub kind: Kind,
+    pub kind: TokenKind,
 }
 
 /// What a program declares before its threads.
-#[derive(Debug, Drop)]
+#[derive(Drop)]
 pub struct Declarations {
+    /// At most 16, each number once.
+    pub files: Vec<File>,
+    /// At most 64, each name once.
+    pub buffers: Vec<Buffer>,
     /// At most 256, each user data once.
     pub tokens: Vec<Token>,
 }
 
-/// What a thread holds as it begins.
-#[derive(Debug, Drop)]
+/// Shares of one buffer.
+#[derive(Clone, Copy)]
+pub struct Share {
+    /// The number of the buffer.
+    pub buffer: usize,
+    /// How many shares, 1 to 16.
+    pub count: u32,
+}
+
+/// What a thread holds, as it begins or at the top of a loop.
+#[derive(Drop)]
 pub struct Items {
+    /// Shares of buffers, each buffer once.
+    pub shares: Vec<Share>,
     /// The user data of tokens, each once.
     pub tokens: Vec<u64>,
     /// How many completions it may still cause, 0 to 2048.
     pub credits: u32,
+    /// How many entries may be queued at most, 0 to those of the submission ring; said of loops in a lock alone.
+    pub queue: Option<u32>,
 }
 
 /// A thread.
-#[derive(Debug, Drop)]
+#[derive(Drop)]
 pub struct Thread {
     /// Its name, in ASCII.
     pub name: Vec<u8>,
-    /// The number of its header's line.
+    /// The number of its header's line, from 1.
     pub line: u32,
     /// What it holds as it begins.
     pub items: Items,
+    /// What it holds at the tops of its loops, in text order.
+    pub loops: Vec<Items>,
     /// Its lines, without the header and its closing brace.
     pub lines: Vec<Line>,
-    /// For the place of each peek the place of its closing brace, and 0 at all other places.
+    /// For the place of an if that of its else or its closing brace, for the place of an else, a peek and a loop that
+    /// of its closing brace. What stands at the other places says nothing.
     pub ends: Vec<usize>,
     /// How many variables it has, at most 64.
     pub variables: usize,
 }
 
 /// A program, whose limits, nesting and names were tested as it was made.
-#[derive(Debug, Drop)]
+#[derive(Drop)]
 pub struct Program {
     head: Head,
     declarations: Declarations,
@@ -66,24 +120,23 @@ impl Model for Program {
 
     ghost Value = { spec.Program };
 
-    ghost use Rattle.rc_lang.specs.Parts.{program_of};
+    ghost use Rattle.rc_lang.specs.Parts.{view_program};
     ghost use Rattle.rc_lang.specs.Program.{IsProgram};
 
-    ghost view = { λ p. program_of p.head p.declarations p.threads.items };
+    ghost view = { λ p. view_program p.head p.declarations p.threads.items };
 
-    ghost invariant = { λ p. IsProgram (program_of p.head p.declarations p.threads.items) };
+    ghost invariant = { λ p. IsProgram (view_program p.head p.declarations p.threads.items) };
 }
 
 impl Program {
-    ghost use Rattle.std.specs.Prelude.{◌≡◌, ◌<◌, ◌≤◌, map, None, slice_get};
-    ghost use Rattle.std.specs.Option.{option_copied};
-    ghost use Rattle.rc_lang.specs.Parts.{program_of, thread_of};
-    ghost use Rattle.rc_lang.specs.Program.{IsProgram, line_at, end_at};
+    ghost use Rattle.std.specs.Prelude.{◌≡◌, map};
+    ghost use Rattle.rc_lang.specs.Parts.{view_buffer, view_program, view_thread};
+    ghost use Rattle.rc_lang.specs.Program.{IsProgram, bytes_at, end_at, line_at, shares_at, token_place};
 
     /// A program of these parts, which keep the limits, the nesting and the resolved names of programs.
     pub fn new(head: Head, declarations: Declarations, threads: Vec<Thread>) -> Program
-        requires { IsProgram (program_of head declarations threads.items) }
-        ensures { result ≡ program_of head declarations threads.items }
+        requires { IsProgram (view_program head declarations threads.items) }
+        ensures { result ≡ view_program head declarations threads.items }
     {
         Program {
             head,
@@ -108,6 +161,30 @@ impl Program {
         self.head.completion_entries
     }
 
+    /// How many entries may be left queued where the lock is released: 0 to the entries of the submission ring.
+    pub fn left(&self) -> u32
+        ensures value { result ≡ self.now.left }
+        ensures made { IsProgram self.now }
+    {
+        self.head.left
+    }
+
+    /// The declared files, in text order.
+    pub fn files(&self) -> &[File]
+        ensures value { result.now ≡ self.now.files }
+        ensures made { IsProgram self.now }
+    {
+        &self.declarations.files
+    }
+
+    /// The declared buffers, in text order. A buffer's number is its place here.
+    pub fn buffers(&self) -> &[Buffer]
+        ensures value { map view_buffer result.now ≡ self.now.buffers }
+        ensures made { IsProgram self.now }
+    {
+        &self.declarations.buffers
+    }
+
     /// The declared tokens, in text order.
     pub fn tokens(&self) -> &[Token]
         ensures value { result.now ≡ self.now.tokens }
@@ -118,10 +195,43 @@ impl Program {
 
     /// The threads, in text order.
     pub fn threads(&self) -> &[Thread]
-        ensures value { map thread_of result.now ≡ self.now.threads }
+        ensures value { map view_thread result.now ≡ self.now.threads }
         ensures made { IsProgram self.now }
     {
         &self.threads
+    }
+
+    /// How many bytes the buffer with this number has, 1 to 4096; 0 where there is none.
+    pub fn bytes_at(&self, buffer: usize) -> u32
+        ensures value { result ≡ bytes_at self.now.buffers buffer }
+        ensures made { IsProgram self.now }
+    {
+        match self.declarations.buffers.get(buffer) {
+            Some(buffer) => buffer.bytes,
+            None => 0,
+        }
+    }
+
+    /// Into how many shares the buffer with this number is split, 1 to 16; 0 where there is none.
+    pub fn shares_at(&self, buffer: usize) -> u32
+        ensures value { result ≡ shares_at self.now.buffers buffer }
+        ensures made { IsProgram self.now }
+    {
+        match self.declarations.buffers.get(buffer) {
+            Some(buffer) => buffer.shares,
+            None => 0,
+        }
+    }
+
+    /// The place of the token with this user data among the tokens, if it is declared.
+    pub fn token_place(&self, user_data: u64) -> Option<usize>
+        ensures value { result ≡ token_place self.now.tokens user_data }
+        ensures made { IsProgram self.now }
+    {
+        self.declarations
+            .tokens
+            .iter()
+            .position(|token| token.user_data == user_data)
     }
 
     /// The line at a place of a thread, if the thread and the place are there.
@@ -133,7 +243,7 @@ impl Program {
         thread.lines.get(place).copied()
     }
 
-    /// The place of the closing brace of the peek at a place of a thread, and 0 at another place.
+    /// The place that the line at a place of a thread leads to, and 0 where the table of such places ends before it.
     pub fn end_at(&self, thread: usize, place: usize) -> usize
         ensures value { result ≡ end_at self.now thread place }
         ensures made { IsProgram self.now }
@@ -142,5 +252,36 @@ impl Program {
             Some(thread) => thread.ends.get(place).copied().unwrap_or(0),
             None => 0,
         }
+    }
+}
+
+#[cfg(test)]
+mod tests {
+    use super::*;
+
+    #[test]
+    fn a_program_without_threads_is_made_of_its_head(rt: HostRuntime) {
+        let alloc = rt.alloc();
+        let head = Head {
+            entries: 4,
+            completion_entries: 8,
+            left: 3,
+        };
+        let declarations = Declarations {
+            files: Vec::new(alloc),
+            buffers: Vec::new(alloc),
+            tokens: Vec::new(alloc),
+        };
+        let program = Program::new(head, declarations, Vec::new(alloc));
+        let sizes = (program.entries(), program.completion_entries());
+        assert_eq!(rt; sizes, (4, 8));
+        assert_eq!(rt; program.left(), 3);
+        assert_eq!(rt; program.threads().len(), 0);
+        assert_eq!(rt; program.files().len(), 0);
+        assert!(rt; program.line_at(0, 0).is_none());
+        assert_eq!(rt; program.end_at(0, 0), 0);
+        assert_eq!(rt; program.bytes_at(0), 0);
+        assert_eq!(rt; program.shares_at(0), 0);
+        assert_eq!(rt; program.token_place(7), None);
     }
 }

@@ -1,0 +1,52 @@
+use Rattle.std.proofs.Common.{Bool, List, [], map, refl, sym, subst, lit≤, arith}
+use Rattle.std.specs.List.{IsDistinct}
+use Rattle.rc_lang.specs.declared.program.Buffer.{Buffer}
+use Rattle.rc_lang.specs.declared.program.File.{File}
+use Rattle.rc_lang.specs.declared.program.Thread.{Thread}
+use Rattle.rc_lang.specs.declared.program.Token.{Token}
+use Rattle.rc_lang.specs.Parts.{view_buffer, view_thread}
+use Rattle.rc_lang.specs.Program.{IsProgram, Program}
+use Rattle.rc_lang.proofs.program.tests.a_program_without_threads_is_made_of_its_head.Goals as goal
+
+none_twice : {K : Type 0} (eq : K → K → Bool) → IsDistinct eq []
+unfolding IsDistinct
+none_twice eq = tt
+
+-- the program of these parts
+abbrev parts : List File → List Buffer → List Token → List Thread → Program
+parts files buffers tokens threads = record {
+  entries = 4;
+  completion_entries = 8;
+  left = 3;
+  files = files;
+  buffers = map view_buffer buffers;
+  tokens = tokens;
+  threads = map view_thread threads;
+}
+
+bare : IsProgram (parts [] [] [] [])
+bare = record {
+  entries = record { power = (2, refl); within = lit≤ tt };
+  completion_entries = record { power = (3, refl); within = lit≤ tt };
+  room = lit≤ tt;
+  left = lit≤ tt;
+  few_files = lit≤ tt;
+  files = λ k d lt. absurd (omega arith);
+  distinct_files = none_twice _;
+  few_buffers = lit≤ tt;
+  buffers = λ k d lt. absurd (omega arith);
+  distinct_buffers = none_twice _;
+  few_tokens = lit≤ tt;
+  tokens = λ k d lt. absurd (omega arith);
+  distinct_tokens = none_twice _;
+  few_threads = lit≤ tt;
+  distinct_names = none_twice _;
+  each = λ i t e. absurd (cc);
+}
+
+pub new-program-requires : goal.new-program-requires
+new-program-requires g c =
+    subst (λ x. IsProgram (parts x c.new-2.result.items c.new-3.result.items c.new-4.result.items)) (sym c.new.ensures.items)
+    (subst (λ x. IsProgram (parts [] x c.new-3.result.items c.new-4.result.items)) (sym c.new-2.ensures.items)
+    (subst (λ x. IsProgram (parts [] [] x c.new-4.result.items)) (sym c.new-3.ensures.items)
+    (subst (λ x. IsProgram (parts [] [] [] x)) (sym c.new-4.ensures.items) bare)))
