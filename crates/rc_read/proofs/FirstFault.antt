@@ -5,14 +5,16 @@ use Rattle.std.specs.Prelude.{slice_get, ◌⊎◌, Contains}
 use Rattle.rc_lang.specs.Nesting.{innermost}
 use Rattle.rc_lang.specs.Program.{Program}
 use Rattle.rc_lang.specs.declared.lines.Block.{Block}
+use Rattle.rc_read.specs.Adds.{added, closed, with_words, with_line, items, says}
 use Rattle.rc_read.specs.Answer.{on_line, judged, ended, at_end, answer_of}
-use Rattle.rc_read.specs.Forms.{form_of}
 use Rattle.rc_read.specs.OneAnswer.{sheet_behind, IsTrueOf, IsFirstFault, IsEnd, HasAnswer}
 use Rattle.rc_read.specs.Sentences.{sentences, word_sentences, first_true}
-use Rattle.rc_read.specs.Sheets.{Sheet, empty, with_line, with_form, closed}
-use Rattle.rc_read.specs.Words.{lines_of, words_of}
-use Rattle.rc_read.specs.declared.form.Form.{Form}
-use Rattle.rc_read.specs.declared.form.Form.TheVariants.{Version, Ring, Token, Thread, Calls, Opens, Begins, Closes}
+use Rattle.rc_read.specs.Sheets.{Sheet, empty, named}
+use Rattle.rc_read.specs.Spots.{spots_in}
+use Rattle.rc_read.specs.Words.{text_lines, words_of}
+use Rattle.rc_read.specs.declared.says.Says.{Says}
+use Rattle.rc_read.specs.declared.says.Says.TheVariants.{Close}
+use Rattle.rc_read.specs.declared.values.Item.{Item}
 
 -- ---- one line
 
@@ -64,19 +66,16 @@ closed_count : (s : Sheet) (block : Option Block) → (closed s block).count ≡
 closed_count s None = refl
 closed_count s (Some b) = refl
 
-form_count : (s : Sheet) (ws : List (List ℕ)) (form : Option Form) → (with_form s ws form).count ≡ s.count
-form_count s ws None = refl
-form_count s ws (Some Version) = refl
-form_count s ws (Some (Ring n)) = refl
-form_count s ws (Some (Token n)) = refl
-form_count s ws (Some Thread) = refl
-form_count s ws (Some (Calls c)) = refl
-form_count s ws (Some (Opens o)) = refl
-form_count s ws (Some (Begins a)) = refl
-form_count s ws (Some Closes) = closed_count s (innermost s.draft.blocks)
+added_count : (s : Sheet) (ws : List (List ℕ)) (items : List Item) (what : Says) → (added s ws items what).count ≡ s.count
+added_count s ws items Close = closed_count s (innermost s.draft.blocks)
+added_count s ws items _ = refl
+
+words_count : (s : Sheet) (ws : List (List ℕ)) → (with_words s ws).count ≡ s.count
+words_count s [] = refl
+words_count s (w ∷ ws) = added_count (named s (spots_in (w ∷ ws))) (w ∷ ws) (items s (w ∷ ws)) (says s (w ∷ ws))
 
 line_count : (s : Sheet) (line : List ℕ) → (with_line s line).count ≡ s.count + 1
-line_count s line = ap (λ (n : ℕ). n + 1) (form_count s (words_of line) (form_of (words_of line)))
+line_count s line = ap (λ (n : ℕ). n + 1) (words_count s (words_of line))
 
 -- ---- the lines behind a sheet
 
@@ -138,11 +137,11 @@ said s (l ∷ lines) = said_by (first_true (sentences s l)) s l lines (judged (w
 
 -- ---- the answer
 
-answer_by : (bytes : List ℕ) (r : Result Program (ℕ × ℕ)) → IsEnd (lines_of bytes) r → HasAnswer bytes r
+answer_by : (bytes : List ℕ) (r : Result Program (ℕ × ℕ)) → IsEnd (text_lines bytes) r → HasAnswer bytes r
 answer_by bytes (Ok p) h = h
 answer_by bytes (Err f) h = inr h
 
-has_by : (bytes : List ℕ) (r : Result Sheet (ℕ × ℕ)) → Said empty (lines_of bytes) r → HasAnswer bytes (ended r)
+has_by : (bytes : List ℕ) (r : Result Sheet (ℕ × ℕ)) → Said empty (text_lines bytes) r → HasAnswer bytes (ended r)
 has_by bytes (Ok t) h =
     answer_by bytes (at_end t) (record { none = h.1; end = ap at_end (sym h.0) })
 has_by bytes (Err f) h = inl (record {
@@ -156,7 +155,7 @@ has_by bytes (Err f) h = inl (record {
 })
 
 pub has_answer : (bytes : List ℕ) → HasAnswer bytes (answer_of bytes)
-has_answer bytes = has_by bytes (judged empty (lines_of bytes)) (said empty (lines_of bytes))
+has_answer bytes = has_by bytes (judged empty (text_lines bytes)) (said empty (text_lines bytes))
 
 -- ---- exactly one
 
@@ -199,12 +198,12 @@ one_end : (lines : List (List ℕ)) (a b : Result Program (ℕ × ℕ)) → IsEn
 one_end lines a b h k = sym h.end ∙ k.end
 
 pub one_answer : (bytes : List ℕ) (a b : Result Program (ℕ × ℕ)) → HasAnswer bytes a → HasAnswer bytes b → a ≡ b
-one_answer bytes (Ok p) (Ok q) h k = one_end (lines_of bytes) (Ok p) (Ok q) h k
-one_answer bytes (Ok p) (Err g) h (inl k) = absurd (not_both (lines_of bytes) g.0 g.1 (Ok p) k h)
-one_answer bytes (Ok p) (Err g) h (inr k) = one_end (lines_of bytes) (Ok p) (Err g) h k
-one_answer bytes (Err f) (Ok q) (inl h) k = absurd (not_both (lines_of bytes) f.0 f.1 (Ok q) h k)
-one_answer bytes (Err f) (Ok q) (inr h) k = one_end (lines_of bytes) (Err f) (Ok q) h k
-one_answer bytes (Err f) (Err g) (inl h) (inl k) = ap as_err (one_fault (lines_of bytes) f g h k)
-one_answer bytes (Err f) (Err g) (inl h) (inr k) = absurd (not_both (lines_of bytes) f.0 f.1 (Err g) h k)
-one_answer bytes (Err f) (Err g) (inr h) (inl k) = absurd (not_both (lines_of bytes) g.0 g.1 (Err f) k h)
-one_answer bytes (Err f) (Err g) (inr h) (inr k) = one_end (lines_of bytes) (Err f) (Err g) h k
+one_answer bytes (Ok p) (Ok q) h k = one_end (text_lines bytes) (Ok p) (Ok q) h k
+one_answer bytes (Ok p) (Err g) h (inl k) = absurd (not_both (text_lines bytes) g.0 g.1 (Ok p) k h)
+one_answer bytes (Ok p) (Err g) h (inr k) = one_end (text_lines bytes) (Ok p) (Err g) h k
+one_answer bytes (Err f) (Ok q) (inl h) k = absurd (not_both (text_lines bytes) f.0 f.1 (Ok q) h k)
+one_answer bytes (Err f) (Ok q) (inr h) k = one_end (text_lines bytes) (Err f) (Ok q) h k
+one_answer bytes (Err f) (Err g) (inl h) (inl k) = ap as_err (one_fault (text_lines bytes) f g h k)
+one_answer bytes (Err f) (Err g) (inl h) (inr k) = absurd (not_both (text_lines bytes) f.0 f.1 (Err g) h k)
+one_answer bytes (Err f) (Err g) (inr h) (inl k) = absurd (not_both (text_lines bytes) g.0 g.1 (Err f) k h)
+one_answer bytes (Err f) (Err g) (inr h) (inr k) = one_end (text_lines bytes) (Err f) (Err g) h k

@@ -1,114 +1,226 @@
 -- What is kept of the open thread, and what one more line does to it.
-use Rattle.std.proofs.Common.{◌≡◌, ℕ, ◌+◌, ◌<◌, ◌≤◌, false, List, [], ◌∷◌, ◌++◌, length, length-append, Option, Some, None, sym, subst, inl, inr, All, arith}
+use Rattle.std.proofs.Common.{◌≡◌, ℕ, zero, suc, ◌+◌, ◌-◌, ◌<◌, ◌≤◌, min, true, false, List, [], ◌∷◌, ◌++◌, length, length-append, length-take, take, Some, None, refl, sym, ap, ◌∙◌, subst, inl, inr, All, arith}
+use Rattle.std.proofs.lemmas.Bool.{cases_lt}
+use Rattle.std.proofs.lemmas.List.{get_or_append_left, get_or_push}
 use Rattle.std.proofs.lemmas.List.Elements.{All-nil, All-push}
-use Rattle.rc_lang.specs.declared.lines.Line.{Line}
-use Rattle.rc_lang.specs.declared.lines.Op.TheVariants.{GetSqe, PrepNop, SetData64, Submit, CqeSeen}
-use Rattle.rc_lang.specs.declared.lines.Stmt.{Stmt}
-use Rattle.rc_lang.specs.declared.lines.Stmt.TheVariants.{Do, Lock, EndLock, Peek, Case, Other, Nothing, EndArm, EndPeek}
-use Rattle.rc_lang.specs.declared.program.Token.{Token}
+use Rattle.std.proofs.lemmas.Option.{slice_get_within}
 use Rattle.rc_lang.specs.declared.lines.Block.{Block}
-use Rattle.rc_lang.specs.Nesting.{blocks_behind, IsNestedIn}
-use Rattle.rc_lang.specs.Program.{IsItems, IsResolved, IsThread, Items, stmt_at}
-use Rattle.rc_read.specs.Sentences.{is_variable_too_many}
-use Rattle.rc_read.specs.Sheets.{arms_behind, Draft, ends_behind, headed, naming, thread_of, with_stmt, with_variable}
-use Rattle.rc_read.proofs.KeptArms.{IsLinkedSoFar, MayStand, StandsIn, linked_more, linked_start, linked_whole, stmt_push}
-use Rattle.rc_read.proofs.KeptBlocks.{Fits, IsNestedSoFar, in_its_arm, in_its_peek, nested_more, nested_start, nested_whole, none_open, open_after, open_peek}
-use Rattle.rc_read.proofs.KeptParts.{few_variables, variables_grow}
+use Rattle.rc_lang.specs.declared.lines.Block.TheVariants.{InLock, InIf, InElse, InPeek, InArm, InLoop}
+use Rattle.rc_lang.specs.declared.lines.Line.{Line}
+use Rattle.rc_lang.specs.declared.lines.Stmt.{Stmt}
+use Rattle.rc_lang.specs.declared.lines.Stmt.TheVariants.{Do, Lock, EndLock, If, Else, EndIf, Peek, Case, Other, Nothing, EndArm, EndPeek, Loop, EndLoop, Break}
+use Rattle.rc_lang.specs.Names.{is_name}
+use Rattle.rc_lang.specs.Nesting.{blocks_at, blocks_behind, in_lock, innermost, IsNestedIn, without_innermost}
+use Rattle.rc_lang.specs.Program.{IsItems, IsResolved, IsThread, Items, Program, items_at, no_items, stmt_at}
+use Rattle.rc_lang.proofs.Lookups.{EachNested, blocks_new, blocks_old, nested_more, nested_start, stands_within, stmt_push}
+use Rattle.rc_lang.proofs.Placed.{ArePlaced, placed, placed_innermost}
+use Rattle.rc_read.specs.declared.values.Item.{Item}
+use Rattle.rc_read.specs.Adds.{ends_behind, held, loops_behind, whole_thread, with_stmt}
+use Rattle.rc_read.specs.Sheets.{Draft, headed, names_behind, naming}
+use Rattle.rc_read.specs.Spots.{Spot}
+use Rattle.rc_read.proofs.KeptArms.{AreSeen, IsNewArm, may_stand, seen_more}
+use Rattle.rc_read.proofs.KeptLinks.{AreKept, all_linked, as_long, kept_more}
+use Rattle.rc_read.proofs.KeptResolved.{resolved_on}
+use Rattle.rc_read.proofs.KeptSpots.{names_grow}
 
--- What is kept of the open thread, in a text of so many lines.
-pub record IsDraft (tokens : List Token) (count : ℕ) (d : Draft) : Type 0 where
-  pub line : d.line ≤ 4096
-  pub items : IsItems tokens d.items
-  pub few_lines : length d.lines ≤ count
-  pub numbers : All (λ (l : Line). l.number ≤ 4096) d.lines
+-- What is kept of the open thread, but for how many lines it has.
+pub record IsDraft (p : Program) (d : Draft) : Type 0 where
+  pub name : is_name d.name ≡ true
+  pub line : (1 ≤ d.line) × (d.line ≤ 4096)
+  pub items : IsItems p d.items
+  pub no_queue : d.items.queue ≡ None
+  pub loops : All (IsItems p) d.loops
+  pub numbers : All (λ (l : Line). (1 ≤ l.number) × (l.number ≤ 4096)) d.lines
   pub few_names : length d.names ≤ 64
-  pub nested : IsNestedSoFar d.lines d.blocks
-  pub resolved : (j : ℕ) (s : Stmt) → stmt_at d.lines j ≡ Some s → IsResolved tokens (length d.names) s
-  pub linked : IsLinkedSoFar (open_peek d.blocks) d.lines d.ends d.arms
+  pub stand : blocks_at d.lines (length d.lines) ≡ d.blocks
+  pub each : EachNested d.lines
+  pub depth : (j : ℕ) → length (blocks_at d.lines j) ≤ 31
+  pub resolved : (j : ℕ) (s : Stmt) → stmt_at d.lines j ≡ Some s → IsResolved p (length d.names) (length d.loops) s
+  pub long : length d.ends ≡ length d.lines
+  pub kept : AreKept d.blocks d.lines d.ends
+  pub seen : AreSeen d.blocks d.lines d.arms
+  pub queues : (j k : ℕ) → stmt_at d.lines j ≡ Some (Loop k) → in_lock (blocks_at d.lines j) ≡ false → (items_at d.loops k).queue ≡ None
 
-pub draft_start : (tokens : List Token) (count : ℕ) (name : List ℕ) (line : ℕ) (items : Items) → line ≤ 4096 → IsItems tokens items → IsDraft tokens count (headed name line items)
-draft_start tokens count name line items few is = record {
-  line = few;
-  items = is;
-  few_lines = omega arith;
-  numbers = All-nil (λ (l : Line). l.number ≤ 4096);
+pub draft_start : (p : Program) (name : List ℕ) (line : ℕ) (items : Items) → is_name name ≡ true → 1 ≤ line → line ≤ 4096 → IsItems p items → items.queue ≡ None → IsDraft p (headed name line items)
+draft_start p name line items is some few held none = record {
+  name = is;
+  line = (some, few);
+  items = held;
+  no_queue = none;
+  loops = All-nil (IsItems p);
+  numbers = All-nil (λ (l : Line). (1 ≤ l.number) × (l.number ≤ 4096));
   few_names = omega arith;
-  nested = nested_start;
+  stand = refl;
+  each = nested_start;
+  depth = shallow;
   resolved = λ j s e. absurd (cc);
-  linked = linked_start;
+  long = refl;
+  kept = λ j s e. absurd (cc);
+  seen = λ o c. let lt : c.0 < 0 = c.1 in absurd (omega arith);
+  queues = λ j k e. absurd (cc);
 }
+  where
+    shallow : (j : ℕ) → length (blocks_at [] j) ≤ 31
+    shallow zero = omega arith
+    shallow (suc j) = omega arith
 
--- a line without words
-pub draft_counted : (tokens : List Token) (count : ℕ) (d : Draft) → IsDraft tokens count d → IsDraft tokens (count + 1) d
-draft_counted tokens count d k = record {
+-- ---- more variables
+
+pub draft_named : (p : Program) (d : Draft) (ps : List Spot) → length (names_behind d.names ps) ≤ 64 → IsDraft p d → IsDraft p (naming d ps)
+draft_named p d ps few k = record {
+  name = k.name;
   line = k.line;
   items = k.items;
-  few_lines = let le : length d.lines ≤ count = k.few_lines in omega arith;
+  no_queue = k.no_queue;
+  loops = k.loops;
   numbers = k.numbers;
-  few_names = k.few_names;
-  nested = k.nested;
-  resolved = k.resolved;
-  linked = k.linked;
+  few_names = few;
+  stand = k.stand;
+  each = k.each;
+  depth = k.depth;
+  resolved = λ j s e. resolved_on p (length d.names) (length (names_behind d.names ps)) (length d.loops) (length d.loops) (names_grow d.names ps) (omega arith) s (k.resolved j s e);
+  long = k.long;
+  kept = k.kept;
+  seen = k.seen;
+  queues = k.queues;
 }
 
--- more variables
-resolved_on : (tokens : List Token) (m n : ℕ) (s : Stmt) → m ≤ n → IsResolved tokens m s → IsResolved tokens n s
-resolved_on tokens m n (Do GetSqe) le h = tt
-resolved_on tokens m n (Do PrepNop) le h = tt
-resolved_on tokens m n (Do (SetData64 u)) le h = h
-resolved_on tokens m n (Do (Submit x)) le h = let lt : x < m = h in omega arith
-resolved_on tokens m n (Do CqeSeen) le h = tt
-resolved_on tokens m n Lock le h = tt
-resolved_on tokens m n (EndLock o) le h = tt
-resolved_on tokens m n (Peek x) le h = let lt : x < m = h in omega arith
-resolved_on tokens m n (Case o u) le h = h
-resolved_on tokens m n (Other o) le h = tt
-resolved_on tokens m n (Nothing o) le h = tt
-resolved_on tokens m n (EndArm o) le h = tt
-resolved_on tokens m n (EndPeek o) le h = tt
+-- ---- one more line
 
-stands_in : (bs : List Block) (s : Stmt) → IsNestedIn bs s → Fits None bs → StandsIn (open_peek bs) s
-stands_in bs (Do op) n f = tt
-stands_in bs Lock n f = tt
-stands_in bs (EndLock o) n f = tt
-stands_in bs (Peek x) n f = none_open bs n
-stands_in bs (Case o u) n f = in_its_peek bs o n
-stands_in bs (Other o) n f = in_its_peek bs o n
-stands_in bs (Nothing o) n f = in_its_peek bs o n
-stands_in bs (EndArm o) n f = in_its_arm bs o n f
-stands_in bs (EndPeek o) n f = in_its_peek bs o n
+-- A line that opens a block finds room for it.
+abbrev pub HasRoom : List Block → Stmt → Type 0
+HasRoom bs Lock = length bs < 31
+HasRoom bs (If test) = length bs < 31
+HasRoom bs (Peek x) = length bs < 31
+HasRoom bs (Case o u) = length bs < 31
+HasRoom bs (Other o) = length bs < 31
+HasRoom bs (Nothing o) = length bs < 31
+HasRoom bs (Loop k) = length bs < 31
+HasRoom bs s = Unit {0}
 
-module _ (tokens : List Token) (count : ℕ) (d : Draft) (k : IsDraft tokens count d) where
-  pub draft_more : (variable : Option (List ℕ)) (s : Stmt) → count < 4096 → IsNestedIn d.blocks s → length (blocks_behind d.blocks (length d.lines) s) ≤ 31 → MayStand d.arms s → IsResolved tokens (length (with_variable d.names variable)) s → is_variable_too_many d.names variable ≡ false → IsDraft tokens (count + 1) (with_stmt (naming d variable) (count + 1) s)
-  draft_more variable s lt n deep may res few =
+-- The items of a loop are fine.
+abbrev pub IsFineLoop : Program → Draft → List Item → Stmt → Type 0
+IsFineLoop p d items (Loop k) = (k ≡ length d.loops) × IsItems p (held items) × (in_lock d.blocks ≡ false → (held items).queue ≡ None)
+IsFineLoop p d items s = Unit {0}
+
+-- Such a line may be the next.
+pub record MayFollow (p : Program) (d : Draft) (items : List Item) (s : Stmt) : Type 0 where
+  pub nested : IsNestedIn d.blocks s
+  pub room : HasRoom d.blocks s
+  pub arm : IsNewArm d.arms s
+  pub resolved : IsResolved p (length d.names) (length (loops_behind d.loops items s)) s
+  pub loop : IsFineLoop p d items s
+
+module _ (bs : List Block) (n : ℕ) (few : length bs ≤ 31) where
+  deeper : (b : Block) → length bs < 31 → length (bs ++ b ∷ []) ≤ 31
+  deeper b lt = let a : length (bs ++ b ∷ []) ≡ length bs + 1 = length-append bs (b ∷ []) in omega arith
+
+  less_deep : length (without_innermost bs) ≤ 31
+  less_deep = let a : length (take (length bs - 1) bs) ≡ min (length bs - 1) (length bs) = length-take (length bs - 1) bs in omega arith
+
+  turned : (b c : Block) → innermost bs ≡ Some b → length (without_innermost bs ++ c ∷ []) ≤ 31
+  turned b c e =
+      let lt : length bs - 1 < length bs = slice_get_within bs (length bs - 1) b e in
+      let a : length (take (length bs - 1) bs) ≡ min (length bs - 1) (length bs) = length-take (length bs - 1) bs in
+      let d : length (without_innermost bs ++ c ∷ []) ≡ length (without_innermost bs) + 1 = length-append (without_innermost bs) (c ∷ []) in
+      omega arith
+
+  depth_behind : (s : Stmt) → IsNestedIn bs s → HasRoom bs s → length (blocks_behind bs n s) ≤ 31
+  depth_behind (Do op) e r = few
+  depth_behind Lock e r = deeper (InLock n) r
+  depth_behind (EndLock o) e r = less_deep
+  depth_behind (If test) e r = deeper (InIf n) r
+  depth_behind (Else o) e r = turned (InIf o) (InElse n) e
+  depth_behind (EndIf o) e r = less_deep
+  depth_behind (Peek x) e r = deeper (InPeek n) r
+  depth_behind (Case o u) e r = deeper (InArm o) r
+  depth_behind (Other o) e r = deeper (InArm o) r
+  depth_behind (Nothing o) e r = deeper (InArm o) r
+  depth_behind (EndArm o) e r = less_deep
+  depth_behind (EndPeek o) e r = less_deep
+  depth_behind (Loop k) e r = deeper (InLoop n k) r
+  depth_behind (EndLoop o k) e r = less_deep
+  depth_behind (Break o releases leaves) e r = few
+
+module _ (p : Program) (d : Draft) (items : List Item) where
+  loops_fine : (s : Stmt) → IsFineLoop p d items s → All (IsItems p) d.loops → All (IsItems p) (loops_behind d.loops items s)
+  loops_fine (Loop k) f h = All-push (IsItems p) d.loops (held items) h f.1
+  loops_fine s f h = h
+
+  loops_grow : (s : Stmt) → length d.loops ≤ length (loops_behind d.loops items s)
+  loops_grow (Loop k) = let a : length (d.loops ++ held items ∷ []) ≡ length d.loops + 1 = length-append d.loops (held items ∷ []) in omega arith
+  loops_grow s = omega arith
+
+  old_items : (s : Stmt) (k : ℕ) → k < length d.loops → items_at (loops_behind d.loops items s) k ≡ items_at d.loops k
+  old_items (Loop i) k lt = get_or_append_left d.loops (held items ∷ []) no_items k lt
+  old_items s k lt = refl
+
+  new_queue : (s : Stmt) → IsFineLoop p d items s → (k : ℕ) → s ≡ Loop k → in_lock d.blocks ≡ false → (items_at (loops_behind d.loops items s) k).queue ≡ None
+  new_queue (Loop i) f k e n =
+      let q : i ≡ k = cc in
+      let g : length d.loops ≡ k = sym f.0 ∙ q in
+      ap (λ (x : Items). x.queue) (get_or_push d.loops (held items) no_items k g) ∙ f.2 n
+  new_queue s f k e n = absurd (cc)
+
+module _ (p : Program) (d : Draft) (k : IsDraft p d) where
+  places : ArePlaced d.lines (length d.lines) d.blocks
+  places = subst (λ bs. ArePlaced d.lines (length d.lines) bs) k.stand (placed d.lines k.each (length d.lines))
+
+  pub open_loop : (o i : ℕ) → innermost d.blocks ≡ Some (InLoop o i) → i < length d.loops
+  open_loop o i e = let h = placed_innermost d.lines (length d.lines) d.blocks (InLoop o i) e places in k.resolved o (Loop i) h.stands
+
+  pub draft_more : (number : ℕ) (items : List Item) (s : Stmt) → 1 ≤ number → number ≤ 4096 → MayFollow p d items s → IsDraft p (with_stmt d number items s)
+  draft_more number items s some few may =
+      let n = length d.lines in
+      let line : Line = record { number = number; stmt = s } in
+      let few_blocks : length d.blocks ≤ 31 = subst (λ bs. length bs ≤ 31) k.stand (k.depth n) in
+      let longer : length (d.lines ++ line ∷ []) ≡ length d.lines + 1 = length-append d.lines (line ∷ []) in
+      let behind : (j : ℕ) → length d.lines < j → blocks_at (d.lines ++ line ∷ []) j ≡ blocks_behind d.blocks (length d.lines) s = λ j lt. blocks_new d.lines line j lt ∙ ap (λ bs. blocks_behind bs (length d.lines) s) k.stand in
       record {
+        name = k.name;
         line = k.line;
         items = k.items;
-        few_lines =
-            let le : length d.lines ≤ count = k.few_lines in
-            let a : length (d.lines ++ record { number = count + 1; stmt = s } ∷ []) ≡ length d.lines + 1 = length-append d.lines (record { number = count + 1; stmt = s } ∷ []) in
-            omega arith;
-        numbers = All-push (λ (m : Line). m.number ≤ 4096) d.lines (record { number = count + 1; stmt = s }) k.numbers (omega arith);
-        few_names = few_variables d.names variable k.few_names few;
-        nested = nested_more d.lines d.blocks (record { number = count + 1; stmt = s }) k.nested n deep;
-        resolved = λ j t e. elim (stmt_push d.lines (record { number = count + 1; stmt = s }) j t e) [
-          | inl h ↦ resolved_on tokens (length d.names) (length (with_variable d.names variable)) t (variables_grow d.names variable) (k.resolved j t h)
-          | inr h ↦ subst (λ x. IsResolved tokens (length (with_variable d.names variable)) x) h.1 res
+        no_queue = k.no_queue;
+        loops = loops_fine p d items s may.loop k.loops;
+        numbers = All-push (λ (m : Line). (1 ≤ m.number) × (m.number ≤ 4096)) d.lines line k.numbers (some, few);
+        few_names = k.few_names;
+        stand = behind (length (d.lines ++ line ∷ [])) (omega arith);
+        each = nested_more d.lines line k.each (subst (λ bs. IsNestedIn bs s) (sym k.stand) may.nested);
+        depth = λ j. elim (cases_lt n j) [
+          | inl lt ↦ subst (λ bs. length bs ≤ 31) (sym (behind j lt)) (depth_behind d.blocks n few_blocks s may.nested may.room)
+          | inr le ↦ subst (λ bs. length bs ≤ 31) (sym (blocks_old d.lines line j le)) (k.depth j)
         ];
-        linked = subst (λ p. IsLinkedSoFar p (d.lines ++ record { number = count + 1; stmt = s } ∷ []) (ends_behind d.ends (length d.lines) s) (arms_behind d.arms s))
-            (sym (open_after d.blocks (length d.lines) s n k.nested.fits))
-            (linked_more d.lines (record { number = count + 1; stmt = s }) d.ends d.arms (open_peek d.blocks) (stands_in d.blocks s n k.nested.fits) may k.linked);
+        resolved = λ j t e. elim (stmt_push d.lines line j t e) [
+          | inl h ↦ resolved_on p (length d.names) (length d.names) (length d.loops) (length (loops_behind d.loops items s)) (omega arith) (loops_grow p d items s) t (k.resolved j t h)
+          | inr h ↦ subst (λ x. IsResolved p (length d.names) (length (loops_behind d.loops items s)) x) h.1 may.resolved
+        ];
+        long = let a : length (ends_behind d.ends n s) ≡ length d.ends + 1 = as_long d.ends n s in let b : length d.ends ≡ length d.lines = k.long in omega arith;
+        kept = kept_more d.lines line d.ends d.blocks places k.long s refl may.nested (may_stand d.blocks d.lines d.arms s k.seen may.nested may.arm) k.kept;
+        seen = seen_more d.lines line k.each d.blocks k.stand d.arms k.seen s refl may.nested;
+        queues = λ j i e. elim (stmt_push d.lines line j (Loop i) e) [
+          | inl h ↦ λ locked.
+              let lt : j < length d.lines = stands_within d.lines j (Loop i) h in
+              ap (λ (x : Items). x.queue) (old_items p d items s i (k.resolved j (Loop i) h)) ∙ k.queues j i h (ap in_lock (sym (blocks_old d.lines line j (omega arith))) ∙ locked)
+          | inr h ↦ λ locked.
+              let q : j ≡ length d.lines = h.0 in
+              let here : blocks_at (d.lines ++ line ∷ []) j ≡ d.blocks = blocks_old d.lines line j (omega arith) ∙ ap (λ m. blocks_at d.lines m) q ∙ k.stand in
+              new_queue p d items s may.loop i h.1 (ap in_lock (sym here) ∙ locked)
+        ];
       }
 
   -- where no block is open the thread is whole
-  pub draft_whole : count ≤ 4096 → d.blocks ≡ [] → IsThread tokens (thread_of d)
+  pub draft_whole : length d.lines ≤ 4096 → d.blocks ≡ [] → IsThread p (whole_thread d)
   draft_whole few e = record {
+    few_lines = few;
+    name = k.name;
     line = k.line;
     items = k.items;
-    few_lines = let le : length d.lines ≤ count = k.few_lines in omega arith;
+    no_queue = k.no_queue;
+    loops = k.loops;
     numbers = k.numbers;
     few_variables = k.few_names;
-    nested = nested_whole d.lines (subst (λ bs. IsNestedSoFar d.lines bs) e k.nested);
+    nested = record { each = k.each; depth = k.depth; closed = k.stand ∙ e };
     resolved = k.resolved;
-    linked = linked_whole d.lines d.ends d.arms (subst (λ bs. IsLinkedSoFar (open_peek bs) d.lines d.ends d.arms) e k.linked);
+    linked = all_linked d.lines d.ends (subst (λ bs. AreKept bs d.lines d.ends) e k.kept);
+    queues = k.queues;
   }

@@ -1,53 +1,62 @@
--- The words of a line, of which each is a vector in the code.
-use Rattle.std.proofs.Common.{◌≡◌, ℕ, ◌+◌, ◌-◌, ◌<◌, ◌≤◌, List, [], ◌∷◌, length, take, drop, get_or, Bool, true, false, ◌&&◌, Option, Some, refl, sym, ap, ◌∙◌, arith, length-take, codes}
-use Rattle.std.proofs.lemmas.List.{take-map, drop-map, drop-take, drop_all, take_rest, length-map}
-use Rattle.std.proofs.lemmas.Option.{slice_get-map, slice_get-get_or}
-use Rattle.std.specs.Prelude.{slice_get, option_map}
-use Rattle.std.specs.Global.{Vec}
-use Rattle.std.specs.Str.{bytes_eq}
-use Rattle.rc_read.specs.Forms.{form_of, form_of_more, item_words, all_items, are_items}
-use Rattle.rc_read.specs.Texts.{texts_of}
+-- The forms that a line with so many words can have are enough.
+use Rattle.std.proofs.Common.{◌≡◌, ℕ, suc, List, [], ◌∷◌, length, Bool, true, false, cond, eqb, ◌||◌, Option, Some, None, refl, sym, ap, ◌∙◌}
+use Rattle.std.proofs.lemmas.Bool.{ne_eqb}
+use Rattle.std.proofs.Math.Dec.{eqb-suc-suc}
+use Rattle.std.specs.Borrow.{Bor}
+use Rattle.std.specs.List.{list_any}
+use Rattle.std.specs.Prelude.{option_map, unwrap_or}
+use Rattle.rc_read.specs.declared.table.Part.{Part}
+use Rattle.rc_read.specs.declared.table.Row.{Row}
+use Rattle.rc_read.specs.declared.table.Row.TheVariants as row
+use Rattle.rc_read.specs.Quick.{may_have, fitting}
+use Rattle.rc_read.specs.Spots.{are_items, fits, behind_items, matches, first_row, row_of}
+use Rattle.rc_read.specs.Table.{parts_of, rows}
 
-abbrev items_in : Vec ℕ → List ℕ
-items_in w = w.items
+others_by : (n : ℕ) → eqb 1 n ≡ false → eqb 2 n ≡ false → eqb 3 n ≡ false → eqb 4 n ≡ false → eqb 5 n ≡ false → eqb 6 n ≡ false → fitting n rows ≡ row.Loop ∷ row.Thread ∷ []
+others_by n a b c d e f = rw f (rw e (rw d (rw c (rw b (rw a refl)))))
 
-more_is : (ws : List (Vec ℕ)) (a b c : Vec ℕ) (r s t : List ℕ) → 4 ≤ length ws → a ≡ get_or ws 0 a → b ≡ get_or ws 1 b → c ≡ get_or ws 2 c → r ≡ a.items → s ≡ b.items → t ≡ c.items → form_of_more r s t (texts_of (drop 3 ws)) ≡ form_of (texts_of ws)
-more_is [] a b c r s t few ea eb ec er es et = absurd (omega arith)
-more_is (x ∷ []) a b c r s t few ea eb ec er es et = absurd (omega arith)
-more_is (x ∷ y ∷ []) a b c r s t few ea eb ec er es et = absurd (omega arith)
-more_is (x ∷ y ∷ z ∷ []) a b c r s t few ea eb ec er es et = absurd (omega arith)
-more_is (x ∷ y ∷ z ∷ w ∷ ws) a b c r s t few ea eb ec er es et =
-    let e : r ≡ x.items = er ∙ ap items_in ea in
-    let f : s ≡ y.items = es ∙ ap items_in eb in
-    let g : t ≡ z.items = et ∙ ap items_in ec in
-    rw (e, f, g) refl
+isnt : (k n : ℕ) → ¬ (n ≡ k) → eqb k n ≡ false
+isnt k n h = ne_eqb k n (λ e. h (sym e))
 
-pub rest_is : (ws : List (Vec ℕ)) (a b c : Vec ℕ) (r s t : List ℕ) → 4 ≤ length ws → a ≡ get_or ws 0 a → b ≡ get_or ws 1 b → c ≡ get_or ws 2 c → r ≡ a.items → s ≡ b.items → t ≡ c.items → form_of_more r s t (texts_of (take (length ws - 3) (drop 3 ws))) ≡ form_of (texts_of ws)
-rest_is ws a b c r s t few ea eb ec er es et =
-    ap (λ (x : List (Vec ℕ)). form_of_more r s t (texts_of x)) (take_rest ws 3) ∙ more_is ws a b c r s t few ea eb ec er es et
+pub fitting_others : (n : ℕ) → ¬ (n ≡ 1) → ¬ (n ≡ 2) → ¬ (n ≡ 3) → ¬ (n ≡ 4) → ¬ (n ≡ 5) → ¬ (n ≡ 6) → fitting n rows ≡ row.Loop ∷ row.Thread ∷ []
+fitting_others n a b c d e f = others_by n (isnt 1 n a) (isnt 2 n b) (isnt 3 n c) (isnt 4 n d) (isnt 5 n e) (isnt 6 n f)
 
--- a header has items where it has more than four words
-pub few_items : (ws : List (Vec ℕ)) → length ws < 4 → [] ≡ item_words (texts_of ws)
-few_items ws few = sym (drop_all 3 (take (length (texts_of ws) - 1) (texts_of ws)) (omega (arith, few, length-take (length (texts_of ws) - 1) (texts_of ws), length-map ws items_in)))
+-- ---- a form without items has as many parts as the line has words
 
-pub items_are : (ws : List (Vec ℕ)) → 4 ≤ length ws → texts_of (take (length ws - 1 - 3) (drop 3 ws)) ≡ item_words (texts_of ws)
-items_are ws many =
-    let e : 3 + (length ws - 1 - 3) ≡ length (texts_of ws) - 1 = omega (arith, many, length-map ws items_in) in
-    sym (ap (λ (n : ℕ). drop 3 (take n (texts_of ws))) (sym e) ∙ drop-take 3 (length ws - 1 - 3) (texts_of ws) ∙ ap (take (length ws - 1 - 3)) (drop-map items_in 3 ws) ∙ take-map items_in (length ws - 1 - 3) (drop 3 ws))
+one_word : (f : Bool) (parts : List Part) (ws : List (List ℕ)) → unwrap_or (option_map (λ rest. matches parts rest) (cond f (Some ws) None)) false ≡ true → matches parts ws ≡ true
+one_word true parts ws h = h
+one_word false parts ws h = absurd cc
 
-list_is : (ws : List (Vec ℕ)) (w : Vec ℕ) → 1 ≤ length ws → w ≡ get_or ws (length ws - 1) w → (bytes_eq w.items (codes "{") && all_items (texts_of (take (length ws - 1) ws))) ≡ are_items (texts_of ws)
-list_is ws w some e =
-    let n : length (texts_of ws) ≡ length ws = length-map ws items_in in
-    let g : slice_get (texts_of ws) (length ws - 1) ≡ Some w.items =
-    slice_get-map items_in ws (length ws - 1) ∙ ap (λ (o : Option (Vec ℕ)). option_map items_in o) (slice_get-get_or ws (length ws - 1) w (omega (arith, some)) ∙ ap (λ (v : Vec ℕ). Some v) (sym e)) in
-    rw (n, g, take-map items_in (length ws - 1) ws) refl
+no_word : (items : Bool) (parts : List Part) (b : Bool) → unwrap_or (option_map (λ rest. matches parts rest) (cond items (Some []) None)) false ≡ true → ((items || list_any are_items parts) || b) ≡ true
+no_word true parts b h = refl
+no_word false parts b h = absurd cc
 
-pub list_then : (ws : List (Vec ℕ)) (w : Vec ℕ) (text : List ℕ) (is r : Bool) → 1 ≤ length ws → w ≡ get_or ws (length ws - 1) w → text ≡ w.items → is ≡ bytes_eq text (codes "{") → is ≡ true → r ≡ all_items (texts_of (take (length ws - 1) ws)) → r ≡ are_items (texts_of ws)
-list_then ws w text is r some e et ei eb er =
-    let b : bytes_eq w.items (codes "{") ≡ true = ap (λ (x : List ℕ). bytes_eq x (codes "{")) (sym et) ∙ sym ei ∙ eb in
-    er ∙ sym (ap (λ (x : Bool). x && all_items (texts_of (take (length ws - 1) ws))) b) ∙ list_is ws w some e
+word_by : (items f : Bool) (parts : List Part) (ws left : List (List ℕ)) (b : Bool) → (matches parts ws ≡ true → (list_any are_items parts || b) ≡ true) → unwrap_or (option_map (λ rest. matches parts rest) (cond items (Some left) (cond f (Some ws) None))) false ≡ true → ((items || list_any are_items parts) || b) ≡ true
+word_by true f parts ws left b k h = refl
+word_by false f parts ws left b k h = k (one_word f parts ws h)
 
-pub list_else : (ws : List (Vec ℕ)) (w : Vec ℕ) (text : List ℕ) (is : Bool) → 1 ≤ length ws → w ≡ get_or ws (length ws - 1) w → text ≡ w.items → is ≡ bytes_eq text (codes "{") → is ≡ false → is ≡ are_items (texts_of ws)
-list_else ws w text is some e et ei eb =
-    let b : bytes_eq w.items (codes "{") ≡ false = ap (λ (x : List ℕ). bytes_eq x (codes "{")) (sym et) ∙ sym ei ∙ eb in
-    eb ∙ sym (ap (λ (x : Bool). x && all_items (texts_of (take (length ws - 1) ws))) b) ∙ list_is ws w some e
+as_long : (parts : List Part) (ws : List (List ℕ)) → matches parts ws ≡ true → (list_any are_items parts || eqb (length parts) (length ws)) ≡ true
+as_long [] [] h = refl
+as_long [] (w ∷ ws) h = absurd cc
+as_long (p ∷ parts) [] h = no_word (are_items p) parts (eqb (length (p ∷ parts)) 0) h
+as_long (p ∷ parts) (w ∷ ws) h =
+    word_by (are_items p) (fits p w) parts ws (behind_items (w ∷ ws)) (eqb (length (p ∷ parts)) (length (w ∷ ws)))
+    (λ k. ap (λ (x : Bool). list_any are_items parts || x) (eqb-suc-suc (length parts) (length ws)) ∙ as_long parts ws k) h
+
+-- ---- so no other form is found
+
+not_both : (m b : Bool) → (m ≡ true → b ≡ true) → b ≡ false → m ≡ false
+not_both true b k e = sym (k refl) ∙ e
+not_both false b k e = refl
+
+one_row : (b : Bool) (row : Row) (rest all : List Row) (ws : List (List ℕ)) → (b ≡ false → matches (parts_of row) ws ≡ false) → first_row rest ws ≡ first_row all ws → first_row (cond b (row ∷ rest) rest) ws ≡ first_row (row ∷ all) ws
+one_row true row rest all ws k e = ap (λ (x : Option Row). cond (matches (parts_of row) ws) (Some row) x) e
+one_row false row rest all ws k e = e ∙ sym (ap (λ (x : Bool). cond x (Some row) (first_row all ws)) (k refl))
+
+rows_by : (all : List Row) (ws : List (List ℕ)) → first_row (fitting (length ws) all) ws ≡ first_row all ws
+rows_by [] ws = refl
+rows_by (row ∷ all) ws =
+    one_row (may_have (length ws) row) row (fitting (length ws) all) all ws (not_both (matches (parts_of row) ws) (may_have (length ws) row) (as_long (parts_of row) ws)) (rows_by all ws)
+
+pub rows_found : (n : ℕ) (ws : List (List ℕ)) → n ≡ length ws → first_row (fitting n rows) ws ≡ row_of ws
+rows_found n ws e = ap (λ (k : ℕ). first_row (fitting k rows) ws) e ∙ rows_by rows ws

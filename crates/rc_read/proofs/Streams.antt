@@ -1,18 +1,22 @@
--- Lines that come one after another, and bytes.
-use Rattle.std.proofs.Common.{◌≡◌, ℕ, ◌+◌, ◌<◌, List, [], ◌∷◌, ◌++◌, length, take, drop, get_or, Bool, true, false, cond, eqb, leb, ◌||◌, Option, Some, None, Result, Ok, Err, refl, sym, ap, subst, ◌∙◌, append_assoc}
-use Rattle.std.proofs.lemmas.Bool.{leb-false}
-use Rattle.std.proofs.lemmas.List.{drop_more, take-append-drop}
+-- Lines that come one after another, and pieces.
+use Rattle.std.proofs.Common.{◌≡◌, ℕ, suc, ◌+◌, ◌-◌, ◌<◌, List, [], ◌∷◌, ◌++◌, length, take, drop, get_or, Bool, true, false, cond, eqb, leb, ◌||◌, Option, Some, None, Result, Ok, Err, refl, sym, ap, subst, ◌∙◌, append_assoc, arith, length-drop}
+use Rattle.std.proofs.lemmas.Bool.{eqb-true, leb-false}
+use Rattle.std.proofs.lemmas.List.{take-append-drop, take-take, drop-take, take_more, get_or-drop}
+use Rattle.memchr.specs.Find.{Nowhere, Passes, is_byte}
 use Rattle.rc_lang.specs.Program.{Program}
 use Rattle.rc_read.specs.Answer.{on_line, judged, ended, answer_of}
 use Rattle.rc_read.specs.Causes.{number_of_cause}
-use Rattle.rc_read.specs.Forms.{form_of}
-use Rattle.rc_read.specs.Sentences.{sentences, word_sentences, first_true, too_large, double_name}
-use Rattle.rc_read.specs.Sheets.{Sheet, empty, with_line}
+use Rattle.rc_read.specs.Pieces.{fault_in, ReadsMore, IsSoundBy}
+use Rattle.rc_read.specs.Sentences.{sentences, first_true}
+use Rattle.rc_read.specs.Sheets.{Sheet, empty}
+use Rattle.rc_read.specs.Adds.{with_line}
 use Rattle.rc_read.specs.Stream.{Reads, HasRead, Reading, IsAnswer, IsAnswerSoFar, IsReached, IsSound, Judges, JudgesAll, Ends}
-use Rattle.rc_read.specs.Words.{cut, before_line, last_line, words_of}
+use Rattle.rc_read.specs.Words.{cut, before_line, last_line}
 use Rattle.rc_read.specs.declared.fault.ReadFault.{ReadFault}
 use Rattle.rc_read.specs.declared.fault.ReadFault.TheVariants.{Text, OutOfMemory}
-use Rattle.rc_read.specs.declared.form.Form.{Form}
+
+abbrev pub ok : Result (Unit {0}) ReadFault
+ok = Ok tt
 
 -- ---- lines
 
@@ -51,30 +55,45 @@ cond_pair f false x y x' y' p q = q
 abbrev fed : List (List ℕ) × List ℕ → List (List ℕ) × List ℕ
 fed p = (p.0 ++ p.1 ∷ [], [])
 
-pub cut-push_line : (bytes : List ℕ) → cut (bytes ++ 10 ∷ []) ≡ fed (cut bytes)
+cut-push_line : (bytes : List ℕ) → cut (bytes ++ 10 ∷ []) ≡ fed (cut bytes)
 cut-push_line [] = refl
 cut-push_line (b ∷ bytes) =
     let e = cut-push_line bytes in
     cond_pair fed (eqb b 10) ([] ∷ (cut bytes).0, (cut bytes).1) (before_line b (cut bytes)) _ _
     (rw e refl) (rw e (push_line_by b (cut bytes)))
 
--- one more byte of a line
-abbrev grown : ℕ → List (List ℕ) × List ℕ → List (List ℕ) × List ℕ
-grown x p = (p.0, p.1 ++ x ∷ [])
+-- bytes of a line
+abbrev pub NoFeed : List ℕ → Type 0
+NoFeed front = Nowhere (Passes (is_byte 10) front) 0 (length front)
 
-push_byte_by : (b x : ℕ) (p : List (List ℕ) × List ℕ) → before_line b (grown x p) ≡ grown x (before_line b p)
-push_byte_by b x ([], rest) = refl
-push_byte_by b x (l ∷ ls, rest) = refl
+not_true : (c : Bool) → ¬ (c ≡ true) → c ≡ false
+not_true true h = absurd (h refl)
+not_true false h = refl
 
-byte_alone : (x : ℕ) (c : Bool) → eqb x 10 ≡ c → c ≡ false → cut (x ∷ []) ≡ ([], x ∷ [])
-byte_alone x c e f = rw (e, f) refl
+grows : (c : Bool) (b : ℕ) (front : List ℕ) (p : List (List ℕ) × List ℕ) (q : List (List ℕ) × List ℕ) → c ≡ false → p ≡ ([], front) → cond c q (before_line b p) ≡ ([], b ∷ front)
+grows true b front p q e f = absurd cc
+grows false b front p q e f = rw f refl
 
-pub cut-push_byte : (bytes : List ℕ) (x : ℕ) → eqb x 10 ≡ false → cut (bytes ++ x ∷ []) ≡ grown x (cut bytes)
-cut-push_byte [] x ne = byte_alone x (eqb x 10) refl ne
-cut-push_byte (b ∷ bytes) x ne =
-    let e = cut-push_byte bytes x ne in
-    cond_pair (grown x) (eqb b 10) ([] ∷ (cut bytes).0, (cut bytes).1) (before_line b (cut bytes)) _ _
-    (rw e refl) (rw e (push_byte_by b x (cut bytes)))
+cut_front : (front : List ℕ) → NoFeed front → cut front ≡ ([], front)
+cut_front [] h = refl
+cut_front (b ∷ front) h =
+    grows (eqb b 10) b front (cut front) ([] ∷ (cut front).0, (cut front).1) (not_true (eqb b 10) (h 0 (omega arith) (omega arith)))
+    (cut_front front (λ k low high p. h (suc k) (omega arith) (omega (arith, high)) p))
+
+-- more bytes of a line
+abbrev grown : List ℕ → List (List ℕ) × List ℕ → List (List ℕ) × List ℕ
+grown xs p = (p.0, p.1 ++ xs)
+
+front_by : (b : ℕ) (xs : List ℕ) (p : List (List ℕ) × List ℕ) → before_line b (grown xs p) ≡ grown xs (before_line b p)
+front_by b xs ([], rest) = refl
+front_by b xs (l ∷ ls, rest) = refl
+
+cut-append_front : (bytes front : List ℕ) → NoFeed front → cut (bytes ++ front) ≡ grown front (cut bytes)
+cut-append_front [] front h = cut_front front h
+cut-append_front (b ∷ bytes) front h =
+    let e = cut-append_front bytes front h in
+    cond_pair (grown front) (eqb b 10) ([] ∷ (cut bytes).0, (cut bytes).1) (before_line b (cut bytes)) _ _
+    (rw e refl) (rw e (front_by b front (cut bytes)))
 
 cut_more_by : (b : ℕ) (p q : List (List ℕ) × List ℕ) (ls : List (List ℕ)) → q.0 ≡ p.0 ++ ls → (ms : List (List ℕ)) × ((before_line b q).0 ≡ (before_line b p).0 ++ ms)
 cut_more_by b ([], r) ([], t) ls e = ([], refl)
@@ -87,13 +106,13 @@ cut_line_by p q true b ls e = (ls, ap (λ (x : List (List ℕ)). [] ∷ x) e)
 cut_line_by p q false b ls e = cut_more_by b p q ls e
 
 -- the lines of a beginning are the first lines of the whole
-pub cut_more : (bytes piece : List ℕ) → (ms : List (List ℕ)) × ((cut (bytes ++ piece)).0 ≡ (cut bytes).0 ++ ms)
+cut_more : (bytes piece : List ℕ) → (ms : List (List ℕ)) × ((cut (bytes ++ piece)).0 ≡ (cut bytes).0 ++ ms)
 cut_more [] piece = ((cut piece).0, refl)
 cut_more (b ∷ bytes) piece = let h = cut_more bytes piece in cut_line_by (cut bytes) (cut (bytes ++ piece)) (eqb b 10) b h.0 h.1
 
 -- ---- what has been read
 
-pub fault_stays : (f : ReadFault) (s s' : Sheet) (p p' bytes piece : List ℕ) → Reads (Some f) s p bytes → Reads (Some f) s' p' (bytes ++ piece)
+fault_stays : (f : ReadFault) (s s' : Sheet) (p p' bytes piece : List ℕ) → Reads (Some f) s p bytes → Reads (Some f) s' p' (bytes ++ piece)
 fault_stays OutOfMemory s s' p p' bytes piece h = tt
 fault_stays (Text line cause) s s' p p' bytes piece h =
     let m = cut_more bytes piece in
@@ -111,24 +130,28 @@ none_goes s line e = rw e refl
 some_ends : (s : Sheet) (line : List ℕ) (n : ℕ) → first_true (sentences s line) ≡ Some n → judged s (line ∷ []) ≡ Err (s.count + 1, n)
 some_ends s line n e = rw e refl
 
-pub line_ends : (s s' : Sheet) (pending bytes : List ℕ) → (first_true (sentences s pending) ≡ None) × (s' ≡ with_line s pending) → Reads None s pending bytes → Reads None s' [] (bytes ++ 10 ∷ [])
-line_ends s s' pending bytes j h =
-    let e = cut-push_line bytes in
-    let k = judged-append_ok empty s (cut bytes).0 ((cut bytes).1 ∷ []) h.0 in
-    let m : judged s ((cut bytes).1 ∷ []) ≡ Ok s' = ap (λ (p : List ℕ). judged s (p ∷ [])) (sym h.1) ∙ none_goes s pending j.0 ∙ ap as_ok (sym j.1) in
-    rw e (k ∙ m, refl)
+-- what is said of one line is said of the lines that are this one
+one_line : (r : Result (Unit {0}) ReadFault) (s s' : Sheet) (line : List ℕ) → Judges s line s' r → JudgesAll s (line ∷ []) s' r
+one_line (Ok u) s s' line j = none_goes s line j.0 ∙ ap as_ok (sym j.1)
+one_line (Err (Text line cause)) s s' l j = some_ends s l (number_of_cause cause) j.0 ∙ ap (λ (n : ℕ). as_err n (number_of_cause cause)) (sym j.1)
+one_line (Err OutOfMemory) s s' line j = tt
 
-pub line_fails : (f : ReadFault) (s s' s'' : Sheet) (pending p bytes : List ℕ) → Judges {X = Unit {0}} s pending s' (Err f) → Reads None s pending bytes → Reads (Some f) s'' p (bytes ++ 10 ∷ [])
-line_fails OutOfMemory s s' s'' pending p bytes j h = tt
-line_fails (Text line cause) s s' s'' pending p bytes j h =
-    let e = cut-push_line bytes in
-    let k = judged-append_ok empty s (cut bytes).0 ((cut bytes).1 ∷ []) h.0 in
-    let number = number_of_cause cause in
-    let m : judged s ((cut bytes).1 ∷ []) ≡ Err (line, number) = ap (λ (p : List ℕ). judged s (p ∷ [])) (sym h.1) ∙ some_ends s pending number j.0 ∙ ap (λ (n : ℕ). as_err n number) (sym j.1) in
-    rw e (k ∙ m)
+reads_line : (r : Result (Unit {0}) ReadFault) (s s' : Sheet) (bytes : List ℕ) → judged empty (cut bytes).0 ≡ Ok s → JudgesAll s ((cut bytes).1 ∷ []) s' r → Reads (fault_in r) s' [] (bytes ++ 10 ∷ [])
+reads_line (Ok u) s s' bytes h j = rw (cut-push_line bytes) (judged-append_ok empty s (cut bytes).0 ((cut bytes).1 ∷ []) h ∙ j, refl)
+reads_line (Err (Text line cause)) s s' bytes h j = rw (cut-push_line bytes) (judged-append_ok empty s (cut bytes).0 ((cut bytes).1 ∷ []) h ∙ j)
+reads_line (Err OutOfMemory) s s' bytes h j = tt
 
-pub byte_more : (s : Sheet) (pending bytes : List ℕ) (x : ℕ) → eqb x 10 ≡ false → Reads None s pending bytes → Reads None s (pending ++ x ∷ []) (bytes ++ x ∷ [])
-byte_more s pending bytes x ne h = rw (cut-push_byte bytes x ne) (h.0, ap (λ (p : List ℕ). p ++ x ∷ []) h.1)
+reads_front : (s : Sheet) (pending bytes front : List ℕ) → NoFeed front → Reads None s pending bytes → Reads None s (pending ++ front) (bytes ++ front)
+reads_front s pending bytes front n h = rw (cut-append_front bytes front n) (h.0, ap (λ (x : List ℕ). x ++ front) h.1)
+
+-- a line feed behind the bytes of a line
+pub ends : (r : Result (Unit {0}) ReadFault) (s s' : Sheet) (pending front line p : List ℕ) → NoFeed front → line ≡ pending ++ front → p ≡ [] → Judges s line s' r → ReadsMore s pending (front ++ 10 ∷ []) s' p r
+ends r s s' pending front line p n el ep t = λ bytes h.
+    let g = reads_front s pending bytes front n h in
+    let e : line ≡ (cut (bytes ++ front)).1 = el ∙ g.1 in
+    let j : JudgesAll s ((cut (bytes ++ front)).1 ∷ []) s' r = subst (λ (x : List ℕ). JudgesAll s (x ∷ []) s' r) e (one_line r s s' line t) in
+    let k = subst (λ (x : List ℕ). Reads (fault_in r) s' x ((bytes ++ front) ++ 10 ∷ [])) (sym ep) (reads_line r s s' (bytes ++ front) g.0 j) in
+    subst (λ (x : List ℕ). Reads (fault_in r) s' p x) (append_assoc bytes front (10 ∷ [])) k
 
 -- ---- the end
 
@@ -138,58 +161,17 @@ answer_is s pending bytes h = ap ended (judged-append_ok empty s (cut bytes).0 (
 pub fault_answer : (line number : ℕ) (bytes : List ℕ) → judged empty (cut bytes).0 ≡ Err (line, number) → answer_of bytes ≡ Err (line, number)
 fault_answer line number bytes h = ap ended (judged-append_err empty (line, number) (cut bytes).0 (last_line (cut bytes).1) h)
 
--- ---- what a line without a true sentence keeps
-
-or_false : (a b c : Bool) → (a || b || c) ≡ false → a ≡ false
-or_false true b c e = absurd cc
-or_false false b c e = refl
-
-guard_by : (n : ℕ) (c : Bool) (rest : Option ℕ) → cond c (Some n) rest ≡ None → (c ≡ false) × (rest ≡ None)
-guard_by n true rest e = absurd cc
-guard_by n false rest e = (refl, e)
-
-few_by_size : (s : Sheet) (line : List ℕ) (ws : List (List ℕ)) (form : Option Form) → too_large s line ws form ≡ false → s.count < 4096
-few_by_size s line ws form e = leb-false 4096 s.count (or_false (leb 4096 s.count) _ _ e)
-
-few_by : (s : Sheet) (line : List ℕ) (ws : List (List ℕ)) → first_true (word_sentences s line ws) ≡ None → s.count < 4096
-few_by s line [] e = few_by_size s line [] None (guard_by 8 (too_large s line [] None) None e).0
-few_by s line (w ∷ ws) e =
-    let a = (guard_by 2 _ _ e).1 in
-    let b = (guard_by 3 _ _ a).1 in
-    let c = (guard_by 4 _ _ b).1 in
-    let d = (guard_by 5 _ _ c).1 in
-    let f = (guard_by 6 _ _ d).1 in
-    let g = (guard_by 7 _ _ f).1 in
-    few_by_size s line (w ∷ ws) _ (guard_by 8 _ _ g).0
-
-pub few_lines : (s : Sheet) (line : List ℕ) → first_true (sentences s line) ≡ None → s.count < 4096
-few_lines s line e = few_by s line (words_of line) (guard_by 1 _ _ e).1
-
-new_by : (s : Sheet) (line : List ℕ) (ws : List (List ℕ)) → first_true (word_sentences s line ws) ≡ None → double_name s.tokens ws (form_of ws) ≡ false
-new_by s line [] e = refl
-new_by s line (w ∷ ws) e =
-    let a = (guard_by 2 _ _ e).1 in
-    let b = (guard_by 3 _ _ a).1 in
-    let c = (guard_by 4 _ _ b).1 in
-    let d = (guard_by 5 _ _ c).1 in
-    (guard_by 6 _ _ d).0
-
-pub new_name : (s : Sheet) (line : List ℕ) (ws : List (List ℕ)) (form : Option Form) → first_true (sentences s line) ≡ None → ws ≡ words_of line → form ≡ form_of ws → double_name s.tokens ws form ≡ false
-new_name s line ws form e ew ef =
-    let n : double_name s.tokens ws (form_of ws) ≡ false = subst (λ (x : List (List ℕ)). double_name s.tokens x (form_of x) ≡ false) (sym ew) (new_by s line (words_of line) (guard_by 1 _ _ e).1) in
-    subst (λ (x : Option Form). double_name s.tokens ws x ≡ false) (sym ef) n
-
 -- ---- as the reader goes
 
-pub fault_answers : (f : ReadFault) (s : Sheet) (p bytes : List ℕ) (r : Result Program ReadFault) → r ≡ Err f → Reads (Some f) s p bytes → IsAnswer bytes r
+fault_answers : (f : ReadFault) (s : Sheet) (p bytes : List ℕ) (r : Result Program ReadFault) → r ≡ Err f → Reads (Some f) s p bytes → IsAnswer bytes r
 fault_answers OutOfMemory s p bytes r e h = rw e tt
 fault_answers (Text line cause) s p bytes r e h = rw e (fault_answer line (number_of_cause cause) bytes h)
 
-pub rest_fails : (f : ReadFault) (s s' : Sheet) (pending bytes : List ℕ) (r : Result Program ReadFault) → r ≡ Err f → JudgesAll {X = Unit {0}} s (last_line pending) s' (Err f) → Reads None s pending bytes → IsAnswer bytes r
+rest_fails : (f : ReadFault) (s s' : Sheet) (pending bytes : List ℕ) (r : Result Program ReadFault) → r ≡ Err f → JudgesAll {X = Unit {0}} s (last_line pending) s' (Err f) → Reads None s pending bytes → IsAnswer bytes r
 rest_fails OutOfMemory s s' pending bytes r e j h = rw e tt
 rest_fails (Text line cause) s s' pending bytes r e j h = rw e (answer_is s pending bytes h ∙ ap ended j)
 
-pub end_answers : (r : Result Program ReadFault) (s s' : Sheet) (pending bytes : List ℕ) → judged s (last_line pending) ≡ Ok s' → Ends s' r → Reads None s pending bytes → IsAnswer bytes r
+end_answers : (r : Result Program ReadFault) (s s' : Sheet) (pending bytes : List ℕ) → judged s (last_line pending) ≡ Ok s' → Ends s' r → Reads None s pending bytes → IsAnswer bytes r
 end_answers (Ok p) s s' pending bytes j k h = answer_is s pending bytes h ∙ ap ended j ∙ k
 end_answers (Err (Text line cause)) s s' pending bytes j k h = answer_is s pending bytes h ∙ ap ended j ∙ k
 end_answers (Err OutOfMemory) s s' pending bytes j k h = tt
@@ -197,39 +179,9 @@ end_answers (Err OutOfMemory) s s' pending bytes j k h = tt
 reads_none : (o : Option ReadFault) (s : Sheet) (pending bytes : List ℕ) → o ≡ None → Reads o s pending bytes → Reads None s pending bytes
 reads_none o s pending bytes e h = subst (λ f. Reads f s pending bytes) e h
 
-none_reads : (o : Option ReadFault) (s : Sheet) (pending bytes : List ℕ) → o ≡ None → Reads None s pending bytes → Reads o s pending bytes
-none_reads o s pending bytes e h = subst (λ f. Reads f s pending bytes) (sym e) h
-
-pub takes_line : (o : Option ReadFault) (s s' : Sheet) (pending line p bytes : List ℕ) (b : ℕ) (r : Result (Unit {0}) ReadFault) → o ≡ None → b ≡ 10 → line ≡ pending → p ≡ [] → r ≡ Ok tt → Judges s line s' r → Reads o s pending bytes → Reads o s' p (bytes ++ b ∷ [])
-takes_line o s s' pending line p bytes b r eo eb el ep er j h =
-    let k = subst (λ (x : Result (Unit {0}) ReadFault). Judges s line s' x) er j in
-    let k' = subst (λ (x : List ℕ). (first_true (sentences s x) ≡ None) × (s' ≡ with_line s x)) el k in
-    let m = line_ends s s' pending bytes k' (reads_none o s pending bytes eo h) in
-    let m' = subst (λ (x : List ℕ). Reads None s' x (bytes ++ 10 ∷ [])) (sym ep) m in
-    none_reads o s' p (bytes ++ b ∷ []) eo (subst (λ (x : ℕ). Reads None s' p (bytes ++ x ∷ [])) (sym eb) m')
-
-pub fails_line : (o : Option ReadFault) (s s' : Sheet) (pending line p bytes : List ℕ) (b : ℕ) (f : ReadFault) (r : Result (Unit {0}) ReadFault) → o ≡ None → b ≡ 10 → line ≡ pending → r ≡ Err f → Judges s line s' r → Reads o s pending bytes → Reads (Some f) s' p (bytes ++ b ∷ [])
-fails_line o s s' pending line p bytes b f r eo eb el er j h =
-    let k = subst (λ (x : Result (Unit {0}) ReadFault). Judges s line s' x) er j in
-    let k' = subst (λ (x : List ℕ). Judges {X = Unit {0}} s x s' (Err f)) el k in
-    subst (λ (x : ℕ). Reads (Some f) s' p (bytes ++ x ∷ [])) (sym eb) (line_fails f s s' s' pending p bytes k' (reads_none o s pending bytes eo h))
-
-pub takes_byte : (o : Option ReadFault) (s : Sheet) (pending p bytes : List ℕ) (b : ℕ) → o ≡ None → eqb b 10 ≡ false → p ≡ pending ++ b ∷ [] → Reads o s pending bytes → Reads o s p (bytes ++ b ∷ [])
-takes_byte o s pending p bytes b eo ne ep h =
-    none_reads o s p (bytes ++ b ∷ []) eo (subst (λ (x : List ℕ). Reads None s x (bytes ++ b ∷ [])) (sym ep) (byte_more s pending bytes b ne (reads_none o s pending bytes eo h)))
-
 pub keeps_fault : (o : Option ReadFault) (f : ReadFault) (s : Sheet) (p bytes piece : List ℕ) → o ≡ Some f → Reads o s p bytes → Reads o s p (bytes ++ piece)
 keeps_fault o f s p bytes piece e h =
     subst (λ (x : Option ReadFault). Reads x s p (bytes ++ piece)) (sym e) (fault_stays f s s p p bytes piece (subst (λ (x : Option ReadFault). Reads x s p bytes) e h))
-
-regroup : (bytes piece : List ℕ) (i d : ℕ) → i < length piece → ((bytes ++ take i piece) ++ get_or piece i d ∷ []) ++ drop (i + 1) piece ≡ bytes ++ piece
-regroup bytes piece i d lt =
-    let e : take i piece ++ get_or piece i d ∷ drop (i + 1) piece ≡ piece = ap (λ (x : List ℕ). take i piece ++ x) (sym (drop_more piece i d lt)) ∙ take-append-drop i piece in
-    simp append_assoc (ap (λ (x : List ℕ). bytes ++ x) e)
-
-pub stops : (o : Option ReadFault) (f : ReadFault) (s : Sheet) (p bytes piece : List ℕ) (i d : ℕ) → i < length piece → o ≡ Some f → Reads o s p ((bytes ++ take i piece) ++ get_or piece i d ∷ []) → Reads o s p (bytes ++ piece)
-stops o f s p bytes piece i d lt e h =
-    subst (λ (x : List ℕ). Reads o s p x) (regroup bytes piece i d lt) (keeps_fault o f s p ((bytes ++ take i piece) ++ get_or piece i d ∷ []) (drop (i + 1) piece) e h)
 
 pub fault_finishes : (o : Option ReadFault) (f : ReadFault) (s : Sheet) (p bytes : List ℕ) → o ≡ Some f → Reads o s p bytes → IsAnswer bytes (Err f)
 fault_finishes o f s p bytes e h = fault_answers f s p bytes (Err f) refl (subst (λ (x : Option ReadFault). Reads x s p bytes) e h)
@@ -247,12 +199,13 @@ end_finishes o s s' pending rest bytes r eo ep j k h =
 
 -- ---- a reader whose fields are seen
 
-pub sound_more : (o : Option ReadFault) (s s' : Sheet) (line : List ℕ) (r : Result (Unit {0}) ReadFault) → o ≡ None → r ≡ Ok tt → Judges s line s' r → IsSound o s → IsSound o s'
-sound_more o s s' line r eo er j h =
-    let k = subst (λ (x : Result (Unit {0}) ReadFault). Judges s line s' x) er j in
-    let lines = subst (λ (x : Option ReadFault). IsSound x s) eo h in
-    let e : judged empty (lines.0 ++ line ∷ []) ≡ Ok s' = judged-append_ok empty s lines.0 (line ∷ []) lines.1 ∙ none_goes s line k.0 ∙ ap as_ok (sym k.1) in
-    subst (λ (x : Option ReadFault). IsSound x s') (sym eo) (lines.0 ++ line ∷ [], e)
+pub sound_by : (s s' : Sheet) (line : List ℕ) (r : Result (Unit {0}) ReadFault) → Judges s line s' r → IsReached s → IsSoundBy r s'
+sound_by s s' line (Ok u) j h =
+    (h.0 ++ line ∷ [], judged-append_ok empty s h.0 (line ∷ []) h.1 ∙ none_goes s line j.0 ∙ ap as_ok (sym j.1))
+sound_by s s' line (Err f) j h = tt
+
+pub sound_ok : (r : Result (Unit {0}) ReadFault) (s : Sheet) → r ≡ Ok tt → IsSoundBy r s → IsReached s
+sound_ok r s e h = subst (λ (x : Result (Unit {0}) ReadFault). IsSoundBy x s) e h
 
 pub reached_end : (o : Option ReadFault) (s s' : Sheet) (pending rest : List ℕ) → o ≡ None → rest ≡ pending → judged s (last_line rest) ≡ Ok s' → IsSound o s → IsReached s'
 reached_end o s s' pending rest eo ep j h =
@@ -273,3 +226,57 @@ so_far_by (Text line cause) s p bytes h = h
 
 pub so_far_err : (o : Option ReadFault) (f : ReadFault) (s : Sheet) (p bytes : List ℕ) → o ≡ Some f → Reads o s p bytes → IsAnswerSoFar {X = Unit {0}} bytes (Err f)
 so_far_err o f s p bytes e h = so_far_by f s p bytes (subst (λ (x : Option ReadFault). Reads x s p bytes) e h)
+
+-- ---- a piece
+
+pub fed_ok : (r : Result (Unit {0}) ReadFault) (s s' : Sheet) (p p' : List ℕ) (bytes more whole : List ℕ) → r ≡ Ok tt → bytes ++ more ≡ whole → ReadsMore s p more s' p' r → Reads None s p bytes → Reads None s' p' whole
+fed_ok r s s' p p' bytes more whole er e k h =
+    subst (λ (x : List ℕ). Reads None s' p' x) e (subst (λ (x : Result (Unit {0}) ReadFault). Reads (fault_in x) s' p' (bytes ++ more)) er (k bytes h))
+
+split_at : (piece : List ℕ) (at i : ℕ) → take (at + i) piece ≡ take at piece ++ take i (drop at piece)
+split_at piece at i =
+    sym (take-append-drop at (take (at + i) piece)) ∙ ap (λ (x : List ℕ). x ++ drop at (take (at + i) piece)) (take-take at (at + i) piece (omega arith)) ∙ ap (λ (x : List ℕ). take at piece ++ x) (drop-take at i piece)
+
+pub below_end : (piece hay : List ℕ) (at i : ℕ) → hay ≡ drop at piece → i < length hay → at + i < length piece
+below_end piece hay at i e lt = omega (arith, lt, ap length e, length-drop at piece)
+
+-- the line that ends at place at + i of the piece
+line_at : (bytes piece hay : List ℕ) (at i : ℕ) → hay ≡ drop at piece → i < length hay → eqb (get_or hay i 0) 10 ≡ true → (bytes ++ take at piece) ++ (take (at + i - at) (drop at piece) ++ 10 ∷ []) ≡ bytes ++ take (at + i + 1) piece
+line_at bytes piece hay at i e lt p =
+    let b : get_or piece (at + i) 0 ≡ 10 = sym (get_or-drop at piece i 0) ∙ ap (λ (x : List ℕ). get_or x i 0) (sym e) ∙ eqb-true (get_or hay i 0) 10 p in
+    let n : at + i - at ≡ i = omega arith in
+    let t : take (at + i + 1) piece ≡ (take at piece ++ take i (drop at piece)) ++ 10 ∷ [] =
+    take_more piece (at + i) 0 (below_end piece hay at i e lt) ∙ ap (λ (x : ℕ). take (at + i) piece ++ x ∷ []) b ∙ ap (λ (x : List ℕ). x ++ 10 ∷ []) (split_at piece at i) in
+    rw (n, t) (simp append_assoc)
+
+pub err_reads : (r e : Result (Unit {0}) ReadFault) (f : ReadFault) (s s' : Sheet) (p p' bytes line piece : List ℕ) (n : ℕ) → r ≡ Err f → e ≡ Err f → line ≡ bytes ++ take n piece → Reads (fault_in e) s p line → Reads (fault_in r) s' p' (bytes ++ piece)
+err_reads r e f s s' p p' bytes line piece n er ee el h =
+    let g : Reads (Some f) s p line = subst (λ (x : Result (Unit {0}) ReadFault). Reads (fault_in x) s p line) ee h in
+    let m : Reads (Some f) s' p' ((bytes ++ take n piece) ++ drop n piece) = fault_stays f s s' p p' (bytes ++ take n piece) (drop n piece) (subst (λ (x : List ℕ). Reads (Some f) s p x) el g) in
+    let w : (bytes ++ take n piece) ++ drop n piece ≡ bytes ++ piece = append_assoc bytes (take n piece) (drop n piece) ∙ ap (λ (x : List ℕ). bytes ++ x) (take-append-drop n piece) in
+    subst (λ (x : Result (Unit {0}) ReadFault). Reads (fault_in x) s' p' (bytes ++ piece)) (sym er) (subst (λ (x : List ℕ). Reads (Some f) s' p' x) w m)
+
+-- the lines before this one, and this one
+pub line_more : (r : Result (Unit {0}) ReadFault) (s0 s s' : Sheet) (p0 p p' piece hay : List ℕ) (at i : ℕ) → hay ≡ drop at piece → i < length hay → eqb (get_or hay i 0) 10 ≡ true → r ≡ Ok tt → ReadsMore s p (take (at + i - at) (drop at piece) ++ 10 ∷ []) s' p' r → ReadsMore s0 p0 (take at piece) s p ok → ReadsMore s0 p0 (take (at + i + 1) piece) s' p' ok
+line_more r s0 s s' p0 p p' piece hay at i e lt b er k g = λ bytes h.
+    fed_ok r s s' p p' (bytes ++ take at piece) (take (at + i - at) (drop at piece) ++ 10 ∷ []) (bytes ++ take (at + i + 1) piece) er (line_at bytes piece hay at i e lt b) k (g bytes h)
+
+pub line_fails : (r e : Result (Unit {0}) ReadFault) (f : ReadFault) (s0 s s' t : Sheet) (p0 p p' q piece hay : List ℕ) (at i : ℕ) → hay ≡ drop at piece → i < length hay → eqb (get_or hay i 0) 10 ≡ true → r ≡ Err f → e ≡ Err f → ReadsMore s p (take (at + i - at) (drop at piece) ++ 10 ∷ []) s' p' e → ReadsMore s0 p0 (take at piece) s p ok → ReadsMore s0 p0 piece t q r
+line_fails r e f s0 s s' t p0 p p' q piece hay at i eh lt b er ee k g = λ bytes h.
+    err_reads r e f s' t p' q bytes ((bytes ++ take at piece) ++ (take (at + i - at) (drop at piece) ++ 10 ∷ [])) piece (at + i + 1) er ee (line_at bytes piece hay at i eh lt b) (k (bytes ++ take at piece) (g bytes h))
+
+pub rest_more : (s0 s : Sheet) (p0 p q piece hay : List ℕ) (at : ℕ) → hay ≡ drop at piece → NoFeed hay → q ≡ p ++ hay → ReadsMore s0 p0 (take at piece) s p ok → ReadsMore s0 p0 piece s q ok
+rest_more s0 s p0 p q piece hay at e n eq g = λ bytes h.
+    let k = reads_front s p (bytes ++ take at piece) hay n (g bytes h) in
+    let w : (bytes ++ take at piece) ++ hay ≡ bytes ++ piece =
+    ap (λ (x : List ℕ). (bytes ++ take at piece) ++ x) e ∙ append_assoc bytes (take at piece) (drop at piece) ∙ ap (λ (x : List ℕ). bytes ++ x) (take-append-drop at piece) in
+    subst (λ (x : List ℕ). Reads None s q x) w (subst (λ (x : List ℕ). Reads None s x ((bytes ++ take at piece) ++ hay)) (sym eq) k)
+
+-- ---- what follows a fault
+
+-- the fault of a beginning is the text's
+pub fault_of_all : (bytes more : List ℕ) (fault : ℕ × ℕ) → judged empty (cut bytes).0 ≡ Err fault → answer_of (bytes ++ more) ≡ Err fault
+fault_of_all bytes more fault h =
+    let m = cut_more bytes more in
+    let e : judged empty (cut (bytes ++ more)).0 ≡ Err fault = rw m.1 (judged-append_err empty fault (cut bytes).0 m.0 h) in
+    fault_answer fault.0 fault.1 (bytes ++ more) e

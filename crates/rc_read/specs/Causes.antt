@@ -1,5 +1,6 @@
 -- The numbers and the names of causes, as they are printed.
-use Rattle.std.specs.Prelude.{ℕ, List, codes}
+use Rattle.std.specs.Prelude.{ℕ, List, ◌++◌, codes}
+use Rattle.std.specs.Fmt.{decimal}
 use Rattle.rc_read.specs.declared.fault.ReadCause.{ReadCause}
 use Rattle.rc_read.specs.declared.fault.ReadCause.TheVariants.{NotAscii, BadHead, BadLine, BadNumber, UnknownName, DoubleName, Braces, TooLarge, BadNesting, BadCase}
 
@@ -26,3 +27,7 @@ name_of_cause Braces = codes "Braces"
 name_of_cause TooLarge = codes "TooLarge"
 name_of_cause BadNesting = codes "BadNesting"
 name_of_cause BadCase = codes "BadCase"
+
+-- the message of a cause, as `P4 BadNumber`
+abbrev pub text_of_cause : ReadCause → List ℕ
+text_of_cause cause = codes "P" ++ decimal (number_of_cause cause) ++ codes " " ++ name_of_cause cause

@@ -3,8 +3,9 @@ use Rattle.std.specs.Prelude.{◌≡◌, ℕ, ◌+◌, ◌<◌, ◌≤◌, ◌�
 use Rattle.rc_lang.specs.Program.{Program}
 use Rattle.rc_read.specs.Answer.{at_end}
 use Rattle.rc_read.specs.Sentences.{sentences}
-use Rattle.rc_read.specs.Sheets.{Sheet, empty, with_line}
-use Rattle.rc_read.specs.Words.{lines_of}
+use Rattle.rc_read.specs.Sheets.{Sheet, empty}
+use Rattle.rc_read.specs.Adds.{with_line}
+use Rattle.rc_read.specs.Words.{text_lines}
 
 -- The sheet behind these lines.
 abbrev pub sheet_behind : Sheet → List (List ℕ) → Sheet
@@ -37,5 +38,5 @@ pub record IsEnd (lines : List (List ℕ)) (answer : Result Program (ℕ × ℕ)
 -- The answer of a text: the first line with a true sentence and the least number there; where there is none, what the
 -- text's end says, a fault or a program.
 abbrev pub HasAnswer : List ℕ → Result Program (ℕ × ℕ) → Type 0
-HasAnswer bytes (Ok p) = IsEnd (lines_of bytes) (Ok p)
-HasAnswer bytes (Err f) = IsFirstFault (lines_of bytes) f.0 f.1 ⊎ IsEnd (lines_of bytes) (Err f)
+HasAnswer bytes (Ok p) = IsEnd (text_lines bytes) (Ok p)
+HasAnswer bytes (Err f) = IsFirstFault (text_lines bytes) f.0 f.1 ⊎ IsEnd (text_lines bytes) (Err f)

@@ -1,22 +1,26 @@
 -- The fault sentences about a line, given what stands above it.
-use Rattle.std.specs.Prelude.{ℕ, List, [], ◌∷◌, ◌++◌, length, take, Option, Some, None, Bool, true, false, ◌&&◌, ◌||◌, not, ◌==◌, nat_lt, nat_le, is_none, if◌then◌else◌, codes}
+use Rattle.std.specs.Prelude.{ℕ, List, [], ◌∷◌, length, take, Option, Some, None, Bool, true, false, ◌&&◌, ◌||◌, not, ◌==◌, nat_lt, nat_le, is_none, is_some, if◌then◌else◌, codes}
+use Rattle.std.specs.List.{list_any}
 use Rattle.std.specs.Str.{bytes_eq}
-use Rattle.rc_lang.specs.Nesting.{in_lock, in_peek, directly_in_peek}
+use Rattle.rc_lang.specs.Nesting.{innermost, in_lock, in_peek, directly_in_peek, way_out}
 use Rattle.rc_lang.specs.declared.lines.Block.{Block}
-use Rattle.rc_lang.specs.declared.program.Token.{Token as TokenOf}
-use Rattle.rc_read.specs.declared.form.Arm.{Arm}
-use Rattle.rc_read.specs.declared.form.Arm.TheVariants.{Case, Other, Nothing}
-use Rattle.rc_read.specs.declared.form.Call.TheVariants.{SetData64}
-use Rattle.rc_read.specs.declared.form.Form.{Form}
-use Rattle.rc_read.specs.declared.form.Form.TheVariants.{Version, Ring, Token, Thread, Calls, Opens, Begins, Closes}
-use Rattle.rc_read.specs.declared.form.Item.{Item}
-use Rattle.rc_read.specs.declared.form.Item.TheVariants.{HeldToken, Credits}
-use Rattle.rc_read.specs.declared.form.Opening.TheVariants.{Lock, Peek}
-use Rattle.rc_read.specs.declared.parts.Place.{Place}
-use Rattle.rc_read.specs.declared.parts.Place.TheVariants.{Start, Second, Declarations, InThread}
-use Rattle.rc_read.specs.Forms.{form_of, items_of, variable_in}
-use Rattle.rc_read.specs.Names.{is_among}
-use Rattle.rc_read.specs.Sheets.{Sheet, Draft, Arms, declares}
+use Rattle.rc_lang.specs.declared.lines.Block.TheVariants.{InLock, InIf, InElse, InPeek, InArm, InLoop}
+use Rattle.rc_read.specs.declared.parts.Region.{Region}
+use Rattle.rc_read.specs.declared.parts.Region.TheVariants.{Start, Second, Declarations, InThread, Between}
+use Rattle.rc_read.specs.declared.says.Says.{Says}
+use Rattle.rc_read.specs.declared.says.Says.TheVariants.{Version, Ring, File, Buffer, Token, Thread, Op, Lock, If, Else, Peek, Case, Other, Nothing, Loop, Break, Close}
+use Rattle.rc_read.specs.declared.table.Part.{Part}
+use Rattle.rc_read.specs.declared.table.Part.TheVariants as part
+use Rattle.rc_read.specs.declared.table.Row.{Row}
+use Rattle.rc_read.specs.declared.table.Stand.{Stand}
+use Rattle.rc_read.specs.declared.table.Stand.TheVariants as stand
+use Rattle.rc_read.specs.declared.values.Item.{Item}
+use Rattle.rc_read.specs.declared.values.Item.TheVariants as item
+use Rattle.rc_read.specs.Adds.{items, says}
+use Rattle.rc_read.specs.Sheets.{Sheet, Draft, Arms, named, names_behind, is_among, buffer_names, thread_names, has_file, has_token}
+use Rattle.rc_read.specs.Spots.{Spot, row_of, spots_in}
+use Rattle.rc_read.specs.Table.{stand_of}
+use Rattle.rc_read.specs.Values.{any_lacks, start, user_data_of, file_number_of}
 use Rattle.rc_read.specs.Words.{words_of}
 
 -- ---- P1: among the first 256 bytes is one above 126, or below 32 other than tab and carriage return
@@ -30,184 +34,201 @@ any_strange (b ∷ bytes) = is_strange b || any_strange bytes
 
 -- ---- P2: the first line with words isn't `ringcheck 1`, the second doesn't begin with `ring`
 
-abbrev pub is_version : Option Form → Bool
-is_version (Some Version) = true
-is_version _ = false
+abbrev pub is_version : Option Row → Bool
+is_version None = false
+is_version (Some row) = is_first (stand_of row)
+  where
+    is_first : Stand → Bool
+    is_first stand.First = true
+    is_first _ = false
 
-abbrev pub bad_head : Place → List ℕ → Option Form → Bool
-bad_head Start first form = not (is_version form)
-bad_head Second first form = not (bytes_eq first (codes "ring"))
-bad_head _ first form = false
+abbrev pub first_of : List (List ℕ) → List ℕ
+first_of [] = []
+first_of (w ∷ ws) = w
+
+abbrev pub bad_head : Region → List (List ℕ) → Bool
+bad_head Start ws = not (is_version (row_of ws))
+bad_head Second ws = not (bytes_eq (first_of ws) (codes "ring"))
+bad_head _ ws = false
 
 -- ---- P3: no form, or a form in a wrong part of the text
 
-abbrev pub is_start : Place → Bool
-is_start Start = true
-is_start _ = false
+abbrev pub may_stand : Stand → Region → Bool
+may_stand stand.First Start = true
+may_stand stand.Second Second = true
+may_stand stand.Declaration Declarations = true
+may_stand stand.Header Declarations = true
+may_stand stand.Header InThread = true
+may_stand stand.Header Between = true
+may_stand stand.Inside InThread = true
+may_stand stand.Brace region = true
+may_stand _ region = false
 
-abbrev pub is_second : Place → Bool
-is_second Second = true
-is_second _ = false
+abbrev pub bad_line : Region → Option Row → Bool
+bad_line region None = true
+bad_line region (Some row) = not (may_stand (stand_of row) region)
 
-abbrev pub is_declaring : Place → Bool
-is_declaring Declarations = true
-is_declaring _ = false
+-- ---- P4 is `any_lacks`: a word in a number's place is no number or is out of its range
 
-abbrev pub is_inside : Place → Bool
+-- ---- P5: a file, a buffer or a token that isn't declared above
+
+abbrev pub lacks_file : Sheet → Option ℕ → Bool
+lacks_file s None = false
+lacks_file s (Some n) = not (has_file s.files n)
+
+abbrev pub lacks_token : Sheet → Option ℕ → Bool
+lacks_token s None = false
+lacks_token s (Some u) = not (has_token s.tokens u)
+
+abbrev pub is_unknown : Sheet → Part → List ℕ → Bool
+is_unknown s part.File w = lacks_file s (file_number_of w)
+is_unknown s part.Buffer w = not (is_among (buffer_names s.buffers) w)
+is_unknown s part.Token w = lacks_token s (user_data_of w)
+is_unknown s part.HeldToken w = lacks_token s (user_data_of w)
+is_unknown s _ w = false
+
+abbrev pub any_unknown : Sheet → List Spot → Bool
+any_unknown s [] = false
+any_unknown s (p ∷ ps) = is_unknown s p.part p.word || any_unknown s ps
+
+-- ---- P6: a file, a buffer, a token or a thread declared twice, an item named twice
+
+abbrev pub repeats_file : Sheet → Option ℕ → Bool
+repeats_file s None = false
+repeats_file s (Some n) = has_file s.files n
+
+abbrev pub repeats_token : Sheet → Option ℕ → Bool
+repeats_token s None = false
+repeats_token s (Some u) = has_token s.tokens u
+
+-- A thread's name is declared from its header on; where no thread is open the draft's is empty, which is no name.
+abbrev pub is_double : Sheet → Part → List ℕ → Bool
+is_double s part.NewFile w = repeats_file s (file_number_of w)
+is_double s part.NewBuffer w = is_among (buffer_names s.buffers) w
+is_double s part.NewToken w = repeats_token s (user_data_of w)
+is_double s part.NewThread w = is_among (thread_names s.threads) w || bytes_eq s.draft.name w
+is_double s _ w = false
+
+abbrev pub any_double : Sheet → List Spot → Bool
+any_double s [] = false
+any_double s (p ∷ ps) = is_double s p.part p.word || any_double s ps
+
+abbrev pub names_same : Item → Item → Bool
+names_same (item.Shares b k) (item.Shares c l) = b == c
+names_same (item.Token u) (item.Token v) = u == v
+names_same (item.Credits n) (item.Credits m) = true
+names_same (item.Queued k) (item.Queued l) = true
+names_same _ _ = false
+
+abbrev pub any_twice : List Item → Bool
+any_twice [] = false
+any_twice (i ∷ is) = list_any (names_same i) is || any_twice is
+
+-- ---- P7: a closing brace without an open block, an else that closes no first branch, a thread in a thread
+
+abbrev pub is_inside : Region → Bool
 is_inside InThread = true
 is_inside _ = false
 
-abbrev pub bad_line : Place → Option Form → Bool
-bad_line place None = true
-bad_line place (Some Version) = not (is_start place)
-bad_line place (Some (Ring n)) = not (is_second place)
-bad_line place (Some (Token n)) = not (is_declaring place)
-bad_line place (Some Thread) = not (is_declaring place)
-bad_line place (Some (Calls c)) = not (is_inside place)
-bad_line place (Some (Opens o)) = not (is_inside place)
-bad_line place (Some (Begins a)) = not (is_inside place)
-bad_line place (Some Closes) = false
+abbrev pub is_first_branch : Option Block → Bool
+is_first_branch (Some (InIf o)) = true
+is_first_branch _ = false
 
--- ---- P4: a word in a number's place is no number or is out of its range
+abbrev pub bad_brace : Sheet → Says → Bool
+bad_brace s Close = not (is_inside s.region)
+bad_brace s Else = not (is_inside s.region && is_first_branch (innermost s.draft.blocks))
+bad_brace s Thread = is_inside s.region
+bad_brace s _ = false
 
-abbrev pub item_lacks_number : Option Item → Bool
-item_lacks_number None = false
-item_lacks_number (Some (HeldToken n)) = is_none n
-item_lacks_number (Some (Credits n)) = is_none n
+-- ---- P8: line 4,097, more than 256 bytes, a 33rd open block, or one thread, buffer, token, file or variable too many
 
-abbrev pub any_lacks_number : List (Option Item) → Bool
-any_lacks_number [] = false
-any_lacks_number (i ∷ items) = item_lacks_number i || any_lacks_number items
+abbrev pub is_too_long : Sheet → List ℕ → Bool
+is_too_long s line = nat_le 4096 s.count || nat_lt 256 (length line)
 
-abbrev pub bad_number : List (List ℕ) → Option Form → Bool
-bad_number ws (Some (Ring n)) = is_none n
-bad_number ws (Some (Token n)) = is_none n
-bad_number ws (Some Thread) = any_lacks_number (items_of ws)
-bad_number ws (Some (Calls (SetData64 n))) = is_none n
-bad_number ws (Some (Begins (Case n))) = is_none n
-bad_number ws _ = false
+-- The thread is a block too.
+abbrev pub opens_block : Says → Bool
+opens_block Lock = true
+opens_block (If test) = true
+opens_block (Peek x) = true
+opens_block (Case u) = true
+opens_block Other = true
+opens_block Nothing = true
+opens_block Loop = true
+opens_block _ = false
 
--- ---- P5: a token number that isn't declared above
+abbrev pub is_too_deep : Sheet → Says → Bool
+is_too_deep s what = opens_block what && nat_le 31 (length s.draft.blocks)
 
-abbrev pub is_unknown : List TokenOf → Option ℕ → Bool
-is_unknown tokens None = false
-is_unknown tokens (Some u) = not (declares tokens u)
+abbrev pub is_full : Sheet → Part → Bool
+is_full s part.NewFile = nat_le 16 (length s.files)
+is_full s part.NewBuffer = nat_le 64 (length s.buffers)
+is_full s part.NewToken = nat_le 256 (length s.tokens)
+is_full s part.NewThread = nat_le 16 (length s.threads)
+is_full s _ = false
 
-abbrev pub item_is_unknown : List TokenOf → Option Item → Bool
-item_is_unknown tokens (Some (HeldToken n)) = is_unknown tokens n
-item_is_unknown tokens _ = false
+abbrev pub any_full : Sheet → List Spot → Bool
+any_full s [] = false
+any_full s (p ∷ ps) = is_full s p.part || any_full s ps
 
-abbrev pub any_is_unknown : List TokenOf → List (Option Item) → Bool
-any_is_unknown tokens [] = false
-any_is_unknown tokens (i ∷ items) = item_is_unknown tokens i || any_is_unknown tokens items
+abbrev pub has_too_many_names : Sheet → List Spot → Bool
+has_too_many_names s spots = nat_lt 64 (length (names_behind s.draft.names spots))
 
-abbrev pub unknown_name : List TokenOf → List (List ℕ) → Option Form → Bool
-unknown_name tokens ws (Some Thread) = any_is_unknown tokens (items_of ws)
-unknown_name tokens ws (Some (Calls (SetData64 n))) = is_unknown tokens n
-unknown_name tokens ws (Some (Begins (Case n))) = is_unknown tokens n
-unknown_name tokens ws _ = false
+-- ---- P9: a lock in a lock or in a peek, a peek or a loop in a peek, a break outside a loop, queued entries outside a lock
 
--- ---- P6: a token declared twice, an item named twice in one list
+abbrev pub says_queue : Item → Bool
+says_queue (item.Queued k) = true
+says_queue _ = false
 
-abbrev pub is_same_number : Option ℕ → Option ℕ → Bool
-is_same_number (Some m) (Some n) = m == n
-is_same_number _ _ = false
+abbrev pub any_queue : List Item → Bool
+any_queue is = list_any says_queue is
 
--- two items of one token, or two of credits
-abbrev pub is_same_item : Option Item → Option Item → Bool
-is_same_item (Some (HeldToken m)) (Some (HeldToken n)) = is_same_number m n
-is_same_item (Some (Credits m)) (Some (Credits n)) = true
-is_same_item _ _ = false
+abbrev pub bad_nesting : List Block → List Item → Says → Bool
+bad_nesting blocks is Lock = in_lock blocks || in_peek blocks
+bad_nesting blocks is (Peek x) = in_peek blocks
+bad_nesting blocks is Loop = in_peek blocks || (any_queue is && not (in_lock blocks))
+bad_nesting blocks is Thread = any_queue is
+bad_nesting blocks is Break = is_none (way_out blocks).loop
+bad_nesting blocks is _ = false
 
-abbrev pub names_item : Option Item → List (Option Item) → Bool
-names_item i [] = false
-names_item i (j ∷ items) = is_same_item i j || names_item i items
+-- ---- P10: an arm that doesn't stand directly in a peek, another statement that does, an arm twice, a missing arm
 
--- an item that the ones above it name too
-abbrev pub any_is_twice : List (Option Item) → List (Option Item) → Bool
-any_is_twice above [] = false
-any_is_twice above (i ∷ items) = names_item i above || any_is_twice (above ++ i ∷ []) items
-
-abbrev pub is_declared : List TokenOf → Option ℕ → Bool
-is_declared tokens None = false
-is_declared tokens (Some u) = declares tokens u
-
-abbrev pub double_name : List TokenOf → List (List ℕ) → Option Form → Bool
-double_name tokens ws (Some (Token n)) = is_declared tokens n
-double_name tokens ws (Some Thread) = any_is_twice [] (items_of ws)
-double_name tokens ws _ = false
-
--- ---- P7: a closing brace without an open block
-
-abbrev pub bad_braces : Place → Option Form → Bool
-bad_braces place (Some Closes) = not (is_inside place)
-bad_braces place _ = false
-
--- ---- P8: a line, a byte, an open block (the thread's counts), a token or a variable too many
-
-abbrev pub is_variable_too_many : List (List ℕ) → Option (List ℕ) → Bool
-is_variable_too_many names None = false
-is_variable_too_many names (Some word) = nat_le 64 (length names) && not (is_among names word)
-
-abbrev pub too_many : Sheet → List (List ℕ) → Option Form → Bool
-too_many s ws (Some (Token n)) = nat_le 256 (length s.tokens)
-too_many s ws (Some (Calls c)) = is_variable_too_many s.draft.names (variable_in ws (Calls c))
-too_many s ws (Some (Opens o)) = nat_le 31 (length s.draft.blocks) || is_variable_too_many s.draft.names (variable_in ws (Opens o))
-too_many s ws (Some (Begins a)) = nat_le 31 (length s.draft.blocks)
-too_many s ws _ = false
-
-abbrev pub too_large : Sheet → List ℕ → List (List ℕ) → Option Form → Bool
-too_large s line ws form = nat_le 4096 s.count || nat_lt 256 (length line) || too_many s ws form
-
--- ---- P9: a lock in a lock or in a peek, a peek in a peek
-
-abbrev pub bad_nesting : List Block → Option Form → Bool
-bad_nesting blocks (Some (Opens Lock)) = in_lock blocks || in_peek blocks
-bad_nesting blocks (Some (Opens Peek)) = in_peek blocks
-bad_nesting blocks _ = false
-
--- ---- P10: an arm that doesn't stand directly in a peek, another statement directly in one, an arm twice; at a peek's
--- closing brace, `other` or `none` is missing
-
-abbrev pub contains : ℕ → List ℕ → Bool
-contains n [] = false
-contains n (x ∷ xs) = n == x || contains n xs
-
-abbrev pub contains_if_any : Option ℕ → List ℕ → Bool
-contains_if_any None xs = false
-contains_if_any (Some n) xs = contains n xs
-
-abbrev pub is_seen : Arms → Arm → Bool
-is_seen arms (Case n) = contains_if_any n arms.cases
-is_seen arms Other = arms.other
-is_seen arms Nothing = arms.none
-
-abbrev pub bad_case : Draft → Option Form → Bool
-bad_case d (Some (Calls c)) = directly_in_peek d.blocks
-bad_case d (Some (Opens o)) = directly_in_peek d.blocks
-bad_case d (Some (Begins a)) = not (directly_in_peek d.blocks) || is_seen d.arms a
-bad_case d (Some Closes) = directly_in_peek d.blocks && not (d.arms.other && d.arms.none)
+abbrev pub bad_case : Draft → Says → Bool
+bad_case d (Case u) = not (directly_in_peek d.blocks) || list_any (λ v. v == u) d.arms.cases
+bad_case d Other = not (directly_in_peek d.blocks) || d.arms.other
+bad_case d Nothing = not (directly_in_peek d.blocks) || d.arms.none
+bad_case d Close = directly_in_peek d.blocks && not (d.arms.other && d.arms.none)
+bad_case d (Op op) = directly_in_peek d.blocks
+bad_case d Lock = directly_in_peek d.blocks
+bad_case d (If test) = directly_in_peek d.blocks
+bad_case d (Peek x) = directly_in_peek d.blocks
+bad_case d Loop = directly_in_peek d.blocks
+bad_case d Break = directly_in_peek d.blocks
 bad_case d _ = false
 
--- ---- all of them
+-- ---- the sentences about a line, by their numbers
 
--- the number of the first sentence that is true
-abbrev pub first_true : List (ℕ × Bool) → Option ℕ
-first_true [] = None
-first_true (p ∷ ps) = if p.1 then Some p.0 else first_true ps
+abbrev pub form_sentences : Sheet → List ℕ → List (List ℕ) → List (ℕ × Bool)
+form_sentences s line ws =
+    (2, bad_head s.region ws)
+    ∷ (3, bad_line s.region (row_of ws))
+    ∷ (4, any_lacks (named s (spots_in ws)) start (spots_in ws))
+    ∷ (5, any_unknown s (spots_in ws))
+    ∷ (6, any_double s (spots_in ws) || any_twice (items s ws))
+    ∷ (7, bad_brace s (says s ws))
+    ∷ (8, is_too_long s line || is_too_deep s (says s ws) || any_full s (spots_in ws) || has_too_many_names s (spots_in ws))
+    ∷ (9, bad_nesting s.draft.blocks (items s ws) (says s ws))
+    ∷ (10, bad_case s.draft (says s ws))
+    ∷ []
 
--- the sentences about a line with words, of which this is the first, in the order of their numbers
-abbrev pub form_sentences : Sheet → List ℕ → List ℕ → List (List ℕ) → Option Form → List (ℕ × Bool)
-form_sentences s line first ws form =
-    (2, bad_head s.place first form) ∷ (3, bad_line s.place form) ∷ (4, bad_number ws form) ∷ (5, unknown_name s.tokens ws form)
-    ∷ (6, double_name s.tokens ws form) ∷ (7, bad_braces s.place form) ∷ (8, too_large s line ws form)
-    ∷ (9, bad_nesting s.draft.blocks form) ∷ (10, bad_case s.draft form) ∷ []
-
--- a line without a word can only be one too many, or too long
+-- A line without words is too long, or nothing is wrong with it but strange bytes.
 abbrev pub word_sentences : Sheet → List ℕ → List (List ℕ) → List (ℕ × Bool)
-word_sentences s line [] = (8, too_large s line [] None) ∷ []
-word_sentences s line (w ∷ ws) = form_sentences s line w (w ∷ ws) (form_of (w ∷ ws))
+word_sentences s line [] = (8, is_too_long s line) ∷ []
+word_sentences s line (w ∷ ws) = form_sentences s line (w ∷ ws)
 
--- The sentences about a line, in the order of their numbers.
 abbrev pub sentences : Sheet → List ℕ → List (ℕ × Bool)
 sentences s line = (1, any_strange (take 256 line)) ∷ word_sentences s line (words_of line)
+
+-- the least number of a true sentence
+abbrev pub first_true : List (ℕ × Bool) → Option ℕ
+first_true [] = None
+first_true ((n, b) ∷ rest) = if b then Some n else first_true rest

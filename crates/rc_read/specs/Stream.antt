@@ -1,10 +1,11 @@
 -- What a reader stands for that has been fed bytes, in whatever pieces.
 use Rattle.std.specs.Prelude.{◌≡◌, ℕ, ◌+◌, List, Option, Some, None, Result, Ok, Err, IsOk}
 use Rattle.rc_lang.specs.Program.{Program}
-use Rattle.rc_read.specs.Answer.{judged, at_end, answer_of, program_of}
+use Rattle.rc_read.specs.Answer.{judged, at_end, answer_of, program_in}
 use Rattle.rc_read.specs.Causes.{number_of_cause}
 use Rattle.rc_read.specs.Sentences.{sentences, first_true}
-use Rattle.rc_read.specs.Sheets.{Sheet, empty, with_line}
+use Rattle.rc_read.specs.Sheets.{Sheet, empty}
+use Rattle.rc_read.specs.Adds.{with_line}
 use Rattle.rc_read.specs.Words.{cut}
 use Rattle.rc_read.specs.declared.fault.ReadFault.{ReadFault}
 use Rattle.rc_read.specs.declared.fault.ReadFault.TheVariants.{Text, OutOfMemory}
@@ -65,5 +66,5 @@ Ends s (Err (Text line cause)) = at_end s ≡ Err (line, number_of_cause cause)
 Ends s (Err OutOfMemory) = Unit {0}
 
 abbrev pub JudgesEnd : {X : Type 0} → Sheet → Result X ReadFault → Type 0
-JudgesEnd s (Ok u) = at_end s ≡ Ok (program_of s)
+JudgesEnd s (Ok u) = at_end s ≡ Ok (program_in s)
 JudgesEnd s (Err f) = Ends s (Err f)

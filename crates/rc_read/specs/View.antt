@@ -1,33 +1,44 @@
 -- What the parts read so far stand for.
-use Rattle.std.specs.Prelude.{map}
-use Rattle.rc_lang.specs.Parts.{items_of as items_part, thread_of as thread_part}
+use Rattle.std.specs.Prelude.{ℕ, List, map}
+use Rattle.std.specs.Global.{Vec}
+use Rattle.rc_lang.specs.Nesting.{Way}
+use Rattle.rc_lang.specs.Parts.{view_buffer, view_items, view_thread}
 use Rattle.rc_read.specs.Sheets.{Sheet, Draft, Arms}
-use Rattle.rc_read.specs.Texts.{texts_of, tokens_of}
+use Rattle.rc_read.specs.declared.blocks.Way.{Way as WayPart}
 use Rattle.rc_read.specs.declared.parts.Arms.{Arms as ArmsPart}
 use Rattle.rc_read.specs.declared.parts.Draft.{Draft as DraftPart}
 use Rattle.rc_read.specs.declared.parts.Parts.{Parts}
 
-abbrev pub arms_of : ArmsPart → Arms
-arms_of a = record { cases = a.cases.items; other = a.other; none = a.none }
+abbrev pub view_names : List (Vec ℕ) → List (List ℕ)
+view_names names = map (λ n. n.items) names
 
-abbrev pub draft_of : DraftPart → Draft
-draft_of d = record {
+abbrev pub view_arms : ArmsPart → Arms
+view_arms a = record { cases = a.cases.items; other = a.other; none = a.none }
+
+abbrev pub view_draft : DraftPart → Draft
+view_draft d = record {
   name = d.name.items;
   line = d.line;
-  items = items_part d.items;
-  names = texts_of d.names.keys;
+  items = view_items d.items;
+  loops = map view_items d.loops.items;
+  names = view_names d.names.items;
   blocks = d.blocks.items;
   lines = d.lines.items;
   ends = d.ends.items;
-  arms = arms_of d.arms;
+  arms = view_arms d.arms;
 }
 
-abbrev pub sheet_of : Parts → Sheet
-sheet_of p = record {
+abbrev pub view_sheet : Parts → Sheet
+view_sheet p = record {
   count = p.count;
-  place = p.place;
-  entries = p.entries;
-  tokens = tokens_of p.tokens.entries;
-  threads = map thread_part p.threads.items;
-  draft = draft_of p.draft;
+  region = p.region;
+  head = p.head;
+  files = p.files.items;
+  buffers = map view_buffer p.buffers.items;
+  tokens = p.tokens.items;
+  threads = map view_thread p.threads.items;
+  draft = view_draft p.draft;
 }
+
+abbrev pub view_way : WayPart → Way
+view_way w = record { loop = w.place; releases = w.releases; leaves = w.leaves }

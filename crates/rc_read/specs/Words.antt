@@ -1,7 +1,5 @@
--- How a text is cut into lines and a line into words, and which words are names.
-use Rattle.std.specs.Prelude.{ℕ, List, [], ◌∷◌, ◌++◌, length, Bool, true, false, ◌&&◌, ◌||◌, not, ◌==◌, nat_lt, nat_le, if◌then◌else◌, codes}
-use Rattle.std.specs.Str.{bytes_eq}
-use Rattle.rc_lang.specs.Numbers.{is_digit}
+-- How a text is cut into lines and a line into words.
+use Rattle.std.specs.Prelude.{ℕ, List, [], ◌∷◌, ◌++◌, Bool, ◌||◌, ◌==◌, if◌then◌else◌}
 
 -- ---- lines
 
@@ -21,8 +19,8 @@ last_line [] = []
 last_line (b ∷ bytes) = (b ∷ bytes) ∷ []
 
 -- The lines of a text.
-abbrev pub lines_of : List ℕ → List (List ℕ)
-lines_of bytes = (cut bytes).0 ++ last_line (cut bytes).1
+abbrev pub text_lines : List ℕ → List (List ℕ)
+text_lines bytes = (cut bytes).0 ++ last_line (cut bytes).1
 
 -- ---- words
 
@@ -47,50 +45,3 @@ words_after word (b ∷ bytes) = if is_blank b then word_if_any word ++ words_af
 -- The words of a line.
 abbrev pub words_of : List ℕ → List (List ℕ)
 words_of line = words_after [] (without_comment line)
-
--- ---- names
-
-abbrev pub is_lower : ℕ → Bool
-is_lower b = nat_le 97 b && nat_le b 122
-
-abbrev pub is_name_byte : ℕ → Bool
-is_name_byte b = is_lower b || is_digit b || b == 95
-
-abbrev pub all_name_bytes : List ℕ → Bool
-all_name_bytes [] = true
-all_name_bytes (b ∷ bytes) = is_name_byte b && all_name_bytes bytes
-
--- The words that are no names: those of the head, of declarations and items,
-abbrev pub is_declaring : List ℕ → Bool
-is_declaring w =
-    bytes_eq w (codes "ringcheck") || bytes_eq w (codes "ring") || bytes_eq w (codes "left") || bytes_eq w (codes "file") || bytes_eq w (codes "buffer")
-    || bytes_eq w (codes "token") || bytes_eq w (codes "thread") || bytes_eq w (codes "holds") || bytes_eq w (codes "t") || bytes_eq w (codes "c") || bytes_eq w (codes "q")
-
--- those of what a thread does alone,
-abbrev pub is_acting : List ℕ → Bool
-is_acting w =
-    bytes_eq w (codes "read") || bytes_eq w (codes "write") || bytes_eq w (codes "fsync") || bytes_eq w (codes "nop") || bytes_eq w (codes "load")
-    || bytes_eq w (codes "store") || bytes_eq w (codes "fill") || bytes_eq w (codes "print") || bytes_eq w (codes "lock")
-
--- those of the calls on the ring,
-abbrev pub is_calling : List ℕ → Bool
-is_calling w =
-    bytes_eq w (codes "get_sqe") || bytes_eq w (codes "prep_read") || bytes_eq w (codes "prep_write") || bytes_eq w (codes "prep_fsync") || bytes_eq w (codes "prep_nop")
-    || bytes_eq w (codes "set_data64") || bytes_eq w (codes "submit") || bytes_eq w (codes "submit_and_wait") || bytes_eq w (codes "peek_cqe") || bytes_eq w (codes "cqe_seen")
-
--- and those of branches.
-abbrev pub is_branching : List ℕ → Bool
-is_branching w =
-    bytes_eq w (codes "case") || bytes_eq w (codes "other") || bytes_eq w (codes "none") || bytes_eq w (codes "if") || bytes_eq w (codes "else") || bytes_eq w (codes "loop")
-    || bytes_eq w (codes "keeps") || bytes_eq w (codes "break") || bytes_eq w (codes "sq_ready") || bytes_eq w (codes "sq_space_left") || bytes_eq w (codes "kernel")
-
-abbrev pub is_reserved : List ℕ → Bool
-is_reserved w = is_declaring w || is_acting w || is_calling w || is_branching w
-
--- A name: a lower case letter, then up to 15 lower case letters, digits or _, and no reserved word.
-abbrev pub is_spelt : List ℕ → Bool
-is_spelt [] = false
-is_spelt (b ∷ bytes) = is_lower b && all_name_bytes bytes && nat_lt (length bytes) 16
-
-abbrev pub is_name : List ℕ → Bool
-is_name w = is_spelt w && not (is_reserved w)

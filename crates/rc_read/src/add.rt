@@ -1,38 +1,175 @@
 //! What a line adds to what was read so far.
 
-ghost use Rattle.std.specs.Prelude.{◌≡◌, ◌+◌, ◌<◌, ◌≤◌, map, OnOk, IfOk, false, Some};
-ghost use Rattle.rc_lang.specs.Nesting.{blocks_behind, innermost};
-ghost use Rattle.rc_lang.specs.Parts.{thread_of as thread_part};
-ghost use Rattle.rc_read.specs.Forms.{item_of as item_in};
-ghost use Rattle.rc_read.specs.Names.{number_in, with_name};
-ghost use Rattle.rc_read.specs.Sentences.{double_name, is_declared};
-ghost use Rattle.rc_read.specs.Sheets as spec;
-ghost use Rattle.rc_read.specs.Texts.{text_if_any, texts_of, tokens_of};
-ghost use Rattle.rc_read.specs.View.{arms_of, draft_of, sheet_of};
+ghost use Rattle.std.specs.Prelude.{◌≡◌, ◌<◌, [], map, unwrap_or, OnOk, IfOk};
+ghost use Rattle.rc_lang.specs.Nesting as nesting;
+ghost use Rattle.rc_lang.specs.Parts.{view_items, view_thread};
+ghost use Rattle.rc_read.specs.Adds as spec;
+ghost use Rattle.rc_read.specs.Sheets.{headed};
+ghost use Rattle.rc_read.specs.Texts.{texts_of};
+ghost use Rattle.rc_read.specs.View.{view_arms, view_draft, view_sheet};
 
-use crate::form::{Arm, Call, Form, Item, Opening, item_of, item_words, variable_in};
-use crate::parts::{Arms, Draft, Parts, Place};
-use indexmap::{IndexMap, IndexSet};
-use rc_lang::lines::{Block, Line, Op, Stmt};
-use rc_lang::program::{Items, Thread};
-use rc_lang::request::Kind;
+use crate::blocks::{innermost, way_out};
+use crate::parts::{Arms, Draft, Parts, Region};
+use crate::says::Says;
+use crate::values::Item;
+use rc_lang::lines::{Block, Line, Stmt};
+use rc_lang::program::{Buffer, Items, Share, Thread};
 use std::alloc::{AllocError, Global};
 use std::mem;
 
+// The shares among a list of items.
+fn shares_held(alloc: Global, items: &[Item]) -> Result<Vec<Share>, AllocError>
+    ensures { IfOk result (λ v. v.items ≡ spec.shares_held items.now) }
+{
+    let mut shares = Vec::with_capacity(alloc, items.len())?;
+    for item in items {
+        if let Item::Shares(buffer, count) = *item {
+            shares.push(Share { buffer, count })?;
+        }
+    }
+    Ok(shares)
+}
+
+// The tokens among a list of items.
+fn tokens_held(alloc: Global, items: &[Item]) -> Result<Vec<u64>, AllocError>
+    ensures { IfOk result (λ v. v.items ≡ spec.tokens_held items.now) }
+{
+    let mut tokens = Vec::with_capacity(alloc, items.len())?;
+    for item in items {
+        if let Item::Token(user_data) = *item {
+            tokens.push(user_data)?;
+        }
+    }
+    Ok(tokens)
+}
+
+// The credits among a list of items.
+fn credits_held(items: &[Item]) -> u32
+    ensures { result ≡ spec.credits_held items.now }
+{
+    for item in items {
+        if let Item::Credits(count) = *item {
+            return count;
+        }
+    }
+    0
+}
+
+// The queued entries among a list of items.
+fn queue_held(items: &[Item]) -> Option<u32>
+    ensures { result ≡ spec.queue_held items.now }
+{
+    for item in items {
+        if let Item::Queued(count) = *item {
+            return Some(count);
+        }
+    }
+    None
+}
+
+// What a list of items holds.
+fn held(alloc: Global, items: &[Item]) -> Result<Items, AllocError>
+    ensures { IfOk result (λ i. view_items i ≡ spec.held items.now) }
+{
+    Ok(Items {
+        shares: shares_held(alloc, items)?,
+        tokens: tokens_held(alloc, items)?,
+        credits: credits_held(items),
+        queue: queue_held(items),
+    })
+}
+
+// Opens or closes the block of a line at this place.
+fn put_block(blocks: &mut Vec<Block>, place: usize, stmt: Stmt) -> Result<(), AllocError>
+    ensures { OnOk result (blocks.new.items ≡ nesting.blocks_behind blocks.old.items place stmt) }
+{
+    match stmt {
+        Stmt::Do(_) | Stmt::Break(_, _, _) => Ok(()),
+        Stmt::Lock => Ok(blocks.push(Block::InLock(place))?),
+        Stmt::If(_) => Ok(blocks.push(Block::InIf(place))?),
+        Stmt::Else(_) => {
+            let _ = blocks.pop();
+            Ok(blocks.push(Block::InElse(place))?)
+        }
+        Stmt::Peek(_) => Ok(blocks.push(Block::InPeek(place))?),
+        Stmt::Case(peek, _) | Stmt::Other(peek) | Stmt::Nothing(peek) => {
+            Ok(blocks.push(Block::InArm(peek))?)
+        }
+        Stmt::Loop(number) => Ok(blocks.push(Block::InLoop(place, number))?),
+        Stmt::EndLock(_) | Stmt::EndIf(_) | Stmt::EndArm(_) => {
+            let _ = blocks.pop();
+            Ok(())
+        }
+        Stmt::EndPeek(_) | Stmt::EndLoop(_, _) => {
+            let _ = blocks.pop();
+            Ok(())
+        }
+    }
+}
+
+// The place of the line that a line closes, where a jump starts from there.
+fn closed_by(stmt: Stmt) -> Option<usize>
+    ensures { result ≡ spec.closed_by stmt }
+{
+    match stmt {
+        Stmt::Else(place) | Stmt::EndIf(place) => Some(place),
+        Stmt::EndPeek(place) | Stmt::EndLoop(place, _) => Some(place),
+        Stmt::Do(_) | Stmt::Lock | Stmt::EndLock(_) | Stmt::If(_) => None,
+        Stmt::Peek(_) | Stmt::Case(_, _) | Stmt::Other(_) | Stmt::Nothing(_) => None,
+        Stmt::EndArm(_) | Stmt::Loop(_) | Stmt::Break(_, _, _) => None,
+    }
+}
+
+// Adds a line at this place to the table of ends.
+fn put_end(ends: &mut Vec<usize>, place: usize, stmt: Stmt) -> Result<(), AllocError>
+    ensures { OnOk result (ends.new.items ≡ spec.ends_behind ends.old.items place stmt) }
+{
+    ends.push(0)?;
+    match closed_by(stmt) {
+        Some(start) => {
+            if start < ends.len() {
+                ends[start] = place;
+            }
+            Ok(())
+        }
+        None => Ok(()),
+    }
+}
+
+// Keeps the items of a loop.
+fn put_loop(
+    alloc: Global,
+    loops: &mut Vec<Items>,
+    items: &[Item],
+    stmt: Stmt,
+) -> Result<(), AllocError>
+    ensures { OnOk result (map view_items loops.new.items ≡ spec.loops_behind (map view_items loops.old.items) items.now stmt) }
+{
+    match stmt {
+        Stmt::Loop(_) => {
+            let items = held(alloc, items)?;
+            Ok(loops.push(items)?)
+        }
+        Stmt::Do(_) | Stmt::Lock | Stmt::EndLock(_) | Stmt::If(_) => Ok(()),
+        Stmt::Else(_) | Stmt::EndIf(_) | Stmt::Peek(_) | Stmt::Case(_, _) => Ok(()),
+        Stmt::Other(_) | Stmt::Nothing(_) | Stmt::EndArm(_) | Stmt::EndPeek(_) => Ok(()),
+        Stmt::EndLoop(_, _) | Stmt::Break(_, _, _) => Ok(()),
+    }
+}
+
 impl Arms {
     // Keeps the arm that begins with a line; a peek begins without arms.
-    fn put(&mut self, alloc: Global, stmt: Stmt) -> Result<(), AllocError>
-        ensures { OnOk result (arms_of self.new ≡ spec.arms_behind (arms_of self.old) stmt) }
+    fn put(&mut self, stmt: Stmt) -> Result<(), AllocError>
+        ensures { OnOk result (view_arms self.new ≡ spec.arms_behind (view_arms self.old) stmt) }
     {
         match stmt {
             Stmt::Peek(_) => {
-                *self = Arms::new(alloc);
+                self.cases.clear();
+                self.other = false;
+                self.none = false;
                 Ok(())
             }
-            Stmt::Case(_, u) => {
-                self.cases.push(u)?;
-                Ok(())
-            }
+            Stmt::Case(_, user_data) => Ok(self.cases.push(user_data)?),
             Stmt::Other(_) => {
                 self.other = true;
                 Ok(())
@@ -41,232 +178,10 @@ impl Arms {
                 self.none = true;
                 Ok(())
             }
-            Stmt::Do(_) | Stmt::Lock => Ok(()),
-            Stmt::EndLock(_) | Stmt::EndArm(_) | Stmt::EndPeek(_) => Ok(()),
+            Stmt::Do(_) | Stmt::Lock | Stmt::EndLock(_) | Stmt::If(_) => Ok(()),
+            Stmt::Else(_) | Stmt::EndIf(_) | Stmt::EndArm(_) | Stmt::EndPeek(_) => Ok(()),
+            Stmt::Loop(_) | Stmt::EndLoop(_, _) | Stmt::Break(_, _, _) => Ok(()),
         }
-    }
-}
-
-// Opens or closes the block of a line at this place.
-fn put_block(blocks: &mut Vec<Block>, place: usize, stmt: Stmt) -> Result<(), AllocError>
-    ensures { OnOk result (blocks.new.items ≡ blocks_behind blocks.old.items place stmt) }
-{
-    match stmt {
-        Stmt::Do(_) => Ok(()),
-        Stmt::Lock => {
-            blocks.push(Block::InLock(place))?;
-            Ok(())
-        }
-        Stmt::Peek(_) => {
-            blocks.push(Block::InPeek(place))?;
-            Ok(())
-        }
-        Stmt::Case(peek, _) | Stmt::Other(peek) | Stmt::Nothing(peek) => {
-            blocks.push(Block::InArm(peek))?;
-            Ok(())
-        }
-        Stmt::EndLock(_) | Stmt::EndArm(_) | Stmt::EndPeek(_) => {
-            let _ = blocks.pop();
-            Ok(())
-        }
-    }
-}
-
-// The place of the peek that a line closes.
-fn peek_closed_by(stmt: Stmt) -> Option<usize>
-    ensures { result ≡ spec.peek_closed_by stmt }
-{
-    match stmt {
-        Stmt::EndPeek(peek) => Some(peek),
-        Stmt::Do(_) | Stmt::Lock | Stmt::EndLock(_) | Stmt::Peek(_) => None,
-        Stmt::Case(_, _) | Stmt::Other(_) | Stmt::Nothing(_) | Stmt::EndArm(_) => None,
-    }
-}
-
-// Adds a line at this place to the table of closing braces.
-fn put_end(ends: &mut Vec<usize>, place: usize, stmt: Stmt) -> Result<(), AllocError>
-    ensures { OnOk result (ends.new.items ≡ spec.ends_behind ends.old.items place stmt) }
-{
-    ends.push(0)?;
-    match peek_closed_by(stmt) {
-        Some(peek) => {
-            if peek < ends.len() {
-                ends[peek] = place;
-            }
-            Ok(())
-        }
-        None => Ok(()),
-    }
-}
-
-// The number of a variable, which is the next one where the name is new.
-fn number_of(alloc: Global, names: &mut IndexSet<Vec<u8>>, word: &[u8]) -> Result<usize, AllocError>
-    ensures number { IfOk result (λ i. i ≡ number_in (texts_of names.old.keys) word.now) }
-    ensures names { OnOk result (texts_of names.new.keys ≡ with_name (texts_of names.old.keys) word.now) }
-{
-    let name = Vec::from_slice(alloc, word)?;
-    let (number, _) = names.insert_full(name)?;
-    Ok(number)
-}
-
-impl Draft {
-    // Adds a line with this number.
-    fn put(&mut self, alloc: Global, number: u32, stmt: Stmt) -> Result<(), AllocError>
-        ensures { OnOk result (draft_of self.new ≡ spec.with_stmt (draft_of self.old) number stmt) }
-    {
-        let place = self.lines.len();
-        put_block(&mut self.blocks, place, stmt)?;
-        put_end(&mut self.ends, place, stmt)?;
-        self.arms.put(alloc, stmt)?;
-        self.lines.push(Line { number, stmt })?;
-        Ok(())
-    }
-
-    // The number of a line's variable, if it has one.
-    fn variable(&mut self, alloc: Global, word: Option<&Vec<u8>>) -> Result<usize, AllocError>
-        ensures number { IfOk result (λ i. i ≡ spec.variable_number (draft_of self.old).names (text_if_any word.entry)) }
-        ensures names { OnOk result (draft_of self.new ≡ spec.naming (draft_of self.old) (text_if_any word.entry)) }
-    {
-        match word {
-            Some(word) => number_of(alloc, &mut self.names, word),
-            None => Ok(0),
-        }
-    }
-
-    // The thread that is complete.
-    fn into_thread(self) -> Thread
-        ensures { thread_part result ≡ spec.thread_of (draft_of self) }
-    {
-        Thread {
-            name: self.name,
-            line: self.line,
-            items: self.items,
-            lines: self.lines,
-            ends: self.ends,
-            variables: self.names.len(),
-        }
-    }
-}
-
-// The tokens among a header's items.
-fn tokens_in(alloc: Global, words: &[Vec<u8>]) -> Result<Vec<u64>, AllocError>
-    ensures { IfOk result (λ v. v.items ≡ spec.tokens_in (map item_in (texts_of words.now))) }
-{
-    let mut tokens = Vec::new(alloc);
-    for word in words {
-        match item_of(word) {
-            Some(Item::HeldToken(n)) => {
-                tokens.push(n.unwrap_or(0))?;
-            }
-            Some(Item::Credits(_)) => {}
-            None => {}
-        }
-    }
-    Ok(tokens)
-}
-
-// The credits among a header's items.
-fn credits_in(words: &[Vec<u8>]) -> u32
-    ensures { result ≡ spec.credits_in (map item_in (texts_of words.now)) }
-{
-    for word in words {
-        match item_of(word) {
-            Some(Item::Credits(n)) => return n.unwrap_or(0),
-            Some(Item::HeldToken(_)) => {}
-            None => {}
-        }
-    }
-    0
-}
-
-// The name of a thread whose header has these words.
-fn name_in(alloc: Global, words: &[Vec<u8>]) -> Result<Vec<u8>, AllocError>
-    ensures { IfOk result (λ v. v.items ≡ spec.name_in (texts_of words.now)) }
-{
-    match words.get(1) {
-        Some(name) => Vec::from_slice(alloc, name),
-        None => Ok(Vec::new(alloc)),
-    }
-}
-
-// A thread whose header has these words and stands on this line.
-fn headed(alloc: Global, words: &[Vec<u8>], line: u32) -> Result<Draft, AllocError>
-    ensures { IfOk result (λ d. draft_of d ≡ spec.headed (spec.name_in (texts_of words.now)) line (spec.held (texts_of words.now))) }
-{
-    let name = name_in(alloc, words)?;
-    let tokens = tokens_in(alloc, item_words(words))?;
-    let credits = credits_in(item_words(words));
-    Ok(Draft {
-        name,
-        line,
-        items: Items { tokens, credits },
-        ..Draft::new(alloc)
-    })
-}
-
-// The first of these numbers that isn't below n, and 1024 where all are.
-fn first_from(n: u32, powers: &[u32]) -> u32
-    ensures { result ≡ spec.first_from n powers.now }
-{
-    for power in powers {
-        if n <= *power {
-            return *power;
-        }
-    }
-    1024
-}
-
-// The number of entries that a ring has for which this number is asked (io_uring_setup(2)).
-fn rounded_up(n: u32) -> u32
-    ensures { result ≡ spec.rounded_up n }
-{
-    first_from(n, &[1, 2, 4, 8, 16, 32, 64, 128, 256, 512])
-}
-
-// Declares a token.
-fn put_token(tokens: &mut IndexMap<u64, Kind>, n: Option<u64>) -> Result<(), AllocError>
-    requires { is_declared (tokens_of tokens.old.entries) n ≡ false }
-    ensures { OnOk result (tokens_of tokens.new.entries ≡ spec.with_token (tokens_of tokens.old.entries) n) }
-{
-    match n {
-        Some(u) => {
-            tokens.insert(u, Kind::Nop)?;
-            Ok(())
-        }
-        None => Ok(()),
-    }
-}
-
-// What a call says, with the number of its variable.
-fn stmt_of_call(call: Call, variable: usize) -> Stmt
-    ensures { result ≡ spec.stmt_of_call call variable }
-{
-    match call {
-        Call::GetSqe => Stmt::Do(Op::GetSqe),
-        Call::PrepNop => Stmt::Do(Op::PrepNop),
-        Call::SetData64(n) => Stmt::Do(Op::SetData64(n.unwrap_or(0))),
-        Call::Submit => Stmt::Do(Op::Submit(variable)),
-        Call::CqeSeen => Stmt::Do(Op::CqeSeen),
-    }
-}
-
-fn stmt_of_opening(opening: Opening, variable: usize) -> Stmt
-    ensures { result ≡ spec.stmt_of_opening opening variable }
-{
-    match opening {
-        Opening::Lock => Stmt::Lock,
-        Opening::Peek => Stmt::Peek(variable),
-    }
-}
-
-// An arm of the peek at this place.
-fn stmt_of_arm(arm: Arm, peek: usize) -> Stmt
-    ensures { result ≡ spec.stmt_of_arm arm peek }
-{
-    match arm {
-        Arm::Case(n) => Stmt::Case(peek, n.unwrap_or(0)),
-        Arm::Other => Stmt::Other(peek),
-        Arm::Nothing => Stmt::Nothing(peek),
     }
 }
 
@@ -275,134 +190,234 @@ fn place_of(block: Option<Block>) -> usize
     ensures { result ≡ spec.place_of block }
 {
     match block {
-        Some(Block::InLock(place)) => place,
-        Some(Block::InPeek(place)) => place,
-        Some(Block::InArm(place)) => place,
+        Some(Block::InLock(place) | Block::InIf(place) | Block::InElse(place)) => place,
+        Some(Block::InPeek(place) | Block::InArm(place)) => place,
+        Some(Block::InLoop(place, _)) => place,
         None => 0,
     }
 }
 
 // The closing brace of a block.
-fn stmt_of_brace(block: Block) -> Stmt
-    ensures { result ≡ spec.stmt_of_brace block }
+fn closing(block: Block) -> Stmt
+    ensures { result ≡ spec.closing block }
 {
     match block {
         Block::InLock(place) => Stmt::EndLock(place),
+        Block::InIf(place) | Block::InElse(place) => Stmt::EndIf(place),
         Block::InPeek(place) => Stmt::EndPeek(place),
         Block::InArm(place) => Stmt::EndArm(place),
+        Block::InLoop(place, number) => Stmt::EndLoop(place, number),
     }
 }
 
-/// The innermost open block.
-pub fn innermost_of(blocks: &[Block]) -> Option<Block>
-    ensures { result ≡ innermost blocks.now }
+fn closing_of(block: Option<Block>) -> Stmt
+    ensures { result ≡ spec.closing_of block }
 {
-    blocks.last().copied()
+    match block {
+        Some(block) => closing(block),
+        None => Stmt::Lock,
+    }
+}
+
+// A break out of the innermost of these blocks' loops.
+fn break_out(blocks: &[Block]) -> Stmt
+    ensures { let way = nesting.way_out blocks.now in result ≡ Stmt.Break (unwrap_or way.loop 0) way.releases way.leaves }
+{
+    let way = way_out(blocks);
+    Stmt::Break(way.place.unwrap_or(0), way.releases, way.leaves)
+}
+
+impl Draft {
+    // The statement of a line of the thread.
+    fn stmt_in(&self, says: Says) -> Stmt
+        ensures { result ≡ spec.stmt_in (view_draft self.now) says }
+    {
+        let block = innermost(&self.blocks);
+        match says {
+            Says::Op(op) => Stmt::Do(op),
+            Says::Lock => Stmt::Lock,
+            Says::If(test) => Stmt::If(test),
+            Says::Else => Stmt::Else(place_of(block)),
+            Says::Peek(variable) => Stmt::Peek(variable),
+            Says::Case(user_data) => Stmt::Case(place_of(block), user_data),
+            Says::Other => Stmt::Other(place_of(block)),
+            Says::Nothing => Stmt::Nothing(place_of(block)),
+            Says::Loop => Stmt::Loop(self.loops.len()),
+            Says::Break => break_out(&self.blocks),
+            Says::Version | Says::Ring(_) | Says::File(_) => closing_of(block),
+            Says::Buffer(_, _) | Says::Token(_) | Says::Thread => closing_of(block),
+            Says::Close => closing_of(block),
+        }
+    }
+
+    // Adds a line with this number.
+    fn put(
+        &mut self,
+        alloc: Global,
+        number: u32,
+        items: &[Item],
+        stmt: Stmt,
+    ) -> Result<(), AllocError>
+        ensures { OnOk result (view_draft self.new ≡ spec.with_stmt (view_draft self.old) number items.now stmt) }
+    {
+        let place = self.lines.len();
+        put_loop(alloc, &mut self.loops, items, stmt)?;
+        put_block(&mut self.blocks, place, stmt)?;
+        put_end(&mut self.ends, place, stmt)?;
+        self.arms.put(stmt)?;
+        self.lines.push(Line { number, stmt })?;
+        Ok(())
+    }
+
+    // The thread that is complete.
+    fn into_thread(self) -> Thread
+        ensures { view_thread result ≡ spec.whole_thread (view_draft self) }
+    {
+        Thread {
+            name: self.name,
+            line: self.line,
+            items: self.items,
+            loops: self.loops,
+            lines: self.lines,
+            ends: self.ends,
+            variables: self.names.len(),
+        }
+    }
+}
+
+// The name that a line declares.
+fn second_of<'a>(words: &[&'a [u8]]) -> &'a [u8]
+    ensures { result.now ≡ spec.second_of (texts_of words.now) }
+{
+    match words.get(1) {
+        Some(word) => word,
+        None => &[],
+    }
+}
+
+// A thread whose header has these words and items and stands on this line.
+fn open_thread(
+    alloc: Global,
+    words: &[&[u8]],
+    items: &[Item],
+    line: u32,
+) -> Result<Draft, AllocError>
+    ensures { IfOk result (λ d. view_draft d ≡ headed (spec.second_of (texts_of words.now)) line (spec.held items.now)) }
+{
+    Ok(Draft {
+        name: Vec::from_slice(alloc, second_of(words))?,
+        line,
+        items: held(alloc, items)?,
+        ..Draft::new(alloc)
+    })
 }
 
 impl Parts {
     // Adds a line of the open thread.
-    fn say_call(&mut self, alloc: Global, words: &[Vec<u8>], call: Call) -> Result<(), AllocError>
+    fn say(&mut self, alloc: Global, items: &[Item], says: Says) -> Result<(), AllocError>
         requires { self.old.count < 4096 }
-        ensures ok { OnOk result (sheet_of self.new ≡ spec.added (sheet_of self.old) (texts_of words.now) (Form.Calls call)) }
+        ensures ok { OnOk result (view_sheet self.new ≡ spec.said (view_sheet self.old) items.now says) }
         ensures count { self.new.count ≡ self.old.count }
     {
-        let word = variable_in(words, Form::Calls(call));
-        let variable = self.draft.variable(alloc, word)?;
-        self.draft
-            .put(alloc, self.count + 1, stmt_of_call(call, variable))?;
-        Ok(())
-    }
-
-    fn say_opening(
-        &mut self,
-        alloc: Global,
-        words: &[Vec<u8>],
-        opening: Opening,
-    ) -> Result<(), AllocError>
-        requires { self.old.count < 4096 }
-        ensures ok { OnOk result (sheet_of self.new ≡ spec.added (sheet_of self.old) (texts_of words.now) (Form.Opens opening)) }
-        ensures count { self.new.count ≡ self.old.count }
-    {
-        let word = variable_in(words, Form::Opens(opening));
-        let variable = self.draft.variable(alloc, word)?;
-        self.draft
-            .put(alloc, self.count + 1, stmt_of_opening(opening, variable))?;
-        Ok(())
+        let stmt = self.draft.stmt_in(says);
+        self.draft.put(alloc, self.count + 1, items, stmt)
     }
 
     // Closes the innermost block, and without one the thread.
     fn close(&mut self, alloc: Global) -> Result<(), AllocError>
         requires { self.old.count < 4096 }
-        ensures ok { OnOk result (sheet_of self.new ≡ spec.closed (sheet_of self.old) (spec.innermost_of (sheet_of self.old))) }
+        ensures ok { OnOk result (view_sheet self.new ≡ spec.closed (view_sheet self.old) (nesting.innermost self.old.draft.blocks.items)) }
         ensures count { self.new.count ≡ self.old.count }
     {
-        match innermost_of(&self.draft.blocks) {
-            Some(block) => {
-                self.draft.put(alloc, self.count + 1, stmt_of_brace(block))?;
-                Ok(())
-            }
+        match innermost(&self.draft.blocks) {
+            Some(_) => self.say(alloc, &[], Says::Close),
             None => {
                 let draft = mem::replace(&mut self.draft, Draft::new(alloc));
                 self.threads.push(draft.into_thread())?;
-                self.place = Place::Behind;
+                self.region = Region::Between;
                 Ok(())
             }
         }
     }
 
-    fn put(&mut self, alloc: Global, words: &[Vec<u8>], form: Form) -> Result<(), AllocError>
-        requires few { self.old.count < 4096 }
-        requires new { double_name (sheet_of self.old).tokens (texts_of words.now) (Some form) ≡ false }
-        ensures ok { OnOk result (sheet_of self.new ≡ spec.added (sheet_of self.old) (texts_of words.now) form) }
+    // Declares a buffer.
+    fn put_buffer(
+        &mut self,
+        alloc: Global,
+        words: &[&[u8]],
+        bytes: u32,
+        shares: u32,
+    ) -> Result<(), AllocError>
+        ensures ok { OnOk result (view_sheet self.new ≡ spec.added (view_sheet self.old) (texts_of words.now) [] (Says.Buffer bytes shares)) }
         ensures count { self.new.count ≡ self.old.count }
     {
-        match form {
-            Form::Version => {
-                self.place = Place::Second;
+        let name = Vec::from_slice(alloc, second_of(words))?;
+        self.buffers.push(Buffer {
+            name,
+            bytes,
+            shares,
+        })?;
+        Ok(())
+    }
+
+    fn put(
+        &mut self,
+        alloc: Global,
+        words: &[&[u8]],
+        items: &[Item],
+        says: Says,
+    ) -> Result<(), AllocError>
+        requires { self.old.count < 4096 }
+        ensures ok { OnOk result (view_sheet self.new ≡ spec.added (view_sheet self.old) (texts_of words.now) items.now says) }
+        ensures count { self.new.count ≡ self.old.count }
+    {
+        match says {
+            Says::Version => {
+                self.region = Region::Second;
                 Ok(())
             }
-            Form::Ring(n) => {
-                self.place = Place::Declarations;
-                self.entries = rounded_up(n.unwrap_or(1));
+            Says::Ring(head) => {
+                self.region = Region::Declarations;
+                self.head = head;
                 Ok(())
             }
-            Form::Token(n) => {
-                put_token(&mut self.tokens, n)?;
+            Says::File(file) => Ok(self.files.push(file)?),
+            Says::Buffer(bytes, shares) => self.put_buffer(alloc, words, bytes, shares),
+            Says::Token(token) => Ok(self.tokens.push(token)?),
+            Says::Thread => {
+                self.draft = open_thread(alloc, words, items, self.count + 1)?;
+                self.region = Region::InThread;
                 Ok(())
             }
-            Form::Thread => {
-                self.draft = headed(alloc, words, self.count + 1)?;
-                self.place = Place::InThread;
-                Ok(())
-            }
-            Form::Calls(call) => self.say_call(alloc, words, call),
-            Form::Opens(opening) => self.say_opening(alloc, words, opening),
-            Form::Begins(arm) => {
-                let peek = place_of(innermost_of(&self.draft.blocks));
-                self.draft
-                    .put(alloc, self.count + 1, stmt_of_arm(arm, peek))?;
-                Ok(())
-            }
-            Form::Closes => self.close(alloc),
+            Says::Close => self.close(alloc),
+            Says::Op(_) | Says::Lock | Says::If(_) | Says::Else => self.say(alloc, items, says),
+            Says::Peek(_) | Says::Case(_) | Says::Other => self.say(alloc, items, says),
+            Says::Nothing | Says::Loop | Says::Break => self.say(alloc, items, says),
         }
     }
 
-    /// Adds a line with these words, of which no sentence is true.
+    /// Adds a line with these words and items that says this, of which no sentence is true. The variables of the line
+    /// have their numbers already. Without memory the parts may hold a part of the line.
     pub fn add(
         &mut self,
         alloc: Global,
-        words: &[Vec<u8>],
-        form: Option<Form>,
+        words: &[&[u8]],
+        items: &[Item],
+        says: Says,
     ) -> Result<(), AllocError>
-        requires few { self.old.count < 4096 }
-        requires new { double_name (sheet_of self.old).tokens (texts_of words.now) form ≡ false }
-        ensures { OnOk result (sheet_of self.new ≡ spec.counted (spec.with_form (sheet_of self.old) (texts_of words.now) form)) }
+        requires { self.old.count < 4096 }
+        ensures { OnOk result (view_sheet self.new ≡ spec.counted (spec.added (view_sheet self.old) (texts_of words.now) items.now says)) }
     {
-        if let Some(form) = form {
-            self.put(alloc, words, form)?;
-        }
-        self.count += 1;
+        self.put(alloc, words, items, says)?;
+        self.count_line();
         Ok(())
+    }
+
+    /// Counts a line without words.
+    pub fn count_line(&mut self)
+        requires { self.old.count < 4096 }
+        ensures { view_sheet self.new ≡ spec.counted (view_sheet self.old) }
+    {
+        self.count += 1;
     }
 }

@@ -1,43 +1,37 @@
 //! Why a text can't be read.
 
-ghost use Rattle.std.specs.Prelude.{◌≡◌};
-ghost use Rattle.rc_read.specs.Causes.{number_of_cause, name_of_cause};
+ghost use Rattle.std.specs.Prelude.{◌≡◌, Some};
+ghost use Rattle.rc_read.specs.Causes.{number_of_cause, name_of_cause, text_of_cause};
 
 use std::alloc::{AllocError, AllocFailed};
-use thiserror::Error;
+use std::error::Error;
+use std::fmt;
 
 /// Why a line can't be read, in the order of the numbers that are printed.
-#[derive(Clone, Copy, PartialEq, Eq, Debug, Error)]
+#[derive(Clone, Copy, PartialEq, Eq, Debug)]
 pub enum ReadCause {
     /// Among the line's first 256 bytes is one above 126, or below 32 other than tab and carriage return.
-    #[error("P1 NotAscii")]
     NotAscii,
     /// The text doesn't begin with `ringcheck 1` and a line that begins with `ring`.
-    #[error("P2 BadHead")]
     BadHead,
-    /// The words are no form that may stand there.
-    #[error("P3 BadLine")]
+    /// The words are no form, or one that may not stand in this part of the text.
     BadLine,
     /// A word in a number's place is no number or is out of its range.
-    #[error("P4 BadNumber")]
     BadNumber,
-    /// A token number that isn't declared above.
-    #[error("P5 UnknownName")]
+    /// A file, a buffer or a token that isn't declared above.
     UnknownName,
-    /// A token declared twice, or an item named twice.
-    #[error("P6 DoubleName")]
+    /// A file, a buffer, a token or a thread declared twice, or an item named twice.
     DoubleName,
-    /// A closing brace without an open block, or a block that is open at the end of the text.
-    #[error("P7 Braces")]
+    /// A closing brace without an open block, an else that closes no first branch, a thread in a thread, or a block
+    /// that is open at the end of the text.
     Braces,
-    /// One line, byte, open block, token or variable too many.
-    #[error("P8 TooLarge")]
+    /// One line, byte, open block, thread, buffer, token, file or variable too many.
     TooLarge,
-    /// A lock in a lock or in a peek, or a peek in a peek.
-    #[error("P9 BadNesting")]
+    /// A lock in a lock or in a peek, a peek or a loop in a peek, a break outside a loop, or queued entries said
+    /// outside a lock.
     BadNesting,
-    /// An arm outside a peek, another statement directly in one, an arm twice, or an arm that is missing.
-    #[error("P10 BadCase")]
+    /// An arm that doesn't stand directly in a peek, another statement that does, an arm twice, or an arm that is
+    /// missing.
     BadCase,
 }
 
@@ -79,8 +73,21 @@ impl ReadCause {
     }
 }
 
+/// Writes the number and the name.
+impl fmt::Display for ReadCause {
+    ghost output = { λ cause. Some (text_of_cause cause) };
+
+    fn fmt<W: fmt::Write>(&self, f: &mut fmt::Formatter<W>) -> fmt::Result {
+        let number = self.number();
+        let name = self.name();
+        write!(f, "P{number} {name}")
+    }
+}
+
+impl Error for ReadCause {}
+
 /// Why a text isn't read.
-#[derive(Clone, Copy, PartialEq, Eq, Debug, Error)]
+#[derive(Clone, Copy, PartialEq, Eq, Debug, thiserror::Error)]
 pub enum ReadFault {
     /// The first line that can't be read, from 1, and the least cause there.
     #[error("unreadable line {line} {cause}")]
@@ -109,5 +116,34 @@ impl<T: Drop> From<AllocFailed<T>> for ReadFault {
 
     fn from(_e: AllocFailed<T>) -> ReadFault {
         ReadFault::OutOfMemory
+    }
+}
+
+#[cfg(test)]
+mod tests {
+    use super::*;
+    use std::test::Fail;
+
+    #[test]
+    fn faults_are_printed(rt: HostRuntime) -> Result<(), Fail> {
+        for (cause, text) in [
+            (ReadCause::NotAscii, "unreadable line 3 P1 NotAscii"),
+            (ReadCause::BadHead, "unreadable line 3 P2 BadHead"),
+            (ReadCause::BadLine, "unreadable line 3 P3 BadLine"),
+            (ReadCause::BadNumber, "unreadable line 3 P4 BadNumber"),
+            (ReadCause::UnknownName, "unreadable line 3 P5 UnknownName"),
+            (ReadCause::DoubleName, "unreadable line 3 P6 DoubleName"),
+            (ReadCause::Braces, "unreadable line 3 P7 Braces"),
+            (ReadCause::TooLarge, "unreadable line 3 P8 TooLarge"),
+            (ReadCause::BadNesting, "unreadable line 3 P9 BadNesting"),
+            (ReadCause::BadCase, "unreadable line 3 P10 BadCase"),
+        ] {
+            let fault = ReadFault::Text { line: 3, cause };
+            let message = format!(in rt.alloc(); "{fault}")?;
+            assert_eq!(rt; message.as_str(), text);
+        }
+        let message = format!(in rt.alloc(); "{}", ReadFault::OutOfMemory)?;
+        assert_eq!(rt; message.as_str(), "out of memory");
+        Ok(())
     }
 }

@@ -1,427 +1,279 @@
-//! The fault sentences about a line.
+//! The fault sentences about a line, and what becomes of the parts at it.
 
-ghost use Rattle.std.specs.Prelude.{◌≡◌, [], length, map, take, nat_le, option_map};
-ghost use Rattle.rc_lang.specs.Nesting.{in_lock, in_peek, directly_in_peek};
+ghost use Rattle.std.specs.Prelude.{◌≡◌, option_map};
 ghost use Rattle.rc_read.specs.Causes.{number_of_cause};
-ghost use Rattle.rc_read.specs.Forms.{item_of as item_in};
-ghost use Rattle.rc_read.specs.Names.{is_among};
+ghost use Rattle.rc_read.specs.Judging.{JudgesNamed, JudgesRow, JudgesWords, later_sentences};
 ghost use Rattle.rc_read.specs.Sentences as spec;
-ghost use Rattle.rc_read.specs.Sheets.{declares};
-ghost use Rattle.rc_read.specs.Texts.{text_if_any, texts_of, tokens_of};
-ghost use Rattle.rc_read.specs.View.{arms_of, draft_of, sheet_of};
+ghost use Rattle.rc_read.specs.Spots.{row_of as row_in, spots_of};
+ghost use Rattle.rc_read.specs.Stream.{Judges};
+ghost use Rattle.rc_read.specs.Table.{parts_of};
+ghost use Rattle.rc_read.specs.Texts.{texts_of, view_spots};
+ghost use Rattle.rc_read.specs.View.{view_sheet};
 ghost use Rattle.rc_read.specs.Words.{words_of};
 
-use crate::add::innermost_of;
-use crate::fault::ReadCause;
-use crate::form::{Arm, Call, Form, Item, Opening, form_of, item_of, item_words, variable_in};
-use crate::parts::{Arms, Draft, Parts, Place};
-use crate::words::is;
-use indexmap::{IndexMap, IndexSet};
-use rc_lang::lines::Block;
-use rc_lang::request::Kind;
+use crate::blocks::{
+    any_twice, bad_brace, bad_case, bad_nesting, is_too_deep, is_too_long, may_stand,
+};
+use crate::fault::{ReadCause, ReadFault};
+use crate::names::{add_names, has_buffer, has_file, has_thread, has_token};
+use crate::parts::{Parts, Region};
+use crate::says::{Says, says_of};
+use crate::spots::{Spot, put_spots};
+use crate::table::{Part, Row, Stand, stand_of};
+use crate::values::{Item, Value, file_number_of, put_items, put_values, user_data_of};
+use crate::words::{begins_strange, is, put_words};
+use std::alloc::{AllocError, Global};
 
-fn any_strange(bytes: &[u8]) -> bool
-    ensures { result ≡ spec.any_strange bytes.now }
-{
-    for b in bytes {
-        if *b > 126 || (*b < 32 && *b != 9 && *b != 13) {
-            return true;
+/// What stands in the places of a line.
+#[derive(Drop)]
+pub struct Found<'a> {
+    spots: Vec<Spot<'a>>,
+    values: Vec<Value>,
+    items: Vec<Item>,
+}
+
+/// Memory that each line of a piece uses again.
+#[derive(Drop)]
+pub struct Scratch<'a> {
+    words: Vec<&'a [u8]>,
+    found: Found<'a>,
+}
+
+impl<'a> Scratch<'a> {
+    /// No line's.
+    pub fn new(alloc: Global) -> Scratch<'a> {
+        Scratch {
+            words: Vec::new(alloc),
+            found: Found {
+                spots: Vec::new(alloc),
+                values: Vec::new(alloc),
+                items: Vec::new(alloc),
+            },
         }
     }
-    false
 }
 
-fn strange_front(line: &[u8]) -> bool
-    ensures { result ≡ spec.any_strange (take 256 line.now) }
+fn is_version(row: Option<Row>) -> bool
+    ensures { result ≡ spec.is_version row }
 {
-    if line.len() > 256 {
-        any_strange(&line[..256])
-    } else {
-        any_strange(line)
-    }
-}
-
-fn bad_head(place: Place, first: &[u8], form: Option<Form>) -> bool
-    ensures { result ≡ spec.bad_head place first.now form }
-{
-    match place {
-        Place::Start => !is_version(form),
-        Place::Second => !is(first, b"ring"),
-        Place::Declarations | Place::InThread | Place::Behind => false,
-    }
-}
-
-fn is_version(form: Option<Form>) -> bool
-    ensures { result ≡ spec.is_version form }
-{
-    match form {
-        Some(Form::Version) => true,
-        Some(Form::Ring(_) | Form::Token(_) | Form::Thread) => false,
-        Some(Form::Calls(_) | Form::Opens(_) | Form::Begins(_) | Form::Closes) => false,
+    match row {
         None => false,
-    }
-}
-
-fn bad_line(place: Place, form: Option<Form>) -> bool
-    ensures { result ≡ spec.bad_line place form }
-{
-    match form {
-        None => true,
-        Some(Form::Version) => place != Place::Start,
-        Some(Form::Ring(_)) => place != Place::Second,
-        Some(Form::Token(_) | Form::Thread) => place != Place::Declarations,
-        Some(Form::Calls(_) | Form::Opens(_) | Form::Begins(_)) => place != Place::InThread,
-        Some(Form::Closes) => false,
-    }
-}
-
-fn item_lacks_number(item: Option<Item>) -> bool
-    ensures { result ≡ spec.item_lacks_number item }
-{
-    match item {
-        None => false,
-        Some(Item::HeldToken(n)) => n.is_none(),
-        Some(Item::Credits(n)) => n.is_none(),
-    }
-}
-
-fn any_lacks_number(words: &[Vec<u8>]) -> bool
-    ensures { result ≡ spec.any_lacks_number (map item_in (texts_of words.now)) }
-{
-    for word in words {
-        if item_lacks_number(item_of(word)) {
-            return true;
-        }
-    }
-    false
-}
-
-fn bad_number(words: &[Vec<u8>], form: Option<Form>) -> bool
-    ensures { result ≡ spec.bad_number (texts_of words.now) form }
-{
-    match form {
-        Some(Form::Ring(n)) => n.is_none(),
-        Some(Form::Token(n)) => n.is_none(),
-        Some(Form::Thread) => any_lacks_number(item_words(words)),
-        Some(Form::Calls(Call::SetData64(n))) => n.is_none(),
-        Some(Form::Begins(Arm::Case(n))) => n.is_none(),
-        Some(Form::Calls(Call::GetSqe | Call::PrepNop | Call::Submit | Call::CqeSeen)) => false,
-        Some(Form::Begins(Arm::Other | Arm::Nothing)) => false,
-        Some(Form::Version | Form::Opens(_) | Form::Closes) => false,
-        None => false,
-    }
-}
-
-fn declared(tokens: &IndexMap<u64, Kind>, u: u64) -> bool
-    ensures { result ≡ declares (tokens_of tokens.now.entries) u }
-{
-    tokens.contains_key(&u)
-}
-
-fn is_unknown(tokens: &IndexMap<u64, Kind>, n: Option<u64>) -> bool
-    ensures { result ≡ spec.is_unknown (tokens_of tokens.now.entries) n }
-{
-    match n {
-        None => false,
-        Some(u) => !declared(tokens, u),
-    }
-}
-
-fn item_is_unknown(tokens: &IndexMap<u64, Kind>, item: Option<Item>) -> bool
-    ensures { result ≡ spec.item_is_unknown (tokens_of tokens.now.entries) item }
-{
-    match item {
-        None => false,
-        Some(Item::HeldToken(n)) => is_unknown(tokens, n),
-        Some(Item::Credits(_)) => false,
-    }
-}
-
-fn any_is_unknown(tokens: &IndexMap<u64, Kind>, words: &[Vec<u8>]) -> bool
-    ensures { result ≡ spec.any_is_unknown (tokens_of tokens.now.entries) (map item_in (texts_of words.now)) }
-{
-    for word in words {
-        if item_is_unknown(tokens, item_of(word)) {
-            return true;
-        }
-    }
-    false
-}
-
-fn unknown_name(tokens: &IndexMap<u64, Kind>, words: &[Vec<u8>], form: Option<Form>) -> bool
-    ensures { result ≡ spec.unknown_name (tokens_of tokens.now.entries) (texts_of words.now) form }
-{
-    match form {
-        Some(Form::Thread) => any_is_unknown(tokens, item_words(words)),
-        Some(Form::Calls(Call::SetData64(n))) => is_unknown(tokens, n),
-        Some(Form::Begins(Arm::Case(n))) => is_unknown(tokens, n),
-        Some(Form::Calls(Call::GetSqe | Call::PrepNop | Call::Submit | Call::CqeSeen)) => false,
-        Some(Form::Begins(Arm::Other | Arm::Nothing)) => false,
-        Some(Form::Version | Form::Ring(_) | Form::Token(_)) => false,
-        Some(Form::Opens(_) | Form::Closes) => false,
-        None => false,
-    }
-}
-
-fn is_same_number(m: Option<u64>, n: Option<u64>) -> bool
-    ensures { result ≡ spec.is_same_number m n }
-{
-    match m {
-        None => false,
-        Some(m) => match n {
-            None => false,
-            Some(n) => m == n,
+        Some(row) => match stand_of(row) {
+            Stand::First => true,
+            _ => false,
         },
     }
 }
 
-fn is_same_item(i: Option<Item>, j: Option<Item>) -> bool
-    ensures { result ≡ spec.is_same_item i j }
+fn first_of<'a>(words: &[&'a [u8]]) -> &'a [u8]
+    ensures { result.now ≡ spec.first_of (texts_of words.now) }
 {
-    match i {
-        None => false,
-        Some(Item::HeldToken(m)) => match j {
-            None => false,
-            Some(Item::HeldToken(n)) => is_same_number(m, n),
-            Some(Item::Credits(_)) => false,
-        },
-        Some(Item::Credits(_)) => match j {
-            None => false,
-            Some(Item::HeldToken(_)) => false,
-            Some(Item::Credits(_)) => true,
-        },
+    match words {
+        [] => &[],
+        [word, ..] => word,
     }
 }
 
-fn names_item(item: Option<Item>, words: &[Vec<u8>]) -> bool
-    ensures { result ≡ spec.names_item item (map item_in (texts_of words.now)) }
+fn bad_head(region: Region, words: &[&[u8]], row: Option<Row>) -> bool
+    requires { row ≡ row_in (texts_of words.now) }
+    ensures { result ≡ spec.bad_head region (texts_of words.now) }
 {
-    for word in words {
-        if is_same_item(item, item_of(word)) {
+    match region {
+        Region::Start => !is_version(row),
+        Region::Second => !is(first_of(words), b"ring"),
+        Region::Declarations | Region::InThread | Region::Between => false,
+    }
+}
+
+fn repeats_file(parts: &Parts, number: Option<u32>) -> bool
+    ensures { result ≡ spec.repeats_file (view_sheet parts.now) number }
+{
+    match number {
+        None => false,
+        Some(n) => has_file(&parts.files, n),
+    }
+}
+
+fn repeats_token(parts: &Parts, user_data: Option<u64>) -> bool
+    ensures { result ≡ spec.repeats_token (view_sheet parts.now) user_data }
+{
+    match user_data {
+        None => false,
+        Some(u) => has_token(&parts.tokens, u),
+    }
+}
+
+fn is_double(parts: &Parts, part: Part, word: &[u8]) -> bool
+    ensures { result ≡ spec.is_double (view_sheet parts.now) part word.now }
+{
+    match part {
+        Part::NewFile => repeats_file(parts, file_number_of(word)),
+        Part::NewBuffer => has_buffer(&parts.buffers, word),
+        Part::NewToken => repeats_token(parts, user_data_of(word)),
+        Part::NewThread => has_thread(&parts.threads, word) || is(&parts.draft.name, word),
+        _ => false,
+    }
+}
+
+fn any_double(parts: &Parts, spots: &[Spot]) -> bool
+    ensures { result ≡ spec.any_double (view_sheet parts.now) (view_spots spots.now) }
+{
+    for spot in spots {
+        if is_double(parts, spot.part, spot.word) {
             return true;
         }
     }
     false
 }
 
-fn any_is_twice(words: &[Vec<u8>]) -> bool
-    ensures { result ≡ spec.any_is_twice [] (map item_in (texts_of words.now)) }
+fn is_full(parts: &Parts, part: Part) -> bool
+    ensures { result ≡ spec.is_full (view_sheet parts.now) part }
 {
-    for (i, word) in words.iter().enumerate() {
-        if names_item(item_of(word), &words[..i]) {
+    match part {
+        Part::NewFile => parts.files.len() >= 16,
+        Part::NewBuffer => parts.buffers.len() >= 64,
+        Part::NewToken => parts.tokens.len() >= 256,
+        Part::NewThread => parts.threads.len() >= 16,
+        _ => false,
+    }
+}
+
+fn any_full(parts: &Parts, spots: &[Spot]) -> bool
+    ensures { result ≡ spec.any_full (view_sheet parts.now) (view_spots spots.now) }
+{
+    for spot in spots {
+        if is_full(parts, spot.part) {
             return true;
         }
     }
     false
 }
 
-fn is_declared(tokens: &IndexMap<u64, Kind>, n: Option<u64>) -> bool
-    ensures { result ≡ spec.is_declared (tokens_of tokens.now.entries) n }
-{
-    match n {
-        None => false,
-        Some(u) => declared(tokens, u),
-    }
-}
-
-fn double_name(tokens: &IndexMap<u64, Kind>, words: &[Vec<u8>], form: Option<Form>) -> bool
-    ensures { result ≡ spec.double_name (tokens_of tokens.now.entries) (texts_of words.now) form }
-{
-    match form {
-        Some(Form::Token(n)) => is_declared(tokens, n),
-        Some(Form::Thread) => any_is_twice(item_words(words)),
-        Some(Form::Version | Form::Ring(_) | Form::Calls(_)) => false,
-        Some(Form::Opens(_) | Form::Begins(_) | Form::Closes) => false,
-        None => false,
-    }
-}
-
-fn bad_braces(place: Place, form: Option<Form>) -> bool
-    ensures { result ≡ spec.bad_braces place form }
-{
-    match form {
-        Some(Form::Closes) => place != Place::InThread,
-        Some(Form::Version | Form::Ring(_) | Form::Token(_) | Form::Thread) => false,
-        Some(Form::Calls(_) | Form::Opens(_) | Form::Begins(_)) => false,
-        None => false,
-    }
-}
-
-fn is_full(names: &IndexSet<Vec<u8>>) -> bool
-    ensures { result ≡ nat_le 64 (length (texts_of names.now.keys)) }
-{
-    names.len() >= 64
-}
-
-fn is_among(names: &IndexSet<Vec<u8>>, word: &Vec<u8>) -> bool
-    ensures { result ≡ is_among (texts_of names.now.keys) word.now.items }
-{
-    names.contains(word)
-}
-
-fn is_variable_too_many(names: &IndexSet<Vec<u8>>, word: Option<&Vec<u8>>) -> bool
-    ensures { result ≡ spec.is_variable_too_many (texts_of names.now.keys) (text_if_any word.entry) }
-{
-    match word {
-        None => false,
-        Some(word) => is_full(names) && !is_among(names, word),
-    }
-}
-
-fn too_many(parts: &Parts, words: &[Vec<u8>], form: Option<Form>) -> bool
-    ensures { result ≡ spec.too_many (sheet_of parts.now) (texts_of words.now) form }
-{
-    let draft = &parts.draft;
-    match form {
-        Some(Form::Token(_)) => parts.tokens.len() >= 256,
-        Some(Form::Calls(c)) => {
-            is_variable_too_many(&draft.names, variable_in(words, Form::Calls(c)))
-        }
-        Some(Form::Opens(o)) => {
-            draft.blocks.len() >= 31
-                || is_variable_too_many(&draft.names, variable_in(words, Form::Opens(o)))
-        }
-        Some(Form::Begins(_)) => draft.blocks.len() >= 31,
-        Some(Form::Version | Form::Ring(_) | Form::Thread | Form::Closes) => false,
-        None => false,
-    }
-}
-
-fn too_large(parts: &Parts, line: &[u8], words: &[Vec<u8>], form: Option<Form>) -> bool
-    ensures { result ≡ spec.too_large (sheet_of parts.now) line.now (texts_of words.now) form }
-{
-    parts.count >= 4096 || line.len() > 256 || too_many(parts, words, form)
-}
-
-fn in_lock(blocks: &[Block]) -> bool
-    ensures { result ≡ in_lock blocks.now }
-{
-    for block in blocks {
-        if let Block::InLock(_) = block {
-            return true;
-        }
-    }
-    false
-}
-
-fn in_peek(blocks: &[Block]) -> bool
-    ensures { result ≡ in_peek blocks.now }
-{
-    for block in blocks {
-        if let Block::InPeek(_) = block {
-            return true;
-        }
-    }
-    false
-}
-
-fn directly_in_peek(blocks: &[Block]) -> bool
-    ensures { result ≡ directly_in_peek blocks.now }
-{
-    match innermost_of(blocks) {
-        None => false,
-        Some(Block::InLock(_)) => false,
-        Some(Block::InPeek(_)) => true,
-        Some(Block::InArm(_)) => false,
-    }
-}
-
-fn bad_nesting(blocks: &[Block], form: Option<Form>) -> bool
-    ensures { result ≡ spec.bad_nesting blocks.now form }
-{
-    match form {
-        Some(Form::Opens(Opening::Lock)) => in_lock(blocks) || in_peek(blocks),
-        Some(Form::Opens(Opening::Peek)) => in_peek(blocks),
-        Some(Form::Version | Form::Ring(_) | Form::Token(_) | Form::Thread) => false,
-        Some(Form::Calls(_) | Form::Begins(_) | Form::Closes) => false,
-        None => false,
-    }
-}
-
-fn contains(number: u64, numbers: &[u64]) -> bool
-    ensures { result ≡ spec.contains number numbers.now }
-{
-    for n in numbers {
-        if number == *n {
-            return true;
-        }
-    }
-    false
-}
-
-fn is_seen(arms: &Arms, arm: Arm) -> bool
-    ensures { result ≡ spec.is_seen (arms_of arms.now) arm }
-{
-    match arm {
-        Arm::Case(Some(n)) => contains(n, &arms.cases),
-        Arm::Case(None) => false,
-        Arm::Other => arms.other,
-        Arm::Nothing => arms.none,
-    }
-}
-
-fn bad_case(draft: &Draft, form: Option<Form>) -> bool
-    ensures { result ≡ spec.bad_case (draft_of draft.now) form }
-{
-    match form {
-        Some(Form::Calls(_) | Form::Opens(_)) => directly_in_peek(&draft.blocks),
-        Some(Form::Begins(arm)) => !directly_in_peek(&draft.blocks) || is_seen(&draft.arms, arm),
-        Some(Form::Closes) => {
-            directly_in_peek(&draft.blocks) && !(draft.arms.other && draft.arms.none)
-        }
-        Some(Form::Version | Form::Ring(_) | Form::Token(_) | Form::Thread) => false,
-        None => false,
-    }
-}
-
-fn cause_of_form(
+// The cause of the first sentence from the fifth on that is true of a line, where the parts have its variables.
+fn later_cause(
     parts: &Parts,
     line: &[u8],
-    first: &[u8],
-    words: &[Vec<u8>],
-    form: Option<Form>,
+    spots: &[Spot],
+    items: &[Item],
+    says: Says,
+    unknown: bool,
 ) -> Option<ReadCause>
-    ensures { option_map number_of_cause result ≡ spec.first_true (spec.form_sentences (sheet_of parts.now) line.now first.now (texts_of words.now) form) }
+    requires { unknown ≡ spec.any_unknown (view_sheet parts.now) (view_spots spots.now) }
+    ensures { option_map number_of_cause result ≡ spec.first_true (later_sentences (view_sheet parts.now) line.now (view_spots spots.now) items.now says) }
 {
-    if bad_head(parts.place, first, form) {
-        Some(ReadCause::BadHead)
-    } else if bad_line(parts.place, form) {
-        Some(ReadCause::BadLine)
-    } else if bad_number(words, form) {
-        Some(ReadCause::BadNumber)
-    } else if unknown_name(&parts.tokens, words, form) {
+    if unknown {
         Some(ReadCause::UnknownName)
-    } else if double_name(&parts.tokens, words, form) {
+    } else if any_double(parts, spots) || any_twice(items) {
         Some(ReadCause::DoubleName)
-    } else if bad_braces(parts.place, form) {
+    } else if bad_brace(parts, says) {
         Some(ReadCause::Braces)
-    } else if too_large(parts, line, words, form) {
+    } else if is_too_long(parts, line)
+        || is_too_deep(parts, says)
+        || any_full(parts, spots)
+        || parts.draft.names.len() > 64
+    {
         Some(ReadCause::TooLarge)
-    } else if bad_nesting(&parts.draft.blocks, form) {
+    } else if bad_nesting(&parts.draft, items, says) {
         Some(ReadCause::BadNesting)
-    } else if bad_case(&parts.draft, form) {
+    } else if bad_case(&parts.draft, says) {
         Some(ReadCause::BadCase)
     } else {
         None
     }
 }
 
-/// The cause of the first sentence that is true of a line with these words.
-pub fn cause_of(parts: &Parts, line: &[u8], words: &[Vec<u8>]) -> Option<ReadCause>
-    requires { texts_of words.now ≡ words_of line.now }
-    ensures { option_map number_of_cause result ≡ spec.first_true (spec.sentences (sheet_of parts.now) line.now) }
+// The cause of a line of this form, whose variables the parts have, or the line is added.
+fn judge_named(
+    alloc: Global,
+    parts: &mut Parts,
+    found: &mut Found,
+    line: &[u8],
+    words: &[&[u8]],
+    row: Row,
+) -> Result<Option<ReadCause>, AllocError>
+    ensures { JudgesNamed (view_sheet parts.old) line.now (texts_of words.now) row (view_spots found.old.spots.items) (view_sheet parts.new) result }
 {
-    if strange_front(line) {
-        return Some(ReadCause::NotAscii);
+    let Some(unknown) = put_values(&mut found.values, parts, &found.spots)? else {
+        return Ok(Some(ReadCause::BadNumber));
+    };
+    put_items(&mut found.items, &found.values)?;
+    let says = says_of(row, &found.values);
+    if let Some(cause) = later_cause(parts, line, &found.spots, &found.items, says, unknown) {
+        return Ok(Some(cause));
     }
-    match words {
-        [] => {
-            if too_large(parts, line, words, None) {
-                Some(ReadCause::TooLarge)
-            } else {
-                None
-            }
+    parts.add(alloc, words, &found.items, says)?;
+    Ok(None)
+}
+
+// The cause of a line of this form with these places, or the line is added.
+fn judge_row(
+    alloc: Global,
+    parts: &mut Parts,
+    found: &mut Found,
+    line: &[u8],
+    words: &[&[u8]],
+    row: Row,
+) -> Result<Option<ReadCause>, AllocError>
+    requires { view_spots found.old.spots.items ≡ spots_of (parts_of row) (texts_of words.now) }
+    ensures { JudgesRow (view_sheet parts.old) line.now (texts_of words.now) row (view_sheet parts.new) result }
+{
+    add_names(alloc, &mut parts.draft.names, &found.spots)?;
+    judge_named(alloc, parts, found, line, words, row)
+}
+
+// The cause of a line with these words, or the line is added.
+fn judge_words<'a>(
+    alloc: Global,
+    parts: &mut Parts,
+    found: &mut Found<'a>,
+    line: &[u8],
+    words: &[&'a [u8]],
+) -> Result<Option<ReadCause>, AllocError>
+    ensures { JudgesWords (view_sheet parts.old) line.now (texts_of words.now) (view_sheet parts.new) result }
+{
+    if words.is_empty() {
+        if is_too_long(parts, line) {
+            return Ok(Some(ReadCause::TooLarge));
         }
-        [first, ..] => cause_of_form(parts, line, first, words, form_of(words)),
+        parts.count_line();
+        return Ok(None);
+    }
+    let row = put_spots(&mut found.spots, words)?;
+    if bad_head(parts.region, words, row) {
+        return Ok(Some(ReadCause::BadHead));
+    }
+    let Some(row) = row else {
+        return Ok(Some(ReadCause::BadLine));
+    };
+    if !may_stand(stand_of(row), parts.region) {
+        return Ok(Some(ReadCause::BadLine));
+    }
+    judge_row(alloc, parts, found, line, words, row)
+}
+
+/// Judges a line, and adds it where no sentence is true of it.
+pub fn judge<'a>(
+    alloc: Global,
+    parts: &mut Parts,
+    scratch: &mut Scratch<'a>,
+    line: &'a [u8],
+) -> Result<(), ReadFault>
+    ensures { Judges (view_sheet parts.old) line.now (view_sheet parts.new) result }
+{
+    let number = parts.count + 1;
+    if begins_strange(line) {
+        let cause = ReadCause::NotAscii;
+        return Err(ReadFault::Text {
+            line: number,
+            cause,
+        });
+    }
+    put_words(&mut scratch.words, line)?;
+    match judge_words(alloc, parts, &mut scratch.found, line, &scratch.words)? {
+        None => Ok(()),
+        Some(cause) => Err(ReadFault::Text {
+            line: number,
+            cause,
+        }),
     }
 }

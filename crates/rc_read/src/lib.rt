@@ -2,12 +2,18 @@
 #![tactic(auto)]
 
 mod add;
+mod blocks;
 mod fault;
-mod form;
 mod judge;
 pub mod laws;
+mod names;
 mod parts;
 mod reader;
+mod reserved;
+mod says;
+mod spots;
+mod table;
+mod values;
 mod words;
 
 pub use fault::{ReadCause, ReadFault};

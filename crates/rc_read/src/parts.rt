@@ -2,25 +2,23 @@
 
 ghost use Rattle.std.specs.Prelude.{◌≤◌};
 
-use indexmap::{IndexMap, IndexSet};
 use rc_lang::lines::{Block, Line};
-use rc_lang::program::{Items, Thread};
-use rc_lang::request::Kind;
+use rc_lang::program::{Buffer, File, Head, Items, Thread, Token};
 use std::alloc::Global;
 
-/// In which part of the text a line stands.
-#[derive(Clone, Copy, PartialEq, Eq, Debug)]
-pub enum Place {
+/// The part of a text in which a line stands.
+#[derive(Clone, Copy)]
+pub enum Region {
     /// Above the first head line.
     Start,
     /// Between the head lines.
     Second,
-    /// Behind the head, above the thread.
+    /// Behind the head, above the threads.
     Declarations,
     /// In a thread.
     InThread,
-    /// Behind a thread.
-    Behind,
+    /// Behind a thread, in none.
+    Between,
 }
 
 /// The arms that the open peek has so far.
@@ -37,7 +35,8 @@ pub struct Draft {
     pub name: Vec<u8>,
     pub line: u32,
     pub items: Items,
-    pub names: IndexSet<Vec<u8>>,
+    pub loops: Vec<Items>,
+    pub names: Vec<Vec<u8>>,
     pub blocks: Vec<Block>,
     pub lines: Vec<Line>,
     pub ends: Vec<usize>,
@@ -48,9 +47,11 @@ pub struct Draft {
 #[derive(Drop)]
 pub struct Parts {
     pub count: u32,
-    pub place: Place,
-    pub entries: u32,
-    pub tokens: IndexMap<u64, Kind>,
+    pub region: Region,
+    pub head: Head,
+    pub files: Vec<File>,
+    pub buffers: Vec<Buffer>,
+    pub tokens: Vec<Token>,
     pub threads: Vec<Thread>,
     pub draft: Draft,
     ghost few_lines: { count ≤ 4096 },
@@ -58,12 +59,12 @@ pub struct Parts {
 
 impl Arms {
     ghost use Rattle.std.specs.Prelude.{◌≡◌};
-    ghost use Rattle.rc_read.specs.Sheets as spec;
-    ghost use Rattle.rc_read.specs.View.{arms_of};
+    ghost use Rattle.rc_read.specs.Sheets.{no_arms};
+    ghost use Rattle.rc_read.specs.View.{view_arms};
 
     /// No arms.
     pub fn new(alloc: Global) -> Arms
-        ensures { arms_of result ≡ spec.no_arms }
+        ensures { view_arms result ≡ no_arms }
     {
         Arms {
             cases: Vec::new(alloc),
@@ -75,21 +76,24 @@ impl Arms {
 
 impl Draft {
     ghost use Rattle.std.specs.Prelude.{◌≡◌};
-    ghost use Rattle.rc_read.specs.Sheets as spec;
-    ghost use Rattle.rc_read.specs.View.{draft_of};
+    ghost use Rattle.rc_read.specs.Sheets.{no_draft};
+    ghost use Rattle.rc_read.specs.View.{view_draft};
 
     /// No thread.
     pub fn new(alloc: Global) -> Draft
-        ensures { draft_of result ≡ spec.no_draft }
+        ensures { view_draft result ≡ no_draft }
     {
         Draft {
             name: Vec::new(alloc),
             line: 0,
             items: Items {
+                shares: Vec::new(alloc),
                 tokens: Vec::new(alloc),
                 credits: 0,
+                queue: None,
             },
-            names: IndexSet::new(alloc),
+            loops: Vec::new(alloc),
+            names: Vec::new(alloc),
             blocks: Vec::new(alloc),
             lines: Vec::new(alloc),
             ends: Vec::new(alloc),
@@ -100,18 +104,24 @@ impl Draft {
 
 impl Parts {
     ghost use Rattle.std.specs.Prelude.{◌≡◌};
-    ghost use Rattle.rc_read.specs.Sheets as spec;
-    ghost use Rattle.rc_read.specs.View.{sheet_of};
+    ghost use Rattle.rc_read.specs.Sheets.{empty};
+    ghost use Rattle.rc_read.specs.View.{view_sheet};
 
     /// What was read of no text.
     pub fn new(alloc: Global) -> Parts
-        ensures { sheet_of result ≡ spec.empty }
+        ensures { view_sheet result ≡ empty }
     {
         Parts {
             count: 0,
-            place: Place::Start,
-            entries: 1,
-            tokens: IndexMap::new(alloc),
+            region: Region::Start,
+            head: Head {
+                entries: 1,
+                completion_entries: 2,
+                left: 0,
+            },
+            files: Vec::new(alloc),
+            buffers: Vec::new(alloc),
+            tokens: Vec::new(alloc),
             threads: Vec::new(alloc),
             draft: Draft::new(alloc),
         }

@@ -1,22 +1,20 @@
 //! A reader of a text that comes in pieces.
 
-ghost use Rattle.std.specs.Prelude.{◌≡◌, ◌+◌, ◌<◌, ◌++◌, ◌∷◌, ◌↔◌, [], List, ℕ, None, Some, Err, OnOk, IfOk, IsSome, map};
+ghost use Rattle.std.specs.Prelude.{◌≡◌, ◌+◌, ◌<◌, ◌++◌, ◌∷◌, ◌↔◌, [], List, ℕ, None, Some, Err, IsSome, length};
+ghost use Rattle.memchr.specs.Find.{Nowhere, Passes, is_byte};
 ghost use Rattle.rc_lang.specs.Program.{IsProgram};
-ghost use Rattle.rc_read.specs.Answer.{program_of};
+ghost use Rattle.rc_read.specs.Answer.{program_in as read_in};
+ghost use Rattle.rc_read.specs.Pieces.{IsSoundBy, ReadsMore};
 ghost use Rattle.rc_read.specs.Stream.{Judges, JudgesAll, JudgesEnd, Ends, IsAnswer, IsReached};
-ghost use Rattle.rc_read.specs.View.{sheet_of};
-ghost use Rattle.rc_read.specs.Texts.{tokens_of};
+ghost use Rattle.rc_read.specs.View.{view_sheet};
 ghost use Rattle.rc_read.specs.Words.{last_line};
 
 use crate::fault::{ReadCause, ReadFault};
-use crate::form::form_of;
-use crate::judge::cause_of;
-use crate::parts::{Parts, Place};
-use crate::words::words_of;
-use indexmap::IndexMap;
-use rc_lang::program::{Declarations, Head, Program, Token};
-use rc_lang::request::Kind;
-use std::alloc::{AllocError, Global};
+use crate::judge::{Scratch, judge};
+use crate::parts::{Parts, Region};
+use memchr::memchr;
+use rc_lang::program::{Declarations, Program};
+use std::alloc::Global;
 use std::marker::Model;
 
 /// Reads a text that comes in pieces.
@@ -34,86 +32,106 @@ impl Model for Reader {
     ghost Value = { spec.Reading };
 
     ghost use Rattle.rc_read.specs.Stream.{IsSound};
-    ghost use Rattle.rc_read.specs.View.{sheet_of};
+    ghost use Rattle.rc_read.specs.View.{view_sheet};
 
-    ghost view = { λ r. record { fault = r.fault; sheet = sheet_of r.parts; pending = r.pending.items } };
+    ghost view = { λ r. record { fault = r.fault; sheet = view_sheet r.parts; pending = r.pending.items } };
 
-    ghost invariant = { λ r. IsSound r.fault (sheet_of r.parts) };
+    ghost invariant = { λ r. IsSound r.fault (view_sheet r.parts) };
 }
 
-// Judges a line, and adds it where no sentence is true of it.
-fn judge(alloc: Global, parts: &mut Parts, line: &[u8]) -> Result<(), ReadFault>
-    ensures { Judges (sheet_of parts.old) line.now (sheet_of parts.new) result }
+// Judges a line that a line feed ends: the pending bytes and these behind them. Where none are pending it is judged
+// where it lies.
+fn end_line<'a>(
+    alloc: Global,
+    parts: &mut Parts,
+    pending: &mut Vec<u8>,
+    scratch: &mut Scratch<'a>,
+    front: &'a [u8],
+) -> Result<(), ReadFault>
+    requires { Nowhere (Passes (is_byte 10) front.now) 0 (length front.now) }
+    ensures reads { ReadsMore (view_sheet parts.old) pending.old.items (front.now ++ 10 ∷ []) (view_sheet parts.new) pending.new.items result }
+    ensures sound { IsReached (view_sheet parts.old) → IsSoundBy result (view_sheet parts.new) }
 {
-    let words = words_of(alloc, line)?;
-    if let Some(cause) = cause_of(parts, line, &words) {
-        let line = parts.count + 1;
-        return Err(ReadFault::Text { line, cause });
+    if pending.is_empty() {
+        return judge(alloc, parts, scratch, front);
     }
-    parts.add(alloc, &words, form_of(&words))?;
+    pending.extend_from_slice(front)?;
+    let judged = judge(alloc, parts, &mut Scratch::new(alloc), pending);
+    pending.clear();
+    judged
+}
+
+// Takes a piece, up to the first line that can't be read.
+fn take(
+    alloc: Global,
+    parts: &mut Parts,
+    pending: &mut Vec<u8>,
+    piece: &[u8],
+) -> Result<(), ReadFault>
+    ensures reads { ReadsMore (view_sheet parts.old) pending.old.items piece.now (view_sheet parts.new) pending.new.items result }
+    ensures sound { IsReached (view_sheet parts.old) → IsSoundBy result (view_sheet parts.new) }
+{
+    let mut scratch = Scratch::new(alloc);
+    let mut at = 0;
+    while let Some(i) = memchr(b'\n', &piece[at..]) {
+        end_line(alloc, parts, pending, &mut scratch, &piece[at..at + i])?;
+        at = at + i + 1;
+    }
+    pending.extend_from_slice(&piece[at..])?;
     Ok(())
 }
 
 // Judges what comes behind the last line feed, unless it is empty.
 fn judge_rest(alloc: Global, parts: &mut Parts, rest: &[u8]) -> Result<(), ReadFault>
-    ensures { JudgesAll (sheet_of parts.old) (last_line rest.now) (sheet_of parts.new) result }
+    ensures { JudgesAll (view_sheet parts.old) (last_line rest.now) (view_sheet parts.new) result }
 {
     if rest.is_empty() {
         Ok(())
     } else {
-        judge(alloc, parts, rest)
+        judge(alloc, parts, &mut Scratch::new(alloc), rest)
     }
 }
 
-// The declared tokens, in text order.
-fn tokens_in(alloc: Global, declared: IndexMap<u64, Kind>) -> Result<Vec<Token>, AllocError>
-    ensures { IfOk result (λ v. v.items ≡ tokens_of declared.entries) }
-{
-    declared
-        .into_iter()
-        .map(|(user_data, kind)| Token { user_data, kind })
-        .collect(alloc)
-}
-
 // The program that was read.
-fn program_in(alloc: Global, parts: Parts) -> Result<Program, AllocError>
-    requires { IsProgram (program_of (sheet_of parts)) }
-    ensures { IfOk result (λ p. p ≡ program_of (sheet_of parts)) }
+fn program_in(parts: Parts) -> Program
+    requires { IsProgram (read_in (view_sheet parts)) }
+    ensures { result ≡ read_in (view_sheet parts) }
 {
-    let head = Head {
-        entries: parts.entries,
-        completion_entries: 2 * parts.entries,
+    let declarations = Declarations {
+        files: parts.files,
+        buffers: parts.buffers,
+        tokens: parts.tokens,
     };
-    let tokens = tokens_in(alloc, parts.tokens)?;
-    Ok(Program::new(head, Declarations { tokens }, parts.threads))
+    Program::new(parts.head, declarations, parts.threads)
 }
 
 // Judges the end of the text.
 fn judge_end(parts: &Parts) -> Result<(), ReadFault>
-    ensures { JudgesEnd (sheet_of parts.now) result }
+    ensures { JudgesEnd (view_sheet parts.now) result }
 {
     let line = parts.count;
-    match parts.place {
-        Place::Start | Place::Second => Err(ReadFault::Text {
+    match parts.region {
+        Region::Start | Region::Second => Err(ReadFault::Text {
             line: line.max(1),
             cause: ReadCause::BadHead,
         }),
-        Place::InThread => Err(ReadFault::Text {
+        Region::InThread => Err(ReadFault::Text {
             line,
             cause: ReadCause::Braces,
         }),
-        Place::Declarations | Place::Behind => Ok(()),
+        Region::Declarations | Region::Between => Ok(()),
     }
 }
 
 // The answer of the text's end.
-fn end_of(alloc: Global, parts: Parts) -> Result<Program, ReadFault>
-    requires { IsReached (sheet_of parts) }
-    ensures { Ends (sheet_of parts) result }
+fn end_of(parts: Parts) -> Result<Program, ReadFault>
+    requires { IsReached (view_sheet parts) }
+    ensures { Ends (view_sheet parts) result }
 {
-    judge_end(&parts)?;
-    let program = program_in(alloc, parts)?;
-    Ok(program)
+    match judge_end(&parts) {
+        Ok(()) => Ok(program_in(parts)),
+        Err(fault) => Err(fault),
+    }
 }
 
 impl Reader {
@@ -134,21 +152,6 @@ impl Reader {
         }
     }
 
-    // Takes one more byte.
-    fn take(&mut self, b: u8)
-        requires { self.old.fault ≡ None }
-        ensures { (bytes : List ℕ) → HasRead self.old bytes → HasRead self.new (bytes ++ b ∷ []) }
-    {
-        if b == b'\n' {
-            match judge(self.alloc, &mut self.parts, &self.pending) {
-                Ok(()) => self.pending.clear(),
-                Err(fault) => self.fault = Some(fault),
-            }
-        } else if self.pending.push(b).is_err() {
-            self.fault = Some(ReadFault::OutOfMemory);
-        }
-    }
-
     /// Takes the next piece of the text. The answer is an error where a line that a line feed has ended so far can't
     /// be read, or a growth was refused; after an error each call answers it again.
     pub fn feed(&mut self, piece: &[u8]) -> Result<(), ReadFault>
@@ -160,13 +163,13 @@ impl Reader {
         if let Some(fault) = self.fault {
             return Err(fault);
         }
-        for b in piece {
-            self.take(*b);
-            if let Some(fault) = self.fault {
-                return Err(fault);
+        match take(self.alloc, &mut self.parts, &mut self.pending, piece) {
+            Ok(()) => Ok(()),
+            Err(fault) => {
+                self.fault = Some(fault);
+                Err(fault)
             }
         }
-        Ok(())
     }
 
     /// The bytes of the line that hasn't ended: before an error, those that were fed since the last line feed.
@@ -191,7 +194,7 @@ impl Reader {
             return Err(fault);
         }
         judge_rest(alloc, &mut parts, &pending)?;
-        end_of(alloc, parts)
+        end_of(parts)
     }
 }
 

@@ -1,5 +1,5 @@
 use Rattle.std.proofs.Common.{◌≡◌, drop}
-use Rattle.rc_read.specs.Words as spec
+use Rattle.rc_lang.specs.Names as spec
 use Rattle.rc_read.proofs.words.all_name_bytes.Given as goal
 
 abbrev pub invariant-loop-b : goal.invariant-loop-b

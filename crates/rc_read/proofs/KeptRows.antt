@@ -1,0 +1,224 @@
+-- What a line says, form by form, where no sentence is true of it.
+use Rattle.std.proofs.Common.{◌≡◌, ℕ, suc, ◌+◌, ◌*◌, ◌^◌, ◌<◌, ◌≤◌, Bool, true, false, cond, bytes_eq, nat_le, List, [], ◌∷◌, length, None, is_none, refl, sym, ap, ◌∙◌, subst, pow-suc, arith}
+use Rattle.std.proofs.lemmas.Bool.{or_parts, leb-false}
+use Rattle.rc_lang.specs.declared.lines.Operand.{Operand as OperandOf}
+use Rattle.rc_lang.specs.declared.lines.Operand.TheVariants as operand
+use Rattle.rc_lang.specs.declared.program.Head.{Head}
+use Rattle.rc_lang.specs.declared.program.TokenKind.{TokenKind}
+use Rattle.rc_lang.specs.declared.program.TokenKind.TheVariants as kind
+use Rattle.rc_lang.specs.Names.{is_name}
+use Rattle.rc_lang.specs.Program.{Buffer as BufferOf, DeclaresToken, IsFile, IsItems, IsOperand, IsResolvedOp, IsResolvedTest, IsRingSize, Thread as ThreadOf, shares_at}
+use Rattle.rc_read.specs.declared.says.Says.{Says}
+use Rattle.rc_read.specs.declared.says.Says.TheVariants as says
+use Rattle.rc_read.specs.declared.table.Part.TheVariants.{Fixed, Number, NewBuffer, NewThread, Items}
+use Rattle.rc_read.specs.declared.table.Range.TheVariants.{Within}
+use Rattle.rc_read.specs.declared.table.Row.{Row}
+use Rattle.rc_read.specs.declared.table.Row.TheVariants as row
+use Rattle.rc_read.specs.declared.table.Stand.{Stand}
+use Rattle.rc_read.specs.declared.table.Stand.TheVariants as stand
+use Rattle.rc_read.specs.declared.table.Word.TheVariants as words
+use Rattle.rc_read.specs.declared.values.Item.{Item}
+use Rattle.rc_read.specs.declared.values.Value.{Value}
+use Rattle.rc_read.specs.Adds.{held, second_of}
+use Rattle.rc_read.specs.Says.{says_of, sets, small}
+use Rattle.rc_read.specs.Sentences.{any_double, any_twice, any_unknown, is_double, is_unknown}
+use Rattle.rc_read.specs.Sheets.{Draft, Sheet, buffer_names, has_file, has_token, is_among, thread_names}
+use Rattle.rc_read.specs.Spots.{Spot, matches, spots_of, spots_of_items}
+use Rattle.rc_read.specs.Table.{parts_of, stand_of}
+use Rattle.rc_read.specs.Values.{any_lacks, items_in, rounded_up, start, value_at, values_of}
+use Rattle.rc_read.proofs.KeptItems.{SayFine, items_fine, items_held}
+use Rattle.rc_read.proofs.KeptSpots.{is_second, items_after, items_between}
+use Rattle.rc_read.proofs.KeptValues.{Fine, made}
+
+-- ---- sizes of rings
+
+-- a power of two up to the limit
+power : (k : ℕ) → 2 ^ k ≤ 2048 → IsRingSize 2048 (2 ^ k)
+power k h = record { power = (k, refl); within = h }
+
+chosen : (b : Bool) (x y : ℕ) → IsRingSize 2048 x → IsRingSize 2048 y → IsRingSize 2048 (cond b x y)
+chosen true x y a b = a
+chosen false x y a b = b
+
+ring_size : (n : ℕ) → IsRingSize 2048 (rounded_up n)
+ring_size n =
+    chosen (nat_le n 1) 1 _ (power 0 (omega arith))
+    (chosen (nat_le n 2) 2 _ (power 1 (omega arith))
+    (chosen (nat_le n 4) 4 _ (power 2 (omega arith))
+    (chosen (nat_le n 8) 8 _ (power 3 (omega arith))
+    (chosen (nat_le n 16) 16 _ (power 4 (omega arith))
+    (chosen (nat_le n 32) 32 _ (power 5 (omega arith))
+    (chosen (nat_le n 64) 64 _ (power 6 (omega arith))
+    (chosen (nat_le n 128) 128 _ (power 7 (omega arith))
+    (chosen (nat_le n 256) 256 _ (power 8 (omega arith))
+    (chosen (nat_le n 512) 512 _ (power 9 (omega arith))
+    (chosen (nat_le n 1024) 1024 2048 (power 10 (omega arith)) (power 11 (omega arith))))))))))))
+
+few : (b : Bool) (x y : ℕ) → x ≤ 1024 → (b ≡ false → y ≤ 1024) → cond b x y ≤ 1024
+few true x y a h = a
+few false x y a h = h refl
+
+few_entries : (n : ℕ) → n ≤ 1024 → rounded_up n ≤ 1024
+few_entries n le =
+    few (nat_le n 1) 1 _ (omega arith) (λ a.
+    few (nat_le n 2) 2 _ (omega arith) (λ b.
+    few (nat_le n 4) 4 _ (omega arith) (λ c.
+    few (nat_le n 8) 8 _ (omega arith) (λ d.
+    few (nat_le n 16) 16 _ (omega arith) (λ e.
+    few (nat_le n 32) 32 _ (omega arith) (λ f.
+    few (nat_le n 64) 64 _ (omega arith) (λ g.
+    few (nat_le n 128) 128 _ (omega arith) (λ h.
+    few (nat_le n 256) 256 _ (omega arith) (λ i.
+    few (nat_le n 512) 512 _ (omega arith) (λ j.
+    few (nat_le n 1024) 1024 2048 (omega arith) (λ k. let lt : 1024 < n = leb-false n 1024 k in absurd (omega arith))))))))))))
+
+-- The head's rings have the sizes that rings have.
+pub record IsHead (h : Head) : Type 0 where
+  pub entries : IsRingSize 1024 h.entries
+  pub completion_entries : IsRingSize 2048 h.completion_entries
+  pub room : h.entries ≤ h.completion_entries
+  pub left : h.left ≤ h.entries
+
+submission : (size : ℕ) → size ≤ 1024 → IsRingSize 1024 (rounded_up size)
+submission size le = record { power = (ring_size size).power; within = few_entries size le }
+
+double : (k : ℕ) → 2 * 2 ^ k ≡ 2 ^ (k + 1)
+double k = let n : suc k ≡ k + 1 = omega arith in let p : 2 ^ suc k ≡ 2 ^ k * 2 = pow-suc 2 k in let q : 2 ^ suc k ≡ 2 ^ (k + 1) = ap (λ m. 2 ^ m) n in omega arith
+
+twice : (n : ℕ) → IsRingSize 1024 n → IsRingSize 2048 (2 * n)
+twice n h = record {
+  power = (h.power.0 + 1, ap (λ m. 2 * m) h.power.1 ∙ double h.power.0);
+  within = let le : n ≤ 1024 = h.within in omega arith;
+}
+
+one_size : (size left : ℕ) → size ≤ 1024 → left ≤ rounded_up size → IsHead (record { entries = rounded_up size; completion_entries = 2 * rounded_up size; left = left })
+one_size size left le few = record { entries = submission size le; completion_entries = twice (rounded_up size) (submission size le); room = omega arith; left = few }
+
+two_sizes : (size completion left : ℕ) → size ≤ 1024 → rounded_up size ≤ rounded_up completion → left ≤ rounded_up size → IsHead (record { entries = rounded_up size; completion_entries = rounded_up completion; left = left })
+two_sizes size completion left le room few = record { entries = submission size le; completion_entries = ring_size completion; room = room; left = few }
+
+pub head_start : IsHead (record { entries = 1; completion_entries = 2; left = 0 })
+head_start = one_size 0 0 (omega arith) (omega arith)
+
+-- ---- what is said
+
+-- A token of a read or a write names a buffer, and that of a write as many of its shares as it takes.
+abbrev pub IsKind : List BufferOf → TokenKind → Type 0
+IsKind buffers (kind.Read b) = b < length buffers
+IsKind buffers (kind.Write b k) = (b < length buffers) × (1 ≤ k) × (k ≤ shares_at buffers b)
+IsKind buffers kind.Fsync = Unit {0}
+IsKind buffers kind.Nop = Unit {0}
+
+-- The word is a name, and none of these.
+abbrev pub IsNewName : List (List ℕ) → List ℕ → Type 0
+IsNewName names w = (is_name w ≡ true) × (is_among names w ≡ false)
+
+module _ (threads : List ThreadOf) (s : Sheet) (d : Draft) (ws : List (List ℕ)) (its : List Item) where
+  -- A line says this, in a form that stands there.
+  abbrev pub IsTold : Stand → Says → Type 0
+  IsTold st says.Version = st ≡ stand.First
+  IsTold st (says.Ring h) = (st ≡ stand.Second) × IsHead h
+  IsTold st (says.File f) = (st ≡ stand.Declaration) × IsFile f × (has_file s.files f.number ≡ false) × (length s.files < 16)
+  IsTold st (says.Buffer bytes shares) = (st ≡ stand.Declaration) × ((1 ≤ bytes) × (bytes ≤ 4096)) × ((1 ≤ shares) × (shares ≤ 16)) × (length s.buffers < 64) × IsNewName (buffer_names s.buffers) (second_of ws)
+  IsTold st (says.Token t) = (st ≡ stand.Declaration) × IsKind s.buffers t.kind × (has_token s.tokens t.user_data ≡ false) × (length s.tokens < 256)
+  IsTold st says.Thread = (st ≡ stand.Header) × (length s.threads < 16) × IsNewName (thread_names s.threads) (second_of ws) × IsItems (made threads s) (held its)
+  IsTold st (says.Op op) = (st ≡ stand.Inside) × IsResolvedOp (made threads s) (length d.names) op
+  IsTold st says.Lock = st ≡ stand.Inside
+  IsTold st (says.If test) = (st ≡ stand.Inside) × IsResolvedTest (made threads s) (length d.names) test
+  IsTold st says.Else = Unit {0}
+  IsTold st (says.Peek x) = (st ≡ stand.Inside) × (x < length d.names)
+  IsTold st (says.Case u) = (st ≡ stand.Inside) × DeclaresToken (made threads s) u
+  IsTold st says.Other = st ≡ stand.Inside
+  IsTold st says.Nothing = st ≡ stand.Inside
+  IsTold st says.Loop = (st ≡ stand.Inside) × IsItems (made threads s) (held its)
+  IsTold st says.Break = st ≡ stand.Inside
+  IsTold st says.Close = Unit {0}
+
+  -- What a line says besides its values: the name that it declares, and its items.
+  abbrev pub HasMore : Row → Type 0
+  HasMore row.Buffer = IsNewName (buffer_names s.buffers) (second_of ws)
+  HasMore row.Thread = IsNewName (thread_names s.threads) (second_of ws) × IsItems (made threads s) (held its)
+  HasMore row.Loop = IsItems (made threads s) (held its)
+  HasMore r = Unit {0}
+
+  set_told : (x : ℕ) (o : OperandOf) → x < length d.names → IsOperand (length d.names) o → IsTold stand.Inside (sets x o)
+  set_told x (operand.Variable y) a b = (refl, (a, b))
+  set_told x (operand.Number n) a b = (refl, a)
+
+  pub told : (r : Row) (vs : List Value) → Fine threads s d vs 0 1 None (parts_of r) → HasMore r → IsTold (stand_of r) (says_of r vs)
+  told row.Version vs f m = refl
+  told row.Ring vs f m = (refl, one_size _ 0 f.0 (omega arith))
+  told row.RingCq vs f m = (refl, two_sizes (small vs 0) (small vs 1) 0 f.0 f.1.0 (omega arith))
+  told row.RingLeft vs f m = (refl, one_size _ _ f.0 f.1.0)
+  told row.RingCqLeft vs f m = (refl, two_sizes (small vs 0) (small vs 1) (small vs 2) f.0 f.1.0 f.1.1.0)
+  told row.File vs f m = (refl, record { number = f.0.0; len = f.1.0.1 }, f.0.1, f.0.2)
+  told row.Buffer vs f m = (refl, f.1.0, f.1.1.0, f.0, m)
+  told row.TokenRead vs f m = (refl, f.1.0, f.0.0, f.0.1)
+  told row.TokenWrite vs f m = (refl, (f.1.0, f.1.1.0.0, f.1.1.0.1), f.0.0, f.0.1)
+  told row.TokenFsync vs f m = (refl, tt, f.0.0, f.0.1)
+  told row.TokenNop vs f m = (refl, tt, f.0.0, f.0.1)
+  told row.Thread vs f m = (refl, f.0, m.0, m.1)
+  told row.Set vs f m = set_told _ _ f.0 f.1.0
+  told row.Add vs f m = (refl, (f.0, f.1.0, f.1.1.0))
+  told row.Subtract vs f m = (refl, (f.0, f.1.0, f.1.1.0))
+  told row.Load vs f m = (refl, (f.0, f.1.0, f.1.1.0.1))
+  told row.Store vs f m = (refl, (f.0, f.1.0.1, f.1.1.0))
+  told row.Fill vs f m = (refl, (f.0, f.1.0))
+  told row.Print vs f m = (refl, f.0)
+  told row.Lock vs f m = refl
+  told row.GetSqe vs f m = (refl, tt)
+  told row.PrepRead vs f m = (refl, record { file = f.0; buffer = f.1.0; length_within = f.1.1.0.1; place_within = f.1.1.1.0.1 })
+  told row.PrepWrite vs f m = (refl, (record { file = f.0; buffer = f.1.0; length_within = f.1.1.0.1; place_within = f.1.1.1.0.1 }, record { some = f.1.1.1.1.0.0; within = f.1.1.1.1.0.1 }))
+  told row.PrepFsync vs f m = (refl, f.0)
+  told row.PrepNop vs f m = (refl, tt)
+  told row.SetData64 vs f m = (refl, f.0)
+  told row.Submit vs f m = (refl, f.0)
+  told row.SubmitAndWait vs f m = (refl, (f.0, f.1.0.1))
+  told row.CqeSeen vs f m = (refl, tt)
+  told row.Peek vs f m = (refl, f.0)
+  told row.Case vs f m = (refl, f.0)
+  told row.Other vs f m = refl
+  told row.Nothing vs f m = refl
+  told row.If vs f m = (refl, f.0)
+  told row.IfReady vs f m = (refl, tt)
+  told row.IfSpace vs f m = (refl, f.0)
+  told row.Else vs f m = tt
+  told row.Loop vs f m = (refl, m)
+  told row.Break vs f m = refl
+  told row.Close vs f m = tt
+
+-- ---- names and items
+
+module _ (threads : List ThreadOf) (s : Sheet) (d : Draft) (ws : List (List ℕ)) where
+  abbrev sheet : Sheet
+  sheet = record s { draft = d }
+
+  thread_more : (w : List ℕ) (ps : List Spot) → SayFine threads s d ps → SayFine threads s d (record { part = NewThread; word = w } ∷ ps)
+  thread_more w ps more seen l u =
+      let a = or_parts (is_none (value_at sheet seen NewThread w)) (any_lacks sheet seen ps) l in
+      let b = or_parts (is_unknown s NewThread w) (any_unknown s ps) u in
+      more seen a.1 b.1
+
+  thread_items : matches (parts_of row.Thread) ws ≡ true → SayFine threads s d (spots_of (parts_of row.Thread) ws)
+  thread_items e =
+      let k = is_second words.Thread NewThread (Fixed words.Holds ∷ Items ∷ Fixed words.Open ∷ []) ws refl refl e in
+      let h = items_between words.Holds words.Open k.rest k.matches in
+      subst (λ ps. SayFine threads s d ps) (sym (k.spots ∙ ap (λ ps. record { part = NewThread; word = second_of ws } ∷ ps) h.1)) (thread_more (second_of ws) (spots_of_items h.0) (items_fine threads s d h.0))
+
+  loop_items : matches (parts_of row.Loop) ws ≡ true → SayFine threads s d (spots_of (parts_of row.Loop) ws)
+  loop_items e = let h = items_after words.Loop words.Keeps words.Open ws e in subst (λ ps. SayFine threads s d ps) (sym h.1) (items_fine threads s d h.0)
+
+  more_items : (ps : List Spot) → SayFine threads s d ps → any_lacks sheet start ps ≡ false → any_unknown s ps ≡ false → any_twice (items_in (values_of sheet start ps)) ≡ false → IsItems (made threads s) (held (items_in (values_of sheet start ps)))
+  more_items ps fine l u t = items_held threads s (items_in (values_of sheet start ps)) (fine start l u) t
+
+  pub has_more : (r : Row) → matches (parts_of r) ws ≡ true → any_lacks sheet start (spots_of (parts_of r) ws) ≡ false → any_unknown s (spots_of (parts_of r) ws) ≡ false → any_double s (spots_of (parts_of r) ws) ≡ false → any_twice (items_in (values_of sheet start (spots_of (parts_of r) ws))) ≡ false → HasMore threads s d ws (items_in (values_of sheet start (spots_of (parts_of r) ws))) r
+  has_more row.Buffer e l u n t =
+      let k = is_second words.Buffer NewBuffer (Number (Within 1 4096) ∷ Number (Within 1 16) ∷ []) ws refl refl e in
+      let double = or_parts (is_double s NewBuffer (second_of ws)) (any_double s (spots_of (Number (Within 1 4096) ∷ Number (Within 1 16) ∷ []) k.rest)) (subst (λ ps. any_double s ps ≡ false) k.spots n) in
+      (k.fits, double.0)
+  has_more row.Thread e l u n t =
+      let k = is_second words.Thread NewThread (Fixed words.Holds ∷ Items ∷ Fixed words.Open ∷ []) ws refl refl e in
+      let double = or_parts (is_double s NewThread (second_of ws)) (any_double s (spots_of (Fixed words.Holds ∷ Items ∷ Fixed words.Open ∷ []) k.rest)) (subst (λ ps. any_double s ps ≡ false) k.spots n) in
+      ((k.fits, (or_parts (is_among (thread_names s.threads) (second_of ws)) (bytes_eq s.draft.name (second_of ws)) double.0).0), more_items (spots_of (parts_of row.Thread) ws) (thread_items e) l u t)
+  has_more row.Loop e l u n t = more_items (spots_of (parts_of row.Loop) ws) (loop_items e) l u t
+  has_more r e l u n t = tt

@@ -1,8 +1,0 @@
-use Rattle.std.proofs.Common.{◌≡◌, drop, map}
-use Rattle.rc_read.specs.Forms.{item_of}
-use Rattle.rc_read.specs.Sentences as spec
-use Rattle.rc_read.specs.Texts.{texts_of, tokens_of}
-use Rattle.rc_read.proofs.judge.any_is_unknown.Given as goal
-
-abbrev pub invariant-loop-word : goal.invariant-loop-word
-invariant-loop-word l = spec.any_is_unknown (tokens_of l.tokens.entries) (map item_of (texts_of (drop l.word-index l.words))) ≡ spec.any_is_unknown (tokens_of l.tokens.entries) (map item_of (texts_of l.words))

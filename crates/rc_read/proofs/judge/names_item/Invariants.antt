@@ -1,8 +1,0 @@
-use Rattle.std.proofs.Common.{◌≡◌, drop, map}
-use Rattle.rc_read.specs.Forms.{item_of}
-use Rattle.rc_read.specs.Sentences as spec
-use Rattle.rc_read.specs.Texts.{texts_of}
-use Rattle.rc_read.proofs.judge.names_item.Given as goal
-
-abbrev pub invariant-loop-word : goal.invariant-loop-word
-invariant-loop-word l = spec.names_item l.item (map item_of (texts_of (drop l.word-index l.words))) ≡ spec.names_item l.item (map item_of (texts_of l.words))

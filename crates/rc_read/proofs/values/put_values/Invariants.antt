@@ -1,0 +1,13 @@
+use Rattle.std.proofs.Common.{◌≡◌, ◌++◌, ◌||◌, drop}
+use Rattle.rc_read.specs.Sentences as sentences
+use Rattle.rc_read.specs.Texts.{view_spots}
+use Rattle.rc_read.specs.Values as spec
+use Rattle.rc_read.specs.View.{view_sheet}
+use Rattle.rc_read.proofs.values.put_values.Given as goal
+
+abbrev pub invariant-loop-spot : goal.invariant-loop-spot
+invariant-loop-spot l = record {
+  values : l.values.items ++ spec.values_of (view_sheet l.parts) l.seen (view_spots (drop l.spot-index l.spots)) ≡ spec.values_of (view_sheet l.parts) spec.start (view_spots l.spots);
+  lacks : spec.any_lacks (view_sheet l.parts) l.seen (view_spots (drop l.spot-index l.spots)) ≡ spec.any_lacks (view_sheet l.parts) spec.start (view_spots l.spots);
+  unknown : (l.unknown || sentences.any_unknown (view_sheet l.parts) (view_spots (drop l.spot-index l.spots))) ≡ sentences.any_unknown (view_sheet l.parts) (view_spots l.spots);
+}

@@ -1,0 +1,172 @@
+-- What a line adds to the sheet.
+use Rattle.std.specs.Prelude.{ℕ, ◌+◌, List, [], ◌∷◌, ◌++◌, length, slice_get, slice_set, Option, Some, None, true, unwrap_or}
+use Rattle.rc_lang.specs.Nesting.{innermost, blocks_behind, way_out}
+use Rattle.rc_lang.specs.Program.{Items, Thread as ThreadOf}
+use Rattle.rc_lang.specs.declared.lines.Block.{Block}
+use Rattle.rc_lang.specs.declared.lines.Block.TheVariants.{InLock, InIf, InElse, InPeek, InArm, InLoop}
+use Rattle.rc_lang.specs.declared.lines.Stmt.{Stmt}
+use Rattle.rc_lang.specs.declared.lines.Stmt.TheVariants as stmt
+use Rattle.rc_lang.specs.declared.program.Share.{Share}
+use Rattle.rc_read.specs.declared.parts.Region.TheVariants as region
+use Rattle.rc_read.specs.declared.says.Says.{Says}
+use Rattle.rc_read.specs.declared.says.Says.TheVariants.{Version, Ring, File, Buffer, Token, Thread, Op, Lock, If, Else, Peek, Case, Other, Nothing, Loop, Break, Close}
+use Rattle.rc_read.specs.declared.values.Item.{Item}
+use Rattle.rc_read.specs.declared.values.Item.TheVariants as item
+use Rattle.rc_read.specs.declared.values.Value.{Value}
+use Rattle.rc_read.specs.Says.{says_by}
+use Rattle.rc_read.specs.Sheets.{Sheet, Draft, Arms, no_arms, headed, no_draft, named}
+use Rattle.rc_read.specs.Spots.{Spot, row_of, spots_in}
+use Rattle.rc_read.specs.Values.{items_in, start, values_of}
+use Rattle.rc_read.specs.Words.{words_of}
+
+-- ---- items
+
+abbrev pub shares_held : List Item → List Share
+shares_held [] = []
+shares_held (item.Shares b k ∷ items) = record { buffer = b; count = k } ∷ shares_held items
+shares_held (i ∷ items) = shares_held items
+
+abbrev pub tokens_held : List Item → List ℕ
+tokens_held [] = []
+tokens_held (item.Token u ∷ items) = u ∷ tokens_held items
+tokens_held (i ∷ items) = tokens_held items
+
+abbrev pub credits_held : List Item → ℕ
+credits_held [] = 0
+credits_held (item.Credits n ∷ items) = n
+credits_held (i ∷ items) = credits_held items
+
+abbrev pub queue_held : List Item → Option ℕ
+queue_held [] = None
+queue_held (item.Queued k ∷ items) = Some k
+queue_held (i ∷ items) = queue_held items
+
+abbrev pub held : List Item → Items
+held items = record { shares = shares_held items; tokens = tokens_held items; credits = credits_held items; queue = queue_held items }
+
+-- ---- a thread's lines
+
+-- the place of the line that a closing line closes, where a jump starts from there
+abbrev pub closed_by : Stmt → Option ℕ
+closed_by (stmt.Else o) = Some o
+closed_by (stmt.EndIf o) = Some o
+closed_by (stmt.EndPeek o) = Some o
+closed_by (stmt.EndLoop o k) = Some o
+closed_by _ = None
+
+-- The table of ends, where one more line stands at place j: that line has none, and is that of the line that it closes.
+abbrev pub marked : List ℕ → ℕ → Option ℕ → List ℕ
+marked ends j None = ends
+marked ends j (Some o) = slice_set ends o j
+
+abbrev pub ends_behind : List ℕ → ℕ → Stmt → List ℕ
+ends_behind ends j s = marked (ends ++ 0 ∷ []) j (closed_by s)
+
+-- A peek begins without arms, and its arms are kept.
+abbrev pub arms_behind : Arms → Stmt → Arms
+arms_behind arms (stmt.Peek x) = no_arms
+arms_behind arms (stmt.Case o u) = record arms { cases = arms.cases ++ u ∷ [] }
+arms_behind arms (stmt.Other o) = record arms { other = true }
+arms_behind arms (stmt.Nothing o) = record arms { none = true }
+arms_behind arms _ = arms
+
+abbrev pub loops_behind : List Items → List Item → Stmt → List Items
+loops_behind loops items (stmt.Loop k) = loops ++ held items ∷ []
+loops_behind loops items _ = loops
+
+-- the thread with one more line
+abbrev pub with_stmt : Draft → ℕ → List Item → Stmt → Draft
+with_stmt d number items s = record d {
+  loops = loops_behind d.loops items s;
+  blocks = blocks_behind d.blocks (length d.lines) s;
+  lines = d.lines ++ record { number = number; stmt = s } ∷ [];
+  ends = ends_behind d.ends (length d.lines) s;
+  arms = arms_behind d.arms s;
+}
+
+-- the place that a block belongs to
+abbrev pub place_of : Option Block → ℕ
+place_of None = 0
+place_of (Some (InLock o)) = o
+place_of (Some (InIf o)) = o
+place_of (Some (InElse o)) = o
+place_of (Some (InPeek o)) = o
+place_of (Some (InArm o)) = o
+place_of (Some (InLoop o k)) = o
+
+-- the closing brace of a block
+abbrev pub closing : Block → Stmt
+closing (InLock o) = stmt.EndLock o
+closing (InIf o) = stmt.EndIf o
+closing (InElse o) = stmt.EndIf o
+closing (InPeek o) = stmt.EndPeek o
+closing (InArm o) = stmt.EndArm o
+closing (InLoop o k) = stmt.EndLoop o k
+
+abbrev pub closing_of : Option Block → Stmt
+closing_of None = stmt.Lock
+closing_of (Some b) = closing b
+
+-- The statement of a line in a thread: arms and braces belong to the innermost block, a break to the innermost loop.
+abbrev pub stmt_in : Draft → Says → Stmt
+stmt_in d (Op op) = stmt.Do op
+stmt_in d Lock = stmt.Lock
+stmt_in d (If test) = stmt.If test
+stmt_in d Else = stmt.Else (place_of (innermost d.blocks))
+stmt_in d (Peek x) = stmt.Peek x
+stmt_in d (Case u) = stmt.Case (place_of (innermost d.blocks)) u
+stmt_in d Other = stmt.Other (place_of (innermost d.blocks))
+stmt_in d Nothing = stmt.Nothing (place_of (innermost d.blocks))
+stmt_in d Loop = stmt.Loop (length d.loops)
+stmt_in d Break = stmt.Break (unwrap_or (way_out d.blocks).loop 0) (way_out d.blocks).releases (way_out d.blocks).leaves
+stmt_in d _ = closing_of (innermost d.blocks)
+
+-- the thread that is complete
+abbrev pub whole_thread : Draft → ThreadOf
+whole_thread d = record { name = d.name; line = d.line; items = d.items; loops = d.loops; lines = d.lines; ends = d.ends; variables = length d.names }
+
+-- ---- lines
+
+-- The line is one of the open thread.
+abbrev pub said : Sheet → List Item → Says → Sheet
+said s items what = record s { draft = with_stmt s.draft (s.count + 1) items (stmt_in s.draft what) }
+
+-- A closing brace ends the innermost block, and without one the thread.
+abbrev pub closed : Sheet → Option Block → Sheet
+closed s None = record s { region = region.Between; threads = s.threads ++ whole_thread s.draft ∷ []; draft = no_draft }
+closed s (Some b) = said s [] Close
+
+-- the name that a line declares
+abbrev pub second_of : List (List ℕ) → List ℕ
+second_of ws = unwrap_or (slice_get ws 1) []
+
+abbrev pub added : Sheet → List (List ℕ) → List Item → Says → Sheet
+added s ws items Version = record s { region = region.Second }
+added s ws items (Ring head) = record s { region = region.Declarations; head = head }
+added s ws items (File f) = record s { files = s.files ++ f ∷ [] }
+added s ws items (Buffer bytes shares) = record s { buffers = s.buffers ++ record { name = second_of ws; bytes = bytes; shares = shares } ∷ [] }
+added s ws items (Token t) = record s { tokens = s.tokens ++ t ∷ [] }
+added s ws items Thread = record s { region = region.InThread; draft = headed (second_of ws) (s.count + 1) (held items) }
+added s ws items Close = closed s (innermost s.draft.blocks)
+added s ws items what = said s items what
+
+-- What stands in the places of a line, its own variables among the names.
+abbrev pub values : Sheet → List Spot → List Value
+values s spots = values_of (named s spots) start spots
+
+abbrev pub says : Sheet → List (List ℕ) → Says
+says s ws = says_by (row_of ws) (values s (spots_in ws))
+
+abbrev pub items : Sheet → List (List ℕ) → List Item
+items s ws = items_in (values s (spots_in ws))
+
+-- The sheet behind a line, where no sentence is true of it.
+abbrev pub with_words : Sheet → List (List ℕ) → Sheet
+with_words s [] = s
+with_words s (w ∷ ws) = added (named s (spots_in (w ∷ ws))) (w ∷ ws) (items s (w ∷ ws)) (says s (w ∷ ws))
+
+abbrev pub counted : Sheet → Sheet
+counted s = record s { count = s.count + 1 }
+
+abbrev pub with_line : Sheet → List ℕ → Sheet
+with_line s line = counted (with_words s (words_of line))

@@ -1,0 +1,47 @@
+-- What becomes of the sheet at a line with these words, in the steps of the code.
+use Rattle.std.specs.Prelude.{◌≡◌, ℕ, List, [], ◌∷◌, length, Option, Some, None, Result, Ok, Err, Bool, ◌||◌, nat_lt}
+use Rattle.rc_read.specs.Adds.{added, counted, with_words, values}
+use Rattle.rc_read.specs.Causes.{number_of_cause}
+use Rattle.rc_read.specs.declared.fault.ReadCause.{ReadCause}
+use Rattle.rc_read.specs.declared.says.Says.{Says}
+use Rattle.rc_read.specs.declared.table.Row.{Row}
+use Rattle.rc_read.specs.declared.values.Item.{Item}
+use Rattle.rc_read.specs.declared.values.Value.{Value}
+use Rattle.rc_read.specs.Says.{says_of}
+use Rattle.rc_read.specs.Sentences.{any_unknown, any_double, any_twice, bad_brace, is_too_long, is_too_deep, any_full, bad_nesting, bad_case, word_sentences, first_true}
+use Rattle.rc_read.specs.Sheets.{Sheet, named}
+use Rattle.rc_read.specs.Spots.{Spot, spots_of}
+use Rattle.rc_read.specs.Table.{parts_of}
+use Rattle.rc_read.specs.Values.{any_lacks, values_of, items_in, start}
+
+-- The sentences from the fifth on, on a sheet that has the variables of the line.
+abbrev pub later_sentences : Sheet → List ℕ → List Spot → List Item → Says → List (ℕ × Bool)
+later_sentences s line spots items what =
+    (5, any_unknown s spots)
+    ∷ (6, any_double s spots || any_twice items)
+    ∷ (7, bad_brace s what)
+    ∷ (8, is_too_long s line || is_too_deep s what || any_full s spots || nat_lt 64 (length s.draft.names))
+    ∷ (9, bad_nesting s.draft.blocks items what)
+    ∷ (10, bad_case s.draft what)
+    ∷ []
+
+-- A line of this form, on a sheet that has its variables.
+abbrev pub named_sentences : Sheet → List ℕ → Row → List Spot → List (ℕ × Bool)
+named_sentences s line row spots =
+    (4, any_lacks s start spots) ∷ later_sentences s line spots (items_in (values_of s start spots)) (says_of row (values_of s start spots))
+
+abbrev pub JudgesNamed : {E : Type 0} → Sheet → List ℕ → List (List ℕ) → Row → List Spot → Sheet → Result (Option ReadCause) E → Type 0
+JudgesNamed s line ws row spots new (Ok None) =
+    (first_true (named_sentences s line row spots) ≡ None) × (new ≡ counted (added s ws (items_in (values_of s start spots)) (says_of row (values_of s start spots))))
+JudgesNamed s line ws row spots new (Ok (Some cause)) = first_true (named_sentences s line row spots) ≡ Some (number_of_cause cause)
+JudgesNamed s line ws row spots new (Err e) = Unit {0}
+
+-- A line of this form.
+abbrev pub JudgesRow : {E : Type 0} → Sheet → List ℕ → List (List ℕ) → Row → Sheet → Result (Option ReadCause) E → Type 0
+JudgesRow old line ws row new r = JudgesNamed (named old (spots_of (parts_of row) ws)) line ws row (spots_of (parts_of row) ws) new r
+
+-- A line with words or without.
+abbrev pub JudgesWords : {E : Type 0} → Sheet → List ℕ → List (List ℕ) → Sheet → Result (Option ReadCause) E → Type 0
+JudgesWords old line ws new (Ok None) = (first_true (word_sentences old line ws) ≡ None) × (new ≡ counted (with_words old ws))
+JudgesWords old line ws new (Ok (Some cause)) = first_true (word_sentences old line ws) ≡ Some (number_of_cause cause)
+JudgesWords old line ws new (Err e) = Unit {0}

@@ -1,0 +1,17 @@
+-- What becomes of a reader's parts by a piece of the text.
+use Rattle.std.specs.Prelude.{◌++◌, List, ℕ, Option, Some, None, Result, Ok, Err}
+use Rattle.rc_read.specs.Sheets.{Sheet}
+use Rattle.rc_read.specs.Stream.{Reads, IsSound}
+use Rattle.rc_read.specs.declared.fault.ReadFault.{ReadFault}
+
+abbrev pub fault_in : {X : Type 0} → Result X ReadFault → Option ReadFault
+fault_in (Ok u) = None
+fault_in (Err fault) = Some fault
+
+-- Where bytes were read without a fault, these are read behind them.
+abbrev pub ReadsMore : {X : Type 0} → Sheet → List ℕ → List ℕ → Sheet → List ℕ → Result X ReadFault → Type 0
+ReadsMore old pending more new left r = (bytes : List ℕ) → Reads None old pending bytes → Reads (fault_in r) new left (bytes ++ more)
+
+-- The sheet is reached by some lines, unless there is a fault.
+abbrev pub IsSoundBy : {X : Type 0} → Result X ReadFault → Sheet → Type 0
+IsSoundBy r s = IsSound (fault_in r) s

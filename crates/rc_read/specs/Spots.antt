@@ -1,0 +1,139 @@
+-- Which form a line has, and the places of its words.
+use Rattle.std.specs.Prelude.{ℕ, ◌+◌, List, [], ◌∷◌, ◌++◌, take, drop, position, Option, Some, None, Bool, true, false, ◌||◌, ◌==◌, is_some, option_map, unwrap_or, if◌then◌else◌, codes}
+use Rattle.std.specs.Str.{bytes_eq}
+use Rattle.rc_lang.specs.declared.lines.Comparison.{Comparison}
+use Rattle.rc_lang.specs.declared.lines.Comparison.TheVariants.{Equal, NotEqual, Less, AtMost, Greater, AtLeast}
+use Rattle.rc_lang.specs.Names.{is_name}
+use Rattle.rc_lang.specs.Numbers.{is_digit}
+use Rattle.rc_read.specs.declared.table.Part.{Part}
+use Rattle.rc_read.specs.declared.table.Part.TheVariants.{Fixed, Variable, Operand, Comparison as Compare, Buffer, NewBuffer, NewThread, Items, HeldShares, HeldToken, Credits, Queued}
+use Rattle.rc_read.specs.declared.table.Row.{Row}
+use Rattle.rc_read.specs.Table.{text_of, parts_of, rows}
+
+-- ---- which words stand in a place
+
+abbrev pub comparison_of : List ℕ → Option Comparison
+comparison_of w =
+    if bytes_eq w (codes "==") then Some Equal
+    else (if bytes_eq w (codes "!=") then Some NotEqual
+    else (if bytes_eq w (codes "<") then Some Less
+    else (if bytes_eq w (codes "<=") then Some AtMost
+    else (if bytes_eq w (codes ">") then Some Greater
+    else (if bytes_eq w (codes ">=") then Some AtLeast else None)))))
+
+-- a word that begins with a digit or `-`
+abbrev pub begins_number : List ℕ → Bool
+begins_number [] = false
+begins_number (b ∷ bytes) = is_digit b || b == 45
+
+-- In a place for a name stands a name, and in one for a number any word.
+abbrev pub fits : Part → List ℕ → Bool
+fits (Fixed fixed) w = bytes_eq w (text_of fixed)
+fits Variable w = is_name w
+fits Buffer w = is_name w
+fits NewBuffer w = is_name w
+fits NewThread w = is_name w
+fits Operand w = begins_number w || is_name w
+fits Compare w = is_some (comparison_of w)
+fits _ w = true
+
+-- ---- items
+
+-- An item is cut at its first colon.
+abbrev pub colon_in : List ℕ → Option ℕ
+colon_in w = position (λ b. b == 58) w
+
+abbrev pub is_item_name : List ℕ → Bool
+is_item_name name = bytes_eq name (codes "t") || bytes_eq name (codes "c") || bytes_eq name (codes "q") || is_name name
+
+abbrev pub item_at : List ℕ → Option ℕ → Bool
+item_at w None = false
+item_at w (Some i) = is_item_name (take i w)
+
+abbrev pub is_item : List ℕ → Bool
+is_item w = item_at w (colon_in w)
+
+-- A word in its place, with the part that stands there.
+pub record Spot : Type 0 where
+  pub part : Part
+  pub word : List ℕ
+
+-- `t:U`, `c:n`, `q:k` and `B:k`
+abbrev pub item_spots : List ℕ → List ℕ → List Spot
+item_spots name number =
+    if bytes_eq name (codes "t") then record { part = HeldToken; word = number } ∷ []
+    else (if bytes_eq name (codes "c") then record { part = Credits; word = number } ∷ []
+    else (if bytes_eq name (codes "q") then record { part = Queued; word = number } ∷ []
+    else record { part = Buffer; word = name } ∷ record { part = HeldShares; word = number } ∷ []))
+
+abbrev pub spots_cut : List ℕ → Option ℕ → List Spot
+spots_cut w None = []
+spots_cut w (Some i) = item_spots (take i w) (drop (i + 1) w)
+
+abbrev pub spots_of_item : List ℕ → List Spot
+spots_of_item w = spots_cut w (colon_in w)
+
+-- the items in front, and the words behind them
+abbrev pub spots_of_items : List (List ℕ) → List Spot
+spots_of_items [] = []
+spots_of_items (w ∷ ws) = if is_item w then spots_of_item w ++ spots_of_items ws else []
+
+abbrev pub behind_items : List (List ℕ) → List (List ℕ)
+behind_items [] = []
+behind_items (w ∷ ws) = if is_item w then behind_items ws else w ∷ ws
+
+-- ---- lines
+
+abbrev pub are_items : Part → Bool
+are_items Items = true
+are_items _ = false
+
+-- The words behind those of a part, where they stand there.
+abbrev pub behind_one : Part → List (List ℕ) → Option (List (List ℕ))
+behind_one part [] = None
+behind_one part (w ∷ ws) = if fits part w then Some ws else None
+
+abbrev pub behind : Part → List (List ℕ) → Option (List (List ℕ))
+behind part ws = if are_items part then Some (behind_items ws) else behind_one part ws
+
+abbrev pub is_end : List (List ℕ) → Bool
+is_end [] = true
+is_end (w ∷ ws) = false
+
+-- The words are those of the parts, from the left.
+abbrev pub matches : List Part → List (List ℕ) → Bool
+matches [] ws = is_end ws
+matches (part ∷ parts) ws = unwrap_or (option_map (λ rest. matches parts rest) (behind part ws)) false
+
+-- The form of a line with these words: the first row whose parts they are.
+abbrev pub first_row : List Row → List (List ℕ) → Option Row
+first_row [] ws = None
+first_row (row ∷ rows) ws = if matches (parts_of row) ws then Some row else first_row rows ws
+
+abbrev pub row_of : List (List ℕ) → Option Row
+row_of ws = first_row rows ws
+
+-- The places of a part's words. A fixed word has none.
+abbrev pub is_fixed : Part → Bool
+is_fixed (Fixed fixed) = true
+is_fixed _ = false
+
+abbrev pub spot_of_part : Part → List (List ℕ) → List Spot
+spot_of_part part [] = []
+spot_of_part part (w ∷ ws) = if is_fixed part then [] else record { part = part; word = w } ∷ []
+
+abbrev pub spots_at : Part → List (List ℕ) → List Spot
+spots_at part ws = if are_items part then spots_of_items ws else spot_of_part part ws
+
+-- The places of a line, from the left.
+abbrev pub spots_of : List Part → List (List ℕ) → List Spot
+spots_of [] ws = []
+spots_of (part ∷ parts) ws = spots_at part ws ++ spots_of parts (unwrap_or (behind part ws) [])
+
+abbrev pub spots_by : Option Row → List (List ℕ) → List Spot
+spots_by None ws = []
+spots_by (Some row) ws = spots_of (parts_of row) ws
+
+-- The places of a line, and none where it has no form.
+abbrev pub spots_in : List (List ℕ) → List Spot
+spots_in ws = spots_by (row_of ws) ws

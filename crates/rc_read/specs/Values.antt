@@ -1,0 +1,121 @@
+-- What the words of a line say in their places.
+use Rattle.std.specs.Prelude.{ℕ, ◌-◌, ◌*◌, ◌^◌, List, [], ◌∷◌, Option, Some, None, Bool, false, ◌||◌, ◌&&◌, nat_le, is_none, option_map, unwrap_or, if◌then◌else◌, ℤ, pos, negsuc}
+use Rattle.rc_lang.specs.declared.lines.Comparison.{Comparison}
+use Rattle.rc_lang.specs.declared.lines.Operand.TheVariants as operand
+use Rattle.rc_lang.specs.Numbers.{is_number, value_of, number_of, signed_number_of}
+use Rattle.rc_read.specs.declared.table.Part.{Part}
+use Rattle.rc_read.specs.declared.table.Part.TheVariants as part
+use Rattle.rc_read.specs.declared.table.Range.{Range}
+use Rattle.rc_read.specs.declared.table.Range.TheVariants.{Within, Size, CompletionSize, Rounded, Entries, Shares}
+use Rattle.rc_read.specs.declared.values.Item.{Item as ItemOf}
+use Rattle.rc_read.specs.declared.values.Item.TheVariants as item
+use Rattle.rc_read.specs.declared.values.Seen.{Seen}
+use Rattle.rc_read.specs.declared.values.Value.{Value}
+use Rattle.rc_read.specs.declared.values.Value.TheVariants.{Nothing, Small, UserData, Named, Operand, Compares, Item}
+use Rattle.rc_read.specs.Sheets.{Sheet, number_in, buffer_number, shares_in}
+use Rattle.rc_read.specs.Spots.{Spot, begins_number, comparison_of}
+
+-- ---- numbers
+
+-- the first of these numbers that isn't below n
+abbrev pub first_from : ℕ → List ℕ → ℕ
+first_from n [] = 2048
+first_from n (p ∷ ps) = if nat_le n p then p else first_from n ps
+
+-- A ring has the least power of two that isn't below the number asked for, up to 2048 (io_uring_setup(2)).
+abbrev pub rounded_up : ℕ → ℕ
+rounded_up n = first_from n (1 ∷ 2 ∷ 4 ∷ 8 ∷ 16 ∷ 32 ∷ 64 ∷ 128 ∷ 256 ∷ 512 ∷ 1024 ∷ [])
+
+-- Of a completion ring are asked at least as many entries as the submission ring has.
+abbrev pub with_room : ℕ → Option ℕ → Option ℕ
+with_room entries None = None
+with_room entries (Some n) = if nat_le entries (rounded_up n) then Some n else None
+
+-- Of a buffer that isn't declared any number from 1 on is in its range.
+abbrev pub any_share : List ℕ → Option ℕ
+any_share w = if is_number w && nat_le 1 (value_of w) then Some 1 else None
+
+abbrev pub shares_of : Option ℕ → List ℕ → Option ℕ
+shares_of None w = any_share w
+shares_of (Some shares) w = number_of 1 shares w
+
+-- The number that a word spells, where it lies in a range.
+abbrev pub number_at : Sheet → Seen → Range → List ℕ → Option ℕ
+number_at s seen (Within low high) w = number_of low high w
+number_at s seen Size w = number_of 1 1024 w
+number_at s seen CompletionSize w = with_room seen.rounded (number_of 1 2048 w)
+number_at s seen Rounded w = number_of 0 seen.rounded w
+number_at s seen Entries w = number_of 0 s.head.entries w
+number_at s seen Shares w = shares_of seen.shares w
+
+abbrev pub signed_of : List ℕ → Option ℤ
+signed_of w = signed_number_of (negsuc (2 ^ 63 - 1)) (pos (2 ^ 63 - 1)) w
+
+abbrev pub user_data_of : List ℕ → Option ℕ
+user_data_of w = number_of 0 (2 ^ 64 - 1) w
+
+abbrev pub file_number_of : List ℕ → Option ℕ
+file_number_of w = number_of 0 1023 w
+
+-- ---- places
+
+abbrev pub small : Option ℕ → Option Value
+small n = option_map (λ n. Small n) n
+
+abbrev pub signed : List ℕ → Option Value
+signed w = option_map (λ n. Operand (operand.Number n)) (signed_of w)
+
+abbrev pub operand_of : Sheet → List ℕ → Option Value
+operand_of s w = if begins_number w then signed w else Some (Operand (operand.Variable (number_in s.draft.names w)))
+
+abbrev pub compares : Option Comparison → Value
+compares None = Nothing
+compares (Some c) = Compares c
+
+-- What the word of a place says; none where the place is a number's and the word is no number or is out of its range.
+abbrev pub value_at : Sheet → Seen → Part → List ℕ → Option Value
+value_at s seen part.Variable w = Some (Named (number_in s.draft.names w))
+value_at s seen part.Operand w = operand_of s w
+value_at s seen part.Comparison w = Some (compares (comparison_of w))
+value_at s seen part.Signed w = signed w
+value_at s seen (part.Number range) w = small (number_at s seen range w)
+value_at s seen part.File w = small (file_number_of w)
+value_at s seen part.NewFile w = small (file_number_of w)
+value_at s seen part.Buffer w = Some (Named (buffer_number s.buffers w))
+value_at s seen part.Token w = option_map (λ u. UserData u) (user_data_of w)
+value_at s seen part.NewToken w = option_map (λ u. UserData u) (user_data_of w)
+value_at s seen part.HeldShares w = option_map (λ k. Item (item.Shares seen.buffer k)) (number_of 1 16 w)
+value_at s seen part.HeldToken w = option_map (λ u. Item (item.Token u)) (user_data_of w)
+value_at s seen part.Credits w = option_map (λ n. Item (item.Credits n)) (number_of 0 2048 w)
+value_at s seen part.Queued w = option_map (λ k. Item (item.Queued k)) (number_of 0 s.head.entries w)
+value_at s seen _ w = Some Nothing
+
+-- What a place says of those behind it: the entries of a submission ring, and a buffer.
+abbrev pub start : Seen
+start = record { rounded = 1; buffer = 0; shares = None }
+
+abbrev pub sized : Seen → Option ℕ → Seen
+sized seen None = seen
+sized seen (Some n) = record seen { rounded = rounded_up n }
+
+abbrev pub seen_behind : Sheet → Seen → Part → List ℕ → Seen
+seen_behind s seen (part.Number Size) w = sized seen (number_of 1 1024 w)
+seen_behind s seen part.Buffer w = record seen { buffer = buffer_number s.buffers w; shares = shares_in s.buffers w }
+seen_behind s seen _ w = seen
+
+-- ---- lines
+
+-- A word in a number's place is no number or is out of its range.
+abbrev pub any_lacks : Sheet → Seen → List Spot → Bool
+any_lacks s seen [] = false
+any_lacks s seen (p ∷ ps) = is_none (value_at s seen p.part p.word) || any_lacks s (seen_behind s seen p.part p.word) ps
+
+abbrev pub values_of : Sheet → Seen → List Spot → List Value
+values_of s seen [] = []
+values_of s seen (p ∷ ps) = unwrap_or (value_at s seen p.part p.word) Nothing ∷ values_of s (seen_behind s seen p.part p.word) ps
+
+-- The items of a line.
+abbrev pub items_in : List Value → List ItemOf
+items_in [] = []
+items_in (Item i ∷ vs) = i ∷ items_in vs
+items_in (v ∷ vs) = items_in vs

@@ -1,0 +1,130 @@
+//! Names, and what is declared.
+
+ghost use Rattle.std.specs.Prelude.{◌≡◌, map, OnOk};
+ghost use Rattle.std.specs.Str.{bytes_eq};
+ghost use Rattle.rc_lang.specs.Parts.{view_buffer, view_thread};
+ghost use Rattle.rc_read.specs.Sheets as spec;
+ghost use Rattle.rc_read.specs.Texts.{view_spots};
+ghost use Rattle.rc_read.specs.View.{view_names};
+
+use crate::spots::{Spot, begins_number};
+use crate::table::Part;
+use rc_lang::program::{Buffer, File, Thread, Token};
+use std::alloc::{AllocError, Global};
+
+// Whether two names are the same. Their ends differ most often.
+fn is_same(name: &[u8], word: &[u8]) -> bool
+    ensures { result ≡ bytes_eq name.now word.now }
+{
+    name.len() == word.len() && name.last() == word.last() && name == word
+}
+
+/// The number of a name, which for a new one is that of the next.
+pub fn number_in(names: &[Vec<u8>], word: &[u8]) -> usize
+    ensures { result ≡ spec.number_in (view_names names.now) word.now }
+{
+    for (i, name) in names.iter().enumerate() {
+        if is_same(name, word) {
+            return i;
+        }
+    }
+    names.len()
+}
+
+/// The number of a buffer, which where it isn't declared is that of the next, and its shares if it is declared.
+pub fn find_buffer(buffers: &[Buffer], word: &[u8]) -> (usize, Option<u32>)
+    ensures number { result.0 ≡ spec.buffer_number (map view_buffer buffers.now) word.now }
+    ensures shares { result.1 ≡ spec.shares_in (map view_buffer buffers.now) word.now }
+{
+    for (i, buffer) in buffers.iter().enumerate() {
+        if is_same(&buffer.name, word) {
+            return (i, Some(buffer.shares));
+        }
+    }
+    (buffers.len(), None)
+}
+
+/// Whether a buffer is declared.
+pub fn has_buffer(buffers: &[Buffer], word: &[u8]) -> bool
+    ensures { result ≡ spec.is_among (spec.buffer_names (map view_buffer buffers.now)) word.now }
+{
+    for buffer in buffers {
+        if is_same(&buffer.name, word) {
+            return true;
+        }
+    }
+    false
+}
+
+/// Whether a complete thread has this name.
+pub fn has_thread(threads: &[Thread], word: &[u8]) -> bool
+    ensures { result ≡ spec.is_among (spec.thread_names (map view_thread threads.now)) word.now }
+{
+    for thread in threads {
+        if is_same(&thread.name, word) {
+            return true;
+        }
+    }
+    false
+}
+
+/// Whether a file is declared.
+pub fn has_file(files: &[File], number: u32) -> bool
+    ensures { result ≡ spec.has_file files.now number }
+{
+    files.iter().any(|file| file.number == number)
+}
+
+/// Whether a token is declared.
+pub fn has_token(tokens: &[Token], user_data: u64) -> bool
+    ensures { result ≡ spec.has_token tokens.now user_data }
+{
+    // Most often they are numbered from 0 on.
+    let place = user_data as usize;
+    if place < tokens.len() && tokens[place].user_data == user_data {
+        return true;
+    }
+    tokens.iter().any(|token| token.user_data == user_data)
+}
+
+fn is_among(names: &[Vec<u8>], word: &[u8]) -> bool
+    ensures { result ≡ spec.is_among (view_names names.now) word.now }
+{
+    for name in names {
+        if is_same(name, word) {
+            return true;
+        }
+    }
+    false
+}
+
+fn add_name(alloc: Global, names: &mut Vec<Vec<u8>>, word: &[u8]) -> Result<(), AllocError>
+    ensures { OnOk result (view_names names.new.items ≡ spec.with_name (view_names names.old.items) word.now) }
+{
+    if !is_among(names, word) {
+        names.push(word.to_vec(alloc)?)?;
+    }
+    Ok(())
+}
+
+fn is_variable(part: Part, word: &[u8]) -> bool
+    ensures { result ≡ spec.is_variable part word.now }
+{
+    match part {
+        Part::Variable => true,
+        Part::Operand => !begins_number(word),
+        _ => false,
+    }
+}
+
+/// Adds the variables of a line.
+pub fn add_names(alloc: Global, names: &mut Vec<Vec<u8>>, spots: &[Spot]) -> Result<(), AllocError>
+    ensures { OnOk result (view_names names.new.items ≡ spec.names_behind (view_names names.old.items) (view_spots spots.now)) }
+{
+    for spot in spots {
+        if is_variable(spot.part, spot.word) {
+            add_name(alloc, names, spot.word)?;
+        }
+    }
+    Ok(())
+}

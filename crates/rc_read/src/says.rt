@@ -1,0 +1,187 @@
+//! What a line says.
+
+ghost use Rattle.std.specs.Prelude.{◌≡◌};
+ghost use Rattle.rc_read.specs.Says as spec;
+
+use crate::table::Row;
+use crate::values::{Value, rounded_up};
+use rc_lang::lines::{Comparison, Op, Operand, Test};
+use rc_lang::program::{File, Head, Token, TokenKind};
+
+/// What a line says, but for its items and the name that it declares.
+#[derive(Clone, Copy)]
+pub enum Says {
+    Version,
+    Ring(Head),
+    File(File),
+    /// A buffer's bytes and shares.
+    Buffer(u32, u32),
+    Token(Token),
+    Thread,
+    Op(Op),
+    Lock,
+    If(Test),
+    Else,
+    Peek(usize),
+    Case(u64),
+    Other,
+    Nothing,
+    Loop,
+    Break,
+    Close,
+}
+
+fn small(values: &[Value], i: usize) -> u32
+    ensures { result ≡ spec.small values.now i }
+{
+    match values.get(i) {
+        Some(Value::Small(n)) => *n,
+        _ => 0,
+    }
+}
+
+fn user_data(values: &[Value], i: usize) -> u64
+    ensures { result ≡ spec.user_data values.now i }
+{
+    match values.get(i) {
+        Some(Value::UserData(u)) => *u,
+        _ => 0,
+    }
+}
+
+fn named(values: &[Value], i: usize) -> usize
+    ensures { result ≡ spec.named values.now i }
+{
+    match values.get(i) {
+        Some(Value::Named(n)) => *n,
+        _ => 0,
+    }
+}
+
+fn operand(values: &[Value], i: usize) -> Operand
+    ensures { result ≡ spec.operand values.now i }
+{
+    match values.get(i) {
+        Some(Value::Operand(operand)) => *operand,
+        _ => Operand::Number(0),
+    }
+}
+
+fn signed(values: &[Value], i: usize) -> i64
+    ensures { result ≡ spec.signed values.now i }
+{
+    match values.get(i) {
+        Some(Value::Operand(Operand::Number(n))) => *n,
+        _ => 0,
+    }
+}
+
+fn comparison(values: &[Value], i: usize) -> Comparison
+    ensures { result ≡ spec.comparison values.now i }
+{
+    match values.get(i) {
+        Some(Value::Compares(comparison)) => *comparison,
+        _ => Comparison::Equal,
+    }
+}
+
+// A head without a size of its own for the completion ring, which then has twice the entries (`io_uring_setup(2)`).
+fn with_rings(size: u32, left: u32) -> Says
+    ensures { result ≡ spec.with_rings size left }
+{
+    let entries = rounded_up(size);
+    Says::Ring(Head {
+        entries,
+        completion_entries: 2 * entries,
+        left,
+    })
+}
+
+fn with_both(size: u32, completion_size: u32, left: u32) -> Says
+    ensures { result ≡ spec.with_both size completion_size left }
+{
+    Says::Ring(Head {
+        entries: rounded_up(size),
+        completion_entries: rounded_up(completion_size),
+        left,
+    })
+}
+
+// `x = A`, by what A is.
+fn sets(variable: usize, to: Operand) -> Says
+    ensures { result ≡ spec.sets variable to }
+{
+    match to {
+        Operand::Variable(from) => Says::Op(Op::Assign(variable, from)),
+        Operand::Number(n) => Says::Op(Op::Set(variable, n)),
+    }
+}
+
+/// What a line of this form says, given what its places say.
+pub fn says_of(row: Row, v: &[Value]) -> Says
+    ensures { result ≡ spec.says_of row v.now }
+{
+    match row {
+        Row::Version => Says::Version,
+        Row::Ring => with_rings(small(v, 0), 0),
+        Row::RingCq => with_both(small(v, 0), small(v, 1), 0),
+        Row::RingLeft => with_rings(small(v, 0), small(v, 1)),
+        Row::RingCqLeft => with_both(small(v, 0), small(v, 1), small(v, 2)),
+        Row::File => Says::File(File {
+            number: small(v, 0),
+            len: small(v, 1),
+        }),
+        Row::Buffer => Says::Buffer(small(v, 1), small(v, 2)),
+        Row::TokenRead => Says::Token(Token {
+            user_data: user_data(v, 0),
+            kind: TokenKind::Read(named(v, 1)),
+        }),
+        Row::TokenWrite => Says::Token(Token {
+            user_data: user_data(v, 0),
+            kind: TokenKind::Write(named(v, 1), small(v, 2)),
+        }),
+        Row::TokenFsync => Says::Token(Token {
+            user_data: user_data(v, 0),
+            kind: TokenKind::Fsync,
+        }),
+        Row::TokenNop => Says::Token(Token {
+            user_data: user_data(v, 0),
+            kind: TokenKind::Nop,
+        }),
+        Row::Thread => Says::Thread,
+        Row::Set => sets(named(v, 0), operand(v, 1)),
+        Row::Add => Says::Op(Op::Add(named(v, 0), operand(v, 1), operand(v, 2))),
+        Row::Subtract => Says::Op(Op::Subtract(named(v, 0), operand(v, 1), operand(v, 2))),
+        Row::Load => Says::Op(Op::Load(named(v, 0), named(v, 1), small(v, 2))),
+        Row::Store => Says::Op(Op::Store(named(v, 0), small(v, 1), named(v, 2))),
+        Row::Fill => Says::Op(Op::Fill(named(v, 0), named(v, 1))),
+        Row::Print => Says::Op(Op::Print(named(v, 0))),
+        Row::Lock => Says::Lock,
+        Row::GetSqe => Says::Op(Op::GetSqe),
+        Row::PrepRead => Says::Op(Op::PrepRead(small(v, 0), named(v, 1), small(v, 2), small(v, 3))),
+        Row::PrepWrite => Says::Op(Op::PrepWrite(
+            small(v, 0),
+            named(v, 1),
+            small(v, 2),
+            small(v, 3),
+            small(v, 4),
+        )),
+        Row::PrepFsync => Says::Op(Op::PrepFsync(small(v, 0), small(v, 1) == 1)),
+        Row::PrepNop => Says::Op(Op::PrepNop),
+        Row::SetData64 => Says::Op(Op::SetData64(user_data(v, 0))),
+        Row::Submit => Says::Op(Op::Submit(named(v, 0))),
+        Row::SubmitAndWait => Says::Op(Op::SubmitAndWait(named(v, 0), small(v, 1))),
+        Row::CqeSeen => Says::Op(Op::CqeSeen),
+        Row::Peek => Says::Peek(named(v, 0)),
+        Row::Case => Says::Case(user_data(v, 0)),
+        Row::Other => Says::Other,
+        Row::Nothing => Says::Nothing,
+        Row::If => Says::If(Test::Compare(named(v, 0), comparison(v, 1), signed(v, 2))),
+        Row::IfReady => Says::If(Test::ReadyZero),
+        Row::IfSpace => Says::If(Test::SpaceAtLeast(small(v, 0))),
+        Row::Else => Says::Else,
+        Row::Loop => Says::Loop,
+        Row::Break => Says::Break,
+        Row::Close => Says::Close,
+    }
+}

@@ -1,0 +1,276 @@
+//! Which form a line has, and the places of its words.
+
+ghost use Rattle.std.specs.Prelude.{◌≡◌, ◌≤◌, ◌++◌, length, true, IfOk, IfSome, OnOk};
+ghost use Rattle.rc_read.specs.Quick as quick;
+ghost use Rattle.rc_read.specs.Spots as spec;
+ghost use Rattle.rc_read.specs.Table.{parts_of as spec_parts_of};
+ghost use Rattle.rc_read.specs.Texts.{texts_of, view_spots};
+
+use crate::table::{Part, Row, parts_of, rows_of, text_of};
+use crate::words::{is, is_name};
+use rc_lang::lines::Comparison;
+use std::alloc::AllocError;
+
+/// A word in its place, with the part that stands there.
+#[derive(Clone, Copy)]
+pub struct Spot<'a> {
+    pub part: Part,
+    pub word: &'a [u8],
+}
+
+/// The comparison that a word is.
+pub fn comparison_of(word: &[u8]) -> Option<Comparison>
+    ensures { result ≡ spec.comparison_of word.now }
+{
+    if is(word, b"==") {
+        Some(Comparison::Equal)
+    } else if is(word, b"!=") {
+        Some(Comparison::NotEqual)
+    } else if is(word, b"<") {
+        Some(Comparison::Less)
+    } else if is(word, b"<=") {
+        Some(Comparison::AtMost)
+    } else if is(word, b">") {
+        Some(Comparison::Greater)
+    } else if is(word, b">=") {
+        Some(Comparison::AtLeast)
+    } else {
+        None
+    }
+}
+
+/// Whether a word stands for a number in an operand's place.
+pub fn begins_number(word: &[u8]) -> bool
+    ensures { result ≡ spec.begins_number word.now }
+{
+    match word {
+        [] => false,
+        [first, ..] => first.is_ascii_digit() || *first == b'-',
+    }
+}
+
+fn fits(part: Part, word: &[u8]) -> bool
+    ensures { result ≡ spec.fits part word.now }
+{
+    match part {
+        Part::Fixed(fixed) => is(word, text_of(fixed)),
+        Part::Variable | Part::Buffer | Part::NewBuffer | Part::NewThread => is_name(word),
+        Part::Operand => begins_number(word) || is_name(word),
+        Part::Comparison => comparison_of(word).is_some(),
+        Part::Signed | Part::Number(_) | Part::File | Part::Token => true,
+        Part::NewFile | Part::NewToken => true,
+        Part::Items | Part::HeldShares | Part::HeldToken | Part::Credits | Part::Queued => true,
+    }
+}
+
+fn are_items(part: Part) -> bool
+    ensures { result ≡ spec.are_items part }
+{
+    match part {
+        Part::Items => true,
+        _ => false,
+    }
+}
+
+fn colon_in(word: &[u8]) -> Option<usize>
+    ensures { result ≡ spec.colon_in word.now }
+{
+    word.iter().position(|b| *b == b':')
+}
+
+fn is_item_name(name: &[u8]) -> bool
+    ensures { result ≡ spec.is_item_name name.now }
+{
+    is(name, b"t") || is(name, b"c") || is(name, b"q") || is_name(name)
+}
+
+fn is_item(word: &[u8]) -> bool
+    ensures { result ≡ spec.is_item word.now }
+{
+    match colon_in(word) {
+        None => false,
+        Some(i) => is_item_name(&word[..i]),
+    }
+}
+
+fn push_item<'a>(
+    spots: &mut Vec<Spot<'a>>,
+    name: &'a [u8],
+    number: &'a [u8],
+) -> Result<(), AllocError>
+    ensures { OnOk result (view_spots spots.new.items ≡ view_spots spots.old.items ++ spec.item_spots name.now number.now) }
+{
+    if is(name, b"t") {
+        spots.push(Spot {
+            part: Part::HeldToken,
+            word: number,
+        })?;
+    } else if is(name, b"c") {
+        spots.push(Spot {
+            part: Part::Credits,
+            word: number,
+        })?;
+    } else if is(name, b"q") {
+        spots.push(Spot {
+            part: Part::Queued,
+            word: number,
+        })?;
+    } else {
+        spots.push(Spot {
+            part: Part::Buffer,
+            word: name,
+        })?;
+        spots.push(Spot {
+            part: Part::HeldShares,
+            word: number,
+        })?;
+    }
+    Ok(())
+}
+
+fn push_cut<'a>(spots: &mut Vec<Spot<'a>>, word: &'a [u8]) -> Result<(), AllocError>
+    ensures { OnOk result (view_spots spots.new.items ≡ view_spots spots.old.items ++ spec.spots_of_item word.now) }
+{
+    match colon_in(word) {
+        None => Ok(()),
+        Some(i) => push_item(spots, &word[..i], &word[i + 1..]),
+    }
+}
+
+// How many words are items, from the left.
+fn items_in_front(words: &[&[u8]]) -> usize
+    ensures value { result ≡ quick.items_in_front (texts_of words.now) }
+    ensures within { result ≤ length words.now }
+{
+    for (i, word) in words.iter().enumerate() {
+        if !is_item(word) {
+            return i;
+        }
+    }
+    words.len()
+}
+
+// How many words a part takes, where they stand there.
+fn taken_by(part: Part, words: &[&[u8]]) -> Option<usize>
+    ensures value { result ≡ quick.taken_by part (texts_of words.now) }
+    ensures within { IfSome result (λ n. n ≤ length words.now) }
+{
+    if are_items(part) {
+        return Some(items_in_front(words));
+    }
+    match words {
+        [] => None,
+        [word, ..] => fits(part, word).then_some(1),
+    }
+}
+
+// Adds the places of these items.
+fn push_items<'a>(spots: &mut Vec<Spot<'a>>, words: &[&'a [u8]]) -> Result<(), AllocError>
+    ensures { OnOk result (view_spots spots.new.items ≡ view_spots spots.old.items ++ quick.spots_of_all (texts_of words.now)) }
+{
+    for word in words {
+        push_cut(spots, word)?;
+    }
+    Ok(())
+}
+
+// Adds the places of the words that a part takes.
+fn push_taken<'a>(
+    spots: &mut Vec<Spot<'a>>,
+    part: Part,
+    words: &[&'a [u8]],
+) -> Result<(), AllocError>
+    ensures { OnOk result (view_spots spots.new.items ≡ view_spots spots.old.items ++ quick.spots_of_taken part (texts_of words.now)) }
+{
+    if are_items(part) {
+        return push_items(spots, words);
+    }
+    match (part, words) {
+        (Part::Fixed(_), _) | (_, []) => Ok(()),
+        (part, [word, ..]) => {
+            spots.push(Spot { part, word })?;
+            Ok(())
+        }
+    }
+}
+
+// Puts the places of a line with these words there, from the left, where the words are those of the parts.
+fn put_places<'a>(
+    spots: &mut Vec<Spot<'a>>,
+    parts: &[Part],
+    words: &[&'a [u8]],
+) -> Result<bool, AllocError>
+    ensures matches { IfOk result (λ b. b ≡ spec.matches parts.now (texts_of words.now)) }
+    ensures spots { IfOk result (λ b. b ≡ true → view_spots spots.new.items ≡ spec.spots_of parts.now (texts_of words.now)) }
+{
+    spots.clear();
+    let mut at = 0;
+    for part in parts {
+        let Some(count) = taken_by(*part, &words[at..]) else {
+            return Ok(false);
+        };
+        push_taken(spots, *part, &words[at..at + count])?;
+        at += count;
+    }
+    Ok(at == words.len())
+}
+
+// Whether the words are as many as the parts, and the fixed ones among them are there: a fast test ahead of the other.
+fn may_match(parts: &[Part], words: &[&[u8]]) -> bool
+    ensures { result ≡ quick.may_match parts.now (texts_of words.now) }
+{
+    match (parts, words) {
+        ([], []) => true,
+        ([Part::Items, ..], _) => true,
+        ([], _) | (_, []) => false,
+        ([Part::Fixed(fixed), parts @ ..], [word, words @ ..]) => {
+            is(word, text_of(*fixed)) && may_match(parts, words)
+        }
+        ([_, parts @ ..], [_, words @ ..]) => may_match(parts, words),
+    }
+}
+
+fn put_parts<'a>(
+    spots: &mut Vec<Spot<'a>>,
+    parts: &[Part],
+    words: &[&'a [u8]],
+) -> Result<bool, AllocError>
+    ensures matches { IfOk result (λ b. b ≡ spec.matches parts.now (texts_of words.now)) }
+    ensures spots { IfOk result (λ b. b ≡ true → view_spots spots.new.items ≡ spec.spots_of parts.now (texts_of words.now)) }
+{
+    if !may_match(parts, words) {
+        return Ok(false);
+    }
+    put_places(spots, parts, words)
+}
+
+// The first of these forms that a line has with these words, whose places are put there.
+fn first_row<'a>(
+    spots: &mut Vec<Spot<'a>>,
+    rows: &[Row],
+    words: &[&'a [u8]],
+) -> Result<Option<Row>, AllocError>
+    ensures row { IfOk result (λ o. o ≡ spec.first_row rows.now (texts_of words.now)) }
+    ensures spots { IfOk result (λ o. IfSome o (λ row. view_spots spots.new.items ≡ spec.spots_of (spec_parts_of row) (texts_of words.now))) }
+{
+    for row in rows {
+        if put_parts(spots, parts_of(*row), words)? {
+            return Ok(Some(*row));
+        }
+    }
+    Ok(None)
+}
+
+/// The form of a line with these words, whose places are put there.
+pub fn put_spots<'a>(
+    spots: &mut Vec<Spot<'a>>,
+    words: &[&'a [u8]],
+) -> Result<Option<Row>, AllocError>
+    ensures row { IfOk result (λ o. o ≡ spec.row_of (texts_of words.now)) }
+    ensures spots { IfOk result (λ o. IfSome o (λ row. view_spots spots.new.items ≡ spec.spots_of (spec_parts_of row) (texts_of words.now))) }
+{
+    match first_row(spots, rows_of(words.len()), words) {
+        Ok(row) => Ok(row),
+        Err(e) => Err(e),
+    }
+}

@@ -1,0 +1,519 @@
+//! The table of the notation's forms.
+
+ghost use Rattle.std.specs.Prelude.{◌≡◌};
+ghost use Rattle.rc_read.specs.Quick.{fitting};
+ghost use Rattle.rc_read.specs.Table as spec;
+
+/// A word that stands as it is.
+#[derive(Clone, Copy)]
+pub enum Word {
+    Ringcheck,
+    One,
+    Ring,
+    Cq,
+    Left,
+    File,
+    Buffer,
+    Token,
+    Read,
+    Write,
+    Fsync,
+    Nop,
+    Thread,
+    Holds,
+    Open,
+    Close,
+    Is,
+    Plus,
+    Minus,
+    Load,
+    Store,
+    Fill,
+    Print,
+    Lock,
+    GetSqe,
+    PrepRead,
+    PrepWrite,
+    PrepFsync,
+    PrepNop,
+    SetData64,
+    Submit,
+    SubmitAndWait,
+    CqeSeen,
+    PeekCqe,
+    Case,
+    Other,
+    Nothing,
+    If,
+    SqReady,
+    Equal,
+    Zero,
+    SqSpaceLeft,
+    AtLeast,
+    Else,
+    Loop,
+    Keeps,
+    Break,
+}
+
+/// The range of a number.
+#[derive(Clone, Copy)]
+pub enum Range {
+    /// From the first number to the second.
+    Within(u32, u32),
+    /// A submission ring's size, which is rounded up to its entries.
+    Size,
+    /// A completion ring's size, whose entries are at least those of the submission ring before.
+    CompletionSize,
+    /// To the entries of the submission ring of the size before.
+    Rounded,
+    /// To the ring's entries.
+    Entries,
+    /// From 1 to the shares of the buffer before.
+    Shares,
+}
+
+/// A part of a form.
+#[derive(Clone, Copy)]
+pub enum Part {
+    /// A word that stands as it is.
+    Fixed(Word),
+    Variable,
+    /// A variable or a signed number.
+    Operand,
+    Comparison,
+    Signed,
+    Number(Range),
+    /// A file, a buffer or a token that is declared above.
+    File,
+    Buffer,
+    Token,
+    /// A file, a buffer, a token or a thread that the line declares.
+    NewFile,
+    NewBuffer,
+    NewToken,
+    NewThread,
+    /// Any number of items.
+    Items,
+    /// In an item: the shares of the buffer before, a token that is declared above, credits and queued entries.
+    HeldShares,
+    HeldToken,
+    Credits,
+    Queued,
+}
+
+/// A form of lines.
+#[derive(Clone, Copy)]
+pub enum Row {
+    Version,
+    Ring,
+    RingCq,
+    RingLeft,
+    RingCqLeft,
+    File,
+    Buffer,
+    TokenRead,
+    TokenWrite,
+    TokenFsync,
+    TokenNop,
+    Thread,
+    Set,
+    Add,
+    Subtract,
+    Load,
+    Store,
+    Fill,
+    Print,
+    Lock,
+    GetSqe,
+    PrepRead,
+    PrepWrite,
+    PrepFsync,
+    PrepNop,
+    SetData64,
+    Submit,
+    SubmitAndWait,
+    CqeSeen,
+    Peek,
+    Case,
+    Other,
+    Nothing,
+    If,
+    IfReady,
+    IfSpace,
+    Else,
+    Loop,
+    Break,
+    Close,
+}
+
+/// Where in a text a form may stand.
+#[derive(Clone, Copy)]
+pub enum Stand {
+    /// As the first line.
+    First,
+    /// As the second line.
+    Second,
+    /// Behind the head, above the threads.
+    Declaration,
+    /// Behind the head, in no thread.
+    Header,
+    /// In a thread.
+    Inside,
+    /// Wherever a block may be open.
+    Brace,
+}
+
+/// The bytes of a fixed word.
+pub fn text_of(word: Word) -> &'static [u8]
+    ensures { result.now ≡ spec.text_of word }
+{
+    match word {
+        Word::Ringcheck => b"ringcheck",
+        Word::One => b"1",
+        Word::Ring => b"ring",
+        Word::Cq => b"cq",
+        Word::Left => b"left",
+        Word::File => b"file",
+        Word::Buffer => b"buffer",
+        Word::Token => b"token",
+        Word::Read => b"read",
+        Word::Write => b"write",
+        Word::Fsync => b"fsync",
+        Word::Nop => b"nop",
+        Word::Thread => b"thread",
+        Word::Holds => b"holds",
+        Word::Open => b"{",
+        Word::Close => b"}",
+        Word::Is => b"=",
+        Word::Plus => b"+",
+        Word::Minus => b"-",
+        Word::Load => b"load",
+        Word::Store => b"store",
+        Word::Fill => b"fill",
+        Word::Print => b"print",
+        Word::Lock => b"lock",
+        Word::GetSqe => b"get_sqe",
+        Word::PrepRead => b"prep_read",
+        Word::PrepWrite => b"prep_write",
+        Word::PrepFsync => b"prep_fsync",
+        Word::PrepNop => b"prep_nop",
+        Word::SetData64 => b"set_data64",
+        Word::Submit => b"submit",
+        Word::SubmitAndWait => b"submit_and_wait",
+        Word::CqeSeen => b"cqe_seen",
+        Word::PeekCqe => b"peek_cqe",
+        Word::Case => b"case",
+        Word::Other => b"other",
+        Word::Nothing => b"none",
+        Word::If => b"if",
+        Word::SqReady => b"sq_ready",
+        Word::Equal => b"==",
+        Word::Zero => b"0",
+        Word::SqSpaceLeft => b"sq_space_left",
+        Word::AtLeast => b">=",
+        Word::Else => b"else",
+        Word::Loop => b"loop",
+        Word::Keeps => b"keeps",
+        Word::Break => b"break",
+    }
+}
+
+/// The parts of a form, from the left.
+pub fn parts_of(row: Row) -> &'static [Part]
+    ensures { result.now ≡ spec.parts_of row }
+{
+    match row {
+        Row::Version => &[Part::Fixed(Word::Ringcheck), Part::Fixed(Word::One)],
+        Row::Ring => &[Part::Fixed(Word::Ring), Part::Number(Range::Size)],
+        Row::RingCq => &[
+            Part::Fixed(Word::Ring),
+            Part::Number(Range::Size),
+            Part::Fixed(Word::Cq),
+            Part::Number(Range::CompletionSize),
+        ],
+        Row::RingLeft => &[
+            Part::Fixed(Word::Ring),
+            Part::Number(Range::Size),
+            Part::Fixed(Word::Left),
+            Part::Number(Range::Rounded),
+        ],
+        Row::RingCqLeft => &[
+            Part::Fixed(Word::Ring),
+            Part::Number(Range::Size),
+            Part::Fixed(Word::Cq),
+            Part::Number(Range::CompletionSize),
+            Part::Fixed(Word::Left),
+            Part::Number(Range::Rounded),
+        ],
+        Row::File => &[
+            Part::Fixed(Word::File),
+            Part::NewFile,
+            Part::Number(Range::Within(0, 65536)),
+        ],
+        Row::Buffer => &[
+            Part::Fixed(Word::Buffer),
+            Part::NewBuffer,
+            Part::Number(Range::Within(1, 4096)),
+            Part::Number(Range::Within(1, 16)),
+        ],
+        Row::TokenRead => &[
+            Part::Fixed(Word::Token),
+            Part::NewToken,
+            Part::Fixed(Word::Read),
+            Part::Buffer,
+        ],
+        Row::TokenWrite => &[
+            Part::Fixed(Word::Token),
+            Part::NewToken,
+            Part::Fixed(Word::Write),
+            Part::Buffer,
+            Part::Number(Range::Shares),
+        ],
+        Row::TokenFsync => &[
+            Part::Fixed(Word::Token),
+            Part::NewToken,
+            Part::Fixed(Word::Fsync),
+        ],
+        Row::TokenNop => &[
+            Part::Fixed(Word::Token),
+            Part::NewToken,
+            Part::Fixed(Word::Nop),
+        ],
+        Row::Thread => &[
+            Part::Fixed(Word::Thread),
+            Part::NewThread,
+            Part::Fixed(Word::Holds),
+            Part::Items,
+            Part::Fixed(Word::Open),
+        ],
+        Row::Set => &[Part::Variable, Part::Fixed(Word::Is), Part::Operand],
+        Row::Add => &[
+            Part::Variable,
+            Part::Fixed(Word::Is),
+            Part::Operand,
+            Part::Fixed(Word::Plus),
+            Part::Operand,
+        ],
+        Row::Subtract => &[
+            Part::Variable,
+            Part::Fixed(Word::Is),
+            Part::Operand,
+            Part::Fixed(Word::Minus),
+            Part::Operand,
+        ],
+        Row::Load => &[
+            Part::Variable,
+            Part::Fixed(Word::Is),
+            Part::Fixed(Word::Load),
+            Part::Buffer,
+            Part::Number(Range::Within(0, 4095)),
+        ],
+        Row::Store => &[
+            Part::Fixed(Word::Store),
+            Part::Buffer,
+            Part::Number(Range::Within(0, 4095)),
+            Part::Variable,
+        ],
+        Row::Fill => &[Part::Fixed(Word::Fill), Part::Buffer, Part::Variable],
+        Row::Print => &[Part::Fixed(Word::Print), Part::Variable],
+        Row::Lock => &[Part::Fixed(Word::Lock), Part::Fixed(Word::Open)],
+        Row::GetSqe => &[Part::Fixed(Word::GetSqe)],
+        Row::PrepRead => &[
+            Part::Fixed(Word::PrepRead),
+            Part::File,
+            Part::Buffer,
+            Part::Number(Range::Within(0, 4096)),
+            Part::Number(Range::Within(0, 1048576)),
+        ],
+        Row::PrepWrite => &[
+            Part::Fixed(Word::PrepWrite),
+            Part::File,
+            Part::Buffer,
+            Part::Number(Range::Within(0, 4096)),
+            Part::Number(Range::Within(0, 1048576)),
+            Part::Number(Range::Shares),
+        ],
+        Row::PrepFsync => &[
+            Part::Fixed(Word::PrepFsync),
+            Part::File,
+            Part::Number(Range::Within(0, 1)),
+        ],
+        Row::PrepNop => &[Part::Fixed(Word::PrepNop)],
+        Row::SetData64 => &[Part::Fixed(Word::SetData64), Part::Token],
+        Row::Submit => &[
+            Part::Variable,
+            Part::Fixed(Word::Is),
+            Part::Fixed(Word::Submit),
+        ],
+        Row::SubmitAndWait => &[
+            Part::Variable,
+            Part::Fixed(Word::Is),
+            Part::Fixed(Word::SubmitAndWait),
+            Part::Number(Range::Within(0, 2048)),
+        ],
+        Row::CqeSeen => &[Part::Fixed(Word::CqeSeen)],
+        Row::Peek => &[
+            Part::Fixed(Word::PeekCqe),
+            Part::Variable,
+            Part::Fixed(Word::Open),
+        ],
+        Row::Case => &[
+            Part::Fixed(Word::Case),
+            Part::Token,
+            Part::Fixed(Word::Open),
+        ],
+        Row::Other => &[Part::Fixed(Word::Other), Part::Fixed(Word::Open)],
+        Row::Nothing => &[Part::Fixed(Word::Nothing), Part::Fixed(Word::Open)],
+        Row::If => &[
+            Part::Fixed(Word::If),
+            Part::Variable,
+            Part::Comparison,
+            Part::Signed,
+            Part::Fixed(Word::Open),
+        ],
+        Row::IfReady => &[
+            Part::Fixed(Word::If),
+            Part::Fixed(Word::SqReady),
+            Part::Fixed(Word::Equal),
+            Part::Fixed(Word::Zero),
+            Part::Fixed(Word::Open),
+        ],
+        Row::IfSpace => &[
+            Part::Fixed(Word::If),
+            Part::Fixed(Word::SqSpaceLeft),
+            Part::Fixed(Word::AtLeast),
+            Part::Number(Range::Entries),
+            Part::Fixed(Word::Open),
+        ],
+        Row::Else => &[
+            Part::Fixed(Word::Close),
+            Part::Fixed(Word::Else),
+            Part::Fixed(Word::Open),
+        ],
+        Row::Loop => &[
+            Part::Fixed(Word::Loop),
+            Part::Fixed(Word::Keeps),
+            Part::Items,
+            Part::Fixed(Word::Open),
+        ],
+        Row::Break => &[Part::Fixed(Word::Break)],
+        Row::Close => &[Part::Fixed(Word::Close)],
+    }
+}
+
+/// Where a form may stand.
+pub fn stand_of(row: Row) -> Stand
+    ensures { result ≡ spec.stand_of row }
+{
+    match row {
+        Row::Version => Stand::First,
+        Row::Ring | Row::RingCq | Row::RingLeft | Row::RingCqLeft => Stand::Second,
+        Row::File
+        | Row::Buffer
+        | Row::TokenRead
+        | Row::TokenWrite
+        | Row::TokenFsync
+        | Row::TokenNop => Stand::Declaration,
+        Row::Thread => Stand::Header,
+        Row::Else | Row::Close => Stand::Brace,
+        Row::Set
+        | Row::Add
+        | Row::Subtract
+        | Row::Load
+        | Row::Store
+        | Row::Fill
+        | Row::Print
+        | Row::Lock
+        | Row::GetSqe
+        | Row::PrepRead
+        | Row::PrepWrite
+        | Row::PrepFsync
+        | Row::PrepNop
+        | Row::SetData64
+        | Row::Submit
+        | Row::SubmitAndWait
+        | Row::CqeSeen
+        | Row::Peek
+        | Row::Case
+        | Row::Other
+        | Row::Nothing
+        | Row::If
+        | Row::IfReady
+        | Row::IfSpace
+        | Row::Loop
+        | Row::Break => Stand::Inside,
+    }
+}
+
+/// The forms that a line with so many words can have, in the order in which they are tried.
+pub fn rows_of(count: usize) -> &'static [Row]
+    ensures { result.now ≡ fitting count spec.rows }
+{
+    if count == 1 {
+        &[
+            Row::Close,
+            Row::Break,
+            Row::GetSqe,
+            Row::CqeSeen,
+            Row::PrepNop,
+            Row::Loop,
+            Row::Thread,
+        ]
+    } else if count == 2 {
+        &[
+            Row::Lock,
+            Row::Other,
+            Row::Nothing,
+            Row::SetData64,
+            Row::Print,
+            Row::Loop,
+            Row::Thread,
+            Row::Ring,
+            Row::Version,
+        ]
+    } else if count == 3 {
+        &[
+            Row::Case,
+            Row::Peek,
+            Row::Submit,
+            Row::Else,
+            Row::Set,
+            Row::Fill,
+            Row::PrepFsync,
+            Row::Loop,
+            Row::Thread,
+            Row::File,
+            Row::TokenFsync,
+            Row::TokenNop,
+        ]
+    } else if count == 4 {
+        &[
+            Row::Store,
+            Row::SubmitAndWait,
+            Row::Loop,
+            Row::Thread,
+            Row::Buffer,
+            Row::TokenRead,
+            Row::RingCq,
+            Row::RingLeft,
+        ]
+    } else if count == 5 {
+        &[
+            Row::IfReady,
+            Row::If,
+            Row::IfSpace,
+            Row::Add,
+            Row::Subtract,
+            Row::Load,
+            Row::PrepRead,
+            Row::Loop,
+            Row::Thread,
+            Row::TokenWrite,
+        ]
+    } else if count == 6 {
+        &[Row::PrepWrite, Row::Loop, Row::Thread, Row::RingCqLeft]
+    } else {
+        &[Row::Loop, Row::Thread]
+    }
+}

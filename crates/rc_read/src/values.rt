@@ -1,0 +1,406 @@
+//! What the words of a line say in their places.
+
+ghost use Rattle.std.specs.Prelude.{◌≡◌, ◌≤◌, ◌&&◌, false, nat_le, ◌++◌, IfOk, IfSome, OnOk, is_none};
+ghost use Rattle.std.specs.List.{list_all};
+ghost use Rattle.rc_lang.specs.Numbers.{is_digit, is_number, number_of as number_in_range, value_of};
+ghost use Rattle.rc_read.specs.Sentences as sentences;
+ghost use Rattle.rc_read.specs.Texts.{view_spots};
+ghost use Rattle.rc_read.specs.Values as spec;
+ghost use Rattle.rc_read.specs.View.{view_sheet};
+
+use crate::names::{find_buffer, has_file, has_token, number_in};
+use crate::parts::Parts;
+use crate::spots::{Spot, begins_number, comparison_of};
+use crate::table::{Part, Range};
+use rc_lang::lines::{Comparison, Operand};
+use rc_lang::numbers::{number_of, signed_number_of};
+use std::alloc::AllocError;
+
+/// An item of a list: shares of a buffer, a token, credits or queued entries.
+#[derive(Clone, Copy)]
+pub enum Item {
+    Shares(usize, u32),
+    Token(u64),
+    Credits(u32),
+    Queued(u32),
+}
+
+/// What a word says in its place.
+#[derive(Clone, Copy)]
+pub enum Value {
+    Nothing,
+    Small(u32),
+    UserData(u64),
+    /// A variable's or a buffer's number.
+    Named(usize),
+    Operand(Operand),
+    Compares(Comparison),
+    Item(Item),
+}
+
+/// What the places so far say of the next: the entries of the submission ring that the line asks for, and the buffer
+/// that it named last, with its shares if it is declared.
+#[derive(Clone, Copy)]
+pub struct Seen {
+    pub rounded: u32,
+    pub buffer: usize,
+    pub shares: Option<u32>,
+}
+
+fn small_number_of(low: u32, high: u32, word: &[u8]) -> Option<u32>
+    ensures { result ≡ number_in_range low high word.now }
+{
+    match number_of(u64::from(low), u64::from(high), word) {
+        Some(n) => Some(n as u32),
+        None => None,
+    }
+}
+
+// The first of these numbers that isn't below n, and 2048 where all are.
+fn first_from(n: u32, powers: &[u32]) -> u32
+    ensures { result ≡ spec.first_from n powers.now }
+{
+    for power in powers {
+        if n <= *power {
+            return *power;
+        }
+    }
+    2048
+}
+
+/// The number of entries that a ring has for which this number is asked (`io_uring_setup(2)`).
+pub fn rounded_up(n: u32) -> u32
+    ensures value { result ≡ spec.rounded_up n }
+    ensures within { result ≤ 2048 }
+{
+    first_from(n, &[1, 2, 4, 8, 16, 32, 64, 128, 256, 512, 1024])
+}
+
+// A completion ring's size, where it has at least these entries.
+fn with_room(entries: u32, size: Option<u32>) -> Option<u32>
+    ensures { result ≡ spec.with_room entries size }
+{
+    match size {
+        None => None,
+        Some(n) => (entries <= rounded_up(n)).then_some(n),
+    }
+}
+
+fn all_digits(bytes: &[u8]) -> bool
+    ensures { result ≡ list_all is_digit bytes.now }
+{
+    bytes.iter().all(|b| b.is_ascii_digit())
+}
+
+// Whether a word is a number from 1 on, whatever its size.
+fn is_positive(word: &[u8]) -> bool
+    ensures { result ≡ (is_number word.now && nat_le 1 (value_of word.now)) }
+{
+    match word {
+        [] => false,
+        [first, ..] => *first != b'0' && all_digits(word),
+    }
+}
+
+fn any_share(word: &[u8]) -> Option<u32>
+    ensures { result ≡ spec.any_share word.now }
+{
+    is_positive(word).then_some(1)
+}
+
+fn number_at(parts: &Parts, seen: Seen, range: Range, word: &[u8]) -> Option<u32>
+    ensures { result ≡ spec.number_at (view_sheet parts.now) seen range word.now }
+{
+    match range {
+        Range::Within(low, high) => small_number_of(low, high, word),
+        Range::Size => small_number_of(1, 1024, word),
+        Range::CompletionSize => with_room(seen.rounded, small_number_of(1, 2048, word)),
+        Range::Rounded => small_number_of(0, seen.rounded, word),
+        Range::Entries => small_number_of(0, parts.head.entries, word),
+        Range::Shares => match seen.shares {
+            None => any_share(word),
+            Some(shares) => small_number_of(1, shares, word),
+        },
+    }
+}
+
+fn signed_of(word: &[u8]) -> Option<i64>
+    ensures { result ≡ spec.signed_of word.now }
+{
+    signed_number_of(i64::MIN, i64::MAX, word)
+}
+
+/// The user data that a word spells.
+pub fn user_data_of(word: &[u8]) -> Option<u64>
+    ensures { result ≡ spec.user_data_of word.now }
+{
+    number_of(0, u64::MAX, word)
+}
+
+/// The file number that a word spells, 0 to 1023.
+pub fn file_number_of(word: &[u8]) -> Option<u32>
+    ensures { result ≡ spec.file_number_of word.now }
+{
+    small_number_of(0, 1023, word)
+}
+
+fn small(n: Option<u32>) -> Option<Value>
+    ensures { result ≡ spec.small n }
+{
+    match n {
+        None => None,
+        Some(n) => Some(Value::Small(n)),
+    }
+}
+
+fn signed(word: &[u8]) -> Option<Value>
+    ensures { result ≡ spec.signed word.now }
+{
+    match signed_of(word) {
+        None => None,
+        Some(n) => Some(Value::Operand(Operand::Number(n))),
+    }
+}
+
+fn operand_of(parts: &Parts, word: &[u8]) -> Option<Value>
+    ensures { result ≡ spec.operand_of (view_sheet parts.now) word.now }
+{
+    if begins_number(word) {
+        signed(word)
+    } else {
+        let variable = number_in(&parts.draft.names, word);
+        Some(Value::Operand(Operand::Variable(variable)))
+    }
+}
+
+fn compares(comparison: Option<Comparison>) -> Value
+    ensures { result ≡ spec.compares comparison }
+{
+    match comparison {
+        None => Value::Nothing,
+        Some(comparison) => Value::Compares(comparison),
+    }
+}
+
+/// What the word of a place says. It is none where the place is a number's and the word is no number or is out of its
+/// range.
+pub fn value_at(parts: &Parts, seen: Seen, part: Part, word: &[u8]) -> Option<Value>
+    ensures { result ≡ spec.value_at (view_sheet parts.now) seen part word.now }
+{
+    match part {
+        Part::Fixed(_) | Part::NewBuffer | Part::NewThread | Part::Items => Some(Value::Nothing),
+        Part::Variable => Some(Value::Named(number_in(&parts.draft.names, word))),
+        Part::Operand => operand_of(parts, word),
+        Part::Comparison => Some(compares(comparison_of(word))),
+        Part::Signed => signed(word),
+        Part::Number(range) => small(number_at(parts, seen, range, word)),
+        Part::File | Part::NewFile => small(file_number_of(word)),
+        Part::Buffer => Some(Value::Named(find_buffer(&parts.buffers, word).0)),
+        Part::Token | Part::NewToken => match user_data_of(word) {
+            None => None,
+            Some(u) => Some(Value::UserData(u)),
+        },
+        Part::HeldShares => match small_number_of(1, 16, word) {
+            None => None,
+            Some(k) => Some(Value::Item(Item::Shares(seen.buffer, k))),
+        },
+        Part::HeldToken => match user_data_of(word) {
+            None => None,
+            Some(u) => Some(Value::Item(Item::Token(u))),
+        },
+        Part::Credits => match small_number_of(0, 2048, word) {
+            None => None,
+            Some(n) => Some(Value::Item(Item::Credits(n))),
+        },
+        Part::Queued => match small_number_of(0, parts.head.entries, word) {
+            None => None,
+            Some(k) => Some(Value::Item(Item::Queued(k))),
+        },
+    }
+}
+
+// Before the first place.
+fn start() -> Seen
+    ensures { result ≡ spec.start }
+{
+    Seen {
+        rounded: 1,
+        buffer: 0,
+        shares: None,
+    }
+}
+
+fn sized(seen: Seen, size: Option<u32>) -> Seen
+    ensures { result ≡ spec.sized seen size }
+{
+    match size {
+        None => seen,
+        Some(n) => Seen {
+            rounded: rounded_up(n),
+            ..seen
+        },
+    }
+}
+
+fn lacks_file(parts: &Parts, number: Option<u32>) -> bool
+    ensures { result ≡ sentences.lacks_file (view_sheet parts.now) number }
+{
+    match number {
+        None => false,
+        Some(n) => !has_file(&parts.files, n),
+    }
+}
+
+fn lacks_token(parts: &Parts, user_data: Option<u64>) -> bool
+    ensures { result ≡ sentences.lacks_token (view_sheet parts.now) user_data }
+{
+    match user_data {
+        None => false,
+        Some(u) => !has_token(&parts.tokens, u),
+    }
+}
+
+/// What is known of a place from its word: what it says, what it says of the places behind it, and whether it names
+/// what isn't declared.
+#[derive(Clone, Copy)]
+pub struct Known {
+    value: Option<Value>,
+    behind: Seen,
+    unknown: bool,
+}
+
+fn look_at_buffer(parts: &Parts, seen: Seen, word: &[u8]) -> Known
+    ensures value { result.value ≡ spec.value_at (view_sheet parts.now) seen Part.Buffer word.now }
+    ensures behind { result.behind ≡ spec.seen_behind (view_sheet parts.now) seen Part.Buffer word.now }
+    ensures unknown { result.unknown ≡ sentences.is_unknown (view_sheet parts.now) Part.Buffer word.now }
+{
+    let (buffer, shares) = find_buffer(&parts.buffers, word);
+    Known {
+        value: Some(Value::Named(buffer)),
+        behind: Seen {
+            buffer,
+            shares,
+            ..seen
+        },
+        unknown: shares.is_none(),
+    }
+}
+
+fn look_at_token(parts: &Parts, seen: Seen, word: &[u8]) -> Known
+    ensures value { result.value ≡ spec.value_at (view_sheet parts.now) seen Part.Token word.now }
+    ensures behind { result.behind ≡ seen }
+    ensures unknown { result.unknown ≡ sentences.is_unknown (view_sheet parts.now) Part.Token word.now }
+{
+    let user_data = user_data_of(word);
+    let value = match user_data {
+        None => None,
+        Some(u) => Some(Value::UserData(u)),
+    };
+    Known {
+        value,
+        behind: seen,
+        unknown: lacks_token(parts, user_data),
+    }
+}
+
+fn look_at_held_token(parts: &Parts, seen: Seen, word: &[u8]) -> Known
+    ensures value { result.value ≡ spec.value_at (view_sheet parts.now) seen Part.HeldToken word.now }
+    ensures behind { result.behind ≡ seen }
+    ensures unknown { result.unknown ≡ sentences.is_unknown (view_sheet parts.now) Part.HeldToken word.now }
+{
+    let user_data = user_data_of(word);
+    let value = match user_data {
+        None => None,
+        Some(u) => Some(Value::Item(Item::Token(u))),
+    };
+    Known {
+        value,
+        behind: seen,
+        unknown: lacks_token(parts, user_data),
+    }
+}
+
+fn look_at_file(parts: &Parts, seen: Seen, word: &[u8]) -> Known
+    ensures value { result.value ≡ spec.value_at (view_sheet parts.now) seen Part.File word.now }
+    ensures behind { result.behind ≡ seen }
+    ensures unknown { result.unknown ≡ sentences.is_unknown (view_sheet parts.now) Part.File word.now }
+{
+    let number = file_number_of(word);
+    Known {
+        value: small(number),
+        behind: seen,
+        unknown: lacks_file(parts, number),
+    }
+}
+
+fn look_at_size(seen: Seen, word: &[u8]) -> Known
+    ensures value { result.value ≡ spec.small (number_in_range 1 1024 word.now) }
+    ensures behind { result.behind ≡ spec.sized seen (number_in_range 1 1024 word.now) }
+    ensures unknown { result.unknown ≡ false }
+{
+    let size = small_number_of(1, 1024, word);
+    Known {
+        value: small(size),
+        behind: sized(seen, size),
+        unknown: false,
+    }
+}
+
+// What is known of a place with this word.
+fn look_at(parts: &Parts, seen: Seen, part: Part, word: &[u8]) -> Known
+    ensures value { result.value ≡ spec.value_at (view_sheet parts.now) seen part word.now }
+    ensures behind { result.behind ≡ spec.seen_behind (view_sheet parts.now) seen part word.now }
+    ensures unknown { result.unknown ≡ sentences.is_unknown (view_sheet parts.now) part word.now }
+{
+    match part {
+        Part::Buffer => look_at_buffer(parts, seen, word),
+        Part::Token => look_at_token(parts, seen, word),
+        Part::HeldToken => look_at_held_token(parts, seen, word),
+        Part::File => look_at_file(parts, seen, word),
+        Part::Number(Range::Size) => look_at_size(seen, word),
+        part => Known {
+            value: value_at(parts, seen, part, word),
+            behind: seen,
+            unknown: false,
+        },
+    }
+}
+
+/// Puts what the places of a line say there, unless a word in a number's place is no number or is out of its range.
+/// The answer is whether a place names what isn't declared.
+pub fn put_values(
+    values: &mut Vec<Value>,
+    parts: &Parts,
+    spots: &[Spot],
+) -> Result<Option<bool>, AllocError>
+    ensures lacks { IfOk result (λ o. is_none o ≡ spec.any_lacks (view_sheet parts.now) spec.start (view_spots spots.now)) }
+    ensures values { IfOk result (λ o. IfSome o (λ _. values.new.items ≡ spec.values_of (view_sheet parts.now) spec.start (view_spots spots.now))) }
+    ensures unknown { IfOk result (λ o. IfSome o (λ unknown. unknown ≡ sentences.any_unknown (view_sheet parts.now) (view_spots spots.now))) }
+{
+    let mut seen = start();
+    let mut unknown = false;
+    values.clear();
+    for spot in spots {
+        let known = look_at(parts, seen, spot.part, spot.word);
+        if known.value.is_none() {
+            return Ok(None);
+        }
+        values.push(known.value.unwrap_or(Value::Nothing))?;
+        seen = known.behind;
+        unknown = unknown || known.unknown;
+    }
+    Ok(Some(unknown))
+}
+
+/// Puts the items of a line there.
+pub fn put_items(items: &mut Vec<Item>, values: &[Value]) -> Result<(), AllocError>
+    ensures { OnOk result (items.new.items ≡ spec.items_in values.now) }
+{
+    items.clear();
+    for value in values {
+        if let Value::Item(item) = value {
+            items.push(*item)?;
+        }
+    }
+    Ok(())
+}
