@@ -1,12 +1,11 @@
 -- The first fault of a kind, thread after thread.
-use Rattle.std.proofs.Common.{ℕ, zero, suc, ◌≡◌, ◌+◌, ◌<◌, ◌≤◌, List, [], ◌∷◌, ◌++◌, drop, length, append-nil, get_or, Some, None, slice_get, refl, sym, ap, ◌∙◌, arith}
+use Rattle.std.proofs.Common.{ℕ, zero, suc, ◌≡◌, ◌+◌, ◌<◌, ◌≤◌, true, false, ◌||◌, List, [], ◌∷◌, ◌++◌, drop, length, get_or, Option, Some, None, slice_get, refl, ap, ◌∙◌, arith}
 use Rattle.std.proofs.lemmas.List.{drop_all, drop_more}
-use Rattle.rc_world.specs.declared.controls.Control.{Control}
 use Rattle.rc_world.specs.declared.fault.Fault.{Fault}
 use Rattle.rc_world.specs.declared.fault.FaultKind.{FaultKind}
-use Rattle.rc_world.specs.declared.fault.FaultKind.TheVariants.{RingFull, Overflow, AmbiguousData, UnknownReap, NoLock, RawEntry}
-use Rattle.rc_world.specs.Faults.{fault_at, faults, faults_from, faults_of}
-use Rattle.rc_world.specs.Machine.{World, next_line}
+use Rattle.rc_world.specs.Controls.{Standing, next_line}
+use Rattle.rc_world.specs.Faults.{Access, access_at, conflicts, fault_at, faults_by, faults_from, faults_of, races_from}
+use Rattle.rc_world.specs.Machine.{World}
 
 pub head_none : {A : Type 0} (xs ys : List A) → slice_get xs 0 ≡ None → slice_get (xs ++ ys) 0 ≡ slice_get ys 0
 head_none [] ys e = refl
@@ -21,45 +20,25 @@ drop-next [] i h = absurd (omega arith)
 drop-next (x ∷ xs) zero h = (x, refl)
 drop-next (x ∷ xs) (suc i) h = let lt : i < length xs = omega arith in drop-next xs i lt
 
-pub faults_here : (w : World) (kind : FaultKind) (threads : List Control) (i : ℕ) → i < length threads
+pub faults_here : (w : World) (kind : FaultKind) (threads : List Standing) (i : ℕ) → i < length threads
     → faults_from w kind i (drop i threads) ≡ fault_at w kind i (next_line w.program w.controls i) ++ faults_from w kind (i + 1) (drop (i + 1) threads)
 faults_here w kind threads i lt =
     let d = drop-next threads i lt in
     let e : suc i ≡ i + 1 = omega arith in
     ap (faults_from w kind i) d.1 ∙ ap (λ k. fault_at w kind i (next_line w.program w.controls i) ++ faults_from w kind (i + 1) (drop k threads)) e
 
-pub faults_more : (w : World) (kind : FaultKind) (threads : List Control) (i : ℕ) → i < length threads → slice_get (fault_at w kind i (next_line w.program w.controls i)) 0 ≡ None
+pub faults_more : (w : World) (kind : FaultKind) (threads : List Standing) (i : ℕ) → i < length threads → slice_get (fault_at w kind i (next_line w.program w.controls i)) 0 ≡ None
     → slice_get (faults_from w kind i (drop i threads)) 0 ≡ slice_get (faults_from w kind (i + 1) (drop (i + 1) threads)) 0
 faults_more w kind threads i lt none = ap (λ fs. slice_get fs 0) (faults_here w kind threads i lt) ∙ head_none _ _ none
 
-pub faults_found : (w : World) (kind : FaultKind) (threads : List Control) (i : ℕ) (f : Fault) → i < length threads → slice_get (fault_at w kind i (next_line w.program w.controls i)) 0 ≡ Some f
+pub faults_found : (w : World) (kind : FaultKind) (threads : List Standing) (i : ℕ) (f : Fault) → i < length threads → slice_get (fault_at w kind i (next_line w.program w.controls i)) 0 ≡ Some f
     → slice_get (faults_from w kind i (drop i threads)) 0 ≡ Some f
 faults_found w kind threads i f lt some = ap (λ fs. slice_get fs 0) (faults_here w kind threads i lt) ∙ head_some _ _ f some
 
-pub faults_end : (w : World) (kind : FaultKind) (threads : List Control) (i : ℕ) → length threads ≤ i → slice_get (faults_from w kind i (drop i threads)) 0 ≡ None
+pub faults_end : (w : World) (kind : FaultKind) (threads : List Standing) (i : ℕ) → length threads ≤ i → slice_get (faults_from w kind i (drop i threads)) 0 ≡ None
 faults_end w kind threads i le = ap (λ ts. slice_get (faults_from w kind i ts) 0) (drop_all i threads le)
 
 -- ---- all kinds
-
-pub faults_of-thread : (w : World) (kind : FaultKind) → (kind ≡ Overflow → ⊥) → faults_of w kind ≡ faults_from w kind 0 w.controls.threads
-faults_of-thread w RingFull h = refl
-faults_of-thread w Overflow h = absurd (h refl)
-faults_of-thread w AmbiguousData h = refl
-faults_of-thread w UnknownReap h = refl
-faults_of-thread w NoLock h = refl
-faults_of-thread w RawEntry h = refl
-
--- the faults of these kinds
-abbrev pub faults_by : World → List FaultKind → List Fault
-faults_by w [] = []
-faults_by w (kind ∷ kinds) = faults_of w kind ++ faults_by w kinds
-
-abbrev pub all_kinds : List FaultKind
-all_kinds = RingFull ∷ Overflow ∷ AmbiguousData ∷ UnknownReap ∷ NoLock ∷ RawEntry ∷ []
-
-pub faults_by-all_kinds : (w : World) → faults w ≡ faults_by w all_kinds
-faults_by-all_kinds w =
-    ap (λ fs. faults_of w RingFull ++ (faults_of w Overflow ++ (faults_of w AmbiguousData ++ (faults_of w UnknownReap ++ (faults_of w NoLock ++ fs))))) (sym (append-nil (faults_of w RawEntry)))
 
 pub kinds_here : (w : World) (kinds : List FaultKind) (i : ℕ) (d : FaultKind) → i < length kinds
     → faults_by w (drop i kinds) ≡ faults_of w (get_or kinds i d) ++ faults_by w (drop (i + 1) kinds)
@@ -72,3 +51,27 @@ kinds_more w kinds i d lt none = ap (λ fs. slice_get fs 0) (kinds_here w kinds 
 pub kinds_found : (w : World) (kinds : List FaultKind) (i : ℕ) (d : FaultKind) (f : Fault) → i < length kinds → slice_get (faults_of w (get_or kinds i d)) 0 ≡ Some f
     → slice_get (faults_by w (drop i kinds)) 0 ≡ Some f
 kinds_found w kinds i d f lt some = ap (λ fs. slice_get fs 0) (kinds_here w kinds i d lt) ∙ head_some _ _ f some
+
+-- ---- races
+
+pub races_here : (w : World) (a : Option Access) (threads : List Standing) (i : ℕ) → i < length threads
+    → races_from w a i (drop i threads) ≡ (conflicts a (access_at (next_line w.program w.controls i)) || races_from w a (i + 1) (drop (i + 1) threads))
+races_here w a threads i lt =
+    let d = drop-next threads i lt in
+    let e : suc i ≡ i + 1 = omega arith in
+    ap (races_from w a i) d.1 ∙ ap (λ k. conflicts a (access_at (next_line w.program w.controls i)) || races_from w a (i + 1) (drop k threads)) e
+
+pub races_more : (w : World) (a : Option Access) (threads : List Standing) (i : ℕ) → i < length threads → conflicts a (access_at (next_line w.program w.controls i)) ≡ false
+    → races_from w a i (drop i threads) ≡ races_from w a (i + 1) (drop (i + 1) threads)
+races_more w a threads i lt none = races_here w a threads i lt ∙ ap (λ b. b || races_from w a (i + 1) (drop (i + 1) threads)) none
+
+pub races_found : (w : World) (a : Option Access) (threads : List Standing) (i : ℕ) → i < length threads → conflicts a (access_at (next_line w.program w.controls i)) ≡ true
+    → races_from w a i (drop i threads) ≡ true
+races_found w a threads i lt some = races_here w a threads i lt ∙ ap (λ b. b || races_from w a (i + 1) (drop (i + 1) threads)) some
+
+pub races_end : (w : World) (a : Option Access) (threads : List Standing) (i : ℕ) → length threads ≤ i → races_from w a i (drop i threads) ≡ false
+races_end w a threads i le = ap (races_from w a i) (drop_all i threads le)
+
+pub no_races : (w : World) (j : ℕ) (threads : List Standing) → races_from w None j threads ≡ false
+no_races w j [] = refl
+no_races w j (t ∷ ts) = no_races w (j + 1) ts

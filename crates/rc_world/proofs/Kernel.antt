@@ -1,36 +1,172 @@
 -- The step of the kernel that an item names.
-use Rattle.std.proofs.Common.{ℕ, ℤ, Bool, true, false, ◌≡◌, List, [], ◌∷◌, ◌++◌, get_or, nat_eq, Option, Some, None, IsSome, slice_get, cond, refl, sym, ap, subst, ◌∙◌, arith}
-use Rattle.std.proofs.lemmas.Bool.Decides.{nat_tests}
+use Rattle.std.proofs.Common.{ℕ, ℤ, pos, negsuc, zero, suc, Bool, true, false, ◌&&◌, if◌then◌else◌, ◌≡◌, ◌≤◌, ◌<◌, List, [], ◌∷◌, ◌++◌, append_assoc, drop, get_or, take, replicate, length, nat_eq, nat_le, Option, Some, None, IsSome, slice_get, slice_set, refl, sym, ap, subst, ◌∙◌, arith}
+use Rattle.std.proofs.lemmas.Bool.{eqb-true, leb-true}
 use Rattle.std.proofs.lemmas.List.Quantifiers.{position-Some}
-use Rattle.std.proofs.lemmas.Option.{slice_get-get_or}
+use Rattle.std.proofs.lemmas.Option.{get_or_from_slice_get}
+use Rattle.rc_lang.specs.declared.request.Kind.{Kind}
+use Rattle.rc_lang.specs.declared.request.Kind.TheVariants.{Nop, Fsync, Read, Write}
 use Rattle.rc_lang.specs.declared.request.Request.{Request}
+use Rattle.rc_lang.specs.Program.{bytes_at}
+use Rattle.rc_lang.specs.Requests.{may_complete, most_moved}
 use Rattle.rc_world.specs.declared.event.Completion.{Completion}
 use Rattle.rc_world.specs.declared.event.Event.{Event}
 use Rattle.rc_world.specs.declared.event.Event.TheVariants.{ByKernel}
-use Rattle.rc_world.specs.Items.{kernel_item, pending_place}
-use Rattle.rc_world.specs.Machine.{World, completes, completion_of, kernel_step_of, may_complete, without}
+use Rattle.rc_world.specs.Faults.{clashes}
+use Rattle.rc_world.specs.Items.{filled, item_bytes, kernel_item, pending_place}
+use Rattle.rc_world.specs.Kept.{IsKept, IsMemory, IsPending}
+use Rattle.rc_world.specs.Machine.{Pending, World, brings, completes, completion_of, count_in, given_back, is_read, kernel_event, kernel_step_of, without}
+use Rattle.rc_world.specs.WorldParts.{refilled, refilled_in}
+use Rattle.rc_world.proofs.Memory.{memory_done, memory_read, read_has_buffer}
 
-if_some : {A : Type 0} (b : Bool) (x : A) → IsSome (cond b (Some x) None) → cond b (Some x) None ≡ Some x
-if_some true x h = refl
+pub both : (a b : Bool) → (a && b) ≡ true → (a ≡ true) × (b ≡ true)
+both true b e = (refl, e)
+both false b e = absurd (cc)
+
+if_some : {A : Type 0} (b : Bool) (x : Option A) → IsSome (if b then x else None) → (b ≡ true) × IsSome x
+if_some true x h = (refl, h)
 if_some false x h = absurd (cc)
 
--- the world after the k-th pending request r, whose user data is u, has completed
-pub completed_by : (w : World) (u k : ℕ) (res : ℤ) (r : Request) (pending completed : List Request) (completions : List Completion)
-    → pending_place w u ≡ Some k → IsSome (kernel_item w res (pending_place w u)) → r ≡ get_or w.pending k r
-    → pending ≡ without k w.pending → completed ≡ w.completed ++ r ∷ [] → completions ≡ w.completions ++ record { user_data = u; res = res } ∷ []
-    → kernel_item w res (pending_place w u) ≡ Some (ByKernel (record { user_data = u; res = res }), record w { pending = pending; completed = completed; completions = completions })
-completed_by w u k res r pending completed completions place some here p c q =
-    let found = position-Some (λ (x : Request). nat_eq x.user_data u) w.pending k r place in
-    let at : slice_get w.pending k ≡ Some r = slice_get-get_or w.pending k r found.0 ∙ ap (λ x. Some x) (sym here) in
-    let passes : nat_eq r.user_data u ≡ true = subst (λ (x : Request). nat_eq x.user_data u ≡ true) (sym here) found.1 in
-    let same : r.user_data ≡ u = grind (arith, nat_tests) in
-    let e : kernel_item w res (pending_place w u) ≡ kernel_step_of w k res (Some r) = ap (kernel_item w res) place ∙ ap (kernel_step_of w k res) at in
-    let done = if_some (may_complete r res) (ByKernel (completion_of r res), completes w k res r) (subst IsSome e some) in
-    e ∙ done
-    ∙ ap (λ v. out v (without k w.pending) (w.completed ++ r ∷ []) (w.completions ++ record { user_data = v; res = res } ∷ [])) same
-    ∙ ap (λ ps. out u ps (w.completed ++ r ∷ []) (w.completions ++ record { user_data = u; res = res } ∷ [])) (sym p)
-    ∙ ap (λ cs. out u pending cs (w.completions ++ record { user_data = u; res = res } ∷ [])) (sym c)
-    ∙ ap (λ qs. out u pending completed qs) (sym q)
+-- a result counts no more bytes than the request moves
+pub count_within : (k : Kind) (len : ℕ) (r : Request) → r.kind ≡ k → r.len ≡ len → (res : ℤ) → may_complete r res ≡ true → count_in res ≤ len
+count_within k len r a b (pos n) e = go k (sym (ap (λ x. nat_le n (most_moved r.len x)) a ∙ ap (λ x. nat_le n (most_moved x k)) b) ∙ e)
   where
-    out : ℕ → List Request → List Request → List Completion → Option (Event × World)
-    out v ps cs qs = Some (ByKernel (record { user_data = v; res = res }), record w { pending = ps; completed = cs; completions = qs })
+    go : (k : Kind) → nat_le n (most_moved len k) ≡ true → n ≤ len
+    go Nop h = let z : n ≤ 0 = leb-true n 0 h in omega arith
+    go Fsync h = let z : n ≤ 0 = leb-true n 0 h in omega arith
+    go Read h = leb-true n len h
+    go Write h = leb-true n len h
+count_within k len r a b (negsuc n) e = omega arith
+
+-- what is cut in two is put together
+whole : (l : ℕ) (xs : List ℕ) → take l xs ++ drop l xs ≡ xs
+whole zero xs = refl
+whole (suc l) [] = refl
+whole (suc l) (x ∷ xs) = ap (λ ys. x ∷ ys) (whole l xs)
+
+rejoined : (c l : ℕ) (xs : List ℕ) → c ≤ l → drop c (take l xs) ++ drop l xs ≡ drop c xs
+rejoined zero l xs le = whole l xs
+rejoined (suc c) zero xs le = absurd (omega arith)
+rejoined (suc c) (suc l) [] le = refl
+rejoined (suc c) (suc l) (x ∷ xs) le = rejoined c l xs (omega arith)
+
+pub refilled_is : (count fill len : ℕ) (stood : List ℕ) → count ≤ len → filled count fill len (Some stood) ++ drop len stood ≡ refilled count fill stood
+refilled_is count fill len stood le = append_assoc (replicate count fill) (drop count (take len stood)) (drop len stood) ∙ ap (λ xs. replicate count fill ++ xs) (rejoined count len stood le)
+
+module _ (w : World) (k : IsKept w) (u n : ℕ) (res : ℤ) (fill : ℕ) (p : Pending) (place : pending_place w u ≡ Some n) (here : slice_get w.pending n ≡ Some p) (some : IsSome (kernel_item w res fill (pending_place w u))) where
+  bytes : List ℕ
+  bytes = item_bytes res fill (Some p)
+
+  step_is : kernel_item w res fill (pending_place w u) ≡ kernel_step_of w n res (item_bytes res fill (Some p)) (Some p)
+  step_is = ap (kernel_item w res fill) place ∙ ap (λ o. kernel_step_of w n res (item_bytes res fill o) o) here
+
+  allowed : (may_complete p.request res ≡ true) × (nat_eq (length (item_bytes res fill (Some p))) (brings p.request) ≡ true) × IsSome (kernel_event w n res p.request (given_back w p.request (item_bytes res fill (Some p)) p.bytes))
+  allowed =
+      let h = if_some (may_complete p.request res && nat_eq (length (item_bytes res fill (Some p))) (brings p.request)) _ (subst IsSome step_is some) in
+      let b = both _ _ h.0 in
+      (b.0, b.1, h.1)
+
+  pub may : may_complete p.request res ≡ true
+  may = allowed.0
+
+  held : IsPending w.program w.pending p
+  held = k.memory.pending n p here
+
+  pub counted : count_in res ≤ p.request.len
+  counted = count_within p.request.kind p.request.len p.request refl refl res may
+
+  -- the bytes that stand with a read are enough, and its buffer is there
+  pub enough : (stood : List ℕ) → p.bytes ≡ Some stood → count_in res ≤ length stood
+  enough stood e =
+      let s : length stood ≡ bytes_at w.program.buffers p.request.buffer = held.sized stood e in
+      let le : p.request.len ≤ bytes_at w.program.buffers p.request.buffer = leb-true p.request.len _ held.fitting.room in
+      let c : count_in res ≤ p.request.len = counted in
+      omega arith
+
+  pub there : (stood : List ℕ) → p.bytes ≡ Some stood → p.request.buffer < length w.buffers
+  there stood e = subst (λ m. p.request.buffer < m) (sym k.memory.as_many) (held.fitting.exists (read_has_buffer p.request.kind (held.of_read stood e)))
+
+  given : (o : Option (List ℕ)) → p.bytes ≡ o → IsSome (given_back w p.request (item_bytes res fill (Some p)) o)
+  given o e = event_some (given_back w p.request (item_bytes res fill (Some p)) o) (subst (λ x. IsSome (kernel_event w n res p.request (given_back w p.request (item_bytes res fill (Some p)) x))) e allowed.2)
+    where
+      event_some : (b : Option (List (Option (List ℕ)))) → IsSome (kernel_event w n res p.request b) → IsSome b
+      event_some None h = absurd (cc)
+      event_some (Some bs) h = refl
+
+  not_read : (b : Bool) → is_read p.request.kind ≡ b → p.bytes ≡ None → b ≡ false
+  not_read false r e = refl
+  not_read true r e =
+      let s : IsSome (if is_read p.request.kind then None else Some w.buffers) = given None e in
+      let t : IsSome (if true then None else Some w.buffers) = subst (λ b. IsSome (if b then None else Some w.buffers)) r s in
+      absurd (cc)
+
+  bytes_are : (stood : List ℕ) → p.bytes ≡ Some stood → item_bytes res fill (Some p) ≡ filled (count_in res) fill p.request.len (Some stood)
+  bytes_are stood e =
+      ap (λ b. if b then filled (count_in res) fill p.request.len p.bytes else []) (held.of_read stood e) ∙ ap (filled (count_in res) fill p.request.len) e
+
+  gives : (o : Option (List ℕ)) → p.bytes ≡ o → given_back w p.request (item_bytes res fill (Some p)) p.bytes ≡ Some (refilled_in w.buffers p.request.buffer (count_in res) fill p.bytes)
+  gives None e =
+      ap (given_back w p.request (item_bytes res fill (Some p))) e ∙ ap (λ b. if b then None else Some w.buffers) (ap is_read refl ∙ (let r = not_read (is_read p.request.kind) refl e in r))
+      ∙ ap (λ o. Some (refilled_in w.buffers p.request.buffer (count_in res) fill o)) (sym e)
+  gives (Some stood) e =
+      ap (given_back w p.request (item_bytes res fill (Some p))) e
+      ∙ ap (λ xs. Some (slice_set w.buffers p.request.buffer (Some (xs ++ drop p.request.len stood)))) (bytes_are stood e)
+      ∙ ap (λ xs. Some (slice_set w.buffers p.request.buffer (Some xs))) (refilled_is (count_in res) fill p.request.len stood counted)
+      ∙ ap (λ o. Some (refilled_in w.buffers p.request.buffer (count_in res) fill o)) (sym e)
+
+  pub completed_as : kernel_item w res fill (pending_place w u) ≡ Some (ByKernel (completion_of p.request res), completes w n res p.request (refilled_in w.buffers p.request.buffer (count_in res) fill p.bytes))
+  completed_as =
+      step_is
+      ∙ ap (λ b. if b && nat_eq (length (item_bytes res fill (Some p))) (brings p.request) then kernel_event w n res p.request (given_back w p.request (item_bytes res fill (Some p)) p.bytes) else None) allowed.0
+      ∙ ap (λ b. if b then kernel_event w n res p.request (given_back w p.request (item_bytes res fill (Some p)) p.bytes) else None) allowed.1
+      ∙ ap (kernel_event w n res p.request) (gives p.bytes refl)
+
+  pub memory_completed : clashes w.pending ≡ false → IsMemory w.program (without n w.pending) (refilled_in w.buffers p.request.buffer (count_in res) fill p.bytes)
+  memory_completed calm = go p.bytes refl
+    where
+      go : (o : Option (List ℕ)) → p.bytes ≡ o → IsMemory w.program (without n w.pending) (refilled_in w.buffers p.request.buffer (count_in res) fill p.bytes)
+      go None e =
+          subst (λ o. IsMemory w.program (without n w.pending) (refilled_in w.buffers p.request.buffer (count_in res) fill o)) (sym e)
+          (memory_done w.program w.pending w.buffers k.memory calm n p here (let r = not_read (is_read p.request.kind) refl e in r))
+      go (Some stood) e =
+          let q : length (item_bytes res fill (Some p)) ≡ brings p.request = eqb-true _ _ allowed.1 in
+          let m = memory_read w.program w.pending w.buffers k.memory calm n p here stood (item_bytes res fill (Some p)) e q in
+          let x = ap (λ xs. xs ++ drop p.request.len stood) (bytes_are stood e) ∙ refilled_is (count_in res) fill p.request.len stood counted in
+          subst (λ o. IsMemory w.program (without n w.pending) (refilled_in w.buffers p.request.buffer (count_in res) fill o)) (sym e)
+          (subst (λ xs. IsMemory w.program (without n w.pending) (slice_set w.buffers p.request.buffer (Some xs))) x m)
+
+  same : p.request.user_data ≡ u
+  same =
+      let found = position-Some (λ (x : Pending). nat_eq x.request.user_data u) w.pending n p place in
+      let at : get_or w.pending n p ≡ p = get_or_from_slice_get w.pending n p p here in
+      let passes : nat_eq p.request.user_data u ≡ true = subst (λ (x : Pending). nat_eq x.request.user_data u ≡ true) at found.1 in
+      eqb-true p.request.user_data u passes
+
+  abbrev done : ℕ → List Pending → List Request → List Completion → List (Option (List ℕ)) → Option (Event × World)
+  done v ps cs qs bs = Some (ByKernel (record { user_data = v; res = res }), record w { pending = ps; completed = cs; completions = qs; buffers = bs })
+
+  -- what the code has made of the lists
+  pub completed_by : (pending : List Pending) (completed : List Request) (completions : List Completion) (buffers : List (Option (List ℕ)))
+      → pending ≡ without n w.pending → completed ≡ w.completed ++ p.request ∷ [] → completions ≡ w.completions ++ record { user_data = u; res = res } ∷ []
+      → buffers ≡ refilled_in w.buffers p.request.buffer (count_in res) fill p.bytes
+      → kernel_item w res fill (pending_place w u) ≡ Some (ByKernel (record { user_data = u; res = res }), record w { pending = pending; completed = completed; completions = completions; buffers = buffers })
+  completed_by pending completed completions buffers a c q b =
+      let bs = refilled_in w.buffers p.request.buffer (count_in res) fill p.bytes in
+      completed_as
+      ∙ ap (λ v. done v (without n w.pending) (w.completed ++ p.request ∷ []) (w.completions ++ record { user_data = v; res = res } ∷ []) bs) same
+      ∙ ap (λ x. done u x (w.completed ++ p.request ∷ []) (w.completions ++ record { user_data = u; res = res } ∷ []) bs) (sym a)
+      ∙ ap (λ x. done u pending x (w.completions ++ record { user_data = u; res = res } ∷ []) bs) (sym c)
+      ∙ ap (λ x. done u pending completed x bs) (sym q)
+      ∙ ap (λ x. done u pending completed completions x) (sym b)
+
+  pub kept_completed : clashes w.pending ≡ false → (pending : List Pending) (completed : List Request) (completions : List Completion) (buffers : List (Option (List ℕ)))
+      → pending ≡ without n w.pending → buffers ≡ refilled_in w.buffers p.request.buffer (count_in res) fill p.bytes
+      → IsKept (record w { pending = pending; completed = completed; completions = completions; buffers = buffers })
+  kept_completed calm pending completed completions buffers a b =
+      let m = memory_completed calm in
+      record {
+        made = k.made;
+        room = k.room;
+        slot = k.slot;
+        queued = k.queued;
+        memory = subst (λ x. IsMemory w.program x buffers) (sym a) (subst (λ x. IsMemory w.program (without n w.pending) x) (sym b) m);
+      }

@@ -6,7 +6,7 @@ use Rattle.std.proofs.lemmas.Bool.{cases_lt, lt-ltb, le-ltb}
 use Rattle.std.specs.Str.{bytes_eq}
 use Rattle.std.proofs.lemmas.List.{length-map, at_drop_more, at_drop_all}
 use Rattle.rc_lang.specs.declared.program.Thread.{Thread as ThreadPart}
-use Rattle.rc_lang.specs.Parts.{thread_of}
+use Rattle.rc_lang.specs.Parts.{view_thread}
 use Rattle.rc_lang.specs.Program.{Program, Thread}
 use Rattle.rc_world.specs.declared.event.Item.{Item}
 use Rattle.rc_world.specs.Schedule.{items_or, pieces_of, item_of, items_of}
@@ -19,8 +19,8 @@ position-map : {X Y : Type 0} (f : X → Y) (p : Y → Bool) (xs : List X) → p
 position-map f p xs = rw (prefix_len-map f (λ y. not (p y)) xs, length-map xs f) refl
 
 -- the place of a name among the threads' parts is its place among the threads
-pub place_of_thread : (parts : List ThreadPart) (threads : List Thread) (name : List ℕ) → map thread_of parts ≡ threads → position (λ (t : ThreadPart). bytes_eq t.name.items name) parts ≡ position (λ (t : Thread). bytes_eq t.name name) threads
-place_of_thread parts threads name e = sym (position-map thread_of (λ (t : Thread). bytes_eq t.name name) parts) ∙ ap (position (λ (t : Thread). bytes_eq t.name name)) e
+pub place_of_thread : (parts : List ThreadPart) (threads : List Thread) (name : List ℕ) → map view_thread parts ≡ threads → position (λ (t : ThreadPart). bytes_eq t.name.items name) parts ≡ position (λ (t : Thread). bytes_eq t.name name) threads
+place_of_thread parts threads name e = sym (position-map view_thread (λ (t : Thread). bytes_eq t.name name) parts) ∙ ap (position (λ (t : Thread). bytes_eq t.name name)) e
 
 -- ---- the items so far, and what becomes of the pieces that are left
 

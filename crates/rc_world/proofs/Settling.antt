@@ -1,51 +1,53 @@
--- Where a thread comes to rest: the closing brace of an arm leads on, and no thread hops for ever.
-use Rattle.std.proofs.Common.{ℕ, zero, suc, Bool, true, false, ◌||◌, ◌≡◌, ◌+◌, ◌<◌, ◌≤◌, length, Option, Some, None, slice_get, refl, sym, ap, subst, ◌∙◌, arith}
-use Rattle.std.proofs.lemmas.Option.{slice_get_within}
+-- Where a thread comes to rest: lines that are no events lead on, and no thread hops for ever.
+use Rattle.std.proofs.Common.{ℕ, zero, suc, Bool, true, false, ◌||◌, ◌≡◌, ◌+◌, ◌<◌, ◌≤◌, length, Option, Some, None, option_map, refl, sym, ap, ◌∙◌, arith}
+use Rattle.std.proofs.lemmas.Option.{same_Some}
 use Rattle.rc_lang.specs.declared.lines.Stmt.{Stmt}
-use Rattle.rc_lang.specs.declared.lines.Stmt.TheVariants.{EndArm}
-use Rattle.rc_lang.specs.Program.{Program, Thread, IsProgram, IsThread, lines_in, lines_of, ends_in, end_at, stmt_at}
-use Rattle.rc_world.proofs.Nested.{stands_within}
-use Rattle.rc_world.proofs.Places.{arm_end}
-use Rattle.rc_world.proofs.Rests.{laid}
-use Rattle.rc_world.specs.Machine.{hop_of, is_arm_end, or_from, settled, ends_arm, rest_at, passes_arm}
+use Rattle.rc_lang.specs.declared.lines.Stmt.TheVariants.{Else, EndIf, EndArm}
+use Rattle.rc_lang.specs.Program.{Program, IsProgram, lines_of, end_at, stmt_at}
+use Rattle.rc_lang.proofs.Lookups.{stands_within}
+use Rattle.rc_world.proofs.Laid.{IsBelow, arm_leads, else_leads, laid}
+use Rattle.rc_world.specs.Changes.{hop_at}
+use Rattle.rc_world.specs.Controls.{hop_of, is_arm_end, or_from, settled, ends_arm, rest_at, passes_arm}
 
--- the thread that has a line
-pub in_thread : (P : Program) → IsProgram P → (i j : ℕ) (s : Stmt) (o : Option Thread) → slice_get P.threads i ≡ o → stmt_at (lines_in o) j ≡ Some s
-    → (t : Thread) × (o ≡ Some t) × IsThread P.tokens t × (stmt_at t.lines j ≡ Some s)
-in_thread P made i j s None e h = absurd (cc)
-in_thread P made i j s (Some t) e h = (t, refl, made.each i t e, h)
-
--- What is known of the end of an arm: the closing brace of its peek stands below.
-pub record IsArmEnd (P : Program) (i j o : ℕ) : Type 0 where
+-- A line that is no event leads to a place below it.
+pub record Falls (P : Program) (i j k : ℕ) : Type 0 where
   pub here : j < length (lines_of P i)
-  pub below : j < end_at P i o
-  pub within : end_at P i o + 1 ≤ length (lines_of P i)
-  pub few : length (lines_of P i) ≤ 4096
+  pub below : j < k
+  pub within : k ≤ length (lines_of P i)
 
-pub at_arm_end : (P : Program) → IsProgram P → (i j o : ℕ) → stmt_at (lines_of P i) j ≡ Some (EndArm o) → IsArmEnd P i j o
-at_arm_end P made i j o h =
-    let t = in_thread P made i j (EndArm o) (slice_get P.threads i) refl h in
-    let l = laid P made i (slice_get_within P.threads i t.0 t.1) in
-    let e = arm_end (lines_of P i) (ends_in (slice_get P.threads i)) l j o h in
-    let few : length t.0.lines ≤ 4096 = t.2.few_lines in
-    record {
-      here = stands_within (lines_of P i) j (EndArm o) h;
-      below = e.0;
-      within = e.1.within;
-      few = subst (λ x. length (lines_in x) ≤ 4096) (sym t.1) few;
-    }
+pub falls : (P : Program) → IsProgram P → (i j k : ℕ) → hop_of P i j (stmt_at (lines_of P i) j) ≡ Some k → Falls P i j k
+falls P made i j k e = go (stmt_at (lines_of P i) j) refl e
+  where
+    behind : (s : Stmt) (end : ℕ) → stmt_at (lines_of P i) j ≡ Some s → IsBelow (lines_of P i) j end → end + 1 ≡ k → Falls P i j k
+    behind s end h b q =
+        let lt : j < end = b.below in
+        let n : end < length (lines_of P i) = b.within in
+        record { here = stands_within (lines_of P i) j s h; below = omega arith; within = omega arith }
 
--- ---- the loop over closing braces that are no events
+    go : (s : Option Stmt) → stmt_at (lines_of P i) j ≡ s → hop_of P i j s ≡ Some k → Falls P i j k
+    go None h q = absurd (cc)
+    go (Some (Else o)) h q = behind (Else o) (end_at P i j) h (else_leads (lines_of P i) _ (laid P made i) j o h) (same_Some _ _ q)
+    go (Some (EndIf o)) h q =
+        let n : j + 1 ≡ k = same_Some _ _ q in
+        let lt : j < length (lines_of P i) = stands_within (lines_of P i) j (EndIf o) h in
+        record { here = lt; below = omega arith; within = omega arith }
+    go (Some (EndArm o)) h q = behind (EndArm o) (end_at P i o) h (arm_leads (lines_of P i) _ (laid P made i) j o h) (same_Some _ _ q)
+    go (Some _) h q = absurd (cc)
 
-hop-end : (P : Program) (i k : ℕ) (s : Option Stmt) → hop_of P i s ≡ Some k → (o : ℕ) × (s ≡ Some (EndArm o)) × (k ≡ end_at P i o + 1)
-hop-end P i k None e = absurd (cc)
-hop-end P i k (Some (EndArm o)) e = (o, refl, (let h : k ≡ end_at P i o + 1 = cc in h))
-hop-end P i k (Some _) e = absurd (cc)
+-- ---- the loop over lines that are no events
 
-no_hop : (P : Program) (i : ℕ) (s : Option Stmt) → hop_of P i s ≡ None → is_arm_end s ≡ false
-no_hop P i None e = refl
-no_hop P i (Some (EndArm o)) e = absurd (cc)
-no_hop P i (Some _) e = refl
+hop_parts : (o : Option ℕ) (b c : Bool) (k : ℕ) → option_map {U = ℕ × Bool} (λ (n : ℕ). (n, b)) o ≡ Some (k, c) → (o ≡ Some k) × (b ≡ c)
+hop_parts None b c k e = absurd (cc)
+hop_parts (Some n) b c k e = let p = same_Some _ _ e in (ap (λ (x : ℕ × Bool). Some x.0) p, ap (λ (x : ℕ × Bool). x.1) p)
+
+no_hop_at : (o : Option ℕ) (b : Bool) → option_map {U = ℕ × Bool} (λ (n : ℕ). (n, b)) o ≡ None → o ≡ None
+no_hop_at None b e = refl
+no_hop_at (Some n) b e = absurd (cc)
+
+no_arm : (P : Program) (i j : ℕ) (s : Option Stmt) → hop_of P i j s ≡ None → is_arm_end s ≡ false
+no_arm P i j None e = refl
+no_arm P i j (Some (EndArm o)) e = absurd (cc)
+no_arm P i j (Some _) e = refl
 
 -- A thread that went to the place `start` has come to this place, over the end of an arm or not, and goes on from here.
 pub record IsOnTheWay (P : Program) (i start place : ℕ) (ended : Bool) : Type 0 where
@@ -57,60 +59,58 @@ pub record IsOnTheWay (P : Program) (i start place : ℕ) (ended : Bool) : Type 
 pub sets_out : (P : Program) (i start : ℕ) → IsOnTheWay P i start start false
 sets_out P i start = record { fuel = length (lines_of P i); enough = omega arith; goes = refl; ends = refl }
 
-hop_fuel : (P : Program) (i place next n : ℕ) → place < length (lines_of P i) → length (lines_of P i) ≤ n + place → (o : ℕ) → stmt_at (lines_of P i) place ≡ Some (EndArm o) → hop_of P i (stmt_at (lines_of P i) place) ≡ Some next
-    → (m : ℕ) × (n ≡ suc m) × (settled P i n place ≡ settled P i m next) × (ends_arm P i n place ≡ true)
-hop_fuel P i place next zero lt le o here e = absurd (omega arith)
-hop_fuel P i place next (suc m) lt le o here e = (
+hop_fuel : (P : Program) (i place next n : ℕ) → place < length (lines_of P i) → length (lines_of P i) ≤ n + place → hop_of P i place (stmt_at (lines_of P i) place) ≡ Some next
+    → (m : ℕ) × (n ≡ suc m) × (settled P i n place ≡ settled P i m next) × (ends_arm P i n place ≡ (is_arm_end (stmt_at (lines_of P i) place) || ends_arm P i m next))
+hop_fuel P i place next zero lt le e = absurd (omega arith)
+hop_fuel P i place next (suc m) lt le e = (
   m,
   refl,
   ap (or_from place (λ k. settled P i m k)) e,
-  ap (λ s. is_arm_end s || or_from false (λ k. ends_arm P i m k) (hop_of P i (stmt_at (lines_of P i) place))) here,
+  ap (λ h. is_arm_end (stmt_at (lines_of P i) place) || or_from false (λ k. ends_arm P i m k) h) e,
 )
 
-or_true : (b : Bool) → (b || true) ≡ true
-or_true true = refl
-or_true false = refl
+or_grouped : (a b c : Bool) → (a || (b || c)) ≡ ((a || b) || c)
+or_grouped true b c = refl
+or_grouped false b c = refl
 
 or_false : (b : Bool) → (b || false) ≡ b
 or_false true = refl
 or_false false = refl
 
-pub record Hops (P : Program) (i start place next : ℕ) : Type 0 where
-  pub way : IsOnTheWay P i start next true
+pub record Hops (P : Program) (i start place next : ℕ) (ended : Bool) : Type 0 where
+  pub way : IsOnTheWay P i start next ended
   pub here : place < length (lines_of P i)
   pub falls : place < next
 
-pub hops : (P : Program) → IsProgram P → (i start place next : ℕ) (ended : Bool) → IsOnTheWay P i start place ended → hop_of P i (stmt_at (lines_of P i) place) ≡ Some next → Hops P i start place next
-hops P made i start place next ended w e =
-    let h = hop-end P i next (stmt_at (lines_of P i) place) e in
-    let a = at_arm_end P made i place h.0 h.1 in
-    let here : place < length (lines_of P i) = a.here in
-    let below : place < end_at P i h.0 = a.below in
-    let at : next ≡ end_at P i h.0 + 1 = h.2 in
-    let falls : place < next = omega arith in
+pub hops : (P : Program) → IsProgram P → (i start place next : ℕ) (ended ends : Bool) → IsOnTheWay P i start place ended → hop_at P i place ≡ Some (next, ends) → Hops P i start place next (ended || ends)
+hops P made i start place next ended ends w e =
+    let h = hop_parts _ _ _ _ e in
+    let f = falls P made i place next h.0 in
+    let here : place < length (lines_of P i) = f.here in
+    let below : place < next = f.below in
     let enough : length (lines_of P i) ≤ w.fuel + place = w.enough in
-    let f = hop_fuel P i place next w.fuel here enough h.0 h.1 e in
-    let n : w.fuel ≡ suc f.0 = f.1 in
+    let m = hop_fuel P i place next w.fuel here enough h.0 in
+    let n : w.fuel ≡ suc m.0 = m.1 in
     record {
       way = record {
-        fuel = f.0;
+        fuel = m.0;
         enough = omega arith;
-        goes = sym f.2 ∙ w.goes;
-        ends = sym (ap (λ b. ended || b) f.3 ∙ or_true ended) ∙ w.ends;
+        goes = sym m.2 ∙ w.goes;
+        ends = sym (or_grouped ended ends (ends_arm P i m.0 next)) ∙ ap (λ b. ended || (b || ends_arm P i m.0 next)) (sym h.1) ∙ ap (λ b. ended || b) (sym m.3) ∙ w.ends;
       };
       here = here;
-      falls = falls;
+      falls = below;
     }
 
-rests_by : (P : Program) (i place n : ℕ) → hop_of P i (stmt_at (lines_of P i) place) ≡ None → (settled P i n place ≡ place) × (ends_arm P i n place ≡ false)
+rests_by : (P : Program) (i place n : ℕ) → hop_of P i place (stmt_at (lines_of P i) place) ≡ None → (settled P i n place ≡ place) × (ends_arm P i n place ≡ false)
 rests_by P i place zero e = (refl, refl)
 rests_by P i place (suc m) e = (
   ap (or_from place (λ k. settled P i m k)) e,
-  ap (λ b. b || or_from false (λ k. ends_arm P i m k) (hop_of P i (stmt_at (lines_of P i) place))) (no_hop P i (stmt_at (lines_of P i) place) e)
+  ap (λ b. b || or_from false (λ k. ends_arm P i m k) (hop_of P i place (stmt_at (lines_of P i) place))) (no_arm P i place (stmt_at (lines_of P i) place) e)
       ∙ ap (or_from false (λ k. ends_arm P i m k)) e,
 )
 
-pub rests : (P : Program) (i start place : ℕ) (ended : Bool) → IsOnTheWay P i start place ended → hop_of P i (stmt_at (lines_of P i) place) ≡ None → (place ≡ rest_at P i start) × (ended ≡ passes_arm P i start)
+pub rests : (P : Program) (i start place : ℕ) (ended : Bool) → IsOnTheWay P i start place ended → hop_at P i place ≡ None → (place ≡ rest_at P i start) × (ended ≡ passes_arm P i start)
 rests P i start place ended w e =
-    let r = rests_by P i place w.fuel e in
+    let r = rests_by P i place w.fuel (no_hop_at _ _ e) in
     (sym r.0 ∙ w.goes, sym (ap (λ b. ended || b) r.1 ∙ or_false ended) ∙ w.ends)

@@ -1,20 +1,26 @@
 -- The faults of a world. Each is read off one world, before the harmful step.
-use Rattle.std.specs.Prelude.{ℕ, ◌+◌, Bool, true, false, ◌&&◌, not, if◌then◌else◌, List, [], ◌∷◌, ◌++◌, length, Option, Some, None, nat_eq, nat_le, slice_get}
+use Rattle.std.specs.Prelude.{ℕ, ◌+◌, Bool, true, false, ◌&&◌, ◌||◌, not, if◌then◌else◌, List, [], ◌∷◌, ◌++◌, drop, length, Option, Some, None, nat_eq, nat_le, slice_get}
+use Rattle.std.specs.List.{list_any}
 use Rattle.rc_lang.specs.declared.lines.Line.{Line}
 use Rattle.rc_lang.specs.declared.lines.Op.{Op}
-use Rattle.rc_lang.specs.declared.lines.Op.TheVariants.{GetSqe, PrepNop, SetData64, Submit, CqeSeen}
+use Rattle.rc_lang.specs.declared.lines.Op.TheVariants.{Set, Assign, Add, Subtract, Load, Store, Fill, Print, GetSqe, PrepRead, PrepWrite, PrepFsync, PrepNop, SetData64, Submit, SubmitAndWait, CqeSeen}
 use Rattle.rc_lang.specs.declared.lines.Stmt.{Stmt}
-use Rattle.rc_lang.specs.declared.lines.Stmt.TheVariants.{Do, Lock, EndLock, Peek, Case, Other, Nothing, EndArm, EndPeek}
+use Rattle.rc_lang.specs.declared.lines.Stmt.TheVariants.{Do, EndLock, If, Peek, Break}
+use Rattle.rc_lang.specs.declared.lines.Test.{Test}
+use Rattle.rc_lang.specs.declared.lines.Test.TheVariants.{Compare, ReadyZero, SpaceAtLeast}
+use Rattle.rc_lang.specs.declared.request.Kind.{Kind}
+use Rattle.rc_lang.specs.declared.request.Kind.TheVariants.{Nop, Fsync, Read, Write}
 use Rattle.rc_lang.specs.declared.request.Request.{Request}
-use Rattle.rc_world.specs.declared.controls.Control.{Control}
+use Rattle.rc_lang.specs.Program.{Program, bytes_at}
 use Rattle.rc_world.specs.declared.event.Completion.{Completion}
 use Rattle.rc_world.specs.declared.fault.Fault.{Fault}
 use Rattle.rc_world.specs.declared.fault.FaultKind.{FaultKind}
-use Rattle.rc_world.specs.declared.fault.FaultKind.TheVariants.{RingFull, Overflow, AmbiguousData, UnknownReap, NoLock, RawEntry}
+use Rattle.rc_world.specs.declared.fault.FaultKind.TheVariants.{WriteOfPending, ReadOfFilling, KernelClash, ThreadRace, RingFull, Overflow, AmbiguousData, UnknownReap, NoLock, RawEntry, OutOfBuffer}
 use Rattle.rc_world.specs.declared.fault.Party.TheVariants.{At, InKernel}
 use Rattle.rc_world.specs.declared.world.Slot.{Slot}
 use Rattle.rc_world.specs.declared.world.Slot.TheVariants.{Closed, Vacant, Prepared}
-use Rattle.rc_world.specs.Machine.{World, next_line, used_entries}
+use Rattle.rc_world.specs.Controls.{Standing, next_line}
+use Rattle.rc_world.specs.Machine.{Pending, World, is_read, used_entries}
 
 abbrev pub is_holder : Option ℕ → ℕ → Bool
 is_holder None i = false
@@ -35,14 +41,106 @@ is_prepared Closed = false
 is_prepared Vacant = false
 is_prepared (Prepared r) = true
 
+-- ---- buffers
+
+-- A read or a write names its buffer.
+abbrev pub has_buffer : Kind → Bool
+has_buffer Nop = false
+has_buffer Fsync = false
+has_buffer Read = true
+has_buffer Write = true
+
+abbrev pub names : ℕ → Request → Bool
+names b r = has_buffer r.kind && nat_eq r.buffer b
+
+-- A read fills its buffer.
+abbrev pub reads_into : ℕ → Request → Bool
+reads_into b r = is_read r.kind && nat_eq r.buffer b
+
+-- a pending request names the buffer; a pending read does
+abbrev pub is_named : List Pending → ℕ → Bool
+is_named ps b = list_any (λ (p : Pending). names b p.request) ps
+
+abbrev pub is_filling : List Pending → ℕ → Bool
+is_filling ps b = list_any (λ (p : Pending). reads_into b p.request) ps
+
+-- What a statement does with a buffer.
+pub record Access : Type 0 where
+  pub buffer : ℕ
+  pub writes : Bool
+
+abbrev pub access_by : Op → Option Access
+access_by (Load x b i) = Some (record { buffer = b; writes = false })
+access_by (Store b i x) = Some (record { buffer = b; writes = true })
+access_by (Fill b x) = Some (record { buffer = b; writes = true })
+access_by _ = None
+
+abbrev pub access_of : Stmt → Option Access
+access_of (Do op) = access_by op
+access_of _ = None
+
+-- F1: a store or a fill is next, of a buffer that a pending request names.
+abbrev pub writes_pending : List Pending → Option Access → Bool
+writes_pending ps None = false
+writes_pending ps (Some a) = a.writes && is_named ps a.buffer
+
+-- F2: a load is next, of a buffer that a pending read fills.
+abbrev pub reads_filling : List Pending → Option Access → Bool
+reads_filling ps None = false
+reads_filling ps (Some a) = not a.writes && is_filling ps a.buffer
+
+-- F3: two pending requests name one buffer, and one of them is a read.
+abbrev pub clash : Request → Request → Bool
+clash r s = has_buffer r.kind && names r.buffer s && (is_read r.kind || is_read s.kind)
+
+abbrev pub clashes_with : Request → List Pending → Bool
+clashes_with r ps = list_any (λ (p : Pending). clash r p.request) ps
+
+abbrev pub clashes : List Pending → Bool
+clashes [] = false
+clashes (p ∷ ps) = clashes_with p.request ps || clashes ps
+
+-- F4: another thread that comes behind has the same buffer next, and one of the two writes it.
+abbrev pub conflicts : Option Access → Option Access → Bool
+conflicts (Some a) (Some b) = nat_eq a.buffer b.buffer && (a.writes || b.writes)
+conflicts _ _ = false
+
+abbrev pub access_at : Option Line → Option Access
+access_at None = None
+access_at (Some l) = access_of l.stmt
+
+abbrev pub races_from : World → Option Access → ℕ → List Standing → Bool
+races_from w a j [] = false
+races_from w a j (t ∷ ts) = conflicts a (access_at (next_line w.program w.controls j)) || races_from w a (j + 1) ts
+
+abbrev pub races : World → ℕ → Option Access → Bool
+races w i a = races_from w a (i + 1) (drop (i + 1) w.controls.threads)
+
+-- F11: a load or a store is next behind the end of its buffer, or a prep of more bytes than its buffer has.
+abbrev pub op_is_out : Program → Op → Bool
+op_is_out program (Load x b i) = nat_le (bytes_at program.buffers b) i
+op_is_out program (Store b i x) = nat_le (bytes_at program.buffers b) i
+op_is_out program (PrepRead fd b len off) = not (nat_le len (bytes_at program.buffers b))
+op_is_out program (PrepWrite fd b len off k) = not (nat_le len (bytes_at program.buffers b))
+op_is_out program _ = false
+
+abbrev pub is_out_at : Program → Stmt → Bool
+is_out_at program (Do op) = op_is_out program op
+is_out_at program _ = false
+
+-- ---- rings
+
 -- how many of the requests have this user data
 abbrev pub count_of : ℕ → List Request → ℕ
 count_of u [] = 0
 count_of u (r ∷ rs) = (if nat_eq r.user_data u then 1 else 0) + count_of u rs
 
+abbrev pub has_data : ℕ → Request → Bool
+has_data u r = nat_eq r.user_data u
+
 -- A request with this user data is queued, pending, or completed and not reaped.
 abbrev pub is_in_flight : World → ℕ → Bool
-is_in_flight w u = not (nat_eq (count_of u w.queued + count_of u w.pending + count_of u w.completed) 0)
+is_in_flight w u = list_any (has_data u) w.queued || list_any (λ (p : Pending). has_data u p.request) w.pending || list_any (has_data u) w.completed
 
 -- The front completion is that of exactly one completed, unreaped request.
 abbrev pub front_is_one : World → List Completion → Bool
@@ -65,61 +163,99 @@ is_unknown_at w (Do CqeSeen) = not (w.controls.peeked && front_is_one w w.comple
 is_unknown_at w _ = false
 
 -- F9: a call on the ring is next, of a thread that isn't the holder.
+abbrev pub is_ring_op : Op → Bool
+is_ring_op (Set x n) = false
+is_ring_op (Assign x y) = false
+is_ring_op (Add x y z) = false
+is_ring_op (Subtract x y z) = false
+is_ring_op (Load x b i) = false
+is_ring_op (Store b i x) = false
+is_ring_op (Fill b x) = false
+is_ring_op (Print x) = false
+is_ring_op _ = true
+
+abbrev pub is_ring_test : Test → Bool
+is_ring_test (Compare x comparison n) = false
+is_ring_test ReadyZero = true
+is_ring_test (SpaceAtLeast n) = true
+
 abbrev pub is_ring_call : Stmt → Bool
-is_ring_call (Do op) = true
+is_ring_call (Do op) = is_ring_op op
+is_ring_call (If test) = is_ring_test test
 is_ring_call (Peek x) = true
-is_ring_call Lock = false
-is_ring_call (EndLock o) = false
-is_ring_call (Case o u) = false
-is_ring_call (Other o) = false
-is_ring_call (Nothing o) = false
-is_ring_call (EndArm o) = false
-is_ring_call (EndPeek o) = false
+is_ring_call _ = false
 
 -- F10: the holder's next wants the open entry in another stage.
 abbrev pub op_is_raw : Slot → Op → Bool
 op_is_raw s GetSqe = not (is_closed s)
+op_is_raw s (PrepRead fd b len off) = not (is_vacant s)
+op_is_raw s (PrepWrite fd b len off k) = not (is_vacant s)
+op_is_raw s (PrepFsync fd datasync) = not (is_vacant s)
 op_is_raw s PrepNop = not (is_vacant s)
 op_is_raw s (SetData64 u) = not (is_prepared s)
 op_is_raw s (Submit x) = not (is_closed s)
-op_is_raw s CqeSeen = false
+op_is_raw s (SubmitAndWait x n) = not (is_closed s)
+op_is_raw s _ = false
 
 abbrev pub is_raw_at : Slot → Stmt → Bool
 is_raw_at s (Do op) = op_is_raw s op
 is_raw_at s (EndLock o) = not (is_closed s)
+is_raw_at s (Break o releases leaves) = releases && not (is_closed s)
 is_raw_at s _ = false
+
+-- F6: a request is pending, and the completion ring has no room (io_uring(7)).
+abbrev pub overflows : World → List Pending → Bool
+overflows w [] = false
+overflows w (p ∷ ps) = nat_le w.program.completion_entries (length w.completions)
+
+-- ---- all of them
 
 -- the fault of this kind at thread i, whose next statement is this
 abbrev pub has_fault : World → FaultKind → ℕ → Stmt → Bool
+has_fault w WriteOfPending i s = writes_pending w.pending (access_of s)
+has_fault w ReadOfFilling i s = reads_filling w.pending (access_of s)
+has_fault w KernelClash i s = false
+has_fault w ThreadRace i s = races w i (access_of s)
 has_fault w RingFull i s = is_holder w.controls.holder i && is_full_at w s
 has_fault w Overflow i s = false
 has_fault w AmbiguousData i s = is_holder w.controls.holder i && is_ambiguous_at w s
 has_fault w UnknownReap i s = is_holder w.controls.holder i && is_unknown_at w s
 has_fault w NoLock i s = is_ring_call s && not (is_holder w.controls.holder i)
 has_fault w RawEntry i s = is_holder w.controls.holder i && is_raw_at w.slot s
+has_fault w OutOfBuffer i s = is_out_at w.program s
+
+-- the fault of this kind in the kernel
+abbrev pub in_kernel : World → FaultKind → Bool
+in_kernel w KernelClash = clashes w.pending
+in_kernel w Overflow = overflows w w.pending
+in_kernel w _ = false
+
+abbrev pub kernel_faults : World → FaultKind → List Fault
+kernel_faults w kind = if in_kernel w kind then record { kind = kind; party = InKernel } ∷ [] else []
 
 -- the faults of this kind that thread i has
 abbrev pub fault_at : World → FaultKind → ℕ → Option Line → List Fault
 fault_at w kind i None = []
 fault_at w kind i (Some l) = if has_fault w kind i l.stmt then record { kind = kind; party = At i l.number } ∷ [] else []
 
--- the faults of this kind at the threads from number i on, of which there are n
-abbrev pub faults_from : World → FaultKind → ℕ → List Control → List Fault
+-- the faults of this kind at the threads from number i on
+abbrev pub faults_from : World → FaultKind → ℕ → List Standing → List Fault
 faults_from w kind i [] = []
 faults_from w kind i (t ∷ ts) = fault_at w kind i (next_line w.program w.controls i) ++ faults_from w kind (i + 1) ts
 
--- F6: a request is pending, and the completion ring has no room (io_uring(7)).
-abbrev pub overflows : World → List Request → Bool
-overflows w [] = false
-overflows w (r ∷ rs) = nat_le w.program.completion_entries (length w.completions)
-
 abbrev pub faults_of : World → FaultKind → List Fault
-faults_of w Overflow = if overflows w w.pending then record { kind = Overflow; party = InKernel } ∷ [] else []
-faults_of w kind = faults_from w kind 0 w.controls.threads
+faults_of w kind = kernel_faults w kind ++ faults_from w kind 0 w.controls.threads
 
 -- all faults of a world, by their numbers and then by their threads
+abbrev pub all_kinds : List FaultKind
+all_kinds = WriteOfPending ∷ ReadOfFilling ∷ KernelClash ∷ ThreadRace ∷ RingFull ∷ Overflow ∷ AmbiguousData ∷ UnknownReap ∷ NoLock ∷ RawEntry ∷ OutOfBuffer ∷ []
+
+abbrev pub faults_by : World → List FaultKind → List Fault
+faults_by w [] = []
+faults_by w (kind ∷ kinds) = faults_of w kind ++ faults_by w kinds
+
 abbrev pub faults : World → List Fault
-faults w = faults_of w RingFull ++ (faults_of w Overflow ++ (faults_of w AmbiguousData ++ (faults_of w UnknownReap ++ (faults_of w NoLock ++ faults_of w RawEntry))))
+faults w = faults_by w all_kinds
 
 -- the least fault of a world
 abbrev pub fault_of : World → Option Fault

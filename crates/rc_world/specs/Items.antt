@@ -1,31 +1,39 @@
 -- The items of a schedule: which are enabled, and which step each names.
-use Rattle.std.specs.Prelude.{ℕ, Bool, true, false, ◌&&◌, length, Option, Some, None, nat_eq, position, slice_get, ℤ, pos}
+use Rattle.std.specs.Prelude.{ℕ, Bool, true, false, ◌&&◌, ◌||◌, if◌then◌else◌, List, [], ◌++◌, drop, length, replicate, take, Option, Some, None, nat_eq, position, slice_get, ℤ, pos}
 use Rattle.rc_lang.specs.declared.lines.Line.{Line}
-use Rattle.rc_lang.specs.declared.lines.Op.TheVariants.{Submit}
+use Rattle.rc_lang.specs.declared.lines.Op.TheVariants.{Submit, SubmitAndWait}
 use Rattle.rc_lang.specs.declared.lines.Stmt.{Stmt}
-use Rattle.rc_lang.specs.declared.lines.Stmt.TheVariants.{Do, Lock, EndLock, Peek, Case, Other, Nothing, EndArm, EndPeek}
-use Rattle.rc_lang.specs.declared.request.Request.{Request}
+use Rattle.rc_lang.specs.declared.lines.Stmt.TheVariants.{Do, Lock, EndLock, If, Else, EndIf, Peek, Case, Other, Nothing, EndArm, EndPeek, Loop, EndLoop, Break}
+use Rattle.rc_lang.specs.Program.{Program}
+use Rattle.rc_lang.specs.Requests.{may_complete}
 use Rattle.rc_world.specs.declared.controls.Next.{Next}
 use Rattle.rc_world.specs.declared.controls.Next.TheVariants.{Ready, TakenLock, Ended}
 use Rattle.rc_world.specs.declared.event.Event.{Event}
 use Rattle.rc_world.specs.declared.event.Item.{Item}
 use Rattle.rc_world.specs.declared.event.Item.TheVariants.{Thread, Kernel}
-use Rattle.rc_world.specs.Machine.{World, Controls, next_line, thread_step, kernel_step, may_complete, is_take}
-use Rattle.rc_lang.specs.Program.{Program}
+use Rattle.rc_world.specs.Controls.{Controls, next_line}
+use Rattle.rc_world.specs.Faults.{has_data}
+use Rattle.rc_world.specs.Machine.{Pending, World, count_in, is_read, is_take, kernel_step, thread_step}
 
--- What a thread has next: a lock that somebody holds is taken. An arm's opening line, its closing brace and that of a
--- peek are no events, and no thread of a run stands at one (the law NoHiddenHarm).
+-- What a thread has next: a lock that somebody holds is taken. Lines that are no events are nothing to have next, and
+-- no thread of a run stands at one (the law NoHiddenHarm).
 abbrev pub ready_or_taken : Option ℕ → Line → Stmt → Next
 ready_or_taken holder l (Do op) = Ready l
 ready_or_taken None l Lock = Ready l
 ready_or_taken (Some j) l Lock = TakenLock
 ready_or_taken holder l (EndLock o) = Ready l
+ready_or_taken holder l (If test) = Ready l
+ready_or_taken holder l (Else o) = Ended
+ready_or_taken holder l (EndIf o) = Ended
 ready_or_taken holder l (Peek x) = Ready l
 ready_or_taken holder l (Case o u) = Ended
 ready_or_taken holder l (Other o) = Ended
 ready_or_taken holder l (Nothing o) = Ended
 ready_or_taken holder l (EndArm o) = Ended
 ready_or_taken holder l (EndPeek o) = Ended
+ready_or_taken holder l (Loop k) = Ready l
+ready_or_taken holder l (EndLoop o k) = Ready l
+ready_or_taken holder l (Break o releases leaves) = Ready l
 
 abbrev pub next_by : Option ℕ → Option Line → Next
 next_by holder None = Ended
@@ -38,6 +46,7 @@ next_of program c i = next_by c.holder (next_line program c i)
 -- one that the submit may give.
 abbrev pub is_submit : Stmt → Bool
 is_submit (Do (Submit x)) = true
+is_submit (Do (SubmitAndWait x n)) = true
 is_submit _ = false
 
 abbrev pub takes : World → Option ℤ → Stmt → Bool
@@ -51,31 +60,40 @@ is_ready w take Ended = false
 
 -- the place of a user data among the pending requests
 abbrev pub pending_place : World → ℕ → Option ℕ
-pending_place w u = position (λ (r : Request). nat_eq r.user_data u) w.pending
+pending_place w u = position (λ (p : Pending). has_data u p.request) w.pending
 
--- The kernel's item is enabled where a request with that user data is pending and may have that result. A fill byte
--- other than 0 belongs to a read, and there is none.
-abbrev pub kernel_may : ℤ → ℕ → Option Request → Bool
-kernel_may res fill None = false
-kernel_may res fill (Some r) = may_complete r res && nat_eq fill 0
-
-abbrev pub pending_at : World → Option ℕ → Option Request
+abbrev pub pending_at : World → Option ℕ → Option Pending
 pending_at w None = None
 pending_at w (Some k) = slice_get w.pending k
+
+-- The kernel's item is enabled where a request with that user data is pending and may have that result. A fill byte
+-- other than 0 belongs to a read.
+abbrev pub kernel_may : ℤ → ℕ → Option Pending → Bool
+kernel_may res fill None = false
+kernel_may res fill (Some p) = may_complete p.request res && (nat_eq fill 0 || is_read p.request.kind)
 
 abbrev pub is_enabled : World → Item → Bool
 is_enabled w (Thread i take) = is_ready w take (next_of w.program w.controls i)
 is_enabled w (Kernel u res fill) = kernel_may res fill (pending_at w (pending_place w u))
 
--- The step that an item names: a submit without an answer takes all that is queued.
+-- The step that an item names: a submit without an answer takes all that is queued, and of a read's bytes the first
+-- that the result counts are the fill byte, and the others stay.
 abbrev pub take_of : World → Option ℤ → ℤ
 take_of w None = pos (length w.queued)
 take_of w (Some r) = r
 
-abbrev pub kernel_item : World → ℤ → Option ℕ → Option (Event × World)
-kernel_item w res None = None
-kernel_item w res (Some k) = kernel_step w k res
+abbrev pub filled : (count fill len : ℕ) → Option (List ℕ) → List ℕ
+filled count fill len None = []
+filled count fill len (Some stood) = replicate count fill ++ drop count (take len stood)
+
+abbrev pub item_bytes : ℤ → ℕ → Option Pending → List ℕ
+item_bytes res fill None = []
+item_bytes res fill (Some p) = if is_read p.request.kind then filled (count_in res) fill p.request.len p.bytes else []
+
+abbrev pub kernel_item : World → ℤ → ℕ → Option ℕ → Option (Event × World)
+kernel_item w res fill None = None
+kernel_item w res fill (Some k) = kernel_step w k res (item_bytes res fill (slice_get w.pending k))
 
 abbrev pub item_step : World → Item → Option (Event × World)
 item_step w (Thread i take) = thread_step w i (take_of w take)
-item_step w (Kernel u res fill) = kernel_item w res (pending_place w u)
+item_step w (Kernel u res fill) = kernel_item w res fill (pending_place w u)

@@ -1,32 +1,51 @@
--- Harm can't hide as a missing step.
-use Rattle.std.specs.Prelude.{ℕ, ◌≡◌, ◌<◌, true, List, length, Some, None, slice_get, ℤ}
-use Rattle.rc_lang.specs.declared.request.Request.{Request}
+-- Harm can't hide as a missing step, and traces are runs.
+use Rattle.std.specs.Prelude.{ℕ, ◌≡◌, ◌<◌, ◌⊎◌, true, List, length, Some, None, slice_get, ℤ}
+use Rattle.rc_lang.specs.declared.lines.Line.{Line}
+use Rattle.rc_lang.specs.declared.lines.Stmt.TheVariants.{Lock}
 use Rattle.rc_lang.specs.Program.{Program, IsProgram, lines_of}
-use Rattle.rc_world.specs.declared.controls.Control.{Control}
-use Rattle.rc_world.specs.declared.controls.Next.{Next}
-use Rattle.rc_world.specs.declared.controls.Next.TheVariants.{Ready, TakenLock, Ended}
+use Rattle.rc_lang.specs.Requests.{may_complete}
 use Rattle.rc_world.specs.declared.event.Event.{Event}
+use Rattle.rc_world.specs.declared.event.Item.{Item}
+use Rattle.rc_world.specs.Controls.{Standing, next_line}
 use Rattle.rc_world.specs.Faults.{fault_of}
-use Rattle.rc_world.specs.Items.{is_submit, next_of}
-use Rattle.rc_world.specs.Machine.{World, is_take, kernel_step, may_complete, start_world, thread_step}
+use Rattle.rc_world.specs.Items.{is_enabled, item_step}
+use Rattle.rc_world.specs.Machine.{Pending, World, brings, is_take, kernel_step, start_world, thread_step}
 use Rattle.rc_world.specs.Runs.{IsRun}
+use Rattle.rc_world.specs.Trace.{trace_of}
 
 -- The thread stands behind its last line.
 abbrev pub StandsAtEnd : World → ℕ → Type 0
-StandsAtEnd w i = (t : Control) × (slice_get w.controls.threads i ≡ Some t) × (t.place ≡ length (lines_of w.program i))
+StandsAtEnd w i = (t : Standing) × (slice_get w.controls.threads i ≡ Some t) × (t.place ≡ length (lines_of w.program i))
 
--- A thread with something left has a step, whatever its submit is answered, unless it is at a taken lock.
-abbrev pub HasStep : World → ℕ → Next → Type 0
-HasStep w i (Ready l) = (r : ℤ) → (is_submit l.stmt ≡ true → is_take w r ≡ true) → (s : Event × World) × (thread_step w i r ≡ Some s)
-HasStep w i TakenLock = (j : ℕ) × (w.controls.holder ≡ Some j)
-HasStep w i Ended = StandsAtEnd w i
+-- The thread's next line takes the lock, and somebody holds it.
+abbrev pub StandsAtTakenLock : World → ℕ → Type 0
+StandsAtTakenLock w i = (l : Line) × (j : ℕ) × (next_line w.program w.controls i ≡ Some l) × (l.stmt ≡ Lock) × (w.controls.holder ≡ Some j)
 
--- Each pending request can complete with each result that it may have.
+-- The thread has a step, whatever of the allowed answers its submit gets.
+abbrev pub HasStep : World → ℕ → Type 0
+HasStep w i = (r : ℤ) → is_take w r ≡ true → (s : Event × World) × (thread_step w i r ≡ Some s)
+
+abbrev pub GoesOn : World → ℕ → Type 0
+GoesOn w i = StandsAtEnd w i ⊎ (StandsAtTakenLock w i ⊎ HasStep w i)
+
+-- Each pending request can complete with each result that it may have, a read with any bytes.
 abbrev pub CompletesFreely : World → Type 0
-CompletesFreely w = (k : ℕ) (r : Request) (res : ℤ) → slice_get w.pending k ≡ Some r → may_complete r res ≡ true → (s : Event × World) × (kernel_step w k res ≡ Some s)
+CompletesFreely w =
+    (k : ℕ) (p : Pending) (res : ℤ) (bytes : List ℕ) → slice_get w.pending k ≡ Some p → may_complete p.request res ≡ true → length bytes ≡ brings p.request →
+    (s : Event × World) × (kernel_step w k res bytes ≡ Some s)
 
 -- In a world without a fault, of any run of a made program, every thread and every pending request can go on.
 abbrev pub NoHiddenHarm : Type 0
 NoHiddenHarm =
     (program : Program) (events : List Event) (w : World) → IsProgram program → IsRun (start_world program) events w → fault_of w ≡ None →
-    ((i : ℕ) → i < length program.threads → HasStep w i (next_of w.program w.controls i)) × CompletesFreely w
+    ((i : ℕ) → i < length program.threads → GoesOn w i) × CompletesFreely w
+
+-- The events of a trace are a run from the start world to the world where the trace ends.
+abbrev pub TracesAreRuns : Type 0
+TracesAreRuns = (program : Program) (items : List Item) → IsProgram program → IsRun (start_world program) (trace_of program items).events (trace_of program items).world
+
+-- In a world without a fault, of any run of a made program, an item that is enabled names a step.
+abbrev pub EnabledItemsStep : Type 0
+EnabledItemsStep =
+    (program : Program) (events : List Event) (w : World) (item : Item) → IsProgram program → IsRun (start_world program) events w → fault_of w ≡ None → is_enabled w item ≡ true →
+    (s : Event × World) × (item_step w item ≡ Some s)

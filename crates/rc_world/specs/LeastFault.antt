@@ -3,22 +3,22 @@ use Rattle.std.specs.Prelude.{ℕ, ◌≡◌, ◌≤◌, true, Option, Some, Non
 use Rattle.rc_lang.specs.declared.lines.Line.{Line}
 use Rattle.rc_world.specs.declared.fault.Fault.{Fault}
 use Rattle.rc_world.specs.declared.fault.FaultKind.{FaultKind}
-use Rattle.rc_world.specs.declared.fault.FaultKind.TheVariants.{Overflow}
 use Rattle.rc_world.specs.declared.fault.Party.{Party}
 use Rattle.rc_world.specs.declared.fault.Party.TheVariants.{At, InKernel}
 use Rattle.rc_world.specs.FaultNames.{number_of_fault}
-use Rattle.rc_world.specs.Faults.{fault_of, has_fault, overflows}
-use Rattle.rc_world.specs.Machine.{World, next_line}
+use Rattle.rc_world.specs.Controls.{next_line}
+use Rattle.rc_world.specs.Faults.{fault_of, has_fault, in_kernel}
+use Rattle.rc_world.specs.Machine.{World}
 
 -- A fault of this kind is there: at a thread whose next line has that number, or in the kernel.
 abbrev pub IsFaultAt : World → FaultKind → Party → Type 0
 IsFaultAt w kind (At i n) = (l : Line) × (next_line w.program w.controls i ≡ Some l) × (n ≡ l.number) × (has_fault w kind i l.stmt ≡ true)
-IsFaultAt w kind InKernel = (kind ≡ Overflow) × (overflows w w.pending ≡ true)
+IsFaultAt w kind InKernel = in_kernel w kind ≡ true
 
 abbrev pub IsFault : World → Fault → Type 0
 IsFault w f = IsFaultAt w f.kind f.party
 
--- the number of a thread; the kernel's faults are of one kind, so that its number doesn't matter
+-- the number of a thread; a kind of fault is of threads or of the kernel, so that the kernel's number doesn't matter
 abbrev pub thread_of : Party → ℕ
 thread_of (At i n) = i
 thread_of InKernel = 0

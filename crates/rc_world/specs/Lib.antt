@@ -1,9 +1,16 @@
 pub mod Applies
+pub mod Changes
+pub mod Controls
 pub mod FaultNames
 pub mod Faults
+pub mod Harm
 pub mod Items
+pub mod Kept
 pub mod Laws
 pub mod LeastFault
 pub mod Machine
+pub mod Parts
 pub mod Runs
 pub mod Schedule
+pub mod Trace
+pub mod WorldParts

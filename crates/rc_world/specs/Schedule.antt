@@ -37,24 +37,24 @@ thread_halves program piece None = option_map (λ thread. Thread thread None) (t
 thread_halves program piece (Some (name, answer)) =
     option_and_then (λ r. option_map (λ thread. Thread thread (Some r)) (thread_named program name)) (result_of answer)
 
-abbrev pub thread_item : Program → List ℕ → Option Item
-thread_item program piece = thread_halves program piece (halves 61 piece)
+abbrev pub item_of_thread : Program → List ℕ → Option Item
+item_of_thread program piece = thread_halves program piece (halves 61 piece)
 
 -- `U=R` or `U=R:H`, cut at its first `=`, and behind it at the first `:`
-abbrev pub completes : Option ℕ → Option ℤ → Option ℕ → Option Item
-completes (Some u) (Some r) (Some h) = Some (Kernel u r h)
-completes _ _ _ = None
+abbrev pub completion_item : Option ℕ → Option ℤ → Option ℕ → Option Item
+completion_item (Some u) (Some r) (Some h) = Some (Kernel u r h)
+completion_item _ _ _ = None
 
-abbrev pub completes_by : List ℕ → List ℕ → Option (List ℕ × List ℕ) → Option Item
-completes_by u r None = completes (number_of 0 (2 ^ 64 - 1) u) (result_of r) (Some 0)
-completes_by u r (Some (s, h)) = completes (number_of 0 (2 ^ 64 - 1) u) (result_of s) (number_of 0 255 h)
+abbrev pub completion_by : List ℕ → List ℕ → Option (List ℕ × List ℕ) → Option Item
+completion_by u r None = completion_item (number_of 0 (2 ^ 64 - 1) u) (result_of r) (Some 0)
+completion_by u r (Some (s, h)) = completion_item (number_of 0 (2 ^ 64 - 1) u) (result_of s) (number_of 0 255 h)
 
 abbrev pub kernel_halves : Option (List ℕ × List ℕ) → Option Item
 kernel_halves None = None
-kernel_halves (Some (u, r)) = completes_by u r (halves 58 r)
+kernel_halves (Some (u, r)) = completion_by u r (halves 58 r)
 
-abbrev pub kernel_item : List ℕ → Option Item
-kernel_item words = kernel_halves (halves 61 words)
+abbrev pub item_of_kernel : List ℕ → Option Item
+item_of_kernel words = kernel_halves (halves 61 words)
 
 -- the piece begins with `k:`
 abbrev pub is_kernel_item : List ℕ → Bool
@@ -65,7 +65,7 @@ is_kernel_item (a ∷ b ∷ bytes) = a == 107 && b == 58
 -- The item that a piece names, if it names one. A piece that begins with `k:` is the kernel's.
 abbrev pub item_of : Program → List ℕ → Option Item
 item_of program [] = None
-item_of program (b ∷ bytes) = if is_kernel_item (b ∷ bytes) then kernel_item (drop 2 (b ∷ bytes)) else thread_item program (b ∷ bytes)
+item_of program (b ∷ bytes) = if is_kernel_item (b ∷ bytes) then item_of_kernel (drop 2 (b ∷ bytes)) else item_of_thread program (b ∷ bytes)
 
 -- The items of a schedule, or the number of the first piece that is none, from 1.
 abbrev pub items_or : Option ℕ → List Item → Result (List Item) ℕ

@@ -12,12 +12,28 @@ pub struct Completion {
 /// What a step of a thread did, with the values of its trace line.
 #[derive(Clone, Copy, PartialEq, Eq, Debug)]
 pub enum Action {
+    /// A variable was assigned this.
+    VariableSet(i64),
+    /// This byte of a buffer was loaded into a variable.
+    Loaded(u8),
+    /// This byte was stored in a buffer.
+    Stored(u8),
+    /// A buffer was filled with this byte.
+    Filled(u8),
+    /// A variable with this value was printed.
+    Printed(i64),
     /// The lock was taken.
     Locked,
     /// The lock was released.
     Released,
     /// A submission entry was opened.
     EntryOpened,
+    /// The open entry was made a read.
+    ReadPrepared,
+    /// The open entry was made a write.
+    WritePrepared,
+    /// The open entry was made an fsync.
+    FsyncPrepared,
     /// The open entry was made a nop.
     NopPrepared,
     /// The open entry got this user data and was queued.
@@ -30,12 +46,18 @@ pub enum Action {
     PeekedNone,
     /// The completion of this user data was taken away.
     Reaped(u64),
+    /// An if was decided, by yes or no.
+    Branched(bool),
+    /// A loop was entered, or went back to its top.
+    Looped,
+    /// A break left a loop.
+    LoopLeft,
 }
 
 /// One event of a run.
 #[derive(Clone, Copy, PartialEq, Eq, Debug)]
 pub enum Event {
-    /// A step of a thread, with the number of its line.
+    /// A step of a thread, with the number of its line; at a return to the top of a loop that of the loop.
     ByThread {
         thread: u32,
         line: u32,

@@ -8,6 +8,18 @@ use thiserror::Error;
 /// What is wrong in a world, before the harmful step.
 #[derive(Clone, Copy, PartialEq, Eq, Debug, Error)]
 pub enum FaultKind {
+    /// F1: a store or a fill is next of a buffer that a pending request names.
+    #[error("F1 WriteOfPending")]
+    WriteOfPending,
+    /// F2: a load is next of a buffer that a pending read fills.
+    #[error("F2 ReadOfFilling")]
+    ReadOfFilling,
+    /// F3: two pending requests name one buffer and one of them is a read.
+    #[error("F3 KernelClash")]
+    KernelClash,
+    /// F4: two threads have the same buffer next, and one of them writes it.
+    #[error("F4 ThreadRace")]
+    ThreadRace,
     /// F5: `get_sqe` is next and the submission ring is full.
     #[error("F5 RingFull")]
     RingFull,
@@ -23,33 +35,47 @@ pub enum FaultKind {
     /// F9: a call on the ring is next, of a thread without the lock.
     #[error("F9 NoLock")]
     NoLock,
-    /// F10: a call is next that the stage of the submission entry doesn't allow.
+    /// F10: a call, the end of the lock or a break that releases it is next, which the stage of the submission entry
+    /// doesn't allow.
     #[error("F10 RawEntry")]
     RawEntry,
+    /// F11: a load or a store behind the end of its buffer is next, or a prep of more bytes than the buffer has.
+    #[error("F11 OutOfBuffer")]
+    OutOfBuffer,
 }
 
 impl FaultKind {
     /// All kinds, in the order of their numbers.
-    pub const ALL: [FaultKind; 6] = [
+    pub const ALL: [FaultKind; 11] = [
+        FaultKind::WriteOfPending,
+        FaultKind::ReadOfFilling,
+        FaultKind::KernelClash,
+        FaultKind::ThreadRace,
         FaultKind::RingFull,
         FaultKind::Overflow,
         FaultKind::AmbiguousData,
         FaultKind::UnknownReap,
         FaultKind::NoLock,
         FaultKind::RawEntry,
+        FaultKind::OutOfBuffer,
     ];
 
-    /// The number that is printed, 5 to 10.
+    /// The number that is printed, 1 to 11.
     pub fn number(self) -> u8
         ensures { result ≡ number_of_fault self }
     {
         match self {
+            FaultKind::WriteOfPending => 1,
+            FaultKind::ReadOfFilling => 2,
+            FaultKind::KernelClash => 3,
+            FaultKind::ThreadRace => 4,
             FaultKind::RingFull => 5,
             FaultKind::Overflow => 6,
             FaultKind::AmbiguousData => 7,
             FaultKind::UnknownReap => 8,
             FaultKind::NoLock => 9,
             FaultKind::RawEntry => 10,
+            FaultKind::OutOfBuffer => 11,
         }
     }
 
@@ -58,12 +84,17 @@ impl FaultKind {
         ensures { result.now ≡ name_of_fault self }
     {
         match self {
+            FaultKind::WriteOfPending => "WriteOfPending",
+            FaultKind::ReadOfFilling => "ReadOfFilling",
+            FaultKind::KernelClash => "KernelClash",
+            FaultKind::ThreadRace => "ThreadRace",
             FaultKind::RingFull => "RingFull",
             FaultKind::Overflow => "Overflow",
             FaultKind::AmbiguousData => "AmbiguousData",
             FaultKind::UnknownReap => "UnknownReap",
             FaultKind::NoLock => "NoLock",
             FaultKind::RawEntry => "RawEntry",
+            FaultKind::OutOfBuffer => "OutOfBuffer",
         }
     }
 }

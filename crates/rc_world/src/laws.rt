@@ -1,11 +1,11 @@
 //! What holds of the machine's definitions alone.
 
-ghost use Rattle.rc_world.specs.Laws.{NoHiddenHarm};
+ghost use Rattle.rc_world.specs.Laws.{EnabledItemsStep, NoHiddenHarm, TracesAreRuns};
 ghost use Rattle.rc_world.specs.LeastFault.{FaultsAreLeast};
 
-/// Harm can't hide as a missing step: in a world without a fault, of any run of a made program, every thread with
-/// something left has a step unless it is at a taken lock, and every pending request can complete with each result
-/// that it may have.
+/// Harm can't hide as a missing step: in a world without a fault, of any run of a made program, each thread is at its
+/// end, or its next line is a lock that somebody holds, or it has a step, whatever its submit is answered; and every
+/// pending request can complete with each result that it may have, a read with any bytes.
 pub fn no_hidden_harm()
     ensures { NoHiddenHarm }
 {}
@@ -14,4 +14,15 @@ pub fn no_hidden_harm()
 /// has none of any kind, at any thread or in the kernel.
 pub fn faults_are_least()
     ensures { FaultsAreLeast }
+{}
+
+/// The events of a trace are a run from the start world, to the world where the trace ends.
+pub fn traces_are_runs()
+    ensures { TracesAreRuns }
+{}
+
+/// In a world without a fault, of any run of a made program, an item that is enabled names a step, so that no trace
+/// ends at it.
+pub fn enabled_items_step()
+    ensures { EnabledItemsStep }
 {}

@@ -89,7 +89,7 @@ fn fill_of(word: &[u8]) -> Option<u8>
 
 // `NAME` or `NAME=R`.
 fn thread_item(program: &Program, piece: &[u8]) -> Option<Item>
-    ensures { result ≡ spec.thread_item program.now piece.now }
+    ensures { result ≡ spec.item_of_thread program.now piece.now }
 {
     match halves(b'=', piece) {
         None => Some(Item::Thread {
@@ -108,7 +108,7 @@ fn thread_item(program: &Program, piece: &[u8]) -> Option<Item>
 
 // `U=R` or `U=R:H`.
 fn kernel_item(words: &[u8]) -> Option<Item>
-    ensures { result ≡ spec.kernel_item words.now }
+    ensures { result ≡ spec.item_of_kernel words.now }
 {
     let (user_data, behind) = halves(b'=', words)?;
     let (res, fill) = halves(b':', behind).unwrap_or((behind, b"0"));

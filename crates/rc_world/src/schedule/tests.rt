@@ -1,41 +1,8 @@
 //! Schedules of a program with the threads `t0`, `k` and `t1`.
 
-ghost use Rattle.std.specs.Prelude.{◌≡◌, [], IfOk};
-ghost use Rattle.rc_lang.specs.Parts.{thread_of};
-
 use super::*;
-use rc_lang::program::{Declarations, Head, Items};
+use crate::examples::program;
 use std::test::Fail;
-
-fn thread(alloc: Global, name: &[u8]) -> Result<Thread, AllocError>
-    ensures { IfOk result (λ t. thread_of t ≡ record { name = name.now; line = 3; items = record { tokens = []; credits = 0 }; lines = []; ends = []; variables = 0 }) }
-{
-    Ok(Thread {
-        name: Vec::from_slice(alloc, name)?,
-        line: 3,
-        items: Items {
-            tokens: Vec::new(alloc),
-            credits: 0,
-        },
-        lines: Vec::new(alloc),
-        ends: Vec::new(alloc),
-        variables: 0,
-    })
-}
-
-// The threads `t0`, `k` and `t1`, which have no lines.
-fn program(alloc: Global) -> Result<Program, AllocError> {
-    let mut threads = Vec::new(alloc);
-    threads.push(thread(alloc, b"t0")?)?;
-    threads.push(thread(alloc, b"k")?)?;
-    threads.push(thread(alloc, b"t1")?)?;
-    let head = Head {
-        entries: 1,
-        completion_entries: 2,
-    };
-    let tokens = Vec::new(alloc);
-    Ok(Program::new(head, Declarations { tokens }, threads))
-}
 
 fn step(thread: u32, take: Option<i32>) -> Item {
     Item::Thread { thread, take }
@@ -105,6 +72,18 @@ fn the_first_unreadable_item_is_named(rt: HostRuntime) -> Result<(), Fail> {
             "{schedule}"
         );
     }
+    Ok(())
+}
+
+#[test]
+fn ten_thousand_items_are_read(rt: HostRuntime) -> Result<(), Fail> {
+    let program = program(rt.alloc())?;
+    let mut schedule = String::from_str(rt.alloc(), "t0")?;
+    for _ in 1..10_000 {
+        schedule.push_str(",k:7=0")?;
+    }
+    let read = read_schedule(rt.alloc(), &program, schedule.as_str())?;
+    assert_eq!(rt; read.len(), 10_000);
     Ok(())
 }
 

@@ -1,22 +1,68 @@
-use Rattle.std.proofs.Common.{◌≤◌, sym, ap, subst, ◌∙◌, ℕ}
-use Rattle.rc_world.specs.Machine as machine
-use Rattle.rc_world.proofs.Bounds.{peek_variable, arm_within, none_within}
+use Rattle.std.proofs.Common.{◌≡◌, ◌+◌, ◌<◌, ◌≤◌, FitsSigned, w64, length, negsuc, rules, true, sym, ap, ◌∙◌, arith}
+use Rattle.std.proofs.lemmas.Int.{to_z-of_z}
+use Rattle.rc_lang.specs.Program.{end_at, lines_of}
+use Rattle.rc_world.specs.declared.event.Action.TheVariants.{Peeked, PeekedNone}
+use Rattle.rc_world.specs.Changes.{standing_at, with_variable}
+use Rattle.rc_world.specs.Controls.{Controls, arm_for, made, none_arm, peeks}
+use Rattle.rc_world.proofs.Jumps.{peek_below, peek_small}
+use Rattle.rc_world.proofs.Threads.{set_and_gone}
 use Rattle.rc_world.proofs.controls.Controls.peek.Goals as goal
 
-pub with_variable-control-requires : goal.with_variable-control-requires
-with_variable-control-requires c = peek_variable c.args.program.now c.requires.made c.args.thread c.args.control.place c.args.x c.requires.here
+pub none_arm-arm-requires-clause-start : goal.none_arm-arm-requires-clause-start
+none_arm-arm-requires-clause-start c = let b = peek_below _ _ _ _ _ c.requires.here in let lt : c.args.place < end_at c.args.program.now c.args.thread c.args.place = b.below in omega arith
 
-pub pass-requires-clause-within : goal.pass-requires-clause-within
-pass-requires-clause-within c =
-    let e = c.none_arm-place.ensures ∙ ap (λ lines. machine.none_arm lines c.args.control.place) c.lines-lines.ensures in
-    let P : ℕ → Type 0 = λ n. n ≤ 4096 in
-    subst P (sym e) (none_within c.args.program.now c.requires.made c.args.thread c.args.control.place)
+pub none_arm-arm-requires-clause-end : goal.none_arm-arm-requires-clause-end
+none_arm-arm-requires-clause-end c =
+    let b = peek_below _ _ _ _ _ c.requires.here in let lt : end_at c.args.program.now c.args.thread c.args.place < length (lines_of c.args.program.now c.args.thread) = b.within in omega arith
 
-pub with_variable-control-requires-in-Front : goal.with_variable-control-requires-in-Front
-with_variable-control-requires-in-Front c = peek_variable c.args.program.now c.requires.made c.args.thread c.args.control.place c.args.x c.requires.here
+pub set-requires-clause-variable : goal.set-requires-clause-variable
+set-requires-clause-variable c = peek_small _ _ _ _ _ c.requires.here
 
-pub pass-requires-in-Front-clause-within : goal.pass-requires-in-Front-clause-within
-pass-requires-in-Front-clause-within c =
-    let e = c.arm_for-place.ensures ∙ ap (λ lines. machine.arm_for lines c.args.control.place c.in-Front.completion.user_data) c.lines-lines.ensures in
-    let P : ℕ → Type 0 = λ n. n ≤ 4096 in
-    subst P (sym e) (arm_within c.args.program.now c.requires.made c.args.thread c.args.control.place c.in-Front.completion.user_data)
+pub overflow_add-arm : goal.overflow_add-arm
+overflow_add-arm c =
+    let b = peek_below _ _ _ _ _ c.requires.here in
+    let few : end_at c.args.program.now c.args.thread c.args.place ≤ 4096 = b.few in
+    let le : c.none_arm-arm.result ≤ end_at c.args.program.now c.args.thread c.args.place = c.none_arm-arm.ensures.below in
+    omega arith
+
+pub arm_for-arm-requires-clause-start : goal.arm_for-arm-requires-clause-start
+arm_for-arm-requires-clause-start c = let b = peek_below _ _ _ _ _ c.requires.here in let lt : c.args.place < end_at c.args.program.now c.args.thread c.args.place = b.below in omega arith
+
+pub arm_for-arm-requires-clause-end : goal.arm_for-arm-requires-clause-end
+arm_for-arm-requires-clause-end c =
+    let b = peek_below _ _ _ _ _ c.requires.here in let lt : end_at c.args.program.now c.args.thread c.args.place < length (lines_of c.args.program.now c.args.thread) = b.within in omega arith
+
+pub set-requires-in-Front-clause-variable : goal.set-requires-in-Front-clause-variable
+set-requires-in-Front-clause-variable c = peek_small _ _ _ _ _ c.requires.here
+
+pub overflow_add-arm-in-Front : goal.overflow_add-arm-in-Front
+overflow_add-arm-in-Front c =
+    let b = peek_below _ _ _ _ _ c.requires.here in
+    let few : end_at c.args.program.now c.args.thread c.args.place ≤ 4096 = b.few in
+    let le : c.arm_for-arm.result ≤ end_at c.args.program.now c.args.thread c.args.place = c.arm_for-arm.ensures.below in
+    omega arith
+
+pub returns-in-Plain : goal.returns-in-Plain
+returns-in-Plain c =
+    let P = c.args.program.now in
+    let old = c.args.self.now in
+    let i = c.args.thread in
+    let place = ap (λ j. none_arm P i j + 1) c.requires.here.place in
+    ap (λ a. made P old i (peeks P old i (standing_at old i) c.args.x a)) c.in-Plain.is
+    ∙ set_and_gone P old _ c.go.new.self i _ _ c.args.x (negsuc 10) old.holder old.peeked PeekedNone c.requires.here.exists c.set.ensures c.go.ensures
+    (ap (λ n. n + 1) c.none_arm-arm.ensures.value ∙ sym place)
+
+pub returns-in-Front : goal.returns-in-Front
+returns-in-Front c =
+    let P = c.args.program.now in
+    let old = c.args.self.now in
+    let i = c.args.thread in
+    let cqe = c.in-Front.completion in
+    let place = ap (λ j. arm_for P i j cqe.user_data + 1) c.requires.here.place in
+    let fits : FitsSigned w64 c.from.result = search rules in
+    let plain : c.from.result ≡ cqe.res = search rules in
+    let set = c.set-in-Front.ensures ∙ ap (with_variable old i c.args.x) (to_z-of_z w64 c.from.result fits ∙ plain) in
+    ap (λ a. made P old i (peeks P old i (standing_at old i) c.args.x a)) c.in-Front.is
+    ∙ set_and_gone P old _ c.go-in-Front.new.self i _ _ c.args.x cqe.res old.holder true (Peeked cqe) c.requires.here.exists
+    (ap (λ (k : Controls). record { threads = k.threads; holder = k.holder; peeked = true }) (c.self.view_is ∙ set)) c.go-in-Front.ensures
+    (ap (λ n. n + 1) c.arm_for-arm.ensures.value ∙ sym place)

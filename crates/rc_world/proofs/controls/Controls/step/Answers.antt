@@ -1,20 +1,12 @@
-use Rattle.std.proofs.Common.{sym, ap, ◌∙◌}
-use Rattle.rc_world.specs.Machine.{as_event}
-use Rattle.rc_world.proofs.Bounds.{place_within}
-use Rattle.rc_world.proofs.StepParts.{step_at, acts_some}
+use Rattle.std.proofs.Common.{sym, ◌∙◌}
+use Rattle.rc_world.proofs.StepParts.{found_at, stands, step_made}
 use Rattle.rc_world.proofs.controls.Controls.step.Goals as goal
 
-pub act-action-requires-clause-within : goal.act-action-requires-clause-within
-act-action-requires-clause-within c =
-    place_within c.args.program.now c.line_at.ensures.made c.args.thread c.in-Some.control.place c.in-Some-line_at.line (sym c.line_at.ensures.value ∙ c.in-Some-line_at.is)
-
-pub act-action-requires-clause-step : goal.act-action-requires-clause-step
-act-action-requires-clause-step c =
-    let here = sym c.control.ensures ∙ c.in-Some.is in
-    acts_some c.args.program.now c.args.self.now c.args.thread c.args.answer c.in-Some.control c.in-Some-line_at.line here (sym c.line_at.ensures.value ∙ c.in-Some-line_at.is) c.requires
+pub act-action-requires-clause-here : goal.act-action-requires-clause-here
+act-action-requires-clause-here c =
+    stands _ c.line_at.ensures.made c.args.self.now c.args.thread c.in-Some.place c.in-Some-line_at.line (found_at _ _ _ (sym c.place.ensures ∙ c.in-Some.is)) (sym c.line_at.ensures.value ∙ c.in-Some-line_at.is)
 
 pub returns : goal.returns
 returns c =
-    let here = sym c.control.ensures ∙ c.in-Some.is in
-    step_at c.args.program.now c.args.self.now c.args.thread c.args.answer c.in-Some.control c.in-Some-line_at.line here (sym c.line_at.ensures.value ∙ c.in-Some-line_at.is)
-    ∙ ap (as_event c.args.thread c.in-Some-line_at.line) c.act-action.ensures
+    step_made c.args.program.now c.args.self.now c.act-action.new.self c.args.thread c.in-Some.place c.number_of_event.result c.args.answer c.in-Some-line_at.line c.act-action.result
+    (found_at _ _ _ (sym c.place.ensures ∙ c.in-Some.is)) (sym c.line_at.ensures.value ∙ c.in-Some-line_at.is) c.number_of_event.ensures c.act-action.ensures

@@ -1,23 +1,38 @@
 use Rattle.std.proofs.Common.{ℤ, w32, Some, IsSome, sym, ap, subst, ◌∙◌}
 use Rattle.std.proofs.lemmas.Int.{to_z-of_z}
-use Rattle.rc_world.specs.Machine.{World, answer_of, in_rings, next_line, thread_step}
-use Rattle.rc_world.proofs.StepParts.{step_ready, step_done}
+use Rattle.rc_world.specs.Changes.{StmtIsSmall, standing_at}
+use Rattle.rc_world.specs.Controls.{next_line}
+use Rattle.rc_world.specs.Kept.{IsKept}
+use Rattle.rc_world.specs.Machine.{World, answer_of, in_rings, thread_step}
+use Rattle.rc_world.specs.WorldParts.{view_world}
+use Rattle.rc_world.proofs.WorldSteps.{small_here, step_done, step_ready}
 use Rattle.rc_world.proofs.world.World.step.Goals as goal
+
+pub rings-requires-clause-small : goal.rings-requires-clause-small
+rings-requires-clause-small c =
+    let line = sym c.line.ensures ∙ c.in-Some.is in
+    subst (λ (w : World). StmtIsSmall w.program c.in-Some.line.stmt) c.self.view_is (small_here (view_world c.self.inside) c.self.invariant.0 c.args.thread c.taken-taken.result c.in-Some.line line)
 
 pub step-requires : goal.step-requires
 step-requires c =
+    let old = c.args.self.now in
+    let l = c.in-Some.line in
     let read = to_z-of_z w32 c.taken-taken.result (record { sfits = c.taken-taken.type_inv }) in
+    let kept = subst IsKept c.self.view_is c.self.invariant.0 in
     let line = ap (λ (w : World). next_line w.program w.controls c.args.thread) (sym c.self.view_is) ∙ sym c.line.ensures ∙ c.in-Some.is in
-    let rings = ap (λ z. in_rings c.args.self.now z c.in-Some.line.stmt) (sym read) ∙ c.in_ok-rings.ensures ∙ ap (λ (w : World). Some w) (sym c.self-2.view_is) in
-    let answer = c.answer-answer.ensures ∙ ap (λ z. answer_of c.args.self.now z c.in-Some.line.stmt) read in
-    let some = subst (λ (r : ℤ). IsSome (thread_step c.args.self.now c.args.thread r)) (sym c.taken-taken.ensures) c.requires.step in
-    step_ready c.args.self.now _ c.args.thread c.taken-taken.result c.in-Some.line c.answer-answer.result line rings answer some
+    let rings = ap (λ z. in_rings old (standing_at old.controls c.args.thread) z l.stmt) (sym read) ∙ c.in_ok-rings.ensures ∙ ap (λ (w : World). Some w) (sym c.self-2.view_is) in
+    let answer = c.answer-answer.ensures ∙ ap (λ z. answer_of old z l.stmt) read in
+    let some = subst (λ (r : ℤ). IsSome (thread_step old c.args.thread r)) (sym c.taken-taken.ensures) c.requires.step in
+    step_ready old kept c.args.thread c.taken-taken.result l line (view_world c.self-2.inside) rings c.answer-answer.result answer some
 
 pub returns : goal.returns
 returns c =
+    let old = c.args.self.now in
+    let l = c.in-Some.line in
     let read = to_z-of_z w32 c.taken-taken.result (record { sfits = c.taken-taken.type_inv }) in
+    let kept = subst IsKept c.self.view_is c.self.invariant.0 in
     let line = ap (λ (w : World). next_line w.program w.controls c.args.thread) (sym c.self.view_is) ∙ sym c.line.ensures ∙ c.in-Some.is in
-    let rings = ap (λ z. in_rings c.args.self.now z c.in-Some.line.stmt) (sym read) ∙ c.in_ok-rings.ensures ∙ ap (λ (w : World). Some w) (sym c.self-2.view_is) in
-    let answer = c.answer-answer.ensures ∙ ap (λ z. answer_of c.args.self.now z c.in-Some.line.stmt) read in
-    ap (thread_step c.args.self.now c.args.thread) (sym c.taken-taken.ensures)
-    ∙ step_done c.args.self.now _ c.args.thread c.taken-taken.result c.in-Some.line c.answer-answer.result c.step.result c.step.new.self line rings answer c.step.ensures
+    let rings = ap (λ z. in_rings old (standing_at old.controls c.args.thread) z l.stmt) (sym read) ∙ c.in_ok-rings.ensures ∙ ap (λ (w : World). Some w) (sym c.self-2.view_is) in
+    let answer = c.answer-answer.ensures ∙ ap (λ z. answer_of old z l.stmt) read in
+    ap (thread_step old c.args.thread) (sym c.taken-taken.ensures)
+    ∙ step_done old kept c.args.thread c.taken-taken.result l line (view_world c.self-2.inside) rings c.answer-answer.result answer c.step.result c.step.new.self c.step.ensures

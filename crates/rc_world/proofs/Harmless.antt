@@ -1,0 +1,127 @@
+-- A world without harm has no fault of any kind.
+use Rattle.std.proofs.Common.{◌≡◌, ℕ, ◌+◌, ◌<◌, ◌≤◌, Bool, true, false, ◌&&◌, ◌||◌, not, if◌then◌else◌, List, [], ◌∷◌, ◌++◌, drop, length, Option, Some, None, slice_get, refl, ap, ◌∙◌, arith}
+use Rattle.std.proofs.lemmas.List.{drop_all, drop_more}
+use Rattle.rc_lang.specs.declared.lines.Line.{Line}
+use Rattle.rc_lang.specs.declared.lines.Stmt.{Stmt}
+use Rattle.rc_world.specs.declared.fault.Fault.{Fault}
+use Rattle.rc_world.specs.declared.fault.FaultKind.{FaultKind}
+use Rattle.rc_world.specs.declared.fault.FaultKind.TheVariants.{WriteOfPending, ReadOfFilling, KernelClash, ThreadRace, RingFull, Overflow, AmbiguousData, UnknownReap, NoLock, RawEntry, OutOfBuffer}
+use Rattle.rc_world.specs.declared.fault.Party.TheVariants.{At, InKernel}
+use Rattle.rc_world.specs.Controls.{Standing, next_line}
+use Rattle.rc_world.specs.Faults.{access_of, all_kinds, clashes, fault_at, fault_of, faults_by, faults_from, faults_of, has_fault, in_kernel, is_ambiguous_at, is_full_at, is_holder, is_out_at, is_raw_at, is_ring_call, is_unknown_at, overflows, races, reads_filling, writes_pending}
+use Rattle.rc_world.specs.Harm.{harms_at, harms_buffers, harms_from, harms_rings, has_harm, is_harmful}
+use Rattle.rc_world.specs.Machine.{World}
+use Rattle.rc_world.proofs.Lists.{neither}
+
+-- ---- one thread
+
+record Quiet (h p q r s c : Bool) : Type 0 where
+  full : (h && p) ≡ false
+  ambiguous : (h && q) ≡ false
+  unknown : (h && r) ≡ false
+  raw : (h && s) ≡ false
+  call : (c && not h) ≡ false
+
+and_false : (c : Bool) → c ≡ false → (c && true) ≡ false
+and_false true e = absurd (cc)
+and_false false e = refl
+
+and_never : (c : Bool) → (c && false) ≡ false
+and_never true = refl
+and_never false = refl
+
+quiet : (h p q r s c : Bool) → (if h then p || q || r || s else c) ≡ false → Quiet h p q r s c
+quiet true p q r s c e =
+    let a = neither (p || q || r) s e in
+    let b = neither (p || q) r a.0 in
+    let d = neither p q b.0 in
+    record { full = d.0; ambiguous = d.1; unknown = b.1; raw = a.1; call = and_never c }
+quiet false p q r s c e = record { full = refl; ambiguous = refl; unknown = refl; raw = refl; call = and_false c e }
+
+module _ (w : World) (i : ℕ) (s : Stmt) (e : is_harmful w i s ≡ false) where
+  sides : (harms_buffers w i s ≡ false) × ((if is_holder w.controls.holder i then harms_rings w s else is_ring_call s) ≡ false)
+  sides = neither (harms_buffers w i s) (if is_holder w.controls.holder i then harms_rings w s else is_ring_call s) e
+
+  rings : Quiet (is_holder w.controls.holder i) (is_full_at w s) (is_ambiguous_at w s) (is_unknown_at w s) (is_raw_at w.slot s) (is_ring_call s)
+  rings = quiet (is_holder w.controls.holder i) (is_full_at w s) (is_ambiguous_at w s) (is_unknown_at w s) (is_raw_at w.slot s) (is_ring_call s) sides.1
+
+  buffers : (writes_pending w.pending (access_of s) ≡ false) × (reads_filling w.pending (access_of s) ≡ false) × (races w i (access_of s) ≡ false) × (is_out_at w.program s ≡ false)
+  buffers =
+      let a = neither (writes_pending w.pending (access_of s) || reads_filling w.pending (access_of s) || races w i (access_of s)) (is_out_at w.program s) sides.0 in
+      let b = neither (writes_pending w.pending (access_of s) || reads_filling w.pending (access_of s)) (races w i (access_of s)) a.0 in
+      let c = neither (writes_pending w.pending (access_of s)) (reads_filling w.pending (access_of s)) b.0 in
+      (c.0, c.1, b.1, a.1)
+
+  harmless : (kind : FaultKind) → has_fault w kind i s ≡ false
+  harmless WriteOfPending = buffers.0
+  harmless ReadOfFilling = buffers.1
+  harmless KernelClash = refl
+  harmless ThreadRace = buffers.2
+  harmless RingFull = rings.full
+  harmless Overflow = refl
+  harmless AmbiguousData = rings.ambiguous
+  harmless UnknownReap = rings.unknown
+  harmless NoLock = rings.call
+  harmless RawEntry = rings.raw
+  harmless OutOfBuffer = buffers.3
+
+-- ---- all threads
+
+none_at : (w : World) (kind : FaultKind) (i : ℕ) (l : Option Line) → harms_at w i l ≡ false → fault_at w kind i l ≡ []
+none_at w kind i None e = refl
+none_at w kind i (Some l) e = ap (λ b. if b then record { kind = kind; party = At i l.number } ∷ [] else []) (harmless w i l.stmt e kind)
+
+none_from : (w : World) (kind : FaultKind) (i : ℕ) (threads : List Standing) → harms_from w i threads ≡ false → faults_from w kind i threads ≡ []
+none_from w kind i [] e = refl
+none_from w kind i (t ∷ ts) e =
+    let n = neither (harms_at w i (next_line w.program w.controls i)) (harms_from w (i + 1) ts) e in
+    ap (λ (fs : List Fault). fs ++ faults_from w kind (i + 1) ts) (none_at w kind i (next_line w.program w.controls i) n.0) ∙ none_from w kind (i + 1) ts n.1
+
+-- ---- the world
+
+module _ (w : World) (e : has_harm w ≡ false) where
+  calm : (clashes w.pending ≡ false) × (overflows w w.pending ≡ false)
+  calm = neither _ _ (neither _ _ e).0
+
+  none_in_kernel : (kind : FaultKind) → in_kernel w kind ≡ false
+  none_in_kernel WriteOfPending = refl
+  none_in_kernel ReadOfFilling = refl
+  none_in_kernel KernelClash = calm.0
+  none_in_kernel ThreadRace = refl
+  none_in_kernel RingFull = refl
+  none_in_kernel Overflow = calm.1
+  none_in_kernel AmbiguousData = refl
+  none_in_kernel UnknownReap = refl
+  none_in_kernel NoLock = refl
+  none_in_kernel RawEntry = refl
+  none_in_kernel OutOfBuffer = refl
+
+  none_of : (kind : FaultKind) → faults_of w kind ≡ []
+  none_of kind =
+      ap (λ b. (if b then record { kind = kind; party = InKernel } ∷ [] else []) ++ faults_from w kind 0 w.controls.threads) (none_in_kernel kind)
+      ∙ none_from w kind 0 w.controls.threads (neither _ _ e).1
+
+  none_by : (kinds : List FaultKind) → faults_by w kinds ≡ []
+  none_by [] = refl
+  none_by (kind ∷ kinds) = ap (λ (fs : List Fault). fs ++ faults_by w kinds) (none_of kind) ∙ none_by kinds
+
+  pub faultless : fault_of w ≡ None
+  faultless = ap (λ fs. slice_get fs 0) (none_by all_kinds)
+
+-- ---- the pass
+
+drop_next : {A : Type 0} (xs : List A) (i : ℕ) → i < length xs → (x : A) × (drop i xs ≡ x ∷ drop (i + 1) xs)
+drop_next [] i lt = absurd (omega arith)
+drop_next (x ∷ xs) i lt = (_, drop_more (x ∷ xs) i x lt)
+
+harms_here : (w : World) (threads : List Standing) (i : ℕ) → i < length threads → harms_from w i (drop i threads) ≡ (harms_at w i (next_line w.program w.controls i) || harms_from w (i + 1) (drop (i + 1) threads))
+harms_here w threads i lt = let d = drop_next threads i lt in ap (harms_from w i) d.1
+
+pub harms_found : (w : World) (threads : List Standing) (i : ℕ) → i < length threads → harms_at w i (next_line w.program w.controls i) ≡ true → harms_from w i (drop i threads) ≡ true
+harms_found w threads i lt e = harms_here w threads i lt ∙ ap (λ b. b || harms_from w (i + 1) (drop (i + 1) threads)) e
+
+pub harms_more : (w : World) (threads : List Standing) (i : ℕ) → i < length threads → harms_at w i (next_line w.program w.controls i) ≡ false → harms_from w i (drop i threads) ≡ harms_from w (i + 1) (drop (i + 1) threads)
+harms_more w threads i lt e = harms_here w threads i lt ∙ ap (λ b. b || harms_from w (i + 1) (drop (i + 1) threads)) e
+
+pub harms_end : (w : World) (threads : List Standing) (i : ℕ) → length threads ≤ i → harms_from w i (drop i threads) ≡ false
+harms_end w threads i le = ap (harms_from w i) (drop_all i threads le)

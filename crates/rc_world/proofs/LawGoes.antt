@@ -1,0 +1,286 @@
+-- In a world of a run without a fault each thread with something left has a step, and each pending request can complete.
+use Rattle.std.proofs.Common.{◌≡◌, ℕ, ◌+◌, ◌<◌, ◌≤◌, Bool, true, false, ◌&&◌, not, if◌then◌else◌, List, [], ◌∷◌, ◌++◌, length, nat_eq, nat_le, nat_lt, Option, Some, None, refl, sym, ap, ◌∙◌, subst, slice_get, slice_index, slice_index_or, slice_set, replicate, inl, inr, ℤ, pos, arith, eq-eqb, leb-false, lt-ltb}
+use Rattle.std.proofs.lemmas.Bool.{le-leb}
+use Rattle.rc_lang.specs.declared.lines.Line.{Line}
+use Rattle.rc_lang.specs.declared.lines.Op.{Op}
+use Rattle.rc_lang.specs.declared.lines.Op.TheVariants.{Set, Assign, Add, Subtract, Load, Store, Fill, Print, GetSqe, PrepRead, PrepWrite, PrepFsync, PrepNop, SetData64, Submit, SubmitAndWait, CqeSeen}
+use Rattle.rc_lang.specs.declared.lines.Stmt.{Stmt}
+use Rattle.rc_lang.specs.declared.lines.Stmt.TheVariants.{Do, Lock, EndLock, If, Else, EndIf, Peek, Case, Other, Nothing, EndArm, EndPeek, Loop, EndLoop, Break}
+use Rattle.rc_lang.specs.declared.lines.Test.{Test}
+use Rattle.rc_lang.specs.declared.lines.Test.TheVariants.{Compare, ReadyZero, SpaceAtLeast}
+use Rattle.rc_lang.specs.declared.request.Kind.TheVariants.{Fsync, Read, Write}
+use Rattle.rc_lang.specs.declared.request.Request.{Request}
+use Rattle.rc_lang.specs.Program.{IsResolvedOp, Program, bytes_at, line_at, lines_of, stmt_of}
+use Rattle.rc_lang.specs.Requests.{may_complete}
+use Rattle.rc_lang.proofs.Rests.{may_rest}
+use Rattle.rc_world.specs.declared.controls.Answer.TheVariants.{Plain, Byte}
+use Rattle.rc_world.specs.declared.event.Completion.{Completion}
+use Rattle.rc_world.specs.declared.event.Event.{Event}
+use Rattle.rc_world.specs.declared.event.Event.TheVariants.{ByKernel, ByThread}
+use Rattle.rc_world.specs.declared.fault.FaultKind.{FaultKind}
+use Rattle.rc_world.specs.declared.fault.FaultKind.TheVariants.{WriteOfPending, ReadOfFilling, KernelClash, RingFull, UnknownReap, NoLock, RawEntry, OutOfBuffer}
+use Rattle.rc_world.specs.declared.world.Slot.{Slot}
+use Rattle.rc_world.specs.declared.world.Slot.TheVariants.{Closed, Vacant, Prepared}
+use Rattle.rc_world.specs.Controls.{Move, Standing, acts, as_event, loads, locks, low_byte, made, moved, number_of_event, peeks, reaps, variable}
+use Rattle.rc_world.specs.Faults.{clashes, fault_of, front_is_one, has_buffer, has_fault, is_closed, is_filling, is_holder, is_named, is_prepared, is_ring_call, is_vacant, names, reads_into}
+use Rattle.rc_world.specs.Items.{is_submit}
+use Rattle.rc_world.specs.Laws.{CompletesFreely, GoesOn, NoHiddenHarm, StandsAtEnd}
+use Rattle.rc_world.specs.Kept.{IsKept, IsMemory}
+use Rattle.rc_world.specs.Machine.{Pending, World, answer_of, brings, byte_of, completes, completion_of, count_in, fills, fits, front_of, given_back, hands_over, in_rings, is_read, is_take, kernel_event, kernel_step_of, new_request, opens_entry, prepared_nop, prepares, queues, reaps_front, slot_len, start_world, stores, thread_step, with_bytes, with_controls}
+use Rattle.rc_world.proofs.Laid.{resolved_in}
+use Rattle.rc_world.proofs.LawFaultless.{none_at, none_in_kernel, none_of_kind}
+use Rattle.rc_world.proofs.LawLists.{and_both, and_left, and_right, get_at, get_past}
+use Rattle.rc_world.proofs.Lists.{either, get_none, get_of, or_left, or_right}
+use Rattle.rc_world.proofs.Memory.{read_has_buffer}
+use Rattle.rc_world.proofs.LawRuns.{IsSound, run_sound, sound_at_start}
+use Rattle.rc_world.proofs.LawSteps.{StandsAt, next_of_standing, step_is}
+
+-- ---- tests
+
+and_false : (a b : Bool) → (a && b) ≡ false → a ≡ true → b ≡ false
+and_false true b e h = e
+and_false false b e h = absurd (cc)
+
+not_false : (b : Bool) → not b ≡ false → b ≡ true
+not_false true e = refl
+not_false false e = absurd (cc)
+
+not_both : (a b : Bool) → (a ≡ true → b ≡ true) → b ≡ false → a ≡ false
+not_both true b h e = let d = h refl in absurd (cc)
+not_both false b h e = refl
+
+-- ---- buffers
+
+filling_is_named : (b : ℕ) (ps : List Pending) → is_filling ps b ≡ true → is_named ps b ≡ true
+filling_is_named b [] e = absurd (cc)
+filling_is_named b (p ∷ ps) e = elim (either (reads_into b p.request) (is_filling ps b) e) [
+  | inl h ↦ or_left (names b p.request) (is_named ps b) (and_both (has_buffer p.request.kind) (nat_eq p.request.buffer b) (read_has_buffer p.request.kind (and_left (is_read p.request.kind) _ h)) (and_right (is_read p.request.kind) (nat_eq p.request.buffer b) h))
+  | inr h ↦ or_right (names b p.request) (is_named ps b) (filling_is_named b ps h)
+]
+
+-- The buffer has its bytes.
+record Stands (program : Program) (buffers : List (Option (List ℕ))) (b : ℕ) : Type 0 where
+  bytes : List ℕ
+  there : slice_index_or buffers b None ≡ Some bytes
+  many : length bytes ≡ bytes_at program.buffers b
+
+-- where no pending read fills it
+buffer_stands : (program : Program) (ps : List Pending) (buffers : List (Option (List ℕ))) (b : ℕ) → IsMemory program ps buffers → b < length program.buffers → is_filling ps b ≡ false → Stands program buffers b
+buffer_stands program ps buffers b m lt f = go (slice_index_or buffers b None) refl
+  where
+    go : (x : Option (List ℕ)) → slice_index_or buffers b None ≡ x → Stands program buffers b
+    go None e =
+        let n : length buffers ≡ length program.buffers = m.as_many in
+        let d = m.filled b (get_none buffers b (omega arith) e) in
+        absurd (cc)
+    go (Some bytes) e = record { bytes = bytes; there = e; many = m.sized b bytes (get_of buffers b bytes e) }
+
+-- ---- the rings
+
+opens : (w : World) (s : Slot) → not (is_closed s) ≡ false → nat_le w.program.entries (length w.queued + slot_len s) ≡ false → (v : World) × (opens_entry w s ≡ Some v)
+opens w Closed a b =
+    let h : length w.queued + 0 < w.program.entries = leb-false w.program.entries (length w.queued + 0) b in
+    (record w { slot = Vacant }, ap (λ c. if c then Some (record w { slot = Vacant }) else None) (lt-ltb (length w.queued) w.program.entries (omega arith)))
+opens w Vacant a b = absurd (cc)
+opens w (Prepared r) a b = absurd (cc)
+
+prepares_vacant : (w : World) (r : Request) → fits w.program r ≡ true → (s : Slot) → not (is_vacant s) ≡ false → (v : World) × (prepares w r s ≡ Some v)
+prepares_vacant w r f Closed a = absurd (cc)
+prepares_vacant w r f Vacant a = (record w { slot = Prepared r }, ap (λ b. if b then Some (record w { slot = Prepared r }) else None) f)
+prepares_vacant w r f (Prepared q) a = absurd (cc)
+
+queues_prepared : (w : World) (u : ℕ) (s : Slot) → not (is_prepared s) ≡ false → (v : World) × (queues w u s ≡ Some v)
+queues_prepared w u Closed a = absurd (cc)
+queues_prepared w u Vacant a = absurd (cc)
+queues_prepared w u (Prepared r) a = (record w { slot = Closed; queued = w.queued ++ record r { serial = w.made + 1; user_data = u } ∷ []; made = w.made + 1 }, refl)
+
+has_front : (w : World) (peeked : Bool) (cs : List Completion) → not (peeked && front_is_one w cs) ≡ false → (c : Completion) × (rest : List Completion) × (cs ≡ c ∷ rest)
+has_front w false cs e = absurd (cc)
+has_front w true [] e = absurd (cc)
+has_front w true (c ∷ cs) e = (c, cs, refl)
+
+-- ---- the next line of a thread
+
+-- The thread can do this.
+record CanDo (w : World) (i : ℕ) (t : Standing) (r : ℤ) (s : Stmt) : Type 0 where
+  rings : World
+  move : Move
+  in_the_rings : in_rings w t r s ≡ Some rings
+  acted : acts w.program w.controls i t s (answer_of w r s) ≡ Some move
+
+abbrev HasNoFault : World → ℕ → Stmt → Type 0
+HasNoFault w i s = (kind : FaultKind) → has_fault w kind i s ≡ false
+
+module _ (w : World) (i : ℕ) (t : Standing) (r : ℤ) where
+  -- a thread at a call on the ring holds the lock
+  holds : (s : Stmt) → is_ring_call s ≡ true → HasNoFault w i s → is_holder w.controls.holder i ≡ true
+  holds s c f = not_false (is_holder w.controls.holder i) (and_false (is_ring_call s) (not (is_holder w.controls.holder i)) (f NoLock) c)
+
+  -- a prep of an entry that the holder has opened
+  can_prepare : (op : Op) (q : Request) (m : Move) → is_ring_call (Do op) ≡ true → HasNoFault w i (Do op) → (is_holder w.controls.holder i && not (is_vacant w.slot)) ≡ false → fits w.program q ≡ true
+      → in_rings w t r (Do op) ≡ prepares w q w.slot → acts w.program w.controls i t (Do op) (answer_of w r (Do op)) ≡ Some m → CanDo w i t r (Do op)
+  can_prepare op q m c f raw room e a =
+      let v = prepares_vacant w q room w.slot (and_false (is_holder w.controls.holder i) _ raw (holds (Do op) c f)) in
+      record { rings = v.0; move = m; in_the_rings = e ∙ v.1; acted = a }
+
+  can_submit : (n : ℤ) → is_take w n ≡ true → (if is_take w n then Some (hands_over w (count_in n)) else None) ≡ Some (hands_over w (count_in n))
+  can_submit n e = ap (λ b. if b then Some (hands_over w (count_in n)) else None) e
+
+  module _ (m : IsMemory w.program w.pending w.buffers) where
+    stands : (b : ℕ) → b < length w.program.buffers → is_filling w.pending b ≡ false → Stands w.program w.buffers b
+    stands b lt f = buffer_stands w.program w.pending w.buffers b m lt f
+
+    not_named : (b : ℕ) → is_named w.pending b ≡ false → is_filling w.pending b ≡ false
+    not_named b e = not_both (is_filling w.pending b) (is_named w.pending b) (filling_is_named b w.pending) e
+
+    -- the place lies in the buffer
+    inside : (b k : ℕ) → nat_le (bytes_at w.program.buffers b) k ≡ false → (s : Stands w.program w.buffers b) → nat_lt k (length s.bytes) ≡ true
+    inside b k e s =
+        let lt : k < bytes_at w.program.buffers b = leb-false (bytes_at w.program.buffers b) k e in
+        let n : length s.bytes ≡ bytes_at w.program.buffers b = s.many in
+        lt-ltb k (length s.bytes) (omega arith)
+
+    can_do : (n : ℕ) (op : Op) → IsResolvedOp w.program n op → HasNoFault w i (Do op) → (is_submit (Do op) ≡ true → is_take w r ≡ true) → CanDo w i t r (Do op)
+    can_do n (Set x v) a f u = record { rings = w; move = _; in_the_rings = refl; acted = refl }
+    can_do n (Assign x y) a f u = record { rings = w; move = _; in_the_rings = refl; acted = refl }
+    can_do n (Add x y z) a f u = record { rings = w; move = _; in_the_rings = refl; acted = refl }
+    can_do n (Subtract x y z) a f u = record { rings = w; move = _; in_the_rings = refl; acted = refl }
+    can_do n (Load x b k) a f u =
+        let s = stands b a.1 (f ReadOfFilling) in
+        record {
+          rings = w;
+          move = _;
+          in_the_rings = refl;
+          acted = ap (λ o. loads w.controls t x (byte_of k o)) s.there ∙ ap (λ c. loads w.controls t x (if c then Byte (slice_index s.bytes k) else Plain)) (inside b k (f OutOfBuffer) s);
+        }
+    can_do n (Store b k x) a f u =
+        let s = stands b a.0 (not_named b (f WriteOfPending)) in
+        record {
+          rings = with_bytes w b (slice_set s.bytes k (low_byte (variable t x)));
+          move = _;
+          in_the_rings = ap (stores w b k (low_byte (variable t x))) s.there ∙ ap (λ c. if c then Some (with_bytes w b (slice_set s.bytes k (low_byte (variable t x)))) else None) (inside b k (f OutOfBuffer) s);
+          acted = refl;
+        }
+    can_do n (Fill b x) a f u =
+        let s = stands b a.0 (not_named b (f WriteOfPending)) in
+        record { rings = with_bytes w b (replicate (length s.bytes) (low_byte (variable t x))); move = _; in_the_rings = ap (fills w b (low_byte (variable t x))) s.there; acted = refl }
+    can_do n (Print x) a f u = record { rings = w; move = _; in_the_rings = refl; acted = refl }
+    can_do n GetSqe a f u =
+        let h = holds (Do GetSqe) refl f in
+        let v = opens w w.slot (and_false (is_holder w.controls.holder i) _ (f RawEntry) h) (and_false (is_holder w.controls.holder i) _ (f RingFull) h) in
+        record { rings = v.0; move = _; in_the_rings = v.1; acted = refl }
+    can_do n (PrepRead fd b len off) a f u = can_prepare (PrepRead fd b len off) (new_request Read (pos fd) b len off) _ refl f (f RawEntry) (not_false (nat_le len (bytes_at w.program.buffers b)) (f OutOfBuffer)) refl refl
+    can_do n (PrepWrite fd b len off k) a f u = can_prepare (PrepWrite fd b len off k) (new_request Write (pos fd) b len off) _ refl f (f RawEntry) (not_false (nat_le len (bytes_at w.program.buffers b)) (f OutOfBuffer)) refl refl
+    can_do n (PrepFsync fd datasync) a f u = can_prepare (PrepFsync fd datasync) (new_request Fsync (pos fd) 0 0 0) _ refl f (f RawEntry) (le-leb 0 (bytes_at w.program.buffers 0) (omega arith)) refl refl
+    can_do n PrepNop a f u = can_prepare PrepNop prepared_nop _ refl f (f RawEntry) (le-leb 0 (bytes_at w.program.buffers 0) (omega arith)) refl refl
+    can_do n (SetData64 d) a f u =
+        let v = queues_prepared w d w.slot (and_false (is_holder w.controls.holder i) _ (f RawEntry) (holds (Do (SetData64 d)) refl f)) in
+        record { rings = v.0; move = _; in_the_rings = v.1; acted = refl }
+    can_do n (Submit x) a f u = record { rings = hands_over w (count_in r); move = _; in_the_rings = can_submit r (u refl); acted = refl }
+    can_do n (SubmitAndWait x k) a f u = record { rings = hands_over w (count_in r); move = _; in_the_rings = can_submit r (u refl); acted = refl }
+    can_do n CqeSeen a f u =
+        let c = has_front w w.controls.peeked w.completions (and_false (is_holder w.controls.holder i) _ (f UnknownReap) (holds (Do CqeSeen) refl f)) in
+        record { rings = _; move = _; in_the_rings = ap (reaps_front w) c.2; acted = ap (λ cs. reaps w.controls t (front_of cs)) c.2 }
+
+  can_decide : (test : Test) → CanDo w i t r (If test)
+  can_decide (Compare x comparison n) = record { rings = w; move = _; in_the_rings = refl; acted = refl }
+  can_decide ReadyZero = record { rings = w; move = _; in_the_rings = refl; acted = refl }
+  can_decide (SpaceAtLeast n) = record { rings = w; move = _; in_the_rings = refl; acted = refl }
+
+  can_peek : (x : ℕ) → CanDo w i t r (Peek x)
+  can_peek x = go w.completions refl
+    where
+      go : (cs : List Completion) → w.completions ≡ cs → CanDo w i t r (Peek x)
+      go [] e = record { rings = w; move = _; in_the_rings = refl; acted = ap (λ cs. peeks w.program w.controls i t x (front_of cs)) e }
+      go (c ∷ cs) e = record { rings = w; move = _; in_the_rings = refl; acted = ap (λ cs. peeks w.program w.controls i t x (front_of cs)) e }
+
+  can_lock : w.controls.holder ≡ None → CanDo w i t r Lock
+  can_lock e = record { rings = w; move = _; in_the_rings = refl; acted = ap (locks w.controls i t Plain) e }
+
+  steps : (l : Line) → StandsAt w i t l → CanDo w i t r l.stmt → (s : Event × World) × (thread_step w i r ≡ Some s)
+  steps l s d = (
+    (ByThread i (number_of_event w.program i l l.stmt) d.move.action, record d.rings { controls = moved w.program w.controls i d.move }),
+    step_is w i r t l s
+        ∙ ap (λ v. with_controls v (as_event w.program i l (made w.program w.controls i (acts w.program w.controls i t l.stmt (answer_of w r l.stmt))))) d.in_the_rings
+        ∙ ap (λ m. with_controls (Some d.rings) (as_event w.program i l (made w.program w.controls i m))) d.acted,
+  )
+
+-- ---- what each thread has next
+
+module _ (w : World) (safe : fault_of w ≡ None) (kept : IsKept w) (i : ℕ) (t : Standing) (c : slice_get w.controls.threads i ≡ Some t) where
+  no_fault : (l : Line) → StandsAt w i t l → HasNoFault w i l.stmt
+  no_fault l s kind = none_at w kind (none_of_kind w safe kind) i l (next_of_standing w i t l s)
+
+  ready : (l : Line) → StandsAt w i t l → (s : Stmt) → l.stmt ≡ s → ((r : ℤ) → is_take w r ≡ true → CanDo w i t r s) → GoesOn w i
+  ready l a s e d = inr (inr (λ r u. steps w i t r l a (subst (λ x. CanDo w i t r x) (sym e) (d r u))))
+
+  op_goes : (l : Line) → StandsAt w i t l → (op : Op) → l.stmt ≡ Do op → GoesOn w i
+  op_goes l a op e =
+      let h = resolved_in w.program kept.made i t.place (Do op) (ap stmt_of a.line ∙ ap Some e) in
+      ready l a (Do op) e (λ r u. can_do w i t r kept.memory h.0 op h.3 (subst (λ x. HasNoFault w i x) e (no_fault l a)) (λ x. u))
+
+  lock_goes : (l : Line) → StandsAt w i t l → l.stmt ≡ Lock → (holder : Option ℕ) → w.controls.holder ≡ holder → GoesOn w i
+  lock_goes l a e None h = ready l a Lock e (λ r u. can_lock w i t r h)
+  lock_goes l a e (Some j) h = inr (inl (l, j, next_of_standing w i t l a, e, h))
+
+  -- at a line that is an event
+  pub line_goes : (l : Line) → StandsAt w i t l → (s : Stmt) → l.stmt ≡ s → may_rest (Some s) ≡ true → GoesOn w i
+  line_goes l a (Do op) e h = op_goes l a op e
+  line_goes l a Lock e h = lock_goes l a e w.controls.holder refl
+  line_goes l a (EndLock o) e h = ready l a (EndLock o) e (λ r u. record { rings = w; move = _; in_the_rings = refl; acted = refl })
+  line_goes l a (If test) e h = ready l a (If test) e (λ r u. can_decide w i t r test)
+  line_goes l a (Else o) e h = absurd (cc)
+  line_goes l a (EndIf o) e h = absurd (cc)
+  line_goes l a (Peek x) e h = ready l a (Peek x) e (λ r u. can_peek w i t r x)
+  line_goes l a (Case o u) e h = absurd (cc)
+  line_goes l a (Other o) e h = absurd (cc)
+  line_goes l a (Nothing o) e h = absurd (cc)
+  line_goes l a (EndArm o) e h = absurd (cc)
+  line_goes l a (EndPeek o) e h = absurd (cc)
+  line_goes l a (Loop k) e h = ready l a (Loop k) e (λ r u. record { rings = w; move = _; in_the_rings = refl; acted = refl })
+  line_goes l a (EndLoop o k) e h = ready l a (EndLoop o k) e (λ r u. record { rings = w; move = _; in_the_rings = refl; acted = refl })
+  line_goes l a (Break o releases leaves) e h = ready l a (Break o releases leaves) e (λ r u. record { rings = w; move = _; in_the_rings = refl; acted = refl })
+
+module _ (program : Program) (w : World) (safe : fault_of w ≡ None) (sound : IsSound program w) (i : ℕ) (t : Standing) (c : slice_get w.controls.threads i ≡ Some t) where
+  -- no thread of a run stands at a line that is no event
+  at_rest : (l : Line) → StandsAt w i t l → may_rest (Some l.stmt) ≡ true
+  at_rest l a = sym (ap may_rest (ap stmt_of a.line)) ∙ (sound.rest.each i t c).rests
+
+  at_the_end : line_at w.program i t.place ≡ None → StandsAtEnd w i
+  at_the_end e =
+      let le : t.place ≤ length (lines_of w.program i) = (sound.rest.each i t c).within in
+      let p : length (lines_of w.program i) ≤ t.place = get_past (lines_of w.program i) t.place e in
+      (t, c, omega arith)
+
+  thread_goes : (l : Option Line) → line_at w.program i t.place ≡ l → GoesOn w i
+  thread_goes None e = inl (at_the_end e)
+  thread_goes (Some l) e = let a : StandsAt w i t l = record { standing = c; line = e } in line_goes w safe sound.kept i t c l a l.stmt refl (at_rest l a)
+
+pub threads_go : (program : Program) (w : World) → fault_of w ≡ None → IsSound program w → (i : ℕ) → i < length program.threads → GoesOn w i
+threads_go program w safe sound i lt =
+    let many : length w.controls.threads ≡ length program.threads = sound.rest.as_many ∙ ap (λ (p : Program). length p.threads) sound.same in
+    let t = get_at w.controls.threads i (omega arith) in
+    thread_goes program w safe sound i t.0 t.1 (line_at w.program i t.0.place) refl
+
+-- ---- the kernel
+
+module _ (w : World) (safe : clashes w.pending ≡ false) where
+  -- the bytes of its buffer stand with a read
+  given : (m : IsMemory w.program w.pending w.buffers) (k : ℕ) (p : Pending) → slice_get w.pending k ≡ Some p → (bytes : List ℕ) (stood : Option (List ℕ)) → p.bytes ≡ stood → (b : List (Option (List ℕ))) × (given_back w p.request bytes stood ≡ Some b)
+  given m k p e bytes (Some stood) q = (_, refl)
+  given m k p e bytes None q = (w.buffers, ap (λ c. if c then None else Some w.buffers) (not_both (is_read p.request.kind) (clashes w.pending) (λ r. (m.pending k p e).stands r q) safe))
+
+  pub completes_freely : IsMemory w.program w.pending w.buffers → CompletesFreely w
+  completes_freely m k p res bytes e may n =
+      let g = given m k p e bytes p.bytes refl in
+      let allowed = and_both (may_complete p.request res) (nat_eq (length bytes) (brings p.request)) may (eq-eqb (length bytes) (brings p.request) n) in (
+        (ByKernel (completion_of p.request res), completes w k res p.request g.0),
+        ap (kernel_step_of w k res bytes) e
+            ∙ ap (λ b. if b then kernel_event w k res p.request (given_back w p.request bytes p.bytes) else None) allowed
+            ∙ ap (kernel_event w k res p.request) g.1,
+      )
+
+pub no_harm_hides : NoHiddenHarm
+no_harm_hides program events w made run safe =
+    let sound : IsSound program w = run_sound program events (start_world program) w (sound_at_start program made) run in
+    (threads_go program w safe sound, completes_freely w (none_in_kernel w KernelClash (none_of_kind w safe KernelClash)) sound.kept.memory)

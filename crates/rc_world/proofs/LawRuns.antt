@@ -1,0 +1,102 @@
+-- What each world of a run keeps: its threads rest, its requests fit, and its buffers have their bytes.
+use Rattle.std.proofs.Common.{◌≡◌, ℕ, zero, suc, Bool, true, false, if◌then◌else◌, List, [], ◌∷◌, length, map, replicate, Option, Some, None, refl, sym, ap, ◌∙◌, subst, slice_get, slice_set, inl, inr, ℤ, pos}
+use Rattle.std.proofs.lemmas.List.{length-map, length-set}
+use Rattle.std.proofs.lemmas.Option.{same_Some}
+use Rattle.rc_lang.specs.Program.{IsProgram, Program, Thread, lines_of, stmt_of}
+use Rattle.rc_lang.proofs.Rests.{IsRest}
+use Rattle.rc_world.specs.declared.event.Event.{Event}
+use Rattle.rc_world.specs.declared.fault.FaultKind.TheVariants.{KernelClash}
+use Rattle.rc_world.specs.Controls.{Standing, rest_at}
+use Rattle.rc_world.specs.Faults.{clashes}
+use Rattle.rc_world.specs.Kept.{IsKept, IsMemory}
+use Rattle.rc_world.specs.Machine.{World, answer_of, given_back, is_read, start_world, without}
+use Rattle.rc_world.specs.Runs.{IsRun, IsStep}
+use Rattle.rc_world.proofs.LawFaultless.{none_in_kernel, none_of_kind}
+use Rattle.rc_world.proofs.Lists.{get_set}
+use Rattle.rc_world.proofs.Memory.{memory_done, memory_read}
+use Rattle.rc_world.proofs.RingSteps.{rings_same, small_stmt}
+use Rattle.rc_world.proofs.Starting.{kept_start}
+use Rattle.rc_world.proofs.LawPlaces.{acts_open, rests_at_start, rests_from}
+use Rattle.rc_world.proofs.LawSteps.{Completed, Stepped, completed, stepped}
+
+-- Each thread rests.
+pub record AllRest (program : Program) (threads : List Standing) : Type 0 where
+  pub as_many : length threads ≡ length program.threads
+  pub each : (i : ℕ) (t : Standing) → slice_get threads i ≡ Some t → IsRest (lines_of program i) t.place
+
+pub record IsSound (program : Program) (w : World) : Type 0 where
+  pub same : w.program ≡ program
+  pub rest : AllRest w.program w.controls.threads
+  pub kept : IsKept w
+
+-- ---- the step of a thread
+
+one_rests : (program : Program) (threads : List Standing) (i : ℕ) (t : Standing) → AllRest program threads → IsRest (lines_of program i) t.place → AllRest program (slice_set threads i t)
+one_rests program threads i t h r = record {
+  as_many = length-set threads i t ∙ h.as_many;
+  each = λ k u e. elim (get_set threads i k t u e) [
+    | inl d ↦ subst (λ (x : Standing). IsRest (lines_of program k) x.place) d.1 (subst (λ n. IsRest (lines_of program n) t.place) (sym d.0) r)
+    | inr d ↦ h.each k u d.1
+  ];
+}
+
+after_thread : (program : Program) (w after : World) (i : ℕ) (r : ℤ) → IsSound program w → Stepped w i r after → IsSound program after
+after_thread program w after i r h s =
+    let here = ap stmt_of s.stands.line in
+    let k = rings_same w h.kept s.standing r s.line.stmt (small_stmt w.program h.kept.made i s.standing.place s.line.stmt here) s.rings s.in_the_rings in
+    let o = acts_open w.program h.kept.made i w.controls s.standing (answer_of w r s.line.stmt) s.move s.line.stmt here s.acted in
+    let t : Standing = record { place = rest_at w.program i s.move.place; variables = s.move.variables } in
+    let rest = one_rests w.program w.controls.threads i t h.rest (rests_from w.program h.kept.made i s.move.place o) in
+    subst (λ x. IsSound program x) s.same (record {
+      same = k.program ∙ h.same;
+      rest = subst (λ x. AllRest x (slice_set w.controls.threads i t)) (sym k.program) rest;
+      kept = record { made = k.kept.made; room = k.kept.room; slot = k.kept.slot; queued = k.kept.queued; memory = k.kept.memory };
+    })
+
+-- ---- the step of the kernel
+
+module _ (program : Program) (w : World) (h : IsSound program w) (safe : clashes w.pending ≡ false) (k : ℕ) (res : ℤ) (bytes : List ℕ) (after : World) (c : Completed w k res bytes after) where
+  memory_after : IsMemory w.program (without k w.pending) c.buffers
+  memory_after = go c.pending.bytes refl c.given
+    where
+      not_read : (b : Bool) → is_read c.pending.request.kind ≡ b → (if b then None else Some w.buffers) ≡ Some c.buffers → IsMemory w.program (without k w.pending) c.buffers
+      not_read true f e = absurd (cc)
+      not_read false f e = subst (λ bs. IsMemory w.program (without k w.pending) bs) (same_Some w.buffers c.buffers e) (memory_done w.program w.pending w.buffers h.kept.memory safe k c.pending c.here f)
+
+      go : (stood : Option (List ℕ)) → c.pending.bytes ≡ stood → given_back w c.pending.request bytes stood ≡ Some c.buffers → IsMemory w.program (without k w.pending) c.buffers
+      go None q e = not_read (is_read c.pending.request.kind) refl e
+      go (Some stood) q e = subst (λ bs. IsMemory w.program (without k w.pending) bs) (same_Some _ c.buffers e) (memory_read w.program w.pending w.buffers h.kept.memory safe k c.pending c.here stood bytes q c.many)
+
+  after_kernel : IsSound program after
+  after_kernel = subst (λ x. IsSound program x) c.same (record {
+    same = h.same;
+    rest = h.rest;
+    kept = record { made = h.kept.made; room = h.kept.room; slot = h.kept.slot; queued = h.kept.queued; memory = memory_after };
+  })
+
+-- ---- runs
+
+abbrev at_start : Thread → Standing
+at_start t = record { place = 0; variables = replicate 64 (pos 0) }
+
+start_of : (threads : List Thread) (i : ℕ) (t : Standing) → slice_get (map at_start threads) i ≡ Some t → t.place ≡ 0
+start_of [] i t e = absurd (cc)
+start_of (x ∷ threads) zero t e = ap (λ (y : Standing). y.place) (sym (same_Some _ _ e))
+start_of (x ∷ threads) (suc i) t e = start_of threads i t e
+
+pub sound_at_start : (program : Program) → IsProgram program → IsSound program (start_world program)
+sound_at_start program made = record {
+  same = refl;
+  rest = record { as_many = length-map program.threads at_start; each = λ i t e. subst (λ n. IsRest (lines_of program i) n) (sym (start_of program.threads i t e)) (rests_at_start program made i) };
+  kept = kept_start program made;
+}
+
+after_step : (program : Program) (w after : World) (e : Event) → IsSound program w → IsStep w e after → IsSound program after
+after_step program w after e h s = elim s.step [
+  | inl q ↦ after_thread program w after q.0 q.1 h (stepped w q.0 q.1 e after q.2)
+  | inr q ↦ after_kernel program w h (none_in_kernel w KernelClash (none_of_kind w s.no_fault KernelClash)) q.0 q.1 q.2 after (completed w q.0 q.1 q.2 e after (slice_get w.pending q.0) refl q.3)
+]
+
+pub run_sound : (program : Program) (events : List Event) (w after : World) → IsSound program w → IsRun w events after → IsSound program after
+run_sound program [] w after h r = subst (λ x. IsSound program x) r h
+run_sound program (e ∷ events) w after h r = run_sound program events r.0 after (after_step program w r.0 e h r.1) r.2

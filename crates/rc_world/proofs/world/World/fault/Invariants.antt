@@ -1,7 +1,0 @@
-use Rattle.std.proofs.Common.{◌≡◌, drop, slice_get}
-use Rattle.rc_world.specs.Faults.{faults}
-use Rattle.rc_world.proofs.Heads.{all_kinds, faults_by}
-use Rattle.rc_world.proofs.world.World.fault.Given as goal
-
-abbrev pub invariant-loop-kind : goal.invariant-loop-kind
-invariant-loop-kind l = slice_get (faults l.self) 0 ≡ slice_get (faults_by l.self (drop l.kind-index all_kinds)) 0

@@ -1,0 +1,74 @@
+-- The parts of a step of a thread in its controls, one after another.
+use Rattle.std.specs.Prelude.{ℕ, ◌≡◌, ◌<◌, ◌≤◌, [], if◌then◌else◌, Bool, false, length, Option, Some, option_map, slice_index_or, slice_set, ℤ}
+use Rattle.rc_lang.specs.declared.lines.Op.{Op}
+use Rattle.rc_lang.specs.declared.lines.Op.TheVariants.{Set, Assign, Add, Subtract, Load, Store, Fill, Print, PrepRead, PrepWrite, PrepFsync, Submit, SubmitAndWait}
+use Rattle.rc_lang.specs.declared.lines.Stmt.{Stmt}
+use Rattle.rc_lang.specs.declared.lines.Stmt.TheVariants.{Do}
+use Rattle.rc_lang.specs.declared.lines.Test.{Test}
+use Rattle.rc_lang.specs.declared.lines.Test.TheVariants.{Compare, ReadyZero, SpaceAtLeast}
+use Rattle.rc_lang.specs.Program.{IsOperand, IsProgram, Program, lines_of, stmt_at}
+use Rattle.rc_world.specs.Controls.{Controls, Standing, hop_of, is_arm_end, passes_arm, rest_at}
+
+-- where a thread stands; for a number that names no thread that says nothing
+abbrev pub nowhere : Standing
+nowhere = record { place = 0; variables = [] }
+
+abbrev pub standing_at : Controls → ℕ → Standing
+standing_at c i = slice_index_or c.threads i nowhere
+
+-- with another value of a variable
+abbrev pub with_variable : Controls → ℕ → ℕ → ℤ → Controls
+with_variable c i x v =
+    record c { threads = slice_set c.threads i (record { place = (standing_at c i).place; variables = slice_set (standing_at c i).variables x v }) }
+
+-- with the thread gone to a place
+abbrev pub gone_to : Program → Controls → ℕ → ℕ → Controls
+gone_to program c i j =
+    record c {
+      threads = slice_set c.threads i (record { place = rest_at program i j; variables = (standing_at c i).variables });
+      peeked = if passes_arm program i j then false else c.peeked;
+    }
+
+-- The thread stands at place j of a made program, where this statement is.
+pub record StandsAt (program : Program) (c : Controls) (i j : ℕ) (s : Stmt) : Type 0 where
+  pub made : IsProgram program
+  pub exists : i < length c.threads
+  pub place : (standing_at c i).place ≡ j
+  pub within : j ≤ 4096
+  pub line : stmt_at (lines_of program i) j ≡ Some s
+
+-- the place that a line leads to which is no event, and whether it ends an arm
+abbrev pub hop_at : Program → ℕ → ℕ → Option (ℕ × Bool)
+hop_at program i j = option_map (λ k. (k, is_arm_end (stmt_at (lines_of program i) j))) (hop_of program i j (stmt_at (lines_of program i) j))
+
+-- The variables of a statement are some of 64.
+abbrev pub OpIsSmall : Op → Type 0
+OpIsSmall (Set x n) = x < 64
+OpIsSmall (Assign x y) = (x < 64) × (y < 64)
+OpIsSmall (Add x y z) = (x < 64) × IsOperand 64 y × IsOperand 64 z
+OpIsSmall (Subtract x y z) = (x < 64) × IsOperand 64 y × IsOperand 64 z
+OpIsSmall (Load x b i) = x < 64
+OpIsSmall (Store b i x) = x < 64
+OpIsSmall (Fill b x) = x < 64
+OpIsSmall (Print x) = x < 64
+OpIsSmall (Submit x) = x < 64
+OpIsSmall (SubmitAndWait x n) = x < 64
+OpIsSmall _ = Unit {0}
+
+abbrev pub TestIsSmall : Test → Type 0
+TestIsSmall (Compare x comparison n) = x < 64
+TestIsSmall ReadyZero = Unit {0}
+TestIsSmall (SpaceAtLeast n) = Unit {0}
+
+-- The numbers of what a statement does to rings and buffers are small enough.
+abbrev pub CallIsSmall : Program → Op → Type 0
+CallIsSmall program (Store b i x) = x < 64
+CallIsSmall program (Fill b x) = x < 64
+CallIsSmall program (PrepRead fd b len off) = (fd ≤ 1023) × (b < 64) × (b < length program.buffers)
+CallIsSmall program (PrepWrite fd b len off k) = (fd ≤ 1023) × (b < 64) × (b < length program.buffers)
+CallIsSmall program (PrepFsync fd datasync) = fd ≤ 1023
+CallIsSmall program _ = Unit {0}
+
+abbrev pub StmtIsSmall : Program → Stmt → Type 0
+StmtIsSmall program (Do op) = CallIsSmall program op
+StmtIsSmall program _ = Unit {0}

@@ -1,0 +1,289 @@
+-- Where each thread stands, and what a step of it does there, given what the rings and buffers answer.
+use Rattle.std.specs.Prelude.{ℕ, zero, suc, ◌+◌, ◌%◌, Bool, true, false, ◌&&◌, ◌||◌, not, if◌then◌else◌, List, length, map, replicate, Option, Some, None, nat_eq, position, unwrap_or, slice_get, slice_index_or, slice_range, slice_set, ℤ, pos, negsuc, ◌+ℤ◌, ◌-ℤ◌, int_lt, int_le}
+use Rattle.std.specs.Int.{cast_unsigned, int_wrap, w64}
+use Rattle.std.specs.Ordering.{int_eq}
+use Rattle.rc_lang.specs.declared.lines.Comparison.{Comparison}
+use Rattle.rc_lang.specs.declared.lines.Comparison.TheVariants.{Equal, NotEqual, Less, AtMost, Greater, AtLeast}
+use Rattle.rc_lang.specs.declared.lines.Line.{Line}
+use Rattle.rc_lang.specs.declared.lines.Op.{Op}
+use Rattle.rc_lang.specs.declared.lines.Op.TheVariants.{Set, Assign, Add, Subtract, Load, Store, Fill, Print, GetSqe, PrepRead, PrepWrite, PrepFsync, PrepNop, SetData64, Submit, SubmitAndWait, CqeSeen}
+use Rattle.rc_lang.specs.declared.lines.Operand.{Operand}
+use Rattle.rc_lang.specs.declared.lines.Operand.TheVariants.{Variable, Number as Literal}
+use Rattle.rc_lang.specs.declared.lines.Stmt.{Stmt}
+use Rattle.rc_lang.specs.declared.lines.Stmt.TheVariants.{Do, Lock, EndLock, If, Else, EndIf, Peek, Case, Other, Nothing, EndArm, EndPeek, Loop, EndLoop, Break}
+use Rattle.rc_lang.specs.declared.lines.Test.{Test}
+use Rattle.rc_lang.specs.declared.lines.Test.TheVariants.{Compare, ReadyZero, SpaceAtLeast}
+use Rattle.rc_lang.specs.Program.{Program, Thread, lines_of, line_at, end_at, stmt_at}
+use Rattle.rc_world.specs.declared.controls.Answer.{Answer}
+use Rattle.rc_world.specs.declared.controls.Answer.TheVariants.{Plain, Number, Byte, Front}
+use Rattle.rc_world.specs.declared.event.Action.{Action}
+use Rattle.rc_world.specs.declared.event.Action.TheVariants.{VariableSet, Loaded, Stored, Filled, Printed, Locked, Released, EntryOpened, ReadPrepared, WritePrepared, FsyncPrepared, NopPrepared, DataSet, Submitted, Peeked, PeekedNone, Reaped, Branched, Looped, LoopLeft}
+use Rattle.rc_world.specs.declared.event.Event.{Event}
+use Rattle.rc_world.specs.declared.event.Event.TheVariants.{ByThread}
+
+-- Where a thread stands: the place of its next line, and its variables.
+pub record Standing : Type 0 where
+  pub place : ℕ
+  pub variables : List ℤ
+
+-- Where each thread stands, who holds the lock, and whether the front completion is peeked.
+pub record Controls : Type 0 where
+  pub threads : List Standing
+  pub holder : Option ℕ
+  pub peeked : Bool
+
+-- ---- variables
+
+abbrev pub variable : Standing → ℕ → ℤ
+variable t x = slice_index_or t.variables x (pos 0)
+
+abbrev pub operand : Standing → Operand → ℤ
+operand t (Variable x) = variable t x
+operand t (Literal n) = n
+
+-- what sums and differences leave in 64 bits
+abbrev pub wrapped : ℤ → ℤ
+wrapped z = int_wrap w64 z
+
+-- the low eight bits
+abbrev pub low_byte : ℤ → ℕ
+low_byte z = cast_unsigned w64 z % 256
+
+abbrev pub compares : Comparison → ℤ → ℤ → Bool
+compares Equal a b = int_eq a b
+compares NotEqual a b = not (int_eq a b)
+compares Less a b = int_lt a b
+compares AtMost a b = int_le a b
+compares Greater a b = int_lt b a
+compares AtLeast a b = int_le b a
+
+-- ---- where a thread goes
+
+-- The place that a line leads to which is no event and goes with the step before it: an else that is reached from
+-- above, and the closing braces of an if and of an arm.
+abbrev pub hop_of : Program → ℕ → ℕ → Option Stmt → Option ℕ
+hop_of program i j None = None
+hop_of program i j (Some (Else o)) = Some (end_at program i j + 1)
+hop_of program i j (Some (EndIf o)) = Some (j + 1)
+hop_of program i j (Some (EndArm o)) = Some (end_at program i o + 1)
+hop_of program i j (Some _) = None
+
+abbrev pub is_arm_end : Option Stmt → Bool
+is_arm_end None = false
+is_arm_end (Some (EndArm o)) = true
+is_arm_end (Some _) = false
+
+abbrev pub or_from : {A : Type 0} → A → (ℕ → A) → Option ℕ → A
+or_from a f None = a
+or_from a f (Some j) = f j
+
+-- the place of the next event, over at most n such lines, and whether an arm ends on the way
+abbrev pub settled : Program → ℕ → ℕ → ℕ → ℕ
+settled program i zero j = j
+settled program i (suc n) j = or_from j (λ k. settled program i n k) (hop_of program i j (stmt_at (lines_of program i) j))
+
+abbrev pub ends_arm : Program → ℕ → ℕ → ℕ → Bool
+ends_arm program i zero j = false
+ends_arm program i (suc n) j = is_arm_end (stmt_at (lines_of program i) j) || or_from false (λ k. ends_arm program i n k) (hop_of program i j (stmt_at (lines_of program i) j))
+
+abbrev pub rest_at : Program → ℕ → ℕ → ℕ
+rest_at program i j = settled program i (length (lines_of program i)) j
+
+abbrev pub passes_arm : Program → ℕ → ℕ → Bool
+passes_arm program i j = ends_arm program i (length (lines_of program i)) j
+
+-- The arms of the peek at place o stand between it and its closing brace: the first one for this user data, else the
+-- one for any other.
+abbrev pub is_case : ℕ → ℕ → Stmt → Bool
+is_case o u (Case p v) = nat_eq p o && nat_eq v u
+is_case o u _ = false
+
+abbrev pub is_other : ℕ → Stmt → Bool
+is_other o (Other p) = nat_eq p o
+is_other o _ = false
+
+abbrev pub is_none_arm : ℕ → Stmt → Bool
+is_none_arm o (Nothing p) = nat_eq p o
+is_none_arm o _ = false
+
+abbrev pub arms_of : Program → ℕ → ℕ → List Line
+arms_of program i o = slice_range (lines_of program i) o (end_at program i o)
+
+abbrev pub place_of : (Stmt → Bool) → List Line → Option ℕ
+place_of test lines = position (λ (l : Line). test l.stmt) lines
+
+abbrev pub arm_for : Program → ℕ → ℕ → ℕ → ℕ
+arm_for program i o u = o + unwrap_or (place_of (is_case o u) (arms_of program i o)) (unwrap_or (place_of (is_other o) (arms_of program i o)) 0)
+
+abbrev pub none_arm : Program → ℕ → ℕ → ℕ
+none_arm program i o = o + unwrap_or (place_of (is_none_arm o) (arms_of program i o)) 0
+
+-- ---- what a statement does
+
+-- What the thread does, who holds the lock then, whether the front is peeked, where the thread goes, and its variables.
+pub record Move : Type 0 where
+  pub action : Action
+  pub holder : Option ℕ
+  pub peeked : Bool
+  pub place : ℕ
+  pub variables : List ℤ
+
+-- to the next line
+abbrev pub goes_on : Controls → Standing → Action → Move
+goes_on c t action = record { action = action; holder = c.holder; peeked = c.peeked; place = t.place + 1; variables = t.variables }
+
+-- to the next line, with another value of a variable
+abbrev pub sets : Controls → Standing → ℕ → ℤ → Action → Move
+sets c t x v action = record { action = action; holder = c.holder; peeked = c.peeked; place = t.place + 1; variables = slice_set t.variables x v }
+
+-- where nothing is answered
+abbrev pub plainly : Move → Answer → Option Move
+plainly m Plain = Some m
+plainly m (Number n) = None
+plainly m (Byte b) = None
+plainly m (Front cqe) = None
+
+abbrev pub assigns : Controls → Standing → ℕ → ℤ → Answer → Option Move
+assigns c t x v a = plainly (sets c t x v (VariableSet v)) a
+
+abbrev pub loads : Controls → Standing → ℕ → Answer → Option Move
+loads c t x (Byte b) = Some (sets c t x (pos b) (Loaded b))
+loads c t x Plain = None
+loads c t x (Number n) = None
+loads c t x (Front cqe) = None
+
+abbrev pub submits : Controls → Standing → ℕ → Answer → Option Move
+submits c t x (Number n) = Some (sets c t x n (Submitted n))
+submits c t x Plain = None
+submits c t x (Byte b) = None
+submits c t x (Front cqe) = None
+
+-- io_uring_cqe_seen(3): nothing is peeked any more.
+abbrev pub reaps : Controls → Standing → Answer → Option Move
+reaps c t (Front cqe) = Some (record { action = Reaped cqe.user_data; holder = c.holder; peeked = false; place = t.place + 1; variables = t.variables })
+reaps c t Plain = None
+reaps c t (Number n) = None
+reaps c t (Byte b) = None
+
+abbrev pub does : Controls → Standing → Op → Answer → Option Move
+does c t (Set x n) a = assigns c t x n a
+does c t (Assign x y) a = assigns c t x (variable t y) a
+does c t (Add x y z) a = assigns c t x (wrapped (operand t y +ℤ operand t z)) a
+does c t (Subtract x y z) a = assigns c t x (wrapped (operand t y -ℤ operand t z)) a
+does c t (Load x b i) a = loads c t x a
+does c t (Store b i x) a = plainly (goes_on c t (Stored (low_byte (variable t x)))) a
+does c t (Fill b x) a = plainly (goes_on c t (Filled (low_byte (variable t x)))) a
+does c t (Print x) a = plainly (goes_on c t (Printed (variable t x))) a
+does c t GetSqe a = plainly (goes_on c t EntryOpened) a
+does c t (PrepRead fd b len off) a = plainly (goes_on c t ReadPrepared) a
+does c t (PrepWrite fd b len off k) a = plainly (goes_on c t WritePrepared) a
+does c t (PrepFsync fd datasync) a = plainly (goes_on c t FsyncPrepared) a
+does c t PrepNop a = plainly (goes_on c t NopPrepared) a
+does c t (SetData64 u) a = plainly (goes_on c t (DataSet u)) a
+does c t (Submit x) a = submits c t x a
+does c t (SubmitAndWait x n) a = submits c t x a
+does c t CqeSeen a = reaps c t a
+
+-- An if whose test is false leads behind its else or, without one, behind its closing brace.
+abbrev pub branches : Program → Controls → ℕ → Standing → Bool → Move
+branches program c i t holds =
+    record { action = Branched holds; holder = c.holder; peeked = c.peeked; place = (if holds then t.place else end_at program i t.place) + 1; variables = t.variables }
+
+abbrev pub decides : Program → Controls → ℕ → Standing → Test → Answer → Option Move
+decides program c i t (Compare x comparison n) a = plainly (branches program c i t (compares comparison (variable t x) n)) a
+decides program c i t ReadyZero (Number n) = Some (branches program c i t (int_eq n (pos 0)))
+decides program c i t (SpaceAtLeast m) (Number n) = Some (branches program c i t (int_le (pos m) n))
+decides program c i t _ _ = None
+
+-- io_uring_peek_cqe(3): without a completion the variable is -EAGAIN, else the front's result, and the front is peeked.
+abbrev pub peeks : Program → Controls → ℕ → Standing → ℕ → Answer → Option Move
+peeks program c i t x Plain =
+    Some (record { action = PeekedNone; holder = c.holder; peeked = c.peeked; place = none_arm program i t.place + 1; variables = slice_set t.variables x (negsuc 10) })
+peeks program c i t x (Front cqe) =
+    Some (record { action = Peeked cqe; holder = c.holder; peeked = true; place = arm_for program i t.place cqe.user_data + 1; variables = slice_set t.variables x cqe.res })
+peeks program c i t x (Number n) = None
+peeks program c i t x (Byte b) = None
+
+-- The lock is taken where nobody holds it.
+abbrev pub locks : Controls → ℕ → Standing → Answer → Option ℕ → Option Move
+locks c i t a None = plainly (record { action = Locked; holder = Some i; peeked = c.peeked; place = t.place + 1; variables = t.variables }) a
+locks c i t a (Some j) = None
+
+abbrev pub releases_lock : Controls → Standing → Move
+releases_lock c t = record { action = Released; holder = None; peeked = c.peeked; place = t.place + 1; variables = t.variables }
+
+-- back to the line behind the top of the loop at place o
+abbrev pub returns_to : Controls → Standing → ℕ → Move
+returns_to c t o = record { action = Looped; holder = c.holder; peeked = c.peeked; place = o + 1; variables = t.variables }
+
+-- A break leads behind the end of the loop at place o. It may release the lock, and leave an arm of a peek.
+abbrev pub breaks : Program → Controls → ℕ → Standing → ℕ → Bool → Bool → Move
+breaks program c i t o releases leaves =
+    record { action = LoopLeft; holder = if releases then None else c.holder; peeked = if leaves then false else c.peeked; place = end_at program i o + 1; variables = t.variables }
+
+abbrev pub acts : Program → Controls → ℕ → Standing → Stmt → Answer → Option Move
+acts program c i t (Do op) a = does c t op a
+acts program c i t Lock a = locks c i t a c.holder
+acts program c i t (EndLock o) a = plainly (releases_lock c t) a
+acts program c i t (If test) a = decides program c i t test a
+acts program c i t (Else o) a = None
+acts program c i t (EndIf o) a = None
+acts program c i t (Peek x) a = peeks program c i t x a
+acts program c i t (Case o u) a = None
+acts program c i t (Other o) a = None
+acts program c i t (Nothing o) a = None
+acts program c i t (EndArm o) a = None
+acts program c i t (EndPeek o) a = None
+acts program c i t (Loop k) a = plainly (goes_on c t Looped) a
+acts program c i t (EndLoop o k) a = plainly (returns_to c t o) a
+acts program c i t (Break o releases leaves) a = plainly (breaks program c i t o releases leaves) a
+
+-- The controls after that: the thread comes to rest, and at the end of an arm nothing is peeked any more.
+abbrev pub moved : Program → Controls → ℕ → Move → Controls
+moved program c i m = record {
+  threads = slice_set c.threads i (record { place = rest_at program i m.place; variables = m.variables });
+  holder = m.holder;
+  peeked = if passes_arm program i m.place then false else m.peeked;
+}
+
+abbrev pub made : Program → Controls → ℕ → Option Move → Option (Action × Controls)
+made program c i None = None
+made program c i (Some m) = Some (m.action, moved program c i m)
+
+-- ---- the step of a thread in its controls
+
+-- the line that a thread has next
+abbrev pub next_at : Program → ℕ → Option Standing → Option Line
+next_at program i None = None
+next_at program i (Some t) = line_at program i t.place
+
+abbrev pub next_line : Program → Controls → ℕ → Option Line
+next_line program c i = next_at program i (slice_get c.threads i)
+
+-- the number of the line of an event: at a return to the top of a loop it is the loop's
+abbrev pub number_in : Option Line → ℕ
+number_in None = 0
+number_in (Some l) = l.number
+
+abbrev pub number_of_event : Program → ℕ → Line → Stmt → ℕ
+number_of_event program i l (EndLoop o k) = number_in (line_at program i o)
+number_of_event program i l _ = l.number
+
+-- its event, and the controls after it
+abbrev pub as_event : Program → ℕ → Line → Option (Action × Controls) → Option (Event × Controls)
+as_event program i l None = None
+as_event program i l (Some (action, c)) = Some (ByThread i (number_of_event program i l l.stmt) action, c)
+
+abbrev pub acts_on : Program → Controls → ℕ → Answer → Option Standing → Option Line → Option (Event × Controls)
+acts_on program c i a None l = None
+acts_on program c i a (Some t) None = None
+acts_on program c i a (Some t) (Some l) = as_event program i l (made program c i (acts program c i t l.stmt a))
+
+abbrev pub controls_step : Program → Controls → ℕ → Answer → Option (Event × Controls)
+controls_step program c i a = acts_on program c i a (slice_get c.threads i) (next_line program c i)
+
+-- ---- the start
+
+-- Every thread at its first line, its variables 0; the lock is free and nothing is peeked.
+abbrev pub start_controls : Program → Controls
+start_controls program = record { threads = map (λ (t : Thread). record { place = 0; variables = replicate 64 (pos 0) }) program.threads; holder = None; peeked = false }

@@ -1,0 +1,496 @@
+//! The least fault of a world.
+
+ghost use Rattle.std.specs.Prelude.{◌≡◌, ◌+◌, ◌&&◌, ◌<◌, ◌≤◌, drop, length, map, not, option_map, slice_get, true};
+ghost use Rattle.std.specs.List.{list_any};
+ghost use Rattle.rc_world.specs.Controls.{next_line};
+ghost use Rattle.rc_world.specs.Faults as spec;
+ghost use Rattle.rc_world.specs.Harm as harm;
+ghost use Rattle.rc_world.specs.WorldParts.{view_access, view_pending};
+
+use super::{Pending, Slot, World, is_read};
+use crate::event::Completion;
+use crate::fault::{Fault, FaultKind, Party};
+use rc_lang::lines::{Op, Stmt, Test};
+use rc_lang::program::Program;
+use rc_lang::request::{Kind, Request};
+
+/// What a statement does with a buffer.
+#[derive(Clone, Copy)]
+pub(crate) struct Access {
+    buffer: usize,
+    writes: bool,
+}
+
+impl<'a> World<'a> {
+    /// The world's fault: of several the one with the least number, and there the first thread's.
+    pub fn fault(&self) -> Option<Fault>
+        ensures { result ≡ spec.fault_of self.now }
+    {
+        if self.has_harm() {
+            self.first_fault(&FaultKind::ALL)
+        } else {
+            None
+        }
+    }
+
+    // Whether there is a fault at all, by one pass over the threads.
+    fn has_harm(&self) -> bool
+        ensures { result ≡ harm.has_harm self.now }
+    {
+        self.has_clash || self.overflows() || self.has_harmful_thread()
+    }
+
+    fn has_harmful_thread(&self) -> bool
+        ensures { result ≡ harm.harms_from self.now 0 self.now.controls.threads }
+    {
+        for thread in 0..self.controls.count() {
+            if self.harms_next(thread) {
+                return true;
+            }
+        }
+        false
+    }
+
+    // Whether the next statement of a thread is harmful.
+    fn harms_next(&self, thread: u32) -> bool
+        requires { thread ≤ 16 }
+        ensures { result ≡ harm.harms_at self.now thread (next_line self.now.program self.now.controls thread) }
+    {
+        match self.controls.line(self.program, thread) {
+            Some(line) => self.is_harmful(thread, line.stmt),
+            None => false,
+        }
+    }
+
+    fn is_harmful(&self, thread: u32, stmt: Stmt) -> bool
+        requires { thread ≤ 16 }
+        ensures { result ≡ harm.is_harmful self.now thread stmt }
+    {
+        self.harms_buffers(thread, stmt)
+            || if self.controls.is_holder(thread) {
+                self.harms_rings(stmt)
+            } else {
+                is_ring_call(stmt)
+            }
+    }
+
+    fn harms_buffers(&self, thread: u32, stmt: Stmt) -> bool
+        requires { thread ≤ 16 }
+        ensures { result ≡ harm.harms_buffers self.now thread stmt }
+    {
+        let access = access_of(stmt);
+        self.writes_pending(access)
+            || self.reads_filling(access)
+            || self.races(thread, access)
+            || is_out_at(self.program, stmt)
+    }
+
+    fn harms_rings(&self, stmt: Stmt) -> bool
+        ensures { result ≡ harm.harms_rings self.now stmt }
+    {
+        self.is_full_at(stmt)
+            || self.is_ambiguous_at(stmt)
+            || self.is_unknown_at(stmt)
+            || is_raw_at(self.slot, stmt)
+    }
+
+    // The first fault of these kinds.
+    fn first_fault(&self, kinds: &[FaultKind]) -> Option<Fault>
+        ensures { result ≡ slice_get (spec.faults_by self.now kinds.now) 0 }
+    {
+        for kind in kinds {
+            if let Some(fault) = self.fault_of_kind(*kind) {
+                return Some(fault);
+            }
+        }
+        None
+    }
+
+    // The first fault of this kind.
+    fn fault_of_kind(&self, kind: FaultKind) -> Option<Fault>
+        ensures { result ≡ slice_get (spec.faults_of self.now kind) 0 }
+    {
+        if self.in_kernel(kind) {
+            let party = Party::InKernel;
+            return Some(Fault { kind, party });
+        }
+        for thread in 0..self.controls.count() {
+            if let Some(fault) = self.fault_at(kind, thread) {
+                return Some(fault);
+            }
+        }
+        None
+    }
+
+    // The fault of this kind that a thread has.
+    fn fault_at(&self, kind: FaultKind, thread: u32) -> Option<Fault>
+        requires { thread ≤ 16 }
+        ensures { result
+            ≡ slice_get (spec.fault_at self.now kind thread (next_line self.now.program self.now.controls thread)) 0 }
+    {
+        let line = self.controls.line(self.program, thread)?;
+        if self.has_fault(kind, thread, line.stmt) {
+            let line = line.number;
+            let party = Party::At { thread, line };
+            Some(Fault { kind, party })
+        } else {
+            None
+        }
+    }
+
+    // Whether the kernel has the fault of this kind.
+    fn in_kernel(&self, kind: FaultKind) -> bool
+        ensures { result ≡ spec.in_kernel self.now kind }
+    {
+        match kind {
+            FaultKind::KernelClash => self.has_clash,
+            FaultKind::Overflow => self.overflows(),
+            _ => false,
+        }
+    }
+
+    fn overflows(&self) -> bool
+        ensures { result ≡ spec.overflows self.now self.now.pending }
+    {
+        !self.pending.is_empty()
+            && self.program.completion_entries() as usize <= self.completions.len()
+    }
+
+    // Whether a thread has the fault of this kind, whose next statement is this.
+    fn has_fault(&self, kind: FaultKind, thread: u32, stmt: Stmt) -> bool
+        requires { thread ≤ 16 }
+        ensures { result ≡ spec.has_fault self.now kind thread stmt }
+    {
+        match kind {
+            FaultKind::WriteOfPending => self.writes_pending(access_of(stmt)),
+            FaultKind::ReadOfFilling => self.reads_filling(access_of(stmt)),
+            FaultKind::KernelClash => false,
+            FaultKind::ThreadRace => self.races(thread, access_of(stmt)),
+            FaultKind::RingFull => self.controls.is_holder(thread) && self.is_full_at(stmt),
+            FaultKind::Overflow => false,
+            FaultKind::AmbiguousData => {
+                self.controls.is_holder(thread) && self.is_ambiguous_at(stmt)
+            }
+            FaultKind::UnknownReap => self.controls.is_holder(thread) && self.is_unknown_at(stmt),
+            FaultKind::NoLock => is_ring_call(stmt) && !self.controls.is_holder(thread),
+            FaultKind::RawEntry => self.controls.is_holder(thread) && is_raw_at(self.slot, stmt),
+            FaultKind::OutOfBuffer => is_out_at(self.program, stmt),
+        }
+    }
+
+    fn writes_pending(&self, access: Option<Access>) -> bool
+        ensures { result ≡ spec.writes_pending self.now.pending (option_map view_access access) }
+    {
+        match access {
+            Some(access) => access.writes && is_named(&self.pending, access.buffer),
+            None => false,
+        }
+    }
+
+    fn reads_filling(&self, access: Option<Access>) -> bool
+        ensures { result ≡ spec.reads_filling self.now.pending (option_map view_access access) }
+    {
+        match access {
+            Some(access) => !access.writes && is_filling(&self.pending, access.buffer),
+            None => false,
+        }
+    }
+
+    // Whether a later thread has the same buffer next, and one of the two writes it.
+    fn races(&self, thread: u32, access: Option<Access>) -> bool
+        requires { thread ≤ 16 }
+        ensures { result ≡ spec.races self.now thread (option_map view_access access) }
+    {
+        if access.is_none() {
+            return false;
+        }
+        for other in thread + 1..self.controls.count() {
+            if conflicts(access, self.next_access(other)) {
+                return true;
+            }
+        }
+        false
+    }
+
+    // What the next statement of a thread does with a buffer.
+    fn next_access(&self, thread: u32) -> Option<Access>
+        ensures { option_map view_access result
+            ≡ spec.access_at (next_line self.now.program self.now.controls thread) }
+    {
+        access_of(self.controls.line(self.program, thread)?.stmt)
+    }
+
+    fn is_full_at(&self, stmt: Stmt) -> bool
+        ensures { result ≡ spec.is_full_at self.now stmt }
+    {
+        match stmt {
+            Stmt::Do(Op::GetSqe) => self.program.entries() as usize <= self.used_entries(),
+            _ => false,
+        }
+    }
+
+    fn is_ambiguous_at(&self, stmt: Stmt) -> bool
+        ensures { result ≡ spec.is_ambiguous_at self.now stmt }
+    {
+        match stmt {
+            Stmt::Do(Op::SetData64(user_data)) => {
+                is_prepared(self.slot) && self.is_in_flight(user_data)
+            }
+            _ => false,
+        }
+    }
+
+    // Whether a request with this user data is queued, pending, or completed and not reaped.
+    fn is_in_flight(&self, user_data: u64) -> bool
+        ensures { result ≡ spec.is_in_flight self.now user_data }
+    {
+        any_has_data(&self.queued, user_data)
+            || any_pending_has_data(&self.pending, user_data)
+            || any_has_data(&self.completed, user_data)
+    }
+
+    fn is_unknown_at(&self, stmt: Stmt) -> bool
+        ensures { result ≡ spec.is_unknown_at self.now stmt }
+    {
+        match stmt {
+            Stmt::Do(Op::CqeSeen) => !(self.controls.peeked() && self.front_is_one()),
+            _ => false,
+        }
+    }
+
+    // Whether the front completion is that of exactly one completed request.
+    fn front_is_one(&self) -> bool
+        ensures { result ≡ spec.front_is_one self.now self.now.completions }
+    {
+        match self.completions.first() {
+            Some(completion) => count_of(&self.completed, completion.user_data) == 1,
+            None => false,
+        }
+    }
+}
+
+// What a statement does with a buffer, if it touches one.
+fn access_of(stmt: Stmt) -> Option<Access>
+    ensures { option_map view_access result ≡ spec.access_of stmt }
+{
+    match stmt {
+        Stmt::Do(Op::Load(_, buffer, _)) => Some(Access {
+            buffer,
+            writes: false,
+        }),
+        Stmt::Do(Op::Store(buffer, _, _)) => Some(Access {
+            buffer,
+            writes: true,
+        }),
+        Stmt::Do(Op::Fill(buffer, _)) => Some(Access {
+            buffer,
+            writes: true,
+        }),
+        _ => None,
+    }
+}
+
+fn conflicts(access: Option<Access>, other: Option<Access>) -> bool
+    ensures { result ≡ spec.conflicts (option_map view_access access) (option_map view_access other) }
+{
+    match (access, other) {
+        (Some(access), Some(other)) => {
+            access.buffer == other.buffer && (access.writes || other.writes)
+        }
+        _ => false,
+    }
+}
+
+fn has_buffer(kind: Kind) -> bool
+    ensures { result ≡ spec.has_buffer kind }
+{
+    match kind {
+        Kind::Nop => false,
+        Kind::Fsync => false,
+        Kind::Read => true,
+        Kind::Write => true,
+    }
+}
+
+fn names(buffer: usize, request: Request) -> bool
+    ensures { result ≡ spec.names buffer request }
+{
+    has_buffer(request.kind) && request.buffer as usize == buffer
+}
+
+fn reads_into(buffer: usize, request: Request) -> bool
+    ensures { result ≡ spec.reads_into buffer request }
+{
+    is_read(request.kind) && request.buffer as usize == buffer
+}
+
+// Whether a pending request names the buffer.
+fn is_named(pending: &[Pending], buffer: usize) -> bool
+    ensures { result ≡ spec.is_named (map view_pending pending.now) buffer }
+{
+    for pending in pending {
+        if names(buffer, pending.request) {
+            return true;
+        }
+    }
+    false
+}
+
+// Whether a pending read fills the buffer.
+fn is_filling(pending: &[Pending], buffer: usize) -> bool
+    ensures { result ≡ spec.is_filling (map view_pending pending.now) buffer }
+{
+    for pending in pending {
+        if reads_into(buffer, pending.request) {
+            return true;
+        }
+    }
+    false
+}
+
+fn any_has_data(requests: &[Request], user_data: u64) -> bool
+    ensures { result ≡ list_any (spec.has_data user_data) requests.now }
+{
+    requests
+        .iter()
+        .any(|request| request.user_data == user_data)
+}
+
+fn any_pending_has_data(pending: &[Pending], user_data: u64) -> bool
+    ensures { result ≡ list_any (λ p. spec.has_data user_data p.request) (map view_pending pending.now) }
+{
+    for pending in pending {
+        if pending.request.user_data == user_data {
+            return true;
+        }
+    }
+    false
+}
+
+// How many of the requests have this user data.
+fn count_of(requests: &[Request], user_data: u64) -> usize
+    ensures { result ≡ spec.count_of user_data requests.now }
+{
+    requests
+        .iter()
+        .filter(|request| request.user_data == user_data)
+        .count()
+}
+
+fn is_closed(slot: Slot) -> bool
+    ensures { result ≡ spec.is_closed slot }
+{
+    match slot {
+        Slot::Closed => true,
+        Slot::Vacant => false,
+        Slot::Prepared(_) => false,
+    }
+}
+
+fn is_vacant(slot: Slot) -> bool
+    ensures { result ≡ spec.is_vacant slot }
+{
+    match slot {
+        Slot::Closed => false,
+        Slot::Vacant => true,
+        Slot::Prepared(_) => false,
+    }
+}
+
+fn is_prepared(slot: Slot) -> bool
+    ensures { result ≡ spec.is_prepared slot }
+{
+    match slot {
+        Slot::Closed => false,
+        Slot::Vacant => false,
+        Slot::Prepared(_) => true,
+    }
+}
+
+// Whether a statement is a call on the ring.
+fn is_ring_call(stmt: Stmt) -> bool
+    ensures { result ≡ spec.is_ring_call stmt }
+{
+    match stmt {
+        Stmt::Do(op) => is_ring_op(op),
+        Stmt::If(test) => is_ring_test(test),
+        Stmt::Peek(_) => true,
+        _ => false,
+    }
+}
+
+fn is_ring_op(op: Op) -> bool
+    ensures { result ≡ spec.is_ring_op op }
+{
+    match op {
+        Op::Set(_, _) => false,
+        Op::Assign(_, _) => false,
+        Op::Add(_, _, _) => false,
+        Op::Subtract(_, _, _) => false,
+        Op::Load(_, _, _) => false,
+        Op::Store(_, _, _) => false,
+        Op::Fill(_, _) => false,
+        Op::Print(_) => false,
+        _ => true,
+    }
+}
+
+fn is_ring_test(test: Test) -> bool
+    ensures { result ≡ spec.is_ring_test test }
+{
+    match test {
+        Test::Compare(_, _, _) => false,
+        Test::ReadyZero => true,
+        Test::SpaceAtLeast(_) => true,
+    }
+}
+
+// Whether a statement wants the open entry in another stage.
+fn is_raw_at(slot: Slot, stmt: Stmt) -> bool
+    ensures { result ≡ spec.is_raw_at slot stmt }
+{
+    match stmt {
+        Stmt::Do(op) => op_is_raw(slot, op),
+        Stmt::EndLock(_) => !is_closed(slot),
+        Stmt::Break(_, releases, _) => releases && !is_closed(slot),
+        _ => false,
+    }
+}
+
+fn op_is_raw(slot: Slot, op: Op) -> bool
+    ensures { result ≡ spec.op_is_raw slot op }
+{
+    match op {
+        Op::GetSqe => !is_closed(slot),
+        Op::PrepRead(_, _, _, _) => !is_vacant(slot),
+        Op::PrepWrite(_, _, _, _, _) => !is_vacant(slot),
+        Op::PrepFsync(_, _) => !is_vacant(slot),
+        Op::PrepNop => !is_vacant(slot),
+        Op::SetData64(_) => !is_prepared(slot),
+        Op::Submit(_) => !is_closed(slot),
+        Op::SubmitAndWait(_, _) => !is_closed(slot),
+        _ => false,
+    }
+}
+
+// Whether a statement reaches behind the end of its buffer.
+fn is_out_at(program: &Program, stmt: Stmt) -> bool
+    ensures { result ≡ spec.is_out_at program.now stmt }
+{
+    match stmt {
+        Stmt::Do(op) => op_is_out(program, op),
+        _ => false,
+    }
+}
+
+fn op_is_out(program: &Program, op: Op) -> bool
+    ensures { result ≡ spec.op_is_out program.now op }
+{
+    match op {
+        Op::Load(_, buffer, i) => program.bytes_at(buffer) <= i,
+        Op::Store(buffer, i, _) => program.bytes_at(buffer) <= i,
+        Op::PrepRead(_, buffer, len, _) => !(len <= program.bytes_at(buffer)),
+        Op::PrepWrite(_, buffer, len, _, _) => !(len <= program.bytes_at(buffer)),
+        _ => false,
+    }
+}

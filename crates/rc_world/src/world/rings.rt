@@ -1,0 +1,343 @@
+//! What the steps of threads and of the kernel do to the rings and the buffers.
+
+ghost use Rattle.std.specs.Prelude.{◌≡◌, ◌+◌, ◌<◌, ◌≤◌, ◌^◌, true, false, length, map, pos, IfSome, IsSome, MatchResult};
+ghost use Rattle.std.specs.List.{list_any};
+ghost use Rattle.std.specs.Vec.{vec_capacity, vec_len};
+ghost use Rattle.rc_world.specs.Changes.{CallIsSmall, StmtIsSmall, standing_at};
+ghost use Rattle.rc_world.specs.Faults.{clash, clashes, has_buffer, names};
+ghost use Rattle.rc_world.specs.Items as items;
+ghost use Rattle.rc_world.specs.Machine as machine;
+ghost use Rattle.rc_world.specs.WorldParts.{begun_buffers, begun_pending, refilled, refilled_in, view_bytes, view_pending};
+
+use super::{Pending, Slot, World, is_read, place_of_pending, remove_first};
+use crate::controls::low_byte;
+use crate::event::{Completion, Event};
+use rc_lang::lines::{Op, Stmt};
+use rc_lang::request::{Kind, Request};
+use std::alloc::AllocError;
+
+impl<'a> World<'a> {
+    // What a statement of a thread does to the rings and the buffers, where a submit is answered this.
+    pub(super) fn rings(&mut self, thread: u32, stmt: Stmt, taken: i32) -> Result<(), AllocError>
+        requires exists { thread < length self.old.controls.threads }
+        requires small { StmtIsSmall self.old.program stmt }
+        requires step { IsSome (machine.in_rings self.old (standing_at self.old.controls thread) taken stmt) }
+        requires room { self.old.made + 1 < 2 ^ 64 }
+        ensures { MatchResult result
+            (λ _. machine.in_rings self.old (standing_at self.old.controls thread) taken stmt ≡ Some self.new)
+            (λ _. self.new ≡ self.old) }
+    {
+        match stmt {
+            Stmt::Do(op) => self.call(thread, op, taken),
+            _ => Ok(()),
+        }
+    }
+
+    // What a statement without a block does to them.
+    fn call(&mut self, thread: u32, op: Op, taken: i32) -> Result<(), AllocError>
+        requires exists { thread < length self.old.controls.threads }
+        requires small { CallIsSmall self.old.program op }
+        requires step { IsSome (machine.op_in_rings self.old (standing_at self.old.controls thread) taken op) }
+        requires room { self.old.made + 1 < 2 ^ 64 }
+        ensures { MatchResult result
+            (λ _. machine.op_in_rings self.old (standing_at self.old.controls thread) taken op ≡ Some self.new)
+            (λ _. self.new ≡ self.old) }
+    {
+        match op {
+            Op::Set(_, _) => Ok(()),
+            Op::Assign(_, _) => Ok(()),
+            Op::Add(_, _, _) => Ok(()),
+            Op::Subtract(_, _, _) => Ok(()),
+            Op::Load(_, _, _) => Ok(()),
+            Op::Store(buffer, i, x) => {
+                let byte = low_byte(self.controls.variable(thread, x));
+                self.store(buffer, i, byte);
+                Ok(())
+            }
+            Op::Fill(buffer, x) => {
+                let byte = low_byte(self.controls.variable(thread, x));
+                self.fill(buffer, byte);
+                Ok(())
+            }
+            Op::Print(_) => Ok(()),
+            Op::GetSqe => {
+                self.open();
+                Ok(())
+            }
+            Op::PrepRead(fd, buffer, len, off) => {
+                self.prepare(request_of(Kind::Read, fd, buffer, len, off));
+                Ok(())
+            }
+            Op::PrepWrite(fd, buffer, len, off, _) => {
+                self.prepare(request_of(Kind::Write, fd, buffer, len, off));
+                Ok(())
+            }
+            Op::PrepFsync(fd, _) => {
+                self.prepare(request_of(Kind::Fsync, fd, 0, 0, 0));
+                Ok(())
+            }
+            Op::PrepNop => {
+                self.prepare(new_request(Kind::Nop, -1, 0, 0, 0));
+                Ok(())
+            }
+            Op::SetData64(user_data) => self.queue(user_data),
+            Op::Submit(_) => self.hand_over(taken),
+            Op::SubmitAndWait(_, _) => self.hand_over(taken),
+            Op::CqeSeen => {
+                self.reap();
+                Ok(())
+            }
+        }
+    }
+
+    // A byte is written at a place of a buffer.
+    fn store(&mut self, buffer: usize, i: u32, byte: u8)
+        requires { IsSome (machine.stores self.old buffer i byte (machine.bytes_of self.old buffer)) }
+        ensures { machine.stores self.old buffer i byte (machine.bytes_of self.old buffer) ≡ Some self.new }
+    {
+        match &mut self.buffers[buffer] {
+            Some(bytes) => bytes[i as usize] = byte,
+            None => unreachable!(),
+        }
+    }
+
+    // A byte is written at every place of a buffer.
+    fn fill(&mut self, buffer: usize, byte: u8)
+        requires { IsSome (machine.fills self.old buffer byte (machine.bytes_of self.old buffer)) }
+        ensures { machine.fills self.old buffer byte (machine.bytes_of self.old buffer) ≡ Some self.new }
+    {
+        match &mut self.buffers[buffer] {
+            Some(bytes) => bytes.fill(byte),
+            None => unreachable!(),
+        }
+    }
+
+    // An entry is opened.
+    fn open(&mut self)
+        requires { IsSome (machine.opens_entry self.old self.old.slot) }
+        ensures { machine.opens_entry self.old self.old.slot ≡ Some self.new }
+    {
+        self.slot = Slot::Vacant;
+    }
+
+    // The open entry is filled.
+    fn prepare(&mut self, request: Request)
+        requires exists { has_buffer request.kind ≡ true → request.buffer < length self.old.program.buffers }
+        requires step { IsSome (machine.prepares self.old request self.old.slot) }
+        ensures { machine.prepares self.old request self.old.slot ≡ Some self.new }
+    {
+        self.slot = Slot::Prepared(request);
+    }
+
+    // The prepared entry is queued with this user data.
+    fn queue(&mut self, user_data: u64) -> Result<(), AllocError>
+        requires step { IsSome (machine.queues self.old user_data self.old.slot) }
+        requires room { self.old.made + 1 < 2 ^ 64 }
+        ensures { MatchResult result
+            (λ _. machine.queues self.old user_data self.old.slot ≡ Some self.new)
+            (λ _. self.new ≡ self.old) }
+    {
+        let Slot::Prepared(request) = self.slot else {
+            unreachable!()
+        };
+        let serial = self.made + 1;
+        self.queued.push(Request {
+            serial,
+            user_data,
+            ..request
+        })?;
+        self.slot = Slot::Closed;
+        self.made = serial;
+        Ok(())
+    }
+
+    // The first queued requests become pending, as many as the submit took.
+    fn hand_over(&mut self, taken: i32) -> Result<(), AllocError>
+        requires { machine.is_take self.old taken ≡ true }
+        ensures { MatchResult result
+            (λ _. self.new ≡ machine.hands_over self.old (machine.count_in taken))
+            (λ _. self.new ≡ self.old) }
+    {
+        let count = count_in(taken);
+        self.pending.reserve(count)?;
+        let begun = &self.queued[..count];
+        self.has_clash = begin_all(&mut self.pending, &mut self.buffers, begun, self.has_clash);
+        drop(self.queued.drain(..count));
+        Ok(())
+    }
+
+    // The front completion goes, and its request is no longer in flight.
+    fn reap(&mut self)
+        requires { IsSome (machine.reaps_front self.old self.old.completions) }
+        ensures { machine.reaps_front self.old self.old.completions ≡ Some self.new }
+    {
+        let completion = self.completions.remove(0);
+        remove_first(&mut self.completed, completion.user_data);
+    }
+
+    // The pending request with this user data completes; the first bytes of a read become the fill byte.
+    pub(super) fn complete(
+        &mut self,
+        user_data: u64,
+        res: i32,
+        fill: u8,
+    ) -> Result<Event, AllocError>
+        requires calm { clashes self.old.pending ≡ false }
+        requires step { IsSome (items.kernel_item self.old res fill (items.pending_place self.old user_data)) }
+        ensures { MatchResult result
+            (λ e. items.kernel_item self.old res fill (items.pending_place self.old user_data)
+            ≡ Some (e, self.new))
+            (λ _. self.new ≡ self.old) }
+    {
+        let Some(place) = place_of_pending(&self.pending, user_data) else {
+            unreachable!()
+        };
+        let completion = Completion { user_data, res };
+        self.completed.reserve(1)?;
+        self.completions.push(completion)?;
+        let Pending { request, bytes } = self.pending.remove(place);
+        give_back(
+            &mut self.buffers,
+            request.buffer as usize,
+            bytes,
+            count_in(res),
+            fill,
+        );
+        self.completed.push(request).unwrap();
+        Ok(Event::ByKernel(completion))
+    }
+}
+
+// The bytes of a read come back to their buffer, the first ones as the fill byte.
+fn give_back(
+    buffers: &mut Vec<Option<Vec<u8>>>,
+    buffer: usize,
+    bytes: Option<Vec<u8>>,
+    count: usize,
+    fill: u8,
+)
+    requires there { IfSome bytes (λ _. buffer < length buffers.old.items) }
+    requires enough { IfSome bytes (λ v. count ≤ length v.items) }
+    ensures { map view_bytes buffers.new.items ≡ refilled_in (map view_bytes buffers.old.items) buffer count fill (view_bytes bytes) }
+{
+    match bytes {
+        Some(bytes) => buffers[buffer] = Some(refilled(bytes, count, fill)),
+        None => {}
+    }
+}
+
+// The bytes, the first ones as the fill byte.
+fn refilled(mut bytes: Vec<u8>, count: usize, fill: u8) -> Vec<u8>
+    requires { count ≤ length bytes.items }
+    ensures { result.items ≡ refilled count fill bytes.items }
+{
+    for i in 0..count {
+        bytes[i] = fill;
+    }
+    bytes
+}
+
+// The number in a count or a negative errno, which counts for 0.
+fn count_in(number: i32) -> usize
+    ensures { result ≡ machine.count_in number }
+{
+    usize::try_from(number).unwrap_or(0)
+}
+
+// A request before it has its serial number and its user data.
+fn new_request(kind: Kind, fd: i32, buffer: u32, len: u32, off: u32) -> Request
+    ensures { result ≡ machine.new_request kind fd buffer len off }
+{
+    Request {
+        serial: 0,
+        kind,
+        fd,
+        buffer,
+        len,
+        off: u64::from(off),
+        user_data: 0,
+    }
+}
+
+// The same of a declared file and a buffer.
+fn request_of(kind: Kind, fd: u32, buffer: usize, len: u32, off: u32) -> Request
+    requires file { fd ≤ 1023 }
+    requires buffer { buffer < 64 }
+    ensures { result ≡ machine.new_request kind (pos fd) buffer len off }
+{
+    new_request(kind, fd as i32, buffer as u32, len, off)
+}
+
+// These requests become pending, in order; whether two of the pending ones clash then.
+fn begin_all(
+    pending: &mut Vec<Pending>,
+    buffers: &mut Vec<Option<Vec<u8>>>,
+    requests: &[Request],
+    had_clash: bool,
+) -> bool
+    requires room { vec_len pending.old + length requests.now ≤ vec_capacity pending.old }
+    requires clash { had_clash ≡ clashes (map view_pending pending.old.items) }
+    ensures pending { map view_pending pending.new.items
+        ≡ begun_pending (map view_pending pending.old.items) (map view_bytes buffers.old.items) requests.now }
+    ensures buffers { map view_bytes buffers.new.items ≡ begun_buffers (map view_bytes buffers.old.items) requests.now }
+    ensures clash { result ≡ clashes (map view_pending pending.new.items) }
+{
+    let mut has_clash = had_clash;
+    for request in requests {
+        has_clash = has_clash || clashes_with(*request, pending);
+        let bytes = taken_bytes(buffers, *request);
+        pending
+            .push(Pending {
+                request: *request,
+                bytes,
+            })
+            .unwrap();
+    }
+    has_clash
+}
+
+// The bytes that a request takes with it as it becomes pending.
+fn taken_bytes(buffers: &mut Vec<Option<Vec<u8>>>, request: Request) -> Option<Vec<u8>>
+    ensures bytes { view_bytes result ≡ machine.taken_bytes (map view_bytes buffers.old.items) request }
+    ensures buffers { map view_bytes buffers.new.items ≡ machine.without_taken (map view_bytes buffers.old.items) request }
+{
+    if !is_read(request.kind) {
+        return None;
+    }
+    match buffers.get_mut(request.buffer as usize) {
+        Some(bytes) => bytes.take(),
+        None => None,
+    }
+}
+
+// Whether the request and a pending one name one buffer, and one of the two is a read.
+fn clashes_with(request: Request, pending: &[Pending]) -> bool
+    ensures { result ≡ list_any (λ p. clash request p.request) pending.now }
+{
+    pending
+        .iter()
+        .any(|pending| clash(request, pending.request))
+}
+
+fn clash(a: Request, b: Request) -> bool
+    ensures { result ≡ clash a b }
+{
+    has_buffer(a.kind) && names(a.buffer, b) && (is_read(a.kind) || is_read(b.kind))
+}
+
+fn names(buffer: u32, request: Request) -> bool
+    ensures { result ≡ names buffer request }
+{
+    has_buffer(request.kind) && request.buffer == buffer
+}
+
+fn has_buffer(kind: Kind) -> bool
+    ensures { result ≡ has_buffer kind }
+{
+    match kind {
+        Kind::Nop => false,
+        Kind::Fsync => false,
+        Kind::Read => true,
+        Kind::Write => true,
+    }
+}
