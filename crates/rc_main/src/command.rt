@@ -1,9 +1,10 @@
 //! The whole program, over any reader and writers.
 
-use crate::engine_fault::EngineFault;
-use crate::step_engine::{End, StepEnd, step_engine};
-use crate::streams::{ReadSource, WriteSink};
 use crate::words::{Command, WordsFault, read_words};
+use rc_report::engine_fault::EngineFault;
+use rc_report::step_engine::{StepEnd, step_engine};
+use rc_report::streams::{ReadSource, WriteSink};
+use rc_report::trace::End;
 use std::alloc::{AllocError, Global};
 use std::io::{BufWriter, Read, Write};
 use thiserror::Error;
@@ -14,7 +15,7 @@ pub const GOOD_STATUS: u8 = 0;
 pub const FAULT_STATUS: u8 = 1;
 /// The text can't be read.
 pub const UNREADABLE_STATUS: u8 = 2;
-/// Wrong words, an unreadable schedule, an item that isn't enabled, memory, or a device that failed.
+/// Wrong words, an unreadable schedule, an item that isn't enabled, memory, a limit, or a device that failed.
 pub const DEVICE_STATUS: u8 = 3;
 
 /// Why the program has no answer.
@@ -51,7 +52,7 @@ pub fn command<'a, R, I: Read + Drop, O: Write + Drop, E: Write + Drop>(
     }
 }
 
-/// Does what the words say.
+/// Does what the words say, over a buffer before the writer.
 fn answered<'a, I: Read + Drop, O: Write + Drop>(
     alloc: Global,
     words: &'a [&'a str],
@@ -59,13 +60,24 @@ fn answered<'a, I: Read + Drop, O: Write + Drop>(
     writer: O,
 ) -> Result<u8, CommandFault> {
     let mut buffered = BufWriter::new(alloc, writer).map_err(|_| EngineFault::OutOfMemory)?;
+    let answer = written(alloc, words, reader, &mut buffered);
+    // What the writer didn't take isn't tried again.
+    let (_writer, _rest) = buffered.into_parts();
+    answer
+}
+
+/// Does what the words say, and sees that the answer is written.
+fn written<'a, I: Read + Drop, W: Write>(
+    alloc: Global,
+    words: &'a [&'a str],
+    reader: I,
+    writer: &mut W,
+) -> Result<u8, CommandFault> {
     let status = match read_words(alloc, words)? {
-        Command::Step { schedule } => stepped(alloc, reader, schedule, &mut buffered),
-        Command::Show(text) => shown(text.as_str(), &mut buffered),
+        Command::Step { schedule } => stepped(alloc, reader, schedule, writer)?,
+        Command::Show(text) => shown(text.as_str(), writer)?,
     };
-    let flushed = buffered.flush();
-    let status = status?;
-    match flushed {
+    match writer.flush() {
         Ok(()) => Ok(status),
         Err(_) => Err(CommandFault::Engine(EngineFault::Write)),
     }
@@ -101,5 +113,7 @@ fn status_of(end: StepEnd) -> u8 {
         StepEnd::Trace(End::NotEnabled(_)) => DEVICE_STATUS,
         StepEnd::Trace(End::Ended) => GOOD_STATUS,
         StepEnd::Trace(End::Stopped) => GOOD_STATUS,
+        StepEnd::Trace(End::Limit) => DEVICE_STATUS,
+        StepEnd::Trace(End::Memory) => DEVICE_STATUS,
     }
 }

@@ -2,15 +2,9 @@
 #![tactic(auto)]
 
 pub mod command;
-pub mod engine_fault;
-pub mod printed;
-pub mod reading;
-pub mod step_engine;
-pub mod streams;
 #[cfg(test)]
 mod tests;
 pub mod words;
-pub mod writing;
 
 use command::{DEVICE_STATUS, command};
 use std::alloc::Global;
@@ -33,8 +27,7 @@ fn run(rt: &HostRuntime) -> io::Result<u8> {
     for word in &words {
         list.push(word.as_str())?;
     }
-    let mut writer = io::BufWriter::new(alloc, rt.stdout())?;
-    let status = command(rt, alloc, &list, rt.stdin(), &mut writer, rt.stderr());
+    let status = command(rt, alloc, &list, rt.stdin(), rt.stdout(), rt.stderr());
     Ok(status)
 }
 

@@ -1,4 +1,0 @@
-pub mod Engine
-pub mod Printed
-pub mod Streams
-pub mod Trace

@@ -1,0 +1,6 @@
+pub mod Causes
+pub mod Grows
+pub mod Lines
+pub mod Objects
+pub mod Pieces
+pub mod Traces

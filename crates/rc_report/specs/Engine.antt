@@ -1,0 +1,77 @@
+-- What a stepped program is answered with.
+use Rattle.std.specs.Prelude.{ℕ, ◌≡◌, ◌-◌, List, [], ◌∷◌, Option, Some, None, Result, Ok, Err, slice_index_or}
+use Rattle.std.specs.Io.KnownBytes.{Appends, Keeps}
+use Rattle.rc_lang.specs.Program.{Program}
+use Rattle.rc_read.specs.Answer.{answer_of}
+use Rattle.rc_read.specs.Causes.{number_of_cause}
+use Rattle.rc_read.specs.declared.fault.ReadCause.{ReadCause}
+use Rattle.rc_read.specs.declared.fault.ReadCause.TheVariants.{NotAscii, BadHead, BadLine, BadNumber, UnknownName, DoubleName, Braces, TooLarge, BadNesting, BadCase}
+use Rattle.rc_read.specs.declared.fault.ReadFault.TheVariants.{Text}
+use Rattle.rc_world.specs.declared.event.Item.{Item}
+use Rattle.rc_world.specs.Schedule.{items_of}
+use Rattle.rc_world.specs.Trace.{AllEnded, AtFault, AtItem, Ending, Stopped as StoppedThere, Trace, trace_of}
+use Rattle.rc_report.specs.declared.engine_fault.EngineFault.{EngineFault}
+use Rattle.rc_report.specs.declared.engine_fault.EngineFault.TheVariants.{Read, Write, OutOfMemory}
+use Rattle.rc_report.specs.declared.step_engine.StepEnd.{StepEnd}
+use Rattle.rc_report.specs.declared.step_engine.StepEnd.TheVariants.{Unreadable, Schedule, Trace as OfTrace}
+use Rattle.rc_report.specs.declared.trace.End.{End}
+use Rattle.rc_report.specs.declared.trace.End.TheVariants.{Fault, NotEnabled, Ended, Stopped}
+use Rattle.rc_report.specs.declared.verdict.Verdict.TheVariants.{Unreadable as NoProgram}
+use Rattle.rc_report.specs.Printed.{schedule_line}
+use Rattle.rc_report.specs.Streams.{Began}
+use Rattle.rc_report.specs.Traces.{trace_text}
+use Rattle.rc_report.specs.Verdicts.{verdict_text}
+
+-- How a stepped trace ends.
+abbrev pub end_of : Ending → End
+end_of (AtFault f) = Fault f
+end_of (AtItem i) = NotEnabled i
+end_of AllEnded = Ended
+end_of StoppedThere = Stopped
+
+abbrev pub text_of_trace : Program → Trace → List ℕ
+text_of_trace program t = trace_text program t.events (end_of t.ending)
+
+-- The text for a program and what its schedule reads as: the trace, or the line that says which item can't be read.
+abbrev pub items_text : Program → Result (List Item) ℕ → List ℕ
+items_text program (Ok items) = text_of_trace program (trace_of program items)
+items_text program (Err i) = schedule_line i
+
+-- the cause with this number, from 1
+abbrev pub causes : List ReadCause
+causes = NotAscii ∷ BadHead ∷ BadLine ∷ BadNumber ∷ UnknownName ∷ DoubleName ∷ Braces ∷ TooLarge ∷ BadNesting ∷ BadCase ∷ []
+
+abbrev pub cause_numbered : ℕ → ReadCause
+cause_numbered n = slice_index_or causes (n - 1) NotAscii
+
+-- The text for what a text reads as: an unreadable one is answered with its verdict.
+abbrev pub answer_text : Result Program (ℕ × ℕ) → List ℕ → List ℕ
+answer_text (Ok program) schedule = items_text program (items_of program schedule)
+answer_text (Err (line, number)) schedule = verdict_text (NoProgram line (cause_numbered number))
+
+-- The text that is written for the bytes of a program and a schedule.
+abbrev pub stepped_text : List ℕ → List ℕ → List ℕ
+stepped_text bytes schedule = answer_text (answer_of bytes) schedule
+
+-- The answer says which text was written.
+abbrev pub EndsItems : Program → Result (List Item) ℕ → StepEnd → Type 0
+EndsItems program (Ok items) end = end ≡ OfTrace (end_of (trace_of program items).ending)
+EndsItems program (Err i) end = end ≡ Schedule i
+
+abbrev pub EndsBy : Result Program (ℕ × ℕ) → List ℕ → StepEnd → Type 0
+EndsBy (Ok program) schedule end = EndsItems program (items_of program schedule) end
+EndsBy (Err (line, number)) schedule end = (cause : ReadCause) × (end ≡ Unreadable (Text line cause)) × (number_of_cause cause ≡ number)
+
+-- The whole text is written, and the answer says which; or a beginning of it is, where the sink failed or memory ran
+-- out. Where the source doesn't tell its bytes nothing is claimed.
+abbrev pub StepsAs : Option (List ℕ) → List ℕ → Option (List ℕ) → Option (List ℕ) → Result StepEnd EngineFault → Type 0
+StepsAs None schedule old new r = Unit {0}
+StepsAs (Some bytes) schedule old new (Ok end) = Appends old new (stepped_text bytes schedule) × EndsBy (answer_of bytes) schedule end
+StepsAs (Some bytes) schedule old new (Err e) = Began old new (stepped_text bytes schedule)
+
+-- Where the source failed nothing is written.
+abbrev pub WritesNothingOnRead : {X : Type 0} → Option (List ℕ) → Option (List ℕ) → Result X EngineFault → Type 0
+WritesNothingOnRead old new (Ok x) = Unit {0}
+WritesNothingOnRead old new (Err Read) = Keeps old new
+WritesNothingOnRead old new (Err Write) = Unit {0}
+WritesNothingOnRead old new (Err OutOfMemory) = Unit {0}

@@ -1,0 +1,13 @@
+-- What one item of a schedule makes of a world, in the middle of a trace.
+use Rattle.std.specs.Prelude.{ℕ, ◌≡◌, ◌+◌, List, [], ◌∷◌}
+use Rattle.rc_world.specs.declared.event.Item.{Item}
+use Rattle.rc_world.specs.Machine.{World}
+use Rattle.rc_world.specs.Trace.{after_event, trace_from}
+use Rattle.rc_report.specs.declared.step_engine.Made.{Made}
+use Rattle.rc_report.specs.declared.step_engine.Made.TheVariants.{Event, Last}
+use Rattle.rc_report.specs.Engine.{end_of}
+
+-- The next item, the i-th, makes this event and leaves this world, or the trace ends so.
+abbrev pub MakesItem : World → Item → ℕ → World → Made → Type 0
+MakesItem w item i after (Event e) = (items : List Item) → trace_from w i (item ∷ items) ≡ after_event e (trace_from after (i + 1) items)
+MakesItem w item i after (Last end) = (items : List Item) → ((trace_from w i (item ∷ items)).events ≡ []) × (end_of (trace_from w i (item ∷ items)).ending ≡ end)

@@ -1,0 +1,16 @@
+//! What is written: verdicts, and traces of programs that are stepped.
+//!
+//! An engine reads a text from a [`Source`](streams::Source) and writes its answer to a [`Sink`](streams::Sink). It
+//! answers `Read` and `Write` only where that device failed, `Read` also where 2,097,152 reads met no end of the input.
+#![tactic(auto)]
+
+pub mod engine_fault;
+mod printed;
+pub mod reading;
+pub mod step_engine;
+pub mod streams;
+#[cfg(test)]
+mod tests;
+pub mod trace;
+pub mod verdict;
+mod writing;

@@ -1,0 +1,37 @@
+//! The text of an engine.
+
+ghost use Rattle.std.specs.Prelude.{◌+◌, ◌<◌, ◌^◌};
+ghost use Rattle.rc_report.specs.Streams.{CountsReads, OnlyFailsToRead, ReadsText};
+
+use crate::engine_fault::EngineFault;
+use crate::streams::Source;
+use std::alloc::Global;
+
+/// After this many reads without an end of input a source counts as one without end.
+pub const MOST_READS: u32 = 2_097_152;
+
+/// The bytes of a source, up to its end.
+///
+/// Answers `Read` where a read failed, or where 2,097,152 reads met no end of input. There are fewer than 2^64 reads
+/// and failures of the source.
+pub fn read_text<R: Source>(alloc: Global, reader: &mut R) -> Result<Vec<u8>, EngineFault>
+    requires reads { R.read_count reader.old + 2097152 < 2 ^ 64 }
+    requires failures { R.failure_count reader.old + 1 < 2 ^ 64 }
+    ensures text { ReadsText (R.remaining reader.old) (R.remaining reader.new) result }
+    ensures counts { CountsReads
+        (record { remaining = R.remaining reader.old; reads = R.read_count reader.old; failures = R.failure_count reader.old })
+        (record { remaining = R.remaining reader.new; reads = R.read_count reader.new; failures = R.failure_count reader.new })
+        result }
+    ensures no_write { OnlyFailsToRead result }
+{
+    let mut text = Vec::new(alloc);
+    let mut buffer = [0; 4096];
+    for turn in 0..MOST_READS {
+        match reader.read(&mut buffer) {
+            Ok(0) => return Ok(text),
+            Ok(count) => text.extend_from_slice(&buffer[..count])?,
+            Err(_) => return Err(EngineFault::Read),
+        }
+    }
+    Err(EngineFault::Read)
+}

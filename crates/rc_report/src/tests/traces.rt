@@ -1,0 +1,166 @@
+//! Lines of events and of ends.
+
+ghost use Rattle.std.specs.Prelude.{◌≡◌, length, nat_lt};
+ghost use Rattle.rc_report.specs.Traces.{EndsAtItsThread, NamesItsThread};
+
+use crate::streams::WriteSink;
+use crate::trace::{End, trace_text};
+use rc_lang::program::Program;
+use rc_read::read_program;
+use rc_world::event::{Action, Completion, Event};
+use rc_world::fault::{Fault, FaultKind, Party};
+use std::alloc::Global;
+use std::process::Abort;
+use std::test::Fail;
+
+/// The words of each step of a thread.
+const STEPS: [(Action, &str); 21] = [
+    (
+        Action::VariableSet(-9_223_372_036_854_775_808),
+        "set -9223372036854775808",
+    ),
+    (Action::Loaded(0), "load 0"),
+    (Action::Stored(255), "store 255"),
+    (Action::Filled(7), "fill 7"),
+    (Action::Printed(-11), "print -11"),
+    (Action::Locked, "lock"),
+    (Action::Released, "release"),
+    (Action::EntryOpened, "get_sqe"),
+    (Action::ReadPrepared, "prep_read"),
+    (Action::WritePrepared, "prep_write"),
+    (Action::FsyncPrepared, "prep_fsync"),
+    (Action::NopPrepared, "prep_nop"),
+    (Action::DataSet(u64::MAX), "set_data64 18446744073709551615"),
+    (Action::Submitted(-4095), "submit -4095"),
+    (
+        Action::Peeked(Completion {
+            user_data: 7,
+            res: -5,
+        }),
+        "peek_cqe 7 -5",
+    ),
+    (Action::PeekedNone, "peek_cqe none"),
+    (Action::Reaped(7), "cqe_seen 7"),
+    (Action::Branched(true), "if yes"),
+    (Action::Branched(false), "if no"),
+    (Action::Looped, "loop"),
+    (Action::LoopLeft, "break"),
+];
+
+fn one_thread(rt: &impl Abort, alloc: Global) -> Program {
+    match read_program(alloc, b"ringcheck 1\nring 1\nthread t0 holds {\n}\n") {
+        Ok(program) => program,
+        Err(fault) => panic!(rt; "{fault}"),
+    }
+}
+
+fn has_thread(program: &Program) -> bool
+    ensures { result ≡ nat_lt 0 (length program.now.threads) }
+{
+    !program.threads().is_empty()
+}
+
+fn prints(rt: &impl Abort, alloc: Global, program: &Program, event: Event, line: &str)
+    requires { NamesItsThread program.now event }
+{
+    let mut sink = WriteSink::new(Vec::new(alloc));
+    let written = trace_text(program, &[event], End::Stopped, &mut sink);
+    assert!(rt; written.is_ok());
+    let wanted = match format!(in alloc; "1 {line}\nstopped after 1 events\n") {
+        Ok(text) => text,
+        Err(_) => panic!(rt; "out of memory"),
+    };
+    assert_eq!(rt; sink.writer.as_slice(), wanted.as_bytes());
+}
+
+#[test]
+fn each_event_has_its_line(rt: HostRuntime) -> Result<(), Fail> {
+    let alloc = rt.alloc();
+    let program = one_thread(&rt, alloc);
+    assert!(rt; has_thread(&program));
+    for (action, words) in STEPS {
+        let line = format!(in alloc; "t0 5 {words}")?;
+        let event = Event::ByThread {
+            thread: 0,
+            line: 5,
+            action,
+        };
+        prints(&rt, alloc, &program, event, line.as_str());
+    }
+    let completion = Completion {
+        user_data: 9,
+        res: -4095,
+    };
+    prints(
+        &rt,
+        alloc,
+        &program,
+        Event::ByKernel(completion),
+        "kernel 9 -4095",
+    );
+    Ok(())
+}
+
+fn ends(rt: &impl Abort, alloc: Global, program: &Program, end: End, line: &str)
+    requires { EndsAtItsThread program.now end }
+{
+    let mut sink = WriteSink::new(Vec::new(alloc));
+    let written = trace_text(program, &[], end, &mut sink);
+    assert!(rt; written.is_ok());
+    assert_eq!(rt; sink.writer.as_slice(), line.as_bytes());
+}
+
+#[test]
+fn each_end_has_its_line(rt: HostRuntime) {
+    let alloc = rt.alloc();
+    let program = one_thread(&rt, alloc);
+    assert!(rt; has_thread(&program));
+    let overflow = Fault {
+        kind: FaultKind::Overflow,
+        party: Party::InKernel,
+    };
+    let out_of_buffer = Fault {
+        kind: FaultKind::OutOfBuffer,
+        party: Party::At {
+            thread: 0,
+            line: 4096,
+        },
+    };
+    ends(&rt, alloc, &program, End::Ended, "ended after 0 events\n");
+    ends(
+        &rt,
+        alloc,
+        &program,
+        End::Stopped,
+        "stopped after 0 events\n",
+    );
+    ends(&rt, alloc, &program, End::Limit, "limit after 0 events\n");
+    ends(
+        &rt,
+        alloc,
+        &program,
+        End::Memory,
+        "out of memory after 0 events\n",
+    );
+    ends(
+        &rt,
+        alloc,
+        &program,
+        End::NotEnabled(3),
+        "item 3 not enabled\n",
+    );
+    ends(
+        &rt,
+        alloc,
+        &program,
+        End::Fault(overflow),
+        "fault F6 Overflow kernel\n",
+    );
+    ends(
+        &rt,
+        alloc,
+        &program,
+        End::Fault(out_of_buffer),
+        "fault F11 OutOfBuffer t0 line 4096\n",
+    );
+}
