@@ -1,0 +1,382 @@
+-- Stronger states are asked for less and give stronger states.
+use Rattle.std.proofs.Common.{◌≡◌, ℕ, suc, ◌+◌, ◌<◌, ◌≤◌, ◌⊎◌, inl, inr, Bool, true, false, cond, ◌&&◌, nat_eq, nat_lt, nat_le, List, [], ◌∷◌, ◌++◌, length, drop, refl, sym, ap, subst, ◌∙◌, arith}
+use Rattle.std.proofs.lemmas.Bool.{leb-true, le-leb, ltb-true}
+use Rattle.rc_lang.specs.declared.lines.Line.{Line}
+use Rattle.rc_lang.specs.declared.lines.Op.{Op}
+use Rattle.rc_lang.specs.declared.lines.Op.TheVariants as ops
+use Rattle.rc_lang.specs.declared.lines.Stmt.{Stmt}
+use Rattle.rc_lang.specs.declared.lines.Stmt.TheVariants.{Do, Lock, EndLock, If, Else, EndIf, Peek, Case, Other, Nothing, EndArm, EndPeek, Loop, EndLoop, Break}
+use Rattle.rc_lang.specs.declared.lines.Test.{Test}
+use Rattle.rc_lang.specs.declared.lines.Test.TheVariants.{Compare, ReadyZero, SpaceAtLeast}
+use Rattle.rc_lang.specs.Program.{Program, Items, items_at}
+use Rattle.rc_split.specs.Bags.{Part, ShareOf, TokenOf, Credit, IsWithin}
+use Rattle.rc_rules.specs.declared.mode.Inside.{Inside}
+use Rattle.rc_rules.specs.declared.mode.Mode.{Mode}
+use Rattle.rc_rules.specs.declared.mode.Mode.TheVariants.{Unlocked, Locked}
+use Rattle.rc_rules.specs.declared.mode.Peeked.{Peeked}
+use Rattle.rc_rules.specs.declared.mode.Peeked.TheVariants.{Unseen, Sees, SeesOther}
+use Rattle.rc_rules.specs.declared.mode.Slot.{Slot}
+use Rattle.rc_rules.specs.declared.mode.Slot.TheVariants.{Closed, Vacant}
+use Rattle.rc_rules.specs.Labels.{Label, Dead, Live, Weaker, WeakerMode, WeakerInside}
+use Rattle.rc_rules.specs.Premises.{Premise, Holds, Meets, MeetsBelow}
+use Rattle.rc_rules.specs.Rules.{kind_of, same_slot, is_prepared, is_prepared_as, is_seen, op_premises, op_effect, reaped, asks, goes, entered, may_release, released, test_premises, test_mode, peek_premises, with_peeked, peek_at, case_at, agree_modes, agree, agree_each, agree_all, may_join, queue_on, keeps_queue, may_loop, top_mode, top, may_break, broken}
+use Rattle.rc_rules.specs.Labellings.{label_at, here, skipped, arm_end, arm_ends, break_end, break_ends, befores, premises}
+use Rattle.rc_rules.specs.Laws.{EachWeaker, IsStronger, GrowsAt}
+use Rattle.rc_rules.proofs.Moves.{mode_refl}
+
+-- ---- the order
+
+peeked_trans : (p q r : Peeked) → (p ≡ q) ⊎ (p ≡ Unseen) → (q ≡ r) ⊎ (q ≡ Unseen) → (p ≡ r) ⊎ (p ≡ Unseen)
+peeked_trans p q r (inr e) f = inr e
+peeked_trans p q r (inl e) (inl f) = inl (e ∙ f)
+peeked_trans p q r (inl e) (inr f) = inr (e ∙ f)
+
+mode_trans : (m n o : Mode) → WeakerMode m n → WeakerMode n o → WeakerMode m o
+mode_trans Unlocked Unlocked Unlocked v w = tt
+mode_trans Unlocked Unlocked (Locked k) v w = absurd w
+mode_trans Unlocked (Locked j) o v w = absurd v
+mode_trans (Locked i) Unlocked o v w = absurd v
+mode_trans (Locked i) (Locked j) Unlocked v w = absurd w
+mode_trans (Locked i) (Locked j) (Locked k) v w = record { queued = omega (arith, v.queued, w.queued); slot = v.slot ∙ w.slot; peeked = peeked_trans i.peeked j.peeked k.peeked v.peeked w.peeked }
+
+pub weaker_trans : (s t u : Label) → Weaker s t → Weaker t u → Weaker s u
+weaker_trans s t Dead v w = tt
+weaker_trans s Dead (Live c o) v w = absurd w
+weaker_trans Dead (Live b n) (Live c o) v w = absurd v
+weaker_trans (Live a m) (Live b n) (Live c o) v w = (λ p. omega (arith, v.0 p, w.0 p), mode_trans m n o v.1 w.1)
+
+-- ---- lists of premises
+
+-- what meets the first list meets the second
+abbrev Less : List (ℕ × Premise) → List (ℕ × Premise) → Type 0
+Less ps [] = Unit {0}
+Less [] (q ∷ qs) = ⊥
+Less (p ∷ ps) (q ∷ qs) = (p.0 ≡ q.0) × (Holds p.1 → Holds q.1) × Less ps qs
+
+less_refl : (ps : List (ℕ × Premise)) → Less ps ps
+less_refl [] = tt
+less_refl (p ∷ ps) = (refl, λ h. h, less_refl ps)
+
+less_meets : (ps qs : List (ℕ × Premise)) → Less ps qs → Meets ps → Meets qs
+less_meets ps [] l h = tt
+less_meets [] (q ∷ qs) l h = absurd l
+less_meets (p ∷ ps) (q ∷ qs) l h = (l.1 h.0, less_meets ps qs l.2 h.1)
+
+less_below : (v : ℕ) (ps qs : List (ℕ × Premise)) → Less ps qs → MeetsBelow v ps → MeetsBelow v qs
+less_below v ps [] l h = tt
+less_below v [] (q ∷ qs) l h = absurd l
+less_below v (p ∷ ps) (q ∷ qs) l h = (λ lt. l.1 (h.0 (subst (λ n. n < v) (sym l.0) lt)), less_below v ps qs l.2 h.1)
+
+-- ---- one state
+
+abbrev AsksLess : ((Part → ℕ) → Mode → List (ℕ × Premise)) → Type 0
+AsksLess F = (b c : Part → ℕ) (m n : Mode) → IsWithin b c → WeakerMode m n → Less (F b m) (F c n)
+
+abbrev Grows : ((Part → ℕ) → Mode → List (ℕ × Premise)) → ((Part → ℕ) → Mode → Label) → Type 0
+Grows F E = (b c : Part → ℕ) (m n : Mode) → IsWithin b c → WeakerMode m n → Meets (F b m) → Weaker (E b m) (E c n)
+
+asks_grow : (F : (Part → ℕ) → Mode → List (ℕ × Premise)) → AsksLess F → (s t : Label) → Weaker s t → Less (asks s F) (asks t F)
+asks_grow F g Dead Dead w = tt
+asks_grow F g (Live b m) Dead w = tt
+asks_grow F g Dead (Live c n) w = absurd w
+asks_grow F g (Live b m) (Live c n) w = g b c m n w.0 w.1
+
+goes_grow : (F : (Part → ℕ) → Mode → List (ℕ × Premise)) (E : (Part → ℕ) → Mode → Label) → Grows F E → (s t : Label) → Weaker s t → Meets (asks s F) → Weaker (goes s E) (goes t E)
+goes_grow F E g s Dead w h = tt
+goes_grow F E g Dead (Live c n) w h = absurd w
+goes_grow F E g (Live b m) (Live c n) w h = g b c m n w.0 w.1 h
+
+more : (k a b : ℕ) → a ≤ b → nat_le k a ≡ true → nat_le k b ≡ true
+more k a b h e = let x : k ≤ a = leb-true k a e in le-leb k b (omega arith)
+
+fewer : (a b k : ℕ) → a ≤ b → nat_lt b k ≡ true → nat_lt a k ≡ true
+fewer a b k h e = let x : b < k = ltb-true b k e in le-leb (suc a) k (omega arith)
+
+below : (a b k : ℕ) → a ≤ b → nat_le b k ≡ true → nat_le a k ≡ true
+below a b k h e = let x : b ≤ k = leb-true b k e in le-leb a k (omega arith)
+
+slot_of : (i j : Inside) (x : Slot) → WeakerInside i j → same_slot i.slot x ≡ true → same_slot j.slot x ≡ true
+slot_of i j x v e = subst (λ y. same_slot y x ≡ true) v.slot e
+
+seen : (p q : Peeked) → (p ≡ q) ⊎ (p ≡ Unseen) → is_seen p ≡ true → is_seen q ≡ true
+seen p q d e = elim d [ inl h ↦ subst (λ y. is_seen y ≡ true) h e | inr h ↦ absurd (let x : is_seen p ≡ false = ap is_seen h in cc) ]
+
+asks_less : (P : Program) (op : Op) → AsksLess (λ b m. op_premises P b m op)
+asks_less P (ops.Load x d i) b c m n w v = (refl, more 1 (b (ShareOf d)) (c (ShareOf d)) (w (ShareOf d)), (refl, λ h. h, tt))
+asks_less P (ops.Store d i x) b c m n w v = (refl, more _ (b (ShareOf d)) (c (ShareOf d)) (w (ShareOf d)), (refl, λ h. h, tt))
+asks_less P (ops.Fill d x) b c m n w v = (refl, more _ (b (ShareOf d)) (c (ShareOf d)) (w (ShareOf d)), tt)
+asks_less P (ops.Set x k) b c m n w v = tt
+asks_less P (ops.Assign x y) b c m n w v = tt
+asks_less P (ops.Add x y z) b c m n w v = tt
+asks_less P (ops.Subtract x y z) b c m n w v = tt
+asks_less P (ops.Print x) b c m n w v = tt
+asks_less P ops.GetSqe b c (Locked i) (Locked j) w v = (refl, more 1 (b Credit) (c Credit) (w Credit), (refl, fewer j.queued i.queued P.entries v.queued, (refl, slot_of i j Closed v, tt)))
+asks_less P (ops.PrepRead f d l o) b c (Locked i) (Locked j) w v = (refl, slot_of i j Vacant v, (refl, more _ (b (ShareOf d)) (c (ShareOf d)) (w (ShareOf d)), (refl, λ h. h, tt)))
+asks_less P (ops.PrepWrite f d l o k) b c (Locked i) (Locked j) w v = (refl, slot_of i j Vacant v, (refl, more k (b (ShareOf d)) (c (ShareOf d)) (w (ShareOf d)), (refl, λ h. h, tt)))
+asks_less P (ops.PrepFsync f d) b c (Locked i) (Locked j) w v = (refl, slot_of i j Vacant v, tt)
+asks_less P ops.PrepNop b c (Locked i) (Locked j) w v = (refl, slot_of i j Vacant v, tt)
+asks_less P (ops.SetData64 u) b c (Locked i) (Locked j) w v = (refl, subst (λ y. is_prepared y ≡ true) v.slot, (refl, subst (λ y. is_prepared_as (kind_of P u) y ≡ true) v.slot, (refl, more 1 (b (TokenOf u)) (c (TokenOf u)) (w (TokenOf u)), tt)))
+asks_less P (ops.Submit x) b c (Locked i) (Locked j) w v = (refl, slot_of i j Closed v, tt)
+asks_less P (ops.SubmitAndWait x k) b c (Locked i) (Locked j) w v = (refl, slot_of i j Closed v, tt)
+asks_less P ops.CqeSeen b c (Locked i) (Locked j) w v = (refl, seen i.peeked j.peeked v.peeked, tt)
+asks_less P _ b c Unlocked Unlocked w v = (refl, λ h. h, tt)
+asks_less P _ b c Unlocked (Locked j) w v = absurd v
+asks_less P _ b c (Locked i) Unlocked w v = absurd v
+
+unchanged : (b c : Part → ℕ) (i j : Inside) (s : Slot) → IsWithin b c → WeakerInside i j → Weaker (Live b (Locked (record i { slot = s }))) (Live c (Locked (record j { slot = s })))
+unchanged b c i j s w v = (w, record { queued = v.queued; slot = refl; peeked = v.peeked })
+
+reaps_more : (P : Program) (p q : Peeked) → (p ≡ q) ⊎ (p ≡ Unseen) → is_seen p ≡ true → (x : Part) → reaped P p x ≤ reaped P q x
+reaps_more P p q d e x = elim d [ inl h ↦ subst (λ y. reaped P p x ≤ reaped P y x) h (omega arith) | inr h ↦ absurd (let g : is_seen p ≡ false = ap is_seen h in cc) ]
+
+grows : (P : Program) (op : Op) → Grows (λ b m. op_premises P b m op) (λ b m. op_effect P b m op)
+grows P ops.GetSqe b c (Locked i) (Locked j) w v h = (λ p. omega (arith, w p), record { queued = omega (arith, v.queued); slot = refl; peeked = v.peeked })
+grows P (ops.PrepRead f d l o) b c (Locked i) (Locked j) w v h = unchanged _ _ i j _ (λ p. omega (arith, w p)) v
+grows P (ops.PrepWrite f d l o k) b c (Locked i) (Locked j) w v h = unchanged _ _ i j _ (λ p. omega (arith, w p)) v
+grows P (ops.PrepFsync f d) b c (Locked i) (Locked j) w v h = unchanged b c i j _ w v
+grows P ops.PrepNop b c (Locked i) (Locked j) w v h = unchanged b c i j _ w v
+grows P (ops.SetData64 u) b c (Locked i) (Locked j) w v h = unchanged _ _ i j _ (λ p. omega (arith, w p)) v
+grows P ops.CqeSeen b c (Locked i) (Locked j) w v h = (λ p. omega (arith, w p, reaps_more P i.peeked j.peeked v.peeked h.0 p), record { queued = v.queued; slot = v.slot; peeked = inl refl })
+grows P (ops.Submit x) b c m n w v h = (w, v)
+grows P (ops.SubmitAndWait x k) b c m n w v h = (w, v)
+grows P (ops.Load x d i) b c m n w v h = (w, v)
+grows P (ops.Store d i x) b c m n w v h = (w, v)
+grows P (ops.Fill d x) b c m n w v h = (w, v)
+grows P (ops.Set x k) b c m n w v h = (w, v)
+grows P (ops.Assign x y) b c m n w v h = (w, v)
+grows P (ops.Add x y z) b c m n w v h = (w, v)
+grows P (ops.Subtract x y z) b c m n w v h = (w, v)
+grows P (ops.Print x) b c m n w v h = (w, v)
+grows P _ b c Unlocked Unlocked w v h = tt
+grows P _ b c Unlocked (Locked j) w v h = absurd v
+grows P _ b c (Locked i) Unlocked w v h = absurd v
+
+-- ---- blocks
+
+nothing_asked : AsksLess (λ b m. [])
+nothing_asked b c m n w v = tt
+
+no_asks : (s : Label) → Meets (asks s (λ b m. []))
+no_asks Dead = tt
+no_asks (Live b m) = tt
+
+-- an effect that asks for nothing
+plain_grow : (E : (Part → ℕ) → Mode → Label) → Grows (λ b m. []) E → (s t : Label) → Weaker s t → Weaker (goes s E) (goes t E)
+plain_grow E g s t w = goes_grow (λ b m. []) E g s t w (no_asks s)
+
+peek_less : AsksLess (λ b m. peek_premises m)
+peek_less b c Unlocked Unlocked w v = (refl, λ h. h, tt)
+peek_less b c (Locked i) (Locked j) w v = tt
+peek_less b c Unlocked (Locked j) w v = absurd v
+peek_less b c (Locked i) Unlocked w v = absurd v
+
+test_less : (test : Test) → AsksLess (λ b m. test_premises m test)
+test_less (Compare x k n) b d m o w v = tt
+test_less ReadyZero b d m o w v = peek_less b d m o w v
+test_less (SpaceAtLeast n) b d m o w v = peek_less b d m o w v
+
+test_grows : (P : Program) (test : Test) → Grows (λ b m. []) (λ b m. Live b (test_mode P test m))
+test_grows P (Compare x k n) b d m o w v h = (w, v)
+test_grows P ReadyZero b d Unlocked Unlocked w v h = (w, tt)
+test_grows P ReadyZero b d (Locked i) (Locked j) w v h = (w, record { queued = omega arith; slot = v.slot; peeked = v.peeked })
+test_grows P (SpaceAtLeast n) b d Unlocked Unlocked w v h = (w, tt)
+test_grows P (SpaceAtLeast n) b d (Locked i) (Locked j) w v h = (w, record { queued = omega (arith, v.queued); slot = v.slot; peeked = v.peeked })
+test_grows P ReadyZero b d Unlocked (Locked j) w v h = absurd v
+test_grows P ReadyZero b d (Locked i) Unlocked w v h = absurd v
+test_grows P (SpaceAtLeast n) b d Unlocked (Locked j) w v h = absurd v
+test_grows P (SpaceAtLeast n) b d (Locked i) Unlocked w v h = absurd v
+
+release_less : (P : Program) → AsksLess (λ b m. may_release P m)
+release_less P b c Unlocked Unlocked w v = tt
+release_less P b c (Locked i) (Locked j) w v = (refl, slot_of i j Closed v, (refl, below j.queued i.queued P.left v.queued, tt))
+release_less P b c Unlocked (Locked j) w v = absurd v
+release_less P b c (Locked i) Unlocked w v = absurd v
+
+break_less : (P : Program) (r : Bool) → AsksLess (λ b m. may_break P r m)
+break_less P r b c Unlocked Unlocked w v = tt
+break_less P true b c (Locked i) (Locked j) w v = (refl, slot_of i j Closed v, (refl, below j.queued i.queued P.left v.queued, tt))
+break_less P false b c (Locked i) (Locked j) w v = (refl, slot_of i j Closed v, (refl, λ h. refl, tt))
+break_less P r b c Unlocked (Locked j) w v = absurd v
+break_less P r b c (Locked i) Unlocked w v = absurd v
+
+and_left : (x y : Bool) → (x && y) ≡ true → x ≡ true
+and_left true y e = refl
+and_left false y e = e
+
+and_right : (x y : Bool) → (x && y) ≡ true → y ≡ true
+and_right true y e = e
+and_right false y e = absurd cc
+
+and_both : (x y : Bool) → x ≡ true → y ≡ true → (x && y) ≡ true
+and_both x y e f = rw (e, f) refl
+
+queue_grows : (P : Program) (items : Items) (m n : Mode) → WeakerMode m n → keeps_queue P items m ≡ true → keeps_queue P items n ≡ true
+queue_grows P items Unlocked Unlocked v h = refl
+queue_grows P items (Locked i) (Locked j) v h = and_both _ _ (slot_of i j Closed v (and_left _ _ h)) (below j.queued i.queued (queue_on P items) v.queued (and_right _ _ h))
+queue_grows P items Unlocked (Locked j) v h = absurd v
+queue_grows P items (Locked i) Unlocked v h = absurd v
+
+loop_less : (P : Program) (k : ℕ) (items : Items) → AsksLess (λ b m. may_loop P k items b m)
+loop_less P k items b c m n w v = (refl, queue_grows P items m n v, (refl, λ h p. omega (arith, h p, w p), tt))
+
+top_grows : (P : Program) (items : Items) (s t : Label) → Weaker s t → Weaker (top P items s) (top P items t)
+top_grows P items s Dead w = tt
+top_grows P items Dead (Live c n) w = absurd w
+top_grows P items (Live b m) (Live c n) w = (λ p. omega arith, modes m n w.1)
+  where
+    modes : (m n : Mode) → WeakerMode m n → WeakerMode (top_mode P items m) (top_mode P items n)
+    modes Unlocked Unlocked v = tt
+    modes (Locked i) (Locked j) v = mode_refl (top_mode P items (Locked j))
+    modes Unlocked (Locked j) v = absurd v
+    modes (Locked i) Unlocked v = absurd v
+
+peeked_grows : (p : Peeked) (m n : Mode) → WeakerMode m n → WeakerMode (with_peeked p m) (with_peeked p n)
+peeked_grows p Unlocked Unlocked v = tt
+peeked_grows p (Locked i) (Locked j) v = record { queued = v.queued; slot = v.slot; peeked = inl refl }
+peeked_grows p Unlocked (Locked j) v = absurd v
+peeked_grows p (Locked i) Unlocked v = absurd v
+
+peek_grows : (p : Peeked) (s t : Label) → Weaker s t → Weaker (peek_at p s) (peek_at p t)
+peek_grows p = plain_grow (λ b m. Live b (with_peeked p m)) (λ b c m n w v h. (w, peeked_grows p m n v))
+
+released_grows : (s t : Label) → Weaker s t → Weaker (released s) (released t)
+released_grows = plain_grow (λ b m. Live b Unlocked) (λ b c m n w v h. (w, tt))
+
+entered_grows : (P : Program) (s t : Label) → Weaker s t → Weaker (entered P s) (entered P t)
+entered_grows P = plain_grow (λ b m. Live b (Locked (record { queued = P.left; slot = Closed; peeked = Unseen }))) (λ b c m n w v h. (w, mode_refl (Locked (record { queued = P.left; slot = Closed; peeked = Unseen }))))
+
+broken_grows : (r : Bool) (s t : Label) → Weaker s t → Weaker (broken r s) (broken r t)
+broken_grows true s t w = released_grows s t w
+broken_grows false s t w = peek_grows Unseen s t w
+
+case_grows : (u : ℕ) (s t : Label) → Weaker s t → Weaker (case_at u s) (case_at u t)
+case_grows u s Dead w = tt
+case_grows u Dead (Live c n) w = absurd w
+case_grows u (Live b m) (Live c n) w = go (nat_lt 0 (b (TokenOf u))) (nat_lt 0 (c (TokenOf u))) refl refl
+  where
+    go : (x y : Bool) → nat_lt 0 (b (TokenOf u)) ≡ x → nat_lt 0 (c (TokenOf u)) ≡ y → Weaker (cond x Dead (Live b (with_peeked (Sees u) m))) (cond y Dead (Live c (with_peeked (Sees u) n)))
+    go x true e f = tt
+    go false false e f = (w.0, peeked_grows (Sees u) m n w.1)
+    go true false e f =
+        let d : 0 < b (TokenOf u) = ltb-true 0 (b (TokenOf u)) e in
+        let g : nat_lt 0 (c (TokenOf u)) ≡ true = le-leb 1 (c (TokenOf u)) (omega (arith, d, w.0 (TokenOf u))) in
+        absurd (cc (f, g))
+
+modes_agree : (m n m' n' : Mode) → WeakerMode m m' → WeakerMode n n' → agree_modes m n ≡ true → agree_modes m' n' ≡ true
+modes_agree Unlocked n Unlocked n' v w e = refl
+modes_agree (Locked i) Unlocked (Locked i') Unlocked v w e = refl
+modes_agree (Locked i) (Locked j) (Locked i') (Locked j') v w e = subst (λ x. same_slot x j'.slot ≡ true) v.slot (subst (λ y. same_slot i.slot y ≡ true) w.slot e)
+modes_agree Unlocked n (Locked i') n' v w e = absurd v
+modes_agree (Locked i) n Unlocked n' v w e = absurd v
+modes_agree (Locked i) Unlocked (Locked i') (Locked j') v w e = absurd w
+modes_agree (Locked i) (Locked j) (Locked i') Unlocked v w e = absurd w
+
+agree_grows : (s t s' t' : Label) → Weaker s s' → Weaker t t' → agree s t ≡ true → agree s' t' ≡ true
+agree_grows s t Dead t' w v e = refl
+agree_grows s t (Live a m) Dead w v e = refl
+agree_grows Dead t (Live a m) (Live b n) w v e = absurd w
+agree_grows (Live c k) Dead (Live a m) (Live b n) w v e = absurd v
+agree_grows (Live c k) (Live d l) (Live a m) (Live b n) w v e = modes_agree k l m n w.1 v.1 e
+
+-- ---- lists of labels
+
+each_append : (xs ys us vs : List Label) → EachWeaker xs ys → EachWeaker us vs → EachWeaker (xs ++ us) (ys ++ vs)
+each_append [] [] us vs h g = g
+each_append [] (y ∷ ys) us vs h g = absurd h
+each_append (x ∷ xs) [] us vs h g = absurd h
+each_append (x ∷ xs) (y ∷ ys) us vs h g = (h.0, each_append xs ys us vs h.1 g)
+
+agree_each_grows : (s t : Label) (ss ts : List Label) → Weaker s t → EachWeaker ss ts → agree_each s ss ≡ true → agree_each t ts ≡ true
+agree_each_grows s t [] [] w g e = refl
+agree_each_grows s t [] (y ∷ ts) w g e = absurd g
+agree_each_grows s t (x ∷ ss) [] w g e = absurd g
+agree_each_grows s t (x ∷ ss) (y ∷ ts) w g e = and_both _ _ (agree_grows s x t y w g.0 (and_left _ _ e)) (agree_each_grows s t ss ts w g.1 (and_right (agree s x) _ e))
+
+agree_all_grows : (ss ts : List Label) → EachWeaker ss ts → agree_all ss ≡ true → agree_all ts ≡ true
+agree_all_grows [] [] g e = refl
+agree_all_grows [] (t ∷ ts) g e = absurd g
+agree_all_grows (s ∷ ss) [] g e = absurd g
+agree_all_grows (s ∷ ss) (t ∷ ts) g e = and_both _ _ (agree_each_grows s t ss ts g.0 g.1 (and_left _ _ e)) (agree_all_grows ss ts g.1 (and_right (agree_each s ss) _ e))
+
+join_less : (ss ts : List Label) → EachWeaker ss ts → Less (may_join ss) (may_join ts)
+join_less ss ts g = (refl, agree_all_grows ss ts g, tt)
+
+-- ---- labellings
+
+label_drop : (labels : List Label) (k : ℕ) → label_at (drop 1 labels) k ≡ label_at labels (suc k)
+label_drop [] k = refl
+label_drop (s ∷ labels) k = refl
+
+drop_grows : (known more : List Label) → IsStronger known more → IsStronger (drop 1 known) (drop 1 more)
+drop_grows known more g k = subst (λ s. Weaker s (label_at (drop 1 more) k)) (sym (label_drop known k)) (subst (λ t. Weaker (label_at known (suc k)) t) (sym (label_drop more k)) (g (suc k)))
+
+arm_grows : (l : Stmt) (o : ℕ) (s t : Label) → Weaker s t → EachWeaker (arm_end l o s) (arm_end l o t)
+arm_grows (EndArm p) o s t w = go (nat_eq p o)
+  where
+    go : (b : Bool) → EachWeaker (cond b (peek_at Unseen s ∷ []) []) (cond b (peek_at Unseen t ∷ []) [])
+    go true = (peek_grows Unseen s t w, tt)
+    go false = tt
+arm_grows _ o s t w = tt
+
+break_grows : (l : Stmt) (o : ℕ) (s t : Label) → Weaker s t → EachWeaker (break_end l o s) (break_end l o t)
+break_grows (Break p r l) o s t w = go (nat_eq p o)
+  where
+    go : (b : Bool) → EachWeaker (cond b (broken r s ∷ []) []) (cond b (broken r t ∷ []) [])
+    go true = (broken_grows r s t w, tt)
+    go false = tt
+break_grows _ o s t w = tt
+
+arms_grow : (lines : List Line) (known more : List Label) (o : ℕ) → IsStronger known more → EachWeaker (arm_ends lines known o) (arm_ends lines more o)
+arms_grow [] known more o g = tt
+arms_grow (l ∷ lines) known more o g = each_append (arm_end l.stmt o (label_at known 0)) (arm_end l.stmt o (label_at more 0)) (arm_ends lines (drop 1 known) o) (arm_ends lines (drop 1 more) o) (arm_grows l.stmt o _ _ (g 0)) (arms_grow lines (drop 1 known) (drop 1 more) o (drop_grows known more g))
+
+breaks_grow : (lines : List Line) (known more : List Label) (o : ℕ) → IsStronger known more → EachWeaker (break_ends lines known o) (break_ends lines more o)
+breaks_grow [] known more o g = tt
+breaks_grow (l ∷ lines) known more o g = each_append (break_end l.stmt o (label_at known 0)) (break_end l.stmt o (label_at more 0)) (break_ends lines (drop 1 known) o) (break_ends lines (drop 1 more) o) (break_grows l.stmt o _ _ (g 0)) (breaks_grow lines (drop 1 known) (drop 1 more) o (drop_grows known more g))
+
+module _ (P : Program) (loops : List Items) (lines : List Line) (known more : List Label) (g : IsStronger known more) where
+  here_grows : (F : (Part → ℕ) → Mode → List (ℕ × Premise)) → AsksLess F → Less (asks (here lines known) F) (asks (here lines more) F)
+  here_grows F l = asks_grow F l (here lines known) (here lines more) (g (length lines))
+
+  -- a stronger labelling asks for less
+  pub premises_grow : (s : Stmt) → Less (premises P loops lines known s) (premises P loops lines more s)
+  premises_grow (Do op) = here_grows (λ b m. op_premises P b m op) (asks_less P op)
+  premises_grow Lock = tt
+  premises_grow (EndLock o) = here_grows (λ b m. may_release P m) (release_less P)
+  premises_grow (If test) = here_grows (λ b m. test_premises m test) (test_less test)
+  premises_grow (Else o) = tt
+  premises_grow (EndIf o) = join_less (here lines known ∷ skipped lines known o ∷ []) (here lines more ∷ skipped lines more o ∷ []) (g (length lines), (g o, tt))
+  premises_grow (Peek x) = here_grows (λ b m. peek_premises m) peek_less
+  premises_grow (Case o u) = tt
+  premises_grow (Other o) = tt
+  premises_grow (Nothing o) = tt
+  premises_grow (EndArm o) = tt
+  premises_grow (EndPeek o) = join_less _ _ (arms_grow lines known more o g)
+  premises_grow (Loop k) = here_grows (λ b m. may_loop P 13 (items_at loops k) b m) (loop_less P 13 (items_at loops k))
+  premises_grow (EndLoop o k) = here_grows (λ b m. may_loop P 14 (items_at loops k) b m) (loop_less P 14 (items_at loops k))
+  premises_grow (Break o r l) = here_grows (λ b m. may_break P r m) (break_less P r)
+
+  -- and gives stronger states
+  pub befores_grow : (s : Stmt) → Meets (premises P loops lines known s) → EachWeaker (befores P loops lines known s) (befores P loops lines more s)
+  befores_grow (Do op) h = (goes_grow (λ b m. op_premises P b m op) (λ b m. op_effect P b m op) (grows P op) _ _ (g (length lines)) h, tt)
+  befores_grow Lock h = (entered_grows P _ _ (g (length lines)), tt)
+  befores_grow (EndLock o) h = (released_grows _ _ (g (length lines)), tt)
+  befores_grow (If test) h = (plain_grow (λ b m. Live b (test_mode P test m)) (test_grows P test) _ _ (g (length lines)), tt)
+  befores_grow (Else o) h = (g o, tt)
+  befores_grow (EndIf o) h = (g (length lines), (g o, tt))
+  befores_grow (Peek x) h = (g (length lines), tt)
+  befores_grow (Case o u) h = (case_grows u _ _ (g (o + 1)), tt)
+  befores_grow (Other o) h = (peek_grows SeesOther _ _ (g (o + 1)), tt)
+  befores_grow (Nothing o) h = (peek_grows Unseen _ _ (g (o + 1)), tt)
+  befores_grow (EndArm o) h = tt
+  befores_grow (EndPeek o) h = arms_grow lines known more o g
+  befores_grow (Loop k) h = (top_grows P (items_at loops k) _ _ (g (length lines)), tt)
+  befores_grow (EndLoop o k) h = breaks_grow lines known more o g
+  befores_grow (Break o r l) h = tt
+
+pub rules_grow : (P : Program) (loops : List Items) (lines : List Line) (known more : List Label) (stmt : Stmt) → IsStronger known more → GrowsAt P loops lines known more stmt
+rules_grow P loops lines known more stmt g = record {
+  asks_less = λ v h. less_below v _ _ (premises_grow P loops lines known more g stmt) h;
+  meets_too = λ h. less_meets _ _ (premises_grow P loops lines known more g stmt) h;
+  gives_more = λ h. befores_grow P loops lines known more g stmt h;
+}

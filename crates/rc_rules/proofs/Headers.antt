@@ -1,0 +1,85 @@
+-- Items of headers and loops can be held.
+use Rattle.std.proofs.Common.{◌≡◌, ℕ, suc, ◌+◌, ◌≤◌, ◌<◌, ◌^◌, Bool, true, false, cond, nat_eq, List, [], ◌∷◌, length, map, sum_by, count_by, refl, sym, ap, subst, ◌∙◌, arith, get_or}
+use Rattle.std.specs.Prelude.{All}
+use Rattle.std.specs.List.{IsDistinct, AllByRecursion}
+use Rattle.std.proofs.lemmas.Bool.{eqb-true, eqb-false}
+use Rattle.std.proofs.lemmas.List.Sums.{sum_by-cons}
+use Rattle.std.proofs.lemmas.Map.Keys.{IsDistinct-head, IsDistinct-tail}
+use Rattle.rc_lang.specs.declared.program.Share.{Share}
+use Rattle.rc_lang.specs.Program.{Program, Items, IsItems}
+use Rattle.rc_split.specs.Bags.{Part, ShareOf, TokenOf, Credit, bag_of, IsWithin}
+use Rattle.rc_split.specs.Holdings.{Holding, bag, mark_at, AreDeclared}
+use Rattle.std.specs.Prelude.{Option, Some, None, slice_index_or, slice_get}
+use Rattle.std.proofs.lemmas.List.{get_or-map, length-map}
+use Rattle.std.proofs.lemmas.Option.{slice_get-get_or}
+use Rattle.rc_lang.specs.Parts.{view_thread}
+use Rattle.rc_lang.specs.declared.program.Thread.{Thread as ThreadPart}
+use Rattle.rc_lang.specs.Program.{Thread, token_place}
+
+pub names_declared : (P : Program) (items : Items) → IsItems P items → AreDeclared P items
+names_declared P items h = record { buffers = h.buffers; tokens = h.tokens }
+
+-- ---- each once
+
+none_else : (x u : ℕ) (xs : List ℕ) → nat_eq x u ≡ true → AllByRecursion (λ y. nat_eq x y ≡ false) xs → count_by (λ v. nat_eq v u) xs ≡ 0
+none_else x u [] e h = refl
+none_else x u (y ∷ ys) e h = sum_by-cons (λ v. cond (nat_eq v u) 1 0) y ys ∙ go (none_else x u ys e h.1) (nat_eq y u) refl
+  where
+    go : count_by (λ v. nat_eq v u) ys ≡ 0 → (b : Bool) → nat_eq y u ≡ b → cond b 1 0 + count_by (λ v. nat_eq v u) ys ≡ 0
+    go n true f = absurd (eqb-false x y h.0 (eqb-true x u e ∙ sym (eqb-true y u f)))
+    go n false f = omega (arith, n)
+
+pub count_once : (u : ℕ) (xs : List ℕ) → IsDistinct nat_eq xs → count_by (λ v. nat_eq v u) xs ≤ 1
+count_once u [] h = omega arith
+count_once u (x ∷ xs) h = subst (λ n. n ≤ 1) (sym (sum_by-cons (λ v. cond (nat_eq v u) 1 0) x xs)) (go (count_once u xs (IsDistinct-tail nat_eq x xs h)) (nat_eq x u) refl)
+  where
+    go : count_by (λ v. nat_eq v u) xs ≤ 1 → (b : Bool) → nat_eq x u ≡ b → cond b 1 0 + count_by (λ v. nat_eq v u) xs ≤ 1
+    go n true e = omega (arith, none_else x u xs e (IsDistinct-head nat_eq x xs h))
+    go n false e = omega (arith, n)
+
+none_of : (x : Share) (b : ℕ) (xs : List Share) → nat_eq x.buffer b ≡ true → AllByRecursion (λ y. nat_eq x.buffer y ≡ false) (map (λ (s : Share). s.buffer) xs) → sum_by (λ (s : Share). cond (nat_eq s.buffer b) s.count 0) xs ≡ 0
+none_of x b [] e h = refl
+none_of x b (y ∷ ys) e h = sum_by-cons (λ (s : Share). cond (nat_eq s.buffer b) s.count 0) y ys ∙ go (none_of x b ys e h.1) (nat_eq y.buffer b) refl
+  where
+    go : sum_by (λ (s : Share). cond (nat_eq s.buffer b) s.count 0) ys ≡ 0 → (c : Bool) → nat_eq y.buffer b ≡ c → cond c y.count 0 + sum_by (λ (s : Share). cond (nat_eq s.buffer b) s.count 0) ys ≡ 0
+    go n true f = absurd (eqb-false x.buffer y.buffer h.0 (eqb-true x.buffer b e ∙ sym (eqb-true y.buffer b f)))
+    go n false f = omega (arith, n)
+
+pub few_of : (b : ℕ) (xs : List Share) → IsDistinct nat_eq (map (λ (s : Share). s.buffer) xs) → All (λ (s : Share). (1 ≤ s.count) × (s.count ≤ 16)) xs → sum_by (λ (s : Share). cond (nat_eq s.buffer b) s.count 0) xs ≤ 16
+few_of b [] d h = omega arith
+few_of b (x ∷ xs) d h = subst (λ n. n ≤ 16) (sym (sum_by-cons (λ (s : Share). cond (nat_eq s.buffer b) s.count 0) x xs)) (go (few_of b xs (IsDistinct-tail nat_eq x.buffer (map (λ (s : Share). s.buffer) xs) d) (λ k y lt. h (suc k) y (omega (arith, lt)))) (nat_eq x.buffer b) refl)
+  where
+    go : sum_by (λ (s : Share). cond (nat_eq s.buffer b) s.count 0) xs ≤ 16 → (c : Bool) → nat_eq x.buffer b ≡ c → cond c x.count 0 + sum_by (λ (s : Share). cond (nat_eq s.buffer b) s.count 0) xs ≤ 16
+    go n true e = let l : (1 ≤ x.count) × (x.count ≤ 16) = h 0 x (omega arith) in omega (arith, none_of x b xs e (IsDistinct-head nat_eq x.buffer (map (λ (s : Share). s.buffer) xs) d), l.1)
+    go n false e = omega (arith, n)
+
+pub once : (P : Program) (items : Items) (u : ℕ) → IsItems P items → bag_of items (TokenOf u) ≤ 1
+once P items u h = count_once u items.tokens h.distinct_tokens
+
+pub small : (P : Program) (items : Items) (p : Part) → IsItems P items → bag_of items p < 2 ^ 20
+small P items (ShareOf b) h = omega (arith, few_of b items.shares h.distinct_buffers h.counts)
+small P items (TokenOf u) h = omega (arith, once P items u h)
+small P items Credit h = omega (arith, h.credits)
+
+-- ---- within a holding
+
+marked_once : (marks : List Bool) (o : Option ℕ) → mark_at marks o ≤ 1
+marked_once marks None = omega arith
+marked_once marks (Some place) = go (slice_index_or marks place false)
+  where
+    go : (b : Bool) → cond b 1 0 ≤ 1
+    go true = omega arith
+    go false = omega arith
+
+pub once_within : (items : Items) (h : Holding) (u : ℕ) → IsWithin (bag_of items) (bag h) → bag_of items (TokenOf u) ≤ 1
+once_within items h u w = omega (arith, w (TokenOf u), marked_once h.marks (token_place h.program.tokens u))
+
+pub small_within : (a b : Part → ℕ) → IsWithin a b → ((p : Part) → b p < 2 ^ 20) → (p : Part) → a p < 2 ^ 20
+small_within a b w s p = omega (arith, w p, s p)
+
+-- the header of a thread
+pub thread_at : (P : Program) (parts : List ThreadPart) (i : ℕ) (d : ThreadPart) → map view_thread parts ≡ P.threads → i < length P.threads → slice_get P.threads i ≡ Some (view_thread (get_or parts i d))
+thread_at P parts i d e lt =
+    let l : i < length (map view_thread parts) = subst (λ (ts : List Thread). i < length ts) (sym e) lt in
+    let l' : i < length parts = subst (λ n. i < n) (length-map parts view_thread) l in
+    subst (λ ts. slice_get ts i ≡ Some (view_thread (get_or parts i d))) e (slice_get-get_or (map view_thread parts) i (view_thread d) l ∙ ap Some (get_or-map view_thread parts i d (view_thread d) l'))

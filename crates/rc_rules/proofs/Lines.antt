@@ -1,0 +1,76 @@
+-- What the lines of tokens name.
+use Rattle.std.proofs.Common.{◌≡◌, ℕ, ◌≤◌, Bool, true, false, cond, nat_eq, length, Option, Some, None, get_or, ltb, arith, refl, ap, subst, sym, ◌∙◌}
+use Rattle.std.specs.Prelude.{slice_get}
+use Rattle.std.proofs.lemmas.Bool.{ltb-true, ltb-false}
+use Rattle.std.proofs.lemmas.List.{get_or_past}
+use Rattle.std.proofs.lemmas.Option.{get_or_from_slice_get, slice_get_within}
+use Rattle.rc_lang.specs.declared.program.Token.{Token}
+use Rattle.rc_lang.specs.declared.program.TokenKind.{TokenKind}
+use Rattle.rc_lang.specs.declared.program.TokenKind.TheVariants.{Read, Write, Fsync, Nop}
+use Rattle.rc_lang.specs.Program.{Buffer, Program, IsProgram, IsTokenKind, no_buffer, shares_at, token_place}
+use Rattle.rc_split.specs.Bags.{Part, ShareOf, TokenOf, Credit, token_bag, credits_bag}
+use Rattle.rc_rules.specs.Rules.{kind_in, kind_at, kind_of, kind_bag, line_bag}
+use Rattle.rc_rules.specs.States.{IsLine}
+
+pub few_shares : (P : Program) (b : ℕ) → IsProgram P → shares_at P.buffers b ≤ 16
+few_shares P b h = go (ltb b (length P.buffers)) refl
+  where
+    go : (x : Bool) → ltb b (length P.buffers) ≡ x → shares_at P.buffers b ≤ 16
+    go true e = (h.buffers b no_buffer (ltb-true _ _ e)).shares.1
+    go false e = let f : get_or P.buffers b no_buffer ≡ no_buffer = get_or_past P.buffers b no_buffer (ltb-false _ _ e) in subst (λ (y : Buffer). y.shares ≤ 16) (sym f) (omega arith)
+
+is_line : (P : Program) (o : Option Token) (k : ℕ) → IsProgram P → slice_get P.tokens k ≡ o → IsLine P (kind_in o)
+is_line P None k h e = tt
+is_line P (Some t) k h e = subst (λ (y : Token). IsTokenKind P y.kind) (get_or_from_slice_get P.tokens k t t e) (h.tokens k t (slice_get_within P.tokens k t e))
+
+pub line_of : (P : Program) (u : ℕ) → IsProgram P → IsLine P (kind_of P u)
+line_of P u h = go (token_place P.tokens u)
+  where
+    go : (o : Option ℕ) → IsLine P (kind_at P.tokens o)
+    go None = tt
+    go (Some k) = is_line P (slice_get P.tokens k) k h refl
+
+few : (b c k : ℕ) → k ≤ 16 → cond (nat_eq b c) k 0 ≤ 16
+few b c k h = go (nat_eq b c)
+  where
+    go : (x : Bool) → cond x k 0 ≤ 16
+    go true = h
+    go false = omega arith
+
+pub kind_few : (P : Program) (kind : TokenKind) (p : Part) → IsProgram P → IsTokenKind P kind → kind_bag P kind p ≤ 16
+kind_few P (Read b) (ShareOf c) h l = few b c _ (few_shares P b h)
+kind_few P (Write b k) (ShareOf c) h l = few b c k (let m = few_shares P b h in let n = l.1.within in omega (arith, m, n))
+kind_few P Fsync p h l = omega arith
+kind_few P Nop p h l = omega arith
+kind_few P (Read b) (TokenOf u) h l = omega arith
+kind_few P (Read b) Credit h l = omega arith
+kind_few P (Write b k) (TokenOf u) h l = omega arith
+kind_few P (Write b k) Credit h l = omega arith
+
+pub line_few : (P : Program) (o : Option TokenKind) (p : Part) → IsProgram P → IsLine P o → line_bag P o p ≤ 16
+line_few P None p h l = omega arith
+line_few P (Some kind) p h l = kind_few P kind p h l
+
+pub line_token : (P : Program) (o : Option TokenKind) (u : ℕ) → line_bag P o (TokenOf u) ≡ 0
+line_token P None u = refl
+line_token P (Some (Read b)) u = refl
+line_token P (Some (Write b k)) u = refl
+line_token P (Some Fsync) u = refl
+line_token P (Some Nop) u = refl
+
+pub one_at_most : (u : ℕ) (p : Part) → token_bag u p ≤ 1
+one_at_most u (ShareOf b) = omega arith
+one_at_most u (TokenOf v) = go (nat_eq u v)
+  where
+    go : (x : Bool) → cond x 1 0 ≤ 1
+    go true = omega arith
+    go false = omega arith
+one_at_most u Credit = omega arith
+
+pub one_credit : (p : Part) → credits_bag 1 p ≤ 1
+one_credit (ShareOf b) = omega arith
+one_credit (TokenOf v) = omega arith
+one_credit Credit = omega arith
+
+pub line_is : (P Q : Program) (u : ℕ) (o : Option TokenKind) → o ≡ kind_of Q u → Q ≡ P → IsProgram P → IsLine P o
+line_is P Q u o e q h = subst (IsLine P) (sym (e ∙ ap (λ (R : Program). kind_of R u) q)) (line_of P u h)

@@ -1,0 +1,143 @@
+-- Two states that join.
+use Rattle.std.proofs.Common.{◌≡◌, ℕ, ◌⊎◌, inl, inr, Bool, true, false, cond, ◌&&◌, [], ◌∷◌, Option, Some, None, Ok, refl, sym, ap, subst, arith}
+use Rattle.std.proofs.lemmas.Bool.{eqb-true, eq-eqb}
+use Rattle.rc_lang.specs.declared.program.TokenKind.{TokenKind}
+use Rattle.rc_lang.specs.declared.program.TokenKind.TheVariants.{Read, Write, Fsync, Nop}
+use Rattle.rc_lang.specs.Program.{Program}
+use Rattle.rc_split.specs.Bags.{Part, TokenOf, least}
+use Rattle.rc_split.specs.Holdings.{Holding, bag}
+use Rattle.rc_rules.specs.declared.mode.Inside.{Inside}
+use Rattle.rc_rules.specs.declared.mode.Mode.{Mode}
+use Rattle.rc_rules.specs.declared.mode.Mode.TheVariants.{Unlocked, Locked}
+use Rattle.rc_rules.specs.declared.mode.Peeked.{Peeked}
+use Rattle.rc_rules.specs.declared.mode.Peeked.TheVariants.{Unseen, Sees, SeesOther}
+use Rattle.rc_rules.specs.declared.mode.Slot.{Slot}
+use Rattle.rc_rules.specs.declared.mode.Slot.TheVariants.{Closed, Vacant, Prepared}
+use Rattle.rc_rules.specs.Labels.{Label, Dead, Live, Weaker, WeakerMode, WeakerInside, IsStrongest}
+use Rattle.rc_rules.specs.Rules.{same_kind, same_slot, agree_modes, may_join}
+use Rattle.rc_rules.specs.Premises.{Meets}
+use Rattle.rc_rules.specs.States.{State, label_of, label_in, same_peeked, both_inside, both, IsFreeIn, IsFreeFor, AreAlike, Gives}
+use Rattle.rc_rules.proofs.Moves.{fewer_free}
+
+and_left : (x y : Bool) → (x && y) ≡ true → x ≡ true
+and_left true y e = refl
+and_left false y e = e
+
+and_right : (x y : Bool) → (x && y) ≡ true → y ≡ true
+and_right true y e = e
+and_right false y e = absurd cc
+
+pub same_kind_is : (k l : TokenKind) → same_kind k l ≡ true → k ≡ l
+same_kind_is (Read b) (Read c) e = ap Read (eqb-true b c e)
+same_kind_is (Write b k) (Write c l) e = let p : b ≡ c = eqb-true b c (and_left _ _ e) in let q : k ≡ l = eqb-true k l (and_right _ _ e) in cc
+same_kind_is Fsync Fsync e = refl
+same_kind_is Nop Nop e = refl
+same_kind_is (Read b) (Write c l) e = absurd cc
+same_kind_is (Read b) Fsync e = absurd cc
+same_kind_is (Read b) Nop e = absurd cc
+same_kind_is (Write b k) (Read c) e = absurd cc
+same_kind_is (Write b k) Fsync e = absurd cc
+same_kind_is (Write b k) Nop e = absurd cc
+same_kind_is Fsync (Read c) e = absurd cc
+same_kind_is Fsync (Write c l) e = absurd cc
+same_kind_is Fsync Nop e = absurd cc
+same_kind_is Nop (Read c) e = absurd cc
+same_kind_is Nop (Write c l) e = absurd cc
+same_kind_is Nop Fsync e = absurd cc
+
+pub same_slot_is : (s t : Slot) → same_slot s t ≡ true → s ≡ t
+same_slot_is Closed Closed e = refl
+same_slot_is Vacant Vacant e = refl
+same_slot_is (Prepared k) (Prepared l) e = ap Prepared (same_kind_is k l e)
+same_slot_is Closed Vacant e = absurd cc
+same_slot_is Closed (Prepared l) e = absurd cc
+same_slot_is Vacant Closed e = absurd cc
+same_slot_is Vacant (Prepared l) e = absurd cc
+same_slot_is (Prepared k) Closed e = absurd cc
+same_slot_is (Prepared k) Vacant e = absurd cc
+
+same_peeked_is : (p q : Peeked) → same_peeked p q ≡ true → p ≡ q
+same_peeked_is Unseen Unseen e = refl
+same_peeked_is (Sees u) (Sees v) e = ap Sees (eqb-true u v e)
+same_peeked_is SeesOther SeesOther e = refl
+same_peeked_is Unseen (Sees v) e = absurd cc
+same_peeked_is Unseen SeesOther e = absurd cc
+same_peeked_is (Sees u) Unseen e = absurd cc
+same_peeked_is (Sees u) SeesOther e = absurd cc
+same_peeked_is SeesOther Unseen e = absurd cc
+same_peeked_is SeesOther (Sees v) e = absurd cc
+
+same_refl : (p : Peeked) → same_peeked p p ≡ true
+same_refl Unseen = refl
+same_refl (Sees u) = eq-eqb u u refl
+same_refl SeesOther = refl
+
+left_peeked : (p q : Peeked) → (cond (same_peeked p q) p Unseen ≡ p) ⊎ (cond (same_peeked p q) p Unseen ≡ Unseen)
+left_peeked p q = elim (same_peeked p q) as (λ b. (cond b p Unseen ≡ p) ⊎ (cond b p Unseen ≡ Unseen)) [ true ↦ inl refl | false ↦ inr refl ]
+
+right_peeked : (p q : Peeked) → (cond (same_peeked p q) p Unseen ≡ q) ⊎ (cond (same_peeked p q) p Unseen ≡ Unseen)
+right_peeked p q = go (same_peeked p q) refl
+  where
+    go : (b : Bool) → same_peeked p q ≡ b → (cond b p Unseen ≡ q) ⊎ (cond b p Unseen ≡ Unseen)
+    go true e = inl (same_peeked_is p q e)
+    go false e = inr refl
+
+both_peeked : (x p q : Peeked) → (x ≡ p) ⊎ (x ≡ Unseen) → (x ≡ q) ⊎ (x ≡ Unseen) → (x ≡ cond (same_peeked p q) p Unseen) ⊎ (x ≡ Unseen)
+both_peeked x p q (inr e) f = inr e
+both_peeked x p q (inl e) (inr f) = inr f
+both_peeked x p q (inl e) (inl f) = inl (rw (← e, ← f, same_refl x) refl)
+
+-- ---- modes
+
+left_inside : (i j : Inside) → WeakerInside (both_inside i j) i
+left_inside i j = record { queued = omega arith; slot = refl; peeked = left_peeked i.peeked j.peeked }
+
+right_inside : (i j : Inside) → same_slot i.slot j.slot ≡ true → WeakerInside (both_inside i j) j
+right_inside i j e = record { queued = omega arith; slot = same_slot_is i.slot j.slot e; peeked = right_peeked i.peeked j.peeked }
+
+best_inside : (x i j : Inside) → WeakerInside x i → WeakerInside x j → WeakerInside x (both_inside i j)
+best_inside x i j h g = record { queued = omega (arith, h.queued, g.queued); slot = h.slot; peeked = both_peeked x.peeked i.peeked j.peeked h.peeked g.peeked }
+
+pub both_strongest : (a b c : Part → ℕ) (m n k : Mode) → agree_modes m n ≡ true → AreAlike (Live a m) (Live b n) → ((p : Part) → c p ≡ least a b p) → k ≡ both m n → IsStrongest (Live c k) (Live a m ∷ Live b n ∷ [])
+both_strongest a b c m n k e l h q = subst (λ x. IsStrongest (Live c x) (Live a m ∷ Live b n ∷ [])) (sym q) (go m n e l)
+  where
+    best : (m n : Mode) → ((u : Mode) → WeakerMode u m → WeakerMode u n → WeakerMode u (both m n)) → (t : Label) → Weaker t (Live a m) → Weaker t (Live b n) → Weaker t (Live c (both m n))
+    best m n f Dead w v = absurd w
+    best m n f (Live d u) w v = (λ p. omega (arith, h p, w.0 p, v.0 p), f u w.1 v.1)
+
+    insides : (u : Mode) (i j : Inside) → WeakerMode u (Locked i) → WeakerMode u (Locked j) → WeakerMode u (both (Locked i) (Locked j))
+    insides Unlocked i j x y = absurd x
+    insides (Locked s) i j x y = best_inside s i j x y
+
+    go : (m n : Mode) → agree_modes m n ≡ true → AreAlike (Live a m) (Live b n) → IsStrongest (Live c (both m n)) (Live a m ∷ Live b n ∷ [])
+    go Unlocked Unlocked e l = record { weaker = ((λ p. omega (arith, h p), tt), ((λ p. omega (arith, h p), tt), tt)); strongest = λ t w. best Unlocked Unlocked (λ u x y. x) t w.0 w.1.0 }
+    go Unlocked (Locked j) e l = absurd l
+    go (Locked i) Unlocked e l = absurd l
+    go (Locked i) (Locked j) e l = record { weaker = ((λ p. omega (arith, h p), left_inside i j), ((λ p. omega (arith, h p), right_inside i j e), tt)); strongest = λ t w. best (Locked i) (Locked j) (λ u x y. insides u i j x y) t w.0 w.1.0 }
+
+pub both_free : (P Q : Program) (a b c : Part → ℕ) (m n k : Mode) → IsFreeIn P a m → Q ≡ P → ((p : Part) → c p ≡ least a b p) → k ≡ both m n → IsFreeIn Q c k
+both_free P Q a b c m n k f r h q = subst (λ R. IsFreeIn R c k) (sym r) (subst (IsFreeIn P c) (sym q) (go m n f))
+  where
+    seen : (i : Inside) (y : Peeked) → IsFreeFor P a i.peeked → IsFreeFor P c (cond (same_peeked i.peeked y) i.peeked Unseen)
+    seen i y f = elim (same_peeked i.peeked y) as (λ x. IsFreeFor P c (cond x i.peeked Unseen)) [ true ↦ fewer_free P a c i.peeked (λ u. omega (arith, h (TokenOf u))) f | false ↦ tt ]
+
+    go : (m n : Mode) → IsFreeIn P a m → IsFreeIn P c (both m n)
+    go Unlocked n f = tt
+    go (Locked i) Unlocked f = fewer_free P a c i.peeked (λ u. omega (arith, h (TokenOf u))) f
+    go (Locked i) (Locked j) f = seen i j.peeked f
+
+-- two live states join
+pub joined : (s t x y : State) (c : Holding) (m n k : Mode) → s ≡ x → t ≡ y → s.mode ≡ Some m → t.mode ≡ Some n → agree_modes m n ≡ true → AreAlike (label_of x) (label_of y) → ((p : Part) → bag c p ≡ least (bag s.holding) (bag t.holding) p) → k ≡ both m n → c.program ≡ s.holding.program → Gives {X = Unit {0}} x (record { holding = c; mode = Some k }) (Ok tt) (may_join (label_of x ∷ label_of y ∷ [])) (label_of x ∷ label_of y ∷ [])
+joined s t x y c m n k p q e f a l h r o =
+    subst (λ x. AreAlike (label_of x) (label_of y) → Gives {X = Unit {0}} x (record { holding = c; mode = Some k }) (Ok tt) (may_join (label_of x ∷ label_of y ∷ [])) (label_of x ∷ label_of y ∷ [])) p
+    (subst (λ y. AreAlike (label_of s) (label_of y) → Gives {X = Unit {0}} s (record { holding = c; mode = Some k }) (Ok tt) (may_join (label_of s ∷ label_of y ∷ [])) (label_of s ∷ label_of y ∷ [])) q (λ l. go s.mode t.mode e f l)) l
+  where
+    go : (d g : Option Mode) → d ≡ Some m → g ≡ Some n → AreAlike (label_in (bag s.holding) d) (label_in (bag t.holding) g) → Meets (may_join (label_in (bag s.holding) d ∷ label_in (bag t.holding) g ∷ [])) × IsStrongest (Live (bag c) k) (label_in (bag s.holding) d ∷ label_in (bag t.holding) g ∷ []) × (c.program ≡ s.holding.program)
+    go None g e f l = absurd cc
+    go (Some m') None e f l = absurd cc
+    go (Some m') (Some n') e f l =
+        let e' : m' ≡ m = cc in
+        let f' : n' ≡ n = cc in
+        let a' : agree_modes m' n' ≡ true = subst (λ z. agree_modes z n' ≡ true) (sym e') (subst (λ z. agree_modes m z ≡ true) (sym f') a) in
+        let r' : k ≡ both m' n' = subst (λ z. k ≡ both z n') (sym e') (subst (λ z. k ≡ both m z) (sym f') r) in
+        ((rw a' refl, tt), both_strongest (bag s.holding) (bag t.holding) (bag c) m' n' k a' l h r', o)

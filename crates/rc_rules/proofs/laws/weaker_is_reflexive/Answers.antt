@@ -1,0 +1,5 @@
+use Rattle.rc_rules.proofs.Moves.{weaker_refl}
+use Rattle.rc_rules.proofs.laws.weaker_is_reflexive.Goals as goal
+
+pub returns : goal.returns
+returns c = weaker_refl

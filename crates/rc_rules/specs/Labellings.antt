@@ -1,0 +1,179 @@
+-- Labellings: a label for each place of a thread. Whether they obey the rules, which programs are accepted, and where
+-- the others are refused.
+use Rattle.std.specs.Prelude.{ℕ, ◌≡◌, ◌⊎◌, ◌+◌, ◌<◌, cond, List, [], ◌∷◌, ◌++◌, Some, nat_eq, take, drop, length, slice_get, slice_index_or}
+use Rattle.rc_lang.specs.declared.lines.Line.{Line}
+use Rattle.rc_lang.specs.declared.lines.Stmt.{Stmt}
+use Rattle.rc_lang.specs.declared.lines.Stmt.TheVariants.{Do, Lock, EndLock, If, Else, EndIf, Peek, Case, Other, Nothing, EndArm, EndPeek, Loop, EndLoop, Break}
+use Rattle.rc_lang.specs.Program.{Program, Thread, Items, items_at}
+use Rattle.rc_rules.specs.declared.mode.Mode.{Mode}
+use Rattle.rc_rules.specs.declared.mode.Mode.TheVariants.{Unlocked}
+use Rattle.rc_rules.specs.declared.mode.Peeked.TheVariants.{Unseen, SeesOther}
+use Rattle.rc_split.specs.Bags.{Part, ShareOf, TokenOf, Credit, bag_of}
+use Rattle.rc_rules.specs.Labels.{Label, Dead, Live, WeakerThanEach}
+use Rattle.rc_rules.specs.Premises.{Premise, Covers, Meets, MeetsBelow}
+use Rattle.rc_rules.specs.Rules.{limit, op_premises, op_effect, asks, goes, entered, may_release, released, test_premises, test_mode, peek_premises, peek_at, case_at, may_join, may_loop, top, may_break, broken}
+
+-- ---- the labels that a line sees
+
+-- A label belongs to a place. The label at j is the one before the line at j.
+abbrev pub label_at : List Label → ℕ → Label
+label_at labels k = slice_index_or labels k Dead
+
+-- the label before the line that these lines come before
+abbrev pub here : List Line → List Label → Label
+here lines known = label_at known (length lines)
+
+-- what comes from the place before a line to the place behind it
+abbrev pub brings : (Label → Label) → List Line → List Label → List Label
+brings F lines known = F (here lines known) ∷ []
+
+-- the end of a branch that is read at the line at o: an else, or an if without one whose test may fail
+abbrev pub skipped : List Line → List Label → ℕ → Label
+skipped lines known o = label_at known o
+
+-- the ends of the arms of the peek at o; behind an arm nothing is peeked any more
+abbrev pub arm_end : Stmt → ℕ → Label → List Label
+arm_end (EndArm p) o s = cond (nat_eq p o) (peek_at Unseen s ∷ []) []
+arm_end _ o s = []
+
+abbrev pub arm_ends : List Line → List Label → ℕ → List Label
+arm_ends [] labels o = []
+arm_ends (l ∷ lines) labels o = arm_end l.stmt o (label_at labels 0) ++ arm_ends lines (drop 1 labels) o
+
+-- the breaks of the loop at o
+abbrev pub break_end : Stmt → ℕ → Label → List Label
+break_end (Break p releases leaves) o s = cond (nat_eq p o) (broken releases s ∷ []) []
+break_end _ o s = []
+
+abbrev pub break_ends : List Line → List Label → ℕ → List Label
+break_ends [] labels o = []
+break_ends (l ∷ lines) labels o = break_end l.stmt o (label_at labels 0) ++ break_ends lines (drop 1 labels) o
+
+-- The labels that lead to the place behind this line, from the lines before it, the labels so far and the items of the
+-- thread's loops. Behind a peek, before its arms, stands what was known before it. Behind an arm, and behind a break,
+-- nothing comes from above.
+abbrev pub befores : Program → List Items → List Line → List Label → Stmt → List Label
+befores P loops lines known (Do op) = brings (λ s. goes s (λ bag m. op_effect P bag m op)) lines known
+befores P loops lines known Lock = entered P (here lines known) ∷ []
+befores P loops lines known (EndLock o) = released (here lines known) ∷ []
+befores P loops lines known (If test) = goes (here lines known) (λ bag m. Live bag (test_mode P test m)) ∷ []
+befores P loops lines known (Else o) = skipped lines known o ∷ []
+befores P loops lines known (EndIf o) = here lines known ∷ skipped lines known o ∷ []
+befores P loops lines known (Peek x) = brings (λ s. s) lines known
+befores P loops lines known (Case o u) = case_at u (label_at known (o + 1)) ∷ []
+befores P loops lines known (Other o) = peek_at SeesOther (label_at known (o + 1)) ∷ []
+befores P loops lines known (Nothing o) = peek_at Unseen (label_at known (o + 1)) ∷ []
+befores P loops lines known (EndArm o) = []
+befores P loops lines known (EndPeek o) = arm_ends lines known o
+befores P loops lines known (Loop k) = brings (λ s. top P (items_at loops k) s) lines known
+befores P loops lines known (EndLoop o k) = break_ends lines known o
+befores P loops lines known (Break o releases leaves) = []
+
+-- what the label before a line is asked, where it is live
+abbrev pub on_here : List Line → List Label → ((Part → ℕ) → Mode → List (ℕ × Premise)) → List (ℕ × Premise)
+on_here lines known F = asks (here lines known) F
+
+abbrev pub premises : Program → List Items → List Line → List Label → Stmt → List (ℕ × Premise)
+premises P loops lines known (Do op) = on_here lines known (λ bag m. op_premises P bag m op)
+premises P loops lines known Lock = []
+premises P loops lines known (EndLock o) = on_here lines known (λ bag m. may_release P m)
+premises P loops lines known (If test) = on_here lines known (λ bag m. test_premises m test)
+premises P loops lines known (Else o) = []
+premises P loops lines known (EndIf o) = may_join (befores P loops lines known (EndIf o))
+premises P loops lines known (Peek x) = on_here lines known (λ bag m. peek_premises m)
+premises P loops lines known (Case o u) = []
+premises P loops lines known (Other o) = []
+premises P loops lines known (Nothing o) = []
+premises P loops lines known (EndArm o) = []
+premises P loops lines known (EndPeek o) = may_join (befores P loops lines known (EndPeek o))
+premises P loops lines known (Loop k) = on_here lines known (λ bag m. may_loop P 13 (items_at loops k) bag m)
+premises P loops lines known (EndLoop o k) = on_here lines known (λ bag m. may_loop P 14 (items_at loops k) bag m)
+premises P loops lines known (Break o releases leaves) = on_here lines known (λ bag m. may_break P releases m)
+
+-- ---- labellings
+
+-- The labelling obeys the rule of the line at j: the labels up to it meet the premises, and the label behind it is
+-- weaker than each that leads there.
+pub record IsGoodAt (P : Program) (loops : List Items) (lines : List Line) (labels : List Label) (j : ℕ) (stmt : Stmt) : Type 0 where
+  pub meets : Meets (premises P loops (take j lines) (take (j + 1) labels) stmt)
+  pub after : WeakerThanEach (label_at labels (j + 1)) (befores P loops (take j lines) (take (j + 1) labels) stmt)
+
+pub record IsGood (P : Program) (loops : List Items) (start : Label) (lines : List Line) (labels : List Label) : Type 0 where
+  pub begins : label_at labels 0 ≡ start
+  pub each : (j : ℕ) (l : Line) → slice_get lines j ≡ Some l → IsGoodAt P loops lines labels j l.stmt
+
+abbrev pub HasLabels : Program → List Items → Label → List Line → Type 0
+HasLabels P loops start lines = (labels : List Label) × IsGood P loops start lines labels
+
+-- A thread begins with its items, without the lock.
+abbrev pub start_of : Thread → Label
+start_of thread = Live (bag_of thread.items) Unlocked
+
+-- ---- headers
+
+-- what these threads hold as they begin
+abbrev pub headers_bag : List Thread → Part → ℕ
+headers_bag [] p = 0
+headers_bag (t ∷ ts) p = bag_of t.items p + headers_bag ts p
+
+-- the parts of one sort alone
+abbrev pub shares_of : (Part → ℕ) → Part → ℕ
+shares_of bag (ShareOf b) = bag (ShareOf b)
+shares_of bag (TokenOf u) = 0
+shares_of bag Credit = 0
+
+abbrev pub tokens_of : (Part → ℕ) → Part → ℕ
+tokens_of bag (ShareOf b) = 0
+tokens_of bag (TokenOf u) = bag (TokenOf u)
+tokens_of bag Credit = 0
+
+abbrev pub credits_of : (Part → ℕ) → Part → ℕ
+credits_of bag (ShareOf b) = 0
+credits_of bag (TokenOf u) = 0
+credits_of bag Credit = bag Credit
+
+-- The threads up to a header hold together at most what there is.
+abbrev pub header_premises : Program → List Thread → List (ℕ × Premise)
+header_premises P threads = (16, Covers (limit P) (shares_of (headers_bag threads))) ∷ (17, Covers (limit P) (tokens_of (headers_bag threads))) ∷ (18, Covers (limit P) (credits_of (headers_bag threads))) ∷ []
+
+-- ---- accepted programs
+
+-- The thread's header meets its premises, and its lines have a labelling.
+pub record Passes (P : Program) (i : ℕ) (thread : Thread) : Type 0 where
+  pub header : Meets (header_premises P (take (i + 1) P.threads))
+  pub labels : HasLabels P thread.loops (start_of thread) thread.lines
+
+abbrev pub Accepts : Program → Type 0
+Accepts P = (i : ℕ) (thread : Thread) → slice_get P.threads i ≡ Some thread → Passes P i thread
+
+-- ---- refused programs
+
+-- The line at j is the least line of the thread such that no labelling is good at all lines up to it, and v the least
+-- number such that no labelling that is good before that line also meets its premises up to v.
+pub record IsRefusedAt (P : Program) (thread : Thread) (j : ℕ) (line : Line) (v : ℕ) : Type 0 where
+  pub line_is : slice_get thread.lines j ≡ Some line
+  pub good_before : HasLabels P thread.loops (start_of thread) (take j thread.lines)
+  pub none_up_to : HasLabels P thread.loops (start_of thread) (take (j + 1) thread.lines) → ⊥
+  pub met_below : (labels : List Label) × IsGood P thread.loops (start_of thread) (take j thread.lines) labels × MeetsBelow v (premises P thread.loops (take j thread.lines) (take (j + 1) labels) line.stmt)
+  pub never_met : (labels : List Label) → IsGood P thread.loops (start_of thread) (take j thread.lines) labels → MeetsBelow (v + 1) (premises P thread.loops (take j thread.lines) (take (j + 1) labels) line.stmt) → ⊥
+
+-- A header line is refused by its own premises alone.
+pub record IsHeaderRefused (P : Program) (i v : ℕ) : Type 0 where
+  pub below : MeetsBelow v (header_premises P (take (i + 1) P.threads))
+  pub fails : MeetsBelow (v + 1) (header_premises P (take (i + 1) P.threads)) → ⊥
+
+pub record IsBodyRefused (P : Program) (i : ℕ) (thread : Thread) (number v : ℕ) : Type 0 where
+  pub header : Meets (header_premises P (take (i + 1) P.threads))
+  pub place : ℕ
+  pub line : Line
+  pub number_is : line.number ≡ number
+  pub refused : IsRefusedAt P thread place line v
+
+-- The threads are judged in text order, each header before its body: the program is refused at the line with this
+-- number, for the premise v.
+pub record IsRefused (P : Program) (number v : ℕ) : Type 0 where
+  pub index : ℕ
+  pub thread : Thread
+  pub thread_is : slice_get P.threads index ≡ Some thread
+  pub earlier : (k : ℕ) (t : Thread) → k < index → slice_get P.threads k ≡ Some t → Passes P k t
+  pub at : ((thread.line ≡ number) × IsHeaderRefused P index v) ⊎ IsBodyRefused P index thread number v

@@ -1,0 +1,46 @@
+-- What is known at a point of a thread, and when one label says less than another.
+use Rattle.std.specs.Prelude.{ℕ, ◌≡◌, ◌≤◌, ◌⊎◌, List, [], ◌∷◌}
+use Rattle.rc_rules.specs.declared.mode.Inside.{Inside}
+use Rattle.rc_rules.specs.declared.mode.Mode.{Mode}
+use Rattle.rc_rules.specs.declared.mode.Mode.TheVariants.{Unlocked, Locked}
+use Rattle.rc_rules.specs.declared.mode.Peeked.TheVariants.{Unseen}
+use Rattle.rc_split.specs.Bags.{Part, IsWithin, IsSameBag}
+
+-- Nothing reaches a dead point. At a live one the thread holds a bag, and the lock or not.
+pub data Label : Type 0 where
+  Dead : Label
+  Live : (bag : Part → ℕ) → Mode → Label
+
+-- At most so many entries are queued, the slot is at this stage, and what is peeked is known or not.
+pub record WeakerInside (s t : Inside) : Type 0 where
+  pub queued : t.queued ≤ s.queued
+  pub slot : s.slot ≡ t.slot
+  pub peeked : (s.peeked ≡ t.peeked) ⊎ (s.peeked ≡ Unseen)
+
+abbrev pub WeakerMode : Mode → Mode → Type 0
+WeakerMode Unlocked Unlocked = Unit {0}
+WeakerMode Unlocked (Locked t) = ⊥
+WeakerMode (Locked s) Unlocked = ⊥
+WeakerMode (Locked s) (Locked t) = WeakerInside s t
+
+-- The first label says no more than the second. Dead is the strongest.
+abbrev pub Weaker : Label → Label → Type 0
+Weaker s Dead = Unit {0}
+Weaker Dead (Live b n) = ⊥
+Weaker (Live a m) (Live b n) = IsWithin a b × WeakerMode m n
+
+abbrev pub WeakerThanEach : Label → List Label → Type 0
+WeakerThanEach s [] = Unit {0}
+WeakerThanEach s (t ∷ ts) = Weaker s t × WeakerThanEach s ts
+
+-- The label says as much as is true wherever one comes from.
+pub record IsStrongest (s : Label) (ts : List Label) : Type 0 where
+  pub weaker : WeakerThanEach s ts
+  pub strongest : (t : Label) → WeakerThanEach t ts → Weaker t s
+
+-- The labels are the same at each part.
+abbrev pub IsSame : Label → Label → Type 0
+IsSame Dead Dead = Unit {0}
+IsSame Dead (Live b n) = ⊥
+IsSame (Live a m) Dead = ⊥
+IsSame (Live a m) (Live b n) = IsSameBag a b × (m ≡ n)

@@ -1,0 +1,34 @@
+-- What holds of the rules alone.
+use Rattle.std.specs.Prelude.{ℕ, List, [], ◌∷◌}
+use Rattle.rc_lang.specs.declared.lines.Line.{Line}
+use Rattle.rc_lang.specs.declared.lines.Stmt.{Stmt}
+use Rattle.rc_lang.specs.Program.{Program, Items}
+use Rattle.rc_rules.specs.Labels.{Label, Weaker}
+use Rattle.rc_rules.specs.Premises.{Meets, MeetsBelow}
+use Rattle.rc_rules.specs.Labellings.{label_at, befores, premises}
+
+abbrev pub IsReflexive : Type 0
+IsReflexive = (s : Label) → Weaker s s
+
+abbrev pub IsTransitive : Type 0
+IsTransitive = (s t u : Label) → Weaker s t → Weaker t u → Weaker s u
+
+-- Each label is weaker than the one that stands there in the second list.
+abbrev pub EachWeaker : List Label → List Label → Type 0
+EachWeaker [] [] = Unit {0}
+EachWeaker [] (t ∷ ts) = ⊥
+EachWeaker (s ∷ ss) [] = ⊥
+EachWeaker (s ∷ ss) (t ∷ ts) = Weaker s t × EachWeaker ss ts
+
+-- The second labelling says at least as much at each place.
+abbrev pub IsStronger : List Label → List Label → Type 0
+IsStronger known more = (k : ℕ) → Weaker (label_at known k) (label_at more k)
+
+-- Where the labels so far say more, a line asks for less, up to each number, and gives labels that say more.
+pub record GrowsAt (P : Program) (loops : List Items) (lines : List Line) (known more : List Label) (stmt : Stmt) : Type 0 where
+  pub asks_less : (v : ℕ) → MeetsBelow v (premises P loops lines known stmt) → MeetsBelow v (premises P loops lines more stmt)
+  pub meets_too : Meets (premises P loops lines known stmt) → Meets (premises P loops lines more stmt)
+  pub gives_more : Meets (premises P loops lines known stmt) → EachWeaker (befores P loops lines known stmt) (befores P loops lines more stmt)
+
+abbrev pub RulesGrow : Type 0
+RulesGrow = (P : Program) (loops : List Items) (lines : List Line) (known more : List Label) (stmt : Stmt) → IsStronger known more → GrowsAt P loops lines known more stmt

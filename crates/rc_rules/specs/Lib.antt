@@ -1,0 +1,8 @@
+pub mod Causes
+pub mod Labels
+pub mod Premises
+pub mod Rules
+pub mod Labellings
+pub mod States
+pub mod Laws
+pub mod Example

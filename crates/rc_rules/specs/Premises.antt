@@ -1,0 +1,46 @@
+-- Premises with their numbers.
+use Rattle.std.specs.Prelude.{ℕ, ◌≡◌, ◌+◌, ◌<◌, ◌≤◌, Bool, true, List, [], ◌∷◌, Result, Ok, Err}
+use Rattle.rc_rules.specs.declared.cause.Cause.{Cause}
+use Rattle.rc_rules.specs.Causes.{number_of}
+use Rattle.rc_split.specs.Bags.{Part, IsWithin}
+
+pub data Premise : Type 0 where
+  Is : Bool → Premise
+  Covers : (large small : Part → ℕ) → Premise
+
+abbrev pub Holds : Premise → Type 0
+Holds (Is b) = b ≡ true
+Holds (Covers large small) = IsWithin small large
+
+abbrev pub Meets : List (ℕ × Premise) → Type 0
+Meets [] = Unit {0}
+Meets (p ∷ ps) = Holds p.1 × Meets ps
+
+-- the premises with numbers below n
+abbrev pub MeetsBelow : ℕ → List (ℕ × Premise) → Type 0
+MeetsBelow n [] = Unit {0}
+MeetsBelow n (p ∷ ps) = (p.0 < n → Holds p.1) × MeetsBelow n ps
+
+-- The least number of a premise that fails is n.
+pub record FailsFirst (n : ℕ) (ps : List (ℕ × Premise)) : Type 0 where
+  pub below : MeetsBelow n ps
+  pub fails : MeetsBelow (n + 1) ps → ⊥
+
+-- The numbers rise along the list.
+abbrev pub IsFrom : ℕ → List (ℕ × Premise) → Type 0
+IsFrom n [] = Unit {0}
+IsFrom n (p ∷ ps) = (n ≤ p.0) × IsFrom n ps
+
+abbrev pub IsRising : List (ℕ × Premise) → Type 0
+IsRising [] = Unit {0}
+IsRising (p ∷ ps) = IsFrom p.0 ps × IsRising ps
+
+-- whether each of some causes is ruled out
+abbrev pub tests_of : List (Bool × Cause) → List (ℕ × Premise)
+tests_of [] = []
+tests_of (t ∷ ts) = (number_of t.1, Is t.0) ∷ tests_of ts
+
+-- Ok: the premises hold. A cause: the least that fails.
+abbrev pub Tests : {X : Type 0} → Result X Cause → List (ℕ × Premise) → Type 0
+Tests (Ok x) ps = Meets ps
+Tests (Err cause) ps = FailsFirst (number_of cause) ps

@@ -1,0 +1,257 @@
+-- The rule of each line: what it asks of the state before it, and the state behind it.
+use Rattle.std.specs.Prelude.{ℕ, ◌+◌, ◌-◌, Bool, true, false, cond, min, List, [], ◌∷◌, Option, Some, None, nat_eq, nat_lt, nat_le, not, ◌&&◌, ◌||◌, slice_get}
+use Rattle.rc_lang.specs.declared.lines.Op.{Op}
+use Rattle.rc_lang.specs.declared.lines.Op.TheVariants as ops
+use Rattle.rc_lang.specs.declared.lines.Test.{Test}
+use Rattle.rc_lang.specs.declared.lines.Test.TheVariants.{Compare, ReadyZero, SpaceAtLeast}
+use Rattle.rc_lang.specs.declared.program.Token.{Token}
+use Rattle.rc_lang.specs.declared.program.TokenKind.{TokenKind}
+use Rattle.rc_lang.specs.declared.program.TokenKind.TheVariants.{Read, Write, Fsync, Nop}
+use Rattle.rc_lang.specs.Program.{Program, Items, bytes_at, shares_at, token_place}
+use Rattle.rc_rules.specs.declared.mode.Inside.{Inside}
+use Rattle.rc_rules.specs.declared.mode.Mode.{Mode}
+use Rattle.rc_rules.specs.declared.mode.Mode.TheVariants.{Unlocked, Locked}
+use Rattle.rc_rules.specs.declared.mode.Peeked.{Peeked}
+use Rattle.rc_rules.specs.declared.mode.Peeked.TheVariants.{Unseen, Sees, SeesOther}
+use Rattle.rc_rules.specs.declared.mode.Slot.{Slot}
+use Rattle.rc_rules.specs.declared.mode.Slot.TheVariants.{Closed, Vacant, Prepared}
+use Rattle.rc_split.specs.Bags.{Part, ShareOf, TokenOf, Credit, shares_bag, token_bag, credits_bag, bag_of, plus, minus}
+use Rattle.rc_rules.specs.Labels.{Label, Dead, Live}
+use Rattle.rc_rules.specs.Premises.{Premise, Is, Covers}
+
+-- ---- what a program says
+
+-- how many of a part there are in all
+abbrev pub limit : Program → Part → ℕ
+limit P (ShareOf b) = shares_at P.buffers b
+limit P (TokenOf u) = 1
+limit P Credit = P.completion_entries
+
+-- what the line of a token says that its request is
+abbrev pub kind_in : Option Token → Option TokenKind
+kind_in None = None
+kind_in (Some token) = Some token.kind
+
+abbrev pub kind_at : List Token → Option ℕ → Option TokenKind
+kind_at tokens None = None
+kind_at tokens (Some place) = kind_in (slice_get tokens place)
+
+abbrev pub kind_of : Program → ℕ → Option TokenKind
+kind_of P u = kind_at P.tokens (token_place P.tokens u)
+
+-- the shares that a request of a kind takes: all of a buffer that is read into, those that a write names
+abbrev pub kind_bag : Program → TokenKind → Part → ℕ
+kind_bag P (Read b) p = shares_bag b (shares_at P.buffers b) p
+kind_bag P (Write b k) p = shares_bag b k p
+kind_bag P Fsync p = 0
+kind_bag P Nop p = 0
+
+abbrev pub line_bag : Program → Option TokenKind → Part → ℕ
+line_bag P None p = 0
+line_bag P (Some kind) p = kind_bag P kind p
+
+-- what a request in flight owns: the shares of its token's line, the token and a credit
+abbrev pub owned : Program → ℕ → Part → ℕ
+owned P u p = line_bag P (kind_of P u) p + token_bag u p + credits_bag 1 p
+
+-- ---- words of premises
+
+abbrev pub same_kind : TokenKind → TokenKind → Bool
+same_kind (Read b) (Read c) = nat_eq b c
+same_kind (Write b k) (Write c l) = nat_eq b c && nat_eq k l
+same_kind Fsync Fsync = true
+same_kind Nop Nop = true
+same_kind _ _ = false
+
+abbrev pub same_slot : Slot → Slot → Bool
+same_slot Closed Closed = true
+same_slot Vacant Vacant = true
+same_slot (Prepared k) (Prepared l) = same_kind k l
+same_slot _ _ = false
+
+abbrev pub is_prepared : Slot → Bool
+is_prepared Closed = false
+is_prepared Vacant = false
+is_prepared (Prepared kind) = true
+
+-- the slot is prepared as the token's line says
+abbrev pub is_prepared_as : Option TokenKind → Slot → Bool
+is_prepared_as None slot = false
+is_prepared_as (Some kind) slot = same_slot slot (Prepared kind)
+
+abbrev pub is_seen : Peeked → Bool
+is_seen Unseen = false
+is_seen (Sees u) = true
+is_seen SeesOther = true
+
+abbrev pub is_whole : Program → (Part → ℕ) → ℕ → Bool
+is_whole P bag b = nat_le (shares_at P.buffers b) (bag (ShareOf b))
+
+-- Most calls on the ring are asked for the lock first.
+abbrev pub locked : Mode → (Inside → List (ℕ × Premise)) → List (ℕ × Premise)
+locked Unlocked F = (1, Is false) ∷ []
+locked (Locked i) F = F i
+
+-- ---- statements without a block
+
+abbrev pub op_premises : Program → (Part → ℕ) → Mode → Op → List (ℕ × Premise)
+op_premises P bag m (ops.Load x b i) = (8, Is (nat_le 1 (bag (ShareOf b)))) ∷ (9, Is (nat_lt i (bytes_at P.buffers b))) ∷ []
+op_premises P bag m (ops.Store b i x) = (7, Is (is_whole P bag b)) ∷ (9, Is (nat_lt i (bytes_at P.buffers b))) ∷ []
+op_premises P bag m (ops.Fill b x) = (7, Is (is_whole P bag b)) ∷ []
+op_premises P bag m ops.GetSqe = locked m (λ i. (2, Is (nat_le 1 (bag Credit))) ∷ (3, Is (nat_lt i.queued P.entries)) ∷ (4, Is (same_slot i.slot Closed)) ∷ [])
+op_premises P bag m (ops.PrepRead fd b len off) = locked m (λ i. (5, Is (same_slot i.slot Vacant)) ∷ (7, Is (is_whole P bag b)) ∷ (9, Is (nat_le len (bytes_at P.buffers b))) ∷ [])
+op_premises P bag m (ops.PrepWrite fd b len off k) = locked m (λ i. (5, Is (same_slot i.slot Vacant)) ∷ (8, Is (nat_le k (bag (ShareOf b)))) ∷ (9, Is (nat_le len (bytes_at P.buffers b))) ∷ [])
+op_premises P bag m (ops.PrepFsync fd datasync) = locked m (λ i. (5, Is (same_slot i.slot Vacant)) ∷ [])
+op_premises P bag m ops.PrepNop = locked m (λ i. (5, Is (same_slot i.slot Vacant)) ∷ [])
+op_premises P bag m (ops.SetData64 u) = locked m (λ i. (5, Is (is_prepared i.slot)) ∷ (6, Is (is_prepared_as (kind_of P u) i.slot)) ∷ (10, Is (nat_le 1 (bag (TokenOf u)))) ∷ [])
+op_premises P bag m (ops.Submit x) = locked m (λ i. (4, Is (same_slot i.slot Closed)) ∷ [])
+op_premises P bag m (ops.SubmitAndWait x n) = locked m (λ i. (4, Is (same_slot i.slot Closed)) ∷ [])
+op_premises P bag m ops.CqeSeen = locked m (λ i. (11, Is (is_seen i.peeked)) ∷ [])
+op_premises P bag m (ops.Set x n) = []
+op_premises P bag m (ops.Assign x y) = []
+op_premises P bag m (ops.Add x a b) = []
+op_premises P bag m (ops.Subtract x a b) = []
+op_premises P bag m (ops.Print x) = []
+
+-- no premise of a call on the ring is met without the lock
+abbrev pub in_lock : Mode → (Inside → Label) → Label
+in_lock Unlocked F = Dead
+in_lock (Locked i) F = F i
+
+-- a reaped request gives back what it owned, as far as it is known which one it was
+abbrev pub reaped : Program → Peeked → Part → ℕ
+reaped P Unseen p = 0
+reaped P (Sees u) p = owned P u p
+reaped P SeesOther p = credits_bag 1 p
+
+abbrev pub op_effect : Program → (Part → ℕ) → Mode → Op → Label
+op_effect P bag m ops.GetSqe = in_lock m (λ i. Live (minus bag (credits_bag 1)) (Locked (record { queued = i.queued + 1; slot = Vacant; peeked = i.peeked })))
+op_effect P bag m (ops.PrepRead fd b len off) = in_lock m (λ i. Live (minus bag (kind_bag P (Read b))) (Locked (record i { slot = Prepared (Read b) })))
+op_effect P bag m (ops.PrepWrite fd b len off k) = in_lock m (λ i. Live (minus bag (kind_bag P (Write b k))) (Locked (record i { slot = Prepared (Write b k) })))
+op_effect P bag m (ops.PrepFsync fd datasync) = in_lock m (λ i. Live bag (Locked (record i { slot = Prepared Fsync })))
+op_effect P bag m ops.PrepNop = in_lock m (λ i. Live bag (Locked (record i { slot = Prepared Nop })))
+op_effect P bag m (ops.SetData64 u) = in_lock m (λ i. Live (minus bag (token_bag u)) (Locked (record i { slot = Closed })))
+op_effect P bag m ops.CqeSeen = in_lock m (λ i. Live (plus bag (reaped P i.peeked)) (Locked (record i { peeked = Unseen })))
+op_effect P bag m (ops.Submit x) = Live bag m
+op_effect P bag m (ops.SubmitAndWait x n) = Live bag m
+op_effect P bag m (ops.Load x b i) = Live bag m
+op_effect P bag m (ops.Store b i x) = Live bag m
+op_effect P bag m (ops.Fill b x) = Live bag m
+op_effect P bag m (ops.Set x n) = Live bag m
+op_effect P bag m (ops.Assign x y) = Live bag m
+op_effect P bag m (ops.Add x a b) = Live bag m
+op_effect P bag m (ops.Subtract x a b) = Live bag m
+op_effect P bag m (ops.Print x) = Live bag m
+
+-- ---- states
+
+-- A dead state is asked nothing, and stays dead.
+abbrev pub asks : Label → ((Part → ℕ) → Mode → List (ℕ × Premise)) → List (ℕ × Premise)
+asks Dead F = []
+asks (Live bag m) F = F bag m
+
+abbrev pub goes : Label → ((Part → ℕ) → Mode → Label) → Label
+goes Dead F = Dead
+goes (Live bag m) F = F bag m
+
+-- ---- locks
+
+abbrev pub entered : Program → Label → Label
+entered P s = goes s (λ bag m. Live bag (Locked (record { queued = P.left; slot = Closed; peeked = Unseen })))
+
+abbrev pub may_release : Program → Mode → List (ℕ × Premise)
+may_release P Unlocked = []
+may_release P (Locked i) = (4, Is (same_slot i.slot Closed)) ∷ (12, Is (nat_le i.queued P.left)) ∷ []
+
+abbrev pub released : Label → Label
+released s = goes s (λ bag m. Live bag Unlocked)
+
+-- ---- tests
+
+abbrev pub test_premises : Mode → Test → List (ℕ × Premise)
+test_premises m (Compare x c n) = []
+test_premises m ReadyZero = locked m (λ i. [])
+test_premises m (SpaceAtLeast n) = locked m (λ i. [])
+
+-- what is known in the first branch
+abbrev pub test_mode : Program → Test → Mode → Mode
+test_mode P (Compare x c n) m = m
+test_mode P ReadyZero Unlocked = Unlocked
+test_mode P ReadyZero (Locked i) = Locked (record i { queued = 0 })
+test_mode P (SpaceAtLeast n) Unlocked = Unlocked
+test_mode P (SpaceAtLeast n) (Locked i) = Locked (record i { queued = min i.queued (P.entries - n) })
+
+-- ---- peeks
+
+abbrev pub peek_premises : Mode → List (ℕ × Premise)
+peek_premises m = locked m (λ i. [])
+
+abbrev pub with_peeked : Peeked → Mode → Mode
+with_peeked peeked Unlocked = Unlocked
+with_peeked peeked (Locked i) = Locked (record i { peeked = peeked })
+
+abbrev pub peek_at : Peeked → Label → Label
+peek_at peeked s = goes s (λ bag m. Live bag (with_peeked peeked m))
+
+-- Where the token is held no request under it is in flight, so its completion can't come.
+abbrev pub case_at : ℕ → Label → Label
+case_at u s = goes s (λ bag m. cond (nat_lt 0 (bag (TokenOf u))) Dead (Live bag (with_peeked (Sees u) m)))
+
+-- Ends that are alive have their slots at one stage.
+abbrev pub agree_modes : Mode → Mode → Bool
+agree_modes (Locked i) (Locked j) = same_slot i.slot j.slot
+agree_modes _ _ = true
+
+abbrev pub agree : Label → Label → Bool
+agree (Live a m) (Live b n) = agree_modes m n
+agree _ _ = true
+
+abbrev pub agree_each : Label → List Label → Bool
+agree_each s [] = true
+agree_each s (t ∷ ts) = agree s t && agree_each s ts
+
+abbrev pub agree_all : List Label → Bool
+agree_all [] = true
+agree_all (s ∷ ss) = agree_each s ss && agree_all ss
+
+abbrev pub may_join : List Label → List (ℕ × Premise)
+may_join ends = (15, Is (agree_all ends)) ∷ []
+
+-- ---- loops
+
+-- what a loop keeps, and how many entries it says may be queued
+abbrev pub bag_on : Items → Part → ℕ
+bag_on items = bag_of items
+
+abbrev pub queue_or : Option ℕ → ℕ → ℕ
+queue_or None n = n
+queue_or (Some k) n = k
+
+abbrev pub queue_on : Program → Items → ℕ
+queue_on P items = queue_or items.queue P.entries
+
+abbrev pub keeps_queue : Program → Items → Mode → Bool
+keeps_queue P items Unlocked = true
+keeps_queue P items (Locked i) = same_slot i.slot Closed && nat_le i.queued (queue_on P items)
+
+-- At a loop's top and at its end no slot is open, the items are held, and in a lock no more entries are queued than the
+-- loop says.
+abbrev pub may_loop : Program → ℕ → Items → (Part → ℕ) → Mode → List (ℕ × Premise)
+may_loop P v items bag m = (v, Is (keeps_queue P items m)) ∷ (v, Covers bag (bag_on items)) ∷ []
+
+-- behind the top exactly the items are held
+abbrev pub top_mode : Program → Items → Mode → Mode
+top_mode P items Unlocked = Unlocked
+top_mode P items (Locked i) = Locked (record { queued = queue_on P items; slot = Closed; peeked = Unseen })
+
+abbrev pub top : Program → Items → Label → Label
+top P items s = goes s (λ bag m. Live (bag_on items) (top_mode P items m))
+
+abbrev pub may_break : Program → Bool → Mode → List (ℕ × Premise)
+may_break P releases Unlocked = []
+may_break P releases (Locked i) = (4, Is (same_slot i.slot Closed)) ∷ (12, Is (not releases || nat_le i.queued P.left)) ∷ []
+
+-- what a break takes to the end of its loop
+abbrev pub broken : Bool → Label → Label
+broken true s = released s
+broken false s = peek_at Unseen s

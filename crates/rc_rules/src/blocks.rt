@@ -1,0 +1,153 @@
+//! The rules of blocks, on a mode and what a holding covers.
+
+ghost use Rattle.std.specs.Prelude.{◌≡◌, ◌∷◌, [], ◌<◌, ◌^◌, IfOk};
+ghost use Rattle.rc_lang.specs.Parts.{view_items};
+ghost use Rattle.rc_rules.specs.Causes.{number_of};
+ghost use Rattle.rc_rules.specs.Premises.{Tests, Is};
+ghost use Rattle.rc_rules.specs.Rules as rules;
+ghost use Rattle.rc_rules.specs.States as states;
+ghost use Rattle.rc_rules.specs.declared.mode.Mode.TheVariants.{Locked};
+ghost use Rattle.rc_split.specs.Bags.{Part};
+ghost use Rattle.rc_split.specs.Holdings.{bag};
+
+use crate::cause::Cause;
+use crate::mode::{Inside, Mode, Peeked, Slot, same_slot};
+use crate::ops::locked;
+use crate::premises::tested;
+use rc_lang::lines::Test;
+use rc_lang::program::{Items, Program};
+use rc_split::holding::Holding;
+
+/// Whether the lock may be released.
+pub fn may_release(program: &Program, mode: Mode) -> Result<(), Cause>
+    ensures { Tests result (rules.may_release program.now mode) }
+{
+    match mode {
+        Mode::Unlocked => Ok(()),
+        Mode::Locked(inside) => tested(&[
+            (same_slot(inside.slot, Slot::Closed), Cause::SlotOpen),
+            (inside.queued <= program.left(), Cause::QueueLeft),
+        ]),
+    }
+}
+
+/// Whether the thread may leave its loop here.
+pub fn may_break(program: &Program, releases: bool, mode: Mode) -> Result<(), Cause>
+    ensures { Tests result (rules.may_break program.now releases mode) }
+{
+    match mode {
+        Mode::Unlocked => Ok(()),
+        Mode::Locked(inside) => {
+            let few = inside.queued <= program.left();
+            tested(&[
+                (same_slot(inside.slot, Slot::Closed), Cause::SlotOpen),
+                (!releases || few, Cause::QueueLeft),
+            ])
+        }
+    }
+}
+
+/// What is known in the first branch of a test.
+pub fn behind_test(program: &Program, test: Test, mode: Mode) -> Result<Mode, Cause>
+    ensures { states.Becomes result (rules.test_premises mode test) (rules.test_mode program.now test mode) }
+{
+    match test {
+        Test::Compare(_, _, _) => Ok(mode),
+        Test::ReadyZero => Ok(with_queued(locked(mode)?, 0)),
+        Test::SpaceAtLeast(n) => {
+            let inside = locked(mode)?;
+            let most = program.entries().saturating_sub(n);
+            Ok(with_queued(inside, inside.queued.min(most)))
+        }
+    }
+}
+
+fn with_queued(inside: Inside, queued: u32) -> Mode
+    ensures { result ≡ Locked (record inside { queued = queued }) }
+{
+    Mode::Locked(Inside { queued, ..inside })
+}
+
+/// What is known in an arm of a peek.
+pub fn in_arm(peeked: Peeked, mode: Mode) -> Result<Mode, Cause>
+    ensures { states.Becomes result (rules.peek_premises mode) (rules.with_peeked peeked mode) }
+{
+    let inside = locked(mode)?;
+    Ok(Mode::Locked(Inside { peeked, ..inside }))
+}
+
+/// How many entries may be queued at the top of a loop.
+fn queue_on(program: &Program, items: &Items) -> u32
+    ensures { result ≡ rules.queue_on program.now (view_items items.now) }
+{
+    items.queue.unwrap_or(program.entries())
+}
+
+fn keeps_queue(program: &Program, items: &Items, mode: Mode) -> bool
+    ensures { result ≡ rules.keeps_queue program.now (view_items items.now) mode }
+{
+    match mode {
+        Mode::Unlocked => true,
+        Mode::Locked(inside) => {
+            same_slot(inside.slot, Slot::Closed) && inside.queued <= queue_on(program, items)
+        }
+    }
+}
+
+/// Whether the items of a loop are held at its top or its end; the cause says which.
+pub fn may_loop(holding: &Holding, items: &Items, mode: Mode, cause: Cause) -> Result<(), Cause>
+    ensures answer { Tests result (rules.may_loop holding.now.program (number_of cause) (view_items items.now) (bag holding.now) mode) }
+    ensures small { IfOk result (λ _. (p : Part) → bag holding.now p < 2 ^ 20) }
+{
+    if !keeps_queue(holding.program(), items, mode) {
+        return Err(cause);
+    }
+    if !holding.covers(items) {
+        return Err(cause);
+    }
+    Ok(())
+}
+
+/// What is known at the top of a loop.
+pub fn top_mode(program: &Program, items: &Items, mode: Mode) -> Mode
+    ensures { result ≡ rules.top_mode program.now (view_items items.now) mode }
+{
+    match mode {
+        Mode::Unlocked => Mode::Unlocked,
+        Mode::Locked(_) => Mode::Locked(Inside {
+            queued: queue_on(program, items),
+            slot: Slot::Closed,
+            peeked: Peeked::Unseen,
+        }),
+    }
+}
+
+/// Whether both see the same.
+pub fn same_peeked(a: Peeked, b: Peeked) -> bool
+    ensures { result ≡ states.same_peeked a b }
+{
+    match (a, b) {
+        (Peeked::Unseen, Peeked::Unseen) => true,
+        (Peeked::Sees(a), Peeked::Sees(b)) => a == b,
+        (Peeked::SeesOther, Peeked::SeesOther) => true,
+        _ => false,
+    }
+}
+
+/// What is known of both, where their slots are at one stage.
+pub fn both(a: Mode, b: Mode) -> Result<Mode, Cause>
+    ensures { states.Becomes result ((15, Is (rules.agree_modes a b)) ∷ []) (states.both a b) }
+{
+    match (a, b) {
+        (Mode::Locked(a), Mode::Locked(b)) => {
+            tested(&[(same_slot(a.slot, b.slot), Cause::JoinMismatch)])?;
+            let same = same_peeked(a.peeked, b.peeked);
+            Ok(Mode::Locked(Inside {
+                queued: a.queued.max(b.queued),
+                slot: a.slot,
+                peeked: if same { a.peeked } else { Peeked::Unseen },
+            }))
+        }
+        _ => Ok(a),
+    }
+}

@@ -1,0 +1,99 @@
+//! What is known of the ring at some point of a thread.
+
+ghost use Rattle.std.specs.Prelude.{◌≡◌};
+ghost use Rattle.rc_rules.specs.Rules as spec;
+
+use rc_lang::program::TokenKind;
+
+/// The submission entry that `io_uring_get_sqe(3)` opened last.
+#[derive(Clone, Copy)]
+pub enum Slot {
+    /// None is open.
+    Closed,
+    /// One is open, and no prep has filled it.
+    Vacant,
+    /// One is open, and a prep made it a request of this kind, which took these shares.
+    Prepared(TokenKind),
+}
+
+/// The front completion, as `io_uring_peek_cqe(3)` showed it.
+#[derive(Clone, Copy)]
+pub enum Peeked {
+    /// It wasn't looked at, or there was none.
+    Unseen,
+    /// It has this user data.
+    Sees(u64),
+    /// It has none of the user data that the peek names.
+    SeesOther,
+}
+
+/// What is known of the ring while the lock is held.
+#[derive(Clone, Copy)]
+pub struct Inside {
+    /// How many entries are queued at most, the open slot among them; 0 to the entries of the submission ring.
+    pub queued: u32,
+    pub slot: Slot,
+    pub peeked: Peeked,
+}
+
+/// Whether the thread holds the lock.
+#[derive(Clone, Copy)]
+pub enum Mode {
+    Unlocked,
+    Locked(Inside),
+}
+
+/// The same kind of request, with the same shares of one buffer.
+pub fn same_kind(a: TokenKind, b: TokenKind) -> bool
+    ensures { result ≡ spec.same_kind a b }
+{
+    match (a, b) {
+        (TokenKind::Read(a), TokenKind::Read(b)) => a == b,
+        (TokenKind::Write(a, k), TokenKind::Write(b, l)) => a == b && k == l,
+        (TokenKind::Fsync, TokenKind::Fsync) => true,
+        (TokenKind::Nop, TokenKind::Nop) => true,
+        _ => false,
+    }
+}
+
+/// The same stage, with the same kind of request.
+pub fn same_slot(a: Slot, b: Slot) -> bool
+    ensures { result ≡ spec.same_slot a b }
+{
+    match (a, b) {
+        (Slot::Closed, Slot::Closed) => true,
+        (Slot::Vacant, Slot::Vacant) => true,
+        (Slot::Prepared(a), Slot::Prepared(b)) => same_kind(a, b),
+        _ => false,
+    }
+}
+
+pub fn is_prepared(slot: Slot) -> bool
+    ensures { result ≡ spec.is_prepared slot }
+{
+    match slot {
+        Slot::Prepared(_) => true,
+        Slot::Closed => false,
+        Slot::Vacant => false,
+    }
+}
+
+/// Whether the slot is prepared as a token's line says, where there is one.
+pub fn is_prepared_as(kind: Option<TokenKind>, slot: Slot) -> bool
+    ensures { result ≡ spec.is_prepared_as kind slot }
+{
+    match kind {
+        Some(kind) => same_slot(slot, Slot::Prepared(kind)),
+        None => false,
+    }
+}
+
+pub fn is_seen(peeked: Peeked) -> bool
+    ensures { result ≡ spec.is_seen peeked }
+{
+    match peeked {
+        Peeked::Unseen => false,
+        Peeked::Sees(_) => true,
+        Peeked::SeesOther => true,
+    }
+}

@@ -1,0 +1,6 @@
+mod Tokens
+mod Turns
+mod Alike
+mod Small
+mod Held
+mod Plain

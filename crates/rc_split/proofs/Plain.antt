@@ -1,0 +1,42 @@
+-- A program that declares nothing.
+use Rattle.std.proofs.Common.{◌≡◌, Bool, ℕ, ◌+◌, ◌^◌, ◌<◌, ◌≤◌, List, [], length, map, Option, Some, None, refl, sym, subst, arith, lit≤}
+use Rattle.std.specs.Prelude.{All, slice_get}
+use Rattle.std.specs.List.{IsDistinct}
+use Rattle.rc_lang.specs.Parts.{view_buffer, view_program, view_thread}
+use Rattle.rc_lang.specs.declared.program.Declarations.{Declarations}
+use Rattle.rc_lang.specs.declared.program.Thread.{Thread as ThreadPart}
+use Rattle.rc_lang.specs.Program.{IsProgram}
+
+none : {X : Type 0} (P : X → Type 0) → All P []
+none P k d lt = absurd (omega (arith, lt))
+
+distinct : {K : Type 0} (e : K → K → Bool) → IsDistinct e []
+unfolding IsDistinct
+distinct e = tt
+
+pub is_plain : IsProgram (record { entries = 1; completion_entries = 2; left = 0; files = []; buffers = []; tokens = []; threads = [] })
+is_plain = record {
+  entries = record { power = (0, refl); within = lit≤ tt };
+  completion_entries = record { power = (1, refl); within = lit≤ tt };
+  room = lit≤ tt;
+  left = lit≤ tt;
+  few_files = lit≤ tt;
+  files = none _;
+  distinct_files = distinct _;
+  few_buffers = lit≤ tt;
+  buffers = none _;
+  distinct_buffers = distinct _;
+  few_tokens = lit≤ tt;
+  tokens = none _;
+  distinct_tokens = distinct _;
+  few_threads = lit≤ tt;
+  distinct_names = distinct _;
+  each = λ i t e. absurd (cc);
+}
+
+pub made_plain : (d : Declarations) (ts : List ThreadPart) → d.files.items ≡ [] → d.buffers.items ≡ [] → d.tokens.items ≡ [] → ts ≡ [] → IsProgram (view_program (record { entries = 1; completion_entries = 2; left = 0 }) d ts)
+made_plain d ts e f g h =
+    subst (λ x. IsProgram (record { entries = 1; completion_entries = 2; left = 0; files = x; buffers = map view_buffer d.buffers.items; tokens = d.tokens.items; threads = map view_thread ts })) (sym e)
+    (subst (λ x. IsProgram (record { entries = 1; completion_entries = 2; left = 0; files = []; buffers = map view_buffer x; tokens = d.tokens.items; threads = map view_thread ts })) (sym f)
+    (subst (λ x. IsProgram (record { entries = 1; completion_entries = 2; left = 0; files = []; buffers = []; tokens = x; threads = map view_thread ts })) (sym g)
+    (subst (λ x. IsProgram (record { entries = 1; completion_entries = 2; left = 0; files = []; buffers = []; tokens = []; threads = map view_thread x })) (sym h) is_plain)))

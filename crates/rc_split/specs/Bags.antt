@@ -1,0 +1,62 @@
+-- Bags: how many of each part somebody holds.
+use Rattle.std.specs.Prelude.{ℕ, ◌≡◌, ◌+◌, ◌-◌, ◌≤◌, cond, min, nat_eq, sum_by, count_by, List, [], None}
+use Rattle.rc_lang.specs.declared.program.Share.{Share}
+use Rattle.rc_lang.specs.Program.{Items}
+
+-- what holdings are made of: shares of the buffer with a number, the token with a user data, credits for completions
+pub data Part : Type 0 where
+  ShareOf : (buffer : ℕ) → Part
+  TokenOf : (user_data : ℕ) → Part
+  Credit : Part
+
+abbrev pub Bag : Type 0
+Bag = Part → ℕ
+
+abbrev pub nothing : Part → ℕ
+nothing p = 0
+
+-- so many shares of a buffer, a token, so many credits
+abbrev pub shares_bag : ℕ → ℕ → Part → ℕ
+shares_bag b k (ShareOf c) = cond (nat_eq b c) k 0
+shares_bag b k (TokenOf u) = 0
+shares_bag b k Credit = 0
+
+abbrev pub token_bag : ℕ → Part → ℕ
+token_bag u (ShareOf c) = 0
+token_bag u (TokenOf v) = cond (nat_eq u v) 1 0
+token_bag u Credit = 0
+
+abbrev pub credits_bag : ℕ → Part → ℕ
+credits_bag n (ShareOf c) = 0
+credits_bag n (TokenOf u) = 0
+credits_bag n Credit = n
+
+-- what items say that is held
+abbrev pub bag_of : Items → Part → ℕ
+bag_of items (ShareOf b) = sum_by (λ (s : Share). cond (nat_eq s.buffer b) s.count 0) items.shares
+bag_of items (TokenOf u) = count_by (λ v. nat_eq v u) items.tokens
+bag_of items Credit = items.credits
+
+-- these shares alone, and these tokens alone
+abbrev pub shares_alone : List Share → Items
+shares_alone shares = record { shares = shares; tokens = []; credits = 0; queue = None }
+
+abbrev pub tokens_alone : List ℕ → Items
+tokens_alone tokens = record { shares = []; tokens = tokens; credits = 0; queue = None }
+
+-- part by part: the sum, what is left of the first without the second, and the least of both
+abbrev pub plus : (Part → ℕ) → (Part → ℕ) → Part → ℕ
+plus a b p = a p + b p
+
+abbrev pub minus : (Part → ℕ) → (Part → ℕ) → Part → ℕ
+minus a b p = a p - b p
+
+abbrev pub least : (Part → ℕ) → (Part → ℕ) → Part → ℕ
+least a b p = min (a p) (b p)
+
+-- The second bag covers the first.
+abbrev pub IsWithin : (Part → ℕ) → (Part → ℕ) → Type 0
+IsWithin a b = (p : Part) → a p ≤ b p
+
+abbrev pub IsSameBag : (Part → ℕ) → (Part → ℕ) → Type 0
+IsSameBag a b = (p : Part) → a p ≡ b p

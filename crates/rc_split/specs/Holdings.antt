@@ -1,0 +1,90 @@
+-- What a `Holding` stands for: the bag that is in its rows.
+use Rattle.std.specs.Prelude.{ℕ, ◌≡◌, ◌^◌, ◌<◌, Bool, true, false, cond, List, length, Option, Some, None, nat_eq, nat_le, slice_index, slice_index_or, All}
+use Rattle.rc_lang.specs.Program.{Program, IsProgram, DeclaresToken, token_place}
+use Rattle.rc_lang.specs.declared.program.Share.{Share}
+use Rattle.rc_split.specs.declared.part.Part.{Part as Given}
+use Rattle.rc_split.specs.declared.part.Part.TheVariants.{Shares, Token, Credits}
+use Rattle.rc_lang.specs.Program.{Items}
+use Rattle.rc_split.specs.Bags.{Part, ShareOf, TokenOf, Credit, shares_bag, token_bag, credits_bag, bag_of, minus, IsWithin}
+
+-- a program's shares by the numbers of its buffers, which of its tokens are held by their places, and the credits
+pub record Holding : Type 0 where
+  pub program : Program
+  pub shares : List ℕ
+  pub marks : List Bool
+  pub credits : ℕ
+
+-- 1 at the place of a token that is held
+abbrev pub mark_at : List Bool → Option ℕ → ℕ
+mark_at marks None = 0
+mark_at marks (Some place) = cond (slice_index_or marks place false) 1 0
+
+-- how many of each part are held
+abbrev pub bag : Holding → Part → ℕ
+bag h (ShareOf b) = slice_index h.shares b
+bag h (TokenOf u) = mark_at h.marks (token_place h.program.tokens u)
+bag h Credit = h.credits
+
+-- Every count is below 2^20, and the program was made.
+pub record IsSound (h : Holding) : Type 0 where
+  pub made : IsProgram h.program
+  pub shares : (b : ℕ) → slice_index h.shares b < 2 ^ 20
+  pub credits : h.credits < 2 ^ 20
+
+-- The holding is of this program, and its bag is this one.
+pub record Holds (h : Holding) (program : Program) (b : Part → ℕ) : Type 0 where
+  pub of : h.program ≡ program
+  pub each : (p : Part) → bag h p ≡ b p
+
+-- ---- parts that are given and taken
+
+abbrev pub given_bag : Given → Part → ℕ
+given_bag (Shares b k) p = shares_bag b k p
+given_bag (Token u) p = token_bag u p
+given_bag (Credits n) p = credits_bag n p
+
+-- whether a bag covers the part
+abbrev pub covers_part : (Part → ℕ) → Given → Bool
+covers_part b (Shares c k) = nat_le k (b (ShareOf c))
+covers_part b (Token u) = nat_le 1 (b (TokenOf u))
+covers_part b (Credits n) = nat_le n (b Credit)
+
+-- The part names only what the program declares.
+abbrev pub IsDeclared : Program → Given → Type 0
+IsDeclared program (Shares b k) = b < length program.buffers
+IsDeclared program (Token u) = DeclaresToken program u
+IsDeclared program (Credits n) = Unit {0}
+
+-- Items name only what the program declares.
+pub record AreDeclared (program : Program) (items : Items) : Type 0 where
+  pub buffers : All (λ (s : Share). s.buffer < length program.buffers) items.shares
+  pub tokens : All (DeclaresToken program) items.tokens
+
+-- A given token isn't held.
+abbrev pub IsFresh : (Part → ℕ) → Given → Type 0
+IsFresh b (Shares c k) = Unit {0}
+IsFresh b (Token u) = b (TokenOf u) ≡ 0
+IsFresh b (Credits n) = Unit {0}
+
+-- The part is taken where it is held, and else nothing changes.
+abbrev pub Takes : {X : Type 0} → Holding → Holding → Given → Option X → Type 0
+Takes old new part (Some x) = (covers_part (bag old) part ≡ true) × Holds new old.program (minus (bag old) (given_bag part))
+Takes old new part None = (covers_part (bag old) part ≡ false) × (new ≡ old)
+
+-- The token has a place among those of the program.
+abbrev pub IsPlaced : Program → ℕ → Type 0
+IsPlaced program u = (place : ℕ) × (token_place program.tokens u ≡ Some place)
+
+-- Whether the token is held is changed to this, and nothing else.
+abbrev pub marked : Bool → ℕ → (Part → ℕ) → Part → ℕ
+marked held u b (ShareOf c) = b (ShareOf c)
+marked held u b (TokenOf v) = cond (nat_eq u v) (cond held 1 0) (b (TokenOf v))
+marked held u b Credit = b Credit
+
+abbrev pub Marks : Holding → Holding → ℕ → Bool → Type 0
+Marks old new u held = Holds new old.program (marked held u (bag old))
+
+-- All the items are taken, or one isn't held.
+abbrev pub TakesAll : Holding → Holding → Items → Bool → Type 0
+TakesAll old new items true = IsWithin (bag_of items) (bag old) × Holds new old.program (minus (bag old) (bag_of items))
+TakesAll old new items false = IsWithin (bag_of items) (bag old) → ⊥

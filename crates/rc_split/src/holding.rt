@@ -1,0 +1,230 @@
+//! Holdings as rows.
+
+ghost use Rattle.std.specs.Prelude.{◌≡◌, ◌^◌, ◌<◌, ℕ, IsOkAnd, IsTrue, ◌↔◌, true, ◌≤◌, All, length};
+ghost use Rattle.rc_lang.specs.Parts.{view_items};
+ghost use Rattle.rc_lang.specs.declared.program.Share as rows;
+ghost use Rattle.rc_lang.specs.Program.{IsProgram, DeclaresToken};
+ghost use Rattle.rc_split.specs.Bags as bags;
+ghost use Rattle.rc_split.specs.Holdings as spec;
+
+use crate::part::Part;
+use crate::rows;
+use rc_lang::program::{Items, Program, Share};
+use std::alloc::{AllocError, Global};
+use std::marker::Model;
+
+/// What a thread holds at some point of a program.
+#[derive(Drop)]
+pub struct Holding<'a> {
+    program: &'a Program,
+    shares: [u32; 64],
+    marks: [bool; 256],
+    credits: u32,
+}
+
+impl<'a> Model for Holding<'a> {
+    ghost use Rattle.rc_split.specs.Holdings as spec;
+
+    ghost Value = { spec.Holding };
+
+    ghost view = { λ h. record { program = h.program.now; shares = h.shares; marks = h.marks; credits = h.credits } };
+
+    ghost invariant = { λ h. spec.IsSound (record { program = h.program.now; shares = h.shares; marks = h.marks; credits = h.credits }) };
+}
+
+impl<'a> Holding<'a> {
+    /// Nothing of the program's is held. This takes no memory and always answers Ok.
+    pub fn empty(_alloc: Global, program: &'a Program) -> Result<Holding<'a>, AllocError>
+        ensures { IsOkAnd result (λ h. spec.Holds h program.now bags.nothing) }
+    {
+        Ok(Holding::nothing(program))
+    }
+
+    fn nothing(program: &'a Program) -> Holding<'a>
+        ensures { spec.Holds result program.now bags.nothing }
+    {
+        // Any of a program's readers says that it was made, and so how many buffers and tokens it has at most.
+        let _ = program.entries();
+        Holding {
+            program,
+            shares: [0; 64],
+            marks: [false; 256],
+            credits: 0,
+        }
+    }
+
+    /// The same holding again. This takes no memory and always answers Ok.
+    pub fn copy(&self, _alloc: Global) -> Result<Holding<'a>, AllocError>
+        ensures { IsOkAnd result (λ h. h ≡ self.now) }
+    {
+        Ok(self.again())
+    }
+
+    /// The same holding again, as [`copy`](Holding::copy) makes it.
+    pub fn again(&self) -> Holding<'a>
+        ensures same { result ≡ self.now }
+        ensures small { (p : bags.Part) → spec.bag self.now p < 2 ^ 20 }
+    {
+        Holding {
+            program: self.program,
+            shares: self.shares,
+            marks: self.marks,
+            credits: self.credits,
+        }
+    }
+
+    /// The program whose parts are held.
+    pub fn program(&self) -> &'a Program
+        ensures value { result.now ≡ self.now.program }
+        ensures made { IsProgram self.now.program }
+    {
+        self.program
+    }
+
+    /// Whether the part is held: so many shares, the token, so many credits.
+    pub fn holds(&self, part: Part) -> bool
+        ensures { result ≡ spec.covers_part (spec.bag self.now) part }
+    {
+        match part {
+            Part::Shares(buffer, count) => count <= self.shares.get(buffer).copied().unwrap_or(0),
+            Part::Token(user_data) => self.holds_token(user_data),
+            Part::Credits(count) => count <= self.credits,
+        }
+    }
+
+    fn holds_token(&self, user_data: u64) -> bool
+        ensures { result ≡ spec.covers_part (spec.bag self.now) (Part.Token user_data) }
+    {
+        match self.program.token_place(user_data) {
+            Some(place) => self.marks.get(place).copied().unwrap_or(false),
+            None => false,
+        }
+    }
+
+    /// Whether all of the items are held, each as often as they name it. Counts are always below 2^20.
+    pub fn covers(&self, items: &Items) -> bool
+        ensures answer { IsTrue result ↔ bags.IsWithin (bags.bag_of (view_items items.now)) (spec.bag self.now) }
+        ensures small { (p : bags.Part) → spec.bag self.now p < 2 ^ 20 }
+    {
+        let mut rest = self.again();
+        if !rest.take_shares(&items.shares) {
+            return false;
+        }
+        if !rest.take_tokens(&items.tokens) {
+            return false;
+        }
+        rest.holds(Part::Credits(items.credits))
+    }
+
+    fn take_shares(&mut self, shares: &[Share]) -> bool
+        ensures { spec.TakesAll self.old self.new (bags.shares_alone shares.now) result }
+    {
+        for share in shares {
+            if self.take(Part::Shares(share.buffer, share.count)).is_none() {
+                return false;
+            }
+        }
+        true
+    }
+
+    fn take_tokens(&mut self, tokens: &[u64]) -> bool
+        ensures { spec.TakesAll self.old self.new (bags.tokens_alone tokens.now) result }
+    {
+        for user_data in tokens {
+            if self.take(Part::Token(*user_data)).is_none() {
+                return false;
+            }
+        }
+        true
+    }
+
+    /// Holds exactly the items from now on. They name only what the program declares, each token at most once, and no
+    /// count that comes to 2^20.
+    pub fn hold(&mut self, items: &Items)
+        requires names { spec.AreDeclared self.old.program (view_items items.now) }
+        requires once { (u : ℕ) → bags.bag_of (view_items items.now) (bags.TokenOf u) ≤ 1 }
+        requires small { (p : bags.Part) → bags.bag_of (view_items items.now) p < 2 ^ 20 }
+        ensures { spec.Holds self.new self.old.program (bags.bag_of (view_items items.now)) }
+    {
+        *self = Holding::nothing(self.program);
+        self.give_shares(&items.shares);
+        self.give_tokens(&items.tokens);
+        self.give(Part::Credits(items.credits));
+    }
+
+    fn give_shares(&mut self, shares: &[Share])
+        requires names { All (λ (s : rows.Share). s.buffer < length self.old.program.buffers) shares.now }
+        requires small { (p : bags.Part) → bags.plus (spec.bag self.old) (bags.bag_of (bags.shares_alone shares.now)) p < 2 ^ 20 }
+        ensures { spec.Holds self.new self.old.program (bags.plus (spec.bag self.old) (bags.bag_of (bags.shares_alone shares.now))) }
+    {
+        for share in shares {
+            self.give(Part::Shares(share.buffer, share.count));
+        }
+    }
+
+    fn give_tokens(&mut self, tokens: &[u64])
+        requires names { All (DeclaresToken self.old.program) tokens.now }
+        requires once { (u : ℕ) → bags.plus (spec.bag self.old) (bags.bag_of (bags.tokens_alone tokens.now)) (bags.TokenOf u) ≤ 1 }
+        requires small { (p : bags.Part) → bags.plus (spec.bag self.old) (bags.bag_of (bags.tokens_alone tokens.now)) p < 2 ^ 20 }
+        ensures { spec.Holds self.new self.old.program (bags.plus (spec.bag self.old) (bags.bag_of (bags.tokens_alone tokens.now))) }
+    {
+        for user_data in tokens {
+            self.give(Part::Token(*user_data));
+        }
+    }
+
+    /// Adds the part. It names only what the program declares, a token isn't held yet, and no count comes to 2^20.
+    pub fn give(&mut self, part: Part)
+        requires declared { spec.IsDeclared self.old.program part }
+        requires fresh { spec.IsFresh (spec.bag self.old) part }
+        requires small { (p : bags.Part) → bags.plus (spec.bag self.old) (spec.given_bag part) p < 2 ^ 20 }
+        ensures { spec.Holds self.new self.old.program (bags.plus (spec.bag self.old) (spec.given_bag part)) }
+    {
+        match part {
+            Part::Shares(buffer, count) => rows::raise(&mut self.shares, buffer, count),
+            Part::Token(user_data) => self.mark(user_data, true),
+            Part::Credits(count) => self.credits += count,
+        }
+    }
+
+    /// Takes the part away. None: it isn't held, and nothing changes.
+    pub fn take(&mut self, part: Part) -> Option<()>
+        ensures { spec.Takes self.old self.new part result }
+    {
+        if !self.holds(part) {
+            return None;
+        }
+        self.remove(part);
+        Some(())
+    }
+
+    fn remove(&mut self, part: Part)
+        requires { spec.covers_part (spec.bag self.old) part ≡ true }
+        ensures { spec.Holds self.new self.old.program (bags.minus (spec.bag self.old) (spec.given_bag part)) }
+    {
+        match part {
+            Part::Shares(buffer, count) => rows::lessen(&mut self.shares, buffer, count),
+            Part::Token(user_data) => self.mark(user_data, false),
+            Part::Credits(count) => self.credits -= count,
+        }
+    }
+
+    fn mark(&mut self, user_data: u64, held: bool)
+        requires { spec.IsPlaced self.old.program user_data }
+        ensures { spec.Marks self.old self.new user_data held }
+    {
+        if let Some(place) = self.program.token_place(user_data) {
+            rows::mark(&mut self.marks, place, held);
+        }
+    }
+
+    /// Leaves the least of both, part by part. Both are of one program.
+    pub fn meet(&mut self, other: &Holding)
+        requires { other.now.program ≡ self.old.program }
+        ensures { spec.Holds self.new self.old.program (bags.least (spec.bag self.old) (spec.bag other.now)) }
+    {
+        rows::least_counts(&mut self.shares, &other.shares);
+        rows::least_marks(&mut self.marks, &other.marks);
+        self.credits = self.credits.min(other.credits);
+    }
+}

@@ -1,0 +1,11 @@
+//! Holdings: which shares of buffers, tokens and credits a thread holds at some point.
+//!
+//! A holding stands for a bag: how many of each part there are. It is a fixed row of counts and marks, so nothing here
+//! takes memory.
+#![tactic(auto)]
+
+pub mod holding;
+pub mod part;
+mod rows;
+#[cfg(test)]
+mod tests;

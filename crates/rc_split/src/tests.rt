@@ -1,0 +1,61 @@
+//! A holding of credits, of a program that declares nothing.
+
+ghost use Rattle.std.specs.Prelude.{◌≡◌, ◌≤◌, [], None};
+ghost use Rattle.rc_lang.specs.Parts.{view_items};
+ghost use Rattle.rc_split.specs.Bags.{Credit};
+ghost use Rattle.rc_split.specs.Holdings as spec;
+
+use crate::holding::Holding;
+use crate::part::Part;
+use rc_lang::program::{Declarations, Head, Items, Program};
+use std::alloc::Global;
+use std::test::Fail;
+
+fn program(alloc: Global) -> Program {
+    let head = Head {
+        entries: 1,
+        completion_entries: 2,
+        left: 0,
+    };
+    let declarations = Declarations {
+        files: Vec::new(alloc),
+        buffers: Vec::new(alloc),
+        tokens: Vec::new(alloc),
+    };
+    Program::new(head, declarations, Vec::new(alloc))
+}
+
+fn credits(alloc: Global, credits: u32) -> Items
+    ensures { view_items result ≡ record { shares = []; tokens = []; credits = credits; queue = None } }
+{
+    Items {
+        shares: Vec::new(alloc),
+        tokens: Vec::new(alloc),
+        credits,
+        queue: None,
+    }
+}
+
+#[test]
+fn credits_are_counted(rt: HostRuntime) -> Result<(), Fail> {
+    let program = program(rt.alloc());
+    let mut held = Holding::empty(rt.alloc(), &program)?;
+    assert_eq!(rt; held.program().entries(), 1);
+    held.give(Part::Credits(3));
+    assert!(rt; held.holds(Part::Credits(3)));
+    assert!(rt; !held.holds(Part::Credits(4)));
+    assert!(rt; !held.holds(Part::Token(7)));
+    assert!(rt; !held.holds(Part::Shares(99, 1)));
+    let mut other = held.copy(rt.alloc())?;
+    assert!(rt; other.take(Part::Credits(1)).is_some());
+    assert!(rt; other.take(Part::Credits(3)).is_none());
+    assert!(rt; other.covers(&credits(rt.alloc(), 2)));
+    assert!(rt; !other.covers(&credits(rt.alloc(), 3)));
+    held.meet(&other);
+    assert!(rt; held.holds(Part::Credits(2)));
+    assert!(rt; !held.holds(Part::Credits(3)));
+    held.hold(&credits(rt.alloc(), 5));
+    assert!(rt; held.holds(Part::Credits(5)));
+    assert!(rt; !other.holds(Part::Credits(5)));
+    Ok(())
+}
