@@ -1,0 +1,390 @@
+-- A world of which those facts are true has no fault.
+use Rattle.std.proofs.Common.{◌≡◌, ℕ, ◌+◌, ◌<◌, ◌≤◌, Bool, true, false, ◌&&◌, ◌||◌, List, [], ◌∷◌, ◌++◌, length, drop, Option, Some, None, refl, sym, ap, ◌∙◌, subst, inl, inr, arith}
+use Rattle.std.proofs.lemmas.Bool.{and_from, and_parts, and_right, eq-eqb, eqb-true, false_from_ne_true, le-leb, lt-leb, not_from_true, not-true, or_cases, or_from}
+use Rattle.std.proofs.lemmas.List.{length-map}
+use Rattle.std.specs.List.{list_any}
+use Rattle.std.specs.Prelude.{nat_eq, nat_le, not, slice_get, ℤ, if◌then◌else◌}
+use Rattle.rc_lang.specs.declared.lines.Line.{Line}
+use Rattle.rc_lang.specs.declared.lines.Op.{Op}
+use Rattle.rc_lang.specs.declared.lines.Op.TheVariants.{Set, Assign, Add, Subtract, Load, Store, Fill, Print, GetSqe, PrepRead, PrepWrite, PrepFsync, PrepNop, SetData64, Submit, SubmitAndWait, CqeSeen}
+use Rattle.rc_lang.specs.declared.lines.Stmt.{Stmt}
+use Rattle.rc_lang.specs.declared.lines.Stmt.TheVariants.{Do, EndLock, If, Peek, Break}
+use Rattle.rc_lang.specs.declared.lines.Test.TheVariants.{Compare, ReadyZero, SpaceAtLeast}
+use Rattle.rc_lang.specs.declared.request.Request.{Request}
+use Rattle.rc_lang.specs.Program.{IsProgram, IsResolved, Program, Thread, bytes_at, lines_in, lines_of, shares_at, stmt_at, stmt_of}
+use Rattle.rc_rules.specs.declared.mode.Inside.{Inside}
+use Rattle.rc_rules.specs.declared.mode.Mode.{Mode}
+use Rattle.rc_rules.specs.declared.mode.Mode.TheVariants.{Unlocked, Locked}
+use Rattle.rc_rules.specs.declared.mode.Peeked.{Peeked}
+use Rattle.rc_rules.specs.declared.mode.Peeked.TheVariants.{Unseen, Sees, SeesOther}
+use Rattle.rc_rules.specs.declared.mode.Slot.TheVariants.{Closed, Vacant}
+use Rattle.rc_rules.specs.Rules.{limit, owned}
+use Rattle.rc_split.specs.Bags.{Part, ShareOf, TokenOf, Credit}
+use Rattle.rc_world.specs.declared.event.Completion.{Completion}
+use Rattle.rc_world.specs.declared.fault.FaultKind.{FaultKind}
+use Rattle.rc_world.specs.declared.fault.FaultKind.TheVariants.{WriteOfPending, ReadOfFilling, KernelClash, ThreadRace, RingFull, Overflow, AmbiguousData, UnknownReap, NoLock, RawEntry, OutOfBuffer}
+use Rattle.rc_world.specs.declared.world.Slot.TheVariants as entries
+use Rattle.rc_world.specs.Controls.{Standing, next_at, next_line}
+use Rattle.rc_world.specs.Faults.{Access, access_at, access_by, access_of, all_kinds, clashes, conflicts, count_of, fault_at, fault_of, faults_by, faults_from, faults_of, front_is_one, has_data, has_fault, in_kernel, is_closed, is_filling, is_full_at, is_holder, is_in_flight, is_named, is_ambiguous_at, is_out_at, is_prepared, is_raw_at, is_ring_call, is_ring_op, is_unknown_at, is_vacant, names, op_is_out, op_is_raw, overflows, races_from, reads_filling, reads_into, writes_pending}
+use Rattle.rc_world.specs.Machine.{Pending, World, is_read, slot_len, used_entries}
+use Rattle.rc_admit.proofs.Lists.{sum_to, sum_to_one, sum_to_two, sum_over, sum_over_one, Each-get, get_within}
+use Rattle.rc_admit.proofs.Moves.{fits_parts}
+use Rattle.rc_admit.proofs.Ops.{slot_closed, slot_vacant, slot_prepared, agree_head}
+use Rattle.rc_admit.proofs.Owned.{Stand, EdgeAt, HasEdge, owns, owns_pending, in_flight, SlotFits, StartsWith, IsNonempty, FrontFits, Fits, held, HasKind, HasKindPending, data_in, Owned, WellOwned, locked_of}
+use Rattle.rc_admit.proofs.Rule.{Claim, BreakRule, Rule, Reaps}
+use Rattle.rc_admit.proofs.Shares.{any_is, buffer_shared, credits_owned, data_owned, data_pending, fills_all, names_one, no_clash}
+use Rattle.rc_admit.proofs.Steps.{token_owned}
+
+-- ---- a world without a fault
+
+none_at : (w : World) (kind : FaultKind) (i : ℕ) (x : Option Line) → ((l : Line) → x ≡ Some l → has_fault w kind i l.stmt ≡ false) → fault_at w kind i x ≡ []
+none_at w kind i None h = refl
+none_at w kind i (Some l) h = rw (h l refl) refl
+
+none_from : (w : World) (kind : FaultKind) (ts : List Standing) (i : ℕ) → ((j : ℕ) (l : Line) → next_line w.program w.controls j ≡ Some l → has_fault w kind j l.stmt ≡ false) → faults_from w kind i ts ≡ []
+none_from w kind [] i h = refl
+none_from w kind (t ∷ ts) i h = ap (λ xs. xs ++ faults_from w kind (i + 1) ts) (none_at w kind i (next_line w.program w.controls i) (h i)) ∙ none_from w kind ts (i + 1) h
+
+none_of : (w : World) (kind : FaultKind) → in_kernel w kind ≡ false → ((j : ℕ) (l : Line) → next_line w.program w.controls j ≡ Some l → has_fault w kind j l.stmt ≡ false) → faults_of w kind ≡ []
+none_of w kind k h = rw k (none_from w kind w.controls.threads 0 h)
+
+none_by : (w : World) (kinds : List FaultKind) → ((kind : FaultKind) → faults_of w kind ≡ []) → faults_by w kinds ≡ []
+none_by w [] h = refl
+none_by w (kind ∷ kinds) h = ap (λ xs. xs ++ faults_by w kinds) (h kind) ∙ none_by w kinds h
+
+without_fault : (w : World) → ((kind : FaultKind) → in_kernel w kind ≡ false) → ((kind : FaultKind) (j : ℕ) (l : Line) → next_line w.program w.controls j ≡ Some l → has_fault w kind j l.stmt ≡ false) → fault_of w ≡ None
+without_fault w k h = ap (λ xs. slice_get xs 0) (none_by w all_kinds (λ kind. none_of w kind (k kind) (h kind)))
+
+-- ---- what the rules ask of an access
+
+some_is : {A : Type 0} (x y : A) → Some x ≡ Some y → x ≡ y
+some_is x y e = cc
+
+-- A statement that writes a buffer has all its shares.
+all_by : (P : Program) (b : Part → ℕ) (m : Mode) (K : Claim) (op : Op) → Rule P b m op K → (a : Access) → access_by op ≡ Some a → a.writes ≡ true → shares_at P.buffers a.buffer ≤ b (ShareOf a.buffer)
+all_by P b m K (Load x c j) h a e y = let z : false ≡ a.writes = ap (λ (x : Access). x.writes) (some_is (record { buffer = c; writes = false }) a e) in absurd (cc)
+all_by P b m K (Store c j x) h a e y = subst (λ (x : Access). shares_at P.buffers x.buffer ≤ b (ShareOf x.buffer)) (some_is (record { buffer = c; writes = true }) a e) h.0
+all_by P b m K (Fill c x) h a e y = subst (λ (x : Access). shares_at P.buffers x.buffer ≤ b (ShareOf x.buffer)) (some_is (record { buffer = c; writes = true }) a e) h.0
+all_by P b m K _ h a e y = absurd (cc)
+
+-- One that reads or writes it has a share.
+one_by : (P : Program) → IsProgram P → (b : Part → ℕ) (m : Mode) (K : Claim) (n k : ℕ) (op : Op) → Rule P b m op K → IsResolved P n k (Do op) → (a : Access) → access_by op ≡ Some a → 1 ≤ b (ShareOf a.buffer)
+one_by P made b m K n k (Load x c j) h r a e = subst (λ (x : Access). 1 ≤ b (ShareOf x.buffer)) (some_is (record { buffer = c; writes = false }) a e) h.0
+one_by P made b m K n k (Store c j x) h r a e =
+    let s : 1 ≤ shares_at P.buffers c = buffer_shared P made c r.0 in
+    subst (λ (x : Access). 1 ≤ b (ShareOf x.buffer)) (some_is (record { buffer = c; writes = true }) a e) (omega (arith, h.0))
+one_by P made b m K n k (Fill c x) h r a e =
+    let s : 1 ≤ shares_at P.buffers c = buffer_shared P made c r.0 in
+    subst (λ (x : Access). 1 ≤ b (ShareOf x.buffer)) (some_is (record { buffer = c; writes = true }) a e) (omega (arith, h.0))
+one_by P made b m K n k _ h r a e = absurd (cc)
+
+-- ---- where a thread stands
+
+pub record Next (w : World) (i : ℕ) (s : Stmt) : Type 0 where
+  pub thread : Standing
+  pub stands : slice_get w.controls.threads i ≡ Some thread
+  pub line : stmt_at (lines_of w.program i) thread.place ≡ Some s
+
+pub next_is : (w : World) (i : ℕ) (l : Line) → next_line w.program w.controls i ≡ Some l → Next w i l.stmt
+next_is w i l e = go (slice_get w.controls.threads i) refl e
+  where
+    go : (x : Option Standing) → slice_get w.controls.threads i ≡ x → next_at w.program i x ≡ Some l → Next w i l.stmt
+    go None f h = absurd (cc)
+    go (Some t) f h = record { thread = t; stands = f; line = ap stmt_of h }
+
+-- The names of its line are resolved.
+resolved_at : (P : Program) → IsProgram P → (i k : ℕ) (s : Stmt) → stmt_at (lines_of P i) k ≡ Some s → (n : ℕ) × (loops : ℕ) × IsResolved P n loops s
+resolved_at P made i k s e = go (slice_get P.threads i) refl e
+  where
+    go : (x : Option Thread) → slice_get P.threads i ≡ x → stmt_at (lines_in x) k ≡ Some s → (n : ℕ) × (loops : ℕ) × IsResolved P n loops s
+    go None f h = absurd (cc)
+    go (Some t) f h = (t.variables, length t.loops, (made.each i t f).resolved k s h)
+
+-- ---- the faults, each alone
+
+module _ (w : World) (made : IsProgram w.program) (S : Stand) (edge : HasEdge w.program S) (bags : ℕ → Part → ℕ) (modes : ℕ → Mode) (o : Owned w.program S w bags modes) where
+  abbrev P : Program
+  P = w.program
+
+  edge_at : (i : ℕ) (s : Stmt) (n : Next w i s) → EdgeAt P S i (bags i) (modes i) n.thread.variables n.thread.place (Some s)
+  edge_at i s n = subst (λ y. EdgeAt P S i (bags i) (modes i) n.thread.variables n.thread.place y) n.line (edge i (bags i) (modes i) n.thread.variables n.thread.place (o.stands i n.thread n.stands))
+
+  within : (i : ℕ) (s : Stmt) → Next w i s → i < length w.controls.threads
+  within i s n = get_within w.controls.threads i n.thread n.stands
+
+  -- one thread and the requests in flight
+  one_and_flight : (p : Part) (i : ℕ) → i < length w.controls.threads → bags i p + in_flight P w p ≤ limit P p
+  one_and_flight p i lt =
+      let f : ℕ → ℕ = λ j. held P (bags j) (modes j) p in
+      let a : f i ≤ sum_to f (length w.controls.threads) = sum_to_one f (length w.controls.threads) i lt in
+      let b : sum_to f (length w.controls.threads) + in_flight P w p ≤ limit P p = o.total p in
+      omega arith
+
+  flight_most : (p : Part) → in_flight P w p ≤ limit P p
+  flight_most p =
+      let f : ℕ → ℕ = λ j. held P (bags j) (modes j) p in
+      let b : sum_to f (length w.controls.threads) + in_flight P w p ≤ limit P p = o.total p in
+      omega arith
+
+  pending_most : (p : Part) (k : ℕ) (x : Pending) → slice_get w.pending k ≡ Some x → owned P x.request.user_data p ≤ in_flight P w p
+  pending_most p k x e = let a : owned P x.request.user_data p ≤ sum_over (owns_pending P p) w.pending = sum_over_one (owns_pending P p) k w.pending x e in omega arith
+
+  kind_at : (k : ℕ) (x : Pending) → slice_get w.pending k ≡ Some x → HasKind P x.request
+  kind_at k x e = Each-get (HasKindPending P) k w.pending x e o.pending
+
+  -- what the world has where a label is inside the lock
+  ring_at : (i : ℕ) (s : Inside) → modes i ≡ Locked s → (is_holder w.controls.holder i ≡ true) × (length w.queued + slot_len w.slot ≤ s.queued) × SlotFits w.slot s.slot × FrontFits w.controls.peeked w.completions s.peeked
+  ring_at i s e = fits_parts w (is_holder w.controls.holder i) s (subst (λ m. Fits w (is_holder w.controls.holder i) m) e (o.each i))
+
+  -- ---- buffers
+
+  all_shares : (i : ℕ) (s : Stmt) → Next w i s → (a : Access) → access_of s ≡ Some a → a.writes ≡ true → shares_at P.buffers a.buffer ≤ bags i (ShareOf a.buffer)
+  all_shares i s n = go s (edge_at i s n)
+    where
+      go : (s : Stmt) → EdgeAt P S i (bags i) (modes i) n.thread.variables n.thread.place (Some s) → (a : Access) → access_of s ≡ Some a → a.writes ≡ true → shares_at P.buffers a.buffer ≤ bags i (ShareOf a.buffer)
+      go (Do op) h a e y = all_by P (bags i) (modes i) _ op h a e y
+      go _ h a e y = absurd (cc)
+
+  one_share : (i : ℕ) (s : Stmt) → Next w i s → (a : Access) → access_of s ≡ Some a → 1 ≤ bags i (ShareOf a.buffer)
+  one_share i s n = let r = resolved_at P made i n.thread.place s n.line in go s (edge_at i s n) r.0 r.1 r.2
+    where
+      go : (s : Stmt) → EdgeAt P S i (bags i) (modes i) n.thread.variables n.thread.place (Some s) → (v k : ℕ) → IsResolved P v k s → (a : Access) → access_of s ≡ Some a → 1 ≤ bags i (ShareOf a.buffer)
+      go (Do op) h v k r a e = one_by P made (bags i) (modes i) _ v k op h r a e
+      go _ h v k r a e = absurd (cc)
+
+  no_write_of_pending : (i : ℕ) (s : Stmt) → Next w i s → (x : Option Access) → access_of s ≡ x → writes_pending w.pending x ≡ false
+  no_write_of_pending i s n None e = refl
+  no_write_of_pending i s n (Some a) e = false_from_ne_true (a.writes && is_named w.pending a.buffer) bad
+    where
+      bad : (a.writes && is_named w.pending a.buffer) ≡ true → ⊥
+      bad h =
+          let b : ℕ = a.buffer in
+          let t = and_parts a.writes (is_named w.pending b) h in
+          let x = any_is (λ (p : Pending). names b p.request) w.pending t.1 in
+          let mine : shares_at P.buffers b ≤ bags i (ShareOf b) = all_shares i s n a e t.0 in
+          let its : 1 ≤ owned P x.1.request.user_data (ShareOf b) = names_one P made x.1.request b (kind_at x.0 x.1 x.2) x.3 in
+          let le : owned P x.1.request.user_data (ShareOf b) ≤ in_flight P w (ShareOf b) = pending_most (ShareOf b) x.0 x.1 x.2 in
+          let all : bags i (ShareOf b) + in_flight P w (ShareOf b) ≤ shares_at P.buffers b = one_and_flight (ShareOf b) i (within i s n) in
+          omega arith
+
+  no_read_of_filling : (i : ℕ) (s : Stmt) → Next w i s → (x : Option Access) → access_of s ≡ x → reads_filling w.pending x ≡ false
+  no_read_of_filling i s n None e = refl
+  no_read_of_filling i s n (Some a) e = false_from_ne_true (not a.writes && is_filling w.pending a.buffer) bad
+    where
+      bad : (not a.writes && is_filling w.pending a.buffer) ≡ true → ⊥
+      bad h =
+          let b : ℕ = a.buffer in
+          let t = and_parts (not a.writes) (is_filling w.pending b) h in
+          let x = any_is (λ (p : Pending). reads_into b p.request) w.pending t.1 in
+          let r = and_parts (is_read x.1.request.kind) (nat_eq x.1.request.buffer b) x.3 in
+          let mine : 1 ≤ bags i (ShareOf b) = one_share i s n a e in
+          let its : shares_at P.buffers b ≤ owned P x.1.request.user_data (ShareOf b) = fills_all P x.1.request b (kind_at x.0 x.1 x.2) r.0 (eqb-true x.1.request.buffer b r.1) in
+          let le : owned P x.1.request.user_data (ShareOf b) ≤ in_flight P w (ShareOf b) = pending_most (ShareOf b) x.0 x.1 x.2 in
+          let all : bags i (ShareOf b) + in_flight P w (ShareOf b) ≤ shares_at P.buffers b = one_and_flight (ShareOf b) i (within i s n) in
+          omega arith
+
+  no_kernel_clash : clashes w.pending ≡ false
+  no_kernel_clash = no_clash P made w.pending o.pending (λ b. let h : in_flight P w (ShareOf b) ≤ shares_at P.buffers b = flight_most (ShareOf b) in omega arith)
+
+  -- two threads at one buffer, of which one writes it
+  two_at : (i j : ℕ) (s t : Stmt) → i < j → Next w i s → Next w j t → (a b : Access) → access_of s ≡ Some a → access_of t ≡ Some b → conflicts (Some a) (Some b) ≡ true → ⊥
+  two_at i j s t lt n m a b ea eb h =
+      let c : ℕ = a.buffer in
+      let x = and_parts (nat_eq a.buffer b.buffer) (a.writes || b.writes) h in
+      let q : b.buffer ≡ c = sym (eqb-true a.buffer b.buffer x.0) in
+      let f : ℕ → ℕ = λ k. held P (bags k) (modes k) (ShareOf c) in
+      let two : f i + f j ≤ sum_to f (length w.controls.threads) = sum_to_two f (length w.controls.threads) i j (λ e. omega arith) (within i s n) (within j t m) in
+      let all : sum_to f (length w.controls.threads) + in_flight P w (ShareOf c) ≤ shares_at P.buffers c = o.total (ShareOf c) in
+      let one_i : 1 ≤ bags i (ShareOf c) = one_share i s n a ea in
+      let one_j : 1 ≤ bags j (ShareOf c) = subst (λ k. 1 ≤ bags j (ShareOf k)) q (one_share j t m b eb) in
+      elim (or_cases a.writes b.writes x.1) [
+        | inl y ↦ let full : shares_at P.buffers c ≤ bags i (ShareOf c) = all_shares i s n a ea y in omega arith
+        | inr y ↦ let full : shares_at P.buffers c ≤ bags j (ShareOf c) = subst (λ k. shares_at P.buffers k ≤ bags j (ShareOf k)) q (all_shares j t m b eb y) in omega arith
+      ]
+
+  no_conflict : (i j : ℕ) (s : Stmt) → i < j → Next w i s → (x : Option Access) → access_of s ≡ x → (l : Option Line) → next_line w.program w.controls j ≡ l → conflicts x (access_at l) ≡ false
+  no_conflict i j s lt n None e l f = refl
+  no_conflict i j s lt n (Some a) e None f = refl
+  no_conflict i j s lt n (Some a) e (Some l) f = go (access_of l.stmt) refl
+    where
+      go : (y : Option Access) → access_of l.stmt ≡ y → conflicts (Some a) y ≡ false
+      go None g = refl
+      go (Some b) g = false_from_ne_true (conflicts (Some a) (Some b)) (λ h. two_at i j s l.stmt lt n (next_is w j l f) a b e g h)
+
+  no_races : (i : ℕ) (s : Stmt) → Next w i s → (ts : List Standing) (j : ℕ) → i < j → races_from w (access_of s) j ts ≡ false
+  no_races i s n [] j lt = refl
+  no_races i s n (t ∷ ts) j lt =
+      or_from (conflicts (access_of s) (access_at (next_line w.program w.controls j))) (races_from w (access_of s) (j + 1) ts)
+      (no_conflict i j s lt n (access_of s) refl (next_line w.program w.controls j) refl) (no_races i s n ts (j + 1) (omega arith))
+
+  -- ---- the ring
+
+  closed_at : (i : ℕ) (s : Inside) → modes i ≡ Locked s → s.slot ≡ Closed → w.slot ≡ entries.Closed
+  closed_at i s e f = slot_closed w.slot (subst (λ x. SlotFits w.slot x) f (ring_at i s e).2)
+
+  vacant_at : (i : ℕ) (s : Inside) → modes i ≡ Locked s → s.slot ≡ Vacant → w.slot ≡ entries.Vacant
+  vacant_at i s e f = slot_vacant w.slot (subst (λ x. SlotFits w.slot x) f (ring_at i s e).2)
+
+  is_not_raw : (i : ℕ) (K : Claim) (op : Op) → Rule P (bags i) (modes i) op K → op_is_raw w.slot op ≡ false
+  is_not_raw i K GetSqe h = let s = locked_of (modes i) _ h in ap (λ x. not (is_closed x)) (closed_at i s.0 s.1 s.2.2)
+  is_not_raw i K (PrepRead fd b len off) h = let s = locked_of (modes i) _ h in ap (λ x. not (is_vacant x)) (vacant_at i s.0 s.1 s.2.0)
+  is_not_raw i K (PrepWrite fd b len off k) h = let s = locked_of (modes i) _ h in ap (λ x. not (is_vacant x)) (vacant_at i s.0 s.1 s.2.0)
+  is_not_raw i K (PrepFsync fd datasync) h = let s = locked_of (modes i) _ h in ap (λ x. not (is_vacant x)) (vacant_at i s.0 s.1 s.2.0)
+  is_not_raw i K PrepNop h = let s = locked_of (modes i) _ h in ap (λ x. not (is_vacant x)) (vacant_at i s.0 s.1 s.2.0)
+  is_not_raw i K (SetData64 u) h =
+      let s = locked_of (modes i) _ h in
+      let f = slot_prepared w.slot s.2.0 (subst (λ x. SlotFits w.slot x) s.2.2 (ring_at i s.0 s.1).2) in
+      ap (λ x. not (is_prepared x)) f.1
+  is_not_raw i K (Submit x) h = let s = locked_of (modes i) _ h in ap (λ x. not (is_closed x)) (closed_at i s.0 s.1 s.2.0)
+  is_not_raw i K (SubmitAndWait x n) h = let s = locked_of (modes i) _ h in ap (λ x. not (is_closed x)) (closed_at i s.0 s.1 s.2.0)
+  is_not_raw i K _ h = refl
+
+  break_not_raw : (i : ℕ) (releases leaves : Bool) (K : Claim) (m : Mode) → modes i ≡ m → BreakRule P (bags i) m releases leaves K → (releases && not (is_closed w.slot)) ≡ false
+  break_not_raw i false l K m e h = refl
+  break_not_raw i true l K Unlocked e h = absurd h
+  break_not_raw i true l K (Locked s) e h = ap (λ x. not (is_closed x)) (closed_at i s e h.0)
+
+  no_raw_entry : (i : ℕ) (s : Stmt) (vars : List ℤ) (k : ℕ) → EdgeAt P S i (bags i) (modes i) vars k (Some s) → is_raw_at w.slot s ≡ false
+  no_raw_entry i (Do op) vars k h = is_not_raw i _ op h
+  no_raw_entry i (EndLock p) vars k h = let s = locked_of (modes i) _ h in ap (λ x. not (is_closed x)) (closed_at i s.0 s.1 s.2.0)
+  no_raw_entry i (Break p releases leaves) vars k h = break_not_raw i releases leaves _ (modes i) refl h
+  no_raw_entry i _ vars k h = refl
+
+  op_locked : (i : ℕ) (K : Claim) (op : Op) → Rule P (bags i) (modes i) op K → is_ring_op op ≡ true → is_holder w.controls.holder i ≡ true
+  op_locked i K (Set x n) h r = absurd (cc)
+  op_locked i K (Assign x y) h r = absurd (cc)
+  op_locked i K (Add x y z) h r = absurd (cc)
+  op_locked i K (Subtract x y z) h r = absurd (cc)
+  op_locked i K (Load x b j) h r = absurd (cc)
+  op_locked i K (Store b j x) h r = absurd (cc)
+  op_locked i K (Fill b x) h r = absurd (cc)
+  op_locked i K (Print x) h r = absurd (cc)
+  op_locked i K _ h r = let s = locked_of (modes i) _ h in (ring_at i s.0 s.1).0
+
+  call_locked : (i : ℕ) (s : Stmt) (vars : List ℤ) (k : ℕ) → EdgeAt P S i (bags i) (modes i) vars k (Some s) → is_ring_call s ≡ true → is_holder w.controls.holder i ≡ true
+  call_locked i (Do op) vars k h r = op_locked i _ op h r
+  call_locked i (Peek x) vars k h r = let s = locked_of (modes i) _ h in (ring_at i s.0 s.1).0
+  call_locked i (If ReadyZero) vars k h r = let s = locked_of (modes i) _ h.0 in (ring_at i s.0 s.1).0
+  call_locked i (If (SpaceAtLeast n)) vars k h r = let s = locked_of (modes i) _ h.0 in (ring_at i s.0 s.1).0
+  call_locked i (If (Compare x c n)) vars k h r = absurd (cc)
+  call_locked i _ vars k h r = absurd (cc)
+
+  no_lock_missing : (i : ℕ) (s : Stmt) (vars : List ℤ) (k : ℕ) → EdgeAt P S i (bags i) (modes i) vars k (Some s) → (is_ring_call s && not (is_holder w.controls.holder i)) ≡ false
+  no_lock_missing i s vars k h = false_from_ne_true (is_ring_call s && not (is_holder w.controls.holder i)) bad
+    where
+      bad : (is_ring_call s && not (is_holder w.controls.holder i)) ≡ true → ⊥
+      bad e =
+          let t = and_parts (is_ring_call s) (not (is_holder w.controls.holder i)) e in
+          let a : is_holder w.controls.holder i ≡ true = call_locked i s vars k h t.0 in
+          let b : is_holder w.controls.holder i ≡ false = not-true (is_holder w.controls.holder i) t.1 in
+          cc
+
+  no_ring_full : (i : ℕ) (s : Stmt) (vars : List ℤ) (k : ℕ) → EdgeAt P S i (bags i) (modes i) vars k (Some s) → is_full_at w s ≡ false
+  no_ring_full i (Do GetSqe) vars k h =
+      let s = locked_of (modes i) _ h in
+      let x : length w.queued + slot_len w.slot ≤ s.0.queued = (ring_at i s.0 s.1).1 in
+      let y : s.0.queued < P.entries = s.2.1 in
+      lt-leb P.entries (used_entries w) (omega arith)
+  no_ring_full i (Do _) vars k h = refl
+  no_ring_full i _ vars k h = refl
+
+  no_overflow : (ps : List Pending) → w.pending ≡ ps → overflows w ps ≡ false
+  no_overflow [] e = refl
+  no_overflow (p ∷ ps) e =
+      let x : sum_over (owns_pending P Credit) w.pending ≡ owned P p.request.user_data Credit + sum_over (owns_pending P Credit) ps = ap (sum_over (owns_pending P Credit)) e in
+      let y : length w.completed ≤ sum_over (owns P Credit) w.completed = credits_owned P w.completed in
+      let z : length w.completions ≡ length w.completed = sym (length-map w.completions (λ (c : Completion). c.user_data)) ∙ (ap length (sym o.agree) ∙ length-map w.completed (λ (r : Request). r.user_data)) in
+      let t : in_flight P w Credit ≤ P.completion_entries = flight_most Credit in
+      lt-leb P.completion_entries (length w.completions) (omega arith)
+
+  -- ---- user data
+
+  no_data_twice : (i : ℕ) (u : ℕ) → i < length w.controls.threads → 1 ≤ bags i (TokenOf u) → is_in_flight w u ≡ false
+  no_data_twice i u lt h =
+      let all : bags i (TokenOf u) + in_flight P w (TokenOf u) ≤ 1 = one_and_flight (TokenOf u) i lt in
+      or_from _ _
+      (or_from _ _
+      (false_from_ne_true (list_any (has_data u) w.queued) (λ e. let x : 1 ≤ sum_over (owns P (TokenOf u)) w.queued = data_owned P u w.queued e in omega arith))
+      (false_from_ne_true (list_any (λ (p : Pending). has_data u p.request) w.pending) (λ e. let x : 1 ≤ sum_over (owns_pending P (TokenOf u)) w.pending = data_pending P u w.pending e in omega arith)))
+      (false_from_ne_true (list_any (has_data u) w.completed) (λ e. let x : 1 ≤ sum_over (owns P (TokenOf u)) w.completed = data_owned P u w.completed e in omega arith))
+
+  no_ambiguous_data : (i : ℕ) (s : Stmt) (vars : List ℤ) (k : ℕ) → i < length w.controls.threads → EdgeAt P S i (bags i) (modes i) vars k (Some s) → is_ambiguous_at w s ≡ false
+  no_ambiguous_data i (Do (SetData64 u)) vars k lt h =
+      let s = locked_of (modes i) _ h in
+      and_right (is_prepared w.slot) (is_in_flight w u) (no_data_twice i u lt s.2.3)
+  no_ambiguous_data i (Do _) vars k lt h = refl
+  no_ambiguous_data i _ vars k lt h = refl
+
+  count_most : (u : ℕ) (rs : List Request) → count_of u rs ≤ sum_over (owns P (TokenOf u)) rs
+  count_most u [] = omega arith
+  count_most u (r ∷ rs) = let h : count_of u rs ≤ sum_over (owns P (TokenOf u)) rs = count_most u rs in omega arith
+
+  -- A completion at the front is that of one request.
+  front_one : (cs : List Completion) → w.completions ≡ cs → IsNonempty cs → front_is_one w cs ≡ true
+  front_one [] e n = absurd n
+  front_one (d ∷ ds) e n =
+      let u : ℕ = d.user_data in
+      let p : Part = TokenOf u in
+      let a = agree_head w.completed d ds (o.agree ∙ ap data_in e) in
+      let fl : sum_over (owns P p) w.completed ≡ owned P a.0.user_data p + sum_over (owns P p) a.1 = ap (sum_over (owns P p)) a.2 in
+      let one : 1 ≤ owned P a.0.user_data p = subst (λ u. 1 ≤ owned P u p) (sym a.3) (token_owned P u) in
+      let tot : in_flight P w p ≤ 1 = flight_most p in
+      let few : count_of u a.1 ≤ sum_over (owns P p) a.1 = count_most u a.1 in
+      let first : count_of u (a.0 ∷ a.1) ≡ 1 + count_of u a.1 = ap (λ (t : Bool). (if t then 1 else 0) + count_of u a.1) (eq-eqb a.0.user_data u a.3) in
+      let all : count_of u w.completed ≡ count_of u (a.0 ∷ a.1) = ap (count_of u) a.2 in
+      eq-eqb (count_of u w.completed) 1 (omega arith)
+
+  front_fits : (s : Inside) (x : Peeked) (K : Claim) (i : ℕ) → Reaps P (bags i) s x K → FrontFits w.controls.peeked w.completions x → (w.controls.peeked ≡ true) × IsNonempty w.completions
+  front_fits s Unseen K i h f = absurd h
+  front_fits s (Sees u) K i h f = (f.0, some w.completions f.1)
+    where
+      some : (cs : List Completion) → StartsWith u cs → IsNonempty cs
+      some [] h = h
+      some (c ∷ cs) h = tt
+  front_fits s SeesOther K i h f = f
+
+  no_unknown_reap : (i : ℕ) (s : Stmt) (vars : List ℤ) (k : ℕ) → EdgeAt P S i (bags i) (modes i) vars k (Some s) → is_unknown_at w s ≡ false
+  no_unknown_reap i (Do CqeSeen) vars k h =
+      let s = locked_of (modes i) _ h in
+      let f = front_fits s.0 s.0.peeked _ i s.2 (ring_at i s.0 s.1).3 in
+      not_from_true (w.controls.peeked && front_is_one w w.completions) (and_from w.controls.peeked (front_is_one w w.completions) f.0 (front_one w.completions refl f.1))
+  no_unknown_reap i (Do _) vars k h = refl
+  no_unknown_reap i _ vars k h = refl
+
+  op_within : (i : ℕ) (K : Claim) (op : Op) → Rule P (bags i) (modes i) op K → op_is_out P op ≡ false
+  op_within i K (Load x b j) h = lt-leb (bytes_at P.buffers b) j h.1
+  op_within i K (Store b j x) h = lt-leb (bytes_at P.buffers b) j h.1
+  op_within i K (PrepRead fd b len off) h = let s = locked_of (modes i) _ h in not_from_true (nat_le len (bytes_at P.buffers b)) (le-leb len (bytes_at P.buffers b) s.2.2)
+  op_within i K (PrepWrite fd b len off k) h = let s = locked_of (modes i) _ h in not_from_true (nat_le len (bytes_at P.buffers b)) (le-leb len (bytes_at P.buffers b) s.2.2)
+  op_within i K _ h = refl
+
+  no_out_of_buffer : (i : ℕ) (s : Stmt) (vars : List ℤ) (k : ℕ) → EdgeAt P S i (bags i) (modes i) vars k (Some s) → is_out_at P s ≡ false
+  no_out_of_buffer i (Do op) vars k h = op_within i _ op h
+  no_out_of_buffer i _ vars k h = refl
+
+  -- ---- all of them
+
+  none_in_kernel : (kind : FaultKind) → in_kernel w kind ≡ false
+  none_in_kernel KernelClash = no_kernel_clash
+  none_in_kernel Overflow = no_overflow w.pending refl
+  none_in_kernel _ = refl
+
+  none_here : (kind : FaultKind) (i : ℕ) (s : Stmt) → Next w i s → has_fault w kind i s ≡ false
+  none_here WriteOfPending i s n = no_write_of_pending i s n (access_of s) refl
+  none_here ReadOfFilling i s n = no_read_of_filling i s n (access_of s) refl
+  none_here KernelClash i s n = refl
+  none_here ThreadRace i s n = no_races i s n (drop (i + 1) w.controls.threads) (i + 1) (omega arith)
+  none_here RingFull i s n = and_right (is_holder w.controls.holder i) (is_full_at w s) (no_ring_full i s _ _ (edge_at i s n))
+  none_here Overflow i s n = refl
+  none_here AmbiguousData i s n = and_right (is_holder w.controls.holder i) (is_ambiguous_at w s) (no_ambiguous_data i s _ _ (within i s n) (edge_at i s n))
+  none_here UnknownReap i s n = and_right (is_holder w.controls.holder i) (is_unknown_at w s) (no_unknown_reap i s _ _ (edge_at i s n))
+  none_here NoLock i s n = no_lock_missing i s _ _ (edge_at i s n)
+  none_here RawEntry i s n = and_right (is_holder w.controls.holder i) (is_raw_at w.slot s) (no_raw_entry i s _ _ (edge_at i s n))
+  none_here OutOfBuffer i s n = no_out_of_buffer i s _ _ (edge_at i s n)
+
+  pub own_no_fault : fault_of w ≡ None
+  own_no_fault = without_fault w none_in_kernel (λ kind j l e. none_here kind j l.stmt (next_is w j l e))
+
+-- A world that is well owned has no fault.
+pub no_fault : (P : Program) → IsProgram P → (S : Stand) → HasEdge P S → (w : World) → WellOwned P S w → fault_of w ≡ None
+no_fault P made S edge w h = let back : P ≡ w.program = sym h.2.of in own_no_fault w (subst IsProgram back made) S (subst (λ Q. HasEdge Q S) back edge) h.0 h.1 (subst (λ Q. Owned Q S w h.0 h.1) back h.2)

@@ -1,0 +1,349 @@
+-- A labelling that obeys the rules gives the edge law: a claim of how each thread of an accepted program may stand.
+use Rattle.std.proofs.Common.{◌≡◌, ℕ, ◌+◌, ◌<◌, ◌≤◌, Bool, true, false, ◌||◌, cond, List, [], ◌∷◌, ◌++◌, take, Option, Some, refl, sym, ap, ◌∙◌, subst, ◌⊎◌, inl, inr, arith}
+use Rattle.std.specs.Prelude.{nat_lt, slice_get, slice_set, ℤ}
+use Rattle.std.proofs.lemmas.Bool.{ltb-true}
+use Rattle.std.proofs.lemmas.List.{get_or-take}
+use Rattle.rc_lang.specs.declared.lines.Block.{Block}
+use Rattle.rc_lang.specs.declared.lines.Block.TheVariants.{InLock, InIf, InElse, InPeek, InArm, InLoop}
+use Rattle.rc_lang.specs.declared.lines.Line.{Line}
+use Rattle.rc_lang.specs.declared.lines.Op.{Op}
+use Rattle.rc_lang.specs.declared.lines.Stmt.{Stmt}
+use Rattle.rc_lang.specs.declared.lines.Stmt.TheVariants.{Do, Lock, EndLock, If, Else, EndIf, Peek, Case, Other, Nothing, EndArm, EndPeek, Loop, EndLoop, Break}
+use Rattle.rc_lang.specs.declared.lines.Test.{Test}
+use Rattle.rc_lang.specs.Nesting.{blocks_at, in_lock, in_peek}
+use Rattle.rc_lang.specs.Program.{HasArms, IsProgram, Items, Program, end_at, ends_in, items_at, lines_of, stmt_at}
+use Rattle.rc_lang.proofs.Along.{same_lock}
+use Rattle.rc_lang.proofs.Closing.{closes_arm, closes_if, closes_lock, closes_loop, leaves_loop, turns}
+use Rattle.rc_lang.proofs.Fitting.{peek_found, placed_at}
+use Rattle.rc_lang.proofs.Jumps.{IsLaid, arm_leads, back_leads, break_leads, case_lands, else_leads, false_leads, nothing_lands, other_lands}
+use Rattle.rc_lang.proofs.Lookups.{blocks_next, in_lock_more, in_lock_pushed, line_with, nested_here}
+use Rattle.rc_lang.proofs.Rests.{laid_in}
+use Rattle.rc_lang.proofs.Spans.{case_between, nothing_between, other_between}
+use Rattle.rc_rules.specs.declared.mode.Mode.{Mode}
+use Rattle.rc_rules.specs.declared.mode.Mode.TheVariants.{Unlocked, Locked}
+use Rattle.rc_rules.specs.declared.mode.Peeked.{Peeked}
+use Rattle.rc_rules.specs.declared.mode.Peeked.TheVariants.{Unseen, Sees, SeesOther}
+use Rattle.rc_rules.specs.declared.mode.Slot.TheVariants.{Closed}
+use Rattle.rc_rules.specs.Labels.{Label, Dead, Live, Weaker}
+use Rattle.rc_rules.specs.Labellings.{IsGood, IsGoodAt, here, label_at}
+use Rattle.rc_rules.specs.Premises.{Meets, Premise}
+use Rattle.rc_rules.specs.Rules.{asks, bag_on, broken, case_at, goes, may_break, may_loop, may_release, op_effect, op_premises, peek_at, peek_premises, test_mode, test_premises, top_mode, with_peeked}
+use Rattle.rc_split.specs.Bags.{Part, TokenOf}
+use Rattle.rc_world.specs.Controls.{arm_for, none_arm}
+use Rattle.rc_admit.proofs.FlatLooks.{arm_in, arm_is, break_in, get_take, len_take, none_is_at}
+use Rattle.rc_admit.proofs.FlatRules.{IsBelow, arm_of, below, break_of, close_of, covered, front_locked, front_weaker, is_locked, locked_same, peek_locked, rule_of, test_of, top_same, unlocked_of, weaker_trans}
+use Rattle.rc_admit.proofs.Lists.{Each, Each-append}
+use Rattle.rc_admit.proofs.Owned.{EdgeAt, HasEdge, Leads, MayPass, Stand}
+use Rattle.rc_admit.proofs.Rule.{Claim}
+
+-- ---- how a thread stands
+
+-- A label that is live, in a lock exactly where its place is.
+pub record Entered (lines : List Line) (labels : List Label) (o : ℕ) : Type 0 where
+  pub bag : Part → ℕ
+  pub mode : Mode
+  pub label : label_at labels o ≡ Live bag mode
+  pub locked : is_locked mode ≡ in_lock (blocks_at lines o)
+
+-- A loop and a peek were entered with a live label.
+abbrev pub Enters : List Line → List Label → Block → Type 0
+Enters lines labels (InLock o) = Unit {0}
+Enters lines labels (InIf o) = Unit {0}
+Enters lines labels (InElse o) = Unit {0}
+Enters lines labels (InPeek o) = Entered lines labels o
+Enters lines labels (InArm o) = Unit {0}
+Enters lines labels (InLoop o k) = Entered lines labels o
+
+-- A thread stands at a place with its label, which is live, in blocks that were entered so.
+pub record At (lines : List Line) (labels : List Label) (b : Part → ℕ) (m : Mode) (k : ℕ) : Type 0 where
+  pub label : label_at labels k ≡ Live b m
+  pub locked : is_locked m ≡ in_lock (blocks_at lines k)
+  pub openers : Each (Enters lines labels) (blocks_at lines k)
+
+-- with the labels of some labelling that obeys the rules
+abbrev pub Labelled : Program → Stand
+Labelled P i b m vars k = (loops : List Items) × (start : Label) × (labels : List Label) × IsGood P loops start (lines_of P i) labels × At (lines_of P i) labels b m k
+
+-- ---- lists
+
+Each-left : {A : Type 0} (P : A → Type 0) (xs ys : List A) → Each P (xs ++ ys) → Each P xs
+Each-left P [] ys h = tt
+Each-left P (x ∷ xs) ys h = (h.0, Each-left P xs ys h.1)
+
+Each-right : {A : Type 0} (P : A → Type 0) (xs ys : List A) → Each P (xs ++ ys) → Each P ys
+Each-right P [] ys h = h
+Each-right P (x ∷ xs) ys h = Each-right P xs ys h.1
+
+or_nothing : (a : Bool) → (a || false) ≡ a
+or_nothing true = refl
+or_nothing false = refl
+
+or_true : (a : Bool) → (a || true) ≡ true
+or_true true = refl
+or_true false = refl
+
+or_first : (a b : Bool) → a ≡ true → (a || b) ≡ true
+or_first true b e = refl
+or_first false b e = absurd (cc)
+
+-- ---- the edges
+
+module _ (P : Program) (wf : IsProgram P) (i : ℕ) (loops : List Items) (start : Label) (labels : List Label) (good : IsGood P loops start (lines_of P i) labels) where
+  abbrev lines : List Line
+  lines = lines_of P i
+
+  abbrev ends : List ℕ
+  ends = ends_in (slice_get P.threads i)
+
+  laid : IsLaid lines ends
+  laid = laid_in P wf i
+
+  good_at : (j : ℕ) (s : Stmt) → stmt_at lines j ≡ Some s → IsGoodAt P loops lines labels j s
+  good_at j s e = let l = line_with lines j s e in subst (λ x. IsGoodAt P loops lines labels j x) l.2 (good.each j l.0 l.1)
+
+  -- the label of a place before a line, as the rule of that line sees it
+  known_is : (k j : ℕ) → k ≤ j → label_at (take (j + 1) labels) k ≡ label_at labels k
+  known_is k j le = get_or-take (j + 1) labels k Dead (omega arith)
+
+  here_is : (k : ℕ) (s : Stmt) → stmt_at lines k ≡ Some s → here (take k lines) (take (k + 1) labels) ≡ label_at labels k
+  here_is k s e = let l = line_with lines k s e in ap (λ n. label_at (take (k + 1) labels) n) (len_take k lines l.0 l.1) ∙ known_is k k (omega arith)
+
+  -- to a place where these blocks are open
+  lead : (b : Part → ℕ) (m : Mode) (new : List ℤ) (k : ℕ) (bs : List Block) → blocks_at lines k ≡ bs → is_locked m ≡ in_lock bs → Each (Enters lines labels) bs → Weaker (label_at labels k) (Live b m) → Leads (Labelled P) i b m new k
+  lead b m new k bs n l os w =
+      let s = below (label_at labels k) b m w in
+      record {
+        bag = s.bag;
+        mode = s.mode;
+        less = s.less;
+        weaker = s.weaker;
+        stands = (
+          loops,
+          start,
+          labels,
+          good,
+          record {
+            label = s.is;
+            locked = locked_same s.mode m s.weaker ∙ l ∙ ap in_lock (sym n);
+            openers = subst (λ x. Each (Enters lines labels) x) (sym n) os;
+          },
+        );
+      }
+
+  module _ (b : Part → ℕ) (m : Mode) (vars : List ℤ) (k : ℕ) (a : At lines labels b m k) where
+    entered : Entered lines labels k
+    entered = record { bag = b; mode = m; label = a.label; locked = a.locked }
+
+    abbrev Reach : ℕ → Claim
+    Reach j c n = Leads (Labelled P) i c n vars j
+
+    -- to a place that stands in the same blocks
+    same : (c : Part → ℕ) (n : Mode) (new : List ℤ) (j : ℕ) → blocks_at lines j ≡ blocks_at lines k → is_locked n ≡ is_locked m → Weaker (label_at labels j) (Live c n) → Leads (Labelled P) i c n new j
+    same c n new j e l w = lead c n new j (blocks_at lines k) e (l ∙ a.locked) a.openers w
+
+    -- into blocks that are opened here, none of them a lock
+    into : (c : Part → ℕ) (n : Mode) (new : List ℤ) (j : ℕ) (bs : List Block) → blocks_at lines j ≡ blocks_at lines k ++ bs → in_lock bs ≡ false → Each (Enters lines labels) bs → is_locked n ≡ is_locked m → Weaker (label_at labels j) (Live c n) → Leads (Labelled P) i c n new j
+    into c n new j bs e f os l w =
+        let s : in_lock (blocks_at lines k ++ bs) ≡ in_lock (blocks_at lines k) = in_lock_more (blocks_at lines k) bs ∙ ap (λ x. in_lock (blocks_at lines k) || x) f ∙ or_nothing (in_lock (blocks_at lines k)) in
+        lead c n new j (blocks_at lines k ++ bs) e (l ∙ a.locked ∙ sym s) (Each-append (Enters lines labels) (blocks_at lines k) bs a.openers os) w
+
+    -- out of blocks
+    out : (c : Part → ℕ) (n : Mode) (new : List ℤ) (j : ℕ) (bs cs : List Block) → blocks_at lines k ≡ bs ++ cs → blocks_at lines j ≡ bs → is_locked n ≡ in_lock bs → Weaker (label_at labels j) (Live c n) → Leads (Labelled P) i c n new j
+    out c n new j bs cs d e l w = lead c n new j bs e l (Each-left (Enters lines labels) bs cs (subst (λ x. Each (Enters lines labels) x) d a.openers)) w
+
+    -- of which none is a lock
+    out_same : (c : Part → ℕ) (n : Mode) (new : List ℤ) (j : ℕ) (bs cs : List Block) → blocks_at lines k ≡ bs ++ cs → blocks_at lines j ≡ bs → in_lock cs ≡ false → is_locked n ≡ is_locked m → Weaker (label_at labels j) (Live c n) → Leads (Labelled P) i c n new j
+    out_same c n new j bs cs d e f l w =
+        let s : in_lock (blocks_at lines k) ≡ in_lock bs = ap in_lock d ∙ in_lock_more bs cs ∙ ap (λ x. in_lock bs || x) f ∙ or_nothing (in_lock bs) in
+        out c n new j bs cs d e (l ∙ a.locked ∙ s) w
+
+    -- the opener of a block that is open here was entered
+    opener : (outer : List Block) (o : Block) (inner : List Block) → blocks_at lines k ≡ outer ++ o ∷ inner → Enters lines labels o
+    opener outer o inner e = (Each-right (Enters lines labels) outer (o ∷ inner) (subst (λ x. Each (Enters lines labels) x) e a.openers)).0
+
+    here_at : (s : Stmt) → stmt_at lines k ≡ Some s → here (take k lines) (take (k + 1) labels) ≡ Live b m
+    here_at s e = here_is k s e ∙ a.label
+
+    known_at : (j : ℕ) → k ≤ j → label_at (take (j + 1) labels) k ≡ Live b m
+    known_at j le = known_is k j le ∙ a.label
+
+    -- what the rule of the line asks of the state here
+    asked : (s : Stmt) (F : (Part → ℕ) → Mode → List (ℕ × Premise)) → stmt_at lines k ≡ Some s → Meets (asks (here (take k lines) (take (k + 1) labels)) F) → Meets (F b m)
+    asked s F e h = subst (λ t. Meets (asks t F)) (here_at s e) h
+
+    -- what the label behind the line is weaker than
+    comes : (s : Stmt) (F : (Part → ℕ) → Mode → Label) (t : Label) → stmt_at lines k ≡ Some s → Weaker t (goes (here (take k lines) (take (k + 1) labels)) F) → Weaker t (F b m)
+    comes s F t e w = subst (λ x. Weaker t (goes x F)) (here_at s e) w
+
+    do_edge : (op : Op) → stmt_at lines k ≡ Some (Do op) → EdgeAt P (Labelled P) i b m vars k (Some (Do op))
+    do_edge op e =
+        let g = good_at k (Do op) e in
+        let w = comes (Do op) (λ bag m. op_effect P bag m op) (label_at labels (k + 1)) e g.after.0 in
+        rule_of P b m op _ (label_at labels (k + 1)) (asked (Do op) (λ bag m. op_premises P bag m op) e g.meets) w (λ c n l w new may. same c n new (k + 1) (blocks_next lines k (Do op) e) l w)
+
+    lock_edge : stmt_at lines k ≡ Some Lock → EdgeAt P (Labelled P) i b m vars k (Some Lock)
+    lock_edge e =
+        let inside : Mode = Locked (record { queued = P.left; slot = Closed; peeked = Unseen }) in
+        let l : true ≡ in_lock (blocks_at lines k ++ InLock k ∷ []) = sym (in_lock_pushed (blocks_at lines k) (InLock k) ∙ or_true (in_lock (blocks_at lines k))) in (
+          unlocked_of m (a.locked ∙ (nested_here lines laid.each k Lock e).0),
+          lead b inside vars (k + 1) (blocks_at lines k ++ InLock k ∷ []) (blocks_next lines k Lock e) l (Each-append (Enters lines labels) (blocks_at lines k) (InLock k ∷ []) a.openers (tt, tt)) (comes Lock (λ bag m. Live bag inside) (label_at labels (k + 1)) e (good_at k Lock e).after.0),
+        )
+
+    unlock_edge : (o : ℕ) → stmt_at lines k ≡ Some (EndLock o) → EdgeAt P (Labelled P) i b m vars k (Some (EndLock o))
+    unlock_edge o e =
+        let g = good_at k (EndLock o) e in
+        let c = closes_lock lines laid.each k o e in
+        let l : in_lock (blocks_at lines k) ≡ true = ap in_lock c.within ∙ in_lock_pushed (blocks_at lines o) (InLock o) ∙ or_true (in_lock (blocks_at lines o)) in
+        let f : in_lock (blocks_at lines o) ≡ false = (nested_here lines laid.each o Lock c.stands).0 in
+        close_of P b m (Reach (k + 1)) (a.locked ∙ l) (asked (EndLock o) (λ bag m. may_release P m) e g.meets) (out b Unlocked vars (k + 1) (blocks_at lines o) (InLock o ∷ []) c.within c.behind (sym f) (comes (EndLock o) (λ bag m. Live bag Unlocked) (label_at labels (k + 1)) e g.after.0))
+
+    -- a false if
+    false_edge : (test : Test) → stmt_at lines k ≡ Some (If test) → Leads (Labelled P) i b m vars (end_at P i k + 1)
+    false_edge test e = elim (false_leads lines ends laid k test e) [
+      | inl h ↦
+          let lt : k < end_at P i k + 1 = h.lands.ahead in
+          into b m vars (end_at P i k + 1) (InElse (end_at P i k) ∷ []) h.lands.blocks refl (tt, tt) refl (subst (λ x. Weaker (label_at labels (end_at P i k + 1)) x) (known_at (end_at P i k) (omega arith)) (good_at (end_at P i k) (Else k) h.stands).after.0)
+      | inr h ↦
+          let lt : k < end_at P i k + 1 = h.lands.ahead in
+          same b m vars (end_at P i k + 1) h.lands.blocks refl (subst (λ x. Weaker (label_at labels (end_at P i k + 1)) x) (known_at (end_at P i k) (omega arith)) (good_at (end_at P i k) (EndIf k) h.stands).after.1.0)
+    ]
+
+    if_edge : (test : Test) → stmt_at lines k ≡ Some (If test) → EdgeAt P (Labelled P) i b m vars k (Some (If test))
+    if_edge test e =
+        let g = good_at k (If test) e in
+        let w = comes (If test) (λ bag n. Live bag (test_mode P test n)) (label_at labels (k + 1)) e g.after.0 in (
+          test_of P m test (λ n. MayPass test vars true → Leads (Labelled P) i b n vars (k + 1)) (asked (If test) (λ bag n. test_premises n test) e g.meets) (λ l may. into b (test_mode P test m) vars (k + 1) (InIf k ∷ []) (blocks_next lines k (If test) e) refl (tt, tt) l w),
+          λ may. false_edge test e,
+        )
+
+    -- an else that is reached from above
+    else_edge : (o : ℕ) → stmt_at lines k ≡ Some (Else o) → EdgeAt P (Labelled P) i b m vars k (Some (Else o))
+    else_edge o e =
+        let h = else_leads lines ends laid k o e in
+        let lt : k < end_at P i k + 1 = h.lands.ahead in
+        out_same b m vars (end_at P i k + 1) (blocks_at lines o) (InIf o ∷ []) (turns lines laid.each k o e).within h.lands.blocks refl refl (subst (λ x. Weaker (label_at labels (end_at P i k + 1)) x) (known_at (end_at P i k) (omega arith)) (good_at (end_at P i k) (EndIf k) h.stands).after.1.0)
+
+    end_if_edge : (o : ℕ) → stmt_at lines k ≡ Some (EndIf o) → EdgeAt P (Labelled P) i b m vars k (Some (EndIf o))
+    end_if_edge o e =
+        let w : Weaker (label_at labels (k + 1)) (Live b m) = subst (λ x. Weaker (label_at labels (k + 1)) x) (here_at (EndIf o) e) (good_at k (EndIf o) e).after.0 in
+        elim (closes_if lines laid.each k o e) [
+          | inl c ↦ out_same b m vars (k + 1) (blocks_at lines o) (InIf o ∷ []) c.1.within c.1.behind refl refl w
+          | inr c ↦ out_same b m vars (k + 1) (blocks_at lines c.opener) (InElse o ∷ []) c.within c.behind refl refl w
+        ]
+
+    -- into an arm of the peek that stands here
+    peek_edge : (x : ℕ) → stmt_at lines k ≡ Some (Peek x) → EdgeAt P (Labelled P) i b m vars k (Some (Peek x))
+    peek_edge x e = go m (asked (Peek x) (λ bag n. peek_premises n) e g.meets) to_arm to_none
+      where
+        g : IsGoodAt P loops lines labels k (Peek x)
+        g = good_at k (Peek x) e
+
+        arms : HasArms lines ends k
+        arms = laid.linked k (Peek x) e
+
+        s : IsBelow (label_at labels (k + 1)) b m
+        s = below (label_at labels (k + 1)) b m (subst (λ t. Weaker (label_at labels (k + 1)) t) (here_at (Peek x) e) g.after.0)
+
+        behind_is : (c : ℕ) → k < c → label_at (take (c + 1) labels) (k + 1) ≡ Live s.bag s.mode
+        behind_is c lt = known_is (k + 1) c (omega arith) ∙ s.is
+
+        -- what leads into an arm is no stronger than what stands here
+        lands : (c : ℕ) (f : Peeked) (new : List ℤ) → blocks_at lines (c + 1) ≡ blocks_at lines k ++ InPeek k ∷ InArm k ∷ [] → Weaker (label_at labels (c + 1)) (Live s.bag (with_peeked f s.mode)) → Leads (Labelled P) i b (with_peeked f m) new (c + 1)
+        lands c f new n w =
+            into b (with_peeked f m) new (c + 1) (InPeek k ∷ InArm k ∷ []) n refl (entered, (tt, tt)) (front_locked f m) (weaker_trans (label_at labels (c + 1)) (Live s.bag (with_peeked f s.mode)) (Live b (with_peeked f m)) w (s.less, front_weaker f s.mode m s.weaker))
+
+        to_case : (u : ℕ) (new : List ℤ) (c : ℕ) → stmt_at lines c ≡ Some (Case k u) → (1 ≤ b (TokenOf u)) ⊎ Leads (Labelled P) i b (with_peeked (Sees u) m) new (c + 1)
+        to_case u new c d =
+            let w : Weaker (label_at labels (c + 1)) (cond (nat_lt 0 (s.bag (TokenOf u))) Dead (Live s.bag (with_peeked (Sees u) s.mode))) = subst (λ t. Weaker (label_at labels (c + 1)) (case_at u t)) (behind_is c (case_between lines ends laid k c u d).0) (good_at c (Case k u) d).after.0 in
+            held (nat_lt 0 (s.bag (TokenOf u))) refl w
+          where
+            held : (z : Bool) → nat_lt 0 (s.bag (TokenOf u)) ≡ z → Weaker (label_at labels (c + 1)) (cond z Dead (Live s.bag (with_peeked (Sees u) s.mode))) → (1 ≤ b (TokenOf u)) ⊎ Leads (Labelled P) i b (with_peeked (Sees u) m) new (c + 1)
+            held true h w = let lt : 0 < s.bag (TokenOf u) = ltb-true 0 (s.bag (TokenOf u)) h in inl (omega (arith, s.less (TokenOf u)))
+            held false h w = inr (lands c (Sees u) new (case_lands lines ends laid k c u d).blocks w)
+
+        to_other : (new : List ℤ) (c : ℕ) → stmt_at lines c ≡ Some (Other k) → Leads (Labelled P) i b (with_peeked SeesOther m) new (c + 1)
+        to_other new c d = lands c SeesOther new (other_lands lines ends laid k c d).blocks (subst (λ t. Weaker (label_at labels (c + 1)) (peek_at SeesOther t)) (behind_is c (other_between lines ends laid k c d).0) (good_at c (Other k) d).after.0)
+
+        to_none : (new : List ℤ) → Leads (Labelled P) i b (with_peeked Unseen m) new (none_arm P i k + 1)
+        to_none new =
+            let d = none_is_at P i k arms.none.place (record { stands = arms.none.stands; behind = arms.none.behind; before = (nothing_between lines ends laid k arms.none.place arms.none.stands).1 }) in
+            lands (none_arm P i k) Unseen new (nothing_lands lines ends laid k (none_arm P i k) d).blocks (subst (λ t. Weaker (label_at labels (none_arm P i k + 1)) (peek_at Unseen t)) (behind_is (none_arm P i k) (nothing_between lines ends laid k (none_arm P i k) d).0) (good_at (none_arm P i k) (Nothing k) d).after.0)
+
+        to_arm : (u : ℕ) (new : List ℤ) → (1 ≤ b (TokenOf u)) ⊎ (Leads (Labelled P) i b (with_peeked (Sees u) m) new (arm_for P i k u + 1) ⊎ Leads (Labelled P) i b (with_peeked SeesOther m) new (arm_for P i k u + 1))
+        to_arm u new = elim (arm_is P i k u arms.other.place (record { stands = arms.other.stands; behind = arms.other.behind; before = (other_between lines ends laid k arms.other.place arms.other.stands).1 })) [
+          | inl d ↦ elim (to_case u new (arm_for P i k u) d) [ inl h ↦ inl h | inr h ↦ inr (inl h) ]
+          | inr d ↦ inr (inr (to_other new (arm_for P i k u) d))
+        ]
+
+        go : (n : Mode) → Meets (peek_premises n) → ((u : ℕ) (new : List ℤ) → (1 ≤ b (TokenOf u)) ⊎ (Leads (Labelled P) i b (with_peeked (Sees u) n) new (arm_for P i k u + 1) ⊎ Leads (Labelled P) i b (with_peeked SeesOther n) new (arm_for P i k u + 1))) → ((new : List ℤ) → Leads (Labelled P) i b (with_peeked Unseen n) new (none_arm P i k + 1)) → EdgeAt P (Labelled P) i b n vars k (Some (Peek x))
+        go Unlocked h one none = absurd (let f : false ≡ true = h.0 in cc)
+        go (Locked t) h one none = (λ u v. one u (slice_set vars x v), λ v. none (slice_set vars x v))
+
+    -- a peek that was entered was entered in a lock
+    peek_inside : (o x : ℕ) → stmt_at lines o ≡ Some (Peek x) → Entered lines labels o → in_lock (blocks_at lines o) ≡ true
+    peek_inside o x e h = sym h.locked ∙ peek_locked h.mode (subst (λ s. Meets (asks s (λ bag n. peek_premises n))) (here_is o (Peek x) e ∙ h.label) (good_at o (Peek x) e).meets)
+
+    arm_edge : (o : ℕ) → stmt_at lines k ≡ Some (EndArm o) → EdgeAt P (Labelled P) i b m vars k (Some (EndArm o))
+    arm_edge o e =
+        let c = closes_arm lines laid.each k o e in
+        let h = arm_leads lines ends laid k o e in
+        let lt : k < end_at P i o = laid.linked k (EndArm o) e in
+        let l = line_with lines k (EndArm o) e in
+        let inside : in_lock (blocks_at lines o) ≡ true = peek_inside o c.variable c.stands (opener (blocks_at lines o) (InPeek o) (InArm o ∷ []) c.within) in
+        let here_inside : in_lock (blocks_at lines k) ≡ true = ap in_lock c.within ∙ in_lock_more (blocks_at lines o) (InPeek o ∷ InArm o ∷ []) ∙ or_first (in_lock (blocks_at lines o)) false inside in
+        let w = arm_in (take (end_at P i o) lines) (take (end_at P i o + 1) labels) (label_at labels (end_at P i o + 1)) k o l.0 (get_take (end_at P i o) k lines l.0 lt l.1) l.2 (good_at (end_at P i o) (EndPeek o) h.stands).after in
+        arm_of b m (Reach (end_at P i o + 1)) (label_at labels (end_at P i o + 1)) (a.locked ∙ here_inside) (subst (λ s. Weaker (label_at labels (end_at P i o + 1)) (peek_at Unseen s)) (known_at (end_at P i o) (omega arith)) w) (λ n s v. out_same b n vars (end_at P i o + 1) (blocks_at lines o) (InPeek o ∷ InArm o ∷ []) c.within h.lands.blocks refl s v)
+
+    loop_edge : (n : ℕ) → stmt_at lines k ≡ Some (Loop n) → EdgeAt P (Labelled P) i b m vars k (Some (Loop n))
+    loop_edge n e =
+        let g = good_at k (Loop n) e in
+        let items = items_at loops n in
+        let w = comes (Loop n) (λ bag o. Live (bag_on items) (top_mode P items o)) (label_at labels (k + 1)) e g.after.0 in
+        into b m vars (k + 1) (InLoop k n ∷ []) (blocks_next lines k (Loop n) e) refl (entered, tt) refl (weaker_trans (label_at labels (k + 1)) (Live (bag_on items) (top_mode P items m)) (Live b m) w (covered P 13 items b m (asked (Loop n) (λ bag o. may_loop P 13 items bag o) e g.meets)))
+
+    -- back to the line behind the top of a loop: its opener was entered, so the label there is of exactly the items
+    again_edge : (o n : ℕ) → stmt_at lines k ≡ Some (EndLoop o n) → EdgeAt P (Labelled P) i b m vars k (Some (EndLoop o n))
+    again_edge o n e =
+        let c = closes_loop lines laid.each k o n e in
+        let h : Entered lines labels o = opener (blocks_at lines o) (InLoop o n) [] c.within in
+        let items = items_at loops n in
+        let w = subst (λ s. Weaker (label_at labels (o + 1)) (goes s (λ bag l. Live (bag_on items) (top_mode P items l)))) (here_is o (Loop n) c.stands ∙ h.label) (good_at o (Loop n) c.stands).after.0 in
+        let s : is_locked h.mode ≡ is_locked m = h.locked ∙ sym (a.locked ∙ ap in_lock c.within ∙ same_lock (blocks_at lines o) (InLoop o n) refl) in
+        let v = subst (λ l. Weaker (label_at labels (o + 1)) (Live (bag_on items) l)) (top_same P items h.mode m s) w in
+        same b m vars (o + 1) (back_leads lines ends laid k o n e).1 refl (weaker_trans (label_at labels (o + 1)) (Live (bag_on items) (top_mode P items m)) (Live b m) v (covered P 14 items b m (asked (EndLoop o n) (λ bag l. may_loop P 14 items bag l) e (good_at k (EndLoop o n) e).meets)))
+
+    break_edge : (o : ℕ) (releases leaves : Bool) → stmt_at lines k ≡ Some (Break o releases leaves) → EdgeAt P (Labelled P) i b m vars k (Some (Break o releases leaves))
+    break_edge o releases leaves e =
+        let c = leaves_loop lines laid.each k o releases leaves e in
+        let h = break_leads lines ends laid k o releases leaves e in
+        let lt : k < end_at P i o = laid.linked k (Break o releases leaves) e in
+        let l = line_with lines k (Break o releases leaves) e in
+        let w = break_in (take (end_at P i o) lines) (take (end_at P i o + 1) labels) (label_at labels (end_at P i o + 1)) k o releases leaves l.0 (get_take (end_at P i o) k lines l.0 lt l.1) l.2 (good_at (end_at P i o) (EndLoop o h.0) h.1.stands).after in
+        break_of P b m releases leaves (Reach (end_at P i o + 1)) (label_at labels (end_at P i o + 1)) (λ r. a.locked ∙ c.locked r) (λ r. a.locked ∙ in_peek_locked (c.peeked ∙ r)) (asked (Break o releases leaves) (λ bag n. may_break P releases n) e (good_at k (Break o releases leaves) e).meets)
+        (subst (λ s. Weaker (label_at labels (end_at P i o + 1)) (broken releases s)) (known_at (end_at P i o) (omega arith)) w)
+        (λ n s v. out b n vars (end_at P i o + 1) (blocks_at lines o) (InLoop o c.number ∷ c.inner) c.within h.1.lands.blocks (s ∙ ap (λ x. cond releases false x) a.locked ∙ sym c.lock_outside) v)
+      where
+        in_peek_locked : in_peek (blocks_at lines k) ≡ true → in_lock (blocks_at lines k) ≡ true
+        in_peek_locked t =
+            let f = peek_found (blocks_at lines k) t in
+            let p = placed_at lines laid.each k f.0 (InPeek f.1) f.2 f.3 in
+            let inside : in_lock f.0 ≡ true = ap in_lock (sym p.1.blocks) ∙ peek_inside f.1 p.0 p.1.stands (opener f.0 (InPeek f.1) f.2 f.3) in
+            ap in_lock f.3 ∙ in_lock_more f.0 (InPeek f.1 ∷ f.2) ∙ or_first (in_lock f.0) (in_lock f.2) inside
+
+    pub edge_at : (x : Option Stmt) → stmt_at lines k ≡ x → EdgeAt P (Labelled P) i b m vars k x
+    edge_at (Some (Do op)) e = do_edge op e
+    edge_at (Some Lock) e = lock_edge e
+    edge_at (Some (EndLock o)) e = unlock_edge o e
+    edge_at (Some (If test)) e = if_edge test e
+    edge_at (Some (Else o)) e = else_edge o e
+    edge_at (Some (EndIf o)) e = end_if_edge o e
+    edge_at (Some (Peek x)) e = peek_edge x e
+    edge_at (Some (EndArm o)) e = arm_edge o e
+    edge_at (Some (Loop n)) e = loop_edge n e
+    edge_at (Some (EndLoop o n)) e = again_edge o n e
+    edge_at (Some (Break o releases leaves)) e = break_edge o releases leaves e
+    edge_at _ e = tt
+
+-- The labels of a labelling that obeys the rules have the edge law.
+pub labelled_edge : (P : Program) → IsProgram P → HasEdge P (Labelled P)
+labelled_edge P wf i b m vars k h = edge_at P wf i h.0 h.1 h.2 h.3 b m vars k h.4 (stmt_at (lines_of P i) k) refl

@@ -1,0 +1,17 @@
+pub mod Rule
+pub mod Lists
+pub mod Owned
+pub mod Moves
+pub mod Ops
+pub mod Steps
+pub mod Kernel
+pub mod Start
+pub mod Shares
+pub mod Excludes
+pub mod FlatRules
+pub mod FlatLooks
+pub mod Flat
+pub mod FlatStart
+pub mod Safe
+pub mod Worlds
+pub mod Flights

@@ -1,0 +1,381 @@
+-- Statements without a block keep what is true of each world.
+use Rattle.std.proofs.Common.{◌≡◌, ℕ, ◌+◌, ◌-◌, ◌≤◌, ◌<◌, Bool, true, false, cond, List, [], ◌∷◌, ◌++◌, length, take, drop, map, Option, Some, None, refl, sym, ap, ◌∙◌, subst, inl, inr, arith, length-append, length-drop}
+use Rattle.std.proofs.lemmas.List.{append-nil, append_assoc}
+use Rattle.std.specs.Prelude.{slice_get, slice_set, nat_eq, nat_lt, ℤ, if◌then◌else◌}
+use Rattle.rc_lang.specs.declared.lines.Op.{Op}
+use Rattle.rc_lang.specs.declared.lines.Op.TheVariants.{Set, Assign, Add, Subtract, Load, Store, Fill, Print, GetSqe, PrepRead, PrepWrite, PrepFsync, PrepNop, SetData64, Submit, SubmitAndWait, CqeSeen}
+use Rattle.rc_lang.specs.declared.program.TokenKind.{TokenKind}
+use Rattle.rc_lang.specs.declared.program.TokenKind.TheVariants as tokens
+use Rattle.rc_lang.specs.declared.request.Request.{Request}
+use Rattle.rc_lang.specs.Program.{Program, shares_at}
+use Rattle.rc_rules.specs.declared.mode.Inside.{Inside}
+use Rattle.rc_rules.specs.declared.mode.Mode.{Mode}
+use Rattle.rc_rules.specs.declared.mode.Mode.TheVariants.{Locked}
+use Rattle.rc_rules.specs.declared.mode.Peeked.{Peeked}
+use Rattle.rc_rules.specs.declared.mode.Peeked.TheVariants.{Unseen, Sees, SeesOther}
+use Rattle.rc_rules.specs.declared.mode.Slot.{Slot}
+use Rattle.rc_rules.specs.declared.mode.Slot.TheVariants.{Closed, Vacant, Prepared}
+use Rattle.rc_rules.specs.Rules.{kind_bag, kind_of, line_bag, owned}
+use Rattle.rc_split.specs.Bags.{Part, ShareOf, TokenOf, Credit, shares_bag, token_bag, credits_bag, minus, plus}
+use Rattle.rc_world.specs.declared.controls.Answer.{Answer}
+use Rattle.rc_world.specs.declared.controls.Answer.TheVariants.{Plain, Number, Byte, Front}
+use Rattle.rc_world.specs.declared.event.Action.{Action}
+use Rattle.rc_world.specs.declared.event.Completion.{Completion}
+use Rattle.rc_world.specs.declared.world.Slot.{Slot as Entry}
+use Rattle.rc_world.specs.declared.world.Slot.TheVariants as entries
+use Rattle.rc_world.specs.Controls.{Controls, Move, Standing, does, goes_on, loads, low_byte, moved, reaps, variable}
+use Rattle.rc_world.specs.Faults.{is_holder}
+use Rattle.rc_world.specs.Machine.{Pending, World, all_begin, begins, bytes_of, byte_of, count_in, fills, fits, front_of, hands_over, is_take, op_answer, op_in_rings, opens_entry, prepares, queues, reaps_front, slot_len, stores, submits_by, taken_bytes, with_bytes, without_data}
+use Rattle.rc_admit.proofs.Lists.{sum_over, sum_over-append, sum_over-cut, sum_over-map, nat_eq_cases, Each, Each-append, Each-take, Each-drop, Each-map}
+use Rattle.rc_admit.proofs.Moves.{Moved, moves, put, rung_moved, fits_parts}
+use Rattle.rc_admit.proofs.Owned.{Stand, Leads, MayBecome, HasEdge, slot_bag, owns, owns_pending, FitsKind, SlotFits, StartsWith, IsNonempty, FrontFits, Fits, HasKind, HasKindPending, data_of, data_in, Owned, WellOwned, locked_of}
+use Rattle.rc_admit.proofs.Rule.{Rule, Reaps}
+
+pub credit_covered : (b : Part → ℕ) → 1 ≤ b Credit → (p : Part) → credits_bag 1 p ≤ b p
+credit_covered b h (ShareOf c) = omega arith
+credit_covered b h (TokenOf u) = omega arith
+credit_covered b h Credit = h
+
+pub token_covered : (b : Part → ℕ) (u : ℕ) → 1 ≤ b (TokenOf u) → (p : Part) → token_bag u p ≤ b p
+token_covered b u h (ShareOf c) = omega arith
+token_covered b u h (TokenOf v) = elim (nat_eq_cases u v) [
+  | inl e ↦ let x : b (TokenOf u) ≡ b (TokenOf v) = ap (λ k. b (TokenOf k)) e.0 in let y : token_bag u (TokenOf v) ≡ 1 = ap (λ t. cond t 1 0) e.1 in omega arith
+  | inr e ↦ let y : token_bag u (TokenOf v) ≡ 0 = ap (λ t. cond t 1 0) e.1 in omega arith
+]
+token_covered b u h Credit = omega arith
+
+pub shares_covered : (b : Part → ℕ) (c k : ℕ) → k ≤ b (ShareOf c) → (p : Part) → shares_bag c k p ≤ b p
+shares_covered b c k h (ShareOf d) = elim (nat_eq_cases c d) [
+  | inl e ↦ let x : b (ShareOf c) ≡ b (ShareOf d) = ap (λ n. b (ShareOf n)) e.0 in let y : shares_bag c k (ShareOf d) ≡ k = ap (λ t. cond t k 0) e.1 in omega arith
+  | inr e ↦ let y : shares_bag c k (ShareOf d) ≡ 0 = ap (λ t. cond t k 0) e.1 in omega arith
+]
+shares_covered b c k h (TokenOf u) = omega arith
+shares_covered b c k h Credit = omega arith
+
+pub slot_closed : (s : Entry) → SlotFits s Closed → s ≡ entries.Closed
+slot_closed entries.Closed h = refl
+slot_closed entries.Vacant h = absurd h
+slot_closed (entries.Prepared r) h = absurd h
+
+pub slot_vacant : (s : Entry) → SlotFits s Vacant → s ≡ entries.Vacant
+slot_vacant entries.Closed h = absurd h
+slot_vacant entries.Vacant h = refl
+slot_vacant (entries.Prepared r) h = absurd h
+
+pub slot_prepared : (s : Entry) (kind : TokenKind) → SlotFits s (Prepared kind) → (r : Request) × (s ≡ entries.Prepared r) × FitsKind r kind
+slot_prepared entries.Closed kind h = absurd h
+slot_prepared entries.Vacant kind h = absurd h
+slot_prepared (entries.Prepared r) kind h = (r, refl, h)
+
+-- Requests that begin become pending, and nothing else changes but buffers.
+pub record Begun (w : World) (rs : List Request) : Type 0 where
+  pub pending : List Pending
+  pub buffers : List (Option (List ℕ))
+  pub are : map (λ (x : Pending). x.request) pending ≡ rs
+  pub is : all_begin w rs ≡ record w { pending = w.pending ++ pending; buffers = buffers }
+
+pub begun : (w : World) (rs : List Request) → Begun w rs
+begun w [] = record { pending = []; buffers = w.buffers; are = refl; is = ap (λ (ps : List Pending). record w { pending = ps }) (sym (append-nil w.pending)) }
+begun w (r ∷ rs) =
+    let x : Pending = record { request = r; bytes = taken_bytes w.buffers r } in
+    let n = begun (begins w r) rs in
+    record {
+      pending = x ∷ n.pending;
+      buffers = n.buffers;
+      are = ap (λ qs. r ∷ qs) n.are;
+      is = n.is ∙ ap (λ (ps : List Pending). record w { pending = ps; buffers = n.buffers }) (append_assoc w.pending (x ∷ []) n.pending);
+    }
+
+-- ---- what changes
+
+-- nothing but buffers
+pub quiet : (P : Program) (S : Stand) (w : World) (bs : List (Option (List ℕ))) (bags : ℕ → Part → ℕ) (modes : ℕ → Mode) (i : ℕ) → Owned P S w bags modes → Moved P w (record w { buffers = bs }) bags modes i (bags i) (modes i)
+quiet P S w bs bags modes i o = record {
+  of = o.of;
+  room = o.room;
+  same = refl;
+  local = λ p. omega arith;
+  free = o.free;
+  mine = o.each i;
+  others = λ k ne. o.each k;
+  queued = o.queued;
+  pending = o.pending;
+  completed = o.completed;
+  agree = o.agree;
+}
+
+abbrev pub with_slot : World → Entry → World
+with_slot w x = record w { slot = x }
+
+module _ (P : Program) (S : Stand) (w : World) (bags : ℕ → Part → ℕ) (modes : ℕ → Mode) (i : ℕ) (o : Owned P S w bags modes) (s : Inside) (e : modes i ≡ Locked s) where
+  -- what the world has, from the label
+  pub has : (length w.queued + slot_len w.slot ≤ s.queued) × SlotFits w.slot s.slot × FrontFits w.controls.peeked w.completions s.peeked
+  has = let f = fits_parts w (is_holder w.controls.holder i) s (subst (λ m. Fits w (is_holder w.controls.holder i) m) e (o.each i)) in (f.1, f.2, f.3)
+
+  -- only the slot changes
+  slots : (x : Entry) (b : Part → ℕ) (q : ℕ) (y : Slot) → ((p : Part) → b p + slot_bag P y p ≤ bags i p + slot_bag P s.slot p) → length w.queued + slot_len x ≤ q → length w.queued + slot_len x ≤ P.entries → SlotFits x y → Moved P w (with_slot w x) bags modes i b (Locked (record { queued = q; slot = y; peeked = s.peeked }))
+  slots x b q y local bound room fit = rung_moved P S w (with_slot w x) bags modes i b s (record { queued = q; slot = y; peeked = s.peeked }) o e (record {
+    of = o.of;
+    room = room;
+    same = refl;
+    lock = refl;
+    local = λ p. let h : b p + slot_bag P y p ≤ bags i p + slot_bag P s.slot p = local p in omega arith;
+    bound = bound;
+    slot = fit;
+    front = has.2;
+    queued = o.queued;
+    pending = o.pending;
+    completed = o.completed;
+    agree = o.agree;
+  })
+
+  pub get_sqe : 1 ≤ bags i Credit → s.queued < P.entries → s.slot ≡ Closed → Moved P w (with_slot w entries.Vacant) bags modes i (minus (bags i) (credits_bag 1)) (Locked (record { queued = s.queued + 1; slot = Vacant; peeked = s.peeked }))
+  get_sqe c lt f =
+      let h : length w.queued + slot_len w.slot ≤ s.queued = has.0 in
+      slots entries.Vacant (minus (bags i) (credits_bag 1)) (s.queued + 1) Vacant
+      (λ p. let x : credits_bag 1 p ≤ bags i p = credit_covered (bags i) c p in let y : slot_bag P s.slot p ≡ 0 = ap (λ z. slot_bag P z p) f in omega arith)
+      (omega arith) (omega arith) tt
+
+  pub prep : (kind : TokenKind) (r : Request) → FitsKind r kind → ((p : Part) → kind_bag P kind p ≤ bags i p) → s.slot ≡ Vacant → Moved P w (with_slot w (entries.Prepared r)) bags modes i (minus (bags i) (kind_bag P kind)) (Locked (record s { slot = Prepared kind }))
+  prep kind r fit c f =
+      let x : w.slot ≡ entries.Vacant = slot_vacant w.slot (subst (λ y. SlotFits w.slot y) f has.1) in
+      let z : slot_len w.slot ≡ 1 = ap slot_len x in
+      let g : length w.queued + slot_len w.slot ≤ P.entries = o.room in
+      let h : length w.queued + slot_len w.slot ≤ s.queued = has.0 in
+      slots (entries.Prepared r) (minus (bags i) (kind_bag P kind)) s.queued (Prepared kind)
+      (λ p. let x : kind_bag P kind p ≤ bags i p = c p in let y : slot_bag P s.slot p ≡ credits_bag 1 p = ap (λ z. slot_bag P z p) f in omega arith)
+      (omega arith) (omega arith) fit
+
+  pub set_data : (u : ℕ) (r : Request) (kind : TokenKind) → w.slot ≡ entries.Prepared r → kind_of P u ≡ Some kind → FitsKind r kind → s.slot ≡ Prepared kind → 1 ≤ bags i (TokenOf u) → Moved P w (record w { slot = entries.Closed; queued = w.queued ++ record r { serial = w.made + 1; user_data = u } ∷ []; made = w.made + 1 }) bags modes i (minus (bags i) (token_bag u)) (Locked (record s { slot = Closed }))
+  set_data u r kind x is fit f c =
+      let new : Request = record r { serial = w.made + 1; user_data = u } in
+      let w1 : World = record w { slot = entries.Closed; queued = w.queued ++ new ∷ []; made = w.made + 1 } in
+      let z : slot_len w.slot ≡ 1 = ap slot_len x in
+      let g : length w.queued + slot_len w.slot ≤ P.entries = o.room in
+      let h : length w.queued + slot_len w.slot ≤ s.queued = has.0 in
+      let l : length (w.queued ++ new ∷ []) ≡ length w.queued + 1 = length-append w.queued (new ∷ []) in
+      rung_moved P S w w1 bags modes i (minus (bags i) (token_bag u)) s (record s { slot = Closed }) o e (record {
+        of = o.of;
+        room = omega arith;
+        same = refl;
+        lock = refl;
+        local = λ p.
+            let x : token_bag u p ≤ bags i p = token_covered (bags i) u c p in
+            let y : slot_bag P s.slot p ≡ kind_bag P kind p + credits_bag 1 p = ap (λ z. slot_bag P z p) f in
+            let k : line_bag P (kind_of P u) p ≡ kind_bag P kind p = ap (λ z. line_bag P z p) is in
+            let a : sum_over (owns P p) (w.queued ++ new ∷ []) ≡ sum_over (owns P p) w.queued + (owned P u p + 0) = sum_over-append (owns P p) w.queued (new ∷ []) in
+            omega arith;
+        bound = omega arith;
+        slot = tt;
+        front = has.2;
+        queued = Each-append (HasKind P) w.queued (new ∷ []) o.queued ((kind, is, kept kind fit), tt);
+        pending = o.pending;
+        completed = o.completed;
+        agree = o.agree;
+      })
+    where
+      kept : (k : TokenKind) → FitsKind r k → FitsKind (record r { serial = w.made + 1; user_data = u }) k
+      kept (tokens.Read b) f = f
+      kept (tokens.Write b n) f = f
+      kept tokens.Fsync f = f
+      kept tokens.Nop f = f
+
+  pub submit : (n : ℕ) (ps : List Pending) (bs : List (Option (List ℕ))) → map (λ (x : Pending). x.request) ps ≡ take n w.queued → Moved P w (record w { queued = drop n w.queued; pending = w.pending ++ ps; buffers = bs }) bags modes i (bags i) (Locked s)
+  submit n ps bs are =
+      let h : length w.queued + slot_len w.slot ≤ s.queued = has.0 in
+      let l : length (drop n w.queued) ≡ length w.queued - n = length-drop n w.queued in
+      let g : length w.queued + slot_len w.slot ≤ P.entries = o.room in
+      let w1 : World = record w { queued = drop n w.queued; pending = w.pending ++ ps; buffers = bs } in
+      rung_moved P S w w1 bags modes i (bags i) s s o e (record {
+        of = o.of;
+        room = omega arith;
+        same = refl;
+        lock = refl;
+        local = λ p.
+            let a : sum_over (owns_pending P p) (w.pending ++ ps) ≡ sum_over (owns_pending P p) w.pending + sum_over (owns_pending P p) ps = sum_over-append (owns_pending P p) w.pending ps in
+            let b : sum_over (owns P p) (take n w.queued) + sum_over (owns P p) (drop n w.queued) ≡ sum_over (owns P p) w.queued = sum_over-cut (owns P p) n w.queued in
+            let c : sum_over (owns_pending P p) ps ≡ sum_over (owns P p) (map (λ (x : Pending). x.request) ps) = sum_over-map (owns P p) (λ (x : Pending). x.request) ps in
+            let d : sum_over (owns P p) (map (λ (x : Pending). x.request) ps) ≡ sum_over (owns P p) (take n w.queued) = ap (sum_over (owns P p)) are in
+            omega arith;
+        bound = omega arith;
+        slot = has.1;
+        front = has.2;
+        queued = Each-drop (HasKind P) n w.queued o.queued;
+        pending = Each-append (HasKindPending P) w.pending ps o.pending (Each-map (HasKind P) (λ (x : Pending). x.request) ps (subst (λ xs. Each (HasKind P) xs) (sym are) (Each-take (HasKind P) n w.queued o.queued)));
+        completed = o.completed;
+        agree = o.agree;
+      })
+
+  -- The front completion and its request go away.
+  pub seen : (b : Part → ℕ) (c : Completion) (cs : List Completion) (r : Request) (rs : List Request) → w.completions ≡ c ∷ cs → w.completed ≡ r ∷ rs → r.user_data ≡ c.user_data → data_of rs ≡ data_in cs → ((p : Part) → b p ≤ bags i p + owned P r.user_data p) → Moved P w (record w { completions = cs; completed = without_data c.user_data w.completed; controls = record w.controls { peeked = false } }) bags modes i b (Locked (record s { peeked = Unseen }))
+  seen b c cs r rs ec er u ag local =
+      let h : length w.queued + slot_len w.slot ≤ s.queued = has.0 in
+      let w1 : World = record w { completions = cs; completed = without_data c.user_data w.completed; controls = record w.controls { peeked = false } } in
+      let y : nat_eq r.user_data c.user_data ≡ true = elim (nat_eq_cases r.user_data c.user_data) [ inl z ↦ z.1 | inr z ↦ absurd (z.0 u) ] in
+      let gone : without_data c.user_data w.completed ≡ rs = ap (without_data c.user_data) er ∙ ap (λ (t : Bool). if t then rs else r ∷ without_data c.user_data rs) y in
+      rung_moved P S w w1 bags modes i b s (record s { peeked = Unseen }) o e (record {
+        of = o.of;
+        room = o.room;
+        same = refl;
+        lock = refl;
+        local = λ p.
+            let x : b p ≤ bags i p + owned P r.user_data p = local p in
+            let a : sum_over (owns P p) (without_data c.user_data w.completed) ≡ sum_over (owns P p) rs = ap (sum_over (owns P p)) gone in
+            let d : sum_over (owns P p) w.completed ≡ owned P r.user_data p + sum_over (owns P p) rs = ap (sum_over (owns P p)) er in
+            omega (arith, x);
+        bound = h;
+        slot = has.1;
+        front = tt;
+        queued = o.queued;
+        pending = o.pending;
+        completed = subst (λ xs. Each (HasKind P) xs) (sym gone) (subst (λ xs. Each (HasKind P) xs) er o.completed).1;
+        agree = ap data_of gone ∙ ag;
+      })
+
+pub agree_head : (xs : List Request) (c : Completion) (cs : List Completion) → data_of xs ≡ c.user_data ∷ data_in cs → (r : Request) × (rs : List Request) × (xs ≡ r ∷ rs) × (r.user_data ≡ c.user_data) × (data_of rs ≡ data_in cs)
+agree_head [] c cs e = absurd (cc)
+agree_head (r ∷ rs) c cs e = (r, rs, refl, cc, cc)
+
+nonempty_head : (cs : List Completion) → IsNonempty cs → (c : Completion) × (ds : List Completion) × (cs ≡ c ∷ ds)
+nonempty_head [] h = absurd h
+nonempty_head (c ∷ cs) h = (c, cs, refl)
+
+starts_head : (u : ℕ) (cs : List Completion) → StartsWith u cs → (c : Completion) × (ds : List Completion) × (cs ≡ c ∷ ds) × (c.user_data ≡ u)
+starts_head u [] h = absurd h
+starts_head u (c ∷ cs) h = (c, cs, refl, h)
+
+-- Where a step can be made, the world after it is well owned.
+abbrev pub Keeps : Program → Stand → Controls → ℕ → Option World → Option Move → Type 0
+Keeps P S c i None m = Unit {0}
+Keeps P S c i (Some v) None = Unit {0}
+Keeps P S c i (Some v) (Some m) = WellOwned P S (record v { controls = moved P c i m })
+
+keeps_no_move : (P : Program) (S : Stand) (c : Controls) (i : ℕ) (v : Option World) → Keeps P S c i v None
+keeps_no_move P S c i None = tt
+keeps_no_move P S c i (Some v) = tt
+
+module _ (P : Program) (S : Stand) (edge : HasEdge P S) (w : World) (bags : ℕ → Part → ℕ) (modes : ℕ → Mode) (i : ℕ) (t : Standing) (r : ℤ) (o : Owned P S w bags modes) (get : slice_get w.controls.threads i ≡ Some t) where
+  goes : (w1 : World) (vars : List ℤ) (b : Part → ℕ) (m : Mode) → Moved P w w1 bags modes i b m → Leads S i b m vars (t.place + 1) → WellOwned P S (put P w1 i (t.place + 1) vars)
+  goes w1 vars b m v l = moves P S edge w w1 bags modes i t (t.place + 1) vars b m o get v l
+
+  same_bag : (b : Part → ℕ) (m : Mode) (vars : List ℤ) (a : Part → ℕ) → ((p : Part) → b p ≤ a p) → Leads S i b m vars (t.place + 1) → Leads S i a m vars (t.place + 1)
+  same_bag b m vars a h l = record { bag = l.bag; mode = l.mode; less = λ p. omega (arith, l.less p, h p); weaker = l.weaker; stands = l.stands }
+
+  -- only buffers and variables change
+  quietly : (bs : List (Option (List ℕ))) (vars : List ℤ) → Leads S i (bags i) (modes i) vars (t.place + 1) → WellOwned P S (put P (record w { buffers = bs }) i (t.place + 1) vars)
+  quietly bs vars l = goes _ vars (bags i) (modes i) (quiet P S w bs bags modes i o) l
+
+  load_keeps : (x : ℕ) (a : Answer) → ((v : ℤ) → Leads S i (bags i) (modes i) (slice_set t.variables x v) (t.place + 1)) → Keeps P S w.controls i (Some w) (loads w.controls t x a)
+  load_keeps x Plain h = tt
+  load_keeps x (Number n) h = tt
+  load_keeps x (Byte b) h = quietly w.buffers _ (h _)
+  load_keeps x (Front c) h = tt
+
+  store_keeps : (b j byte : ℕ) (action : Action) (bytes : Option (List ℕ)) → Leads S i (bags i) (modes i) t.variables (t.place + 1) → Keeps P S w.controls i (stores w b j byte bytes) (Some (goes_on w.controls t action))
+  store_keeps b j byte action None h = tt
+  store_keeps b j byte action (Some bytes) h = go (nat_lt j (length bytes))
+    where
+      go : (y : Bool) → Keeps P S w.controls i (if y then Some (with_bytes w b (slice_set bytes j byte)) else None) (Some (goes_on w.controls t action))
+      go true = quietly _ t.variables h
+      go false = tt
+
+  fill_keeps : (b byte : ℕ) (action : Action) (bytes : Option (List ℕ)) → Leads S i (bags i) (modes i) t.variables (t.place + 1) → Keeps P S w.controls i (fills w b byte bytes) (Some (goes_on w.controls t action))
+  fill_keeps b byte action None h = tt
+  fill_keeps b byte action (Some bytes) h = quietly _ t.variables h
+
+  -- a slot that opens, and one that is filled
+  open_keeps : (s : Inside) (action : Action) (x : Entry) → modes i ≡ Locked s → 1 ≤ bags i Credit → s.queued < P.entries → s.slot ≡ Closed → Leads S i (minus (bags i) (credits_bag 1)) (Locked (record { queued = s.queued + 1; slot = Vacant; peeked = s.peeked })) t.variables (t.place + 1) → Keeps P S w.controls i (opens_entry w x) (Some (goes_on w.controls t action))
+  open_keeps s action entries.Vacant e c lt f l = tt
+  open_keeps s action (entries.Prepared q) e c lt f l = tt
+  open_keeps s action entries.Closed e c lt f l = go (nat_lt (length w.queued) w.program.entries)
+    where
+      go : (y : Bool) → Keeps P S w.controls i (if y then Some (record w { slot = entries.Vacant }) else None) (Some (goes_on w.controls t action))
+      go true = goes _ t.variables _ _ (get_sqe P S w bags modes i o s e c lt f) l
+      go false = tt
+
+  prep_keeps : (s : Inside) (action : Action) (kind : TokenKind) (q : Request) (x : Entry) → modes i ≡ Locked s → FitsKind q kind → ((p : Part) → kind_bag P kind p ≤ bags i p) → s.slot ≡ Vacant → Leads S i (minus (bags i) (kind_bag P kind)) (Locked (record s { slot = Prepared kind })) t.variables (t.place + 1) → Keeps P S w.controls i (prepares w q x) (Some (goes_on w.controls t action))
+  prep_keeps s action kind q entries.Closed e k c f l = tt
+  prep_keeps s action kind q (entries.Prepared y) e k c f l = tt
+  prep_keeps s action kind q entries.Vacant e k c f l = go (fits w.program q)
+    where
+      go : (y : Bool) → Keeps P S w.controls i (if y then Some (record w { slot = entries.Prepared q }) else None) (Some (goes_on w.controls t action))
+      go true = goes _ t.variables _ _ (prep P S w bags modes i o s e kind q k c f) l
+      go false = tt
+
+  -- an entry that is queued
+  queue_keeps : (s : Inside) (action : Action) (u : ℕ) (kind : TokenKind) (x : Entry) → w.slot ≡ x → modes i ≡ Locked s → kind_of P u ≡ Some kind → s.slot ≡ Prepared kind → 1 ≤ bags i (TokenOf u) → Leads S i (minus (bags i) (token_bag u)) (Locked (record s { slot = Closed })) t.variables (t.place + 1) → Keeps P S w.controls i (queues w u x) (Some (goes_on w.controls t action))
+  queue_keeps s action u kind entries.Closed q e k f c l = tt
+  queue_keeps s action u kind entries.Vacant q e k f c l = tt
+  queue_keeps s action u kind (entries.Prepared x) q e k f c l =
+      let fit : SlotFits (entries.Prepared x) (Prepared kind) = subst (λ y. SlotFits y (Prepared kind)) q (subst (λ y. SlotFits w.slot y) f (has P S w bags modes i o s e).1) in
+      goes _ t.variables _ _ (set_data P S w bags modes i o s e u x kind q k fit f c) l
+
+  -- entries that are submitted
+  submit_keeps : (s : Inside) (x : ℕ) (action : Action) → modes i ≡ Locked s → Leads S i (bags i) (Locked s) (slice_set t.variables x r) (t.place + 1) → Keeps P S w.controls i (submits_by w r) (Some (record { action = action; holder = w.controls.holder; peeked = w.controls.peeked; place = t.place + 1; variables = slice_set t.variables x r }))
+  submit_keeps s x action e l = go (is_take w r)
+    where
+      handed : WellOwned P S (record (hands_over w (count_in r)) { controls = moved P w.controls i (record { action = action; holder = w.controls.holder; peeked = w.controls.peeked; place = t.place + 1; variables = slice_set t.variables x r }) })
+      handed =
+          let n = begun (record w { queued = drop (count_in r) w.queued }) (take (count_in r) w.queued) in
+          subst (λ (v : World). WellOwned P S (record v { controls = moved P w.controls i (record { action = action; holder = w.controls.holder; peeked = w.controls.peeked; place = t.place + 1; variables = slice_set t.variables x r }) })) (sym n.is)
+          (goes _ (slice_set t.variables x r) (bags i) (Locked s) (submit P S w bags modes i o s e (count_in r) n.pending n.buffers n.are) l)
+
+      go : (y : Bool) → Keeps P S w.controls i (if y then Some (hands_over w (count_in r)) else None) (Some (record { action = action; holder = w.controls.holder; peeked = w.controls.peeked; place = t.place + 1; variables = slice_set t.variables x r }))
+      go true = handed
+      go false = tt
+
+  -- A completion is there, and the state behind it has no more than its request gives back.
+  seen_keeps : (s : Inside) (b : Part → ℕ) (d : Completion) (ds : List Completion) → modes i ≡ Locked s → w.completions ≡ d ∷ ds → ((p : Part) → b p ≤ bags i p + owned P d.user_data p) → Leads S i b (Locked (record s { peeked = Unseen })) t.variables (t.place + 1) → Keeps P S w.controls i (reaps_front w w.completions) (reaps w.controls t (front_of w.completions))
+  seen_keeps s b d ds e ec local l =
+      let a = agree_head w.completed d ds (o.agree ∙ ap data_in ec) in
+      let le : (p : Part) → b p ≤ bags i p + owned P a.0.user_data p = λ p. subst (λ u. b p ≤ bags i p + owned P u p) (sym a.3) (local p) in
+      subst (λ cs. Keeps P S w.controls i (reaps_front w cs) (reaps w.controls t (front_of cs))) (sym ec)
+      (goes _ t.variables b (Locked (record s { peeked = Unseen })) (seen P S w bags modes i o s e b d ds a.0 a.1 ec a.2 a.3 a.4 le) l)
+
+  reap_keeps : (s : Inside) (x : Peeked) → s.peeked ≡ x → modes i ≡ Locked s → Reaps P (bags i) s x (λ b m. (new : List ℤ) → new ≡ t.variables → Leads S i b m new (t.place + 1)) → Keeps P S w.controls i (reaps_front w w.completions) (reaps w.controls t (front_of w.completions))
+  reap_keeps s Unseen q e h = absurd h
+  reap_keeps s (Sees u) q e h =
+      let f = subst (λ y. FrontFits w.controls.peeked w.completions y) q (has P S w bags modes i o s e).2 in
+      let a = starts_head u w.completions f.1 in
+      seen_keeps s (plus (bags i) (owned P u)) a.0 a.1 e a.2 (λ p. subst (λ v. bags i p + owned P u p ≤ bags i p + owned P v p) (sym a.3) (omega arith)) (h t.variables refl)
+  reap_keeps s SeesOther q e h =
+      let f = subst (λ y. FrontFits w.controls.peeked w.completions y) q (has P S w bags modes i o s e).2 in
+      let a = nonempty_head w.completions f.1 in
+      seen_keeps s (plus (bags i) (credits_bag 1)) a.0 a.1 e a.2 (λ p. omega arith) (h t.variables refl)
+
+  pub op_keeps : (op : Op) → Rule P (bags i) (modes i) op (λ b m. (new : List ℤ) → MayBecome op t.variables new → Leads S i b m new (t.place + 1)) → Keeps P S w.controls i (op_in_rings w t r op) (does w.controls t op (op_answer w r op))
+  op_keeps (Set x n) h = quietly w.buffers _ (h _ refl)
+  op_keeps (Assign x y) h = quietly w.buffers _ (h _ (_, refl))
+  op_keeps (Add x y z) h = quietly w.buffers _ (h _ (_, refl))
+  op_keeps (Subtract x y z) h = quietly w.buffers _ (h _ (_, refl))
+  op_keeps (Load x b j) h = load_keeps x (byte_of j (bytes_of w b)) (λ v. h.2 _ (v, refl))
+  op_keeps (Store b j x) h = store_keeps b j (low_byte (variable t x)) _ (bytes_of w b) (h.2 t.variables refl)
+  op_keeps (Fill b x) h = fill_keeps b (low_byte (variable t x)) _ (bytes_of w b) (h.1 t.variables refl)
+  op_keeps (Print x) h = quietly w.buffers t.variables (h t.variables refl)
+  op_keeps GetSqe h =
+      let s = locked_of (modes i) _ h in
+      open_keeps s.0 _ w.slot s.1 s.2.0 s.2.1 s.2.2 (s.2.3 t.variables refl)
+  op_keeps (PrepRead fd b len off) h =
+      let s = locked_of (modes i) _ h in
+      prep_keeps s.0 _ (tokens.Read b) _ w.slot s.1 (refl, refl) (shares_covered (bags i) b (shares_at P.buffers b) s.2.1) s.2.0 (s.2.3 t.variables refl)
+  op_keeps (PrepWrite fd b len off k) h =
+      let s = locked_of (modes i) _ h in
+      prep_keeps s.0 _ (tokens.Write b k) _ w.slot s.1 (refl, refl) (shares_covered (bags i) b k s.2.1) s.2.0 (s.2.3 t.variables refl)
+  op_keeps (PrepFsync fd datasync) h =
+      let s = locked_of (modes i) _ h in
+      prep_keeps s.0 _ tokens.Fsync _ w.slot s.1 refl (λ p. omega arith) s.2.0 (same_bag (bags i) (Locked (record s.0 { slot = Prepared tokens.Fsync })) t.variables (minus (bags i) (kind_bag P tokens.Fsync)) (λ p. omega arith) (s.2.1 t.variables refl))
+  op_keeps PrepNop h =
+      let s = locked_of (modes i) _ h in
+      prep_keeps s.0 _ tokens.Nop _ w.slot s.1 refl (λ p. omega arith) s.2.0 (same_bag (bags i) (Locked (record s.0 { slot = Prepared tokens.Nop })) t.variables (minus (bags i) (kind_bag P tokens.Nop)) (λ p. omega arith) (s.2.1 t.variables refl))
+  op_keeps (SetData64 u) h =
+      let s = locked_of (modes i) _ h in
+      queue_keeps s.0 _ u s.2.0 w.slot refl s.1 s.2.1 s.2.2 s.2.3 (s.2.4 t.variables refl)
+  op_keeps (Submit x) h =
+      let s = locked_of (modes i) _ h in
+      submit_keeps s.0 x _ s.1 (s.2.1 _ (_, refl))
+  op_keeps (SubmitAndWait x n) h =
+      let s = locked_of (modes i) _ h in
+      submit_keeps s.0 x _ s.1 (s.2.1 _ (_, refl))
+  op_keeps CqeSeen h =
+      let s = locked_of (modes i) _ h in
+      reap_keeps s.0 s.0.peeked refl s.1 s.2

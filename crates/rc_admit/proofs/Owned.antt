@@ -1,0 +1,270 @@
+-- What is true of each world of an accepted program, over any claim of how a thread may stand.
+use Rattle.std.proofs.Common.{◌≡◌, ℕ, zero, suc, ◌+◌, ◌≤◌, Bool, true, false, ◌||◌, List, [], ◌∷◌, length, map, Option, Some, None, refl, sym, ◌∙◌, subst, ◌⊎◌, inl, inr, arith}
+use Rattle.std.specs.Prelude.{replicate, slice_get, slice_set, slice_index_or, ℤ, pos}
+use Rattle.rc_lang.specs.declared.lines.Op.{Op}
+use Rattle.rc_lang.specs.declared.lines.Op.TheVariants.{Set, Assign, Add, Subtract, Load, Submit, SubmitAndWait}
+use Rattle.rc_lang.specs.declared.lines.Stmt.{Stmt}
+use Rattle.rc_lang.specs.declared.lines.Stmt.TheVariants.{Do, Lock, EndLock, If, Else, EndIf, Peek, Case, Other, Nothing, EndArm, EndPeek, Loop, EndLoop, Break}
+use Rattle.rc_lang.specs.declared.lines.Test.{Test}
+use Rattle.rc_lang.specs.declared.lines.Test.TheVariants.{Compare, ReadyZero, SpaceAtLeast}
+use Rattle.rc_lang.specs.declared.program.TokenKind.{TokenKind}
+use Rattle.rc_lang.specs.declared.program.TokenKind.TheVariants as tokens
+use Rattle.rc_lang.specs.declared.request.Kind.TheVariants.{Nop, Fsync, Read, Write}
+use Rattle.rc_lang.specs.declared.request.Request.{Request}
+use Rattle.rc_lang.specs.Program.{Program, Thread, end_at, lines_of, stmt_at}
+use Rattle.rc_rules.specs.declared.mode.Inside.{Inside}
+use Rattle.rc_rules.specs.declared.mode.Mode.{Mode}
+use Rattle.rc_rules.specs.declared.mode.Mode.TheVariants.{Unlocked, Locked}
+use Rattle.rc_rules.specs.declared.mode.Peeked.{Peeked}
+use Rattle.rc_rules.specs.declared.mode.Peeked.TheVariants.{Unseen, Sees, SeesOther}
+use Rattle.rc_rules.specs.declared.mode.Slot.{Slot}
+use Rattle.rc_rules.specs.declared.mode.Slot.TheVariants.{Closed, Vacant, Prepared}
+use Rattle.rc_rules.specs.Labels.{WeakerMode}
+use Rattle.rc_rules.specs.Rules.{kind_bag, kind_of, limit, owned}
+use Rattle.rc_split.specs.Bags.{Part, TokenOf, bag_of, credits_bag}
+use Rattle.rc_world.specs.declared.event.Completion.{Completion}
+use Rattle.rc_world.specs.declared.world.Slot.{Slot as Entry}
+use Rattle.rc_world.specs.declared.world.Slot.TheVariants as entries
+use Rattle.rc_world.specs.Controls.{Standing, arm_for, compares, ends_arm, hop_of, is_arm_end, none_arm, or_from, settled}
+use Rattle.rc_world.specs.Faults.{is_holder}
+use Rattle.rc_world.specs.Machine.{Pending, World, slot_len}
+use Rattle.rc_admit.proofs.Lists.{sum_to, sum_over, Each}
+use Rattle.rc_admit.proofs.Rule.{WhereLocked, Rule, TestRule, CloseRule, ArmRule, BreakRule}
+
+-- ---- claims of how a thread may stand
+
+-- with this number, this bag and mode, these variables, and at this place
+abbrev pub Stand : Type 1
+Stand = ℕ → (Part → ℕ) → Mode → List ℤ → ℕ → Type 0
+
+-- A state no stronger than this one, in which the thread may stand.
+pub record Leads (S : ℕ → (Part → ℕ) → Mode → List ℤ → ℕ → Type 0) (i : ℕ) (b : Part → ℕ) (m : Mode) (vars : List ℤ) (place : ℕ) : Type 0 where
+  pub bag : Part → ℕ
+  pub mode : Mode
+  pub less : (p : Part) → bag p ≤ b p
+  pub weaker : WeakerMode mode m
+  pub stands : S i bag mode vars place
+
+-- what a statement without a block may do to the variables
+abbrev pub MayBecome : Op → List ℤ → List ℤ → Type 0
+MayBecome (Set x n) vars new = new ≡ slice_set vars x n
+MayBecome (Assign x y) vars new = (v : ℤ) × (new ≡ slice_set vars x v)
+MayBecome (Add x y z) vars new = (v : ℤ) × (new ≡ slice_set vars x v)
+MayBecome (Subtract x y z) vars new = (v : ℤ) × (new ≡ slice_set vars x v)
+MayBecome (Load x b i) vars new = (v : ℤ) × (new ≡ slice_set vars x v)
+MayBecome (Submit x) vars new = (v : ℤ) × (new ≡ slice_set vars x v)
+MayBecome (SubmitAndWait x n) vars new = (v : ℤ) × (new ≡ slice_set vars x v)
+MayBecome _ vars new = new ≡ vars
+
+-- which tests of variables may turn out so
+abbrev pub MayPass : Test → List ℤ → Bool → Type 0
+MayPass (Compare x c n) vars b = compares c (slice_index_or vars x (pos 0)) n ≡ b
+MayPass ReadyZero vars b = Unit {0}
+MayPass (SpaceAtLeast n) vars b = Unit {0}
+
+-- The edge law at the line k of thread i: the state before it meets the premises of the line, and the table's state
+-- behind it leads to one in which the thread may stand.
+abbrev pub EdgeAt : Program → Stand → ℕ → (Part → ℕ) → Mode → List ℤ → ℕ → Option Stmt → Type 0
+EdgeAt P S i b m vars k (Some (Do op)) = Rule P b m op (λ b' m'. (new : List ℤ) → MayBecome op vars new → Leads S i b' m' new (k + 1))
+EdgeAt P S i b m vars k (Some Lock) = (m ≡ Unlocked) × Leads S i b (Locked (record { queued = P.left; slot = Closed; peeked = Unseen })) vars (k + 1)
+EdgeAt P S i b m vars k (Some (EndLock o)) = CloseRule P b m (λ b' m'. Leads S i b' m' vars (k + 1))
+EdgeAt P S i b m vars k (Some (If test)) = TestRule P m test (λ n. MayPass test vars true → Leads S i b n vars (k + 1)) × (MayPass test vars false → Leads S i b m vars (end_at P i k + 1))
+EdgeAt P S i b m vars k (Some (Else o)) = Leads S i b m vars (end_at P i k + 1)
+EdgeAt P S i b m vars k (Some (EndIf o)) = Leads S i b m vars (k + 1)
+EdgeAt P S i b m vars k (Some (Peek x)) = WhereLocked m (λ s.
+    ((u : ℕ) (v : ℤ) → (1 ≤ b (TokenOf u)) ⊎ (Leads S i b (Locked (record s { peeked = Sees u })) (slice_set vars x v) (arm_for P i k u + 1)
+    ⊎ Leads S i b (Locked (record s { peeked = SeesOther })) (slice_set vars x v) (arm_for P i k u + 1)))
+    × ((v : ℤ) → Leads S i b (Locked (record s { peeked = Unseen })) (slice_set vars x v) (none_arm P i k + 1)))
+EdgeAt P S i b m vars k (Some (EndArm o)) = ArmRule b m (λ b' m'. Leads S i b' m' vars (end_at P i o + 1))
+EdgeAt P S i b m vars k (Some (Loop n)) = Leads S i b m vars (k + 1)
+EdgeAt P S i b m vars k (Some (EndLoop o n)) = Leads S i b m vars (o + 1)
+EdgeAt P S i b m vars k (Some (Break o releases leaves)) = BreakRule P b m releases leaves (λ b' m'. Leads S i b' m' vars (end_at P i o + 1))
+EdgeAt P S i b m vars k _ = Unit {0}
+
+abbrev pub Edge : Program → Stand → ℕ → (Part → ℕ) → Mode → List ℤ → ℕ → Type 0
+Edge P S i b m vars k = EdgeAt P S i b m vars k (stmt_at (lines_of P i) k)
+
+abbrev pub HasEdge : Program → Stand → Type 0
+HasEdge P S = (i : ℕ) (b : Part → ℕ) (m : Mode) (vars : List ℤ) (k : ℕ) → S i b m vars k → Edge P S i b m vars k
+
+-- The thread may stand so as it begins.
+abbrev pub HasStart : Program → Stand → Type 0
+HasStart P S = (i : ℕ) (t : Thread) → slice_get P.threads i ≡ Some t → Leads S i (bag_of t.items) Unlocked (replicate 64 (pos 0)) 0
+
+-- ---- what is owned
+
+-- what a label's slot owns: a vacant one a credit, a prepared one also the shares that its prep took
+abbrev pub slot_bag : Program → Slot → Part → ℕ
+slot_bag P Closed p = 0
+slot_bag P Vacant p = credits_bag 1 p
+slot_bag P (Prepared kind) p = kind_bag P kind p + credits_bag 1 p
+
+abbrev pub mode_bag : Program → Mode → Part → ℕ
+mode_bag P Unlocked p = 0
+mode_bag P (Locked s) p = slot_bag P s.slot p
+
+-- what the requests in flight own
+abbrev pub owns : Program → Part → Request → ℕ
+owns P p r = owned P r.user_data p
+
+abbrev pub owns_pending : Program → Part → Pending → ℕ
+owns_pending P p x = owns P p x.request
+
+abbrev pub in_flight : Program → World → Part → ℕ
+in_flight P w p = sum_over (owns P p) w.queued + sum_over (owns_pending P p) w.pending + sum_over (owns P p) w.completed
+
+-- The request is one of this kind, of this buffer.
+abbrev pub FitsKind : Request → TokenKind → Type 0
+FitsKind r (tokens.Read b) = (r.kind ≡ Read) × (r.buffer ≡ b)
+FitsKind r (tokens.Write b k) = (r.kind ≡ Write) × (r.buffer ≡ b)
+FitsKind r tokens.Fsync = r.kind ≡ Fsync
+FitsKind r tokens.Nop = r.kind ≡ Nop
+
+abbrev pub SlotFits : Entry → Slot → Type 0
+SlotFits entries.Closed Closed = Unit {0}
+SlotFits entries.Vacant Vacant = Unit {0}
+SlotFits (entries.Prepared r) (Prepared kind) = FitsKind r kind
+SlotFits _ _ = ⊥
+
+abbrev pub StartsWith : ℕ → List Completion → Type 0
+StartsWith u [] = ⊥
+StartsWith u (c ∷ cs) = c.user_data ≡ u
+
+abbrev pub IsNonempty : List Completion → Type 0
+IsNonempty [] = ⊥
+IsNonempty (c ∷ cs) = Unit {0}
+
+abbrev pub FrontFits : Bool → List Completion → Peeked → Type 0
+FrontFits b cs Unseen = Unit {0}
+FrontFits b cs (Sees u) = (b ≡ true) × StartsWith u cs
+FrontFits b cs SeesOther = (b ≡ true) × IsNonempty cs
+
+-- What a thread's label says of the ring; the second argument is whether the thread holds the lock.
+abbrev pub Fits : World → Bool → Mode → Type 0
+Fits w false Unlocked = Unit {0}
+Fits w true (Locked s) = (length w.queued + slot_len w.slot ≤ s.queued) × SlotFits w.slot s.slot × FrontFits w.controls.peeked w.completions s.peeked
+Fits w false (Locked s) = ⊥
+Fits w true Unlocked = ⊥
+
+abbrev pub held : Program → (Part → ℕ) → Mode → Part → ℕ
+held P b m p = b p + mode_bag P m p
+
+-- The request is of the kind that the line of its token says.
+abbrev pub HasKind : Program → Request → Type 0
+HasKind P r = (kind : TokenKind) × (kind_of P r.user_data ≡ Some kind) × FitsKind r kind
+
+abbrev pub HasKindPending : Program → Pending → Type 0
+HasKindPending P x = HasKind P x.request
+
+abbrev pub data_of : List Request → List ℕ
+data_of rs = map (λ (r : Request). r.user_data) rs
+
+abbrev pub data_in : List Completion → List ℕ
+data_in cs = map (λ (c : Completion). c.user_data) cs
+
+pub record Owned (P : Program) (S : ℕ → (Part → ℕ) → Mode → List ℤ → ℕ → Type 0) (w : World) (bags : ℕ → Part → ℕ) (modes : ℕ → Mode) : Type 0 where
+  pub of : w.program ≡ P
+  pub room : length w.queued + slot_len w.slot ≤ P.entries
+  pub stands : (i : ℕ) (t : Standing) → slice_get w.controls.threads i ≡ Some t → S i (bags i) (modes i) t.variables t.place
+  pub total : (p : Part) → sum_to (λ i. held P (bags i) (modes i) p) (length w.controls.threads) + in_flight P w p ≤ limit P p
+  pub free : w.controls.holder ≡ None → (length w.queued ≤ P.left) × (w.slot ≡ entries.Closed)
+  pub each : (i : ℕ) → Fits w (is_holder w.controls.holder i) (modes i)
+  pub queued : Each (HasKind P) w.queued
+  pub pending : Each (HasKindPending P) w.pending
+  pub completed : Each (HasKind P) w.completed
+  pub agree : data_of w.completed ≡ data_in w.completions
+
+abbrev pub WellOwned : Program → Stand → World → Type 0
+WellOwned P S w = (bags : ℕ → Part → ℕ) × (modes : ℕ → Mode) × Owned P S w bags modes
+
+-- ---- weaker modes
+
+pub mode_refl : (m : Mode) → WeakerMode m m
+mode_refl Unlocked = tt
+mode_refl (Locked s) = record { queued = omega arith; slot = refl; peeked = inl refl }
+
+pub mode_trans : (l m n : Mode) → WeakerMode l m → WeakerMode m n → WeakerMode l n
+mode_trans Unlocked Unlocked Unlocked a b = tt
+mode_trans Unlocked Unlocked (Locked s) a b = b
+mode_trans Unlocked (Locked s) n a b = absurd a
+mode_trans (Locked s) Unlocked n a b = absurd a
+mode_trans (Locked s) (Locked t) Unlocked a b = absurd b
+mode_trans (Locked s) (Locked t) (Locked u) a b = record {
+  queued = omega (arith, a.queued, b.queued);
+  slot = a.slot ∙ b.slot;
+  peeked = elim a.peeked [ inr e ↦ inr e | inl e ↦ elim b.peeked [ inl d ↦ inl (e ∙ d) | inr d ↦ inr (e ∙ d) ] ];
+}
+
+abbrev pub IsUnseen : Mode → Type 0
+IsUnseen Unlocked = ⊥
+IsUnseen (Locked s) = s.peeked ≡ Unseen
+
+unseen_weaker : (n m : Mode) → WeakerMode n m → IsUnseen m → IsUnseen n
+unseen_weaker Unlocked Unlocked w u = u
+unseen_weaker Unlocked (Locked s) w u = absurd w
+unseen_weaker (Locked s) Unlocked w u = absurd w
+unseen_weaker (Locked s) (Locked t) w u = elim w.peeked [ inl e ↦ e ∙ u | inr e ↦ e ]
+
+front_weaker : (b : Bool) (cs : List Completion) (x y : Peeked) → (y ≡ x) ⊎ (y ≡ Unseen) → FrontFits b cs x → FrontFits b cs y
+front_weaker b cs x y e f = elim e [ inl d ↦ subst (λ z. FrontFits b cs z) (sym d) f | inr d ↦ subst (λ z. FrontFits b cs z) (sym d) tt ]
+
+-- A weaker label fits too.
+pub fits_weaker : (w : World) (h : Bool) (m n : Mode) → WeakerMode n m → Fits w h m → Fits w h n
+fits_weaker w false Unlocked Unlocked x f = tt
+fits_weaker w true Unlocked n x f = absurd f
+fits_weaker w false Unlocked (Locked s) x f = x
+fits_weaker w false (Locked s) n x f = absurd f
+fits_weaker w true (Locked s) Unlocked x f = absurd x
+fits_weaker w true (Locked s) (Locked t) x f =
+    (omega (arith, x.queued, f.0), subst (λ y. SlotFits w.slot y) (sym x.slot) f.1, front_weaker w.controls.peeked w.completions s.peeked t.peeked x.peeked f.2)
+
+pub locked_of : (m : Mode) (F : Inside → Type 0) → WhereLocked m F → (s : Inside) × (m ≡ Locked s) × F s
+locked_of Unlocked F h = absurd h
+locked_of (Locked s) F h = (s, refl, h)
+
+-- ---- lines that are no event
+
+-- Where a step leads once the lines that are no event are passed; behind the end of an arm nothing is peeked.
+pub record Settled (S : ℕ → (Part → ℕ) → Mode → List ℤ → ℕ → Type 0) (i : ℕ) (b : Part → ℕ) (m : Mode) (vars : List ℤ) (place : ℕ) (ends : Bool) : Type 0 where
+  pub leads : Leads S i b m vars place
+  pub unseen : ends ≡ true → IsUnseen leads.mode
+
+module _ (P : Program) (S : Stand) (i : ℕ) (vars : List ℤ) (n k : ℕ) (b : Part → ℕ) (m : Mode) (l : Leads S i b m vars k) (rest : (j : ℕ) (c : Part → ℕ) (o : Mode) → Leads S i c o vars j → Settled S i c o vars (settled P i n j) (ends_arm P i n j)) where
+  stays : (e : Bool) → e ≡ false → Settled S i b m vars k e
+  stays e f = record { leads = l; unseen = λ t. absurd (cc) }
+
+  hops : (j : ℕ) → Leads S i l.bag l.mode vars j → Settled S i b m vars (settled P i n j) (ends_arm P i n j)
+  hops j h =
+      let s = rest j l.bag l.mode h in
+      record { leads = record { bag = s.leads.bag; mode = s.leads.mode; less = λ p. omega (arith, s.leads.less p, l.less p); weaker = mode_trans s.leads.mode l.mode m s.leads.weaker l.weaker; stands = s.leads.stands }; unseen = s.unseen }
+
+  pub settle_at : (x : Option Stmt) → EdgeAt P S i l.bag l.mode vars k x → Settled S i b m vars (or_from k (λ j. settled P i n j) (hop_of P i k x)) (is_arm_end x || or_from false (λ j. ends_arm P i n j) (hop_of P i k x))
+  settle_at None h = stays false refl
+  settle_at (Some (Else o)) h = hops (end_at P i k + 1) h
+  settle_at (Some (EndIf o)) h = hops (k + 1) h
+  settle_at (Some (EndArm o)) h =
+      let x = locked_of l.mode _ h in
+      let past : Mode = Locked (record x.0 { peeked = Unseen }) in
+      let s = rest (end_at P i o + 1) l.bag past x.2 in
+      let w : WeakerMode s.leads.mode l.mode = subst (λ n. WeakerMode s.leads.mode n) (sym x.1) (mode_trans s.leads.mode past (Locked x.0) s.leads.weaker (record { queued = omega arith; slot = refl; peeked = inr refl })) in
+      record {
+        leads = record { bag = s.leads.bag; mode = s.leads.mode; less = λ p. omega (arith, s.leads.less p, l.less p); weaker = mode_trans s.leads.mode l.mode m w l.weaker; stands = s.leads.stands };
+        unseen = λ e. unseen_weaker s.leads.mode past s.leads.weaker refl;
+      }
+  settle_at (Some (Do op)) h = stays false refl
+  settle_at (Some Lock) h = stays false refl
+  settle_at (Some (EndLock o)) h = stays false refl
+  settle_at (Some (If test)) h = stays false refl
+  settle_at (Some (Peek x)) h = stays false refl
+  settle_at (Some (Case o u)) h = stays false refl
+  settle_at (Some (Other o)) h = stays false refl
+  settle_at (Some (Nothing o)) h = stays false refl
+  settle_at (Some (EndPeek o)) h = stays false refl
+  settle_at (Some (Loop items)) h = stays false refl
+  settle_at (Some (EndLoop o items)) h = stays false refl
+  settle_at (Some (Break o r l)) h = stays false refl
+
+-- Lines that are no event go with the step before them.
+pub settle : (P : Program) (S : Stand) → HasEdge P S → (i : ℕ) (vars : List ℤ) (n k : ℕ) (b : Part → ℕ) (m : Mode) → Leads S i b m vars k → Settled S i b m vars (settled P i n k) (ends_arm P i n k)
+settle P S edge i vars zero k b m l = record { leads = l; unseen = λ e. absurd (cc) }
+settle P S edge i vars (suc n) k b m l = settle_at P S i vars n k b m l (λ j c o h. settle P S edge i vars n j c o h) (stmt_at (lines_of P i) k) (edge i l.bag l.mode vars k l.stands)

@@ -1,0 +1,48 @@
+-- Every world of every run is well owned, over any claim of how a thread may stand that has the edge law.
+use Rattle.std.proofs.Common.{ℕ, ◌≤◌, List, [], ◌∷◌, subst, inl, inr}
+use Rattle.std.specs.Prelude.{ℤ}
+use Rattle.rc_lang.specs.Program.{IsProgram, Program}
+use Rattle.rc_rules.specs.declared.mode.Mode.{Mode}
+use Rattle.rc_rules.specs.Labellings.{Accepts, headers_bag}
+use Rattle.rc_rules.specs.Rules.{limit}
+use Rattle.rc_split.specs.Bags.{Part}
+use Rattle.rc_world.specs.declared.event.Event.{Event}
+use Rattle.rc_world.specs.Machine.{World, start_world}
+use Rattle.rc_world.specs.Runs.{IsRun, IsSafe, IsStep}
+use Rattle.rc_admit.specs.Laws.{AcceptedIsSafe}
+use Rattle.rc_admit.proofs.Excludes.{no_fault}
+use Rattle.rc_admit.proofs.Flat.{Labelled, labelled_edge}
+use Rattle.rc_admit.proofs.FlatStart.{headers_within, labelled_start}
+use Rattle.rc_admit.proofs.Kernel.{KeepsStep, kernel_keeps, thread_keeps}
+use Rattle.rc_admit.proofs.Owned.{Stand, HasEdge, HasStart, WellOwned}
+use Rattle.rc_admit.proofs.Start.{start_has}
+
+-- A claim that the threads begin with and that each of their lines keeps, of headers that give no more than there is.
+pub record IsClaim (P : Program) (S : ℕ → (Part → ℕ) → Mode → List ℤ → ℕ → Type 0) : Type 0 where
+  pub edge : HasEdge P S
+  pub start : HasStart P S
+  pub within : (p : Part) → headers_bag P.threads p ≤ limit P p
+
+step_keeps : (P : Program) (S : Stand) → HasEdge P S → (w after : World) (e : Event) → WellOwned P S w → IsStep w e after → WellOwned P S after
+step_keeps P S edge w after e h s = elim s.step [
+  | inl t ↦ subst (λ x. KeepsStep P S x) t.2 (thread_keeps P S edge w t.0 t.1 h)
+  | inr k ↦ subst (λ x. KeepsStep P S x) k.3 (kernel_keeps P S w k.0 k.1 k.2 h)
+]
+
+pub run_keeps : (P : Program) (S : Stand) → HasEdge P S → (events : List Event) (w after : World) → WellOwned P S w → IsRun w events after → WellOwned P S after
+run_keeps P S edge [] w after h r = subst (λ v. WellOwned P S v) r h
+run_keeps P S edge (e ∷ events) w after h r = run_keeps P S edge events r.0 after (step_keeps P S edge w r.0 e h r.1) r.2
+
+-- The worlds of a program with such a claim are well owned, and it is safe.
+pub worlds_owned : (P : Program) (S : Stand) → IsClaim P S → (events : List Event) (w : World) → IsRun (start_world P) events w → WellOwned P S w
+worlds_owned P S c events w r = run_keeps P S c.edge events (start_world P) w (start_has P S c.start c.within) r
+
+pub safe_by : (P : Program) → IsProgram P → (S : Stand) → IsClaim P S → IsSafe P
+safe_by P made S c events w r = no_fault P made S c.edge w (worlds_owned P S c events w r)
+
+-- The labels of an accepted program are such a claim.
+pub labelled_claim : (P : Program) → IsProgram P → Accepts P → IsClaim P (Labelled P)
+labelled_claim P made a = record { edge = labelled_edge P made; start = labelled_start P a; within = headers_within P a }
+
+pub accepted_is_safe : AcceptedIsSafe
+accepted_is_safe P made a = safe_by P made (Labelled P) (labelled_claim P made a)

@@ -1,0 +1,133 @@
+-- What requests own, by their kinds: of a buffer that they name a share, and of one that they fill all.
+use Rattle.std.proofs.Common.{◌≡◌, ℕ, suc, ◌+◌, ◌<◌, ◌≤◌, Bool, true, false, cond, ◌||◌, ◌&&◌, List, [], ◌∷◌, length, Option, Some, None, refl, sym, ap, ◌∙◌, subst, inl, inr, arith}
+use Rattle.std.proofs.lemmas.Bool.{and_from, and_parts, eq-eqb, eqb-true, false_from_ne_true, or_cases, or_from}
+use Rattle.std.proofs.lemmas.Option.{get_or_from_slice_get}
+use Rattle.std.specs.List.{list_any}
+use Rattle.std.specs.Prelude.{nat_eq, slice_get, slice_index_or}
+use Rattle.rc_lang.specs.declared.program.Token.{Token}
+use Rattle.rc_lang.specs.declared.program.TokenKind.{TokenKind}
+use Rattle.rc_lang.specs.declared.program.TokenKind.TheVariants.{Read, Write, Fsync, Nop}
+use Rattle.rc_lang.specs.declared.request.Request.{Request}
+use Rattle.rc_lang.specs.Program.{IsProgram, IsTokenKind, Program, no_buffer, shares_at, token_place}
+use Rattle.rc_rules.specs.Rules.{kind_at, kind_bag, kind_in, kind_of, line_bag, owned}
+use Rattle.rc_split.specs.Bags.{ShareOf, TokenOf, Credit, shares_bag}
+use Rattle.rc_world.specs.Faults.{clash, clashes, clashes_with, has_buffer, has_data, names}
+use Rattle.rc_world.specs.Machine.{Pending, is_read}
+use Rattle.rc_admit.proofs.Lists.{sum_over, sum_over_one, nat_eq_cases, Each, Each-get, get_within}
+use Rattle.rc_admit.proofs.Owned.{FitsKind, HasKind, HasKindPending, owns, owns_pending}
+use Rattle.rc_admit.proofs.Steps.{token_owned}
+
+-- one of which a test is true
+pub any_is : {A : Type 0} (test : A → Bool) (xs : List A) → list_any test xs ≡ true → (k : ℕ) × (x : A) × (slice_get xs k ≡ Some x) × (test x ≡ true)
+any_is test [] e = absurd (cc)
+any_is test (x ∷ xs) e = elim (or_cases (test x) (list_any test xs) e) [
+  | inl h ↦ (0, x, refl, h)
+  | inr h ↦ let t = any_is test xs h in (t.0 + 1, t.1, next t.0 x xs t.1 t.2, t.3)
+]
+  where
+    next : {A : Type 0} (k : ℕ) (x : A) (xs : List A) (y : A) → slice_get xs k ≡ Some y → slice_get (x ∷ xs) (k + 1) ≡ Some y
+    next k x xs y h = let s : k + 1 ≡ suc k = omega arith in ap (λ n. slice_get (x ∷ xs) n) s ∙ h
+
+same_shares : (c d k : ℕ) → c ≡ d → shares_bag c k (ShareOf d) ≡ k
+same_shares c d k e = elim (nat_eq_cases c d) [ inl h ↦ ap (λ t. cond t k 0) h.1 | inr h ↦ absurd (h.0 e) ]
+
+pub buffer_shared : (P : Program) → IsProgram P → (b : ℕ) → b < length P.buffers → 1 ≤ shares_at P.buffers b
+buffer_shared P made b lt = (made.buffers b no_buffer lt).shares.0
+
+-- The kind of a token is one of the program's.
+token_kind : (P : Program) → IsProgram P → (u : ℕ) (kind : TokenKind) → kind_of P u ≡ Some kind → IsTokenKind P kind
+token_kind P made u kind e = place (token_place P.tokens u) e
+  where
+    token : (k : ℕ) (x : Option Token) → slice_get P.tokens k ≡ x → kind_in x ≡ Some kind → IsTokenKind P kind
+    token k None h f = absurd (cc)
+    token k (Some t) h f =
+        let same : slice_index_or P.tokens k t ≡ t = get_or_from_slice_get P.tokens k t t h in
+        let is : t.kind ≡ kind = cc in
+        subst (λ x. IsTokenKind P x) is (subst (λ (x : Token). IsTokenKind P x.kind) same (made.tokens k t (get_within P.tokens k t h)))
+
+    place : (x : Option ℕ) → kind_at P.tokens x ≡ Some kind → IsTokenKind P kind
+    place None f = absurd (cc)
+    place (Some k) f = token k (slice_get P.tokens k) refl f
+
+-- what a request owns, as its token's line says
+owned_is : (P : Program) (u : ℕ) (kind : TokenKind) (b : ℕ) → kind_of P u ≡ Some kind → owned P u (ShareOf b) ≡ kind_bag P kind (ShareOf b)
+owned_is P u kind b e = let h : line_bag P (kind_of P u) (ShareOf b) ≡ kind_bag P kind (ShareOf b) = ap (λ x. line_bag P x (ShareOf b)) e in omega arith
+
+pub names_one : (P : Program) → IsProgram P → (r : Request) (b : ℕ) → HasKind P r → names b r ≡ true → 1 ≤ owned P r.user_data (ShareOf b)
+names_one P made r b h n = go h.0 (token_kind P made r.user_data h.0 h.1) h.2 (owned_is P r.user_data h.0 b h.1)
+  where
+    parts : (has_buffer r.kind ≡ true) × (r.buffer ≡ b)
+    parts = let a = and_parts (has_buffer r.kind) (nat_eq r.buffer b) n in (a.0, eqb-true r.buffer b a.1)
+
+    go : (kind : TokenKind) → IsTokenKind P kind → FitsKind r kind → owned P r.user_data (ShareOf b) ≡ kind_bag P kind (ShareOf b) → 1 ≤ owned P r.user_data (ShareOf b)
+    go (Read c) k f e =
+        let y : shares_bag c (shares_at P.buffers c) (ShareOf b) ≡ shares_at P.buffers c = same_shares c b (shares_at P.buffers c) (sym f.1 ∙ parts.1) in
+        let z : 1 ≤ shares_at P.buffers c = buffer_shared P made c k in
+        omega arith
+    go (Write c n) k f e =
+        let y : shares_bag c n (ShareOf b) ≡ n = same_shares c b n (sym f.1 ∙ parts.1) in
+        let z : 1 ≤ n = k.1.some in
+        omega arith
+    go Fsync k f e = let x : has_buffer r.kind ≡ false = ap has_buffer f in let y : has_buffer r.kind ≡ true = parts.0 in absurd (cc)
+    go Nop k f e = let x : has_buffer r.kind ≡ false = ap has_buffer f in let y : has_buffer r.kind ≡ true = parts.0 in absurd (cc)
+
+pub fills_all : (P : Program) (r : Request) (b : ℕ) → HasKind P r → is_read r.kind ≡ true → r.buffer ≡ b → shares_at P.buffers b ≤ owned P r.user_data (ShareOf b)
+fills_all P r b h reads is = go h.0 h.2 (owned_is P r.user_data h.0 b h.1)
+  where
+    go : (kind : TokenKind) → FitsKind r kind → owned P r.user_data (ShareOf b) ≡ kind_bag P kind (ShareOf b) → shares_at P.buffers b ≤ owned P r.user_data (ShareOf b)
+    go (Read c) f e =
+        let q : c ≡ b = sym f.1 ∙ is in
+        let y : shares_bag c (shares_at P.buffers c) (ShareOf b) ≡ shares_at P.buffers c = same_shares c b (shares_at P.buffers c) q in
+        let z : shares_at P.buffers c ≡ shares_at P.buffers b = ap (λ n. shares_at P.buffers n) q in
+        omega arith
+    go (Write c n) f e = let x : is_read r.kind ≡ false = ap is_read f.0 in absurd (cc)
+    go Fsync f e = let x : is_read r.kind ≡ false = ap is_read f in absurd (cc)
+    go Nop f e = let x : is_read r.kind ≡ false = ap is_read f in absurd (cc)
+
+-- Pending requests that own together no more than there is don't clash.
+pub no_clash : (P : Program) → IsProgram P → (ps : List Pending) → Each (HasKindPending P) ps → ((b : ℕ) → sum_over (owns_pending P (ShareOf b)) ps ≤ shares_at P.buffers b) → clashes ps ≡ false
+no_clash P made [] a t = refl
+no_clash P made (p ∷ ps) a t = or_from (clashes_with p.request ps) (clashes ps) (false_from_ne_true (clashes_with p.request ps) one) (no_clash P made ps a.1 (λ b. let s : owned P p.request.user_data (ShareOf b) + sum_over (owns_pending P (ShareOf b)) ps ≤ shares_at P.buffers b = t b in omega arith))
+  where
+    two : (q : Pending) (k : ℕ) → slice_get ps k ≡ Some q → clash p.request q.request ≡ true → ⊥
+    two q k e c =
+        let b : ℕ = p.request.buffer in
+        let x = and_parts (has_buffer p.request.kind && names b q.request) (is_read p.request.kind || is_read q.request.kind) c in
+        let y = and_parts (has_buffer p.request.kind) (names b q.request) x.0 in
+        let hq : HasKind P q.request = Each-get (HasKindPending P) k ps q e a.1 in
+        let mine : names b p.request ≡ true = and_from (has_buffer p.request.kind) (nat_eq b b) y.0 (eq-eqb b b refl) in
+        let first : 1 ≤ owned P p.request.user_data (ShareOf b) = names_one P made p.request b a.0 mine in
+        let second : 1 ≤ owned P q.request.user_data (ShareOf b) = names_one P made q.request b hq y.1 in
+        let is : q.request.buffer ≡ b = eqb-true q.request.buffer b (and_parts (has_buffer q.request.kind) (nat_eq q.request.buffer b) y.1).1 in
+        let le : owned P q.request.user_data (ShareOf b) ≤ sum_over (owns_pending P (ShareOf b)) ps = sum_over_one (owns_pending P (ShareOf b)) k ps q e in
+        let s : owned P p.request.user_data (ShareOf b) + sum_over (owns_pending P (ShareOf b)) ps ≤ shares_at P.buffers b = t b in
+        elim (or_cases (is_read p.request.kind) (is_read q.request.kind) x.1) [
+          | inl r ↦ let f : shares_at P.buffers b ≤ owned P p.request.user_data (ShareOf b) = fills_all P p.request b a.0 r refl in omega arith
+          | inr r ↦ let f : shares_at P.buffers b ≤ owned P q.request.user_data (ShareOf b) = fills_all P q.request b hq r is in omega arith
+        ]
+
+    one : clashes_with p.request ps ≡ true → ⊥
+    one e = let x = any_is (λ (q : Pending). clash p.request q.request) ps e in two x.1 x.0 x.2 x.3
+
+-- ---- tokens and credits
+
+-- A request with this user data owns its token.
+pub data_owned : (P : Program) (u : ℕ) (rs : List Request) → list_any (has_data u) rs ≡ true → 1 ≤ sum_over (owns P (TokenOf u)) rs
+data_owned P u rs e =
+    let x = any_is (has_data u) rs e in
+    let q : x.1.user_data ≡ u = eqb-true x.1.user_data u x.3 in
+    let y : 1 ≤ owned P x.1.user_data (TokenOf u) = subst (λ v. 1 ≤ owned P v (TokenOf u)) (sym q) (token_owned P u) in
+    let z : owned P x.1.user_data (TokenOf u) ≤ sum_over (owns P (TokenOf u)) rs = sum_over_one (owns P (TokenOf u)) x.0 rs x.1 x.2 in
+    omega arith
+
+pub data_pending : (P : Program) (u : ℕ) (ps : List Pending) → list_any (λ (p : Pending). has_data u p.request) ps ≡ true → 1 ≤ sum_over (owns_pending P (TokenOf u)) ps
+data_pending P u ps e =
+    let x = any_is (λ (p : Pending). has_data u p.request) ps e in
+    let q : x.1.request.user_data ≡ u = eqb-true x.1.request.user_data u x.3 in
+    let y : 1 ≤ owned P x.1.request.user_data (TokenOf u) = subst (λ v. 1 ≤ owned P v (TokenOf u)) (sym q) (token_owned P u) in
+    let z : owned P x.1.request.user_data (TokenOf u) ≤ sum_over (owns_pending P (TokenOf u)) ps = sum_over_one (owns_pending P (TokenOf u)) x.0 ps x.1 x.2 in
+    omega arith
+
+pub credits_owned : (P : Program) (rs : List Request) → length rs ≤ sum_over (owns P Credit) rs
+credits_owned P [] = omega arith
+credits_owned P (r ∷ rs) = let h : length rs ≤ sum_over (owns P Credit) rs = credits_owned P rs in omega arith

@@ -1,0 +1,193 @@
+-- Each step of a thread keeps what is true of each world.
+use Rattle.std.proofs.Common.{◌≡◌, ℕ, ◌+◌, ◌-◌, ◌≤◌, Bool, true, false, cond, List, [], ◌∷◌, length, Option, Some, None, refl, sym, ap, ◌∙◌, subst, ◌⊎◌, inl, inr, arith}
+use Rattle.std.specs.Prelude.{slice_set, slice_get, slice_index_or, nat_eq, min, ℤ, pos, int_le, if◌then◌else◌}
+use Rattle.std.specs.Ordering.{int_eq}
+use Rattle.std.proofs.lemmas.Bool.{leb-true}
+use Rattle.std.proofs.lemmas.Bool.Decides.{Decides-int_eq}
+use Rattle.rc_lang.specs.declared.lines.Stmt.{Stmt}
+use Rattle.rc_lang.specs.declared.lines.Stmt.TheVariants.{Do, Lock, EndLock, If, Else, EndIf, Peek, Case, Other, Nothing, EndArm, EndPeek, Loop, EndLoop, Break}
+use Rattle.rc_lang.specs.declared.lines.Test.{Test}
+use Rattle.rc_lang.specs.declared.lines.Test.TheVariants.{Compare, ReadyZero, SpaceAtLeast}
+use Rattle.rc_lang.specs.Program.{Program, end_at}
+use Rattle.rc_rules.specs.declared.mode.Inside.{Inside}
+use Rattle.rc_rules.specs.declared.mode.Mode.{Mode}
+use Rattle.rc_rules.specs.declared.mode.Mode.TheVariants.{Unlocked, Locked}
+use Rattle.rc_rules.specs.declared.mode.Peeked.{Peeked}
+use Rattle.rc_rules.specs.declared.mode.Peeked.TheVariants.{Unseen, Sees, SeesOther}
+use Rattle.rc_rules.specs.declared.mode.Slot.TheVariants.{Closed}
+use Rattle.rc_rules.specs.Rules.{owned}
+use Rattle.rc_split.specs.Bags.{Part, TokenOf, token_bag}
+use Rattle.rc_world.specs.declared.controls.Answer.TheVariants.{Plain}
+use Rattle.rc_world.specs.declared.event.Completion.{Completion}
+use Rattle.rc_world.specs.declared.world.Slot.TheVariants as entries
+use Rattle.rc_world.specs.Controls.{Standing, acts, arm_for, breaks, compares, decides, locks, none_arm, peeks}
+use Rattle.rc_world.specs.Faults.{is_holder}
+use Rattle.rc_world.specs.Machine.{World, answer_of, front_of, in_rings, slot_len, test_answer, used_entries}
+use Rattle.rc_admit.proofs.Lists.{sum_to, sum_over, sum_to_one, nat_eq_cases, get_within}
+use Rattle.rc_admit.proofs.Moves.{Moved, moves, put, rung_moved, fits_parts, fits_made, holder_one, with_lock}
+use Rattle.rc_admit.proofs.Ops.{Keeps, slot_closed, op_keeps, quiet, has, agree_head}
+use Rattle.rc_admit.proofs.Owned.{Stand, Leads, MayPass, EdgeAt, HasEdge, slot_bag, owns, in_flight, SlotFits, StartsWith, IsNonempty, FrontFits, Fits, held, data_in, Owned, WellOwned, locked_of}
+use Rattle.rc_admit.proofs.Rule.{TestRule, BreakRule}
+
+pub outside_any : (w w1 : World) (h : Bool) (m : Mode) → h ≡ false → Fits w h m → Fits w1 false m
+outside_any w w1 false Unlocked e f = tt
+outside_any w w1 false (Locked s) e f = f
+outside_any w w1 true m e f = absurd (cc)
+
+pub same_holder : (i : ℕ) → nat_eq i i ≡ true
+same_holder i = elim (nat_eq_cases i i) [ inl h ↦ h.1 | inr h ↦ absurd (h.0 refl) ]
+
+-- A request owns its token.
+pub token_owned : (P : Program) (u : ℕ) → 1 ≤ owned P u (TokenOf u)
+token_owned P u = let h : nat_eq u u ≡ true = same_holder u in let y : token_bag u (TokenOf u) ≡ 1 = ap (λ t. cond t 1 0) h in omega arith
+
+module _ (P : Program) (S : Stand) (w : World) (bags : ℕ → Part → ℕ) (modes : ℕ → Mode) (i : ℕ) (o : Owned P S w bags modes) where
+  -- The thread's label knows less of the ring than before, in the same world but for what is peeked.
+  knows : (pe : Bool) (s t : Inside) → modes i ≡ Locked s → t.slot ≡ s.slot → length w.queued + slot_len w.slot ≤ t.queued → FrontFits pe w.completions t.peeked → Moved P w (with_lock w w.controls.holder pe) bags modes i (bags i) (Locked t)
+  knows pe s t e f bound front = rung_moved P S w (with_lock w w.controls.holder pe) bags modes i (bags i) s t o e (record {
+    of = o.of;
+    room = o.room;
+    same = refl;
+    lock = refl;
+    local = λ p. let x : slot_bag P t.slot p ≡ slot_bag P s.slot p = ap (λ s. slot_bag P s p) f in omega arith;
+    bound = bound;
+    slot = subst (λ x. SlotFits w.slot x) (sym f) (has P S w bags modes i o s e).1;
+    front = front;
+    queued = o.queued;
+    pending = o.pending;
+    completed = o.completed;
+    agree = o.agree;
+  })
+
+  frees : (pe : Bool) (s : Inside) → modes i ≡ Locked s → s.slot ≡ Closed → s.queued ≤ P.left → Moved P w (with_lock w None pe) bags modes i (bags i) Unlocked
+  frees pe s e f le =
+      let h = has P S w bags modes i o s e in
+      let x : w.slot ≡ entries.Closed = slot_closed w.slot (subst (λ x. SlotFits w.slot x) f h.1) in
+      let fit : Fits w (is_holder w.controls.holder i) (Locked s) = subst (λ m. Fits w (is_holder w.controls.holder i) m) e (o.each i) in
+      let mine : is_holder w.controls.holder i ≡ true = (fits_parts w (is_holder w.controls.holder i) s fit).0 in
+      record {
+        of = o.of;
+        room = o.room;
+        same = refl;
+        local = λ p. omega arith;
+        free = λ n. (omega (arith, h.0), x);
+        mine = tt;
+        others = λ k ne. outside_any w (with_lock w None pe) (is_holder w.controls.holder k) (modes k) (holder_one w.controls.holder i k mine ne) (o.each k);
+        queued = o.queued;
+        pending = o.pending;
+        completed = o.completed;
+        agree = o.agree;
+      }
+
+  takes_lock : modes i ≡ Unlocked → w.controls.holder ≡ None → Moved P w (with_lock w (Some i) w.controls.peeked) bags modes i (bags i) (Locked (record { queued = P.left; slot = Closed; peeked = Unseen }))
+  takes_lock e n =
+      let f = o.free n in
+      let z : slot_len w.slot ≡ 0 = ap slot_len f.1 in
+      let w1 : World = with_lock w (Some i) w.controls.peeked in
+      record {
+        of = o.of;
+        room = o.room;
+        same = refl;
+        local = λ p. omega arith;
+        free = λ x. absurd (cc);
+        mine = fits_made w1 (is_holder (Some i) i) (record { queued = P.left; slot = Closed; peeked = Unseen }) (same_holder i) (omega (arith, f.0)) (subst (λ s. SlotFits s Closed) (sym f.1) tt) tt;
+        others = λ k ne. subst (λ b. Fits w1 b (modes k)) (sym (holder_one (Some i) i k (same_holder i) ne)) (outside_any w w1 (is_holder w.controls.holder k) (modes k) (ap (λ (x : Option ℕ). is_holder x k) n) (o.each k));
+        queued = o.queued;
+        pending = o.pending;
+        completed = o.completed;
+        agree = o.agree;
+      }
+
+-- A held token and a completed request under it would be two of one.
+twice : (P : Program) (S : Stand) (w : World) (bags : ℕ → Part → ℕ) (modes : ℕ → Mode) (i : ℕ) (t : Standing) (d : Completion) (ds : List Completion) → Owned P S w bags modes → slice_get w.controls.threads i ≡ Some t → w.completions ≡ d ∷ ds → 1 ≤ bags i (TokenOf d.user_data) → ⊥
+twice P S w bags modes i t d ds o get e h =
+    let p : Part = TokenOf d.user_data in
+    let a = agree_head w.completed d ds (o.agree ∙ ap data_in e) in
+    let fl : sum_over (owns P p) w.completed ≡ owned P a.0.user_data p + sum_over (owns P p) a.1 = ap (sum_over (owns P p)) a.2 in
+    let one : 1 ≤ owned P a.0.user_data p = subst (λ u. 1 ≤ owned P u p) (sym a.3) (token_owned P d.user_data) in
+    let mine : held P (bags i) (modes i) p ≤ sum_to (λ i. held P (bags i) (modes i) p) (length w.controls.threads) = sum_to_one (λ i. held P (bags i) (modes i) p) (length w.controls.threads) i (get_within w.controls.threads i t get) in
+    let tot : sum_to (λ i. held P (bags i) (modes i) p) (length w.controls.threads) + in_flight P w p ≤ 1 = o.total p in
+    omega arith
+
+module _ (P : Program) (S : Stand) (edge : HasEdge P S) (w : World) (bags : ℕ → Part → ℕ) (modes : ℕ → Mode) (i : ℕ) (t : Standing) (r : ℤ) (o : Owned P S w bags modes) (get : slice_get w.controls.threads i ≡ Some t) where
+  goes : (w1 : World) (k : ℕ) (vars : List ℤ) (b : Part → ℕ) (m : Mode) → Moved P w w1 bags modes i b m → Leads S i b m vars k → WellOwned P S (put P w1 i k vars)
+  goes w1 k vars b m v l = moves P S edge w w1 bags modes i t k vars b m o get v l
+
+  still : Moved P w w bags modes i (bags i) (modes i)
+  still = quiet P S w w.buffers bags modes i o
+
+  lock_keeps : (h : Option ℕ) → w.controls.holder ≡ h → modes i ≡ Unlocked → Leads S i (bags i) (Locked (record { queued = P.left; slot = Closed; peeked = Unseen })) t.variables (t.place + 1) → Keeps P S w.controls i (Some w) (locks w.controls i t Plain h)
+  lock_keeps (Some j) e m l = tt
+  lock_keeps None e m l = goes _ _ _ _ _ (takes_lock P S w bags modes i o m e) l
+
+  -- a step to one of two branches
+  abbrev branched : Bool → World
+  branched holds = put P w i ((if holds then t.place else end_at P i t.place) + 1) t.variables
+
+  ready_keeps : (holds : Bool) → int_eq (pos (used_entries w)) (pos 0) ≡ holds → TestRule P (modes i) ReadyZero (λ m. Unit {0} → Leads S i (bags i) m t.variables (t.place + 1)) → Leads S i (bags i) (modes i) t.variables (end_at P i t.place + 1) → WellOwned P S (branched holds)
+  ready_keeps false e a b = goes _ _ _ _ _ still b
+  ready_keeps true e a b =
+      let s = locked_of (modes i) _ a in
+      let h = has P S w bags modes i o s.0 s.1 in
+      let z : pos (used_entries w) ≡ pos 0 = (Decides-int_eq (pos (used_entries w)) (pos 0)).0 e in
+      let q : length w.queued + slot_len w.slot ≡ 0 = cc in
+      goes _ _ _ _ _ (knows P S w bags modes i o w.controls.peeked s.0 (record s.0 { queued = 0 }) s.1 refl (omega arith) h.2) (s.2 tt)
+
+  space_keeps : (n : ℕ) (holds : Bool) → int_le (pos n) (pos (w.program.entries - used_entries w)) ≡ holds → TestRule P (modes i) (SpaceAtLeast n) (λ m. Unit {0} → Leads S i (bags i) m t.variables (t.place + 1)) → Leads S i (bags i) (modes i) t.variables (end_at P i t.place + 1) → WellOwned P S (branched holds)
+  space_keeps n false e a b = goes _ _ _ _ _ still b
+  space_keeps n true e a b =
+      let s = locked_of (modes i) _ a in
+      let h = has P S w bags modes i o s.0 s.1 in
+      let same : w.program.entries ≡ P.entries = ap (λ (Q : Program). Q.entries) o.of in
+      let room : length w.queued + slot_len w.slot ≤ P.entries = o.room in
+      let q : n ≤ w.program.entries - (length w.queued + slot_len w.slot) = leb-true n (w.program.entries - used_entries w) e in
+      goes _ _ _ _ _ (knows P S w bags modes i o w.controls.peeked s.0 (record s.0 { queued = min s.0.queued (P.entries - n) }) s.1 refl (omega (arith, h.0)) h.2) (s.2 tt)
+
+  compare_keeps : (holds : Bool) → (holds ≡ true → Leads S i (bags i) (modes i) t.variables (t.place + 1)) → (holds ≡ false → Leads S i (bags i) (modes i) t.variables (end_at P i t.place + 1)) → WellOwned P S (branched holds)
+  compare_keeps true a b = goes _ _ _ _ _ still (a refl)
+  compare_keeps false a b = goes _ _ _ _ _ still (b refl)
+
+  if_keeps : (test : Test) → TestRule P (modes i) test (λ m. MayPass test t.variables true → Leads S i (bags i) m t.variables (t.place + 1)) → (MayPass test t.variables false → Leads S i (bags i) (modes i) t.variables (end_at P i t.place + 1)) → Keeps P S w.controls i (Some w) (decides P w.controls i t test (test_answer w test))
+  if_keeps (Compare x c n) a b = compare_keeps (compares c (slice_index_or t.variables x (pos 0)) n) a b
+  if_keeps ReadyZero a b = ready_keeps (int_eq (pos (used_entries w)) (pos 0)) refl a (b tt)
+  if_keeps (SpaceAtLeast n) a b = space_keeps n (int_le (pos n) (pos (w.program.entries - used_entries w))) refl a (b tt)
+
+  -- an arm of a peek
+  arm_keeps : (pe : Bool) (s : Inside) (x : Peeked) (k : ℕ) (vars : List ℤ) → modes i ≡ Locked s → FrontFits pe w.completions x → Leads S i (bags i) (Locked (record s { peeked = x })) vars k → WellOwned P S (put P (with_lock w w.controls.holder pe) i k vars)
+  arm_keeps pe s x k vars e f l = goes _ _ _ _ _ (knows P S w bags modes i o pe s (record s { peeked = x }) e refl (has P S w bags modes i o s e).0 f) l
+
+  peek_keeps : (cs : List Completion) (s : Inside) (x : ℕ) → w.completions ≡ cs → modes i ≡ Locked s
+      → ((u : ℕ) (v : ℤ) → (1 ≤ bags i (TokenOf u)) ⊎ (Leads S i (bags i) (Locked (record s { peeked = Sees u })) (slice_set t.variables x v) (arm_for P i t.place u + 1) ⊎ Leads S i (bags i) (Locked (record s { peeked = SeesOther })) (slice_set t.variables x v) (arm_for P i t.place u + 1)))
+      → ((v : ℤ) → Leads S i (bags i) (Locked (record s { peeked = Unseen })) (slice_set t.variables x v) (none_arm P i t.place + 1)) → Keeps P S w.controls i (Some w) (peeks P w.controls i t x (front_of cs))
+  peek_keeps [] s x ec e g h = arm_keeps w.controls.peeked s Unseen _ _ e tt (h _)
+  peek_keeps (d ∷ ds) s x ec e g h = elim (g d.user_data d.res) [
+    | inl k ↦ absurd (twice P S w bags modes i t d ds o get ec k)
+    | inr k ↦ elim k [
+      | inl l ↦ arm_keeps true s (Sees d.user_data) _ _ e (refl, subst (λ cs. StartsWith d.user_data cs) (sym ec) refl) l
+      | inr l ↦ arm_keeps true s SeesOther _ _ e (refl, subst IsNonempty (sym ec) tt) l
+    ]
+  ]
+
+  break_keeps : (m : Mode) (releases leaves : Bool) (o' : ℕ) → modes i ≡ m → BreakRule P (bags i) m releases leaves (λ b n. Leads S i b n t.variables (end_at P i o' + 1)) → Keeps P S w.controls i (Some w) (Some (breaks P w.controls i t o' releases leaves))
+  break_keeps Unlocked false false p e h = goes w _ t.variables (bags i) (modes i) still (subst (λ m. Leads S i (bags i) m t.variables (end_at P i p + 1)) (sym e) h)
+  break_keeps Unlocked false true p e h = absurd h
+  break_keeps Unlocked true l p e h = absurd h
+  break_keeps (Locked s) false l p e h = goes _ _ _ _ _ (knows P S w bags modes i o (if l then false else w.controls.peeked) s (record s { peeked = Unseen }) e refl (has P S w bags modes i o s e).0 tt) h.1
+  break_keeps (Locked s) true l p e h = goes _ _ _ _ _ (frees P S w bags modes i o (if l then false else w.controls.peeked) s e h.0 h.1) h.2
+
+  pub line_keeps : (s : Stmt) → EdgeAt P S i (bags i) (modes i) t.variables t.place (Some s) → Keeps P S w.controls i (in_rings w t r s) (acts P w.controls i t s (answer_of w r s))
+  line_keeps (Else p) h = tt
+  line_keeps (EndIf p) h = tt
+  line_keeps (Case p u) h = tt
+  line_keeps (Other p) h = tt
+  line_keeps (Nothing p) h = tt
+  line_keeps (EndArm p) h = tt
+  line_keeps (EndPeek p) h = tt
+  line_keeps (EndLock p) h = let s = locked_of (modes i) _ h in goes _ _ _ _ _ (frees P S w bags modes i o w.controls.peeked s.0 s.1 s.2.0 s.2.1) s.2.2
+  line_keeps (EndLoop p k) h = goes _ _ _ _ _ still h
+  line_keeps (Do op) h = op_keeps P S edge w bags modes i t r o get op h
+  line_keeps Lock h = lock_keeps w.controls.holder refl h.0 h.1
+  line_keeps (If test) h = if_keeps test h.0 h.1
+  line_keeps (Peek x) h = let s = locked_of (modes i) _ h in peek_keeps w.completions s.0 x refl s.1 s.2.0 s.2.1
+  line_keeps (Loop k) h = goes _ _ _ _ _ still h
+  line_keeps (Break p releases leaves) h = break_keeps (modes i) releases leaves p refl h

@@ -1,0 +1,317 @@
+-- What a world without a fault is like, and so each world of a run of a safe program.
+use Rattle.std.proofs.Common.{◌≡◌, ℕ, zero, suc, ◌+◌, ◌-◌, ◌<◌, ◌⊎◌, Bool, true, false, ◌&&◌, ◌||◌, List, [], ◌∷◌, length, drop, Option, Some, None, refl, sym, ap, ◌∙◌, subst, inl, inr, arith, length-drop}
+use Rattle.std.proofs.lemmas.Bool.{and_cases, and_from, and_parts, cases_order, eq-eqb, eqb-true, leb-false, leb-true, not-false, or_left, or_parts, or_right}
+use Rattle.std.specs.List.{list_any}
+use Rattle.std.specs.Prelude.{nat_eq, nat_le, not, slice_get, ℤ, if◌then◌else◌}
+use Rattle.rc_lang.specs.declared.lines.Op.{Op}
+use Rattle.rc_lang.specs.declared.lines.Op.TheVariants.{Load, Store, Fill, GetSqe, PrepRead, PrepWrite, PrepFsync, PrepNop, SetData64, Submit, SubmitAndWait, CqeSeen}
+use Rattle.rc_lang.specs.declared.lines.Stmt.{Stmt}
+use Rattle.rc_lang.specs.declared.lines.Stmt.TheVariants.{Do, EndLock, Break}
+use Rattle.rc_lang.specs.declared.request.Request.{Request}
+use Rattle.rc_lang.specs.Program.{bytes_at}
+use Rattle.rc_world.specs.declared.event.Completion.{Completion}
+use Rattle.rc_world.specs.declared.event.Event.{Event}
+use Rattle.rc_world.specs.declared.fault.FaultKind.{FaultKind}
+use Rattle.rc_world.specs.declared.fault.FaultKind.TheVariants.{WriteOfPending, ReadOfFilling, KernelClash, ThreadRace, RingFull, Overflow, AmbiguousData, UnknownReap, NoLock, RawEntry, OutOfBuffer}
+use Rattle.rc_world.specs.declared.world.Slot.{Slot}
+use Rattle.rc_world.specs.declared.world.Slot.TheVariants.{Closed, Vacant, Prepared}
+use Rattle.rc_world.specs.Controls.{Controls, Standing, controls_step, next_line}
+use Rattle.rc_world.specs.Faults.{Access, access_at, access_by, access_of, clash, clashes, clashes_with, conflicts, count_of, fault_of, front_is_one, has_buffer, has_data, has_fault, in_kernel, is_closed, is_holder, is_in_flight, is_prepared, is_raw_at, is_ring_call, is_vacant, names, overflows, races_from, reads_into}
+use Rattle.rc_world.specs.Machine.{Pending, World, answer_of, in_rings, is_read, reaps_front, thread_step, thread_step_at, used_entries, with_controls, without_data}
+use Rattle.rc_world.proofs.LawFaultless.{none_at, none_in_kernel, none_of_kind}
+use Rattle.rc_admit.specs.Worlds.{DataIsFresh, CallsUnderLock, EachReapsOne, EntrySuits, Fills, FindsEntry, HasRoom, IsNext, IsPending, Names, NoKernelClash, NoReadOfFilling, NoThreadRace, NoWriteOfPending, OfSafeWorlds, Reads, StaysWithinBuffers, Suits, Writes}
+use Rattle.rc_admit.proofs.Excludes.{next_is}
+use Rattle.rc_admit.proofs.Lists.{get_within}
+
+-- ---- words of the definitions
+
+any_there : {A : Type 0} (test : A → Bool) (xs : List A) (k : ℕ) (x : A) → slice_get xs k ≡ Some x → test x ≡ true → list_any test xs ≡ true
+any_there test [] k x e h = absurd (cc)
+any_there test (y ∷ xs) zero x e h = let q : y ≡ x = cc in or_left (test y) (list_any test xs) (ap test q ∙ h)
+any_there test (y ∷ xs) (suc k) x e h = or_right (test y) (list_any test xs) (any_there test xs k x e h)
+
+fills : (r : Request) (b : ℕ) → Fills r b → reads_into b r ≡ true
+fills r b f = and_from (is_read r.kind) (nat_eq r.buffer b) (ap is_read f.0) (eq-eqb r.buffer b f.1)
+
+has_one : (r : Request) (b : ℕ) → Names r b → has_buffer r.kind ≡ true
+has_one r b n = elim n.0 [ inl e ↦ ap has_buffer e | inr e ↦ ap has_buffer e ]
+
+named : (r : Request) (b : ℕ) → Names r b → names b r ≡ true
+named r b n = and_from (has_buffer r.kind) (nat_eq r.buffer b) (has_one r b n) (eq-eqb r.buffer b n.1)
+
+holder_is : (o : Option ℕ) (i : ℕ) → is_holder o i ≡ true → o ≡ Some i
+holder_is None i e = absurd (cc)
+holder_is (Some j) i e = ap Some (eqb-true j i e)
+
+is_the_holder : (o : Option ℕ) (i : ℕ) → o ≡ Some i → is_holder o i ≡ true
+is_the_holder o i e = ap (λ (x : Option ℕ). is_holder x i) e ∙ eq-eqb i i refl
+
+-- of a test of two parts that fails, the second does where the first doesn't
+second_fails : (a b : Bool) → (a && b) ≡ false → a ≡ true → b ≡ false
+second_fails a b e h = elim (and_cases a b e) [ inl x ↦ absurd (cc) | inr x ↦ x ]
+
+closed_is : (x : Slot) → not (is_closed x) ≡ false → x ≡ Closed
+closed_is Closed e = refl
+closed_is Vacant e = absurd (cc)
+closed_is (Prepared r) e = absurd (cc)
+
+vacant_is : (x : Slot) → not (is_vacant x) ≡ false → x ≡ Vacant
+vacant_is Closed e = absurd (cc)
+vacant_is Vacant e = refl
+vacant_is (Prepared r) e = absurd (cc)
+
+prepared_is : (x : Slot) → not (is_prepared x) ≡ false → (r : Request) × (x ≡ Prepared r)
+prepared_is Closed e = absurd (cc)
+prepared_is Vacant e = absurd (cc)
+prepared_is (Prepared r) e = (r, refl)
+
+-- two of the pending requests
+clash_there : (ps : List Pending) (j k : ℕ) (p q : Pending) → j < k → slice_get ps j ≡ Some p → slice_get ps k ≡ Some q → clash p.request q.request ≡ true → clashes ps ≡ true
+clash_there [] j k p q lt e f h = absurd (cc)
+clash_there (x ∷ ps) j zero p q lt e f h = absurd (omega arith)
+clash_there (x ∷ ps) zero (suc k) p q lt e f h =
+    let s : x ≡ p = cc in
+    or_left (clashes_with x.request ps) (clashes ps) (any_there (λ (y : Pending). clash x.request y.request) ps k q f (ap (λ (y : Pending). clash y.request q.request) s ∙ h))
+clash_there (x ∷ ps) (suc j) (suc k) p q lt e f h = or_right (clashes_with x.request ps) (clashes ps) (clash_there ps j k p q (omega arith) e f h)
+
+-- a statement that writes a buffer, and one that goes to it
+abbrev wrote : ℕ → Access
+wrote b = record { buffer = b; writes = true }
+
+writes_it : (op : Op) (b : ℕ) → Writes op b → access_by op ≡ Some (wrote b)
+writes_it (Store c j x) b e = ap (λ n. Some (wrote n)) e
+writes_it (Fill c x) b e = ap (λ n. Some (wrote n)) e
+writes_it _ b e = absurd e
+
+goes_there : (op : Op) (b : ℕ) → Writes op b ⊎ Reads op b → (a : Access) × (access_by op ≡ Some a) × (a.buffer ≡ b)
+goes_there op b h = elim h [ inl e ↦ (wrote b, writes_it op b e, refl) | inr e ↦ reads op e ]
+  where
+    reads : (op : Op) → Reads op b → (a : Access) × (access_by op ≡ Some a) × (a.buffer ≡ b)
+    reads (Load x c j) e = (record { buffer = c; writes = false }, refl, e)
+    reads _ e = absurd e
+
+-- no thread from the m-th on
+race_at : (w : World) (a : Option Access) (ts : List Standing) (m k : ℕ) → races_from w a m ts ≡ false → k < length ts → conflicts a (access_at (next_line w.program w.controls (m + k))) ≡ false
+race_at w a [] m k e lt = absurd (omega arith)
+race_at w a (t ∷ ts) m zero e lt =
+    let s : m + 0 ≡ m = omega arith in
+    ap (λ n. conflicts a (access_at (next_line w.program w.controls n))) s ∙ (or_parts (conflicts a (access_at (next_line w.program w.controls m))) (races_from w a (m + 1) ts) e).0
+race_at w a (t ∷ ts) m (suc k) e lt =
+    let s : m + suc k ≡ (m + 1) + k = omega arith in
+    ap (λ n. conflicts a (access_at (next_line w.program w.controls n))) s ∙ race_at w a ts (m + 1) k (or_parts (conflicts a (access_at (next_line w.program w.controls m))) (races_from w a (m + 1) ts) e).1 (omega arith)
+
+-- ---- what a step of cqe_seen leaves
+
+abbrev one_if : Bool → ℕ
+one_if b = if b then 1 else 0
+
+count_less : (u : ℕ) (rs : List Request) → count_of u rs ≡ 1 → count_of u (without_data u rs) ≡ 0
+count_less u [] e = absurd (cc)
+count_less u (r ∷ rs) e = go (λ h. count_less u rs h) (nat_eq r.user_data u) refl e
+  where
+    go : (count_of u rs ≡ 1 → count_of u (without_data u rs) ≡ 0) → (b : Bool) → nat_eq r.user_data u ≡ b → one_if b + count_of u rs ≡ 1 → count_of u (if b then rs else r ∷ without_data u rs) ≡ 0
+    go on true q e = let h : 1 + count_of u rs ≡ 1 = e in omega arith
+    go on false q e =
+        let h : 0 + count_of u rs ≡ 1 = e in
+        let x : count_of u (without_data u rs) ≡ 0 = on (omega arith) in
+        let z : one_if (nat_eq r.user_data u) ≡ 0 = ap one_if q in
+        omega (arith, x, z)
+
+module _ (w : World) (none : fault_of w ≡ None) where
+  at : (kind : FaultKind) (i : ℕ) (s : Stmt) → IsNext w i s → has_fault w kind i s ≡ false
+  at kind i s n = subst (λ x. has_fault w kind i x ≡ false) n.2 (none_at w kind (none_of_kind w none kind) i n.0 n.1)
+
+  in_the_kernel : (kind : FaultKind) → in_kernel w kind ≡ false
+  in_the_kernel kind = none_in_kernel w kind (none_of_kind w none kind)
+
+  there : (k b : ℕ) (r : Request) → IsPending w k r → (test : Request → Bool) → test r ≡ true → list_any (λ (p : Pending). test p.request) w.pending ≡ true
+  there k b r p test h = any_there (λ (p : Pending). test p.request) w.pending k p.0 p.1 (ap test p.2 ∙ h)
+
+  -- ---- buffers
+
+  pub no_write_of_pending : NoWriteOfPending w
+  no_write_of_pending i k b op r n y p q = go op y n
+    where
+      is_there : list_any (λ (x : Pending). names b x.request) w.pending ≡ true
+      is_there = there k b r p (λ (x : Request). names b x) (named r b q)
+
+      bad : (c : ℕ) → c ≡ b → list_any (λ (x : Pending). names c x.request) w.pending ≡ false → ⊥
+      bad c e f = let g : list_any (λ (x : Pending). names b x.request) w.pending ≡ false = subst (λ d. list_any (λ (x : Pending). names d x.request) w.pending ≡ false) e f in let h = is_there in absurd (cc)
+
+      go : (op : Op) → Writes op b → IsNext w i (Do op) → ⊥
+      go (Store c j x) e m = bad c e (at WriteOfPending i (Do (Store c j x)) m)
+      go (Fill c x) e m = bad c e (at WriteOfPending i (Do (Fill c x)) m)
+      go _ e m = e
+
+  pub no_read_of_filling : NoReadOfFilling w
+  no_read_of_filling i k b op r n y p q = go op y n
+    where
+      is_there : list_any (λ (x : Pending). reads_into b x.request) w.pending ≡ true
+      is_there = there k b r p (λ (x : Request). reads_into b x) (fills r b q)
+
+      go : (op : Op) → Reads op b → IsNext w i (Do op) → ⊥
+      go (Load x c j) e m =
+          let f : list_any (λ (x : Pending). reads_into c x.request) w.pending ≡ false = at ReadOfFilling i (Do (Load x c j)) m in
+          let g : list_any (λ (x : Pending). reads_into b x.request) w.pending ≡ false = subst (λ d. list_any (λ (x : Pending). reads_into d x.request) w.pending ≡ false) e f in
+          let h = is_there in
+          absurd (cc)
+      go _ e m = e
+
+  -- a request that fills a buffer and one that names it, in either order
+  clash_of : (r s : Request) (b : ℕ) → has_buffer r.kind ≡ true → r.buffer ≡ b → Names s b → (is_read r.kind || is_read s.kind) ≡ true → clash r s ≡ true
+  clash_of r s b h e n f = and_from (has_buffer r.kind && names r.buffer s) (is_read r.kind || is_read s.kind) (and_from (has_buffer r.kind) (names r.buffer s) h (ap (λ c. names c s) e ∙ named s b n)) f
+
+  pub no_kernel_clash : NoKernelClash w
+  no_kernel_clash j k b r s ne p q f n = elim (cases_order j k) [
+    | inl e ↦ ne e
+    | inr o ↦ elim o [
+      | inl lt ↦ bad j k p.0 q.0 lt p.1 q.1 (ap (λ (x : Request). clash x q.0.request) p.2 ∙ (ap (λ (x : Request). clash r x) q.2 ∙ clash_of r s b (ap has_buffer f.0) f.1 n (or_left (is_read r.kind) (is_read s.kind) (ap is_read f.0))))
+      | inr lt ↦ bad k j q.0 p.0 lt q.1 p.1 (ap (λ (x : Request). clash x p.0.request) q.2 ∙ (ap (λ (x : Request). clash s x) p.2 ∙ clash_of s r b (has_one s b n) n.1 (inl f.0, f.1) (or_right (is_read s.kind) (is_read r.kind) (ap is_read f.0))))
+    ]
+  ]
+    where
+      bad : (j k : ℕ) (x y : Pending) → j < k → slice_get w.pending j ≡ Some x → slice_get w.pending k ≡ Some y → clash x.request y.request ≡ true → ⊥
+      bad j k x y lt e f c = let h : clashes w.pending ≡ true = clash_there w.pending j k x y lt e f c in let g : clashes w.pending ≡ false = in_the_kernel KernelClash in cc
+
+  -- of two threads the first has no conflict with the second
+  no_conflict : (i j : ℕ) (x y : Op) → i < j → IsNext w i (Do x) → IsNext w j (Do y) → conflicts (access_by x) (access_by y) ≡ false
+  no_conflict i j x y lt n m =
+      let races : races_from w (access_by x) (i + 1) (drop (i + 1) w.controls.threads) ≡ false = at ThreadRace i (Do x) n in
+      let t = next_is w j m.0 m.1 in
+      let in_all : j < length w.controls.threads = get_within w.controls.threads j t.thread t.stands in
+      let len : length (drop (i + 1) w.controls.threads) ≡ length w.controls.threads - (i + 1) = length-drop (i + 1) w.controls.threads in
+      let le : j - (i + 1) < length (drop (i + 1) w.controls.threads) = omega arith in
+      let is : (i + 1) + (j - (i + 1)) ≡ j = omega arith in
+      let h = race_at w (access_by x) (drop (i + 1) w.controls.threads) (i + 1) (j - (i + 1)) races le in
+      let line : access_at (next_line w.program w.controls ((i + 1) + (j - (i + 1)))) ≡ access_by y = ap (λ k. access_at (next_line w.program w.controls k)) is ∙ (ap access_at m.1 ∙ ap access_of m.2) in
+      ap (λ a. conflicts (access_by x) a) (sym line) ∙ h
+
+  pub no_thread_race : NoThreadRace w
+  no_thread_race i j b x y ne n m wr to =
+      let ex = writes_it x b wr in
+      let ey = goes_there y b to in
+      elim (cases_order i j) [
+        | inl e ↦ ne e
+        | inr o ↦ elim o [
+          | inl lt ↦
+              let h : (nat_eq b ey.0.buffer && true) ≡ false = ap (λ a. conflicts a (Some ey.0)) (sym ex) ∙ (ap (λ a. conflicts (access_by x) a) (sym ey.1) ∙ no_conflict i j x y lt n m) in
+              let g : (nat_eq b ey.0.buffer && true) ≡ true = and_from (nat_eq b ey.0.buffer) true (eq-eqb b ey.0.buffer (sym ey.2)) refl in
+              absurd (cc)
+          | inr lt ↦
+              let h : (nat_eq ey.0.buffer b && (ey.0.writes || true)) ≡ false = ap (λ a. conflicts a (Some (wrote b))) (sym ey.1) ∙ (ap (λ a. conflicts (access_by y) a) (sym ex) ∙ no_conflict j i y x lt m n) in
+              let g : (nat_eq ey.0.buffer b && (ey.0.writes || true)) ≡ true = and_from (nat_eq ey.0.buffer b) (ey.0.writes || true) (eq-eqb ey.0.buffer b ey.2) (or_right ey.0.writes true refl) in
+              absurd (cc)
+        ]
+      ]
+
+  pub stays_within_buffers : StaysWithinBuffers w
+  stays_within_buffers i (Load x b j) n = leb-false (bytes_at w.program.buffers b) j (at OutOfBuffer i (Do (Load x b j)) n)
+  stays_within_buffers i (Store b j x) n = leb-false (bytes_at w.program.buffers b) j (at OutOfBuffer i (Do (Store b j x)) n)
+  stays_within_buffers i (PrepRead fd b len off) n = leb-true len (bytes_at w.program.buffers b) (not-false (nat_le len (bytes_at w.program.buffers b)) (at OutOfBuffer i (Do (PrepRead fd b len off)) n))
+  stays_within_buffers i (PrepWrite fd b len off k) n = leb-true len (bytes_at w.program.buffers b) (not-false (nat_le len (bytes_at w.program.buffers b)) (at OutOfBuffer i (Do (PrepWrite fd b len off k)) n))
+  stays_within_buffers i _ n = tt
+
+  -- ---- the rings
+
+  under_lock : (i : ℕ) (s : Stmt) → IsNext w i s → is_ring_call s ≡ true → is_holder w.controls.holder i ≡ true
+  under_lock i s n c = not-false (is_holder w.controls.holder i) (second_fails (is_ring_call s) (not (is_holder w.controls.holder i)) (at NoLock i s n) c)
+
+  pub calls_under_lock : CallsUnderLock w
+  calls_under_lock i s n c = holder_is w.controls.holder i (under_lock i s n c)
+
+  -- what is wrong of the holder's next statement alone
+  of_holder : (i : ℕ) (b : Bool) → is_holder w.controls.holder i ≡ true → (is_holder w.controls.holder i && b) ≡ false → b ≡ false
+  of_holder i b h e = second_fails (is_holder w.controls.holder i) b e h
+
+  pub finds_entry : FindsEntry w
+  finds_entry i n =
+      let h = under_lock i (Do GetSqe) n refl in
+      let closed : w.slot ≡ Closed = closed_is w.slot (of_holder i (not (is_closed w.slot)) h (at RawEntry i (Do GetSqe) n)) in
+      let room : used_entries w < w.program.entries = leb-false w.program.entries (used_entries w) (of_holder i (nat_le w.program.entries (used_entries w)) h (at RingFull i (Do GetSqe) n)) in
+      (closed, omega arith)
+
+  suits_at : (i : ℕ) (s : Stmt) → is_raw_at w.slot s ≡ false → Suits w.slot s
+  suits_at i (Do GetSqe) e = closed_is w.slot e
+  suits_at i (Do (PrepRead fd b len off)) e = vacant_is w.slot e
+  suits_at i (Do (PrepWrite fd b len off k)) e = vacant_is w.slot e
+  suits_at i (Do (PrepFsync fd datasync)) e = vacant_is w.slot e
+  suits_at i (Do PrepNop) e = vacant_is w.slot e
+  suits_at i (Do (SetData64 u)) e = prepared_is w.slot e
+  suits_at i (Do (Submit x)) e = closed_is w.slot e
+  suits_at i (Do (SubmitAndWait x n)) e = closed_is w.slot e
+  suits_at i (EndLock o) e = closed_is w.slot e
+  suits_at i (Break o releases leaves) e = λ r. closed_is w.slot (second_fails releases (not (is_closed w.slot)) e r)
+  suits_at i _ e = tt
+
+  pub entry_suits : EntrySuits w
+  entry_suits i s h n = suits_at i s (of_holder i (is_raw_at w.slot s) (is_the_holder w.controls.holder i h) (at RawEntry i s n))
+
+  pub has_room : HasRoom w
+  has_room k r p = go w.pending (in_the_kernel Overflow) p.1
+    where
+      go : (ps : List Pending) → overflows w ps ≡ false → slice_get ps k ≡ Some p.0 → length w.completions < w.program.completion_entries
+      go [] e f = absurd (cc)
+      go (x ∷ ps) e f = leb-false w.program.completion_entries (length w.completions) e
+
+  -- ---- user data
+
+  pub none_in_flight : (i u : ℕ) → IsNext w i (Do (SetData64 u)) → is_in_flight w u ≡ false
+  none_in_flight i u n =
+      let h = under_lock i (Do (SetData64 u)) n refl in
+      let prepared : is_prepared w.slot ≡ true = not-false (is_prepared w.slot) (of_holder i (not (is_prepared w.slot)) h (at RawEntry i (Do (SetData64 u)) n)) in
+      second_fails (is_prepared w.slot) (is_in_flight w u) (of_holder i (is_prepared w.slot && is_in_flight w u) h (at AmbiguousData i (Do (SetData64 u)) n)) prepared
+
+  pub data_is_fresh : DataIsFresh w
+  data_is_fresh i u k r n inside e =
+      let two = or_parts (list_any (has_data u) w.queued || list_any (λ (p : Pending). has_data u p.request) w.pending) (list_any (has_data u) w.completed) (none_in_flight i u n) in
+      let first = or_parts (list_any (has_data u) w.queued) (list_any (λ (p : Pending). has_data u p.request) w.pending) two.0 in
+      let mine : has_data u r ≡ true = eq-eqb r.user_data u e in
+      elim inside [
+        | inl q ↦ let t = any_there (has_data u) w.queued k r q mine in let f = first.0 in absurd (cc)
+        | inr o ↦ elim o [
+          | inl p ↦ let t = there k u r p (has_data u) mine in let f = first.1 in absurd (cc)
+          | inr q ↦ let t = any_there (has_data u) w.completed k r q mine in let f = two.1 in absurd (cc)
+        ]
+      ]
+
+  -- the front completion, where the front is that of one request
+  front_of_one : (cs : List Completion) → front_is_one w cs ≡ true → (c : Completion) × (ds : List Completion) × (cs ≡ c ∷ ds) × (count_of c.user_data w.completed ≡ 1)
+  front_of_one [] e = absurd (cc)
+  front_of_one (c ∷ ds) e = (c, ds, refl, eqb-true (count_of c.user_data w.completed) 1 e)
+
+  -- what is behind a step of cqe_seen
+  abbrev Leaves : Completion → List Completion → Option (Event × World) → Type 0
+  Leaves c ds None = Unit {0}
+  Leaves c ds (Some x) = (count_of c.user_data x.1.completed ≡ 0) × (x.1.completions ≡ ds)
+
+  leaves : (i : ℕ) (r : ℤ) (c : Completion) (ds : List Completion) → w.completions ≡ c ∷ ds → count_of c.user_data w.completed ≡ 1 → IsNext w i (Do CqeSeen) → Leaves c ds (thread_step w i r)
+  leaves i r c ds e one n =
+      let t = next_is w i n.0 n.1 in
+      subst (λ x. Leaves c ds (thread_step_at w i r x (next_line w.program w.controls i))) (sym t.stands)
+      (subst (λ y. Leaves c ds (thread_step_at w i r (Some t.thread) y)) (sym n.1)
+      (subst (λ s. Leaves c ds (with_controls (in_rings w t.thread r s) (controls_step w.program w.controls i (answer_of w r s)))) (sym n.2) (go t.thread (controls_step w.program w.controls i (answer_of w r (Do CqeSeen))))))
+    where
+      after : (x : Option (Event × Controls)) → Leaves c ds (with_controls (Some (record w { completions = ds; completed = without_data c.user_data w.completed })) x)
+      after None = tt
+      after (Some x) = (count_less c.user_data w.completed one, refl)
+
+      go : (t : Standing) (x : Option (Event × Controls)) → Leaves c ds (with_controls (in_rings w t r (Do CqeSeen)) x)
+      go t x = subst (λ cs. Leaves c ds (with_controls (reaps_front w cs) x)) (sym e) (after x)
+
+  pub each_reaps_one : EachReapsOne w
+  each_reaps_one i n =
+      let h = under_lock i (Do CqeSeen) n refl in
+      let both = and_parts w.controls.peeked (front_is_one w w.completions) (not-false (w.controls.peeked && front_is_one w w.completions) (of_holder i (not (w.controls.peeked && front_is_one w w.completions)) h (at UnknownReap i (Do CqeSeen) n))) in
+      let f = front_of_one w.completions both.1 in
+      record {
+        front = f.0;
+        others = f.1;
+        completions = f.2;
+        peeked = both.0;
+        one = f.3;
+        behind = λ r e after s. subst (λ x. Leaves f.0 f.1 x) s (leaves i r f.0 f.1 f.2 f.3 n);
+      }
+
+-- of each world of a run of a safe program
+pub of_safe : (F : World → Type 0) → ((w : World) → fault_of w ≡ None → F w) → OfSafeWorlds F
+of_safe F h P safe events w r = h w (safe events w r)

@@ -1,0 +1,45 @@
+use Rattle.std.proofs.Common.{sym}
+use Rattle.rc_world.specs.Machine.{start_world}
+use Rattle.rc_admit.specs.Worlds.{CallsUnderLock, DataIsFresh, EachReapsOne, EntrySuits, FindsEntry, HasRoom, NoKernelClash, NoReadOfFilling, NoThreadRace, NoWriteOfPending, StaysWithinBuffers}
+use Rattle.rc_admit.proofs.Flights.{run_tidy, start_tidy}
+use Rattle.rc_admit.proofs.Worlds.{calls_under_lock, data_is_fresh, each_reaps_one, entry_suits, finds_entry, has_room, no_kernel_clash, no_read_of_filling, no_thread_race, no_write_of_pending, of_safe, stays_within_buffers}
+use Rattle.rc_admit.proofs.laws.safe_worlds.Goals as goal
+
+pub returns-clause-no_write_of_pending : goal.returns-clause-no_write_of_pending
+returns-clause-no_write_of_pending c = of_safe NoWriteOfPending (λ w none. no_write_of_pending w none)
+
+pub returns-clause-no_read_of_filling : goal.returns-clause-no_read_of_filling
+returns-clause-no_read_of_filling c = of_safe NoReadOfFilling (λ w none. no_read_of_filling w none)
+
+pub returns-clause-no_kernel_clash : goal.returns-clause-no_kernel_clash
+returns-clause-no_kernel_clash c = of_safe NoKernelClash (λ w none. no_kernel_clash w none)
+
+pub returns-clause-no_thread_race : goal.returns-clause-no_thread_race
+returns-clause-no_thread_race c = of_safe NoThreadRace (λ w none. no_thread_race w none)
+
+pub returns-clause-within_buffers : goal.returns-clause-within_buffers
+returns-clause-within_buffers c = of_safe StaysWithinBuffers (λ w none. stays_within_buffers w none)
+
+pub returns-clause-under_lock : goal.returns-clause-under_lock
+returns-clause-under_lock c = of_safe CallsUnderLock (λ w none. calls_under_lock w none)
+
+pub returns-clause-finds_entry : goal.returns-clause-finds_entry
+returns-clause-finds_entry c = of_safe FindsEntry (λ w none. finds_entry w none)
+
+pub returns-clause-entry_suits : goal.returns-clause-entry_suits
+returns-clause-entry_suits c = of_safe EntrySuits (λ w none. entry_suits w none)
+
+pub returns-clause-has_room : goal.returns-clause-has_room
+returns-clause-has_room c = of_safe HasRoom (λ w none. has_room w none)
+
+pub returns-clause-data_is_fresh : goal.returns-clause-data_is_fresh
+returns-clause-data_is_fresh c = of_safe DataIsFresh (λ w none. data_is_fresh w none)
+
+pub returns-clause-reaps_one : goal.returns-clause-reaps_one
+returns-clause-reaps_one c = of_safe EachReapsOne (λ w none. each_reaps_one w none)
+
+pub returns-clause-data_is_one : goal.returns-clause-data_is_one
+returns-clause-data_is_one c P safe events w r = (run_tidy events (start_world P) w (start_tidy P) r).one_each
+
+pub returns-clause-completions_agree : goal.returns-clause-completions_agree
+returns-clause-completions_agree c P safe events w r = sym (run_tidy events (start_world P) w (start_tidy P) r).agree

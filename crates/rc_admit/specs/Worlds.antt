@@ -1,0 +1,137 @@
+-- What it means that a program is safe: what holds of each world of its runs, in the terms of io_uring(7).
+use Rattle.std.specs.Prelude.{ℕ, ◌≡◌, ◌≢◌, ◌⊎◌, ◌<◌, ◌≤◌, ◌+◌, true, List, ◌∷◌, length, map, Some, slice_get, ℤ}
+use Rattle.rc_lang.specs.declared.lines.Line.{Line}
+use Rattle.rc_lang.specs.declared.lines.Op.{Op}
+use Rattle.rc_lang.specs.declared.lines.Op.TheVariants.{Load, Store, Fill, GetSqe, PrepRead, PrepWrite, PrepFsync, PrepNop, SetData64, Submit, SubmitAndWait, CqeSeen}
+use Rattle.rc_lang.specs.declared.lines.Stmt.{Stmt}
+use Rattle.rc_lang.specs.declared.lines.Stmt.TheVariants.{Do, EndLock, Break}
+use Rattle.rc_lang.specs.declared.request.Kind.TheVariants.{Read, Write}
+use Rattle.rc_lang.specs.declared.request.Request.{Request}
+use Rattle.rc_lang.specs.Program.{Program, bytes_at}
+use Rattle.rc_world.specs.declared.event.Completion.{Completion}
+use Rattle.rc_world.specs.declared.event.Event.{Event}
+use Rattle.rc_world.specs.declared.world.Slot.{Slot}
+use Rattle.rc_world.specs.declared.world.Slot.TheVariants.{Closed, Vacant, Prepared}
+use Rattle.rc_world.specs.Controls.{next_line}
+use Rattle.rc_world.specs.Faults.{count_of, is_ring_call}
+use Rattle.rc_world.specs.Machine.{Pending, World, start_world, thread_step}
+use Rattle.rc_world.specs.Runs.{IsRun, IsSafe}
+
+-- It holds of each world of each run of a program that is safe.
+abbrev pub OfSafeWorlds : (World → Type 0) → Type 0
+OfSafeWorlds F = (P : Program) → IsSafe P → (events : List Event) (w : World) → IsRun (start_world P) events w → F w
+
+-- The statement is the thread's next.
+abbrev pub IsNext : World → ℕ → Stmt → Type 0
+IsNext w i s = (l : Line) × (next_line w.program w.controls i ≡ Some l) × (l.stmt ≡ s)
+
+-- ---- buffers
+
+-- The statement writes the buffer, or reads it.
+abbrev pub Writes : Op → ℕ → Type 0
+Writes (Store c j x) b = c ≡ b
+Writes (Fill c x) b = c ≡ b
+Writes _ b = ⊥
+
+abbrev pub Reads : Op → ℕ → Type 0
+Reads (Load x c j) b = c ≡ b
+Reads _ b = ⊥
+
+-- The kernel has this request, as its k-th.
+abbrev pub IsPending : World → ℕ → Request → Type 0
+IsPending w k r = (x : Pending) × (slice_get w.pending k ≡ Some x) × (x.request ≡ r)
+
+-- The request fills the buffer; it fills it or takes its bytes.
+abbrev pub Fills : Request → ℕ → Type 0
+Fills r b = (r.kind ≡ Read) × (r.buffer ≡ b)
+
+abbrev pub Names : Request → ℕ → Type 0
+Names r b = ((r.kind ≡ Read) ⊎ (r.kind ≡ Write)) × (r.buffer ≡ b)
+
+-- No thread is about to write a buffer that a pending request names.
+abbrev pub NoWriteOfPending : World → Type 0
+NoWriteOfPending w = (i k b : ℕ) (op : Op) (r : Request) → IsNext w i (Do op) → Writes op b → IsPending w k r → Names r b → ⊥
+
+-- No thread is about to read a buffer that a pending read fills.
+abbrev pub NoReadOfFilling : World → Type 0
+NoReadOfFilling w = (i k b : ℕ) (op : Op) (r : Request) → IsNext w i (Do op) → Reads op b → IsPending w k r → Fills r b → ⊥
+
+-- No two pending requests name one buffer of which one fills it.
+abbrev pub NoKernelClash : World → Type 0
+NoKernelClash w = (j k b : ℕ) (r s : Request) → j ≢ k → IsPending w j r → IsPending w k s → Fills r b → Names s b → ⊥
+
+-- No two threads are about to go to one buffer of which one writes it.
+abbrev pub NoThreadRace : World → Type 0
+NoThreadRace w = (i j b : ℕ) (x y : Op) → i ≢ j → IsNext w i (Do x) → IsNext w j (Do y) → Writes x b → Writes y b ⊎ Reads y b → ⊥
+
+-- No load and no store is next behind the end of its buffer, and no prep of more bytes than its buffer has.
+abbrev pub IsInBuffer : Program → Op → Type 0
+IsInBuffer P (Load x b j) = j < bytes_at P.buffers b
+IsInBuffer P (Store b j x) = j < bytes_at P.buffers b
+IsInBuffer P (PrepRead fd b len off) = len ≤ bytes_at P.buffers b
+IsInBuffer P (PrepWrite fd b len off k) = len ≤ bytes_at P.buffers b
+IsInBuffer P _ = Unit {0}
+
+abbrev pub StaysWithinBuffers : World → Type 0
+StaysWithinBuffers w = (i : ℕ) (op : Op) → IsNext w i (Do op) → IsInBuffer w.program op
+
+-- ---- the rings
+
+-- No call on the ring is made without the lock.
+abbrev pub CallsUnderLock : World → Type 0
+CallsUnderLock w = (i : ℕ) (s : Stmt) → IsNext w i s → is_ring_call s ≡ true → w.controls.holder ≡ Some i
+
+-- Each io_uring_get_sqe(3) finds a free entry.
+abbrev pub FindsEntry : World → Type 0
+FindsEntry w = (i : ℕ) → IsNext w i (Do GetSqe) → (w.slot ≡ Closed) × (length w.queued < w.program.entries)
+
+-- What the holder of the lock does next finds the open entry at the stage that it wants.
+abbrev pub Suits : Slot → Stmt → Type 0
+Suits x (Do GetSqe) = x ≡ Closed
+Suits x (Do (PrepRead fd b len off)) = x ≡ Vacant
+Suits x (Do (PrepWrite fd b len off k)) = x ≡ Vacant
+Suits x (Do (PrepFsync fd datasync)) = x ≡ Vacant
+Suits x (Do PrepNop) = x ≡ Vacant
+Suits x (Do (SetData64 u)) = (r : Request) × (x ≡ Prepared r)
+Suits x (Do (Submit y)) = x ≡ Closed
+Suits x (Do (SubmitAndWait y n)) = x ≡ Closed
+Suits x (EndLock o) = x ≡ Closed
+Suits x (Break o releases leaves) = releases ≡ true → x ≡ Closed
+Suits x _ = Unit {0}
+
+abbrev pub EntrySuits : World → Type 0
+EntrySuits w = (i : ℕ) (s : Stmt) → w.controls.holder ≡ Some i → IsNext w i s → Suits w.slot s
+
+-- A pending request finds room in the completion ring.
+abbrev pub HasRoom : World → Type 0
+HasRoom w = (k : ℕ) (r : Request) → IsPending w k r → length w.completions < w.program.completion_entries
+
+-- Each io_uring_sqe_set_data64(3) gives user data that no request has which is queued, pending, or completed and not
+-- reaped.
+abbrev pub DataIsFresh : World → Type 0
+DataIsFresh w = (i u k : ℕ) (r : Request) → IsNext w i (Do (SetData64 u)) → (slice_get w.queued k ≡ Some r) ⊎ (IsPending w k r ⊎ (slice_get w.completed k ≡ Some r)) → r.user_data ≢ u
+
+-- how many requests have this user data that are queued, pending, or completed and not reaped
+abbrev pub in_flight_with : ℕ → World → ℕ
+in_flight_with u w = count_of u w.queued + count_of u (map (λ (x : Pending). x.request) w.pending) + count_of u w.completed
+
+-- No two of them have the same.
+abbrev pub DataIsOne : World → Type 0
+DataIsOne w = (u : ℕ) → in_flight_with u w ≤ 1
+
+-- The completions in their ring are those of the requests that are completed and not reaped, one by one.
+abbrev pub CompletionsAgree : World → Type 0
+CompletionsAgree w = map (λ (c : Completion). c.user_data) w.completions ≡ map (λ (r : Request). r.user_data) w.completed
+
+-- At each io_uring_cqe_seen(3) a completion is at the front, and it was looked at. Exactly one request that is completed
+-- and not reaped has its user data, and behind the step none has: the completion is gone with it.
+pub record ReapsOne (w : World) (i : ℕ) : Type 0 where
+  pub front : Completion
+  pub others : List Completion
+  pub completions : w.completions ≡ front ∷ others
+  pub peeked : w.controls.peeked ≡ true
+  pub one : count_of front.user_data w.completed ≡ 1
+  pub behind : (r : ℤ) (e : Event) (after : World) → thread_step w i r ≡ Some (e, after) → (count_of front.user_data after.completed ≡ 0) × (after.completions ≡ others)
+
+abbrev pub EachReapsOne : World → Type 0
+EachReapsOne w = (i : ℕ) → IsNext w i (Do CqeSeen) → ReapsOne w i

@@ -1,0 +1,36 @@
+//! What holds of the definitions alone.
+
+ghost use Rattle.rc_admit.specs.Laws.{AcceptedIsSafe};
+ghost use Rattle.rc_admit.specs.Worlds as worlds;
+
+/// An accepted program is safe: no world of any run of it has a fault, whatever the order in which its threads and the
+/// kernel make their steps, whatever its submits are answered and whatever its reads bring.
+pub fn accepted_is_safe()
+    ensures { AcceptedIsSafe }
+{}
+
+/// What safe means, of each world of each run of a safe program:
+///
+/// - no thread is about to write a buffer that a pending request names, nor to read one that a pending read fills; no
+///   two pending requests and no two threads go to one buffer of which one writes it, and none behind its end;
+/// - no call on the ring is made without the lock; each `io_uring_get_sqe(3)` finds a free entry, and what the holder
+///   does next finds the open entry at the stage that it wants; a pending request finds room in the completion ring;
+/// - each `io_uring_sqe_set_data64(3)` gives user data that no request in flight has, so that no two of them have the
+///   same, and the completions in their ring are those of the completed requests, in their order;
+/// - at each `io_uring_cqe_seen(3)` the front completion was looked at, exactly one completed request has its user
+///   data, and behind that step none has.
+pub fn safe_worlds()
+    ensures no_write_of_pending { worlds.OfSafeWorlds worlds.NoWriteOfPending }
+    ensures no_read_of_filling { worlds.OfSafeWorlds worlds.NoReadOfFilling }
+    ensures no_kernel_clash { worlds.OfSafeWorlds worlds.NoKernelClash }
+    ensures no_thread_race { worlds.OfSafeWorlds worlds.NoThreadRace }
+    ensures within_buffers { worlds.OfSafeWorlds worlds.StaysWithinBuffers }
+    ensures under_lock { worlds.OfSafeWorlds worlds.CallsUnderLock }
+    ensures finds_entry { worlds.OfSafeWorlds worlds.FindsEntry }
+    ensures entry_suits { worlds.OfSafeWorlds worlds.EntrySuits }
+    ensures has_room { worlds.OfSafeWorlds worlds.HasRoom }
+    ensures data_is_fresh { worlds.OfSafeWorlds worlds.DataIsFresh }
+    ensures data_is_one { worlds.OfSafeWorlds worlds.DataIsOne }
+    ensures completions_agree { worlds.OfSafeWorlds worlds.CompletionsAgree }
+    ensures reaps_one { worlds.OfSafeWorlds worlds.EachReapsOne }
+{}

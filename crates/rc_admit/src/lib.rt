@@ -1,0 +1,4 @@
+//! Accepted programs, and that they are safe.
+#![tactic(auto)]
+
+pub mod laws;
