@@ -1,5 +1,7 @@
 //! The program on words and texts, with everything that it writes and its status.
 
+mod cause_texts;
+mod causes;
 mod devices;
 mod programs;
 mod steps;
