@@ -1,10 +1,8 @@
 -- The variables of a line are of no matter to its sentences.
-use Rattle.std.proofs.Common.{◌≡◌, ℕ, List, [], ◌∷◌, length, Bool, true, false, not, ◌||◌, eqb, Option, Some, None, Result, Ok, Err, refl, sym, ap, subst, ◌∙◌}
+use Rattle.std.proofs.Common.{◌≡◌, ℕ, List, [], ◌∷◌, length, Bool, true, false, not, ◌||◌, eqb, Option, Some, None, Result, Ok, Err, refl, sym, ap, ◌∙◌}
 use Rattle.std.specs.Borrow.{Bor}
-use Rattle.rc_read.specs.Adds.{added, counted, with_words, values}
-use Rattle.rc_read.specs.Causes.{number_of_cause}
+use Rattle.rc_read.specs.Adds.{added, counted, values}
 use Rattle.rc_read.specs.declared.fault.ReadCause.{ReadCause}
-use Rattle.rc_read.specs.declared.parts.Region.{Region}
 use Rattle.rc_read.specs.declared.says.Says.{Says}
 use Rattle.rc_read.specs.declared.says.Says.TheVariants.{Case, Close}
 use Rattle.rc_read.specs.declared.table.Part.{Part}
@@ -12,7 +10,7 @@ use Rattle.rc_read.specs.declared.table.Part.TheVariants as part
 use Rattle.rc_read.specs.declared.table.Row.{Row}
 use Rattle.rc_read.specs.Judging.{named_sentences, JudgesRow, JudgesWords}
 use Rattle.rc_read.specs.Says.{says_of, says_by}
-use Rattle.rc_read.specs.Sentences.{bad_head, bad_line, may_stand, is_unknown, any_unknown, is_double, any_double, any_twice, bad_brace, is_too_long, is_too_deep, is_full, any_full, has_too_many_names, bad_nesting, bad_case, word_sentences, form_sentences, first_true}
+use Rattle.rc_read.specs.Sentences.{bad_head, bad_line, may_stand, is_unknown, any_unknown, is_double, any_double, any_twice, bad_brace, is_too_long, is_too_deep, is_full, any_full, has_too_many_names, bad_nesting, bad_case, form_sentences, first_true}
 use Rattle.rc_read.specs.Sheets.{Sheet, Draft, named, naming}
 use Rattle.rc_read.specs.Spots.{Spot, row_of, spots_of, spots_by, spots_in}
 use Rattle.rc_read.specs.Table.{parts_of, stand_of}

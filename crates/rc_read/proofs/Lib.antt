@@ -18,3 +18,5 @@ pub mod Places
 pub mod Rows
 pub mod Sizes
 pub mod Streams
+pub mod Twice
+pub mod Differ

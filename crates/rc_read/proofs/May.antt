@@ -1,8 +1,8 @@
 -- The fast test is true where the other is.
-use Rattle.std.proofs.Common.{◌≡◌, ℕ, List, [], ◌∷◌, Bool, true, false, cond, ◌&&◌, Some, None, refl}
+use Rattle.std.proofs.Common.{◌≡◌, ℕ, List, [], ◌∷◌, Bool, true, false, cond, ◌&&◌, ◌||◌, Some, None, refl}
 use Rattle.std.proofs.lemmas.Bool.{and_from}
 use Rattle.std.specs.Prelude.{option_map, unwrap_or}
-use Rattle.rc_read.specs.Quick.{may_match, fixed_fits}
+use Rattle.rc_read.specs.Quick.{may_match, may_follow, fixed_fits}
 use Rattle.rc_read.specs.Spots.{fits, behind_items, are_items, matches}
 use Rattle.rc_read.specs.declared.table.Part.{Part}
 use Rattle.rc_read.specs.declared.table.Part.TheVariants.{Fixed}
@@ -23,11 +23,21 @@ word_by : (items f fast may : Bool) (parts : List Part) (ws left : List (List �
 word_by true f fast may parts ws left g k h = refl
 word_by false f fast may parts ws left g k h = one_word f fast may parts ws g k h
 
+follows : (parts : List Part) (ws : List (List ℕ)) → matches parts ws ≡ true → may_follow parts ws ≡ true
+follows [] ws h = h
+follows (p ∷ parts) [] h = no_word (are_items p) parts h
+follows (p ∷ parts) (w ∷ ws) h =
+    word_by (are_items p) (fits p w) (fixed_fits p w) (may_follow parts ws) parts ws (behind_items (w ∷ ws)) (fixed_by p w) (follows parts ws) h
+
+rest_by : (items f follow : Bool) (parts : List Part) (ws left : List (List ℕ)) → (matches parts ws ≡ true → follow ≡ true) → unwrap_or (option_map (λ rest. matches parts rest) (cond items (Some left) (cond f (Some ws) None))) false ≡ true → (items || follow) ≡ true
+rest_by true f follow parts ws left k h = refl
+rest_by false true follow parts ws left k h = k h
+rest_by false false follow parts ws left k h = absurd cc
+
 may : (parts : List Part) (ws : List (List ℕ)) → matches parts ws ≡ true → may_match parts ws ≡ true
-may [] ws h = h
-may (p ∷ parts) [] h = no_word (are_items p) parts h
-may (p ∷ parts) (w ∷ ws) h =
-    word_by (are_items p) (fits p w) (fixed_fits p w) (may_match parts ws) parts ws (behind_items (w ∷ ws)) (fixed_by p w) (may parts ws) h
+may [] ws h = refl
+may (p ∷ parts) [] h = refl
+may (p ∷ parts) (w ∷ ws) h = rest_by (are_items p) (fits p w) (may_follow parts ws) parts ws (behind_items (w ∷ ws)) (follows parts ws) h
 
 same_by : (m n : Bool) → (n ≡ true → m ≡ true) → m ≡ false → m ≡ n
 same_by true n k e = absurd cc

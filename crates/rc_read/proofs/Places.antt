@@ -7,7 +7,7 @@ use Rattle.std.proofs.lemmas.List.{drop-map, take-map, drop-drop, drop_more, tak
 use Rattle.std.proofs.Math.Dec.{eqb-suc-suc}
 use Rattle.std.proofs.Math.ListN.{drop_of_length-le}
 use Rattle.rc_read.specs.Quick.{items_in_front, taken_one, taken_by, spots_of_all, spots_of_taken}
-use Rattle.rc_read.specs.Spots.{Spot, are_items, fits, is_item, spots_of_item, spots_of_items, behind_items, behind_one, behind, is_end, matches, spot_of_part, spots_at, spots_of}
+use Rattle.rc_read.specs.Spots.{Spot, are_items, fits, is_item, spots_of_item, spots_of_items, behind_items, behind_one, is_end, matches, spot_of_part, spots_at, spots_of}
 use Rattle.rc_read.specs.declared.table.Part.{Part}
 use Rattle.rc_read.specs.Texts.{texts_of}
 

@@ -1,26 +1,34 @@
 -- What becomes of the sheet at a line with these words, in the steps of the code.
 use Rattle.std.specs.Prelude.{◌≡◌, ℕ, List, [], ◌∷◌, length, Option, Some, None, Result, Ok, Err, Bool, ◌||◌, nat_lt}
-use Rattle.rc_read.specs.Adds.{added, counted, with_words, values}
+use Rattle.rc_read.specs.Adds.{added, counted, with_words}
 use Rattle.rc_read.specs.Causes.{number_of_cause}
 use Rattle.rc_read.specs.declared.fault.ReadCause.{ReadCause}
 use Rattle.rc_read.specs.declared.says.Says.{Says}
+use Rattle.rc_read.specs.declared.table.Part.{Part}
 use Rattle.rc_read.specs.declared.table.Row.{Row}
 use Rattle.rc_read.specs.declared.values.Item.{Item}
-use Rattle.rc_read.specs.declared.values.Value.{Value}
+use Rattle.rc_read.specs.declared.values.Wrong.{Wrong}
 use Rattle.rc_read.specs.Says.{says_of}
-use Rattle.rc_read.specs.Sentences.{any_unknown, any_double, any_twice, bad_brace, is_too_long, is_too_deep, any_full, bad_nesting, bad_case, word_sentences, first_true}
+use Rattle.rc_read.specs.Sentences.{is_unknown, any_unknown, is_double, any_double, any_twice, bad_brace, is_too_long, is_too_deep, is_full, any_full, bad_nesting, bad_case, word_sentences, first_true}
 use Rattle.rc_read.specs.Sheets.{Sheet, named}
 use Rattle.rc_read.specs.Spots.{Spot, spots_of}
 use Rattle.rc_read.specs.Table.{parts_of}
 use Rattle.rc_read.specs.Values.{any_lacks, values_of, items_in, start}
 
+-- What is wrong with the name in a place, and in one of these.
+abbrev pub wrong_at : Sheet → Part → List ℕ → Wrong
+wrong_at s part w = record { unknown = is_unknown s part w; double = is_double s part w; full = is_full s part }
+
+abbrev pub wrong_in : Sheet → List Spot → Wrong
+wrong_in s spots = record { unknown = any_unknown s spots; double = any_double s spots; full = any_full s spots }
+
 -- The sentences from the fifth on, on a sheet that has the variables of the line.
-abbrev pub later_sentences : Sheet → List ℕ → List Spot → List Item → Says → List (ℕ × Bool)
-later_sentences s line spots items what =
-    (5, any_unknown s spots)
-    ∷ (6, any_double s spots || any_twice items)
+abbrev pub later_sentences : Sheet → List ℕ → Wrong → List Item → Says → List (ℕ × Bool)
+later_sentences s line wrong items what =
+    (5, wrong.unknown)
+    ∷ (6, wrong.double || any_twice items)
     ∷ (7, bad_brace s what)
-    ∷ (8, is_too_long s line || is_too_deep s what || any_full s spots || nat_lt 64 (length s.draft.names))
+    ∷ (8, is_too_long s line || is_too_deep s what || wrong.full || nat_lt 64 (length s.draft.names))
     ∷ (9, bad_nesting s.draft.blocks items what)
     ∷ (10, bad_case s.draft what)
     ∷ []
@@ -28,7 +36,8 @@ later_sentences s line spots items what =
 -- A line of this form, on a sheet that has its variables.
 abbrev pub named_sentences : Sheet → List ℕ → Row → List Spot → List (ℕ × Bool)
 named_sentences s line row spots =
-    (4, any_lacks s start spots) ∷ later_sentences s line spots (items_in (values_of s start spots)) (says_of row (values_of s start spots))
+    (4, any_lacks s start spots)
+    ∷ later_sentences s line (wrong_in s spots) (items_in (values_of s start spots)) (says_of row (values_of s start spots))
 
 abbrev pub JudgesNamed : {E : Type 0} → Sheet → List ℕ → List (List ℕ) → Row → List Spot → Sheet → Result (Option ReadCause) E → Type 0
 JudgesNamed s line ws row spots new (Ok None) =

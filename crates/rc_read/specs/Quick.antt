@@ -1,30 +1,51 @@
--- Faster ways to the form of a line and the places of its words. Nothing that is told of the notation speaks of this.
-use Rattle.std.specs.Prelude.{ℕ, ◌+◌, List, [], ◌∷◌, ◌++◌, length, Option, Some, None, Bool, true, false, ◌&&◌, ◌||◌, ◌==◌, if◌then◌else◌}
-use Rattle.std.specs.List.{list_any}
+-- Faster ways to what the definitions of the notation say, and likely sizes. Nothing that is told of it speaks of these.
+use Rattle.std.specs.Prelude.{ℕ, ◌+◌, ◌/◌, min, List, [], ◌∷◌, ◌++◌, length, slice_index_or, Option, Some, None, Bool, true, false, ◌&&◌, ◌||◌, ◌==◌, nat_lt, if◌then◌else◌}
 use Rattle.std.specs.Str.{bytes_eq}
+use Rattle.rc_lang.specs.declared.program.Thread.{Thread}
 use Rattle.rc_read.specs.declared.table.Part.{Part}
 use Rattle.rc_read.specs.declared.table.Part.TheVariants.{Fixed}
 use Rattle.rc_read.specs.declared.table.Row.{Row}
+use Rattle.rc_read.specs.declared.values.Item.{Item}
+use Rattle.rc_read.specs.declared.values.Item.TheVariants as item
 use Rattle.rc_read.specs.Spots.{Spot, are_items, fits, is_end, is_item, spots_of_item, spot_of_part}
 use Rattle.rc_read.specs.Table.{text_of, parts_of}
 
--- The forms that a line with so many words can have.
-abbrev pub may_have : ℕ → Row → Bool
-may_have n row = list_any are_items (parts_of row) || length (parts_of row) == n
+-- Among these is a byte above 126 or below 32, as each strange one is.
+abbrev pub any_outside : List ℕ → Bool
+any_outside [] = false
+any_outside (b ∷ bytes) = (nat_lt 126 b || nat_lt b 32) || any_outside bytes
 
-abbrev pub fitting : ℕ → List Row → List Row
-fitting n [] = []
-fitting n (row ∷ rows) = if may_have n row then row ∷ fitting n rows else fitting n rows
+-- The forms that a line can have whose first word begins with this byte.
+abbrev pub begins : ℕ → List ℕ → Bool
+begins b [] = true
+begins b (c ∷ text) = b == c
 
--- A test that is true of each line that has the parts of a form: how many words there are, and the fixed ones.
+abbrev pub may_begin : ℕ → List Part → Bool
+may_begin b (Fixed fixed ∷ parts) = begins b (text_of fixed)
+may_begin b _ = true
+
+abbrev pub beginning : ℕ → List Row → List Row
+beginning b [] = []
+beginning b (row ∷ rows) = if may_begin b (parts_of row) then row ∷ beginning b rows else beginning b rows
+
+abbrev pub first_byte : List (List ℕ) → ℕ
+first_byte ((b ∷ w) ∷ ws) = b
+first_byte _ = 0
+
+-- A test that is true of each line that has the parts of a form: how many words there are, and the fixed ones behind
+-- the first.
 abbrev pub fixed_fits : Part → List ℕ → Bool
 fixed_fits (Fixed fixed) w = bytes_eq w (text_of fixed)
 fixed_fits _ w = true
 
+abbrev pub may_follow : List Part → List (List ℕ) → Bool
+may_follow [] ws = is_end ws
+may_follow (part ∷ parts) [] = are_items part
+may_follow (part ∷ parts) (w ∷ ws) = if are_items part then true else (fixed_fits part w && may_follow parts ws)
+
 abbrev pub may_match : List Part → List (List ℕ) → Bool
-may_match [] ws = is_end ws
-may_match (part ∷ parts) [] = are_items part
-may_match (part ∷ parts) (w ∷ ws) = if are_items part then true else (fixed_fits part w && may_match parts ws)
+may_match (part ∷ parts) (w ∷ ws) = are_items part || may_follow parts ws
+may_match _ _ = true
 
 -- How many words a part takes, where they stand there, and the places of these words.
 abbrev pub items_in_front : List (List ℕ) → ℕ
@@ -44,3 +65,31 @@ spots_of_all (w ∷ ws) = spots_of_item w ++ spots_of_all ws
 
 abbrev pub spots_of_taken : Part → List (List ℕ) → List Spot
 spots_of_taken part ws = if are_items part then spots_of_all ws else spot_of_part part ws
+
+-- Items in an order: shares by the numbers of their buffers, tokens by their user data, credits and queued entries.
+abbrev pub comes_before : Item → Item → Bool
+comes_before (item.Shares b k) (item.Shares c l) = nat_lt b c
+comes_before (item.Shares b k) _ = true
+comes_before (item.Token u) (item.Token v) = nat_lt u v
+comes_before (item.Token u) (item.Credits n) = true
+comes_before (item.Token u) (item.Queued k) = true
+comes_before (item.Credits n) (item.Queued k) = true
+comes_before _ _ = false
+
+abbrev pub ascend_from : Item → List Item → Bool
+ascend_from i [] = true
+ascend_from i (j ∷ is) = comes_before i j && ascend_from j is
+
+abbrev pub ascend : List Item → Bool
+ascend [] = true
+ascend (i ∷ is) = ascend_from i is
+
+-- The byte before a name's last, and 0 where there is none.
+abbrev pub second_last : List ℕ → ℕ
+second_last (a ∷ b ∷ name) = slice_index_or (a ∷ b ∷ name) (length name) 0
+second_last _ = 0
+
+-- For how many lines a thread takes memory behind this one, or as the first, in a piece of so many bytes.
+abbrev pub size_by : Option Thread → ℕ → ℕ
+size_by None fed = min (fed / 4) 4096
+size_by (Some thread) fed = length thread.lines.items

@@ -1,14 +1,14 @@
 -- The fault sentences about a line, given what stands above it.
-use Rattle.std.specs.Prelude.{ℕ, List, [], ◌∷◌, length, take, Option, Some, None, Bool, true, false, ◌&&◌, ◌||◌, not, ◌==◌, nat_lt, nat_le, is_none, is_some, if◌then◌else◌, codes}
+use Rattle.std.specs.Prelude.{ℕ, List, [], ◌∷◌, length, take, Option, Some, None, Bool, true, false, ◌&&◌, ◌||◌, not, ◌==◌, nat_lt, nat_le, is_none, if◌then◌else◌, codes}
 use Rattle.std.specs.List.{list_any}
 use Rattle.std.specs.Str.{bytes_eq}
 use Rattle.rc_lang.specs.Nesting.{innermost, in_lock, in_peek, directly_in_peek, way_out}
 use Rattle.rc_lang.specs.declared.lines.Block.{Block}
-use Rattle.rc_lang.specs.declared.lines.Block.TheVariants.{InLock, InIf, InElse, InPeek, InArm, InLoop}
+use Rattle.rc_lang.specs.declared.lines.Block.TheVariants.{InIf}
 use Rattle.rc_read.specs.declared.parts.Region.{Region}
 use Rattle.rc_read.specs.declared.parts.Region.TheVariants.{Start, Second, Declarations, InThread, Between}
 use Rattle.rc_read.specs.declared.says.Says.{Says}
-use Rattle.rc_read.specs.declared.says.Says.TheVariants.{Version, Ring, File, Buffer, Token, Thread, Op, Lock, If, Else, Peek, Case, Other, Nothing, Loop, Break, Close}
+use Rattle.rc_read.specs.declared.says.Says.TheVariants.{Thread, Op, Lock, If, Else, Peek, Case, Other, Nothing, Loop, Break, Close}
 use Rattle.rc_read.specs.declared.table.Part.{Part}
 use Rattle.rc_read.specs.declared.table.Part.TheVariants as part
 use Rattle.rc_read.specs.declared.table.Row.{Row}
@@ -17,7 +17,7 @@ use Rattle.rc_read.specs.declared.table.Stand.TheVariants as stand
 use Rattle.rc_read.specs.declared.values.Item.{Item}
 use Rattle.rc_read.specs.declared.values.Item.TheVariants as item
 use Rattle.rc_read.specs.Adds.{items, says}
-use Rattle.rc_read.specs.Sheets.{Sheet, Draft, Arms, named, names_behind, is_among, buffer_names, thread_names, has_file, has_token}
+use Rattle.rc_read.specs.Sheets.{Sheet, Draft, named, names_behind, is_among, buffer_names, thread_names, has_file, has_token}
 use Rattle.rc_read.specs.Spots.{Spot, row_of, spots_in}
 use Rattle.rc_read.specs.Table.{stand_of}
 use Rattle.rc_read.specs.Values.{any_lacks, start, user_data_of, file_number_of}

@@ -125,7 +125,7 @@ stand_of _ = stand.Inside
 
 abbrev pub rows : List Row
 rows =
-    row.Close ∷ row.Break ∷ row.GetSqe ∷ row.CqeSeen ∷ row.PrepNop ∷ row.Lock ∷ row.Other ∷ row.Nothing ∷ row.Case ∷ row.Peek ∷ row.Submit
-    ∷ row.SetData64 ∷ row.IfReady ∷ row.If ∷ row.IfSpace ∷ row.Else ∷ row.Set ∷ row.Add ∷ row.Subtract ∷ row.Load ∷ row.Store ∷ row.Fill ∷ row.Print
-    ∷ row.PrepRead ∷ row.PrepWrite ∷ row.PrepFsync ∷ row.SubmitAndWait ∷ row.Loop ∷ row.Thread ∷ row.File ∷ row.Buffer ∷ row.TokenRead
-    ∷ row.TokenWrite ∷ row.TokenFsync ∷ row.TokenNop ∷ row.Ring ∷ row.RingCq ∷ row.RingLeft ∷ row.RingCqLeft ∷ row.Version ∷ []
+    row.Close ∷ row.Else ∷ row.Break ∷ row.GetSqe ∷ row.CqeSeen ∷ row.Case ∷ row.PrepNop ∷ row.Peek ∷ row.Print ∷ row.PrepRead ∷ row.PrepWrite
+    ∷ row.PrepFsync ∷ row.Lock ∷ row.Loop ∷ row.Other ∷ row.Nothing ∷ row.SetData64 ∷ row.Store ∷ row.Fill ∷ row.IfReady ∷ row.If ∷ row.IfSpace
+    ∷ row.Thread ∷ row.TokenRead ∷ row.TokenWrite ∷ row.TokenFsync ∷ row.TokenNop ∷ row.File ∷ row.Buffer ∷ row.Submit ∷ row.Set ∷ row.Add
+    ∷ row.Subtract ∷ row.Load ∷ row.SubmitAndWait ∷ row.Ring ∷ row.RingCq ∷ row.RingLeft ∷ row.RingCqLeft ∷ row.Version ∷ []

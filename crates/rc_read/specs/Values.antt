@@ -1,5 +1,5 @@
 -- What the words of a line say in their places.
-use Rattle.std.specs.Prelude.{ℕ, ◌-◌, ◌*◌, ◌^◌, List, [], ◌∷◌, Option, Some, None, Bool, false, ◌||◌, ◌&&◌, nat_le, is_none, option_map, unwrap_or, if◌then◌else◌, ℤ, pos, negsuc}
+use Rattle.std.specs.Prelude.{ℕ, ◌-◌, ◌^◌, List, [], ◌∷◌, Option, Some, None, Bool, false, ◌||◌, ◌&&◌, nat_le, is_none, option_map, unwrap_or, if◌then◌else◌, ℤ, pos, negsuc}
 use Rattle.rc_lang.specs.declared.lines.Comparison.{Comparison}
 use Rattle.rc_lang.specs.declared.lines.Operand.TheVariants as operand
 use Rattle.rc_lang.specs.Numbers.{is_number, value_of, number_of, signed_number_of}

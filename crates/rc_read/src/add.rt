@@ -1,14 +1,18 @@
 //! What a line adds to what was read so far.
 
-ghost use Rattle.std.specs.Prelude.{◌≡◌, ◌<◌, [], map, unwrap_or, OnOk, IfOk};
+ghost use Rattle.std.specs.Prelude.{◌≡◌, ◌-◌, ◌<◌, ◌++◌, ◌∷◌, [], None, length, map, slice_get, true, unwrap_or, OnOk, IfOk};
+ghost use Rattle.std.specs.List.{IsDistinct};
+ghost use Rattle.std.specs.Str.{bytes_eq};
 ghost use Rattle.rc_lang.specs.Nesting as nesting;
 ghost use Rattle.rc_lang.specs.Parts.{view_items, view_thread};
 ghost use Rattle.rc_read.specs.Adds as spec;
-ghost use Rattle.rc_read.specs.Sheets.{headed};
+ghost use Rattle.rc_read.specs.Quick.{size_by};
+ghost use Rattle.rc_read.specs.Sheets.{buffer_names, headed};
 ghost use Rattle.rc_read.specs.Texts.{texts_of};
 ghost use Rattle.rc_read.specs.View.{view_arms, view_draft, view_sheet};
 
 use crate::blocks::{innermost, way_out};
+use crate::names::has_buffer;
 use crate::parts::{Arms, Draft, Parts, Region};
 use crate::says::Says;
 use crate::values::Item;
@@ -17,11 +21,24 @@ use rc_lang::program::{Buffer, Items, Share, Thread};
 use std::alloc::{AllocError, Global};
 use std::mem;
 
+// How many of a list of items are shares.
+fn count_shares(items: &[Item]) -> usize
+    ensures { result ≡ length (spec.shares_held items.now) }
+{
+    let mut count = 0;
+    for item in items {
+        if let Item::Shares(_, _) = item {
+            count += 1;
+        }
+    }
+    count
+}
+
 // The shares among a list of items.
 fn shares_held(alloc: Global, items: &[Item]) -> Result<Vec<Share>, AllocError>
     ensures { IfOk result (λ v. v.items ≡ spec.shares_held items.now) }
 {
-    let mut shares = Vec::with_capacity(alloc, items.len())?;
+    let mut shares = Vec::with_capacity(alloc, count_shares(items))?;
     for item in items {
         if let Item::Shares(buffer, count) = *item {
             shares.push(Share { buffer, count })?;
@@ -30,11 +47,11 @@ fn shares_held(alloc: Global, items: &[Item]) -> Result<Vec<Share>, AllocError>
     Ok(shares)
 }
 
-// The tokens among a list of items.
-fn tokens_held(alloc: Global, items: &[Item]) -> Result<Vec<u64>, AllocError>
+// The tokens among a list of items, with memory for so many.
+fn tokens_held(alloc: Global, items: &[Item], size: usize) -> Result<Vec<u64>, AllocError>
     ensures { IfOk result (λ v. v.items ≡ spec.tokens_held items.now) }
 {
-    let mut tokens = Vec::with_capacity(alloc, items.len())?;
+    let mut tokens = Vec::with_capacity(alloc, size)?;
     for item in items {
         if let Item::Token(user_data) = *item {
             tokens.push(user_data)?;
@@ -71,9 +88,11 @@ fn queue_held(items: &[Item]) -> Option<u32>
 fn held(alloc: Global, items: &[Item]) -> Result<Items, AllocError>
     ensures { IfOk result (λ i. view_items i ≡ spec.held items.now) }
 {
+    let shares = shares_held(alloc, items)?;
+    let others = items.len().saturating_sub(shares.len());
     Ok(Items {
-        shares: shares_held(alloc, items)?,
-        tokens: tokens_held(alloc, items)?,
+        tokens: tokens_held(alloc, items, others)?,
+        shares,
         credits: credits_held(items),
         queue: queue_held(items),
     })
@@ -136,6 +155,14 @@ fn put_end(ends: &mut Vec<usize>, place: usize, stmt: Stmt) -> Result<(), AllocE
     }
 }
 
+// Adds the items of a loop.
+fn push_items(alloc: Global, loops: &mut Vec<Items>, items: &[Item]) -> Result<(), AllocError>
+    ensures { OnOk result (map view_items loops.new.items ≡ map view_items loops.old.items ++ spec.held items.now ∷ []) }
+{
+    loops.push(held(alloc, items)?)?;
+    Ok(())
+}
+
 // Keeps the items of a loop.
 fn put_loop(
     alloc: Global,
@@ -146,10 +173,7 @@ fn put_loop(
     ensures { OnOk result (map view_items loops.new.items ≡ spec.loops_behind (map view_items loops.old.items) items.now stmt) }
 {
     match stmt {
-        Stmt::Loop(_) => {
-            let items = held(alloc, items)?;
-            Ok(loops.push(items)?)
-        }
+        Stmt::Loop(_) => push_items(alloc, loops, items),
         Stmt::Do(_) | Stmt::Lock | Stmt::EndLock(_) | Stmt::If(_) => Ok(()),
         Stmt::Else(_) | Stmt::EndIf(_) | Stmt::Peek(_) | Stmt::Case(_, _) => Ok(()),
         Stmt::Other(_) | Stmt::Nothing(_) | Stmt::EndArm(_) | Stmt::EndPeek(_) => Ok(()),
@@ -295,12 +319,24 @@ fn second_of<'a>(words: &[&'a [u8]]) -> &'a [u8]
     }
 }
 
-// A thread whose header has these words and items and stands on this line.
+// For how many lines a new thread takes memory at once: as many as the one above has, and the first for each four
+// bytes of the piece, up to as many as a text may have.
+fn likely_size(threads: &[Thread], fed: usize) -> usize
+    ensures { result ≡ size_by (slice_get threads.now (length threads.now - 1)) fed }
+{
+    match threads.last() {
+        Some(thread) => thread.lines.len(),
+        None => (fed / 4).min(4096),
+    }
+}
+
+// A thread whose header has these words and items and stands on this line, with memory for as many lines.
 fn open_thread(
     alloc: Global,
     words: &[&[u8]],
     items: &[Item],
     line: u32,
+    size: usize,
 ) -> Result<Draft, AllocError>
     ensures { IfOk result (λ d. view_draft d ≡ headed (spec.second_of (texts_of words.now)) line (spec.held items.now)) }
 {
@@ -308,19 +344,32 @@ fn open_thread(
         name: Vec::from_slice(alloc, second_of(words))?,
         line,
         items: held(alloc, items)?,
+        lines: Vec::with_capacity(alloc, size)?,
+        ends: Vec::with_capacity(alloc, size)?,
         ..Draft::new(alloc)
     })
 }
 
 impl Parts {
     // Adds a line of the open thread.
-    fn say(&mut self, alloc: Global, items: &[Item], says: Says) -> Result<(), AllocError>
+    fn say(&mut self, alloc: Global, items: &[Item], says: &Says) -> Result<(), AllocError>
         requires { self.old.count < 4096 }
-        ensures ok { OnOk result (view_sheet self.new ≡ spec.said (view_sheet self.old) items.now says) }
+        ensures ok { OnOk result (view_sheet self.new ≡ spec.said (view_sheet self.old) items.now says.now) }
         ensures count { self.new.count ≡ self.old.count }
     {
-        let stmt = self.draft.stmt_in(says);
+        let stmt = self.draft.stmt_in(*says);
         self.draft.put(alloc, self.count + 1, items, stmt)
+    }
+
+    // Closes the thread.
+    fn end_thread(&mut self, alloc: Global) -> Result<(), AllocError>
+        ensures ok { OnOk result (view_sheet self.new ≡ spec.closed (view_sheet self.old) None) }
+        ensures count { self.new.count ≡ self.old.count }
+    {
+        let draft = mem::replace(&mut self.draft, Draft::new(alloc));
+        self.threads.push(draft.into_thread())?;
+        self.region = Region::Between;
+        Ok(())
     }
 
     // Closes the innermost block, and without one the thread.
@@ -330,14 +379,28 @@ impl Parts {
         ensures count { self.new.count ≡ self.old.count }
     {
         match innermost(&self.draft.blocks) {
-            Some(_) => self.say(alloc, &[], Says::Close),
-            None => {
-                let draft = mem::replace(&mut self.draft, Draft::new(alloc));
-                self.threads.push(draft.into_thread())?;
-                self.region = Region::Between;
-                Ok(())
-            }
+            Some(_) => self.say(alloc, &[], &Says::Close),
+            None => self.end_thread(alloc),
         }
+    }
+
+    // Opens a thread.
+    fn open(&mut self, alloc: Global, words: &[&[u8]], items: &[Item]) -> Result<(), AllocError>
+        requires { self.old.count < 4096 }
+        ensures ok { OnOk result (view_sheet self.new ≡ spec.added (view_sheet self.old) (texts_of words.now) items.now Says.Thread) }
+        ensures count { self.new.count ≡ self.old.count }
+    {
+        let size = likely_size(&self.threads, self.fed);
+        self.draft = open_thread(alloc, words, items, self.count + 1, size)?;
+        self.region = Region::InThread;
+        Ok(())
+    }
+
+    // Whether the names of the buffers are known to differ from each other and from this one.
+    fn differ_from(&self, name: &[u8]) -> bool
+        ensures { result ≡ true → IsDistinct bytes_eq (buffer_names (view_sheet self.now).buffers ++ name.now ∷ []) }
+    {
+        self.differ && !has_buffer(&self.buffers, name)
     }
 
     // Declares a buffer.
@@ -352,11 +415,14 @@ impl Parts {
         ensures count { self.new.count ≡ self.old.count }
     {
         let name = Vec::from_slice(alloc, second_of(words))?;
+        let differ = self.differ_from(&name);
+        self.differ = false;
         self.buffers.push(Buffer {
             name,
             bytes,
             shares,
         })?;
+        self.differ = differ;
         Ok(())
     }
 
@@ -365,13 +431,13 @@ impl Parts {
         alloc: Global,
         words: &[&[u8]],
         items: &[Item],
-        says: Says,
+        says: &Says,
     ) -> Result<(), AllocError>
         requires { self.old.count < 4096 }
-        ensures ok { OnOk result (view_sheet self.new ≡ spec.added (view_sheet self.old) (texts_of words.now) items.now says) }
+        ensures ok { OnOk result (view_sheet self.new ≡ spec.added (view_sheet self.old) (texts_of words.now) items.now says.now) }
         ensures count { self.new.count ≡ self.old.count }
     {
-        match says {
+        match *says {
             Says::Version => {
                 self.region = Region::Second;
                 Ok(())
@@ -384,15 +450,18 @@ impl Parts {
             Says::File(file) => Ok(self.files.push(file)?),
             Says::Buffer(bytes, shares) => self.put_buffer(alloc, words, bytes, shares),
             Says::Token(token) => Ok(self.tokens.push(token)?),
-            Says::Thread => {
-                self.draft = open_thread(alloc, words, items, self.count + 1)?;
-                self.region = Region::InThread;
-                Ok(())
-            }
+            Says::Thread => self.open(alloc, words, items),
             Says::Close => self.close(alloc),
-            Says::Op(_) | Says::Lock | Says::If(_) | Says::Else => self.say(alloc, items, says),
-            Says::Peek(_) | Says::Case(_) | Says::Other => self.say(alloc, items, says),
-            Says::Nothing | Says::Loop | Says::Break => self.say(alloc, items, says),
+            Says::Op(_)
+            | Says::Lock
+            | Says::If(_)
+            | Says::Else
+            | Says::Peek(_)
+            | Says::Case(_)
+            | Says::Other
+            | Says::Nothing
+            | Says::Loop
+            | Says::Break => self.say(alloc, items, says),
         }
     }
 
@@ -403,10 +472,10 @@ impl Parts {
         alloc: Global,
         words: &[&[u8]],
         items: &[Item],
-        says: Says,
+        says: &Says,
     ) -> Result<(), AllocError>
         requires { self.old.count < 4096 }
-        ensures { OnOk result (view_sheet self.new ≡ spec.counted (spec.added (view_sheet self.old) (texts_of words.now) items.now says)) }
+        ensures { OnOk result (view_sheet self.new ≡ spec.counted (spec.added (view_sheet self.old) (texts_of words.now) items.now says.now)) }
     {
         self.put(alloc, words, items, says)?;
         self.count_line();

@@ -3,6 +3,7 @@
 ghost use Rattle.std.specs.Prelude.{◌≡◌, ◌==◌};
 ghost use Rattle.std.specs.List.{list_any};
 ghost use Rattle.rc_lang.specs.Nesting as nesting;
+ghost use Rattle.rc_read.specs.Quick as quick;
 ghost use Rattle.rc_read.specs.Sentences as spec;
 ghost use Rattle.rc_read.specs.View.{view_arms, view_draft, view_sheet, view_way};
 
@@ -148,8 +149,43 @@ fn any_same(item: Item, items: &[Item]) -> bool
     items.iter().any(|other| names_same(item, *other))
 }
 
-/// Whether an item is named twice.
-pub fn any_twice(items: &[Item]) -> bool
+fn comes_before(i: Item, j: Item) -> bool
+    ensures { result ≡ quick.comes_before i j }
+{
+    match (i, j) {
+        (Item::Shares(b, _), Item::Shares(c, _)) => b < c,
+        (Item::Shares(_, _), Item::Token(_) | Item::Credits(_) | Item::Queued(_)) => true,
+        (Item::Token(u), Item::Token(v)) => u < v,
+        (Item::Token(_), Item::Credits(_) | Item::Queued(_)) => true,
+        (Item::Credits(_), Item::Queued(_)) => true,
+        _ => false,
+    }
+}
+
+fn ascend_from(first: Item, items: &[Item]) -> bool
+    ensures { result ≡ quick.ascend_from first items.now }
+{
+    let mut last = first;
+    for item in items {
+        if !comes_before(last, *item) {
+            return false;
+        }
+        last = *item;
+    }
+    true
+}
+
+// Whether each item comes before the next. Then none is named twice.
+fn ascend(items: &[Item]) -> bool
+    ensures { result ≡ quick.ascend items.now }
+{
+    match items {
+        [] => true,
+        [first, rest @ ..] => ascend_from(*first, rest),
+    }
+}
+
+fn any_repeated(items: &[Item]) -> bool
     ensures { result ≡ spec.any_twice items.now }
 {
     for (i, item) in items.iter().enumerate() {
@@ -158,6 +194,13 @@ pub fn any_twice(items: &[Item]) -> bool
         }
     }
     false
+}
+
+/// Whether an item is named twice.
+pub fn any_twice(items: &[Item]) -> bool
+    ensures { result ≡ spec.any_twice items.now }
+{
+    !ascend(items) && any_repeated(items)
 }
 
 fn is_inside(region: Region) -> bool

@@ -15,12 +15,12 @@ use crate::blocks::{
     any_twice, bad_brace, bad_case, bad_nesting, is_too_deep, is_too_long, may_stand,
 };
 use crate::fault::{ReadCause, ReadFault};
-use crate::names::{add_names, has_buffer, has_file, has_thread, has_token};
+use crate::names::add_names;
 use crate::parts::{Parts, Region};
 use crate::says::{Says, says_of};
 use crate::spots::{Spot, put_spots};
-use crate::table::{Part, Row, Stand, stand_of};
-use crate::values::{Item, Value, file_number_of, put_items, put_values, user_data_of};
+use crate::table::{Row, Stand, stand_of};
+use crate::values::{Item, Value, Wrong, put_items, put_values};
 use crate::words::{begins_strange, is, put_words};
 use std::alloc::{AllocError, Global};
 
@@ -30,6 +30,8 @@ pub struct Found<'a> {
     spots: Vec<Spot<'a>>,
     values: Vec<Value>,
     items: Vec<Item>,
+    // The number of the buffer that was named last.
+    near: usize,
 }
 
 /// Memory that each line of a piece uses again.
@@ -48,6 +50,7 @@ impl<'a> Scratch<'a> {
                 spots: Vec::new(alloc),
                 values: Vec::new(alloc),
                 items: Vec::new(alloc),
+                near: 0,
             },
         }
     }
@@ -85,91 +88,25 @@ fn bad_head(region: Region, words: &[&[u8]], row: Option<Row>) -> bool
     }
 }
 
-fn repeats_file(parts: &Parts, number: Option<u32>) -> bool
-    ensures { result ≡ spec.repeats_file (view_sheet parts.now) number }
-{
-    match number {
-        None => false,
-        Some(n) => has_file(&parts.files, n),
-    }
-}
-
-fn repeats_token(parts: &Parts, user_data: Option<u64>) -> bool
-    ensures { result ≡ spec.repeats_token (view_sheet parts.now) user_data }
-{
-    match user_data {
-        None => false,
-        Some(u) => has_token(&parts.tokens, u),
-    }
-}
-
-fn is_double(parts: &Parts, part: Part, word: &[u8]) -> bool
-    ensures { result ≡ spec.is_double (view_sheet parts.now) part word.now }
-{
-    match part {
-        Part::NewFile => repeats_file(parts, file_number_of(word)),
-        Part::NewBuffer => has_buffer(&parts.buffers, word),
-        Part::NewToken => repeats_token(parts, user_data_of(word)),
-        Part::NewThread => has_thread(&parts.threads, word) || is(&parts.draft.name, word),
-        _ => false,
-    }
-}
-
-fn any_double(parts: &Parts, spots: &[Spot]) -> bool
-    ensures { result ≡ spec.any_double (view_sheet parts.now) (view_spots spots.now) }
-{
-    for spot in spots {
-        if is_double(parts, spot.part, spot.word) {
-            return true;
-        }
-    }
-    false
-}
-
-fn is_full(parts: &Parts, part: Part) -> bool
-    ensures { result ≡ spec.is_full (view_sheet parts.now) part }
-{
-    match part {
-        Part::NewFile => parts.files.len() >= 16,
-        Part::NewBuffer => parts.buffers.len() >= 64,
-        Part::NewToken => parts.tokens.len() >= 256,
-        Part::NewThread => parts.threads.len() >= 16,
-        _ => false,
-    }
-}
-
-fn any_full(parts: &Parts, spots: &[Spot]) -> bool
-    ensures { result ≡ spec.any_full (view_sheet parts.now) (view_spots spots.now) }
-{
-    for spot in spots {
-        if is_full(parts, spot.part) {
-            return true;
-        }
-    }
-    false
-}
-
 // The cause of the first sentence from the fifth on that is true of a line, where the parts have its variables.
 fn later_cause(
     parts: &Parts,
     line: &[u8],
-    spots: &[Spot],
+    wrong: Wrong,
     items: &[Item],
     says: Says,
-    unknown: bool,
 ) -> Option<ReadCause>
-    requires { unknown ≡ spec.any_unknown (view_sheet parts.now) (view_spots spots.now) }
-    ensures { option_map number_of_cause result ≡ spec.first_true (later_sentences (view_sheet parts.now) line.now (view_spots spots.now) items.now says) }
+    ensures { option_map number_of_cause result ≡ spec.first_true (later_sentences (view_sheet parts.now) line.now wrong items.now says) }
 {
-    if unknown {
+    if wrong.unknown {
         Some(ReadCause::UnknownName)
-    } else if any_double(parts, spots) || any_twice(items) {
+    } else if wrong.double || any_twice(items) {
         Some(ReadCause::DoubleName)
     } else if bad_brace(parts, says) {
         Some(ReadCause::Braces)
     } else if is_too_long(parts, line)
         || is_too_deep(parts, says)
-        || any_full(parts, spots)
+        || wrong.full
         || parts.draft.names.len() > 64
     {
         Some(ReadCause::TooLarge)
@@ -193,15 +130,15 @@ fn judge_named(
 ) -> Result<Option<ReadCause>, AllocError>
     ensures { JudgesNamed (view_sheet parts.old) line.now (texts_of words.now) row (view_spots found.old.spots.items) (view_sheet parts.new) result }
 {
-    let Some(unknown) = put_values(&mut found.values, parts, &found.spots)? else {
+    let Some(wrong) = put_values(&mut found.values, &mut found.near, parts, &found.spots)? else {
         return Ok(Some(ReadCause::BadNumber));
     };
     put_items(&mut found.items, &found.values)?;
     let says = says_of(row, &found.values);
-    if let Some(cause) = later_cause(parts, line, &found.spots, &found.items, says, unknown) {
+    if let Some(cause) = later_cause(parts, line, wrong, &found.items, says) {
         return Ok(Some(cause));
     }
-    parts.add(alloc, words, &found.items, says)?;
+    parts.add(alloc, words, &found.items, &says)?;
     Ok(None)
 }
 

@@ -1,8 +1,10 @@
 //! Names, and what is declared.
 
-ghost use Rattle.std.specs.Prelude.{◌≡◌, map, OnOk};
+ghost use Rattle.std.specs.Prelude.{◌≡◌, Some, map, IfSome, OnOk};
+ghost use Rattle.std.specs.List.{IsDistinct};
 ghost use Rattle.std.specs.Str.{bytes_eq};
 ghost use Rattle.rc_lang.specs.Parts.{view_buffer, view_thread};
+ghost use Rattle.rc_read.specs.Quick.{second_last};
 ghost use Rattle.rc_read.specs.Sheets as spec;
 ghost use Rattle.rc_read.specs.Texts.{view_spots};
 ghost use Rattle.rc_read.specs.View.{view_names};
@@ -12,11 +14,24 @@ use crate::table::Part;
 use rc_lang::program::{Buffer, File, Thread, Token};
 use std::alloc::{AllocError, Global};
 
+// The byte before the last, and 0 where there is none.
+fn second_last(name: &[u8]) -> u8
+    ensures { result ≡ second_last name.now }
+{
+    match name {
+        [.., byte, _] => *byte,
+        _ => 0,
+    }
+}
+
 // Whether two names are the same. Their ends differ most often.
 fn is_same(name: &[u8], word: &[u8]) -> bool
     ensures { result ≡ bytes_eq name.now word.now }
 {
-    name.len() == word.len() && name.last() == word.last() && name == word
+    name.len() == word.len()
+        && name.last() == word.last()
+        && second_last(name) == second_last(word)
+        && name == word
 }
 
 /// The number of a name, which for a new one is that of the next.
@@ -42,6 +57,22 @@ pub fn find_buffer(buffers: &[Buffer], word: &[u8]) -> (usize, Option<u32>)
         }
     }
     (buffers.len(), None)
+}
+
+/// The number and the shares of a buffer, where it is one of the eight from this place on and no other has its name.
+pub fn find_near(buffers: &[Buffer], place: usize, word: &[u8]) -> Option<(usize, u32)>
+    requires { IsDistinct bytes_eq (spec.buffer_names (map view_buffer buffers.now)) }
+    ensures number { IfSome result (λ p. p.0 ≡ spec.buffer_number (map view_buffer buffers.now) word.now) }
+    ensures shares { IfSome result (λ p. Some p.1 ≡ spec.shares_in (map view_buffer buffers.now) word.now) }
+{
+    let end = buffers.len().min(place.saturating_add(8));
+    for i in place..end {
+        let buffer = &buffers[i];
+        if is_same(&buffer.name, word) {
+            return Some((i, buffer.shares));
+        }
+    }
+    None
 }
 
 /// Whether a buffer is declared.
@@ -84,7 +115,11 @@ pub fn has_token(tokens: &[Token], user_data: u64) -> bool
     if place < tokens.len() && tokens[place].user_data == user_data {
         return true;
     }
-    tokens.iter().any(|token| token.user_data == user_data)
+    let mut any = false;
+    for token in tokens {
+        any = any | (token.user_data == user_data);
+    }
+    any
 }
 
 fn is_among(names: &[Vec<u8>], word: &[u8]) -> bool

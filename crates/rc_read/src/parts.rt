@@ -1,6 +1,11 @@
 //! What was read so far.
 
-ghost use Rattle.std.specs.Prelude.{◌≤◌};
+ghost use Rattle.std.specs.Prelude.{◌≡◌, ◌≤◌, true, map};
+ghost use Rattle.std.proofs.Props.{props};
+ghost use Rattle.std.specs.List.{IsDistinct};
+ghost use Rattle.std.specs.Str.{bytes_eq};
+ghost use Rattle.rc_lang.specs.Parts.{view_buffer};
+ghost use Rattle.rc_read.specs.Sheets.{buffer_names};
 
 use rc_lang::lines::{Block, Line};
 use rc_lang::program::{Buffer, File, Head, Items, Thread, Token};
@@ -54,7 +59,12 @@ pub struct Parts {
     pub tokens: Vec<Token>,
     pub threads: Vec<Thread>,
     pub draft: Draft,
+    /// Whether the names of the buffers are known to differ.
+    pub differ: bool,
+    /// How many bytes the last piece of the text has.
+    pub fed: usize,
     ghost few_lines: { count ≤ 4096 },
+    ghost names_differ: { differ ≡ true → IsDistinct bytes_eq (buffer_names (map view_buffer buffers.items)) } by { Prim.hlevel props },
 }
 
 impl Arms {
@@ -124,6 +134,8 @@ impl Parts {
             tokens: Vec::new(alloc),
             threads: Vec::new(alloc),
             draft: Draft::new(alloc),
+            differ: true,
+            fed: 0,
         }
     }
 }

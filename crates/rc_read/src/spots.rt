@@ -215,18 +215,28 @@ fn put_places<'a>(
     Ok(at == words.len())
 }
 
-// Whether the words are as many as the parts, and the fixed ones among them are there: a fast test ahead of the other.
-fn may_match(parts: &[Part], words: &[&[u8]]) -> bool
-    ensures { result ≡ quick.may_match parts.now (texts_of words.now) }
+// Whether the words are as many as the parts, and the fixed ones among them are there.
+fn may_follow(parts: &[Part], words: &[&[u8]]) -> bool
+    ensures { result ≡ quick.may_follow parts.now (texts_of words.now) }
 {
     match (parts, words) {
         ([], []) => true,
         ([Part::Items, ..], _) => true,
         ([], _) | (_, []) => false,
         ([Part::Fixed(fixed), parts @ ..], [word, words @ ..]) => {
-            is(word, text_of(*fixed)) && may_match(parts, words)
+            is(word, text_of(*fixed)) && may_follow(parts, words)
         }
-        ([_, parts @ ..], [_, words @ ..]) => may_match(parts, words),
+        ([_, parts @ ..], [_, words @ ..]) => may_follow(parts, words),
+    }
+}
+
+// A fast test ahead of the other: whether the words behind the first can be those of the parts.
+fn may_match(parts: &[Part], words: &[&[u8]]) -> bool
+    ensures { result ≡ quick.may_match parts.now (texts_of words.now) }
+{
+    match (parts, words) {
+        ([part, parts @ ..], [_, words @ ..]) => are_items(*part) || may_follow(parts, words),
+        _ => true,
     }
 }
 
@@ -261,6 +271,19 @@ fn first_row<'a>(
     Ok(None)
 }
 
+// The byte with which the first word begins.
+fn first_byte(words: &[&[u8]]) -> u8
+    ensures { result ≡ quick.first_byte (texts_of words.now) }
+{
+    match words {
+        [] => 0,
+        [word, ..] => match word {
+            [] => 0,
+            [b, ..] => *b,
+        },
+    }
+}
+
 /// The form of a line with these words, whose places are put there.
 pub fn put_spots<'a>(
     spots: &mut Vec<Spot<'a>>,
@@ -269,7 +292,7 @@ pub fn put_spots<'a>(
     ensures row { IfOk result (λ o. o ≡ spec.row_of (texts_of words.now)) }
     ensures spots { IfOk result (λ o. IfSome o (λ row. view_spots spots.new.items ≡ spec.spots_of (spec_parts_of row) (texts_of words.now))) }
 {
-    match first_row(spots, rows_of(words.len()), words) {
+    match first_row(spots, rows_of(first_byte(words)), words) {
         Ok(row) => Ok(row),
         Err(e) => Err(e),
     }

@@ -1,7 +1,7 @@
 //! The table of the notation's forms.
 
 ghost use Rattle.std.specs.Prelude.{◌≡◌};
-ghost use Rattle.rc_read.specs.Quick.{fitting};
+ghost use Rattle.rc_read.specs.Quick.{beginning};
 ghost use Rattle.rc_read.specs.Table as spec;
 
 /// A word that stands as it is.
@@ -446,74 +446,156 @@ pub fn stand_of(row: Row) -> Stand
     }
 }
 
-/// The forms that a line with so many words can have, in the order in which they are tried.
-pub fn rows_of(count: usize) -> &'static [Row]
-    ensures { result.now ≡ fitting count spec.rows }
+/// The forms that a line can have whose first word begins with this byte, in the order in which they are tried.
+pub fn rows_of(first: u8) -> &'static [Row]
+    ensures { result.now ≡ beginning first spec.rows }
 {
-    if count == 1 {
-        &[
+    match first {
+        b'}' => &[
             Row::Close,
-            Row::Break,
-            Row::GetSqe,
-            Row::CqeSeen,
-            Row::PrepNop,
-            Row::Loop,
-            Row::Thread,
-        ]
-    } else if count == 2 {
-        &[
-            Row::Lock,
-            Row::Other,
-            Row::Nothing,
-            Row::SetData64,
-            Row::Print,
-            Row::Loop,
-            Row::Thread,
-            Row::Ring,
-            Row::Version,
-        ]
-    } else if count == 3 {
-        &[
-            Row::Case,
-            Row::Peek,
-            Row::Submit,
             Row::Else,
+            Row::Submit,
             Row::Set,
-            Row::Fill,
-            Row::PrepFsync,
-            Row::Loop,
-            Row::Thread,
-            Row::File,
-            Row::TokenFsync,
-            Row::TokenNop,
-        ]
-    } else if count == 4 {
-        &[
-            Row::Store,
-            Row::SubmitAndWait,
-            Row::Loop,
-            Row::Thread,
-            Row::Buffer,
-            Row::TokenRead,
-            Row::RingCq,
-            Row::RingLeft,
-        ]
-    } else if count == 5 {
-        &[
-            Row::IfReady,
-            Row::If,
-            Row::IfSpace,
             Row::Add,
             Row::Subtract,
             Row::Load,
+            Row::SubmitAndWait,
+        ],
+        b'b' => &[
+            Row::Break,
+            Row::Buffer,
+            Row::Submit,
+            Row::Set,
+            Row::Add,
+            Row::Subtract,
+            Row::Load,
+            Row::SubmitAndWait,
+        ],
+        b'g' => &[
+            Row::GetSqe,
+            Row::Submit,
+            Row::Set,
+            Row::Add,
+            Row::Subtract,
+            Row::Load,
+            Row::SubmitAndWait,
+        ],
+        b'c' => &[
+            Row::CqeSeen,
+            Row::Case,
+            Row::Submit,
+            Row::Set,
+            Row::Add,
+            Row::Subtract,
+            Row::Load,
+            Row::SubmitAndWait,
+        ],
+        b'p' => &[
+            Row::PrepNop,
+            Row::Peek,
+            Row::Print,
             Row::PrepRead,
+            Row::PrepWrite,
+            Row::PrepFsync,
+            Row::Submit,
+            Row::Set,
+            Row::Add,
+            Row::Subtract,
+            Row::Load,
+            Row::SubmitAndWait,
+        ],
+        b'l' => &[
+            Row::Lock,
             Row::Loop,
+            Row::Submit,
+            Row::Set,
+            Row::Add,
+            Row::Subtract,
+            Row::Load,
+            Row::SubmitAndWait,
+        ],
+        b'o' => &[
+            Row::Other,
+            Row::Submit,
+            Row::Set,
+            Row::Add,
+            Row::Subtract,
+            Row::Load,
+            Row::SubmitAndWait,
+        ],
+        b'n' => &[
+            Row::Nothing,
+            Row::Submit,
+            Row::Set,
+            Row::Add,
+            Row::Subtract,
+            Row::Load,
+            Row::SubmitAndWait,
+        ],
+        b's' => &[
+            Row::SetData64,
+            Row::Store,
+            Row::Submit,
+            Row::Set,
+            Row::Add,
+            Row::Subtract,
+            Row::Load,
+            Row::SubmitAndWait,
+        ],
+        b'f' => &[
+            Row::Fill,
+            Row::File,
+            Row::Submit,
+            Row::Set,
+            Row::Add,
+            Row::Subtract,
+            Row::Load,
+            Row::SubmitAndWait,
+        ],
+        b'i' => &[
+            Row::IfReady,
+            Row::If,
+            Row::IfSpace,
+            Row::Submit,
+            Row::Set,
+            Row::Add,
+            Row::Subtract,
+            Row::Load,
+            Row::SubmitAndWait,
+        ],
+        b't' => &[
             Row::Thread,
+            Row::TokenRead,
             Row::TokenWrite,
-        ]
-    } else if count == 6 {
-        &[Row::PrepWrite, Row::Loop, Row::Thread, Row::RingCqLeft]
-    } else {
-        &[Row::Loop, Row::Thread]
+            Row::TokenFsync,
+            Row::TokenNop,
+            Row::Submit,
+            Row::Set,
+            Row::Add,
+            Row::Subtract,
+            Row::Load,
+            Row::SubmitAndWait,
+        ],
+        b'r' => &[
+            Row::Submit,
+            Row::Set,
+            Row::Add,
+            Row::Subtract,
+            Row::Load,
+            Row::SubmitAndWait,
+            Row::Ring,
+            Row::RingCq,
+            Row::RingLeft,
+            Row::RingCqLeft,
+            Row::Version,
+        ],
+        _ => &[
+            Row::Submit,
+            Row::Set,
+            Row::Add,
+            Row::Subtract,
+            Row::Load,
+            Row::SubmitAndWait,
+        ],
     }
 }

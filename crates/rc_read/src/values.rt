@@ -3,15 +3,20 @@
 ghost use Rattle.std.specs.Prelude.{◌≡◌, ◌≤◌, ◌&&◌, false, nat_le, ◌++◌, IfOk, IfSome, OnOk, is_none};
 ghost use Rattle.std.specs.List.{list_all};
 ghost use Rattle.rc_lang.specs.Numbers.{is_digit, is_number, number_of as number_in_range, value_of};
+ghost use Rattle.rc_read.specs.Judging as judging;
 ghost use Rattle.rc_read.specs.Sentences as sentences;
+ghost use Rattle.rc_read.specs.Sheets as sheets;
 ghost use Rattle.rc_read.specs.Texts.{view_spots};
 ghost use Rattle.rc_read.specs.Values as spec;
 ghost use Rattle.rc_read.specs.View.{view_sheet};
 
-use crate::names::{find_buffer, has_file, has_token, number_in};
+use crate::names::{
+    find_buffer, find_near, has_buffer, has_file, has_thread, has_token, number_in,
+};
 use crate::parts::Parts;
 use crate::spots::{Spot, begins_number, comparison_of};
 use crate::table::{Part, Range};
+use crate::words::is;
 use rc_lang::lines::{Comparison, Operand};
 use rc_lang::numbers::{number_of, signed_number_of};
 use std::alloc::AllocError;
@@ -260,21 +265,98 @@ fn lacks_token(parts: &Parts, user_data: Option<u64>) -> bool
     }
 }
 
-/// What is known of a place from its word: what it says, what it says of the places behind it, and whether it names
-/// what isn't declared.
+fn repeats_file(parts: &Parts, number: Option<u32>) -> bool
+    ensures { result ≡ sentences.repeats_file (view_sheet parts.now) number }
+{
+    match number {
+        None => false,
+        Some(n) => has_file(&parts.files, n),
+    }
+}
+
+fn repeats_token(parts: &Parts, user_data: Option<u64>) -> bool
+    ensures { result ≡ sentences.repeats_token (view_sheet parts.now) user_data }
+{
+    match user_data {
+        None => false,
+        Some(u) => has_token(&parts.tokens, u),
+    }
+}
+
+/// What is wrong with names in the places of a line: one that isn't declared, one that is declared a second time, and
+/// one declaration too many.
+#[derive(Clone, Copy)]
+pub struct Wrong {
+    pub unknown: bool,
+    pub double: bool,
+    pub full: bool,
+}
+
+/// What is known of a place from its word: what it says, what it says of the places behind it, and what is wrong with
+/// its name.
 #[derive(Clone, Copy)]
 pub struct Known {
     value: Option<Value>,
     behind: Seen,
-    unknown: bool,
+    wrong: Wrong,
 }
 
-fn look_at_buffer(parts: &Parts, seen: Seen, word: &[u8]) -> Known
+impl Wrong {
+    ghost use Rattle.std.specs.Prelude.{◌≡◌, ◌||◌};
+
+    // What is wrong of either.
+    fn or(self, other: Wrong) -> Wrong
+        ensures { result ≡ record { unknown = self.unknown || other.unknown; double = self.double || other.double; full = self.full || other.full } }
+    {
+        Wrong {
+            unknown: self.unknown | other.unknown,
+            double: self.double | other.double,
+            full: self.full | other.full,
+        }
+    }
+}
+
+// Wrong is at most that a name isn't declared.
+fn may_lack(unknown: bool) -> Wrong
+    ensures { result ≡ record { unknown = unknown; double = false; full = false } }
+{
+    Wrong {
+        unknown,
+        double: false,
+        full: false,
+    }
+}
+
+// Wrong is at most that a name is declared a second time, or is one too many.
+fn may_repeat(double: bool, full: bool) -> Wrong
+    ensures { result ≡ record { unknown = false; double = double; full = full } }
+{
+    Wrong {
+        unknown: false,
+        double,
+        full,
+    }
+}
+
+// The number and the shares of a buffer, which is looked for first about the place of another.
+fn find_about(parts: &Parts, near: usize, word: &[u8]) -> (usize, Option<u32>)
+    ensures number { result.0 ≡ sheets.buffer_number (view_sheet parts.now).buffers word.now }
+    ensures shares { result.1 ≡ sheets.shares_in (view_sheet parts.now).buffers word.now }
+{
+    if parts.differ {
+        if let Some((number, shares)) = find_near(&parts.buffers, near.saturating_sub(4), word) {
+            return (number, Some(shares));
+        }
+    }
+    find_buffer(&parts.buffers, word)
+}
+
+fn look_at_buffer(parts: &Parts, near: usize, seen: Seen, word: &[u8]) -> Known
     ensures value { result.value ≡ spec.value_at (view_sheet parts.now) seen Part.Buffer word.now }
     ensures behind { result.behind ≡ spec.seen_behind (view_sheet parts.now) seen Part.Buffer word.now }
-    ensures unknown { result.unknown ≡ sentences.is_unknown (view_sheet parts.now) Part.Buffer word.now }
+    ensures wrong { result.wrong ≡ judging.wrong_at (view_sheet parts.now) Part.Buffer word.now }
 {
-    let (buffer, shares) = find_buffer(&parts.buffers, word);
+    let (buffer, shares) = find_about(parts, near, word);
     Known {
         value: Some(Value::Named(buffer)),
         behind: Seen {
@@ -282,14 +364,14 @@ fn look_at_buffer(parts: &Parts, seen: Seen, word: &[u8]) -> Known
             shares,
             ..seen
         },
-        unknown: shares.is_none(),
+        wrong: may_lack(shares.is_none()),
     }
 }
 
 fn look_at_token(parts: &Parts, seen: Seen, word: &[u8]) -> Known
     ensures value { result.value ≡ spec.value_at (view_sheet parts.now) seen Part.Token word.now }
     ensures behind { result.behind ≡ seen }
-    ensures unknown { result.unknown ≡ sentences.is_unknown (view_sheet parts.now) Part.Token word.now }
+    ensures wrong { result.wrong ≡ judging.wrong_at (view_sheet parts.now) Part.Token word.now }
 {
     let user_data = user_data_of(word);
     let value = match user_data {
@@ -299,14 +381,14 @@ fn look_at_token(parts: &Parts, seen: Seen, word: &[u8]) -> Known
     Known {
         value,
         behind: seen,
-        unknown: lacks_token(parts, user_data),
+        wrong: may_lack(lacks_token(parts, user_data)),
     }
 }
 
 fn look_at_held_token(parts: &Parts, seen: Seen, word: &[u8]) -> Known
     ensures value { result.value ≡ spec.value_at (view_sheet parts.now) seen Part.HeldToken word.now }
     ensures behind { result.behind ≡ seen }
-    ensures unknown { result.unknown ≡ sentences.is_unknown (view_sheet parts.now) Part.HeldToken word.now }
+    ensures wrong { result.wrong ≡ judging.wrong_at (view_sheet parts.now) Part.HeldToken word.now }
 {
     let user_data = user_data_of(word);
     let value = match user_data {
@@ -316,80 +398,145 @@ fn look_at_held_token(parts: &Parts, seen: Seen, word: &[u8]) -> Known
     Known {
         value,
         behind: seen,
-        unknown: lacks_token(parts, user_data),
+        wrong: may_lack(lacks_token(parts, user_data)),
     }
 }
 
 fn look_at_file(parts: &Parts, seen: Seen, word: &[u8]) -> Known
     ensures value { result.value ≡ spec.value_at (view_sheet parts.now) seen Part.File word.now }
     ensures behind { result.behind ≡ seen }
-    ensures unknown { result.unknown ≡ sentences.is_unknown (view_sheet parts.now) Part.File word.now }
+    ensures wrong { result.wrong ≡ judging.wrong_at (view_sheet parts.now) Part.File word.now }
 {
     let number = file_number_of(word);
     Known {
         value: small(number),
         behind: seen,
-        unknown: lacks_file(parts, number),
+        wrong: may_lack(lacks_file(parts, number)),
     }
 }
 
 fn look_at_size(seen: Seen, word: &[u8]) -> Known
     ensures value { result.value ≡ spec.small (number_in_range 1 1024 word.now) }
     ensures behind { result.behind ≡ spec.sized seen (number_in_range 1 1024 word.now) }
-    ensures unknown { result.unknown ≡ false }
+    ensures wrong { result.wrong ≡ record { unknown = false; double = false; full = false } }
 {
     let size = small_number_of(1, 1024, word);
     Known {
         value: small(size),
         behind: sized(seen, size),
-        unknown: false,
+        wrong: may_lack(false),
     }
 }
 
-// What is known of a place with this word.
-fn look_at(parts: &Parts, seen: Seen, part: Part, word: &[u8]) -> Known
+fn look_at_new_file(parts: &Parts, seen: Seen, word: &[u8]) -> Known
+    ensures value { result.value ≡ spec.value_at (view_sheet parts.now) seen Part.NewFile word.now }
+    ensures behind { result.behind ≡ seen }
+    ensures wrong { result.wrong ≡ judging.wrong_at (view_sheet parts.now) Part.NewFile word.now }
+{
+    let number = file_number_of(word);
+    Known {
+        value: small(number),
+        behind: seen,
+        wrong: may_repeat(repeats_file(parts, number), parts.files.len() >= 16),
+    }
+}
+
+fn look_at_new_buffer(parts: &Parts, seen: Seen, word: &[u8]) -> Known
+    ensures value { result.value ≡ spec.value_at (view_sheet parts.now) seen Part.NewBuffer word.now }
+    ensures behind { result.behind ≡ seen }
+    ensures wrong { result.wrong ≡ judging.wrong_at (view_sheet parts.now) Part.NewBuffer word.now }
+{
+    Known {
+        value: Some(Value::Nothing),
+        behind: seen,
+        wrong: may_repeat(has_buffer(&parts.buffers, word), parts.buffers.len() >= 64),
+    }
+}
+
+fn look_at_new_token(parts: &Parts, seen: Seen, word: &[u8]) -> Known
+    ensures value { result.value ≡ spec.value_at (view_sheet parts.now) seen Part.NewToken word.now }
+    ensures behind { result.behind ≡ seen }
+    ensures wrong { result.wrong ≡ judging.wrong_at (view_sheet parts.now) Part.NewToken word.now }
+{
+    let user_data = user_data_of(word);
+    let value = match user_data {
+        None => None,
+        Some(u) => Some(Value::UserData(u)),
+    };
+    Known {
+        value,
+        behind: seen,
+        wrong: may_repeat(repeats_token(parts, user_data), parts.tokens.len() >= 256),
+    }
+}
+
+fn look_at_new_thread(parts: &Parts, seen: Seen, word: &[u8]) -> Known
+    ensures value { result.value ≡ spec.value_at (view_sheet parts.now) seen Part.NewThread word.now }
+    ensures behind { result.behind ≡ seen }
+    ensures wrong { result.wrong ≡ judging.wrong_at (view_sheet parts.now) Part.NewThread word.now }
+{
+    let double = has_thread(&parts.threads, word) || is(&parts.draft.name, word);
+    Known {
+        value: Some(Value::Nothing),
+        behind: seen,
+        wrong: may_repeat(double, parts.threads.len() >= 16),
+    }
+}
+
+// What is known of a place with this word, where the buffer that was named last is near.
+fn look_at(parts: &Parts, near: usize, seen: Seen, part: Part, word: &[u8]) -> Known
     ensures value { result.value ≡ spec.value_at (view_sheet parts.now) seen part word.now }
     ensures behind { result.behind ≡ spec.seen_behind (view_sheet parts.now) seen part word.now }
-    ensures unknown { result.unknown ≡ sentences.is_unknown (view_sheet parts.now) part word.now }
+    ensures wrong { result.wrong ≡ judging.wrong_at (view_sheet parts.now) part word.now }
 {
     match part {
-        Part::Buffer => look_at_buffer(parts, seen, word),
+        Part::Buffer => look_at_buffer(parts, near, seen, word),
         Part::Token => look_at_token(parts, seen, word),
         Part::HeldToken => look_at_held_token(parts, seen, word),
         Part::File => look_at_file(parts, seen, word),
         Part::Number(Range::Size) => look_at_size(seen, word),
+        Part::NewFile => look_at_new_file(parts, seen, word),
+        Part::NewBuffer => look_at_new_buffer(parts, seen, word),
+        Part::NewToken => look_at_new_token(parts, seen, word),
+        Part::NewThread => look_at_new_thread(parts, seen, word),
         part => Known {
             value: value_at(parts, seen, part, word),
             behind: seen,
-            unknown: false,
+            wrong: may_lack(false),
         },
     }
 }
 
 /// Puts what the places of a line say there, unless a word in a number's place is no number or is out of its range.
-/// The answer is whether a place names what isn't declared.
+/// The answer is what is wrong with their names. A buffer is looked for first near the one that was named last.
 pub fn put_values(
     values: &mut Vec<Value>,
+    near: &mut usize,
     parts: &Parts,
     spots: &[Spot],
-) -> Result<Option<bool>, AllocError>
+) -> Result<Option<Wrong>, AllocError>
     ensures lacks { IfOk result (λ o. is_none o ≡ spec.any_lacks (view_sheet parts.now) spec.start (view_spots spots.now)) }
     ensures values { IfOk result (λ o. IfSome o (λ _. values.new.items ≡ spec.values_of (view_sheet parts.now) spec.start (view_spots spots.now))) }
-    ensures unknown { IfOk result (λ o. IfSome o (λ unknown. unknown ≡ sentences.any_unknown (view_sheet parts.now) (view_spots spots.now))) }
+    ensures wrong { IfOk result (λ o. IfSome o (λ wrong. wrong ≡ judging.wrong_in (view_sheet parts.now) (view_spots spots.now))) }
 {
     let mut seen = start();
-    let mut unknown = false;
+    let mut wrong = may_lack(false);
     values.clear();
     for spot in spots {
-        let known = look_at(parts, seen, spot.part, spot.word);
-        if known.value.is_none() {
+        let known = look_at(parts, *near, seen, spot.part, spot.word);
+        let Some(value) = known.value else {
             return Ok(None);
-        }
-        values.push(known.value.unwrap_or(Value::Nothing))?;
+        };
+        values.push(value)?;
         seen = known.behind;
-        unknown = unknown || known.unknown;
+        if let Value::Named(number) = value {
+            if let Part::Buffer = spot.part {
+                *near = number;
+            }
+        }
+        wrong = wrong.or(known.wrong);
     }
-    Ok(Some(unknown))
+    Ok(Some(wrong))
 }
 
 /// Puts the items of a line there.

@@ -3,12 +3,12 @@
 ghost use Rattle.std.specs.Prelude.{◌≡◌, ◌++◌, OnOk, take};
 ghost use Rattle.std.specs.Str.{bytes_eq};
 ghost use Rattle.rc_lang.specs.Names as names;
+ghost use Rattle.rc_read.specs.Quick.{any_outside};
 ghost use Rattle.rc_read.specs.Sentences.{any_strange, is_strange};
 ghost use Rattle.rc_read.specs.Texts.{texts_of};
 ghost use Rattle.rc_read.specs.Words as spec;
 
 use crate::reserved::is_reserved;
-use memchr::memchr;
 use std::alloc::AllocError;
 
 /// Whether a word is this text.
@@ -34,14 +34,32 @@ fn any_strange(bytes: &[u8]) -> bool
     any
 }
 
+// Whether a byte is above 126 or below 32, as each strange one is. There seldom is one.
+fn any_outside(bytes: &[u8]) -> bool
+    ensures { result ≡ any_outside bytes.now }
+{
+    let mut any = false;
+    for b in bytes {
+        any = any | ((*b > 126) | (*b < 32));
+    }
+    any
+}
+
+// Whether a strange byte is among these.
+fn has_strange(bytes: &[u8]) -> bool
+    ensures { result ≡ any_strange bytes.now }
+{
+    any_outside(bytes) && any_strange(bytes)
+}
+
 /// Whether a byte that no line may have is among a line's first 256.
 pub fn begins_strange(line: &[u8]) -> bool
     ensures { result ≡ any_strange (take 256 line.now) }
 {
     if line.len() > 256 {
-        any_strange(&line[..256])
+        has_strange(&line[..256])
     } else {
-        any_strange(line)
+        has_strange(line)
     }
 }
 
@@ -49,15 +67,6 @@ fn is_blank(b: u8) -> bool
     ensures { result ≡ spec.is_blank b }
 {
     b == b'\t' || b == b'\r' || b == b' '
-}
-
-fn without_comment(line: &[u8]) -> &[u8]
-    ensures { result.now ≡ spec.without_comment line.now }
-{
-    match memchr(b'#', line) {
-        Some(i) => &line[..i],
-        None => line,
-    }
 }
 
 // Adds a word, unless it is empty.
@@ -74,16 +83,21 @@ fn push_word<'a>(words: &mut Vec<&'a [u8]>, word: &'a [u8]) -> Result<(), AllocE
 pub fn put_words<'a>(words: &mut Vec<&'a [u8]>, line: &'a [u8]) -> Result<(), AllocError>
     ensures { OnOk result (texts_of words.new.items ≡ spec.words_of line.now) }
 {
-    let bytes = without_comment(line);
     words.clear();
     let mut start = 0;
-    for i in 0..bytes.len() {
-        if is_blank(bytes[i]) {
-            push_word(words, &bytes[start..i])?;
-            start = i + 1;
+    for i in 0..line.len() {
+        // Most bytes are letters.
+        if line[i] <= b'#' {
+            if line[i] == b'#' {
+                return push_word(words, &line[start..i]);
+            }
+            if is_blank(line[i]) {
+                push_word(words, &line[start..i])?;
+                start = i + 1;
+            }
         }
     }
-    push_word(words, &bytes[start..])?;
+    push_word(words, &line[start..])?;
     Ok(())
 }
 

@@ -115,6 +115,18 @@ fn handoff_is_the_same_at_every_cut(rt: HostRuntime) -> Result<(), Fail> {
 }
 
 #[test]
+fn handoff_with_a_reserved_name_is_not_read(rt: HostRuntime) {
+    check_all(
+        &rt,
+        "ringcheck 1\nring 4\nfile 3 64\n",
+        &[(
+            "buffer t 16 1\ntoken 7 read a\nthread t0 holds a:1 t:7 c:1 {\nlock {\n",
+            (4, 3),
+        )],
+    );
+}
+
+#[test]
 fn nop_is_read_with_its_links(rt: HostRuntime) -> Result<(), Fail> {
     let program = read_program(rt.alloc(), NOP.as_bytes())?;
     assert_eq!(rt; program.entries(), 1);

@@ -1,4 +1,4 @@
-use Rattle.std.proofs.Common.{◌≤◌, ◌-◌, List, ℕ, take, length, Ok}
+use Rattle.std.proofs.Common.{◌≤◌, ◌-◌, take, length}
 use Rattle.rc_read.specs.Pieces.{ReadsMore}
 use Rattle.rc_read.specs.Stream.{IsReached}
 use Rattle.rc_read.specs.View.{view_sheet}

@@ -1,4 +1,4 @@
-use Rattle.std.proofs.Common.{◌≤◌, ◌+◌, ◌-◌, length, take, drop, arith, length-take, length-drop}
+use Rattle.std.proofs.Common.{◌-◌, length, drop, arith, length-take, length-drop}
 use Rattle.rc_read.specs.Spots.{matches, spots_of}
 use Rattle.rc_read.specs.Texts.{texts_of, view_spots}
 use Rattle.rc_read.proofs.Places.{stops, goes, adds, ends}

@@ -1,5 +1,4 @@
-use Rattle.std.proofs.Common.{List, ap, length, ◌∙◌, sym}
-use Rattle.std.proofs.lemmas.List.{length-map}
+use Rattle.std.proofs.Common.{List, ap, ◌∙◌}
 use Rattle.rc_read.specs.declared.table.Row.{Row}
 use Rattle.rc_read.specs.Spots.{first_row}
 use Rattle.rc_read.specs.Texts.{texts_of}
@@ -8,5 +7,5 @@ use Rattle.rc_read.proofs.spots.put_spots.Goals as goal
 
 pub returns-in-Ok-clause-row : goal.returns-in-Ok-clause-row
 returns-in-Ok-clause-row c =
-    let words = c.args.words.now in
-    c.in-Ok.ensures.row ∙ ap (λ (rows : List Row). first_row rows (texts_of words)) c.rows_of.ensures ∙ rows_found (length words) (texts_of words) (sym (length-map words _))
+    let ws = texts_of c.args.words.now in
+    c.in-Ok.ensures.row ∙ ap (λ (rows : List Row). first_row rows ws) c.rows_of.ensures ∙ rows_found c.first_byte.result ws c.first_byte.ensures

@@ -1,8 +1,13 @@
-use Rattle.std.proofs.Common.{ap, map}
+use Rattle.std.proofs.Common.{Bool, false, ap, map, refl, ◌∙◌}
 use Rattle.rc_lang.specs.Parts.{view_buffer}
+use Rattle.rc_read.specs.declared.values.Wrong.{Wrong}
 use Rattle.rc_read.proofs.Sizes.{undeclared}
 use Rattle.rc_read.proofs.values.look_at_buffer.Goals as goal
 
-pub returns-clause-unknown : goal.returns-clause-unknown
-returns-clause-unknown c =
-    undeclared c.is_none.result c.find_buffer-buffer.result.1 (map view_buffer c.deref.result.now) (map view_buffer c.args.parts.now.buffers.items) c.args.word.now c.is_none.ensures c.find_buffer-buffer.ensures.shares (ap (map view_buffer) c.deref.ensures.value)
+abbrev lacking : Bool → Wrong
+lacking unknown = record { unknown = unknown; double = false; full = false }
+
+pub returns-clause-wrong : goal.returns-clause-wrong
+returns-clause-wrong c =
+    let bs = map view_buffer c.args.parts.now.buffers.items in
+    c.may_lack.ensures ∙ ap lacking (undeclared c.is_none.result c.find_about-buffer.result.1 bs bs c.args.word.now c.is_none.ensures c.find_about-buffer.ensures.shares refl)

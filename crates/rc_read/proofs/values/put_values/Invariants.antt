@@ -9,5 +9,7 @@ abbrev pub invariant-loop-spot : goal.invariant-loop-spot
 invariant-loop-spot l = record {
   values : l.values.items ++ spec.values_of (view_sheet l.parts) l.seen (view_spots (drop l.spot-index l.spots)) ≡ spec.values_of (view_sheet l.parts) spec.start (view_spots l.spots);
   lacks : spec.any_lacks (view_sheet l.parts) l.seen (view_spots (drop l.spot-index l.spots)) ≡ spec.any_lacks (view_sheet l.parts) spec.start (view_spots l.spots);
-  unknown : (l.unknown || sentences.any_unknown (view_sheet l.parts) (view_spots (drop l.spot-index l.spots))) ≡ sentences.any_unknown (view_sheet l.parts) (view_spots l.spots);
+  unknown : (l.wrong.unknown || sentences.any_unknown (view_sheet l.parts) (view_spots (drop l.spot-index l.spots))) ≡ sentences.any_unknown (view_sheet l.parts) (view_spots l.spots);
+  double : (l.wrong.double || sentences.any_double (view_sheet l.parts) (view_spots (drop l.spot-index l.spots))) ≡ sentences.any_double (view_sheet l.parts) (view_spots l.spots);
+  full : (l.wrong.full || sentences.any_full (view_sheet l.parts) (view_spots (drop l.spot-index l.spots))) ≡ sentences.any_full (view_sheet l.parts) (view_spots l.spots);
 }
