@@ -1,6 +1,6 @@
 -- A world without harm has no fault of any kind.
-use Rattle.std.proofs.Common.{◌≡◌, ℕ, ◌+◌, ◌<◌, ◌≤◌, Bool, true, false, ◌&&◌, ◌||◌, not, if◌then◌else◌, List, [], ◌∷◌, ◌++◌, drop, length, Option, Some, None, slice_get, refl, ap, ◌∙◌, arith}
-use Rattle.std.proofs.lemmas.List.{drop_all, drop_more}
+use Rattle.std.proofs.Common.{◌≡◌, ℕ, ◌+◌, ◌<◌, ◌≤◌, Bool, true, false, ◌&&◌, ◌||◌, not, if◌then◌else◌, List, [], ◌∷◌, ◌++◌, drop, length, Option, Some, None, slice_get, refl, ap, ◌∙◌}
+use Rattle.std.proofs.lemmas.List.{drop_all}
 use Rattle.rc_lang.specs.declared.lines.Line.{Line}
 use Rattle.rc_lang.specs.declared.lines.Stmt.{Stmt}
 use Rattle.rc_world.specs.declared.fault.Fault.{Fault}
@@ -8,9 +8,10 @@ use Rattle.rc_world.specs.declared.fault.FaultKind.{FaultKind}
 use Rattle.rc_world.specs.declared.fault.FaultKind.TheVariants.{WriteOfPending, ReadOfFilling, KernelClash, ThreadRace, RingFull, Overflow, AmbiguousData, UnknownReap, NoLock, RawEntry, OutOfBuffer}
 use Rattle.rc_world.specs.declared.fault.Party.TheVariants.{At, InKernel}
 use Rattle.rc_world.specs.Controls.{Standing, next_line}
-use Rattle.rc_world.specs.Faults.{access_of, all_kinds, clashes, fault_at, fault_of, faults_by, faults_from, faults_of, has_fault, in_kernel, is_ambiguous_at, is_full_at, is_holder, is_out_at, is_raw_at, is_ring_call, is_unknown_at, overflows, races, reads_filling, writes_pending}
-use Rattle.rc_world.specs.Harm.{harms_at, harms_buffers, harms_from, harms_rings, has_harm, is_harmful}
+use Rattle.rc_world.specs.Faults.{Access, access_of, all_kinds, clashes, fault_at, fault_of, faults_by, faults_from, faults_of, has_fault, in_kernel, is_ambiguous_at, is_full_at, is_holder, is_out_at, is_raw_at, is_ring_call, is_unknown_at, overflows, races, reads_filling, writes_pending}
+use Rattle.rc_world.specs.Harm.{harms_at, harms_buffer, harms_from, harms_rings, has_harm, is_harmful}
 use Rattle.rc_world.specs.Machine.{World}
+use Rattle.rc_world.proofs.Heads.{drop_next, no_races}
 use Rattle.rc_world.proofs.Lists.{neither}
 
 -- ---- one thread
@@ -38,32 +39,43 @@ quiet true p q r s c e =
     record { full = d.0; ambiguous = d.1; unknown = b.1; raw = a.1; call = and_never c }
 quiet false p q r s c e = record { full = refl; ambiguous = refl; unknown = refl; raw = refl; call = and_false c e }
 
+record Untouched (w : World) (i : ℕ) (a : Option Access) : Type 0 where
+  writes : writes_pending w.pending a ≡ false
+  reads : reads_filling w.pending a ≡ false
+  race : races w i a ≡ false
+
+untouched : (w : World) (i : ℕ) (a : Option Access) → harms_buffer w i a ≡ false → Untouched w i a
+untouched w i None e = record { writes = refl; reads = refl; race = no_races w (i + 1) (drop (i + 1) w.controls.threads) }
+untouched w i (Some a) e =
+    let b = neither (writes_pending w.pending (Some a) || reads_filling w.pending (Some a)) (races w i (Some a)) e in
+    let c = neither (writes_pending w.pending (Some a)) (reads_filling w.pending (Some a)) b.0 in
+    record { writes = c.0; reads = c.1; race = b.1 }
+
 module _ (w : World) (i : ℕ) (s : Stmt) (e : is_harmful w i s ≡ false) where
-  sides : (harms_buffers w i s ≡ false) × ((if is_holder w.controls.holder i then harms_rings w s else is_ring_call s) ≡ false)
-  sides = neither (harms_buffers w i s) (if is_holder w.controls.holder i then harms_rings w s else is_ring_call s) e
+  sides : ((harms_buffer w i (access_of s) || is_out_at w.program s) ≡ false) × ((if is_holder w.controls.holder i then harms_rings w s else is_ring_call s) ≡ false)
+  sides = neither (harms_buffer w i (access_of s) || is_out_at w.program s) (if is_holder w.controls.holder i then harms_rings w s else is_ring_call s) e
 
   rings : Quiet (is_holder w.controls.holder i) (is_full_at w s) (is_ambiguous_at w s) (is_unknown_at w s) (is_raw_at w.slot s) (is_ring_call s)
   rings = quiet (is_holder w.controls.holder i) (is_full_at w s) (is_ambiguous_at w s) (is_unknown_at w s) (is_raw_at w.slot s) (is_ring_call s) sides.1
 
-  buffers : (writes_pending w.pending (access_of s) ≡ false) × (reads_filling w.pending (access_of s) ≡ false) × (races w i (access_of s) ≡ false) × (is_out_at w.program s ≡ false)
-  buffers =
-      let a = neither (writes_pending w.pending (access_of s) || reads_filling w.pending (access_of s) || races w i (access_of s)) (is_out_at w.program s) sides.0 in
-      let b = neither (writes_pending w.pending (access_of s) || reads_filling w.pending (access_of s)) (races w i (access_of s)) a.0 in
-      let c = neither (writes_pending w.pending (access_of s)) (reads_filling w.pending (access_of s)) b.0 in
-      (c.0, c.1, b.1, a.1)
+  places : (harms_buffer w i (access_of s) ≡ false) × (is_out_at w.program s ≡ false)
+  places = neither (harms_buffer w i (access_of s)) (is_out_at w.program s) sides.0
+
+  buffer : Untouched w i (access_of s)
+  buffer = untouched w i (access_of s) places.0
 
   harmless : (kind : FaultKind) → has_fault w kind i s ≡ false
-  harmless WriteOfPending = buffers.0
-  harmless ReadOfFilling = buffers.1
+  harmless WriteOfPending = buffer.writes
+  harmless ReadOfFilling = buffer.reads
   harmless KernelClash = refl
-  harmless ThreadRace = buffers.2
+  harmless ThreadRace = buffer.race
   harmless RingFull = rings.full
   harmless Overflow = refl
   harmless AmbiguousData = rings.ambiguous
   harmless UnknownReap = rings.unknown
   harmless NoLock = rings.call
   harmless RawEntry = rings.raw
-  harmless OutOfBuffer = buffers.3
+  harmless OutOfBuffer = places.1
 
 -- ---- all threads
 
@@ -109,10 +121,6 @@ module _ (w : World) (e : has_harm w ≡ false) where
   faultless = ap (λ fs. slice_get fs 0) (none_by all_kinds)
 
 -- ---- the pass
-
-drop_next : {A : Type 0} (xs : List A) (i : ℕ) → i < length xs → (x : A) × (drop i xs ≡ x ∷ drop (i + 1) xs)
-drop_next [] i lt = absurd (omega arith)
-drop_next (x ∷ xs) i lt = (_, drop_more (x ∷ xs) i x lt)
 
 harms_here : (w : World) (threads : List Standing) (i : ℕ) → i < length threads → harms_from w i (drop i threads) ≡ (harms_at w i (next_line w.program w.controls i) || harms_from w (i + 1) (drop (i + 1) threads))
 harms_here w threads i lt = let d = drop_next threads i lt in ap (harms_from w i) d.1

@@ -1,5 +1,5 @@
 -- The first fault of a kind, thread after thread.
-use Rattle.std.proofs.Common.{ℕ, zero, suc, ◌≡◌, ◌+◌, ◌<◌, ◌≤◌, true, false, ◌||◌, List, [], ◌∷◌, ◌++◌, drop, length, get_or, Option, Some, None, slice_get, refl, ap, ◌∙◌, arith}
+use Rattle.std.proofs.Common.{ℕ, ◌≡◌, ◌+◌, ◌<◌, ◌≤◌, true, false, ◌||◌, List, [], ◌∷◌, ◌++◌, drop, length, get_or, Option, Some, None, slice_get, refl, ap, ◌∙◌, arith}
 use Rattle.std.proofs.lemmas.List.{drop_all, drop_more}
 use Rattle.rc_world.specs.declared.fault.Fault.{Fault}
 use Rattle.rc_world.specs.declared.fault.FaultKind.{FaultKind}
@@ -15,17 +15,15 @@ pub head_some : {A : Type 0} (xs ys : List A) (x : A) → slice_get xs 0 ≡ Som
 head_some [] ys y e = absurd (cc)
 head_some (x ∷ xs) ys y e = e
 
-drop-next : {A : Type 0} (xs : List A) (i : ℕ) → i < length xs → (x : A) × (drop i xs ≡ x ∷ drop (suc i) xs)
-drop-next [] i h = absurd (omega arith)
-drop-next (x ∷ xs) zero h = (x, refl)
-drop-next (x ∷ xs) (suc i) h = let lt : i < length xs = omega arith in drop-next xs i lt
+pub drop_next : {A : Type 0} (xs : List A) (i : ℕ) → i < length xs → (x : A) × (drop i xs ≡ x ∷ drop (i + 1) xs)
+drop_next [] i lt = absurd (omega arith)
+drop_next (x ∷ xs) i lt = (_, drop_more (x ∷ xs) i x lt)
 
 pub faults_here : (w : World) (kind : FaultKind) (threads : List Standing) (i : ℕ) → i < length threads
     → faults_from w kind i (drop i threads) ≡ fault_at w kind i (next_line w.program w.controls i) ++ faults_from w kind (i + 1) (drop (i + 1) threads)
 faults_here w kind threads i lt =
-    let d = drop-next threads i lt in
-    let e : suc i ≡ i + 1 = omega arith in
-    ap (faults_from w kind i) d.1 ∙ ap (λ k. fault_at w kind i (next_line w.program w.controls i) ++ faults_from w kind (i + 1) (drop k threads)) e
+    let d = drop_next threads i lt in
+    ap (faults_from w kind i) d.1
 
 pub faults_more : (w : World) (kind : FaultKind) (threads : List Standing) (i : ℕ) → i < length threads → slice_get (fault_at w kind i (next_line w.program w.controls i)) 0 ≡ None
     → slice_get (faults_from w kind i (drop i threads)) 0 ≡ slice_get (faults_from w kind (i + 1) (drop (i + 1) threads)) 0
@@ -57,9 +55,8 @@ kinds_found w kinds i d f lt some = ap (λ fs. slice_get fs 0) (kinds_here w kin
 pub races_here : (w : World) (a : Option Access) (threads : List Standing) (i : ℕ) → i < length threads
     → races_from w a i (drop i threads) ≡ (conflicts a (access_at (next_line w.program w.controls i)) || races_from w a (i + 1) (drop (i + 1) threads))
 races_here w a threads i lt =
-    let d = drop-next threads i lt in
-    let e : suc i ≡ i + 1 = omega arith in
-    ap (races_from w a i) d.1 ∙ ap (λ k. conflicts a (access_at (next_line w.program w.controls i)) || races_from w a (i + 1) (drop k threads)) e
+    let d = drop_next threads i lt in
+    ap (races_from w a i) d.1
 
 pub races_more : (w : World) (a : Option Access) (threads : List Standing) (i : ℕ) → i < length threads → conflicts a (access_at (next_line w.program w.controls i)) ≡ false
     → races_from w a i (drop i threads) ≡ races_from w a (i + 1) (drop (i + 1) threads)

@@ -1,14 +1,16 @@
 -- What steps change in a world, it keeps.
-use Rattle.std.proofs.Common.{◌≡◌, ℕ, zero, suc, ◌+◌, ◌≤◌, inl, inr, List, [], ◌∷◌, ◌++◌, drop, length, length-append, take, Option, refl, sym, ap, ◌∙◌, subst, arith}
+use Rattle.std.proofs.Common.{◌≡◌, ℕ, zero, suc, ◌+◌, ◌≤◌, inl, inr, Bool, true, false, if◌then◌else◌, List, [], ◌∷◌, ◌++◌, drop, length, length-append, take, Option, Some, None, slice_get, refl, sym, ap, ◌∙◌, subst, arith}
+use Rattle.std.proofs.lemmas.Option.{same_Some}
 use Rattle.rc_lang.specs.declared.request.Request.{Request}
 use Rattle.rc_lang.specs.Program.{Program}
 use Rattle.rc_world.specs.declared.world.Slot.{Slot}
 use Rattle.rc_world.specs.declared.world.Slot.TheVariants.{Closed, Prepared}
+use Rattle.rc_world.specs.Faults.{clashes}
 use Rattle.rc_world.specs.Kept.{AllFit, IsFitting, IsKept, IsMemory, SlotFits}
-use Rattle.rc_world.specs.Machine.{Pending, World, all_begin, hands_over, slot_len}
+use Rattle.rc_world.specs.Machine.{Pending, World, all_begin, brings, given_back, hands_over, is_read, slot_len, without}
 use Rattle.rc_world.specs.WorldParts.{begun_buffers, begun_pending}
 use Rattle.rc_world.proofs.Lists.{get_drop, get_push, get_take}
-use Rattle.rc_world.proofs.Memory.{memory_begins}
+use Rattle.rc_world.proofs.Memory.{memory_begins, memory_done, memory_read}
 
 pub kept_buffers : (w : World) → IsKept w → (buffers : List (Option (List ℕ))) → IsMemory w.program w.pending buffers → IsKept (record w { buffers = buffers })
 kept_buffers w k buffers m = record { made = k.made; room = k.room; slot = k.slot; queued = k.queued; memory = m }
@@ -82,3 +84,17 @@ handed_as w n queued pending buffers q p b =
   where
     changed : List Request → List Pending → List (Option (List ℕ)) → World
     changed x y z = record w { queued = x; pending = y; buffers = z }
+
+-- ---- a request completes
+
+module _ (w : World) (kept : IsKept w) (calm : clashes w.pending ≡ false) (k : ℕ) (p : Pending) (here : slice_get w.pending k ≡ Some p) (bytes : List ℕ) (many : length bytes ≡ brings p.request) (buffers : List (Option (List ℕ))) where
+  not_read : (b : Bool) → is_read p.request.kind ≡ b → (if b then None else Some w.buffers) ≡ Some buffers → IsMemory w.program (without k w.pending) buffers
+  not_read true f e = absurd (cc)
+  not_read false f e = subst (λ bs. IsMemory w.program (without k w.pending) bs) (same_Some w.buffers buffers e) (memory_done w.program w.pending w.buffers kept.memory calm k p here f)
+
+  with_stood : (stood : Option (List ℕ)) → p.bytes ≡ stood → given_back w p.request bytes stood ≡ Some buffers → IsMemory w.program (without k w.pending) buffers
+  with_stood None q e = not_read (is_read p.request.kind) refl e
+  with_stood (Some stood) q e = subst (λ bs. IsMemory w.program (without k w.pending) bs) (same_Some _ buffers e) (memory_read w.program w.pending w.buffers kept.memory calm k p here stood bytes q many)
+
+  pub memory_given : given_back w p.request bytes p.bytes ≡ Some buffers → IsMemory w.program (without k w.pending) buffers
+  memory_given e = with_stood p.bytes refl e

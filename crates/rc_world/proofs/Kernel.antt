@@ -16,7 +16,8 @@ use Rattle.rc_world.specs.Items.{filled, item_bytes, kernel_item, pending_place}
 use Rattle.rc_world.specs.Kept.{IsKept, IsMemory, IsPending}
 use Rattle.rc_world.specs.Machine.{Pending, World, brings, completes, completion_of, count_in, given_back, is_read, kernel_event, kernel_step_of, without}
 use Rattle.rc_world.specs.WorldParts.{refilled, refilled_in}
-use Rattle.rc_world.proofs.Memory.{memory_done, memory_read, read_has_buffer}
+use Rattle.rc_world.proofs.Keeping.{memory_given}
+use Rattle.rc_world.proofs.Memory.{read_has_buffer}
 
 pub both : (a b : Bool) → (a && b) ≡ true → (a ≡ true) × (b ≡ true)
 both true b e = (refl, e)
@@ -121,18 +122,7 @@ module _ (w : World) (k : IsKept w) (u n : ℕ) (res : ℤ) (fill : ℕ) (p : Pe
       ∙ ap (kernel_event w n res p.request) (gives p.bytes refl)
 
   pub memory_completed : clashes w.pending ≡ false → IsMemory w.program (without n w.pending) (refilled_in w.buffers p.request.buffer (count_in res) fill p.bytes)
-  memory_completed calm = go p.bytes refl
-    where
-      go : (o : Option (List ℕ)) → p.bytes ≡ o → IsMemory w.program (without n w.pending) (refilled_in w.buffers p.request.buffer (count_in res) fill p.bytes)
-      go None e =
-          subst (λ o. IsMemory w.program (without n w.pending) (refilled_in w.buffers p.request.buffer (count_in res) fill o)) (sym e)
-          (memory_done w.program w.pending w.buffers k.memory calm n p here (let r = not_read (is_read p.request.kind) refl e in r))
-      go (Some stood) e =
-          let q : length (item_bytes res fill (Some p)) ≡ brings p.request = eqb-true _ _ allowed.1 in
-          let m = memory_read w.program w.pending w.buffers k.memory calm n p here stood (item_bytes res fill (Some p)) e q in
-          let x = ap (λ xs. xs ++ drop p.request.len stood) (bytes_are stood e) ∙ refilled_is (count_in res) fill p.request.len stood counted in
-          subst (λ o. IsMemory w.program (without n w.pending) (refilled_in w.buffers p.request.buffer (count_in res) fill o)) (sym e)
-          (subst (λ xs. IsMemory w.program (without n w.pending) (slice_set w.buffers p.request.buffer (Some xs))) x m)
+  memory_completed calm = memory_given w k calm n p here (item_bytes res fill (Some p)) (eqb-true _ _ allowed.1) (refilled_in w.buffers p.request.buffer (count_in res) fill p.bytes) (gives p.bytes refl)
 
   same : p.request.user_data ≡ u
   same =

@@ -21,7 +21,7 @@ use Rattle.rc_lang.proofs.Spans.{nothing_between, other_between}
 use Rattle.rc_world.specs.declared.controls.Answer.{Answer}
 use Rattle.rc_world.specs.declared.controls.Answer.TheVariants.{Plain, Number, Byte, Front}
 use Rattle.rc_world.specs.declared.event.Action.TheVariants.{VariableSet, Stored, Filled, Printed, Locked, EntryOpened, ReadPrepared, WritePrepared, FsyncPrepared, NopPrepared, DataSet, Looped}
-use Rattle.rc_world.specs.Controls.{Controls, Move, Standing, acts, arm_for, arms_of, assigns, branches, breaks, compares, decides, does, goes_on, hop_of, is_case, is_none_arm, is_other, loads, locks, low_byte, none_arm, operand, or_from, peeks, place_of, plainly, reaps, releases_lock, rest_at, returns_to, sets, settled, submits, variable, wrapped}
+use Rattle.rc_world.specs.Controls.{Controls, Move, Standing, acts, arm_for, arms_of, assigns, branches, breaks, compares, decides, does, goes_on, hop_of, is_case, is_none_arm, is_other, loads, locks, low_byte, none_arm, operand_value, or_from, peeks, place_of, plainly, reaps, releases_lock, rest_at, returns_to, sets_variable, settled, submits, variable, wrapped}
 use Rattle.rc_world.proofs.Laid.{laid}
 use Rattle.rc_world.proofs.LawLists.{get_in_range, range_has}
 
@@ -158,13 +158,13 @@ module _ (program : Program) (is : IsProgram program) (i : ℕ) where
     reap_place (Front v) e = same_place _ e
 
     assign_place : (x : ℕ) (v : ℤ) → assigns c t x v a ≡ Some m → m.place ≡ t.place + 1
-    assign_place x v e = plain_place (sets c t x v (VariableSet v)) a e
+    assign_place x v e = plain_place (sets_variable c t x v (VariableSet v)) a e
 
     op_place : (op : Op) → does c t op a ≡ Some m → m.place ≡ t.place + 1
     op_place (Set x n) e = assign_place x n e
     op_place (Assign x y) e = assign_place x (variable t y) e
-    op_place (Add x y z) e = assign_place x (wrapped (operand t y +ℤ operand t z)) e
-    op_place (Subtract x y z) e = assign_place x (wrapped (operand t y -ℤ operand t z)) e
+    op_place (Add x y z) e = assign_place x (wrapped (operand_value t y +ℤ operand_value t z)) e
+    op_place (Subtract x y z) e = assign_place x (wrapped (operand_value t y -ℤ operand_value t z)) e
     op_place (Load x b k) e = load_place x a e
     op_place (Store b k x) e = plain_place (goes_on c t (Stored (low_byte (variable t x)))) a e
     op_place (Fill b x) e = plain_place (goes_on c t (Filled (low_byte (variable t x)))) a e

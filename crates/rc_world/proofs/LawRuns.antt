@@ -1,5 +1,5 @@
 -- What each world of a run keeps: its threads rest, its requests fit, and its buffers have their bytes.
-use Rattle.std.proofs.Common.{◌≡◌, ℕ, zero, suc, Bool, true, false, if◌then◌else◌, List, [], ◌∷◌, length, map, replicate, Option, Some, None, refl, sym, ap, ◌∙◌, subst, slice_get, slice_set, inl, inr, ℤ, pos}
+use Rattle.std.proofs.Common.{◌≡◌, ℕ, zero, suc, false, List, [], ◌∷◌, length, map, replicate, Some, refl, sym, ap, ◌∙◌, subst, slice_get, slice_set, inl, inr, ℤ, pos}
 use Rattle.std.proofs.lemmas.List.{length-map, length-set}
 use Rattle.std.proofs.lemmas.Option.{same_Some}
 use Rattle.rc_lang.specs.Program.{IsProgram, Program, Thread, lines_of, stmt_of}
@@ -8,12 +8,12 @@ use Rattle.rc_world.specs.declared.event.Event.{Event}
 use Rattle.rc_world.specs.declared.fault.FaultKind.TheVariants.{KernelClash}
 use Rattle.rc_world.specs.Controls.{Standing, rest_at}
 use Rattle.rc_world.specs.Faults.{clashes}
-use Rattle.rc_world.specs.Kept.{IsKept, IsMemory}
-use Rattle.rc_world.specs.Machine.{World, answer_of, given_back, is_read, start_world, without}
+use Rattle.rc_world.specs.Kept.{IsKept}
+use Rattle.rc_world.specs.Machine.{World, answer_of, start_world}
 use Rattle.rc_world.specs.Runs.{IsRun, IsStep}
+use Rattle.rc_world.proofs.Keeping.{memory_given}
 use Rattle.rc_world.proofs.LawFaultless.{none_in_kernel, none_of_kind}
 use Rattle.rc_world.proofs.Lists.{get_set}
-use Rattle.rc_world.proofs.Memory.{memory_done, memory_read}
 use Rattle.rc_world.proofs.RingSteps.{rings_same, small_stmt}
 use Rattle.rc_world.proofs.Starting.{kept_start}
 use Rattle.rc_world.proofs.LawPlaces.{acts_open, rests_at_start, rests_from}
@@ -56,22 +56,11 @@ after_thread program w after i r h s =
 -- ---- the step of the kernel
 
 module _ (program : Program) (w : World) (h : IsSound program w) (safe : clashes w.pending ≡ false) (k : ℕ) (res : ℤ) (bytes : List ℕ) (after : World) (c : Completed w k res bytes after) where
-  memory_after : IsMemory w.program (without k w.pending) c.buffers
-  memory_after = go c.pending.bytes refl c.given
-    where
-      not_read : (b : Bool) → is_read c.pending.request.kind ≡ b → (if b then None else Some w.buffers) ≡ Some c.buffers → IsMemory w.program (without k w.pending) c.buffers
-      not_read true f e = absurd (cc)
-      not_read false f e = subst (λ bs. IsMemory w.program (without k w.pending) bs) (same_Some w.buffers c.buffers e) (memory_done w.program w.pending w.buffers h.kept.memory safe k c.pending c.here f)
-
-      go : (stood : Option (List ℕ)) → c.pending.bytes ≡ stood → given_back w c.pending.request bytes stood ≡ Some c.buffers → IsMemory w.program (without k w.pending) c.buffers
-      go None q e = not_read (is_read c.pending.request.kind) refl e
-      go (Some stood) q e = subst (λ bs. IsMemory w.program (without k w.pending) bs) (same_Some _ c.buffers e) (memory_read w.program w.pending w.buffers h.kept.memory safe k c.pending c.here stood bytes q c.many)
-
   after_kernel : IsSound program after
   after_kernel = subst (λ x. IsSound program x) c.same (record {
     same = h.same;
     rest = h.rest;
-    kept = record { made = h.kept.made; room = h.kept.room; slot = h.kept.slot; queued = h.kept.queued; memory = memory_after };
+    kept = record { made = h.kept.made; room = h.kept.room; slot = h.kept.slot; queued = h.kept.queued; memory = memory_given w h.kept safe k c.pending c.here bytes c.many c.buffers c.given };
   })
 
 -- ---- runs

@@ -5,7 +5,7 @@ use Rattle.rc_lang.specs.Program.{Program}
 use Rattle.rc_world.specs.declared.controls.Control.{Control}
 use Rattle.rc_world.specs.declared.event.Action.{Action}
 use Rattle.rc_world.specs.Changes.{gone_to, nowhere, standing_at, with_variable}
-use Rattle.rc_world.specs.Controls.{Controls, Standing, goes_on, made, moved, passes_arm, rest_at, sets}
+use Rattle.rc_world.specs.Controls.{Controls, Standing, goes_on, made, moved, passes_arm, rest_at, sets_variable}
 use Rattle.rc_world.specs.Parts.{view_control}
 
 pub standing_is : (items : List Control) (i : ℕ) (r : Control) → i < length items → r ≡ get_or items i r → slice_index_or (map view_control items) i nowhere ≡ view_control r
@@ -45,7 +45,7 @@ set_then_gone P c i j x v holder peeked action lt =
     (set-set c.threads i (after_set c i x v) _ ∙ ap (λ (t : Standing). set c.threads i (record { place = rest_at P i j; variables = t.variables })) (set_standing c i x v lt))
 
 pub sets_is : (P : Program) (c d : Controls) (i x : ℕ) (v : ℤ) (action : Action) → d ≡ with_variable c i x v → i < length c.threads
-    → made P c i (Some (sets c (standing_at c i) x v action)) ≡ made P d i (Some (goes_on d (standing_at d i) action))
+    → made P c i (Some (sets_variable c (standing_at c i) x v action)) ≡ made P d i (Some (goes_on d (standing_at d i) action))
 sets_is P c d i x v action e lt =
     ap (λ k. Some (action, k))
     (sym (set_then_gone P c i ((standing_at c i).place + 1) x v c.holder c.peeked action lt)

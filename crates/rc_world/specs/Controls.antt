@@ -37,9 +37,9 @@ pub record Controls : Type 0 where
 abbrev pub variable : Standing → ℕ → ℤ
 variable t x = slice_index_or t.variables x (pos 0)
 
-abbrev pub operand : Standing → Operand → ℤ
-operand t (Variable x) = variable t x
-operand t (Literal n) = n
+abbrev pub operand_value : Standing → Operand → ℤ
+operand_value t (Variable x) = variable t x
+operand_value t (Literal n) = n
 
 -- what sums and differences leave in 64 bits
 abbrev pub wrapped : ℤ → ℤ
@@ -133,8 +133,8 @@ abbrev pub goes_on : Controls → Standing → Action → Move
 goes_on c t action = record { action = action; holder = c.holder; peeked = c.peeked; place = t.place + 1; variables = t.variables }
 
 -- to the next line, with another value of a variable
-abbrev pub sets : Controls → Standing → ℕ → ℤ → Action → Move
-sets c t x v action = record { action = action; holder = c.holder; peeked = c.peeked; place = t.place + 1; variables = slice_set t.variables x v }
+abbrev pub sets_variable : Controls → Standing → ℕ → ℤ → Action → Move
+sets_variable c t x v action = record { action = action; holder = c.holder; peeked = c.peeked; place = t.place + 1; variables = slice_set t.variables x v }
 
 -- where nothing is answered
 abbrev pub plainly : Move → Answer → Option Move
@@ -144,16 +144,16 @@ plainly m (Byte b) = None
 plainly m (Front cqe) = None
 
 abbrev pub assigns : Controls → Standing → ℕ → ℤ → Answer → Option Move
-assigns c t x v a = plainly (sets c t x v (VariableSet v)) a
+assigns c t x v a = plainly (sets_variable c t x v (VariableSet v)) a
 
 abbrev pub loads : Controls → Standing → ℕ → Answer → Option Move
-loads c t x (Byte b) = Some (sets c t x (pos b) (Loaded b))
+loads c t x (Byte b) = Some (sets_variable c t x (pos b) (Loaded b))
 loads c t x Plain = None
 loads c t x (Number n) = None
 loads c t x (Front cqe) = None
 
 abbrev pub submits : Controls → Standing → ℕ → Answer → Option Move
-submits c t x (Number n) = Some (sets c t x n (Submitted n))
+submits c t x (Number n) = Some (sets_variable c t x n (Submitted n))
 submits c t x Plain = None
 submits c t x (Byte b) = None
 submits c t x (Front cqe) = None
@@ -168,8 +168,8 @@ reaps c t (Byte b) = None
 abbrev pub does : Controls → Standing → Op → Answer → Option Move
 does c t (Set x n) a = assigns c t x n a
 does c t (Assign x y) a = assigns c t x (variable t y) a
-does c t (Add x y z) a = assigns c t x (wrapped (operand t y +ℤ operand t z)) a
-does c t (Subtract x y z) a = assigns c t x (wrapped (operand t y -ℤ operand t z)) a
+does c t (Add x y z) a = assigns c t x (wrapped (operand_value t y +ℤ operand_value t z)) a
+does c t (Subtract x y z) a = assigns c t x (wrapped (operand_value t y -ℤ operand_value t z)) a
 does c t (Load x b i) a = loads c t x a
 does c t (Store b i x) a = plainly (goes_on c t (Stored (low_byte (variable t x)))) a
 does c t (Fill b x) a = plainly (goes_on c t (Filled (low_byte (variable t x)))) a
@@ -261,12 +261,12 @@ abbrev pub next_line : Program → Controls → ℕ → Option Line
 next_line program c i = next_at program i (slice_get c.threads i)
 
 -- the number of the line of an event: at a return to the top of a loop it is the loop's
-abbrev pub number_in : Option Line → ℕ
-number_in None = 0
-number_in (Some l) = l.number
+abbrev pub line_number : Option Line → ℕ
+line_number None = 0
+line_number (Some l) = l.number
 
 abbrev pub number_of_event : Program → ℕ → Line → Stmt → ℕ
-number_of_event program i l (EndLoop o k) = number_in (line_at program i o)
+number_of_event program i l (EndLoop o k) = line_number (line_at program i o)
 number_of_event program i l _ = l.number
 
 -- its event, and the controls after it

@@ -76,7 +76,7 @@ abbrev pub items_of : Program → List ℕ → Result (List Item) ℕ
 items_of program text = items_or (position (λ piece. is_none (item_of program piece)) (pieces_of text)) (filter_map (item_of program) (pieces_of text))
 
 -- what reading a schedule answers
-abbrev pub Reads : Program → List ℕ → Result (Vec Item) ScheduleFault → Type 0
-Reads program text (Ok items) = items_of program text ≡ Ok items.items
-Reads program text (Err (Unreadable n)) = items_of program text ≡ Err n
-Reads program text (Err OutOfMemory) = Unit {0}
+abbrev pub ReadsSchedule : Program → List ℕ → Result (Vec Item) ScheduleFault → Type 0
+ReadsSchedule program text (Ok items) = items_of program text ≡ Ok items.items
+ReadsSchedule program text (Err (Unreadable n)) = items_of program text ≡ Err n
+ReadsSchedule program text (Err OutOfMemory) = Unit {0}

@@ -306,7 +306,7 @@ impl Controls {
     fn operand(&self, thread: u32, operand: Operand) -> i64
         requires exists { thread < length self.now.threads }
         requires within { IsOperand 64 operand }
-        ensures { result ≡ spec.operand (standing_at self.now thread) operand }
+        ensures { result ≡ spec.operand_value (standing_at self.now thread) operand }
     {
         match operand {
             Operand::Variable(x) => self.variable(thread, x),
@@ -327,7 +327,7 @@ impl Controls {
         requires here { (standing_at self.old thread).place ≡ place }
         requires within { place ≤ 4096 }
         requires variable { x < 64 }
-        ensures { spec.made program.now self.old thread (Some (spec.sets self.old (standing_at self.old thread) x value (Action.VariableSet value))) ≡ Some (result, self.new) }
+        ensures { spec.made program.now self.old thread (Some (spec.sets_variable self.old (standing_at self.old thread) x value (Action.VariableSet value))) ≡ Some (result, self.new) }
     {
         self.set(thread, x, value);
         self.pass(program, thread, place, Action::VariableSet(value))

@@ -3,7 +3,7 @@
 ghost use Rattle.std.specs.Prelude.{◌≡◌, ◌==◌, ◌<◌, length, position, None, Some, IfSome, MatchOption};
 ghost use Rattle.std.specs.Str.{bytes_eq};
 ghost use Rattle.rc_lang.specs.Numbers.{number_of};
-ghost use Rattle.rc_world.specs.Schedule.{Reads};
+ghost use Rattle.rc_world.specs.Schedule.{ReadsSchedule};
 ghost use Rattle.rc_world.specs.Schedule as spec;
 
 use crate::event::Item;
@@ -137,7 +137,7 @@ pub fn read_schedule(
     program: &Program,
     schedule: &str,
 ) -> Result<Vec<Item>, ScheduleFault>
-    ensures { Reads program.now schedule.now result }
+    ensures { ReadsSchedule program.now schedule.now result }
 {
     let mut items = Vec::new(alloc);
     if schedule.is_empty() {

@@ -14,7 +14,7 @@ ghost use Rattle.rc_world.specs.WorldParts.{begun_buffers, begun_pending, view_b
 use crate::controls::{Answer, Controls, Next, low_byte};
 use crate::event::{Completion, Event, Item};
 use crate::fault::Fault;
-use rc_lang::lines::{Op, Stmt, Test};
+use rc_lang::lines::{Line, Op, Stmt, Test};
 use rc_lang::program::{Buffer, Program};
 use rc_lang::request::{Kind, Request};
 use std::alloc::{AllocError, Global};
@@ -141,10 +141,9 @@ impl<'a> World<'a> {
         ensures { result ≡ items.is_enabled self.now item.now }
     {
         match *item {
-            Item::Thread { thread, take } => match self.next(thread) {
-                Next::Ready(line) => self.takes(take, line.stmt),
-                Next::TakenLock => false,
-                Next::Ended => false,
+            Item::Thread { thread, take } => match self.controls.line(self.program, thread) {
+                Some(line) => self.is_ready(take, line),
+                None => false,
             },
             Item::Kernel {
                 user_data,
@@ -177,6 +176,29 @@ impl<'a> World<'a> {
             } => self.complete(user_data, res, fill)?,
         };
         Ok(event)
+    }
+
+    // Whether a thread that stands at this line may go on, where this is the answer of its item.
+    fn is_ready(&self, take: Option<i32>, line: Line) -> bool
+        ensures { result ≡ items.is_ready self.now take (items.ready_or_taken self.now.controls.holder line line.stmt) }
+    {
+        match line.stmt {
+            Stmt::Do(_) => self.takes(take, line.stmt),
+            Stmt::Lock => take.is_none() && self.controls.holder().is_none(),
+            Stmt::EndLock(_) => take.is_none(),
+            Stmt::If(_) => take.is_none(),
+            Stmt::Else(_) => false,
+            Stmt::EndIf(_) => false,
+            Stmt::Peek(_) => take.is_none(),
+            Stmt::Case(_, _) => false,
+            Stmt::Other(_) => false,
+            Stmt::Nothing(_) => false,
+            Stmt::EndArm(_) => false,
+            Stmt::EndPeek(_) => false,
+            Stmt::Loop(_) => take.is_none(),
+            Stmt::EndLoop(_, _) => take.is_none(),
+            Stmt::Break(_, _, _) => take.is_none(),
+        }
     }
 
     // Whether the answer of an item may stand at this statement.

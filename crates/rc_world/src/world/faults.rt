@@ -66,23 +66,34 @@ impl<'a> World<'a> {
         requires { thread ≤ 16 }
         ensures { result ≡ harm.is_harmful self.now thread stmt }
     {
-        self.harms_buffers(thread, stmt)
-            || if self.controls.is_holder(thread) {
-                self.harms_rings(stmt)
-            } else {
-                is_ring_call(stmt)
+        match stmt {
+            // Most threads stand before the lock.
+            Stmt::Lock => false,
+            _ => {
+                self.harms_buffer(thread, access_of(stmt))
+                    || is_out_at(self.program, stmt)
+                    || if self.controls.is_holder(thread) {
+                        self.harms_rings(stmt)
+                    } else {
+                        is_ring_call(stmt)
+                    }
             }
+        }
     }
 
-    fn harms_buffers(&self, thread: u32, stmt: Stmt) -> bool
+    // Whether it is harmful what the next statement of a thread does with a buffer.
+    fn harms_buffer(&self, thread: u32, access: Option<Access>) -> bool
         requires { thread ≤ 16 }
-        ensures { result ≡ harm.harms_buffers self.now thread stmt }
+        ensures { result ≡ harm.harms_buffer self.now thread (option_map view_access access) }
     {
-        let access = access_of(stmt);
-        self.writes_pending(access)
-            || self.reads_filling(access)
-            || self.races(thread, access)
-            || is_out_at(self.program, stmt)
+        match access {
+            Some(_) => {
+                self.writes_pending(access)
+                    || self.reads_filling(access)
+                    || self.races(thread, access)
+            }
+            None => false,
+        }
     }
 
     fn harms_rings(&self, stmt: Stmt) -> bool
@@ -301,7 +312,8 @@ fn conflicts(access: Option<Access>, other: Option<Access>) -> bool
     }
 }
 
-fn has_buffer(kind: Kind) -> bool
+// Whether a request of this kind names a buffer.
+pub(super) fn has_buffer(kind: Kind) -> bool
     ensures { result ≡ spec.has_buffer kind }
 {
     match kind {
@@ -312,7 +324,8 @@ fn has_buffer(kind: Kind) -> bool
     }
 }
 
-fn names(buffer: usize, request: Request) -> bool
+// Whether the request names the buffer.
+pub(super) fn names(buffer: usize, request: Request) -> bool
     ensures { result ≡ spec.names buffer request }
 {
     has_buffer(request.kind) && request.buffer as usize == buffer

@@ -4,11 +4,12 @@ ghost use Rattle.std.specs.Prelude.{◌≡◌, ◌+◌, ◌<◌, ◌≤◌, ◌^
 ghost use Rattle.std.specs.List.{list_any};
 ghost use Rattle.std.specs.Vec.{vec_capacity, vec_len};
 ghost use Rattle.rc_world.specs.Changes.{CallIsSmall, StmtIsSmall, standing_at};
-ghost use Rattle.rc_world.specs.Faults.{clash, clashes, has_buffer, names};
+ghost use Rattle.rc_world.specs.Faults.{clash, clashes, has_buffer};
 ghost use Rattle.rc_world.specs.Items as items;
 ghost use Rattle.rc_world.specs.Machine as machine;
 ghost use Rattle.rc_world.specs.WorldParts.{begun_buffers, begun_pending, refilled, refilled_in, view_bytes, view_pending};
 
+use super::faults::{has_buffer, names};
 use super::{Pending, Slot, World, is_read, place_of_pending, remove_first};
 use crate::controls::low_byte;
 use crate::event::{Completion, Event};
@@ -322,22 +323,5 @@ fn clashes_with(request: Request, pending: &[Pending]) -> bool
 fn clash(a: Request, b: Request) -> bool
     ensures { result ≡ clash a b }
 {
-    has_buffer(a.kind) && names(a.buffer, b) && (is_read(a.kind) || is_read(b.kind))
-}
-
-fn names(buffer: u32, request: Request) -> bool
-    ensures { result ≡ names buffer request }
-{
-    has_buffer(request.kind) && request.buffer == buffer
-}
-
-fn has_buffer(kind: Kind) -> bool
-    ensures { result ≡ has_buffer kind }
-{
-    match kind {
-        Kind::Nop => false,
-        Kind::Fsync => false,
-        Kind::Read => true,
-        Kind::Write => true,
-    }
+    has_buffer(a.kind) && names(a.buffer as usize, b) && (is_read(a.kind) || is_read(b.kind))
 }

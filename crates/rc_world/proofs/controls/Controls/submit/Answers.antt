@@ -2,7 +2,7 @@ use Rattle.std.proofs.Common.{◌≡◌, FitsSigned, w32, w64, Some, rules, sym,
 use Rattle.std.proofs.lemmas.Int.{to_z-of_z}
 use Rattle.rc_world.specs.declared.event.Action.TheVariants.{Submitted}
 use Rattle.rc_world.specs.Changes.{standing_at, with_variable}
-use Rattle.rc_world.specs.Controls.{made, sets, submits}
+use Rattle.rc_world.specs.Controls.{made, sets_variable, submits}
 use Rattle.rc_world.proofs.Threads.{sets_is}
 use Rattle.rc_world.proofs.controls.Controls.submit.Goals as goal
 
@@ -16,6 +16,6 @@ returns c =
     let read = to_z-of_z w32 c.in-Number.taken small in
     let set = c.set.ensures ∙ ap (with_variable old c.args.thread c.args.x) taken in
     ap (λ a. made c.args.program.now old c.args.thread (submits old (standing_at old c.args.thread) c.args.x a)) c.in-Number.is
-    ∙ ap (λ v. made c.args.program.now old c.args.thread (Some (sets old (standing_at old c.args.thread) c.args.x c.in-Number.taken (Submitted v)))) (sym read)
+    ∙ ap (λ v. made c.args.program.now old c.args.thread (Some (sets_variable old (standing_at old c.args.thread) c.args.x c.in-Number.taken (Submitted v)))) (sym read)
     ∙ sets_is c.args.program.now old c.set.new.self c.args.thread c.args.x c.in-Number.taken _ set c.requires.exists
     ∙ c.pass.ensures
