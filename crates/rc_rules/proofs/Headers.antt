@@ -21,7 +21,7 @@ names_declared P items h = record { buffers = h.buffers; tokens = h.tokens }
 
 -- ---- each once
 
-none_else : (x u : ℕ) (xs : List ℕ) → nat_eq x u ≡ true → AllByRecursion (λ y. nat_eq x y ≡ false) xs → count_by (λ v. nat_eq v u) xs ≡ 0
+pub none_else : (x u : ℕ) (xs : List ℕ) → nat_eq x u ≡ true → AllByRecursion (λ y. nat_eq x y ≡ false) xs → count_by (λ v. nat_eq v u) xs ≡ 0
 none_else x u [] e h = refl
 none_else x u (y ∷ ys) e h = sum_by-cons (λ v. cond (nat_eq v u) 1 0) y ys ∙ go (none_else x u ys e h.1) (nat_eq y u) refl
   where
@@ -37,7 +37,7 @@ count_once u (x ∷ xs) h = subst (λ n. n ≤ 1) (sym (sum_by-cons (λ v. cond 
     go n true e = omega (arith, none_else x u xs e (IsDistinct-head nat_eq x xs h))
     go n false e = omega (arith, n)
 
-none_of : (x : Share) (b : ℕ) (xs : List Share) → nat_eq x.buffer b ≡ true → AllByRecursion (λ y. nat_eq x.buffer y ≡ false) (map (λ (s : Share). s.buffer) xs) → sum_by (λ (s : Share). cond (nat_eq s.buffer b) s.count 0) xs ≡ 0
+pub none_of : (x : Share) (b : ℕ) (xs : List Share) → nat_eq x.buffer b ≡ true → AllByRecursion (λ y. nat_eq x.buffer y ≡ false) (map (λ (s : Share). s.buffer) xs) → sum_by (λ (s : Share). cond (nat_eq s.buffer b) s.count 0) xs ≡ 0
 none_of x b [] e h = refl
 none_of x b (y ∷ ys) e h = sum_by-cons (λ (s : Share). cond (nat_eq s.buffer b) s.count 0) y ys ∙ go (none_of x b ys e h.1) (nat_eq y.buffer b) refl
   where

@@ -1,7 +1,7 @@
 mod Passing
-mod Lines
-mod Moves
-mod Headers
-mod Meets
-mod Growth
+pub mod Lines
+pub mod Moves
+pub mod Headers
+pub mod Meets
+pub mod Growth
 mod Examples

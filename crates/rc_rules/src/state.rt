@@ -6,7 +6,7 @@ ghost use Rattle.rc_lang.specs.Program.{DeclaresToken, IsItems, Thread};
 ghost use Rattle.rc_lang.specs.declared.lines.Op.{Op};
 ghost use Rattle.rc_lang.specs.declared.lines.Stmt.TheVariants as stmts;
 ghost use Rattle.rc_lang.specs.declared.lines.Test.TheVariants as tests;
-ghost use Rattle.rc_rules.specs.Labels.{Live};
+ghost use Rattle.rc_rules.specs.Labels.{Dead, Live};
 ghost use Rattle.rc_rules.specs.Rules as rules;
 ghost use Rattle.rc_rules.specs.States as spec;
 ghost use Rattle.rc_rules.specs.declared.mode.Peeked.TheVariants as peeks;
@@ -87,12 +87,24 @@ impl<'a> State<'a> {
         Ok(self.again())
     }
 
-    fn again(&self) -> State<'a>
+    /// The same state again, as [`copy`](State::copy) makes it.
+    pub fn again(&self) -> State<'a>
         ensures { result ≡ self.now }
     {
         State {
             holding: self.holding.again(),
             mode: self.mode,
+        }
+    }
+
+    /// A state of the same program that nothing reaches, as behind the end of an arm.
+    pub fn dead(&self) -> State<'a>
+        ensures dead { spec.label_of result ≡ Dead }
+        ensures of { spec.program_of result ≡ spec.program_of self.now }
+    {
+        State {
+            holding: self.holding.again(),
+            mode: None,
         }
     }
 

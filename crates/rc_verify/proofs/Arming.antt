@@ -1,0 +1,88 @@
+-- The arms of a peek, and their ends.
+use Rattle.std.proofs.Common.{◌≡◌, ℕ, ◌+◌, Bool, List, [], ◌∷◌, ◌++◌, Option, Some, Result, refl, sym, ap, subst, ◌∙◌, arith}
+use Rattle.std.specs.Prelude.{IsSome}
+use Rattle.std.proofs.lemmas.Option.{get_or_from_slice_get}
+use Rattle.rc_lang.specs.declared.lines.Block.TheVariants.{InPeek, InArm}
+use Rattle.rc_lang.specs.declared.lines.Stmt.{Stmt}
+use Rattle.rc_lang.specs.declared.lines.Stmt.TheVariants.{Peek, Case, Other, Nothing}
+use Rattle.rc_lang.specs.Nesting.{blocks_at, in_lock}
+use Rattle.rc_lang.specs.Program.{DeclaresToken, Program, Thread, stmt_at}
+use Rattle.rc_lang.proofs.Along.{locked_behind}
+use Rattle.rc_lang.proofs.Closing.{OpensArm, opens_case, opens_nothing, opens_other}
+use Rattle.rc_lang.proofs.Lookups.{blocks_next, nested_here}
+use Rattle.rc_rules.specs.declared.cause.Cause.{Cause}
+use Rattle.rc_rules.specs.declared.mode.Peeked.TheVariants.{Unseen, SeesOther}
+use Rattle.rc_rules.specs.Labels.{Label, Dead}
+use Rattle.rc_rules.specs.Labellings.{label_at}
+use Rattle.rc_rules.specs.Rules.{asks, case_at, peek_at, peek_premises}
+use Rattle.rc_rules.specs.States.{State, Gives, label_of, program_of}
+use Rattle.rc_verify.specs.declared.arms.Arms.{Arms}
+use Rattle.rc_verify.specs.declared.walk.Walk.{Walk}
+use Rattle.rc_verify.specs.Walk.{AreKept, Fits, IsPeeked, Reaches, Turns, branch_place, listed, loop_place, most_at, peek_place, places}
+use Rattle.rc_verify.proofs.Fit.{case_fits, fits_more, peek_fits}
+use Rattle.rc_verify.proofs.Keeping.{one_listed, places_pushed}
+use Rattle.rc_verify.proofs.Peeking.{locked_asks, no_peeks}
+use Rattle.rc_verify.proofs.Plainly.{EndsNone, opens_none, state_alone}
+use Rattle.rc_verify.proofs.Standing.{asked_at, lead_at}
+
+-- What is kept of the peek that is open, which stands at o.
+pub record Armed (P : Program) (t : Thread) (j : ℕ) (labels : List Label) (o : ℕ) (peek : Option Arms) : Type 0 where
+  pub arms : Arms
+  pub is : peek ≡ Some arms
+  pub holds : IsPeeked P t j labels o arms
+
+module _ (P : Program) (t : Thread) (j : ℕ) (w : Walk) (r : Reaches P t j w) where
+  pub armed : (o : ℕ) → places peek_place (blocks_at t.lines j) ≡ o ∷ [] → Armed P t j r.labels o w.peek
+  armed o p =
+      let h = one_listed (IsPeeked P t j r.labels) o w.peek (subst (λ os. AreKept (IsPeeked P t j r.labels) os (listed w.peek)) p r.at.keeps.peek) in
+      record { arms = h.0; is = h.1; holds = h.2 }
+
+  pub peek_alone : (o x : ℕ) → stmt_at t.lines o ≡ Some (Peek x) → places peek_place (blocks_at t.lines o) ≡ []
+  peek_alone o x e = no_peeks (blocks_at t.lines o) (nested_here t.lines r.thread.nested.each o (Peek x) e)
+
+  -- ---- where an arm begins
+
+  opening : (o : ℕ) → OpensArm t.lines j o → Armed P t j r.labels o w.peek
+  opening o c = armed o (ap (places peek_place) c.within ∙ places_pushed peek_place (blocks_at t.lines o) (InPeek o) ∙ ap (λ os. os ++ o ∷ []) (peek_alone o c.variable c.stands))
+
+  pub some_armed : (o : ℕ) → Armed P t j r.labels o w.peek → IsSome w.peek
+  some_armed o a = subst (λ (x : Option Arms). IsSome x) (sym a.is) refl
+
+  pub case_some : (o u : ℕ) → stmt_at t.lines j ≡ Some (Case o u) → IsSome w.peek
+  case_some o u e = some_armed o (opening o (opens_case t.lines r.thread.nested.each j o u e))
+
+  pub other_some : (o : ℕ) → stmt_at t.lines j ≡ Some (Other o) → IsSome w.peek
+  other_some o e = some_armed o (opening o (opens_other t.lines r.thread.nested.each j o e))
+
+  pub none_some : (o : ℕ) → stmt_at t.lines j ≡ Some (Nothing o) → IsSome w.peek
+  none_some o e = some_armed o (opening o (opens_nothing t.lines r.thread.nested.each j o e))
+
+  peeked_is : (o : ℕ) (a : Arms) → Armed P t j r.labels o w.peek → w.peek ≡ Some a → IsPeeked P t j r.labels o a
+  peeked_is o a h e = let q : h.arms ≡ a = cc (h.is, e) in subst (λ (x : Arms). IsPeeked P t j r.labels o x) q h.holds
+
+  pub case_declared : (o u : ℕ) (a : Arms) → stmt_at t.lines j ≡ Some (Case o u) → w.peek ≡ Some a → DeclaresToken (program_of a.before) u
+  case_declared o u a e q =
+      let h = peeked_is o a (opening o (opens_case t.lines r.thread.nested.each j o u e)) q in
+      subst (λ (p : Program). DeclaresToken p u) (sym h.before.of) (r.thread.resolved j (Case o u) e)
+
+  -- an arm's first state, from the one before the arms
+  arm_turns : {X : Type 0} (s : Stmt) (o : ℕ) (a : Arms) (new : State) (x : Result X Cause) (B : Label → Label) (e : stmt_at t.lines j ≡ Some s) → OpensArm t.lines j o → w.peek ≡ Some a → ((labels : List Label) → asked_at P t j labels s ≡ []) → ((labels : List Label) → lead_at P t j labels s ≡ B (label_at labels (o + 1)) ∷ []) → ((b : Bool) → locked_behind b s ≡ b) → ((b : Bool) (n : ℕ) (l : Label) → Fits b n l → Fits b n (B l)) → EndsNone s → Gives a.before new x (asks (label_of a.before) (λ bag m. peek_premises m)) (B (label_of a.before) ∷ []) → blocks_at t.lines (j + 1) ≡ blocks_at t.lines j ++ InArm o ∷ [] → Turns P t j (record { state = new; branches = w.branches; peek = w.peek; loops = w.loops }) x
+  arm_turns s o a new x B e c q asked leads lock fits none g n =
+      let h = peeked_is o a (opening o c) q in
+      let known : label_at r.labels (o + 1) ≡ label_of a.before = get_or_from_slice_get r.labels (o + 1) (label_of a.before) Dead h.before.at in
+      let same : blocks_at t.lines (o + 1) ≡ blocks_at t.lines j = blocks_next t.lines o (Peek c.variable) c.stands ∙ sym c.within in
+      let f : Fits (in_lock (blocks_at t.lines j)) (most_at j) (label_of a.before) = subst (λ bs. Fits (in_lock bs) (most_at j) (label_of a.before)) same (r.at.fits (o + 1) (label_of a.before) h.before.at) in
+      let f' : Fits (locked_behind (in_lock (blocks_at t.lines j)) s) (most_at j + 18) (B (label_at r.labels (o + 1))) = subst (λ b. Fits b (most_at j + 18) (B (label_at r.labels (o + 1)))) (sym (lock (in_lock (blocks_at t.lines j)))) (fits_more (in_lock (blocks_at t.lines j)) (most_at j) (most_at j + 18) _ (omega arith) (fits (in_lock (blocks_at t.lines j)) (most_at j) (label_at r.labels (o + 1)) (subst (λ l. Fits (in_lock (blocks_at t.lines j)) (most_at j) l) (sym known) f))) in
+      let places_same = opens_none t j (blocks_at t.lines j) (InArm o) refl n in
+      let g' : Gives a.before new x [] (B (label_of a.before) ∷ []) = subst (λ ps. Gives a.before new x ps (B (label_of a.before) ∷ [])) (locked_asks (label_of a.before) h.locked) g in
+      state_alone P t j w r s e a.before new (label_at r.labels (o + 1)) x (λ p l. []) (λ p l. B l ∷ []) h.before.of (sym known) (asked r.labels) (leads r.labels) (f', tt)
+      (record { branches = places_same branch_place refl; peek = places_same peek_place refl; loops = places_same loop_place refl }) none g'
+
+  pub case_turns : {X : Type 0} (o u : ℕ) (a : Arms) (new : State) (x : Result X Cause) → stmt_at t.lines j ≡ Some (Case o u) → w.peek ≡ Some a → Gives a.before new x (asks (label_of a.before) (λ bag m. peek_premises m)) (case_at u (label_of a.before) ∷ []) → Turns P t j (record { state = new; branches = w.branches; peek = w.peek; loops = w.loops }) x
+  case_turns o u a new x e q g = arm_turns (Case o u) o a new x (case_at u) e (opens_case t.lines r.thread.nested.each j o u e) q (λ ls. refl) (λ ls. refl) (λ b. refl) (case_fits u) (record { arms = λ p y. refl; breaks = λ p y. refl }) g (blocks_next t.lines j (Case o u) e)
+
+  pub other_turns : {X : Type 0} (o : ℕ) (a : Arms) (new : State) (x : Result X Cause) → stmt_at t.lines j ≡ Some (Other o) → w.peek ≡ Some a → Gives a.before new x (asks (label_of a.before) (λ bag m. peek_premises m)) (peek_at SeesOther (label_of a.before) ∷ []) → Turns P t j (record { state = new; branches = w.branches; peek = w.peek; loops = w.loops }) x
+  other_turns o a new x e q g = arm_turns (Other o) o a new x (peek_at SeesOther) e (opens_other t.lines r.thread.nested.each j o e) q (λ ls. refl) (λ ls. refl) (λ b. refl) (peek_fits SeesOther) (record { arms = λ p y. refl; breaks = λ p y. refl }) g (blocks_next t.lines j (Other o) e)
+
+  pub none_turns : {X : Type 0} (o : ℕ) (a : Arms) (new : State) (x : Result X Cause) → stmt_at t.lines j ≡ Some (Nothing o) → w.peek ≡ Some a → Gives a.before new x (asks (label_of a.before) (λ bag m. peek_premises m)) (peek_at Unseen (label_of a.before) ∷ []) → Turns P t j (record { state = new; branches = w.branches; peek = w.peek; loops = w.loops }) x
+  none_turns o a new x e q g = arm_turns (Nothing o) o a new x (peek_at Unseen) e (opens_nothing t.lines r.thread.nested.each j o e) q (λ ls. refl) (λ ls. refl) (λ b. refl) (peek_fits Unseen) (record { arms = λ p y. refl; breaks = λ p y. refl }) g (blocks_next t.lines j (Nothing o) e)

@@ -1,0 +1,72 @@
+-- Where a walk begins, and what it answers.
+use Rattle.std.proofs.Common.{◌≡◌, ℕ, zero, suc, false, ◌<◌, ◌≤◌, List, [], ◌∷◌, length, map, take_all, Option, Some, None, Result, Ok, Err, get_or, refl, sym, ap, subst, ◌∙◌, arith, slice_get}
+use Rattle.std.specs.Prelude.{IsOkAnd}
+use Rattle.std.proofs.lemmas.Option.{slice_get-get_or}
+use Rattle.rc_lang.specs.declared.lines.Line.{Line}
+use Rattle.rc_lang.specs.declared.program.Thread.{Thread as ThreadPart}
+use Rattle.rc_lang.specs.Parts.{view_thread}
+use Rattle.rc_lang.specs.Nesting.{blocks_at, in_lock}
+use Rattle.rc_lang.specs.Program.{IsProgram, Program, Thread}
+use Rattle.rc_rules.specs.Labels.{Label}
+use Rattle.rc_rules.specs.Labellings.{HasLabels, IsRefusedAt, start_of}
+use Rattle.rc_rules.specs.States.{State, IsStart, label_of}
+use Rattle.rc_rules.proofs.Headers.{thread_at}
+use Rattle.arrayvec.specs.ArrayVec.{ArrayVec}
+use Rattle.rc_verify.specs.declared.walk.Walk.{Walk}
+use Rattle.rc_verify.specs.Strongest.{AreStrongest}
+use Rattle.rc_verify.specs.Walk.{AreKept, Fits, IsLoop, IsSaved, OnKept, Reaches, most_at}
+use Rattle.rc_verify.proofs.Fit.{start_fits}
+use Rattle.rc_verify.proofs.Strongest.{accepts, begins}
+
+-- ---- the thread
+
+pub thread_is : (P : Program) (parts : List ThreadPart) (i : ℕ) (part : ThreadPart) → map view_thread parts ≡ P.threads → i < length P.threads → part ≡ get_or parts i part → slice_get P.threads i ≡ Some (view_thread part)
+thread_is P parts i part e lt q = thread_at P parts i part e lt ∙ ap (λ x. Some (view_thread x)) (sym q)
+
+-- ---- its first place
+
+pub starts : (P : Program) (i : ℕ) (t : Thread) (s : State) (branches loops : ArrayVec (Option State)) → IsProgram P → slice_get P.threads i ≡ Some t → IsStart P i s → branches.items ≡ [] → loops.items ≡ [] → Reaches P t 0 (record { state = s; branches = branches; peek = None; loops = loops })
+starts P i t s branches loops made is h e f = record {
+  made = made;
+  thread = made.each i t is;
+  start = label_of s;
+  same = h.1 t is;
+  labels = label_of s ∷ [];
+  at = record {
+    within = omega arith;
+    size = refl;
+    strongest = begins P t.loops (label_of s);
+    here = record { of = h.0; at = refl };
+    fits = fits;
+    keeps = record {
+      branches = subst (λ xs. AreKept (OnKept (IsSaved P (label_of s ∷ []))) [] xs) (sym e) tt;
+      peek = tt;
+      loops = subst (λ xs. AreKept (OnKept (IsLoop P t 0 (label_of s ∷ []))) [] xs) (sym f) tt;
+    };
+  };
+}
+  where
+    fits : (k : ℕ) (x : Label) → slice_get (label_of s ∷ []) k ≡ Some x → Fits (in_lock (blocks_at t.lines k)) (most_at 0) x
+    fits zero x q = let g : label_of s ≡ x = cc in subst (λ y. Fits false 2048 y) g (start_fits P t (label_of s) (made.each i t is).items (h.1 t is))
+    fits (suc k) x q = absurd (cc)
+
+pub started : {E : Type 0} (P : Program) (i : ℕ) (x : Result State E) (s : State) → IsOkAnd x (λ y. IsStart P i y) → x ≡ Ok s → IsStart P i s
+started P i (Ok y) s h e = let q : y ≡ s = cc in subst (IsStart P i) q h
+started P i (Err z) s h e = absurd (cc)
+
+-- ---- the answers
+
+same_thread : (ts : List Thread) (i : ℕ) (t u : Thread) → slice_get ts i ≡ Some t → slice_get ts i ≡ Some u → t ≡ u
+same_thread ts i t u e f = cc
+
+pub ends : (P : Program) (i j : ℕ) (t u : Thread) (w : Walk) → slice_get P.threads i ≡ Some t → slice_get P.threads i ≡ Some u → Reaches P t j w → length t.lines ≤ j → HasLabels P u.loops (start_of u) u.lines
+ends P i j t u w is that r le =
+    let h = accepts P t r.start r.labels r.same (subst (λ ls. AreStrongest P t.loops r.start ls r.labels) (take_all j t.lines le) r.at.strongest) in
+    subst (λ (x : Thread). HasLabels P x.loops (start_of x) x.lines) (same_thread P.threads i t u is that) h
+
+-- The line at j is refused, which has this number.
+pub refuses_line : (P Q : Program) (i j v : ℕ) (t u : Thread) (d : Line) → slice_get P.threads i ≡ Some t → slice_get P.threads i ≡ Some u → Q ≡ P → j < length t.lines → d ≡ get_or t.lines j d → (l : Line) × IsRefusedAt Q t j l v → (k : ℕ) × (l : Line) × (l.number ≡ d.number) × IsRefusedAt P u k l v
+refuses_line P Q i j v t u d is that p lt e h =
+    let at : slice_get t.lines j ≡ Some d = slice_get-get_or t.lines j d lt ∙ ap Some (sym e) in
+    let q : h.0 ≡ d = cc (h.1.line_is, at) in
+    (j, h.0, ap (λ (l : Line). l.number) q, subst (λ (x : Thread). IsRefusedAt P x j h.0 v) (same_thread P.threads i t u is that) (subst (λ (y : Program). IsRefusedAt y t j h.0 v) p h.1))

@@ -1,0 +1,164 @@
+-- Where some labels are good, there are strongest ones, and refusals can be read off them.
+use Rattle.std.proofs.Common.{◌≡◌, ℕ, zero, suc, ◌+◌, ◌≤◌, ◌↔◌, true, List, [], ◌∷◌, ◌++◌, length, take, Some, refl, sym, ap, subst, inl, inr, arith, length-append}
+use Rattle.std.specs.Prelude.{slice_get}
+use Rattle.std.proofs.lemmas.Bool.{cases_lt, eq-eqb}
+use Rattle.std.proofs.lemmas.List.{length-take, get_or-take, get_or_past}
+use Rattle.std.proofs.lemmas.Option.{slice_get_within, slice_get_cases}
+use Rattle.std.proofs.Math.Seq.{take-length}
+use Rattle.std.proofs.Math.Numerals.{add-one}
+use Rattle.rc_lang.specs.declared.lines.Line.{Line}
+use Rattle.rc_lang.specs.declared.program.TokenKind.{TokenKind}
+use Rattle.rc_lang.specs.declared.program.TokenKind.TheVariants.{Read, Write, Fsync, Nop}
+use Rattle.rc_lang.specs.Program.{Program, Thread, Items}
+use Rattle.rc_split.specs.Bags.{Part, least}
+use Rattle.rc_rules.specs.declared.mode.Mode.{Mode}
+use Rattle.rc_rules.specs.declared.mode.Mode.TheVariants.{Unlocked, Locked}
+use Rattle.rc_rules.specs.declared.mode.Slot.{Slot}
+use Rattle.rc_rules.specs.declared.mode.Slot.TheVariants.{Closed, Vacant, Prepared}
+use Rattle.rc_rules.specs.Labels.{Label, Dead, Live, Weaker, WeakerMode, WeakerThanEach, IsStrongest}
+use Rattle.rc_rules.specs.Labellings.{label_at, befores, premises, IsGood, HasLabels, IsRefusedAt, start_of}
+use Rattle.rc_rules.specs.Laws.{IsStronger}
+use Rattle.rc_rules.specs.Premises.{MeetsBelow, FailsFirst}
+use Rattle.rc_rules.specs.Rules.{same_kind, same_slot, agree_modes}
+use Rattle.rc_rules.specs.States.{both, AreAlike}
+use Rattle.rc_rules.proofs.Growth.{weaker_trans, rules_grow}
+use Rattle.rc_rules.proofs.Meets.{both_strongest}
+use Rattle.rc_rules.proofs.Moves.{weaker_refl}
+use Rattle.rc_verify.proofs.Strongest.{take_suc_at, front_good, last_good, weaker_than_more, begins, goes_on, below_strongest, meets_below}
+use Rattle.rc_verify.specs.Strongest.{AreStrongest}
+
+-- ---- labels that have a common bound have a meet
+
+kind_same : (k : TokenKind) → same_kind k k ≡ true
+kind_same (Read b) = eq-eqb b b refl
+kind_same (Write b k) = rw (eq-eqb b b refl, eq-eqb k k refl) refl
+kind_same Fsync = refl
+kind_same Nop = refl
+
+slot_same : (s : Slot) → same_slot s s ≡ true
+slot_same Closed = refl
+slot_same Vacant = refl
+slot_same (Prepared k) = kind_same k
+
+-- what two modes have, where both say more than a third
+modes_agree : (k m n : Mode) → WeakerMode k m → WeakerMode k n → agree_modes m n ≡ true
+modes_agree Unlocked Unlocked Unlocked v w = refl
+modes_agree (Locked i) (Locked j) (Locked h) v w = subst (λ s. same_slot s h.slot ≡ true) v.slot (subst (λ s. same_slot i.slot s ≡ true) w.slot (slot_same i.slot))
+modes_agree Unlocked (Locked j) n v w = absurd v
+modes_agree Unlocked Unlocked (Locked h) v w = absurd w
+modes_agree (Locked i) Unlocked n v w = absurd v
+modes_agree (Locked i) (Locked j) Unlocked v w = absurd w
+
+modes_alike : (a b : Part → ℕ) (k m n : Mode) → WeakerMode k m → WeakerMode k n → AreAlike (Live a m) (Live b n)
+modes_alike a b Unlocked Unlocked Unlocked v w = tt
+modes_alike a b (Locked i) (Locked j) (Locked h) v w = tt
+modes_alike a b Unlocked (Locked j) n v w = absurd v
+modes_alike a b Unlocked Unlocked (Locked h) v w = absurd w
+modes_alike a b (Locked i) Unlocked n v w = absurd v
+modes_alike a b (Locked i) (Locked j) Unlocked v w = absurd w
+
+meet_of : (t x y : Label) → Weaker t x → Weaker t y → (s : Label) × IsStrongest s (x ∷ y ∷ [])
+meet_of t Dead y v w = (y, record { weaker = (tt, (weaker_refl y, tt)); strongest = λ u l. l.1.0 })
+meet_of t (Live a m) Dead v w = (Live a m, record { weaker = (weaker_refl (Live a m), (tt, tt)); strongest = λ u l. l.0 })
+meet_of Dead (Live a m) (Live b n) v w = absurd v
+meet_of (Live c k) (Live a m) (Live b n) v w = (Live (least a b) (both m n), both_strongest a b (least a b) m n (both m n) (modes_agree k m n v.1 w.1) (modes_alike a b k m n v.1 w.1) (λ p. refl) refl)
+
+each_below : (s t : Label) (ts : List Label) → Weaker s t → WeakerThanEach t ts → WeakerThanEach s ts
+each_below s t [] w h = tt
+each_below s t (x ∷ ts) w h = (weaker_trans s t x w h.0, each_below s t ts w h.1)
+
+pub bounded_meet : (t : Label) (ss : List Label) → WeakerThanEach t ss → (s : Label) × IsStrongest s ss
+bounded_meet t [] h = (Dead, record { weaker = tt; strongest = λ u l. tt })
+bounded_meet t (x ∷ ss) h = more (bounded_meet t ss h.1)
+  where
+    more : ((s : Label) × IsStrongest s ss) → (s : Label) × IsStrongest s (x ∷ ss)
+    more r =
+        let m : (s : Label) × IsStrongest s (x ∷ r.0 ∷ []) = meet_of t x r.0 h.0 (r.1.strongest t h.1) in (
+          m.0,
+          record {
+            weaker = (m.1.weaker.0, each_below m.0 r.0 ss m.1.weaker.1.0 r.1.weaker);
+            strongest = λ u l. m.1.strongest u (l.0, (r.1.strongest u l.1, tt));
+          },
+        )
+
+-- ---- line by line
+
+-- strongest labels, as many as there are places
+abbrev pub Found : Program → List Items → Label → List Line → Type 0
+Found P loops start lines = (labels : List Label) × (length labels ≡ length lines + 1) × AreStrongest P loops start lines labels
+
+found_more : (P : Program) (loops : List Items) (start : Label) (lines : List Line) (l : Line) → Found P loops start lines → HasLabels P loops start (lines ++ l ∷ []) → Found P loops start (lines ++ l ∷ [])
+found_more P loops start lines l f h =
+    let front = front_good P loops start lines l h.0 h.1 in
+    let last = last_good P loops start lines l h.0 h.1 in
+    let below = below_strongest P loops start lines f.0 h.0 f.1 f.2 front in
+    let grows = rules_grow P loops lines (take (length lines + 1) h.0) f.0 l.stmt below in
+    let bound = weaker_than_more (label_at h.0 (length lines + 1)) _ (befores P loops lines f.0 l.stmt) last.1 (grows.gives_more last.0) in
+    let m : (s : Label) × IsStrongest s (befores P loops lines f.0 l.stmt) = bounded_meet (label_at h.0 (length lines + 1)) (befores P loops lines f.0 l.stmt) bound in
+    (f.0 ++ m.0 ∷ [], omega (arith, length-append f.0 (m.0 ∷ []), length-append lines (l ∷ []), f.1), goes_on P loops start lines f.0 l m.0 f.1 f.2 (grows.meets_too last.0) m.1)
+
+take_past : {X : Type 0} (n : ℕ) (xs : List X) → length xs ≤ n → take (suc n) xs ≡ take n xs
+take_past n [] le = sym (take_nothing n)
+  where
+    take_nothing : {X : Type 0} (n : ℕ) → take {A = X} n [] ≡ []
+    take_nothing zero = refl
+    take_nothing (suc n) = refl
+take_past zero (x ∷ xs) le = absurd (omega (arith, le))
+take_past (suc n) (x ∷ xs) le = ap (λ ys. x ∷ ys) (take_past n xs (omega (arith, le)))
+
+found_to : (P : Program) (loops : List Items) (start : Label) (lines : List Line) (n : ℕ) → HasLabels P loops start (take n lines) → Found P loops start (take n lines)
+found_to P loops start lines zero h = (start ∷ [], refl, begins P loops start)
+found_to P loops start lines (suc n) h = elim (slice_get_cases lines n).1 [
+  | inl f ↦
+      let more : take (suc n) lines ≡ take n lines ++ f.0 ∷ [] = take_suc_at lines n f.0 f.2 in
+      let h' = rw more at h in
+      rw more (found_more P loops start (take n lines) f.0 (found_to P loops start lines n (h'.0, front_good P loops start (take n lines) f.0 h'.0 h'.1)) h')
+  | inr f ↦
+      let more : take (suc n) lines ≡ take n lines = take_past n lines f.0 in
+      rw more (found_to P loops start lines n (rw more at h))
+]
+
+pub one_is_strongest : (P : Program) (loops : List Items) (start : Label) (lines : List Line) → HasLabels P loops start lines → (labels : List Label) × AreStrongest P loops start lines labels
+one_is_strongest P loops start lines h =
+    let all : take (length lines) lines ≡ lines = take-length lines in
+    let f = found_to P loops start lines (length lines) (rw all h) in
+    (f.0, rw all at f.2)
+
+-- ---- refusals
+
+-- good labels up to a place say no more than the strongest
+known_below : (P : Program) (loops : List Items) (start : Label) (lines : List Line) (ls ks : List Label) → AreStrongest P loops start lines ls → IsGood P loops start lines ks → IsStronger (take (length lines + 1) ks) (take (length lines + 1) ls)
+known_below P loops start lines ls ks s g k = elim (cases_lt k (length lines + 1)) [
+  | inl lt ↦ rw (get_or-take (length lines + 1) ks k Dead lt, get_or-take (length lines + 1) ls k Dead lt) (s.strongest ks g k (omega arith))
+  | inr le ↦ let z : label_at (take (length lines + 1) ls) k ≡ Dead = get_or_past (take (length lines + 1) ls) k Dead (omega (arith, le, length-take (length lines + 1) ls)) in rw z tt
+]
+
+module _ (P : Program) (thread : Thread) (j : ℕ) (line : Line) (labels : List Label) (v : ℕ) (at : slice_get thread.lines j ≡ Some line) (s : AreStrongest P thread.loops (start_of thread) (take j thread.lines) labels) where
+  front_is : length (take j thread.lines) ≡ j
+  front_is = let lt = slice_get_within thread.lines j line at in omega (arith, length-take j thread.lines)
+
+  -- what good labels meet, the strongest do
+  meets_too : (w : ℕ) (ks : List Label) → IsGood P thread.loops (start_of thread) (take j thread.lines) ks → MeetsBelow w (premises P thread.loops (take j thread.lines) (take (j + 1) ks) line.stmt) → MeetsBelow w (premises P thread.loops (take j thread.lines) (take (j + 1) labels) line.stmt)
+  meets_too w ks g = (rules_grow P thread.loops (take j thread.lines) (take (j + 1) ks) (take (j + 1) labels) line.stmt (rw front_is at (known_below P thread.loops (start_of thread) (take j thread.lines) labels ks s g))).asks_less w
+
+  fails_first : IsRefusedAt P thread j line v → FailsFirst v (premises P thread.loops (take j thread.lines) (take (j + 1) labels) line.stmt)
+  fails_first r = record {
+    below = meets_too v r.met_below.0 r.met_below.1 r.met_below.2;
+    fails = λ m. r.never_met labels s.good m;
+  }
+
+  refused : FailsFirst v (premises P thread.loops (take j thread.lines) (take (j + 1) labels) line.stmt) → IsRefusedAt P thread j line v
+  refused f = record {
+    line_is = at;
+    good_before = (labels, s.good);
+    none_up_to = λ g.
+        let more : take (j + 1) thread.lines ≡ take j thread.lines ++ line ∷ [] = rw add-one (take_suc_at thread.lines j line at) in
+        let h = rw more at g.1 in
+        let last = last_good P thread.loops (start_of thread) (take j thread.lines) line g.0 h in
+        f.fails (meets_too (v + 1) g.0 (front_good P thread.loops (start_of thread) (take j thread.lines) line g.0 h) (meets_below (v + 1) _ (rw front_is at last.0)));
+    met_below = (labels, s.good, f.below);
+    never_met = λ ks g m. f.fails (meets_too (v + 1) ks g m);
+  }
+
+  pub read_off : IsRefusedAt P thread j line v ↔ FailsFirst v (premises P thread.loops (take j thread.lines) (take (j + 1) labels) line.stmt)
+  read_off = (fails_first, refused)

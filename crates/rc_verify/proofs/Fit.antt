@@ -1,0 +1,194 @@
+-- Which labels fit a place in a lock or not, and how many of each part are held there.
+use Rattle.std.proofs.Common.{◌≡◌, ℕ, ◌+◌, ◌^◌, ◌≤◌, Bool, true, false, cond, nat_lt, List, [], ◌∷◌, refl, sym, ap, subst, ◌∙◌, ◌⊎◌, inl, inr, arith}
+use Rattle.rc_lang.specs.declared.lines.Op.{Op}
+use Rattle.rc_lang.specs.declared.lines.Op.TheVariants as ops
+use Rattle.rc_lang.specs.declared.lines.Test.{Test}
+use Rattle.rc_lang.specs.declared.lines.Test.TheVariants.{Compare, ReadyZero, SpaceAtLeast}
+use Rattle.rc_lang.specs.Program.{Program, Items, Thread, IsProgram, IsItems}
+use Rattle.rc_split.specs.Bags.{Part, ShareOf, TokenOf, Credit, bag_of}
+use Rattle.rc_rules.specs.declared.mode.Mode.{Mode}
+use Rattle.rc_rules.specs.declared.mode.Mode.TheVariants.{Unlocked, Locked}
+use Rattle.rc_rules.specs.declared.mode.Peeked.{Peeked}
+use Rattle.rc_rules.specs.declared.mode.Peeked.TheVariants.{Unseen, Sees, SeesOther}
+use Rattle.rc_rules.specs.declared.mode.Slot.{Slot}
+use Rattle.rc_rules.specs.declared.mode.Slot.TheVariants.{Closed, Vacant, Prepared}
+use Rattle.rc_rules.specs.Labels.{Label, Dead, Live, Weaker, WeakerMode, WeakerThanEach, IsStrongest, IsSame}
+use Rattle.rc_rules.specs.Labellings.{start_of}
+use Rattle.rc_rules.specs.Rules.{kind_of, same_slot, op_effect, reaped, goes, entered, released, test_mode, with_peeked, peek_at, case_at, top, broken, asks, may_break, agree}
+use Rattle.rc_rules.specs.Premises.{Meets}
+use Rattle.rc_rules.specs.States.{IsLocked, IsUnlocked, AreAlike, IsSmall}
+use Rattle.rc_rules.proofs.Headers.{few_of, once}
+use Rattle.rc_rules.proofs.Lines.{line_few, line_of, one_at_most, one_credit}
+use Rattle.rc_verify.specs.Walk.{Fits, is_locked, IsClosed}
+
+-- ---- the strongest label is like those that lead to it
+
+abbrev pub AreAll : (Label → Type 0) → List Label → Type 0
+AreAll Q [] = Unit {0}
+AreAll Q (t ∷ ts) = Q t × AreAll Q ts
+
+module _ (Q : Label → Type 0) (dead : Q Dead) (keeps : (s t : Label) → Weaker s t → (t ≡ Dead → ⊥) → Q t → Q s) where
+  some_live : (s : Label) (ts : List Label) → WeakerThanEach s ts → AreAll Q ts → Q s ⊎ WeakerThanEach Dead ts
+  some_live s [] w q = inr tt
+  some_live s (Dead ∷ ts) w q = elim (some_live s ts w.1 q.1) [ inl h ↦ inl h | inr h ↦ inr (tt, h) ]
+  some_live s (Live b m ∷ ts) w q = inl (keeps s (Live b m) w.0 (λ e. absurd (cc)) q.0)
+
+  dead_below : (s : Label) → Weaker Dead s → Q s
+  dead_below Dead w = dead
+  dead_below (Live b m) w = absurd w
+
+  pub kept_by : (s : Label) (ts : List Label) → AreAll Q ts → IsStrongest s ts → Q s
+  kept_by s ts q h = elim (some_live s ts h.weaker q) [ inl k ↦ k | inr k ↦ dead_below s (h.strongest Dead k) ]
+
+same_lock : (m n : Mode) → WeakerMode m n → is_locked m ≡ is_locked n
+same_lock Unlocked Unlocked w = refl
+same_lock Unlocked (Locked j) w = absurd w
+same_lock (Locked i) Unlocked w = absurd w
+same_lock (Locked i) (Locked j) w = refl
+
+weaker_fits : (b : Bool) (n : ℕ) (s t : Label) → Weaker s t → (t ≡ Dead → ⊥) → Fits b n t → Fits b n s
+weaker_fits b n s Dead w d h = absurd (d refl)
+weaker_fits b n Dead (Live c k) w d h = tt
+weaker_fits b n (Live a m) (Live c k) w d h = (same_lock m k w.1 ∙ h.0, λ p. omega (arith, w.0 p, h.1 p))
+
+pub strongest_fits : (b : Bool) (n : ℕ) (s : Label) (ts : List Label) → AreAll (Fits b n) ts → IsStrongest s ts → Fits b n s
+strongest_fits b n = kept_by (Fits b n) tt (weaker_fits b n)
+
+weaker_closed : (s t : Label) → Weaker s t → (t ≡ Dead → ⊥) → IsClosed t → IsClosed s
+weaker_closed s Dead w d h = absurd (d refl)
+weaker_closed Dead (Live c k) w d h = tt
+weaker_closed (Live a Unlocked) (Live c k) w d h = refl
+weaker_closed (Live a (Locked i)) (Live c Unlocked) w d h = absurd w.1
+weaker_closed (Live a (Locked i)) (Live c (Locked k)) w d h = subst (λ x. same_slot x Closed ≡ true) (sym w.1.slot) h
+
+pub strongest_closed : (s : Label) (ts : List Label) → AreAll IsClosed ts → IsStrongest s ts → IsClosed s
+strongest_closed = kept_by IsClosed tt weaker_closed
+
+-- ---- what fits
+
+pub fits_more : (b : Bool) (n k : ℕ) (s : Label) → n ≤ k → Fits b n s → Fits b k s
+fits_more b n k Dead l h = tt
+fits_more b n k (Live a m) l h = (h.0, λ p. omega (arith, l, h.1 p))
+
+pub fits_locked : (n : ℕ) (s : Label) → Fits true n s → IsLocked s
+fits_locked n Dead h = tt
+fits_locked n (Live a Unlocked) h = absurd (cc (h.0))
+fits_locked n (Live a (Locked i)) h = tt
+
+pub fits_unlocked : (n : ℕ) (s : Label) → Fits false n s → IsUnlocked s
+fits_unlocked n Dead h = tt
+fits_unlocked n (Live a Unlocked) h = tt
+fits_unlocked n (Live a (Locked i)) h = absurd (cc (h.0))
+
+pub fits_alike : (b : Bool) (n k : ℕ) (s t : Label) → Fits b n s → Fits b k t → AreAlike s t
+fits_alike b n k Dead t h g = tt
+fits_alike b n k (Live a m) Dead h g = tt
+fits_alike b n k (Live a Unlocked) (Live c Unlocked) h g = tt
+fits_alike b n k (Live a Unlocked) (Live c (Locked j)) h g = absurd (cc (h.0, g.0))
+fits_alike b n k (Live a (Locked i)) (Live c Unlocked) h g = absurd (cc (h.0, g.0))
+fits_alike b n k (Live a (Locked i)) (Live c (Locked j)) h g = tt
+
+pub fits_small : (b : Bool) (n : ℕ) (s : Label) → n ≤ 2 ^ 19 → Fits b n s → IsSmall s
+fits_small b n Dead l h = tt
+fits_small b n (Live a m) l h = λ p. omega (arith, l, h.1 p)
+
+-- ---- effects
+
+reaped_few : (P : Program) (pk : Peeked) (p : Part) → IsProgram P → reaped P pk p ≤ 18
+reaped_few P Unseen p h = omega arith
+reaped_few P (Sees u) p h = omega (arith, line_few P (kind_of P u) p h (line_of P u h), one_at_most u p, one_credit p)
+reaped_few P SeesOther p h = omega (arith, one_credit p)
+
+effect_fits : (P : Program) (b : Bool) (n : ℕ) (a : Part → ℕ) (m : Mode) (op : Op) → IsProgram P → is_locked m ≡ b → ((p : Part) → a p ≤ n) → Fits b (n + 18) (op_effect P a m op)
+effect_fits P b n a m (ops.Load x d i) h e l = (e, λ p. omega (arith, l p))
+effect_fits P b n a m (ops.Store d i x) h e l = (e, λ p. omega (arith, l p))
+effect_fits P b n a m (ops.Fill d x) h e l = (e, λ p. omega (arith, l p))
+effect_fits P b n a m (ops.Set x k) h e l = (e, λ p. omega (arith, l p))
+effect_fits P b n a m (ops.Assign x y) h e l = (e, λ p. omega (arith, l p))
+effect_fits P b n a m (ops.Add x y z) h e l = (e, λ p. omega (arith, l p))
+effect_fits P b n a m (ops.Subtract x y z) h e l = (e, λ p. omega (arith, l p))
+effect_fits P b n a m (ops.Print x) h e l = (e, λ p. omega (arith, l p))
+effect_fits P b n a m (ops.Submit x) h e l = (e, λ p. omega (arith, l p))
+effect_fits P b n a m (ops.SubmitAndWait x k) h e l = (e, λ p. omega (arith, l p))
+effect_fits P b n a (Locked i) ops.GetSqe h e l = (e, λ p. omega (arith, l p))
+effect_fits P b n a (Locked i) (ops.PrepRead f d c o) h e l = (e, λ p. omega (arith, l p))
+effect_fits P b n a (Locked i) (ops.PrepWrite f d c o k) h e l = (e, λ p. omega (arith, l p))
+effect_fits P b n a (Locked i) (ops.PrepFsync f d) h e l = (e, λ p. omega (arith, l p))
+effect_fits P b n a (Locked i) ops.PrepNop h e l = (e, λ p. omega (arith, l p))
+effect_fits P b n a (Locked i) (ops.SetData64 u) h e l = (e, λ p. omega (arith, l p))
+effect_fits P b n a (Locked i) ops.CqeSeen h e l = (e, λ p. omega (arith, l p, reaped_few P i.peeked p h))
+effect_fits P b n a Unlocked _ h e l = tt
+
+pub op_fits : (P : Program) (b : Bool) (n : ℕ) (s : Label) (op : Op) → IsProgram P → Fits b n s → Fits b (n + 18) (goes s (λ bag m. op_effect P bag m op))
+op_fits P b n Dead op h f = tt
+op_fits P b n (Live a m) op h f = effect_fits P b n a m op h f.0 f.1
+
+pub entered_fits : (P : Program) (b : Bool) (n : ℕ) (s : Label) → Fits b n s → Fits true n (entered P s)
+entered_fits P b n Dead f = tt
+entered_fits P b n (Live a m) f = (refl, f.1)
+
+pub released_fits : (b : Bool) (n : ℕ) (s : Label) → Fits b n s → Fits false n (released s)
+released_fits b n Dead f = tt
+released_fits b n (Live a m) f = (refl, f.1)
+
+pub test_fits : (P : Program) (test : Test) (b : Bool) (n : ℕ) (s : Label) → Fits b n s → Fits b n (goes s (λ bag m. Live bag (test_mode P test m)))
+test_fits P test b n Dead f = tt
+test_fits P (Compare x c k) b n (Live a m) f = f
+test_fits P ReadyZero b n (Live a Unlocked) f = f
+test_fits P ReadyZero b n (Live a (Locked i)) f = f
+test_fits P (SpaceAtLeast k) b n (Live a Unlocked) f = f
+test_fits P (SpaceAtLeast k) b n (Live a (Locked i)) f = f
+
+pub peek_fits : (pk : Peeked) (b : Bool) (n : ℕ) (s : Label) → Fits b n s → Fits b n (peek_at pk s)
+peek_fits pk b n Dead f = tt
+peek_fits pk b n (Live a Unlocked) f = f
+peek_fits pk b n (Live a (Locked i)) f = f
+
+pub case_fits : (u : ℕ) (b : Bool) (n : ℕ) (s : Label) → Fits b n s → Fits b n (case_at u s)
+case_fits u b n Dead f = tt
+case_fits u b n (Live a m) f = go (nat_lt 0 (a (TokenOf u)))
+  where
+    go : (x : Bool) → Fits b n (cond x Dead (Live a (with_peeked (Sees u) m)))
+    go true = tt
+    go false = peek_fits (Sees u) b n (Live a m) f
+
+items_few : (P : Program) (items : Items) (p : Part) → IsItems P items → bag_of items p ≤ 2048
+items_few P items (ShareOf b) h = omega (arith, few_of b items.shares h.distinct_buffers h.counts)
+items_few P items (TokenOf u) h = omega (arith, once P items u h)
+items_few P items Credit h = h.credits
+
+pub top_fits : (P : Program) (items : Items) (b : Bool) (n k : ℕ) (s : Label) → IsItems P items → 2048 ≤ k → Fits b n s → Fits b k (top P items s)
+top_fits P items b n k Dead h l f = tt
+top_fits P items b n k (Live a Unlocked) h l f = (f.0, λ p. omega (arith, l, items_few P items p h))
+top_fits P items b n k (Live a (Locked i)) h l f = (f.0, λ p. omega (arith, l, items_few P items p h))
+
+pub broken_fits : (releases b c : Bool) (n : ℕ) (s : Label) → c ≡ cond releases false b → Fits b n s → Fits c n (broken releases s)
+broken_fits true b c n s e f = subst (λ x. Fits x n (released s)) (sym e) (released_fits b n s f)
+broken_fits false b c n s e f = subst (λ x. Fits x n (peek_at Unseen s)) (sym e) (peek_fits Unseen b n s f)
+
+-- ---- breaks leave no slot open
+
+pub broken_closed : (P : Program) (releases : Bool) (s : Label) → Meets (asks s (λ bag m. may_break P releases m)) → IsClosed (broken releases s)
+broken_closed P true Dead h = tt
+broken_closed P true (Live a m) h = refl
+broken_closed P false Dead h = tt
+broken_closed P false (Live a Unlocked) h = refl
+broken_closed P false (Live a (Locked i)) h = h.0
+
+closed_is : (x : Slot) → same_slot x Closed ≡ true → x ≡ Closed
+closed_is Closed e = refl
+closed_is Vacant e = absurd (cc)
+closed_is (Prepared k) e = absurd (cc)
+
+pub closed_agree : (s t : Label) → IsClosed s → IsClosed t → agree s t ≡ true
+closed_agree Dead t h g = refl
+closed_agree (Live a m) Dead h g = refl
+closed_agree (Live a Unlocked) (Live c n) h g = refl
+closed_agree (Live a (Locked i)) (Live c Unlocked) h g = refl
+closed_agree (Live a (Locked i)) (Live c (Locked j)) h g = subst (λ x. same_slot i.slot x ≡ true) (sym (closed_is j.slot g)) h
+
+-- ---- the start
+
+pub start_fits : (P : Program) (t : Thread) (s : Label) → IsItems P t.items → IsSame s (start_of t) → Fits false 2048 s
+start_fits P t Dead h e = tt
+start_fits P t (Live a m) h e = (ap is_locked e.1, λ p. omega (arith, e.0 p, items_few P t.items p h))

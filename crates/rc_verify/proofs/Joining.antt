@@ -1,0 +1,157 @@
+-- Labels that say the same, and where they join.
+use Rattle.std.proofs.Common.{◌≡◌, ℕ, ◌+◌, Bool, true, false, ◌&&◌, List, [], ◌∷◌, ◌++◌, Option, Some, Result, Ok, Err, refl, sym, ap, subst, ◌∙◌}
+use Rattle.std.specs.Result.{is_ok}
+use Rattle.rc_lang.specs.Program.{Program}
+use Rattle.rc_rules.specs.declared.cause.Cause.{Cause}
+use Rattle.rc_rules.specs.declared.mode.Mode.TheVariants.{Unlocked, Locked}
+use Rattle.rc_rules.specs.declared.mode.Peeked.TheVariants.{Unseen}
+use Rattle.rc_rules.specs.Causes.{number_of}
+use Rattle.rc_rules.specs.Labels.{Label, Dead, Live, Weaker, IsStrongest}
+use Rattle.rc_rules.specs.Premises.{Premise, Meets, MeetsBelow, FailsFirst}
+use Rattle.rc_rules.specs.Rules.{same_slot, agree, asks, broken, may_break, may_join, may_release, peek_at, peek_premises, released}
+use Rattle.rc_rules.specs.States.{State, label_of, program_of, AreAlike, Gives}
+use Rattle.rc_rules.proofs.Moves.{weaker_refl}
+use Rattle.rc_verify.specs.declared.arms.Arms.{Arms}
+use Rattle.rc_verify.specs.Arms.{Joins, JoinsOn, EndsArm}
+use Rattle.rc_verify.specs.Kept.{last_of, rest_of}
+use Rattle.rc_verify.specs.Loops.{Breaks, FitsWith, KeepsMeet, MayBreak}
+
+-- ---- premises
+
+pub meets_below : (n : ℕ) (ps : List (ℕ × Premise)) → Meets ps → MeetsBelow n ps
+meets_below n [] h = tt
+meets_below n (p ∷ ps) h = (λ lt. h.0, meets_below n ps h.1)
+
+-- What is met fails nowhere.
+not_both : (n : ℕ) (ps : List (ℕ × Premise)) → Meets ps → FailsFirst n ps → ⊥
+not_both n ps h f = f.fails (meets_below (n + 1) ps h)
+
+-- ---- labels that say the same
+
+pub only_itself : (s : Label) → IsStrongest s (s ∷ [])
+only_itself s = record { weaker = (weaker_refl s, tt); strongest = λ t w. w.0 }
+
+pub below : (s t : Label) → IsStrongest s (t ∷ []) → Weaker s t
+below s t h = h.weaker.0
+
+pub above : (s t : Label) → IsStrongest s (t ∷ []) → Weaker t s
+above s t h = h.strongest t (weaker_refl t, tt)
+
+pub alike_same : (a e t : Label) → Weaker e t → Weaker t e → AreAlike a t → AreAlike a e
+alike_same Dead e t v w h = tt
+alike_same (Live a m) Dead t v w h = tt
+alike_same (Live a m) (Live b n) Dead v w h = absurd w
+alike_same (Live a Unlocked) (Live b Unlocked) (Live c k) v w h = tt
+alike_same (Live a Unlocked) (Live b (Locked i)) (Live c Unlocked) v w h = absurd v.1
+alike_same (Live a Unlocked) (Live b (Locked i)) (Live c (Locked k)) v w h = absurd h
+alike_same (Live a (Locked x)) (Live b (Locked i)) (Live c k) v w h = tt
+alike_same (Live a (Locked x)) (Live b Unlocked) (Live c Unlocked) v w h = absurd h
+alike_same (Live a (Locked x)) (Live b Unlocked) (Live c (Locked k)) v w h = absurd v.1
+
+pub agree_same : (a e t : Label) → Weaker e t → Weaker t e → agree a t ≡ true → agree a e ≡ true
+agree_same Dead e t v w h = refl
+agree_same (Live a m) Dead t v w h = refl
+agree_same (Live a m) (Live b n) Dead v w h = absurd w
+agree_same (Live a Unlocked) (Live b n) (Live c k) v w h = refl
+agree_same (Live a (Locked x)) (Live b Unlocked) (Live c k) v w h = refl
+agree_same (Live a (Locked x)) (Live b (Locked i)) (Live c Unlocked) v w h = absurd v.1
+agree_same (Live a (Locked x)) (Live b (Locked i)) (Live c (Locked k)) v w h = subst (λ y. same_slot x.slot y ≡ true) (sym v.1.slot) h
+
+-- ---- what is forgotten
+
+not_peeked : (s : Label) (n : ℕ) → FailsFirst n (asks s (λ bag m. peek_premises m)) → IsStrongest s (peek_at Unseen s ∷ [])
+not_peeked Dead n f = only_itself Dead
+not_peeked (Live b Unlocked) n f = only_itself (Live b Unlocked)
+not_peeked (Live b (Locked i)) n f = absurd (f.fails tt)
+
+pub forgets : {X : Type 0} (old new : State) (x : Result X Cause) → Gives old new x (asks (label_of old) (λ bag m. peek_premises m)) (peek_at Unseen (label_of old) ∷ []) → IsStrongest (label_of new) (peek_at Unseen (label_of old) ∷ []) × (program_of new ≡ program_of old)
+forgets old new (Ok x) g = (g.1, g.2)
+forgets old new (Err c) g = subst (λ (s : State). IsStrongest (label_of s) (peek_at Unseen (label_of old) ∷ []) × (program_of s ≡ program_of old)) (sym g.1) (not_peeked (label_of old) (number_of c) g.0, refl)
+
+-- ---- a release behind a break's test
+
+may_too : (P : Program) (s : Label) → Meets (asks s (λ bag m. may_break P true m)) → Meets (asks s (λ bag m. may_release P m))
+may_too P Dead h = tt
+may_too P (Live b Unlocked) h = tt
+may_too P (Live b (Locked i)) h = h
+
+pub releases : {X : Type 0} (old new : State) (x : Result X Cause) → Meets (asks (label_of old) (λ bag m. may_break (program_of old) true m)) → Gives old new x (asks (label_of old) (λ bag m. may_release (program_of old) m)) (released (label_of old) ∷ []) → IsStrongest (label_of new) (released (label_of old) ∷ []) × (program_of new ≡ program_of old)
+releases old new (Ok x) h g = (g.1, g.2)
+releases old new (Err c) h g = absurd (not_both (number_of c) _ (may_too (program_of old) (label_of old) h) g.0)
+
+-- ---- two that join
+
+agree_two : (s t : Label) → Meets (may_join (s ∷ t ∷ [])) → agree s t ≡ true
+agree_two s t h = go (agree s t) h.0
+  where
+    go : (b : Bool) → ((b && true) && true) ≡ true → b ≡ true
+    go true e = refl
+    go false e = absurd (cc)
+
+join_two : (s t : Label) → agree s t ≡ true → Meets (may_join (s ∷ t ∷ []))
+join_two s t e = (ap (λ b. (b && true) && true) e, tt)
+
+differ_two : (s t : Label) (n : ℕ) → FailsFirst n (may_join (s ∷ t ∷ [])) → agree s t ≡ false
+differ_two s t n f = go (agree s t) refl
+  where
+    go : (b : Bool) → agree s t ≡ b → b ≡ false
+    go true e = absurd (not_both n _ (join_two s t e) f)
+    go false e = refl
+
+pub joins : {X : Type 0} (old new : State) (end : Label) (x : Result X Cause) → Gives old new x (may_join (label_of old ∷ end ∷ [])) (label_of old ∷ end ∷ []) → Joins old new end (is_ok x) × (program_of new ≡ program_of old)
+joins old new end (Ok x) g = ((agree_two (label_of old) end g.0, g.1, g.2), g.2)
+joins old new end (Err c) g = (differ_two (label_of old) end (number_of c) g.0, ap program_of g.1)
+
+meets_always : {X : Type 0} (old new : State) (end : Label) (x : Result X Cause) → agree (label_of old) end ≡ true → Gives old new x (may_join (label_of old ∷ end ∷ [])) (label_of old ∷ end ∷ []) → IsStrongest (label_of new) (label_of old ∷ end ∷ []) × (program_of new ≡ program_of old)
+meets_always old new end (Ok x) e g = (g.1, g.2)
+meets_always old new end (Err c) e g = absurd (not_both (number_of c) _ (join_two (label_of old) end e) g.0)
+
+-- ---- an arm's end
+
+-- It joins those before it,
+pub arm_joins : {X : Type 0} (old : Arms) (s moved end new : State) (x : Result X Cause) (b : Bool) → moved ≡ s → IsStrongest (label_of end) (peek_at Unseen (label_of moved) ∷ []) → old.agree ≡ true → Gives old.ends new x (may_join (label_of old.ends ∷ label_of end ∷ [])) (label_of old.ends ∷ label_of end ∷ []) → b ≡ is_ok x → EndsArm old (record { before = old.before; ends = new; agree = b }) s
+arm_joins old s moved end new x b q h e g f =
+    let j = joins old.ends new (label_of end) x g in
+    record {
+      before = refl;
+      end = label_of end;
+      forgets = subst (λ (t : State). IsStrongest (label_of end) (peek_at Unseen (label_of t) ∷ [])) q h;
+      of = j.1;
+      joins = subst (λ a. JoinsOn old.ends new (label_of end) b a) (sym e) (subst (λ a. Joins old.ends new (label_of end) a) (sym f) j.0);
+    }
+
+-- or they don't agree anyway.
+pub arm_passes : (old : Arms) (s moved end : State) → moved ≡ s → IsStrongest (label_of end) (peek_at Unseen (label_of moved) ∷ []) → old.agree ≡ false → EndsArm old old s
+arm_passes old s moved end q h e = record {
+  before = refl;
+  end = label_of end;
+  forgets = subst (λ (t : State). IsStrongest (label_of end) (peek_at Unseen (label_of t) ∷ [])) q h;
+  of = refl;
+  joins = subst (λ a. JoinsOn old.ends old.ends (label_of end) old.agree a) (sym e) e;
+}
+
+-- ---- a break's end
+
+pub break_joins : {X : Type 0} (s t new end : State) (old rest kept : List (Option State)) (x : Result X Cause) → last_of old ≡ Some t → last_of old ≡ Some s → FitsWith s end → Gives t new x (may_join (label_of t ∷ label_of end ∷ [])) (label_of t ∷ label_of end ∷ []) → rest ≡ rest_of old → kept ≡ rest ++ Some new ∷ [] → KeepsMeet s (label_of end) old kept
+break_joins s t new end old rest kept x p q f g r k =
+    let e : t ≡ s = cc in
+    let h = meets_always s new (label_of end) x f.agree (subst (λ (y : State). Gives y new x (may_join (label_of y ∷ label_of end ∷ [])) (label_of y ∷ label_of end ∷ [])) e g) in
+    record { state = new; kept = k ∙ ap (λ xs. xs ++ Some new ∷ []) r; meet = h.0; of = h.1 }
+
+pub fits_with : (s here moved end : State) (b : Bool) → moved ≡ here → MayBreak s here b → Meets (asks (label_of here) (λ bag m. may_break (program_of here) b m)) → IsStrongest (label_of end) (broken b (label_of moved) ∷ []) → program_of end ≡ program_of moved → FitsWith s end
+fits_with s here moved end b q f h w p =
+    let w' = subst (λ (t : State). IsStrongest (label_of end) (broken b (label_of t) ∷ [])) q w in
+    let v = below (label_of end) (broken b (label_of here)) w' in
+    let u = above (label_of end) (broken b (label_of here)) w' in
+    record {
+      of = p ∙ ap program_of q ∙ f.of;
+      alike = alike_same (label_of s) (label_of end) (broken b (label_of here)) v u f.alike;
+      agree = agree_same (label_of s) (label_of end) (broken b (label_of here)) v u (f.agree h);
+    }
+
+pub breaks : (s here moved end : State) (b : Bool) (old new : List (Option State)) → moved ≡ here → IsStrongest (label_of end) (broken b (label_of moved) ∷ []) → KeepsMeet s (label_of end) old new → Breaks s (broken b (label_of here)) old new
+breaks s here moved end b old new q w k = record {
+  taken = label_of end;
+  carries = subst (λ (t : State). IsStrongest (label_of end) (broken b (label_of t) ∷ [])) q w;
+  keeps = k;
+}

@@ -1,0 +1,18 @@
+-- What stands at a place of a thread in the code.
+use Rattle.std.proofs.Common.{◌≡◌, ℕ, ◌<◌, List, length, map, Some, get_or, sym, ap, subst, ◌∙◌}
+use Rattle.std.proofs.lemmas.List.{get_or-map, length-map}
+use Rattle.std.proofs.lemmas.Option.{slice_get-get_or}
+use Rattle.rc_lang.specs.declared.lines.Line.{Line}
+use Rattle.rc_lang.specs.declared.lines.Stmt.{Stmt}
+use Rattle.rc_lang.specs.declared.program.Items.{Items as ItemsPart}
+use Rattle.rc_lang.specs.Parts.{view_items}
+use Rattle.rc_lang.specs.Program.{items_at, no_items, stmt_at, stmt_of}
+
+pub stands : (lines : List Line) (j : ℕ) (l : Line) (s : Stmt) → j < length lines → l ≡ get_or lines j l → l.stmt ≡ s → stmt_at lines j ≡ Some s
+stands lines j l s lt e f = ap stmt_of (slice_get-get_or lines j l lt ∙ ap Some (sym e)) ∙ ap Some f
+
+pub loop_there : (loops : List ItemsPart) (k : ℕ) → k < length (map view_items loops) → k < length loops
+loop_there loops k lt = subst (λ n. k < n) (length-map loops view_items) lt
+
+pub items_here : (loops : List ItemsPart) (k : ℕ) (i : ItemsPart) → k < length (map view_items loops) → i ≡ get_or loops k i → view_items i ≡ items_at (map view_items loops) k
+items_here loops k i lt e = ap view_items e ∙ sym (get_or-map view_items loops k i no_items (loop_there loops k lt))

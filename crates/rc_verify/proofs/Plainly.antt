@@ -1,0 +1,118 @@
+-- Lines that change the state alone.
+use Rattle.std.proofs.Common.{◌≡◌, ℕ, ◌+◌, ◌^◌, ◌<◌, ◌≤◌, Bool, true, false, ◌||◌, List, [], ◌∷◌, ◌++◌, length, take, Some, Result, refl, sym, ap, subst, ◌∙◌, arith}
+use Rattle.rc_lang.specs.declared.lines.Block.{Block}
+use Rattle.rc_lang.specs.declared.lines.Block.TheVariants.{InLock}
+use Rattle.rc_lang.specs.declared.lines.Op.{Op}
+use Rattle.rc_lang.specs.declared.lines.Stmt.{Stmt}
+use Rattle.rc_lang.specs.declared.lines.Stmt.TheVariants.{Do, Lock, EndLock}
+use Rattle.rc_lang.specs.Nesting.{blocks_at, in_lock, innermost, without_innermost}
+use Rattle.rc_lang.specs.Program.{Program, Thread, stmt_at}
+use Rattle.rc_lang.proofs.Along.{lock_next, locked_behind}
+use Rattle.rc_lang.proofs.Closing.{closes_lock}
+use Rattle.rc_lang.proofs.Lookups.{blocks_next, in_lock_pushed, nested_here}
+use Rattle.rc_rules.specs.declared.cause.Cause.{Cause}
+use Rattle.rc_rules.specs.Labels.{Label, IsStrongest}
+use Rattle.rc_rules.specs.Labellings.{here, arm_end, break_end}
+use Rattle.rc_rules.specs.Premises.{Premise}
+use Rattle.rc_rules.specs.Rules.{asks, entered, goes, may_release, op_effect, op_premises, released}
+use Rattle.rc_rules.specs.States.{State, Gives, IsLocked, IsSmall, IsUnlocked, label_of, program_of}
+use Rattle.rc_verify.specs.declared.walk.Walk.{Walk}
+use Rattle.rc_verify.specs.Walk.{Fits, Keeps, Reaches, Turns, branch_place, loop_place, most_at, peek_place, places, AreKept, OnKept, IsSaved, IsPeeked, IsLoop, listed}
+use Rattle.rc_verify.proofs.Fit.{AreAll, entered_fits, fits_locked, fits_more, fits_small, fits_unlocked, op_fits, released_fits, strongest_fits}
+use Rattle.rc_verify.proofs.Keeping.{popped_none, pushed_none}
+use Rattle.rc_verify.proofs.Standing.{Gave, asked_at, branches_stay, fits_here, here_is, lead_at, loops_stay, peek_stays, took, turns}
+
+-- The same places are kept behind the line at j.
+pub record SamePlaces (t : Thread) (j : ℕ) : Type 0 where
+  pub branches : places branch_place (blocks_at t.lines (j + 1)) ≡ places branch_place (blocks_at t.lines j)
+  pub peek : places peek_place (blocks_at t.lines (j + 1)) ≡ places peek_place (blocks_at t.lines j)
+  pub loops : places loop_place (blocks_at t.lines (j + 1)) ≡ places loop_place (blocks_at t.lines j)
+
+-- Neither an arm ends with the line, nor does it break out of a loop.
+pub record EndsNone (s : Stmt) : Type 0 where
+  pub arms : (o : ℕ) (x : Label) → arm_end s o x ≡ []
+  pub breaks : (o : ℕ) (x : Label) → break_end s o x ≡ []
+
+module _ (t : Thread) (j : ℕ) (bs : List Block) (b : Block) (here : blocks_at t.lines j ≡ bs) where
+  pub opens_none : blocks_at t.lines (j + 1) ≡ bs ++ b ∷ [] → (f : Block → List ℕ) → f b ≡ [] → places f (blocks_at t.lines (j + 1)) ≡ places f (blocks_at t.lines j)
+  opens_none e f n = ap (places f) e ∙ pushed_none f bs b n ∙ ap (places f) (sym here)
+
+  closes_none : innermost bs ≡ Some b → blocks_at t.lines (j + 1) ≡ without_innermost bs → (f : Block → List ℕ) → f b ≡ [] → places f (blocks_at t.lines (j + 1)) ≡ places f (blocks_at t.lines j)
+  closes_none i e f n = ap (places f) e ∙ popped_none f bs b i n ∙ ap (places f) (sym here)
+
+module _ (P : Program) (t : Thread) (j : ℕ) (w : Walk) (r : Reaches P t j w) (s : Stmt) (e : stmt_at t.lines j ≡ Some s) where
+  -- what fits behind the line
+  pub fits_behind : (x : Label) → Fits (locked_behind (in_lock (blocks_at t.lines j)) s) (most_at j + 18) x → Fits (in_lock (blocks_at t.lines (j + 1))) (most_at (j + 1)) x
+  fits_behind x h = subst (λ b. Fits b (most_at (j + 1)) x) (sym (lock_next t.lines r.thread.nested.each j s e)) (fits_more (locked_behind (in_lock (blocks_at t.lines j)) s) (most_at j + 18) (most_at (j + 1)) x (omega arith) h)
+
+  pub fits_known : Fits (in_lock (blocks_at t.lines j)) (most_at j) (here (take j t.lines) r.labels)
+  fits_known = subst (λ x. Fits (in_lock (blocks_at t.lines j)) (most_at j) x) (here_is P t j w r s e) (fits_here P t j w r s e)
+
+  -- what is kept where the same places are
+  module _ (new : Label) where
+    pub branches_same : places branch_place (blocks_at t.lines (j + 1)) ≡ places branch_place (blocks_at t.lines j) → AreKept (OnKept (IsSaved P (r.labels ++ new ∷ []))) (places branch_place (blocks_at t.lines (j + 1))) w.branches.items
+    branches_same p = subst (λ os. AreKept (OnKept (IsSaved P (r.labels ++ new ∷ []))) os w.branches.items) (sym p) (branches_stay P t j w r s e new (places branch_place (blocks_at t.lines j)) w.branches.items r.at.keeps.branches)
+
+    pub peek_same : ((o : ℕ) (x : Label) → arm_end s o x ≡ []) → places peek_place (blocks_at t.lines (j + 1)) ≡ places peek_place (blocks_at t.lines j) → AreKept (IsPeeked P t (j + 1) (r.labels ++ new ∷ [])) (places peek_place (blocks_at t.lines (j + 1))) (listed w.peek)
+    peek_same n p = subst (λ os. AreKept (IsPeeked P t (j + 1) (r.labels ++ new ∷ [])) os (listed w.peek)) (sym p) (peek_stays P t j w r s e new n (places peek_place (blocks_at t.lines j)) (listed w.peek) r.at.keeps.peek)
+
+    pub loops_same : ((o : ℕ) (x : Label) → break_end s o x ≡ []) → places loop_place (blocks_at t.lines (j + 1)) ≡ places loop_place (blocks_at t.lines j) → AreKept (OnKept (IsLoop P t (j + 1) (r.labels ++ new ∷ []))) (places loop_place (blocks_at t.lines (j + 1))) w.loops.items
+    loops_same n p = subst (λ os. AreKept (OnKept (IsLoop P t (j + 1) (r.labels ++ new ∷ []))) os w.loops.items) (sym p) (loops_stay P t j w r s e new n (places loop_place (blocks_at t.lines j)) w.loops.items r.at.keeps.loops)
+
+  keeps_same : (new : State) → SamePlaces t j → EndsNone s → Keeps P t (j + 1) (r.labels ++ label_of new ∷ []) (record { state = new; branches = w.branches; peek = w.peek; loops = w.loops })
+  keeps_same new p n = record { branches = branches_same (label_of new) p.branches; peek = peek_same (label_of new) n.arms p.peek; loops = loops_same (label_of new) n.breaks p.loops }
+
+  pub state_alone : {X : Type 0} (old new : State) (known : Label) (x : Result X Cause) (F : Program → Label → List (ℕ × Premise)) (B : Program → Label → List Label) → program_of old ≡ P → label_of old ≡ known → asked_at P t j r.labels s ≡ F P known → lead_at P t j r.labels s ≡ B P known → AreAll (Fits (locked_behind (in_lock (blocks_at t.lines j)) s) (most_at j + 18)) (B P known) → SamePlaces t j → EndsNone s → Gives old new x (F (program_of old) (label_of old)) (B (program_of old) (label_of old)) → Turns P t j (record { state = new; branches = w.branches; peek = w.peek; loops = w.loops }) x
+  state_alone old new known x F B p q a l f places_same none g =
+      let h = subst (λ bs. Gave P new x (asked_at P t j r.labels s) bs) (sym l) (subst (λ ps. Gave P new x ps (B P known)) (sym a) (took P old new known x F B p q g)) in
+      turns P t j w r s e (record { state = new; branches = w.branches; peek = w.peek; loops = w.loops }) x h
+      (λ b. fits_behind (label_of new) (strongest_fits (locked_behind (in_lock (blocks_at t.lines j)) s) (most_at j + 18) (label_of new) (B P known) f (subst (λ bs. IsStrongest (label_of new) bs) l b)))
+      (λ y q. keeps_same new places_same none)
+
+-- ---- statements without a block, and locks
+
+few_held : (j n : ℕ) → j < n → n ≤ 4096 → most_at j ≤ 2 ^ 19
+few_held j n l m = omega arith
+
+module _ (P : Program) (t : Thread) (j : ℕ) (w : Walk) (r : Reaches P t j w) where
+  pub small_here : j < length t.lines → IsSmall (label_of w.state)
+  small_here l = fits_small (in_lock (blocks_at t.lines j)) (most_at j) (label_of w.state) (few_held j (length t.lines) l r.thread.few_lines) (r.at.fits j (label_of w.state) r.at.here.at)
+
+  pub do_turns : {X : Type 0} (op : Op) (new : State) (x : Result X Cause) → stmt_at t.lines j ≡ Some (Do op) → Gives w.state new x (asks (label_of w.state) (λ bag m. op_premises (program_of w.state) bag m op)) (goes (label_of w.state) (λ bag m. op_effect (program_of w.state) bag m op) ∷ []) → Turns P t j (record { state = new; branches = w.branches; peek = w.peek; loops = w.loops }) x
+  do_turns op new x e g =
+      let n = blocks_next t.lines j (Do op) e in
+      state_alone P t j w r (Do op) e w.state new (here (take j t.lines) r.labels) x (λ p l. asks l (λ bag m. op_premises p bag m op)) (λ p l. goes l (λ bag m. op_effect p bag m op) ∷ []) r.at.here.of (here_is P t j w r (Do op) e) refl refl
+      (op_fits P (in_lock (blocks_at t.lines j)) (most_at j) _ op r.made (fits_known P t j w r (Do op) e), tt)
+      (record { branches = ap (places branch_place) n; peek = ap (places peek_place) n; loops = ap (places loop_place) n })
+      (record { arms = λ o x. refl; breaks = λ o x. refl }) g
+
+  pub unlocked_here : stmt_at t.lines j ≡ Some Lock → IsUnlocked (label_of w.state)
+  unlocked_here e = fits_unlocked (most_at j) (label_of w.state) (subst (λ b. Fits b (most_at j) (label_of w.state)) (nested_here t.lines r.thread.nested.each j Lock e).0 (fits_here P t j w r Lock e))
+
+  pub lock_turns : {X : Type 0} (new : State) (x : Result X Cause) → stmt_at t.lines j ≡ Some Lock → Gives w.state new x [] (entered (program_of w.state) (label_of w.state) ∷ []) → Turns P t j (record { state = new; branches = w.branches; peek = w.peek; loops = w.loops }) x
+  lock_turns new x e g =
+      let n = opens_none t j (blocks_at t.lines j) (InLock j) refl (blocks_next t.lines j Lock e) in
+      let f = entered_fits P (in_lock (blocks_at t.lines j)) (most_at j) _ (fits_known P t j w r Lock e) in
+      state_alone P t j w r Lock e w.state new (here (take j t.lines) r.labels) x (λ p l. []) (λ p l. entered p l ∷ []) r.at.here.of (here_is P t j w r Lock e) refl refl
+      (fits_more true (most_at j) (most_at j + 18) _ (omega arith) f, tt)
+      (record { branches = n branch_place refl; peek = n peek_place refl; loops = n loop_place refl })
+      (record { arms = λ o x. refl; breaks = λ o x. refl }) g
+
+  pub locked_here : (o : ℕ) → stmt_at t.lines j ≡ Some (EndLock o) → IsLocked (label_of w.state)
+  locked_here o e =
+      let c = closes_lock t.lines r.thread.nested.each j o e in
+      let b : in_lock (blocks_at t.lines j) ≡ true = ap in_lock c.within ∙ in_lock_pushed (blocks_at t.lines o) (InLock o) ∙ or_true (in_lock (blocks_at t.lines o)) in
+      fits_locked (most_at j) (label_of w.state) (subst (λ b. Fits b (most_at j) (label_of w.state)) b (fits_here P t j w r (EndLock o) e))
+    where
+      or_true : (a : Bool) → (a || true) ≡ true
+      or_true true = refl
+      or_true false = refl
+
+  pub release_turns : {X : Type 0} (o : ℕ) (new : State) (x : Result X Cause) → stmt_at t.lines j ≡ Some (EndLock o) → Gives w.state new x (asks (label_of w.state) (λ bag m. may_release (program_of w.state) m)) (released (label_of w.state) ∷ []) → Turns P t j (record { state = new; branches = w.branches; peek = w.peek; loops = w.loops }) x
+  release_turns o new x e g =
+      let n = closes_none t j (blocks_at t.lines j) (InLock o) refl (nested_here t.lines r.thread.nested.each j (EndLock o) e) (blocks_next t.lines j (EndLock o) e) in
+      let f = released_fits (in_lock (blocks_at t.lines j)) (most_at j) _ (fits_known P t j w r (EndLock o) e) in
+      state_alone P t j w r (EndLock o) e w.state new (here (take j t.lines) r.labels) x (λ p l. asks l (λ bag m. may_release p m)) (λ p l. released l ∷ []) r.at.here.of (here_is P t j w r (EndLock o) e) refl refl
+      (fits_more false (most_at j) (most_at j + 18) _ (omega arith) f, tt)
+      (record { branches = n branch_place refl; peek = n peek_place refl; loops = n loop_place refl })
+      (record { arms = λ o x. refl; breaks = λ o x. refl }) g

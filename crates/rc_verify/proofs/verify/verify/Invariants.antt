@@ -1,0 +1,5 @@
+use Rattle.rc_verify.proofs.Threads.{PassTo}
+use Rattle.rc_verify.proofs.verify.verify.Given as goal
+
+abbrev pub invariant-loop-thread : goal.invariant-loop-thread
+invariant-loop-thread l = PassTo l.program l.thread

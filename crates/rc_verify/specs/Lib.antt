@@ -1,0 +1,9 @@
+pub mod Strongest
+pub mod Answer
+pub mod Kept
+pub mod Arms
+pub mod Loops
+pub mod Walk
+pub mod Headers
+pub mod Laws
+pub mod Example

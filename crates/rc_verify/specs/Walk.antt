@@ -1,0 +1,146 @@
+-- What is kept along the lines of a thread: the state where they have come to, the state before each open branch, what
+-- is known before a peek's arms and where they join, and of each open loop what is known where its breaks join.
+use Rattle.std.specs.Prelude.{ℕ, ◌≡◌, ◌+◌, ◌*◌, ◌≤◌, Bool, true, false, List, [], ◌∷◌, ◌++◌, length, take, Option, Some, None, Result, Ok, Err, slice_get}
+use Rattle.rc_lang.specs.declared.lines.Block.{Block}
+use Rattle.rc_lang.specs.declared.lines.Block.TheVariants.{InLock, InIf, InElse, InPeek, InArm, InLoop}
+use Rattle.rc_lang.specs.declared.lines.Line.{Line}
+use Rattle.rc_lang.specs.Nesting.{blocks_at, in_lock}
+use Rattle.rc_lang.specs.Program.{Program, Thread, IsProgram, IsThread}
+use Rattle.rc_rules.specs.declared.cause.Cause.{Cause}
+use Rattle.rc_rules.specs.declared.mode.Mode.{Mode}
+use Rattle.rc_rules.specs.declared.mode.Mode.TheVariants.{Unlocked, Locked}
+use Rattle.rc_rules.specs.declared.mode.Slot.TheVariants.{Closed}
+use Rattle.rc_split.specs.Bags.{Part}
+use Rattle.rc_rules.specs.Causes.{number_of}
+use Rattle.rc_rules.specs.Labels.{Label, Dead, Live, IsSame, IsStrongest}
+use Rattle.rc_rules.specs.Labellings.{arm_ends, break_ends, start_of, IsRefusedAt}
+use Rattle.rc_rules.specs.Rules.{same_slot, agree_all}
+use Rattle.rc_rules.specs.States.{State, label_of, program_of, IsLocked}
+use Rattle.rc_verify.specs.declared.walk.Walk.{Walk}
+use Rattle.rc_verify.specs.declared.arms.Arms.{Arms}
+use Rattle.rc_verify.specs.Strongest.{AreStrongest}
+
+-- ---- labels at a place
+
+abbrev pub is_locked : Mode → Bool
+is_locked Unlocked = false
+is_locked (Locked i) = true
+
+-- Where it is live, the lock is held or not, as that is said, and no count is above n.
+abbrev pub Fits : Bool → ℕ → Label → Type 0
+Fits lock n Dead = Unit {0}
+Fits lock n (Live bag m) = (is_locked m ≡ lock) × ((p : Part) → bag p ≤ n)
+
+-- how many of each part are held at most behind j lines: a request that is reaped gives back 18 in all at most
+abbrev pub most_at : ℕ → ℕ
+most_at j = 2048 + 18 * j
+
+-- No slot is open.
+abbrev pub is_closed : Mode → Bool
+is_closed Unlocked = true
+is_closed (Locked i) = same_slot i.slot Closed
+
+abbrev pub IsClosed : Label → Type 0
+IsClosed Dead = Unit {0}
+IsClosed (Live bag m) = is_closed m ≡ true
+
+-- ---- what is kept of the blocks that are open
+
+-- the places of the lines before which a branch's state is kept, of the peek, and of the loops
+abbrev pub branch_place : Block → List ℕ
+branch_place (InLock o) = []
+branch_place (InIf o) = o ∷ []
+branch_place (InElse o) = o ∷ []
+branch_place (InPeek o) = []
+branch_place (InArm o) = []
+branch_place (InLoop o k) = []
+
+abbrev pub peek_place : Block → List ℕ
+peek_place (InLock o) = []
+peek_place (InIf o) = []
+peek_place (InElse o) = []
+peek_place (InPeek o) = o ∷ []
+peek_place (InArm o) = []
+peek_place (InLoop o k) = []
+
+abbrev pub loop_place : Block → List ℕ
+loop_place (InLock o) = []
+loop_place (InIf o) = []
+loop_place (InElse o) = []
+loop_place (InPeek o) = []
+loop_place (InArm o) = []
+loop_place (InLoop o k) = o ∷ []
+
+abbrev pub places : (Block → List ℕ) → List Block → List ℕ
+places f [] = []
+places f (b ∷ bs) = f b ++ places f bs
+
+-- For each of the places something is kept of which this is true.
+abbrev pub AreKept : {X : Type 0} → (ℕ → X → Type 0) → List ℕ → List X → Type 0
+AreKept R [] [] = Unit {0}
+AreKept R [] (x ∷ xs) = ⊥
+AreKept R (o ∷ os) [] = ⊥
+AreKept R (o ∷ os) (x ∷ xs) = R o x × AreKept R os xs
+
+-- A state is kept of which this is true.
+abbrev pub OnKept : (ℕ → State → Type 0) → ℕ → Option State → Type 0
+OnKept R o None = ⊥
+OnKept R o (Some s) = R o s
+
+abbrev pub listed : {X : Type 0} → Option X → List X
+listed None = []
+listed (Some x) = x ∷ []
+
+-- The state is the label at place o.
+pub record IsSaved (P : Program) (labels : List Label) (o : ℕ) (s : State) : Type 0 where
+  pub of : program_of s ≡ P
+  pub at : slice_get labels o ≡ Some (label_of s)
+
+-- The state is the strongest that is weaker than each of these ends.
+pub record IsMeet (P : Program) (lock : Bool) (n : ℕ) (ends : List Label) (s : State) : Type 0 where
+  pub of : program_of s ≡ P
+  pub strongest : IsStrongest (label_of s) ends
+  pub fits : Fits lock n (label_of s)
+
+-- Of the peek at o the state before its arms is kept, whether the arms so far agree on the slot, and then their meet.
+pub record IsPeeked (P : Program) (t : Thread) (j : ℕ) (labels : List Label) (o : ℕ) (a : Arms) : Type 0 where
+  pub before : IsSaved P labels (o + 1) a.before
+  pub locked : IsLocked (label_of a.before)
+  pub of : program_of a.ends ≡ P
+  pub agree : agree_all (arm_ends (take j t.lines) labels o) ≡ a.agree
+  pub ends : a.agree ≡ true → IsMeet P (in_lock (blocks_at t.lines o)) (most_at j) (arm_ends (take j t.lines) labels o) a.ends
+
+-- Of the loop at o the meet of its breaks so far is kept.
+pub record IsLoop (P : Program) (t : Thread) (j : ℕ) (labels : List Label) (o : ℕ) (s : State) : Type 0 where
+  pub breaks : IsMeet P (in_lock (blocks_at t.lines o)) (most_at j) (break_ends (take j t.lines) labels o) s
+  pub closed : IsClosed (label_of s)
+
+-- ---- the place that a walk has come to
+
+-- What is kept of the blocks that are open at place j.
+pub record Keeps (P : Program) (t : Thread) (j : ℕ) (labels : List Label) (w : Walk) : Type 0 where
+  pub branches : AreKept (OnKept (IsSaved P labels)) (places branch_place (blocks_at t.lines j)) w.branches.items
+  pub peek : AreKept (IsPeeked P t j labels) (places peek_place (blocks_at t.lines j)) (listed w.peek)
+  pub loops : AreKept (OnKept (IsLoop P t j labels)) (places loop_place (blocks_at t.lines j)) w.loops.items
+
+-- With these labels, the strongest for the lines so far, the walk stands at place j.
+pub record IsAt (P : Program) (t : Thread) (start : Label) (j : ℕ) (labels : List Label) (w : Walk) : Type 0 where
+  pub within : j ≤ length t.lines
+  pub size : length labels ≡ j + 1
+  pub strongest : AreStrongest P t.loops start (take j t.lines) labels
+  pub here : IsSaved P labels j w.state
+  pub fits : (k : ℕ) (s : Label) → slice_get labels k ≡ Some s → Fits (in_lock (blocks_at t.lines k)) (most_at j) s
+  pub keeps : Keeps P t j labels w
+
+pub record Reaches (P : Program) (t : Thread) (j : ℕ) (w : Walk) : Type 0 where
+  pub made : IsProgram P
+  pub thread : IsThread P t
+  pub start : Label
+  pub same : IsSame start (start_of t)
+  pub labels : List Label
+  pub at : IsAt P t start j labels w
+
+-- The walk goes on behind the line at j, or that line is refused.
+abbrev pub Turns : {X : Type 0} → Program → Thread → ℕ → Walk → Result X Cause → Type 0
+Turns P t j w (Ok x) = Reaches P t (j + 1) w
+Turns P t j w (Err cause) = (l : Line) × IsRefusedAt P t j l (number_of cause)

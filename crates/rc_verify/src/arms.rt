@@ -1,0 +1,130 @@
+//! The arms of the peek that is open.
+
+ghost use Rattle.std.specs.Prelude.{◌≡◌, ◌∷◌, [], true, IsSome, IfSome, Some};
+ghost use Rattle.rc_lang.specs.Program.{DeclaresToken};
+ghost use Rattle.rc_rules.specs.Labels.{Dead, IsStrongest};
+ghost use Rattle.rc_rules.specs.Rules as rules;
+ghost use Rattle.rc_rules.specs.States as states;
+ghost use Rattle.rc_rules.specs.declared.mode.Peeked.TheVariants as peeks;
+ghost use Rattle.rc_verify.specs.Arms as spec;
+ghost use Rattle.rc_verify.specs.declared.arms.Arms as parts;
+
+use rc_rules::cause::Cause;
+use rc_rules::state::State;
+use std::mem;
+
+/// What is known of the peek that is open: the state before its arms, and where their ends join.
+#[derive(Drop)]
+pub struct Arms<'a> {
+    pub before: State<'a>,
+    /// What is known where the ends so far join, as long as they agree.
+    pub ends: State<'a>,
+    /// Whether the ends so far have the slot at one stage.
+    pub agree: bool,
+}
+
+/// `peek_cqe x {`, which asks for the lock.
+pub fn open_peek<'a>(state: &State<'a>, peek: &mut Option<Arms<'a>>) -> Result<(), Cause>
+    ensures { spec.OpensPeek state.now peek.new result }
+{
+    state.again().arm_none()?;
+    *peek = Some(Arms {
+        before: state.again(),
+        ends: state.dead(),
+        agree: true,
+    });
+    Ok(())
+}
+
+/// The arms of the peek that is open. There is one.
+pub fn arms_of<'a, 'b>(peek: &'b Option<Arms<'a>>) -> &'b Arms<'a>
+    requires { IsSome peek.now }
+    ensures { peek.now ≡ Some result.now }
+{
+    match peek {
+        Some(arms) => arms,
+        None => unreachable!(),
+    }
+}
+
+/// `case U {`. The token is declared.
+pub fn enter_case<'a>(state: &mut State<'a>, arms: &Arms<'a>, user_data: u64) -> Result<(), Cause>
+    requires { DeclaresToken (states.program_of arms.now.before) user_data }
+    ensures { states.Gives arms.now.before state.new result (rules.asks (states.label_of arms.now.before) (λ bag m. rules.peek_premises m)) (rules.case_at user_data (states.label_of arms.now.before) ∷ []) }
+{
+    *state = arms.before.again();
+    state.arm_case(user_data)?;
+    Ok(())
+}
+
+/// `other {`.
+pub fn enter_other<'a>(state: &mut State<'a>, arms: &Arms<'a>) -> Result<(), Cause>
+    ensures { states.Gives arms.now.before state.new result (rules.asks (states.label_of arms.now.before) (λ bag m. rules.peek_premises m)) (rules.peek_at peeks.SeesOther (states.label_of arms.now.before) ∷ []) }
+{
+    *state = arms.before.again();
+    state.arm_other()
+}
+
+/// `none {`.
+pub fn enter_none<'a>(state: &mut State<'a>, arms: &Arms<'a>) -> Result<(), Cause>
+    ensures { states.Gives arms.now.before state.new result (rules.asks (states.label_of arms.now.before) (λ bag m. rules.peek_premises m)) (rules.peek_at peeks.Unseen (states.label_of arms.now.before) ∷ []) }
+{
+    *state = arms.before.again();
+    state.arm_none()
+}
+
+/// Behind an arm, and behind a break, nothing is peeked.
+pub fn forget_peeked(state: &mut State)
+    ensures gives { IsStrongest (states.label_of state.new) (rules.peek_at peeks.Unseen (states.label_of state.old) ∷ []) }
+    ensures of { states.program_of state.new ≡ states.program_of state.old }
+{
+    // Without the lock nothing was peeked, and this answers so.
+    let _ = state.arm_none();
+}
+
+/// The closing brace of an arm: nothing comes from above behind it.
+fn end_arm<'a>(state: &mut State<'a>, arms: &mut Arms<'a>)
+    requires of { states.program_of state.old ≡ states.program_of arms.old.ends }
+    requires alike { arms.old.agree ≡ true → states.AreAlike (states.label_of arms.old.ends) (rules.peek_at peeks.Unseen (states.label_of state.old)) }
+    ensures dead { states.label_of state.new ≡ Dead }
+    ensures same { states.program_of state.new ≡ states.program_of state.old }
+    ensures ends { spec.EndsArm arms.old arms.new state.old }
+{
+    let dead = state.dead();
+    let mut end = mem::replace(state, dead);
+    forget_peeked(&mut end);
+    if arms.agree {
+        arms.agree = arms.ends.meet(&end).is_ok();
+    }
+}
+
+/// The closing brace of an arm, of the peek that is open. There is one.
+pub fn end_arms<'a>(state: &mut State<'a>, peek: &mut Option<Arms<'a>>)
+    requires kept { IsSome peek.old }
+    requires of { IfSome peek.old (λ a. states.program_of state.old ≡ states.program_of a.ends) }
+    requires alike { IfSome peek.old (λ a. a.agree ≡ true → states.AreAlike (states.label_of a.ends) (rules.peek_at peeks.Unseen (states.label_of state.old))) }
+    ensures dead { states.label_of state.new ≡ Dead }
+    ensures same { states.program_of state.new ≡ states.program_of state.old }
+    ensures ends { (a : parts.Arms) → peek.old ≡ Some a → spec.EndsArmIn a peek.new state.old }
+{
+    match peek {
+        Some(arms) => end_arm(state, arms),
+        None => unreachable!(),
+    }
+}
+
+/// The closing brace of a peek. There is one open.
+pub fn close_peek<'a>(state: &mut State<'a>, peek: &mut Option<Arms<'a>>) -> Result<(), Cause>
+    requires { IsSome peek.old }
+    ensures closes { IfSome peek.old (λ a. spec.ClosesPeek a state.new result) }
+    ensures none { peek.new ≡ None }
+{
+    let Some(arms) = peek.take() else {
+        unreachable!();
+    };
+    if !arms.agree {
+        return Err(Cause::JoinMismatch);
+    }
+    *state = arms.ends;
+    Ok(())
+}

@@ -1,0 +1,17 @@
+//! The verifier: one walk over a program's text.
+//!
+//! It answers Ok exactly where every header meets its premises and every thread has a labelling that is good at every
+//! line; else the least line up to which there is none, and the least premise there that no labelling meets.
+#![tactic(auto)]
+
+mod arms;
+mod branches;
+mod headers;
+mod kept;
+pub mod laws;
+mod loops;
+pub mod refusal;
+#[cfg(test)]
+mod tests;
+pub mod verify;
+mod walk;

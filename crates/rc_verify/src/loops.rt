@@ -1,0 +1,95 @@
+//! Loops and their breaks.
+
+ghost use Rattle.std.specs.Prelude.{◌≡◌, ◌<◌, ◌∷◌, ◌++◌, [], true, length, IsSome, Some, OnOk};
+ghost use Rattle.rc_lang.specs.Parts.{view_items};
+ghost use Rattle.rc_rules.specs.Labels.{IsStrongest};
+ghost use Rattle.rc_rules.specs.Premises.{Meets};
+ghost use Rattle.rc_rules.specs.Rules as rules;
+ghost use Rattle.rc_rules.specs.States as states;
+ghost use Rattle.rc_split.specs.Holdings.{AreDeclared};
+ghost use Rattle.rc_verify.specs.Kept.{last_of, rest_of};
+ghost use Rattle.rc_verify.specs.Loops as spec;
+
+use crate::arms::forget_peeked;
+use crate::kept::{Kept, take};
+use rc_lang::program::Items;
+use rc_rules::cause::Cause;
+use rc_rules::state::State;
+
+/// `loop keeps ITEMS {`. At most 30 loops are open.
+pub fn open_loop<'a>(
+    state: &mut State<'a>,
+    loops: &mut Kept<'a>,
+    items: &Items,
+) -> Result<(), Cause>
+    requires few { length loops.old.items < 31 }
+    requires names { AreDeclared (states.program_of state.old) (view_items items.now) }
+    ensures gives { states.Gives state.old state.new result (rules.asks (states.label_of state.old) (λ bag m. rules.may_loop (states.program_of state.old) 13 (view_items items.now) bag m)) (rules.top (states.program_of state.old) (view_items items.now) (states.label_of state.old) ∷ []) }
+    ensures kept { OnOk result (spec.KeepsDead state.old loops.old.items loops.new.items) }
+{
+    let dead = state.dead();
+    state.enter_loop(items)?;
+    loops.push(Some(dead));
+    Ok(())
+}
+
+/// The closing brace of a loop: what goes on behind it comes from its breaks.
+pub fn close_loop<'a>(
+    state: &mut State<'a>,
+    loops: &mut Kept<'a>,
+    items: &Items,
+) -> Result<(), Cause>
+    requires { IsSome (last_of loops.old.items) }
+    ensures { spec.ClosesLoop (rules.asks (states.label_of state.old) (λ bag m. rules.may_loop (states.program_of state.old) 14 (view_items items.now) bag m)) loops.old.items loops.new.items state.new result }
+{
+    state.loop_end(items)?;
+    *state = take(loops);
+    Ok(())
+}
+
+/// What a break takes to the end of its loop, where it may break there.
+fn carried<'a>(end: State<'a>, releases: bool) -> State<'a>
+    requires meets { Meets (rules.asks (states.label_of end) (λ bag m. rules.may_break (states.program_of end) releases m)) }
+    requires locked { releases ≡ true → states.IsLocked (states.label_of end) }
+    ensures gives { IsStrongest (states.label_of result) (rules.broken releases (states.label_of end.entry) ∷ []) }
+    ensures of { states.program_of result ≡ states.program_of end.entry }
+{
+    let mut taken = end;
+    if releases {
+        let _ = taken.release();
+    } else {
+        forget_peeked(&mut taken);
+    }
+    taken
+}
+
+/// A break joins the ones before it. The slot is at the same stage in all of them.
+fn join<'a>(loops: &mut Kept<'a>, end: &State<'a>)
+    requires few { length loops.old.items < 32 }
+    requires kept { IsSome (last_of loops.old.items) }
+    requires fits { (s : states.State) → last_of loops.old.items ≡ Some s → spec.FitsWith s end.now }
+    ensures { (s : states.State) → last_of loops.old.items ≡ Some s → spec.KeepsMeet s (states.label_of end.now) loops.old.items loops.new.items }
+{
+    let mut exits = take(loops);
+    let _ = exits.meet(end);
+    loops.push(Some(exits));
+}
+
+/// `break`, which may release the lock. Nothing comes from above behind it.
+pub fn leave_loop<'a>(
+    state: &mut State<'a>,
+    loops: &mut Kept<'a>,
+    releases: bool,
+) -> Result<(), Cause>
+    requires locked { releases ≡ true → states.IsLocked (states.label_of state.old) }
+    requires few { length loops.old.items < 32 }
+    requires kept { IsSome (last_of loops.old.items) }
+    requires fits { (s : states.State) → last_of loops.old.items ≡ Some s → spec.MayBreak s state.old releases }
+    ensures gives { states.Gives state.old state.new result (rules.asks (states.label_of state.old) (λ bag m. rules.may_break (states.program_of state.old) releases m)) [] }
+    ensures kept { OnOk result ((s : states.State) → last_of loops.old.items ≡ Some s → spec.Breaks s (rules.broken releases (states.label_of state.old)) loops.old.items loops.new.items) }
+{
+    let end = state.again();
+    state.break_out(releases)?;
+    join(loops, &carried(end, releases));
+    Ok(())
+}

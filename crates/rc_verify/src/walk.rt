@@ -1,0 +1,89 @@
+//! The walk over the lines of a thread.
+
+ghost use Rattle.std.specs.Prelude.{◌≡◌, ◌<◌, length, Some, slice_get};
+ghost use Rattle.rc_lang.specs.Parts.{view_thread};
+ghost use Rattle.rc_lang.specs.Program as programs;
+ghost use Rattle.rc_rules.specs.States.{program_of};
+ghost use Rattle.rc_verify.specs.Answer.{IsWalked};
+ghost use Rattle.rc_verify.specs.Walk as spec;
+
+use crate::arms::{
+    Arms, arms_of, close_peek, end_arms, enter_case, enter_none, enter_other, open_peek,
+};
+use crate::branches::{end_if, enter_if, turn};
+use crate::kept::Kept;
+use crate::loops::{close_loop, leave_loop, open_loop};
+use crate::refusal::Refusal;
+use arrayvec::ArrayVec;
+use rc_lang::lines::Stmt;
+use rc_lang::program::{Program, Thread};
+use rc_rules::cause::Cause;
+use rc_rules::state::{State, transfer};
+use std::alloc::Global;
+
+/// What is known at the place of a thread that a walk has come to, and what it needs for the lines that close a block.
+#[derive(Drop)]
+pub struct Walk<'a> {
+    state: State<'a>,
+    /// The state before each open if, or behind its else the end of its first branch.
+    branches: Kept<'a>,
+    /// At most one peek is open.
+    peek: Option<Arms<'a>>,
+    /// What is known where the breaks so far of each open loop join.
+    loops: Kept<'a>,
+}
+
+/// Goes over the line at a place: the least premise that fails, if one does.
+fn pass<'a>(walk: &mut Walk<'a>, thread: &Thread, place: usize) -> Result<(), Cause>
+    requires there { place < length thread.now.lines.items }
+    requires reaches { spec.Reaches (program_of walk.old.state) (view_thread thread.now) place walk.old }
+    ensures { spec.Turns (program_of walk.old.state) (view_thread thread.now) place walk.new result }
+{
+    let stmt = thread.lines[place].stmt;
+    match stmt {
+        Stmt::Do(_) => transfer(&mut walk.state, &stmt),
+        Stmt::Lock => walk.state.enter_lock(),
+        Stmt::EndLock(_) => walk.state.release(),
+        Stmt::If(test) => enter_if(&mut walk.state, &mut walk.branches, test),
+        Stmt::Else(_) => {
+            turn(&mut walk.state, &mut walk.branches);
+            Ok(())
+        }
+        Stmt::EndIf(_) => end_if(&mut walk.state, &mut walk.branches),
+        Stmt::Peek(_) => open_peek(&walk.state, &mut walk.peek),
+        Stmt::Case(_, user_data) => enter_case(&mut walk.state, arms_of(&walk.peek), user_data),
+        Stmt::Other(_) => enter_other(&mut walk.state, arms_of(&walk.peek)),
+        Stmt::Nothing(_) => enter_none(&mut walk.state, arms_of(&walk.peek)),
+        Stmt::EndArm(_) => {
+            end_arms(&mut walk.state, &mut walk.peek);
+            Ok(())
+        }
+        Stmt::EndPeek(_) => close_peek(&mut walk.state, &mut walk.peek),
+        Stmt::Loop(k) => open_loop(&mut walk.state, &mut walk.loops, &thread.loops[k]),
+        Stmt::EndLoop(_, k) => close_loop(&mut walk.state, &mut walk.loops, &thread.loops[k]),
+        Stmt::Break(_, releases, _) => leave_loop(&mut walk.state, &mut walk.loops, releases),
+    }
+}
+
+/// Walks over the lines of a thread, and answers the first that the rules refuse. This takes no memory.
+pub fn walk_thread(alloc: Global, program: &Program, thread: u32) -> Result<(), Refusal>
+    requires { thread < length program.now.threads }
+    ensures { (t : programs.Thread) → slice_get program.now.threads thread ≡ Some t → IsWalked program.now t result }
+{
+    let part = &program.threads()[thread as usize];
+    let mut walk = Walk {
+        state: State::start(alloc, program, thread).unwrap(),
+        branches: ArrayVec::new(),
+        peek: None,
+        loops: ArrayVec::new(),
+    };
+    for place in 0..part.lines.len() {
+        if let Err(cause) = pass(&mut walk, part, place) {
+            return Err(Refusal {
+                line: part.lines[place].number,
+                cause,
+            });
+        }
+    }
+    Ok(())
+}
