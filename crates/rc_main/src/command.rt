@@ -1,17 +1,19 @@
 //! The whole program, over any reader and writers.
 
 use crate::words::{Command, WordsFault, read_words};
+use rc_report::check_engine::check_engine;
 use rc_report::engine_fault::EngineFault;
 use rc_report::step_engine::{StepEnd, step_engine};
 use rc_report::streams::{ReadSource, WriteSink};
 use rc_report::trace::End;
+use rc_report::verdict::Verdict;
 use std::alloc::{AllocError, Global};
 use std::io::{BufWriter, Read, Write};
 use thiserror::Error;
 
-/// Ended or stopped without a fault, or shown.
+/// Accepted, ended or stopped without a fault, or shown.
 pub const GOOD_STATUS: u8 = 0;
-/// A fault was found.
+/// Refused, or a fault was found.
 pub const FAULT_STATUS: u8 = 1;
 /// The text can't be read.
 pub const UNREADABLE_STATUS: u8 = 2;
@@ -74,6 +76,7 @@ fn written<'a, I: Read + Drop, W: Write>(
     writer: &mut W,
 ) -> Result<u8, CommandFault> {
     let status = match read_words(alloc, words)? {
+        Command::Check { json } => checked(alloc, reader, json, writer)?,
         Command::Step { schedule } => stepped(alloc, reader, schedule, writer)?,
         Command::Show(text) => shown(text.as_str(), writer)?,
     };
@@ -88,6 +91,28 @@ fn shown<W: Write>(text: &str, writer: &mut W) -> Result<u8, EngineFault> {
     match writer.write_all(text.as_bytes()) {
         Ok(()) => Ok(GOOD_STATUS),
         Err(_) => Err(EngineFault::Write),
+    }
+}
+
+/// Checks the text that the reader gives.
+fn checked<I: Read + Drop, W: Write>(
+    alloc: Global,
+    reader: I,
+    json: bool,
+    writer: &mut W,
+) -> Result<u8, EngineFault> {
+    let mut source = ReadSource::new(reader);
+    let mut sink = WriteSink::new(writer);
+    let verdict = check_engine(alloc, &mut source, json, &mut sink)?;
+    Ok(status_of_verdict(verdict))
+}
+
+/// The exit status of a verdict.
+fn status_of_verdict(verdict: Verdict) -> u8 {
+    match verdict {
+        Verdict::Accepted => GOOD_STATUS,
+        Verdict::Refused(_) => FAULT_STATUS,
+        Verdict::Unreadable { .. } => UNREADABLE_STATUS,
     }
 }
 

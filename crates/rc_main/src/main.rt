@@ -1,4 +1,4 @@
-//! The program `ringcheck`: steps programs of liburing calls through schedules.
+//! The program `ringcheck`: checks programs of liburing calls, and steps them through schedules.
 #![tactic(auto)]
 
 pub mod command;

@@ -1,10 +1,14 @@
 //! The program on words and texts, with everything that it writes and its status.
 
+mod cause_checks;
 mod cause_texts;
 mod causes;
+mod checks;
 mod devices;
+mod long;
 mod programs;
 mod steps;
+mod walks;
 mod words;
 
 use crate::command::command;

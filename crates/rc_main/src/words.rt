@@ -10,6 +10,8 @@ const VERSION: &str = "0.1.0";
 /// What the program is asked to do.
 #[derive(Debug, Drop)]
 pub enum Command<'a> {
+    /// Check the program, with its verdict as JSON or as text.
+    Check { json: bool },
     /// Step the program through this schedule.
     Step { schedule: &'a str },
     /// Show this text: help, or the version.
@@ -33,24 +35,39 @@ impl From<AllocError> for WordsFault {
     }
 }
 
-/// The words that the program takes.
-fn described<'a>(alloc: Global) -> Result<clap::Command<'a>, AllocError> {
+/// The words of `check`.
+fn described_check<'a>(alloc: Global) -> Result<clap::Command<'a>, AllocError> {
+    let json = Arg::new(alloc, "json")
+        .long("json")
+        .action(ArgAction::SetTrue)
+        .help("Print the verdict as one JSON object");
+    clap::Command::new(alloc, "check")
+        .about("Check the program on standard input, and print the verdict")
+        .arg(json)
+}
+
+/// The words of `step`.
+fn described_step<'a>(alloc: Global) -> Result<clap::Command<'a>, AllocError> {
     let schedule = Arg::new(alloc, "schedule")
         .long("schedule")
         .value_name("ITEMS")
         .action(ArgAction::Set)
         .default_value("")
         .help("Items joined by commas: NAME, NAME=R, k:U=R or k:U=R:H");
-    let step = clap::Command::new(alloc, "step")
+    clap::Command::new(alloc, "step")
         .about("Step the program on standard input through a schedule, and print the trace")
-        .arg(schedule)?;
-    let command = clap::Command::new(alloc, "ringcheck")
+        .arg(schedule)
+}
+
+/// The words that the program takes.
+fn described<'a>(alloc: Global) -> Result<clap::Command<'a>, AllocError> {
+    clap::Command::new(alloc, "ringcheck")
         .about("Checks threaded programs of liburing calls on one shared io_uring")
         .version(VERSION)
         .no_binary_name(true)
         .subcommand_required(true)
-        .subcommand(step)?;
-    Ok(command)
+        .subcommand(described_check(alloc)?)?
+        .subcommand(described_step(alloc)?)
 }
 
 /// Reads the words behind the program's name.
@@ -63,11 +80,15 @@ pub fn read_words<'a>(alloc: Global, words: &'a [&'a str]) -> Result<Command<'a>
 
 /// The command of words that were taken: there is one subcommand.
 fn command_of<'a>(matches: &ArgMatches<'a>) -> Command<'a> {
-    let schedule = match matches.subcommand() {
-        Some((_, step)) => step.get_str("schedule").unwrap_or(""),
-        None => "",
-    };
-    Command::Step { schedule }
+    match matches.subcommand() {
+        Some(("check", check)) => Command::Check {
+            json: check.get_flag("json"),
+        },
+        Some((_, step)) => Command::Step {
+            schedule: step.get_str("schedule").unwrap_or(""),
+        },
+        None => Command::Step { schedule: "" },
+    }
 }
 
 /// Help and the version are shown; of any other error the first line is told.

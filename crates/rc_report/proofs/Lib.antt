@@ -4,3 +4,4 @@ pub mod Lines
 pub mod Objects
 pub mod Pieces
 pub mod Traces
+pub mod OneVerdict

@@ -1,3 +1,4 @@
+pub mod Checks
 pub mod Engine
 pub mod Made
 pub mod Objects

@@ -1,11 +1,17 @@
 -- What one item of a schedule makes of a world, in the middle of a trace.
-use Rattle.std.specs.Prelude.{ℕ, ◌≡◌, ◌+◌, List, [], ◌∷◌}
+use Rattle.std.specs.Prelude.{ℕ, ◌≡◌, ◌+◌, List, [], ◌∷◌, Option, Some, None}
 use Rattle.rc_world.specs.declared.event.Item.{Item}
+use Rattle.rc_world.specs.declared.fault.Fault.{Fault}
 use Rattle.rc_world.specs.Machine.{World}
-use Rattle.rc_world.specs.Trace.{after_event, trace_from}
+use Rattle.rc_world.specs.Trace.{AtFault, AtItem, Ending, after_event, trace_from}
 use Rattle.rc_report.specs.declared.step_engine.Made.{Made}
 use Rattle.rc_report.specs.declared.step_engine.Made.TheVariants.{Event, Last}
 use Rattle.rc_report.specs.Engine.{end_of}
+
+-- How a trace ends whose next item, the i-th, isn't enabled: with the world's fault, where it has one.
+abbrev pub refused_ending : ℕ → Option Fault → Ending
+refused_ending i None = AtItem i
+refused_ending i (Some f) = AtFault f
 
 -- The next item, the i-th, makes this event and leaves this world, or the trace ends so.
 abbrev pub MakesItem : World → Item → ℕ → World → Made → Type 0

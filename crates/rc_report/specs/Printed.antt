@@ -24,37 +24,37 @@ name_in (Some thread) = thread.name
 abbrev pub thread_name : Program → ℕ → List ℕ
 thread_name program i = name_in (slice_get program.threads i)
 
--- a word and a value
+-- a word, with its blanks, and a value
 abbrev pub valued : List ℕ → List ℕ → List ℕ
-valued word value = joined (word ∷ codes " " ∷ value ∷ [])
+valued word value = joined (word ∷ value ∷ [])
 
--- the words of a step
+-- the words of a step, behind a blank
 abbrev pub action_text : Action → List ℕ
-action_text (VariableSet v) = valued (codes "set") (signed_decimal v)
-action_text (Loaded b) = valued (codes "load") (decimal b)
-action_text (Stored b) = valued (codes "store") (decimal b)
-action_text (Filled b) = valued (codes "fill") (decimal b)
-action_text (Printed v) = valued (codes "print") (signed_decimal v)
-action_text Locked = codes "lock"
-action_text Released = codes "release"
-action_text EntryOpened = codes "get_sqe"
-action_text ReadPrepared = codes "prep_read"
-action_text WritePrepared = codes "prep_write"
-action_text FsyncPrepared = codes "prep_fsync"
-action_text NopPrepared = codes "prep_nop"
-action_text (DataSet u) = valued (codes "set_data64") (decimal u)
-action_text (Submitted r) = valued (codes "submit") (signed_decimal r)
-action_text (Peeked c) = joined (codes "peek_cqe " ∷ decimal c.user_data ∷ codes " " ∷ signed_decimal c.res ∷ [])
-action_text PeekedNone = codes "peek_cqe none"
-action_text (Reaped u) = valued (codes "cqe_seen") (decimal u)
-action_text (Branched true) = codes "if yes"
-action_text (Branched false) = codes "if no"
-action_text Looped = codes "loop"
-action_text LoopLeft = codes "break"
+action_text (VariableSet v) = valued (codes " set ") (signed_decimal v)
+action_text (Loaded b) = valued (codes " load ") (decimal b)
+action_text (Stored b) = valued (codes " store ") (decimal b)
+action_text (Filled b) = valued (codes " fill ") (decimal b)
+action_text (Printed v) = valued (codes " print ") (signed_decimal v)
+action_text Locked = codes " lock"
+action_text Released = codes " release"
+action_text EntryOpened = codes " get_sqe"
+action_text ReadPrepared = codes " prep_read"
+action_text WritePrepared = codes " prep_write"
+action_text FsyncPrepared = codes " prep_fsync"
+action_text NopPrepared = codes " prep_nop"
+action_text (DataSet u) = valued (codes " set_data64 ") (decimal u)
+action_text (Submitted r) = valued (codes " submit ") (signed_decimal r)
+action_text (Peeked c) = joined (codes " peek_cqe " ∷ decimal c.user_data ∷ codes " " ∷ signed_decimal c.res ∷ [])
+action_text PeekedNone = codes " peek_cqe none"
+action_text (Reaped u) = valued (codes " cqe_seen ") (decimal u)
+action_text (Branched true) = codes " if yes"
+action_text (Branched false) = codes " if no"
+action_text Looped = codes " loop"
+action_text LoopLeft = codes " break"
 
 -- where a step is: the thread's name and the line
 abbrev pub place_text : List ℕ → ℕ → List ℕ
-place_text name line = joined (name ∷ codes " " ∷ decimal line ∷ codes " " ∷ [])
+place_text name line = joined (name ∷ codes " " ∷ decimal line ∷ [])
 
 -- an event: where a thread's step is and its words, or the kernel with the user data and the result
 abbrev pub event_text : Program → Event → List ℕ

@@ -4,6 +4,7 @@
 //! answers `Read` and `Write` only where that device failed, `Read` also where 2,097,152 reads met no end of the input.
 #![tactic(auto)]
 
+pub mod check_engine;
 pub mod engine_fault;
 mod printed;
 pub mod reading;

@@ -24,13 +24,13 @@ fn thread_name(program: &Program, thread: u32) -> &[u8]
     }
 }
 
-/// Writes a word and a value.
+/// Writes a word, with its blanks, and a value.
 fn write_valued<W: Sink>(writer: &mut W, word: &[u8], value: &str) -> Result<(), EngineFault>
     requires { W.failure_count writer.old + 1 < 2 ^ 64 }
     ensures text { Wrote (W.contents writer.old) (W.contents writer.new) (valued word.now value.now) result }
     ensures failures { FailsToWrite (W.failure_count writer.old) (W.failure_count writer.new) result }
 {
-    write_pieces(writer, &[word, b" ", value.as_bytes()])
+    write_pieces(writer, &[word, value.as_bytes()])
 }
 
 /// Writes a word and the values of a completion.
@@ -51,7 +51,7 @@ fn write_completion<W: Sink>(
     write_pieces(writer, &[word, user_data, b" ", res])
 }
 
-/// Writes the words of a step.
+/// Writes the words of a step, behind a blank.
 fn write_action<W: Sink>(writer: &mut W, action: Action) -> Result<(), EngineFault>
     requires { W.failure_count writer.old + 1 < 2 ^ 64 }
     ensures text { Wrote (W.contents writer.old) (W.contents writer.new) (action_text action) result }
@@ -59,27 +59,27 @@ fn write_action<W: Sink>(writer: &mut W, action: Action) -> Result<(), EngineFau
 {
     let mut buffer = Buffer::new();
     match action {
-        Action::VariableSet(value) => write_valued(writer, b"set", buffer.format(value)),
-        Action::Loaded(byte) => write_valued(writer, b"load", buffer.format(byte)),
-        Action::Stored(byte) => write_valued(writer, b"store", buffer.format(byte)),
-        Action::Filled(byte) => write_valued(writer, b"fill", buffer.format(byte)),
-        Action::Printed(value) => write_valued(writer, b"print", buffer.format(value)),
-        Action::Locked => write_piece(writer, b"lock"),
-        Action::Released => write_piece(writer, b"release"),
-        Action::EntryOpened => write_piece(writer, b"get_sqe"),
-        Action::ReadPrepared => write_piece(writer, b"prep_read"),
-        Action::WritePrepared => write_piece(writer, b"prep_write"),
-        Action::FsyncPrepared => write_piece(writer, b"prep_fsync"),
-        Action::NopPrepared => write_piece(writer, b"prep_nop"),
-        Action::DataSet(data) => write_valued(writer, b"set_data64", buffer.format(data)),
-        Action::Submitted(answer) => write_valued(writer, b"submit", buffer.format(answer)),
-        Action::Peeked(completion) => write_completion(writer, b"peek_cqe ", completion),
-        Action::PeekedNone => write_piece(writer, b"peek_cqe none"),
-        Action::Reaped(data) => write_valued(writer, b"cqe_seen", buffer.format(data)),
-        Action::Branched(true) => write_piece(writer, b"if yes"),
-        Action::Branched(false) => write_piece(writer, b"if no"),
-        Action::Looped => write_piece(writer, b"loop"),
-        Action::LoopLeft => write_piece(writer, b"break"),
+        Action::VariableSet(value) => write_valued(writer, b" set ", buffer.format(value)),
+        Action::Loaded(byte) => write_valued(writer, b" load ", buffer.format(byte)),
+        Action::Stored(byte) => write_valued(writer, b" store ", buffer.format(byte)),
+        Action::Filled(byte) => write_valued(writer, b" fill ", buffer.format(byte)),
+        Action::Printed(value) => write_valued(writer, b" print ", buffer.format(value)),
+        Action::Locked => write_piece(writer, b" lock"),
+        Action::Released => write_piece(writer, b" release"),
+        Action::EntryOpened => write_piece(writer, b" get_sqe"),
+        Action::ReadPrepared => write_piece(writer, b" prep_read"),
+        Action::WritePrepared => write_piece(writer, b" prep_write"),
+        Action::FsyncPrepared => write_piece(writer, b" prep_fsync"),
+        Action::NopPrepared => write_piece(writer, b" prep_nop"),
+        Action::DataSet(data) => write_valued(writer, b" set_data64 ", buffer.format(data)),
+        Action::Submitted(answer) => write_valued(writer, b" submit ", buffer.format(answer)),
+        Action::Peeked(completion) => write_completion(writer, b" peek_cqe ", completion),
+        Action::PeekedNone => write_piece(writer, b" peek_cqe none"),
+        Action::Reaped(data) => write_valued(writer, b" cqe_seen ", buffer.format(data)),
+        Action::Branched(true) => write_piece(writer, b" if yes"),
+        Action::Branched(false) => write_piece(writer, b" if no"),
+        Action::Looped => write_piece(writer, b" loop"),
+        Action::LoopLeft => write_piece(writer, b" break"),
     }
 }
 
@@ -91,7 +91,7 @@ fn write_place<W: Sink>(writer: &mut W, name: &[u8], line: u32) -> Result<(), En
 {
     let mut buffer = Buffer::new();
     let line = buffer.format(line).as_bytes();
-    write_pieces(writer, &[name, b" ", line, b" "])
+    write_pieces(writer, &[name, b" ", line])
 }
 
 /// Writes a step: where it is, and its words.

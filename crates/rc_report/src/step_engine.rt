@@ -6,7 +6,7 @@ ghost use Rattle.rc_world.specs.Faults.{fault_of};
 ghost use Rattle.rc_world.specs.Schedule.{items_of};
 ghost use Rattle.rc_world.specs.Trace.{all_ended, last_ending, trace_from, trace_of};
 ghost use Rattle.rc_report.specs.Engine.{EndsBy, EndsItems, StepsAs, WritesNothingOnRead, end_of, items_text, stepped_text, text_of_trace};
-ghost use Rattle.rc_report.specs.Made.{MakesItem};
+ghost use Rattle.rc_report.specs.Made.{MakesItem, refused_ending};
 ghost use Rattle.rc_report.specs.Printed.{event_lines};
 ghost use Rattle.rc_report.specs.Streams.{CountsReads, CountsWrites, FailsToWriteOrGrow, Wrote};
 
@@ -174,16 +174,23 @@ fn make_item(world: &mut World<'_>, item: &Item, number: u64) -> Result<Made, Al
     ensures grows { world.new.made ≤ world.old.made + 1 }
     ensures program { world.new.program ≡ world.old.program }
 {
-    if let Some(fault) = world.fault() {
-        return Ok(Made::Last(End::Fault(fault)));
-    }
     if !world.enabled(item) {
-        return Ok(Made::Last(End::NotEnabled(number)));
+        return Ok(Made::Last(refused_end(world, number)));
     }
     match world.apply(item) {
         Ok(event) => Ok(Made::Event(event)),
         Err(Stop::Fault(fault)) => Ok(Made::Last(End::Fault(fault))),
         Err(Stop::OutOfMemory) => Err(AllocError),
+    }
+}
+
+/// How a trace ends in a world where the item with this number isn't enabled.
+fn refused_end(world: &World<'_>, number: u64) -> End
+    ensures { result ≡ end_of (refused_ending number (fault_of world.now)) }
+{
+    match world.fault() {
+        Some(fault) => End::Fault(fault),
+        None => End::NotEnabled(number),
     }
 }
 

@@ -1,5 +1,6 @@
 //! Printed forms, and sources and sinks at their limits.
 
+mod checks;
 mod traces;
 
 use crate::engine_fault::EngineFault;

@@ -11,17 +11,9 @@ use crate::streams::Sink;
 use crate::writing::{write_piece, write_pieces};
 use itoa::Buffer;
 use rc_read::ReadCause;
-use rc_rules::cause::Cause;
+pub use rc_verify::refusal::Refusal;
 use serde_json::{Value, json};
 use std::alloc::{AllocError, Global};
-
-/// Where a program is refused, and why.
-#[derive(Clone, Copy)]
-pub struct Refusal {
-    /// The number of the line, from 1.
-    pub line: u32,
-    pub cause: Cause,
-}
 
 /// What is said of a text.
 #[derive(Clone, Copy)]

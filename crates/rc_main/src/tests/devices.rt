@@ -72,14 +72,14 @@ impl Write for Narrow {
     }
 }
 
-fn reader_fails(rt: &impl Abort, alloc: Global, pieces: u32) {
+fn reader_fails(rt: &impl Abort, alloc: Global, words: &[&str], pieces: u32) {
     let mut writer = Vec::new(alloc);
     let mut errors = Vec::new(alloc);
     let reader = Cut {
         text: NOP.as_bytes(),
         pieces,
     };
-    let status = command(rt, alloc, SCHEDULE, reader, &mut writer, &mut errors);
+    let status = command(rt, alloc, words, reader, &mut writer, &mut errors);
     assert_eq!(rt; status, 3, "status behind {pieces} pieces");
     assert_eq!(rt; errors.as_slice(), NOT_READ);
     assert!(rt; writer.is_empty(), "nothing is written");
@@ -88,11 +88,31 @@ fn reader_fails(rt: &impl Abort, alloc: Global, pieces: u32) {
 #[test]
 fn failing_reads_are_told(rt: HostRuntime) {
     for pieces in [0, 1] {
-        reader_fails(&rt, rt.alloc(), pieces);
+        reader_fails(&rt, rt.alloc(), SCHEDULE, pieces);
+        reader_fails(&rt, rt.alloc(), &["check"], pieces);
     }
 }
 
-fn writer_fails(rt: &impl Abort, alloc: Global, room: usize, flushes: bool) {
+/// The words that the program is given, and the answer that the writer doesn't take whole.
+type Answered = (&'static [&'static str], &'static [u8]);
+
+const ANSWERED: [Answered; 3] = [
+    (SCHEDULE, TRACE),
+    (&["check"], b"refused line 19 V12 QueueLeft\n"),
+    (
+        &["check", "--json"],
+        b"{\"cause\":\"QueueLeft\",\"code\":12,\"line\":19,\"verdict\":\"refused\"}\n",
+    ),
+];
+
+fn writer_fails(
+    rt: &impl Abort,
+    alloc: Global,
+    words: &[&str],
+    answer: &[u8],
+    room: usize,
+    flushes: bool,
+) {
     let mut writer = Narrow {
         written: Vec::new(alloc),
         room,
@@ -100,10 +120,10 @@ fn writer_fails(rt: &impl Abort, alloc: Global, room: usize, flushes: bool) {
     };
     let mut errors = Vec::new(alloc);
     let reader = NOP.as_bytes();
-    let status = command(rt, alloc, SCHEDULE, reader, &mut writer, &mut errors);
+    let status = command(rt, alloc, words, reader, &mut writer, &mut errors);
     assert_eq!(rt; status, 3, "status at {room} bytes");
     assert_eq!(rt; errors.as_slice(), NOT_WRITTEN);
-    let wanted = TRACE.get(..room).unwrap_or(TRACE);
+    let wanted = &answer[..room.min(answer.len())];
     assert_eq!(rt;
         writer.written.as_slice(),
         wanted,
@@ -113,8 +133,10 @@ fn writer_fails(rt: &impl Abort, alloc: Global, room: usize, flushes: bool) {
 
 #[test]
 fn failing_writes_are_told(rt: HostRuntime) {
-    for room in [0, 3, 77, TRACE.len() - 1] {
-        writer_fails(&rt, rt.alloc(), room, true);
+    for (words, answer) in ANSWERED {
+        for room in [0, 3, 5, answer.len() / 2, answer.len().saturating_sub(1)] {
+            writer_fails(&rt, rt.alloc(), words, answer, room, true);
+        }
+        writer_fails(&rt, rt.alloc(), words, answer, 4096, false);
     }
-    writer_fails(&rt, rt.alloc(), 4096, false);
 }

@@ -377,3 +377,231 @@ r = submit
 }
 }
 ";
+
+pub const EMPTY: &str = "";
+
+pub const CREDITS_OVER: &str = "ringcheck 1
+ring 4
+thread t0 holds c:9 {
+}
+";
+
+pub const CREDITS_OF_FOUR: &str = "ringcheck 1
+ring 4
+thread t0 holds c:8 {
+}
+";
+
+pub const CREDITS_OF_THREE: &str = "ringcheck 1
+ring 3
+thread t0 holds c:8 {
+}
+";
+
+pub const KEEPS: &str = "ringcheck 1
+ring 1
+buffer a 1 1
+thread t0 holds {
+loop keeps a:1 {
+break
+}
+}
+";
+
+pub const LOSES: &str = "ringcheck 1
+ring 2
+file 3 0
+buffer a 1 1
+token 7 read a
+thread t0 holds a:1 t:7 c:1 {
+lock {
+loop keeps a:1 t:7 c:1 q:0 {
+get_sqe
+prep_read 3 a 1 0
+set_data64 7
+}
+}
+}
+";
+
+pub const DEAD: &str = "ringcheck 1
+ring 1
+token 7 nop
+thread t0 holds t:7 c:1 {
+lock {
+peek_cqe r {
+case 7 {
+cqe_seen
+cqe_seen
+}
+other {
+}
+none {
+}
+}
+}
+}
+";
+
+pub const FULL: &str = "ringcheck 1
+ring 1
+token 7 nop
+thread t0 holds t:7 c:2 {
+lock {
+get_sqe
+prep_nop
+set_data64 7
+get_sqe
+}
+}
+";
+
+pub const CUT: &str = "ringcheck 1
+ring 1
+token 7 nop
+thread t0 holds t:7 c:1 {
+";
+
+pub const STORED_IN_LOCK: &str = "ringcheck 1
+ring 2
+file 3 64
+buffer a 16 2
+token 9 write a 1
+thread t0 holds a:2 t:9 c:1 {
+lock {
+get_sqe
+prep_write 3 a 16 0 1
+set_data64 9
+store a 3 v
+loop keeps a:1 q:1 {
+r = submit
+if sq_ready == 0 {
+break
+}
+}
+}
+v = load a 3
+}
+";
+
+pub const STORED_WHEN_SEEN: &str = "ringcheck 1
+ring 2
+file 3 64
+buffer a 16 2
+token 9 write a 1
+thread t0 holds a:2 t:9 c:1 {
+lock {
+get_sqe
+prep_write 3 a 16 0 1
+set_data64 9
+r = submit
+peek_cqe r {
+case 9 {
+cqe_seen
+store a 3 v
+cqe_seen
+}
+other {
+}
+none {
+}
+}
+}
+}
+";
+
+pub const PREPARED_OUTSIDE: &str = "ringcheck 1
+ring 1
+file 3 0
+buffer a 4 1
+thread t0 holds a:1 {
+prep_read 3 a 4 0
+}
+";
+
+pub const PEEKED_OUTSIDE: &str = "ringcheck 1
+ring 1
+thread t0 holds {
+peek_cqe r {
+other {
+}
+none {
+}
+}
+}
+";
+
+pub const OPEN_IN_ONE_BRANCH: &str = "ringcheck 1
+ring 1
+token 7 nop
+thread t0 holds t:7 c:1 {
+lock {
+if x == 0 {
+get_sqe
+}
+}
+}
+";
+
+pub const FSYNC_AS_NOP: &str = "ringcheck 1
+ring 1
+file 3 0
+token 7 nop
+thread t0 holds t:7 c:1 {
+lock {
+get_sqe
+prep_fsync 3 0
+set_data64 7
+r = submit
+peek_cqe r {
+case 7 {
+cqe_seen
+}
+other {
+}
+none {
+}
+}
+}
+}
+";
+
+pub const NO_TOKEN: &str = "ringcheck 1
+ring 1
+token 7 nop
+thread t0 holds c:1 {
+lock {
+get_sqe
+prep_nop
+set_data64 7
+r = submit
+peek_cqe r {
+case 7 {
+cqe_seen
+}
+other {
+}
+none {
+}
+}
+}
+}
+";
+
+pub const CREDITS_OVER_ROOM: &str = "ringcheck 1
+ring 4 cq 4
+thread t0 holds c:5 {
+}
+";
+
+pub const CREDITS_OF_ROOM: &str = "ringcheck 1
+ring 4 cq 4
+thread t0 holds c:4 {
+}
+";
+
+pub const ROOM_OF_THREE: &str = "ringcheck 1
+ring 4 cq 3
+thread t0 holds c:4 {
+}
+";

@@ -17,10 +17,10 @@ fn wrong_words_are_told_on_one_line(rt: HostRuntime) {
                 status: 3,
             },
             Case {
-                words: &["check"],
+                words: &["verify"],
                 text: NOP,
                 output: "",
-                errors: "ringcheck: unrecognized subcommand 'check' (see 'ringcheck --help')\n",
+                errors: "ringcheck: unrecognized subcommand 'verify' (see 'ringcheck --help')\n",
                 status: 3,
             },
             Case {
@@ -55,8 +55,9 @@ fn help_and_version_are_shown(rt: HostRuntime) {
 Usage: ringcheck <COMMAND>
 
 Commands:
-  step  Step the program on standard input through a schedule, and print the trace
-  help  Print this message or the help of the given subcommand(s)
+  check  Check the program on standard input, and print the verdict
+  step   Step the program on standard input through a schedule, and print the trace
+  help   Print this message or the help of the given subcommand(s)
 
 Options:
   -h, --help     Print help

@@ -1,0 +1,42 @@
+-- What the engine that checks a text answers and writes.
+use Rattle.std.specs.Prelude.{ℕ, ◌≡◌, Bool, true, false, List, Option, Some, None, Result, Ok, Err}
+use Rattle.std.specs.Io.KnownBytes.{Appends}
+use Rattle.rc_lang.specs.Program.{Program}
+use Rattle.rc_read.specs.Answer.{answer_of}
+use Rattle.rc_read.specs.Causes.{number_of_cause}
+use Rattle.rc_rules.specs.Causes.{number_of}
+use Rattle.rc_rules.specs.Labellings.{Accepts, IsRefused}
+use Rattle.rc_report.specs.declared.engine_fault.EngineFault.{EngineFault}
+use Rattle.rc_report.specs.declared.verdict.Verdict.{Verdict}
+use Rattle.rc_report.specs.declared.verdict.Verdict.TheVariants.{Accepted, Refused, Unreadable}
+use Rattle.rc_report.specs.Streams.{Began}
+use Rattle.rc_report.specs.Verdicts.{verdict_json, verdict_text}
+
+-- The rules say this of a program.
+abbrev pub IsProgramVerdict : Program → Verdict → Type 0
+IsProgramVerdict P Accepted = Accepts P
+IsProgramVerdict P (Refused r) = IsRefused P r.line (number_of r.cause)
+IsProgramVerdict P (Unreadable line cause) = ⊥
+
+-- A text can't be read at this line, for the cause with this number.
+abbrev pub IsFaultVerdict : ℕ → ℕ → Verdict → Type 0
+IsFaultVerdict line number Accepted = ⊥
+IsFaultVerdict line number (Refused r) = ⊥
+IsFaultVerdict line number (Unreadable l cause) = (l ≡ line) × (number_of_cause cause ≡ number)
+
+-- The verdict is the one on what a text reads as.
+abbrev pub IsVerdict : Result Program (ℕ × ℕ) → Verdict → Type 0
+IsVerdict (Ok P) verdict = IsProgramVerdict P verdict
+IsVerdict (Err (line, number)) verdict = IsFaultVerdict line number verdict
+
+-- as JSON, or as text
+abbrev pub told : Bool → Verdict → List ℕ
+told true verdict = verdict_json verdict
+told false verdict = verdict_text verdict
+
+-- The verdict on the bytes is answered, and it is written. Or a beginning of it is, where the sink failed or memory ran
+-- out. Where the source doesn't tell its bytes nothing is claimed.
+abbrev pub ChecksAs : Option (List ℕ) → Bool → Option (List ℕ) → Option (List ℕ) → Result Verdict EngineFault → Type 0
+ChecksAs None json old new r = Unit {0}
+ChecksAs (Some bytes) json old new (Ok verdict) = IsVerdict (answer_of bytes) verdict × Appends old new (told json verdict)
+ChecksAs (Some bytes) json old new (Err e) = (verdict : Verdict) → IsVerdict (answer_of bytes) verdict → Began old new (told json verdict)
