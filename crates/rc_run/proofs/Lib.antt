@@ -1,0 +1,14 @@
+mod Entries
+mod Buffers
+mod Starts
+mod Begins
+mod Steps
+mod Completes
+mod Orders
+mod Calms
+mod Turns
+mod Lending
+mod Finding
+mod Posting
+pub mod TurnEvents
+mod Growing

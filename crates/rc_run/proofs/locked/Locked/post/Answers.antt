@@ -1,0 +1,21 @@
+use Rattle.std.proofs.Common.{◌≡◌, sym, ap, ◌∙◌, ◌+◌, subst}
+use Rattle.std.specs.Prelude.{ℤ}
+use Rattle.std.proofs.Math.Facts.{to_z-of_z}
+use Rattle.rc_run.specs.Lives.{IsNotOut, Live, Posted}
+use Rattle.rc_run.specs.Table.{Table}
+use Rattle.rc_run.proofs.Growing.{post_more}
+use Rattle.rc_run.proofs.locked.Locked.post.Goals as goal
+
+pub invariant_of-self : goal.invariant_of-self
+invariant_of-self g c =
+    let i = c.self.invariant in
+    let s = c.self.inside.live in
+    let v = c.post.new.self in
+    let P : ℤ → Type 0 = λ z. Posted s c.args.job z v in
+    let more = post_more g.D.Device.gives s v c.args.job c.args.res (subst P (to_z-of_z c.ranges.res) c.in-Ok.ensures.ok) c.requires.given in
+    (more.long ∙ ap (λ n. n + 1) i.0 ∙ sym (c.audit.ensures.total ∙ c.add.ensures.total), more.given i.1, i.2 ∙ sym more.count)
+
+pub returns-in-Err-clause-err : goal.returns-in-Err-clause-err
+returns-in-Err-clause-err g c =
+    let F : Live → Type 0 = λ s. (c.in-Err.job ≡ c.args.job) × (c.post.new.self ≡ s) × IsNotOut s c.args.job.request in
+    subst F (ap (λ (t : Table). t.run) c.self.view_is) c.in-Err.ensures.err

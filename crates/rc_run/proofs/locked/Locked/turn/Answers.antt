@@ -1,0 +1,16 @@
+use Rattle.std.proofs.Common.{rules, sym, ap, ◌∙◌, ◌+◌, subst}
+use Rattle.std.specs.Prelude.{ℤ}
+use Rattle.std.proofs.Math.Facts.{to_z-of_z}
+use Rattle.rc_run.specs.Lives.{Turned}
+use Rattle.rc_run.proofs.Growing.{turn_more}
+use Rattle.rc_run.proofs.locked.Locked.turn.Goals as goal
+
+pub invariant_of-self : goal.invariant_of-self
+invariant_of-self g c =
+    let o = c.in-Ok-Done in
+    let i = c.self.invariant in
+    let s = c.self.inside.live in
+    let v = c.turn.new.self in
+    let P : ℤ → Type 0 = λ z. Turned s c.args.thread z o.field-0 v in
+    let more = turn_more g.D.Device.gives s v c.args.thread c.args.take o.field-0 o.event (search rules) (subst P (to_z-of_z c.ranges.take) o.ensures.ok) in
+    (more.long ∙ ap (λ n. n + 1) i.0 ∙ sym (c.audit.ensures.total ∙ c.add.ensures.total), more.given i.1, ap (λ n. n + 1) i.2 ∙ sym more.count)

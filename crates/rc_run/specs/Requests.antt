@@ -1,0 +1,96 @@
+-- The requests that the entries of a ring ask for: what lies in their fields (io_uring_enter(2)), and the serial number
+-- that a table names for their user data.
+use Rattle.std.specs.Prelude.{ℕ, ◌+◌, ◌-◌, ◌*◌, ◌/◌, ◌%◌, Bool, true, false, if◌then◌else◌, List, [], ◌∷◌, ◌++◌, map, nat_eq}
+use Rattle.rc_entry.specs.declared.Cqe.{Cqe}
+use Rattle.rc_entry.specs.declared.Entry.{Entry}
+use Rattle.rc_entry.specs.declared.Entry.TheVariants as entry
+use Rattle.rc_entry.specs.Spelling.{opcode_fsync, opcode_read, opcode_write, sqe_addr, sqe_fd, sqe_len, sqe_off, sqe_opcode, sqe_user_data}
+use Rattle.rc_lang.specs.declared.request.Kind.{Kind}
+use Rattle.rc_lang.specs.declared.request.Kind.TheVariants.{Nop, Fsync, Read, Write}
+use Rattle.rc_lang.specs.declared.request.Request.{Request}
+use Rattle.rc_ring.specs.Rings.{OpenSlot, NoSlot, VacantSlot, PreparedSlot}
+use Rattle.rc_run.specs.declared.request_ring.Serial.{Serial}
+use Rattle.rc_world.specs.declared.event.Completion.{Completion}
+use Rattle.rc_world.specs.declared.world.Slot.{Slot}
+use Rattle.rc_world.specs.declared.world.Slot.TheVariants.{Closed, Vacant, Prepared}
+use Rattle.rc_world.specs.Machine.{new_request, prepared_nop}
+
+abbrev pub kind_of : ℕ → Kind
+kind_of opcode = if nat_eq opcode opcode_read then Read else if nat_eq opcode opcode_write then Write else if nat_eq opcode opcode_fsync then Fsync else Nop
+
+-- Each buffer has a page of addresses of its own, the first from 4096 on.
+abbrev pub address_of : ℕ → ℕ
+address_of buffer = 4096 * (buffer + 1)
+
+-- the number, of 32 bits, of the buffer at an address
+abbrev pub buffer_at : ℕ → ℕ
+buffer_at address = (address / 4096 - 1) % 4294967296
+
+-- the serial number of a user data
+abbrev pub serial_of : ℕ → List Serial → ℕ
+serial_of u [] = 0
+serial_of u (s ∷ serials) = if nat_eq s.user_data u then s.serial else serial_of u serials
+
+-- the request in the 64 bytes of an entry
+abbrev pub request_in : List Serial → List ℕ → Request
+request_in serials bytes = record {
+  serial = serial_of (sqe_user_data bytes) serials;
+  kind = kind_of (sqe_opcode bytes);
+  fd = sqe_fd bytes;
+  buffer = buffer_at (sqe_addr bytes);
+  len = sqe_len bytes;
+  off = sqe_off bytes;
+  user_data = sqe_user_data bytes;
+}
+
+-- the same of the value that the bytes spell
+abbrev pub numbered : List Serial → ℕ → Request → Request
+numbered serials u q = record q { serial = serial_of u serials; user_data = u }
+
+abbrev pub request_of : List Serial → Entry → Request
+request_of serials (entry.Nop u) = numbered serials u prepared_nop
+request_of serials (entry.Fsync fd datasync u) = numbered serials u (new_request Fsync fd 0 0 0)
+request_of serials (entry.Read fd address len off u) = numbered serials u (new_request Read fd (buffer_at address) len off)
+request_of serials (entry.Write fd address len off u) = numbered serials u (new_request Write fd (buffer_at address) len off)
+
+-- the open entry; what is prepared has no serial number yet
+abbrev pub slot_in : OpenSlot → Slot
+slot_in NoSlot = Closed
+slot_in VacantSlot = Vacant
+slot_in (PreparedSlot bytes) = Prepared (request_in [] bytes)
+
+abbrev pub completion_in : Cqe → Completion
+completion_in c = record { user_data = c.user_data; res = c.res }
+
+abbrev pub is_open : OpenSlot → Bool
+is_open NoSlot = false
+is_open VacantSlot = true
+is_open (PreparedSlot bytes) = true
+
+-- What clauses see of a ring of requests: the numbers of entries, the open entry, the queued requests and the
+-- completions from the front, and how many requests were made.
+pub record RequestRing : Type 0 where
+  pub entries : ℕ
+  pub completion_entries : ℕ
+  pub slot : Slot
+  pub queued : List Request
+  pub completions : List Completion
+  pub made : ℕ
+
+-- nothing is made
+abbrev pub empty_ring : ℕ → ℕ → RequestRing
+empty_ring entries completion_entries = record {
+  entries = entries;
+  completion_entries = completion_entries;
+  slot = Closed;
+  queued = [];
+  completions = [];
+  made = 0;
+}
+
+-- the prepared request goes last into the queue, under the next serial number
+abbrev pub after_data : RequestRing → ℕ → Request → RequestRing
+after_data r u q = record r { slot = Closed; queued = r.queued ++ record q { serial = r.made + 1; user_data = u } ∷ []; made = r.made + 1 }
+
+abbrev pub data_of : List Request → List ℕ
+data_of rs = map (λ (r : Request). r.user_data) rs

@@ -1,0 +1,8 @@
+-- Room for what the threads of a run leave.
+use Rattle.std.specs.Prelude.{ℕ, ◌≡◌, ◌≤◌, []}
+use Rattle.std.specs.Global.{Vec}
+use Rattle.std.specs.Vec.{vec_capacity}
+
+-- The list is empty, with room for so many.
+abbrev pub HasRoom : {X : Type 0} → ℕ → Vec X → Type 0
+HasRoom n v = (v.items ≡ []) × (n ≤ vec_capacity v)

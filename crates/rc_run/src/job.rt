@@ -1,0 +1,124 @@
+//! Jobs: requests that are with a device.
+
+ghost use Rattle.std.specs.Prelude.{◌≡◌, ◌≤◌, false, true, length};
+ghost use Rattle.std.specs.Borrow.{sem};
+ghost use Rattle.rc_lang.specs.declared.request.Kind.TheVariants.{Write};
+ghost use Rattle.rc_lang.specs.Requests.{may_complete, most_moved};
+ghost use Rattle.rc_run.specs.Jobs.{IsJob, allows};
+ghost use Rattle.rc_run.specs.Lending.{LendsBytes};
+
+use rc_lang::request::{Kind, Request};
+use std::marker::Model;
+
+/// A request that is with a device, and bytes for it. It has to be spent, by `Live::post` or by `give_up`.
+pub struct Job {
+    request: Request,
+    bytes: Vec<u8>,
+    starved: bool,
+}
+
+// Clauses see the request, the bytes and whether there are none for want of memory.
+impl Model for Job {
+    ghost use Rattle.rc_run.specs.Jobs as jobs;
+
+    ghost Value = { jobs.Job };
+
+    ghost use Rattle.rc_run.specs.Jobs.{IsJob};
+    ghost use Rattle.rc_run.specs.JobParts.{view_job};
+
+    ghost view = { view_job };
+
+    ghost invariant = { λ j. IsJob (view_job j) };
+}
+
+impl Job {
+    // A job of these parts.
+    pub(crate) fn new(request: Request, bytes: Vec<u8>, starved: bool) -> Job
+        requires { IsJob (record { request = request; bytes = bytes.items; starved = starved }) }
+        ensures { result ≡ record { request = request; bytes = bytes.items; starved = starved } }
+    {
+        Job {
+            request,
+            bytes,
+            starved,
+        }
+    }
+
+    /// The request.
+    pub fn request(&self) -> Request
+        ensures value { result ≡ self.now.request }
+        ensures small { result.len ≤ 4096 }
+        ensures enough { self.now.starved ≡ false → result.len ≤ length self.now.bytes }
+        ensures starved { self.now.starved ≡ true → result.kind ≡ Write }
+    {
+        self.request
+    }
+
+    /// Whether this may be the result: what the request may complete with (`io_uring_enter(2)`), and of a starved job
+    /// a negative errno.
+    pub fn allows(&self, res: i32) -> bool
+        ensures { result ≡ allows self.now res }
+    {
+        may_complete(self.request, res) && (!self.starved || res < 0)
+    }
+
+    /// Whether memory for the bytes was refused.
+    pub fn starved(&self) -> bool
+        ensures { result ≡ self.now.starved }
+    {
+        self.starved
+    }
+
+    /// The bytes, of which a device fills those of a read and takes those of a write.
+    pub fn bytes(&mut self) -> &mut [u8]
+        requires { self.old.starved ≡ false }
+        ensures* writes_back { sem 𝓛 (LendsBytes self.entry result) }
+        ensures value { result.now ≡ self.old.bytes }
+    {
+        &mut self.bytes
+    }
+
+    /// Lets go of a job that came back. The request of a job that is out stays pending for good.
+    pub fn give_up(self) {
+        let Job {
+            request: _,
+            bytes: _,
+            starved: _,
+        } = self;
+    }
+
+    // The parts.
+    pub(crate) fn into_parts(self) -> (Request, Vec<u8>)
+        ensures request { result.0 ≡ self.request }
+        ensures bytes { result.1.items ≡ self.bytes }
+    {
+        let Job {
+            request,
+            bytes,
+            starved: _,
+        } = self;
+        (request, bytes)
+    }
+}
+
+// How many bytes a request moves at most.
+fn most_moved(request: Request) -> u32
+    ensures { result ≡ most_moved request.len request.kind }
+{
+    match request.kind {
+        Kind::Nop => 0,
+        Kind::Fsync => 0,
+        Kind::Read => request.len,
+        Kind::Write => request.len,
+    }
+}
+
+// Whether the request may complete with this result.
+fn may_complete(request: Request, res: i32) -> bool
+    ensures { result ≡ may_complete request res }
+{
+    match u32::try_from(res) {
+        Ok(count) => count <= most_moved(request),
+        Err(_) => res >= -4095,
+    }
+}

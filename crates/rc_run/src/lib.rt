@@ -1,0 +1,14 @@
+//! Runs admitted programs: a run under way, over rings of real entry bytes, and the threads that play it.
+#![tactic(auto)]
+
+#[cfg(test)]
+mod examples;
+pub mod gate;
+pub mod job;
+pub mod live;
+mod locked;
+mod machine;
+pub mod report;
+mod request_ring;
+pub mod runner;
+mod same;

@@ -1,0 +1,246 @@
+//! What lies under the lock of a run.
+
+ghost use Rattle.std.specs.Prelude.{◌≡◌, ◌≢◌, ◌⊎◌, ◌≤◌, ℕ, ℤ, negsuc, ◌≤ℤ◌, [], true, length, IfErr, IfNone, IfSome, MatchOption, OnOk};
+ghost use Rattle.rc_run.specs.Jobs.{allows};
+ghost use Rattle.rc_run.specs.Reports.{AllEnded, AllGiven, IsUnended, is_turn};
+ghost use Rattle.rc_run.specs.Lives.{IsNotOut, Lent, Posted, Turned};
+
+use crate::job::Job;
+use crate::live::{Live, Turn};
+use rc_device::device::Device;
+use rc_world::controls::Next;
+use std::marker::{Model, PhantomData};
+use std::sync::ledger::{Book, Ledger, Share};
+
+/// What a thread has counted, with its part of the ledger.
+#[derive(Drop)]
+pub struct Counted<L: Ledger> {
+    pub events: u64,
+    pub share: Share<L>,
+    pub ghost one: { share.parts ≡ 1 },
+    pub ghost same: { share.amount ≡ events },
+}
+
+/// A run that is under way, with the book of its events.
+#[derive(Drop)]
+pub struct Locked<D: Device, L: Ledger> {
+    live: Live,
+    events: Book<L>,
+    // How many events of threads there may be, and how many there are.
+    limit: u64,
+    turns: u64,
+    // Whether memory was refused.
+    memory: bool,
+    // Whether a thread sleeps until there is an event more.
+    awaited: bool,
+    of: PhantomData<D>,
+}
+
+// Clauses see the run, its turns, their limit, and whether memory was refused.
+impl<D: Device, L: Ledger> Model for Locked<D, L> {
+    ghost use Rattle.std.specs.Prelude.{◌≡◌, length, count_by};
+    ghost use Rattle.rc_run.specs.Reports.{AllGiven, is_turn};
+    ghost use Rattle.rc_run.specs.Table.{Table};
+
+    ghost Value = { Table };
+
+    ghost view = { λ s. record { run = s.live; turns = s.turns; limit = s.limit; memory = s.memory } };
+
+    ghost invariant = { λ s.
+        (length s.live.history ≡ s.events.total) × AllGiven D.gives s.live.history
+        × (s.turns ≡ count_by is_turn s.live.history) };
+}
+
+impl<D: Device, L: Ledger> Locked<D, L> {
+    /// A run with no event, and a book of none.
+    pub fn new(live: Live, events: Book<L>, limit: u64) -> Locked<D, L>
+        requires live { live.history ≡ [] }
+        requires total { events.total ≡ 0 }
+        ensures { result.run ≡ live }
+    {
+        Locked {
+            live,
+            events,
+            limit,
+            turns: 0,
+            memory: false,
+            awaited: false,
+            of: PhantomData,
+        }
+    }
+
+    /// How many events there are.
+    pub fn len(&self) -> usize
+        ensures { result ≡ length self.now.run.history }
+    {
+        self.live.history().len()
+    }
+
+    /// How many requests are queued.
+    pub fn queued(&self) -> u32
+        ensures value { result ≡ length self.now.run.world.queued }
+        ensures few { result ≤ 1024 }
+    {
+        self.live.queued()
+    }
+
+    /// Makes the next statement of a thread, and counts it. None where the limit is reached or memory was refused.
+    pub fn turn(&mut self, thread: u32, take: i32, mine: &mut Counted<L>) -> Option<Turn>
+        requires { negsuc 4094 ≤ℤ take }
+        ensures some { IfSome result (λ t. Turned self.old.run thread take t self.new.run) }
+        ensures none { IfNone result (self.new.run ≡ self.old.run) }
+    {
+        if self.memory || self.turns >= self.limit {
+            return None;
+        }
+        let Counted {
+            events: count,
+            share,
+        } = mine;
+        match self.live.turn(thread, take) {
+            Ok(Turn::Done(event)) => {
+                let _len = self.live.history().len();
+                self.events.add(share, 1);
+                self.events.audit(share);
+                *count += 1;
+                self.turns += 1;
+                Some(Turn::Done(event))
+            }
+            Ok(Turn::Waits) => Some(Turn::Waits),
+            Ok(Turn::Ended) => Some(Turn::Ended),
+            Err(_) => {
+                self.memory = true;
+                None
+            }
+        }
+    }
+
+    /// Lends a job, if there is one. Where memory is refused that is noted.
+    pub fn take_job(&mut self, choice: u32) -> Option<Job>
+        ensures some { IfSome result (λ j. Lent self.old.run choice j self.new.run) }
+        ensures none { IfNone result (self.new.run ≡ self.old.run) }
+    {
+        match self.live.take_job(choice) {
+            Ok(job) => job,
+            Err(_) => {
+                self.memory = true;
+                None
+            }
+        }
+    }
+
+    /// Makes the result of a job an event, and counts it. A job that isn't out comes back.
+    pub fn post(&mut self, job: Job, res: i32, mine: &mut Counted<L>) -> Result<(), Job>
+        requires allowed { allows job res ≡ true }
+        requires given { D.gives job.request.user_data res ⊎ (res ≡ negsuc 11) }
+        ensures ok { OnOk result (Posted self.old.run job res self.new.run) }
+        ensures err { IfErr result (λ j. (j ≡ job) × (self.new.run ≡ self.old.run) × IsNotOut self.old.run job.request) }
+    {
+        let Counted {
+            events: count,
+            share,
+        } = mine;
+        match self.live.post(job, res) {
+            Ok(()) => {
+                let _len = self.live.history().len();
+                self.events.add(share, 1);
+                self.events.audit(share);
+                *count += 1;
+                Ok(())
+            }
+            Err(job) => Err(job),
+        }
+    }
+
+    /// Notes that memory was refused.
+    pub fn refuse(&mut self)
+        ensures { self.new.run ≡ self.old.run }
+    {
+        self.memory = true;
+    }
+
+    /// The run, whose events are those that were counted.
+    pub fn ledgered(self, all: &mut Share<L>) -> Live
+        requires { all.old.parts ≡ L.parts }
+        ensures live { result ≡ self.run }
+        ensures counted { length result.history ≡ all.old.amount }
+        ensures given { AllGiven D.gives result.history }
+    {
+        let Locked {
+            live,
+            mut events,
+            ..
+        } = self;
+        events.audit(all);
+        live
+    }
+
+    /// Whether the threads are to stop.
+    pub fn is_over(&self) -> bool {
+        self.is_stopped() || unended(&self.live).is_none()
+    }
+
+    /// Whether a worker has nothing to do yet.
+    pub fn is_idle(&self) -> bool {
+        self.live.free() == 0 && !self.is_over()
+    }
+
+    /// Whether a thread that saw so many events has something to wait for: that a request completes, or that another
+    /// thread makes an event.
+    pub fn may_wait(&self, thread: u32, seen: usize) -> bool {
+        self.len() == seen
+            && !self.is_stopped()
+            && (self.live.pending() > 0 || self.other_moves(thread))
+    }
+
+    /// Notes that a thread sleeps until there is an event more.
+    pub fn listen(&mut self)
+        ensures { self.new ≡ self.old }
+    {
+        self.awaited = true;
+    }
+
+    /// Whether a thread was noted to sleep since the last such question.
+    pub fn is_heard(&mut self) -> bool
+        ensures { self.new ≡ self.old }
+    {
+        let heard = self.awaited;
+        self.awaited = false;
+        heard
+    }
+
+    // Whether the limit is reached or memory was refused.
+    fn is_stopped(&self) -> bool {
+        self.memory || self.turns >= self.limit
+    }
+
+    // Whether another thread than this one can go on.
+    fn other_moves(&self, thread: u32) -> bool {
+        for other in 0..self.live.admitted().program().threads().len() as u32 {
+            if other == thread {
+                continue;
+            }
+            match self.live.next(other) {
+                Next::Ready(_) => return true,
+                Next::TakenLock => {}
+                Next::Ended => {}
+            }
+        }
+        false
+    }
+}
+
+/// A thread that hasn't ended.
+pub fn unended(live: &Live) -> Option<u32>
+    ensures { MatchOption result (AllEnded live.now.world) (IsUnended live.now.world) }
+{
+    live.promise();
+    for thread in 0..live.admitted().program().threads().len() as u32 {
+        match live.next(thread) {
+            Next::Ready(_) => return Some(thread),
+            Next::TakenLock => return Some(thread),
+            Next::Ended => {}
+        }
+    }
+    None
+}
