@@ -1,5 +1,6 @@
 //! The whole program, over any reader and writers.
 
+use crate::running::run_text;
 use crate::words::{Command, WordsFault, read_words};
 use rc_report::check_engine::check_engine;
 use rc_report::engine_fault::EngineFault;
@@ -7,8 +8,11 @@ use rc_report::step_engine::{StepEnd, step_engine};
 use rc_report::streams::{ReadSource, WriteSink};
 use rc_report::trace::End;
 use rc_report::verdict::Verdict;
+use rc_run::report::RunFault;
 use std::alloc::{AllocError, Global};
 use std::io::{BufWriter, Read, Write};
+use std::sync::Wait;
+use std::thread::Threads;
 use thiserror::Error;
 
 /// Accepted, ended or stopped without a fault, or shown.
@@ -20,6 +24,9 @@ pub const UNREADABLE_STATUS: u8 = 2;
 /// Wrong words, an unreadable schedule, an item that isn't enabled, memory, a limit, or a device that failed.
 pub const DEVICE_STATUS: u8 = 3;
 
+/// How many bytes of an answer are kept before they are written: as many as a pipe takes at once (`pipe(7)`).
+const OUTPUT_BUFFER: usize = 65536;
+
 /// Why the program has no answer.
 #[derive(Debug, Drop, Error)]
 pub enum CommandFault {
@@ -27,6 +34,8 @@ pub enum CommandFault {
     Words(#[from] WordsFault),
     #[error(transparent)]
     Engine(#[from] EngineFault),
+    #[error(transparent)]
+    Run(RunFault),
 }
 
 impl From<AllocError> for CommandFault {
@@ -37,15 +46,15 @@ impl From<AllocError> for CommandFault {
 
 /// Does what the words say, and answers the exit status. Answers go to the writer; wrong words, want of memory and
 /// devices that failed are told on one line of `errors`.
-pub fn command<'a, R, I: Read + Drop, O: Write + Drop, E: Write + Drop>(
-    _rt: &R,
+pub fn command<'a, R: Threads + Wait + Sync, I: Read + Drop, O: Write + Drop, E: Write + Drop>(
+    rt: &R,
     alloc: Global,
     words: &'a [&'a str],
     reader: I,
     writer: O,
     mut errors: E,
 ) -> u8 {
-    match answered(alloc, words, reader, writer) {
+    match answered(rt, alloc, words, reader, writer) {
         Ok(status) => status,
         Err(fault) => {
             let _ = writeln!(errors, "ringcheck: {fault}");
@@ -55,21 +64,25 @@ pub fn command<'a, R, I: Read + Drop, O: Write + Drop, E: Write + Drop>(
 }
 
 /// Does what the words say, over a buffer before the writer.
-fn answered<'a, I: Read + Drop, O: Write + Drop>(
+fn answered<'a, R: Threads + Wait + Sync, I: Read + Drop, O: Write + Drop>(
+    rt: &R,
     alloc: Global,
     words: &'a [&'a str],
     reader: I,
     writer: O,
 ) -> Result<u8, CommandFault> {
-    let mut buffered = BufWriter::new(alloc, writer).map_err(|_| EngineFault::OutOfMemory)?;
-    let answer = written(alloc, words, reader, &mut buffered);
+    let mut buffered = BufWriter::with_capacity(alloc, OUTPUT_BUFFER, writer).map_err(
+        |_| EngineFault::OutOfMemory,
+    )?;
+    let answer = written(rt, alloc, words, reader, &mut buffered);
     // What the writer didn't take isn't tried again.
     let (_writer, _rest) = buffered.into_parts();
     answer
 }
 
 /// Does what the words say, and sees that the answer is written.
-fn written<'a, I: Read + Drop, W: Write>(
+fn written<'a, R: Threads + Wait + Sync, I: Read + Drop, W: Write>(
+    rt: &R,
     alloc: Global,
     words: &'a [&'a str],
     reader: I,
@@ -78,6 +91,7 @@ fn written<'a, I: Read + Drop, W: Write>(
     let status = match read_words(alloc, words)? {
         Command::Check { json } => checked(alloc, reader, json, writer)?,
         Command::Step { schedule } => stepped(alloc, reader, schedule, writer)?,
+        Command::Run { seed, limit } => run_text(rt, alloc, reader, seed, limit, writer)?,
         Command::Show(text) => shown(text.as_str(), writer)?,
     };
     match writer.flush() {

@@ -7,6 +7,7 @@ mod checks;
 mod devices;
 mod long;
 mod programs;
+mod runs;
 mod steps;
 mod walks;
 mod words;
@@ -14,6 +15,8 @@ mod words;
 use crate::command::command;
 use std::alloc::Global;
 use std::process::Abort;
+use std::sync::Wait;
+use std::thread::Threads;
 
 /// What the program is run on, and what it must write.
 #[derive(Clone, Copy)]
@@ -25,7 +28,7 @@ struct Case {
     status: u8,
 }
 
-fn run_as(rt: &impl Abort, alloc: Global, cases: &[Case]) {
+fn run_as(rt: &(impl Abort + Threads + Wait + Sync), alloc: Global, cases: &[Case]) {
     for case in cases {
         let mut writer = Vec::new(alloc);
         let mut errors = Vec::new(alloc);

@@ -1,11 +1,17 @@
 //! The words of the command line.
 
+ghost use Rattle.std.specs.Prelude.{IfOk};
+ghost use Rattle.rc_main.specs.Words.{HasRanges};
+
 use clap::error::ErrorKind;
-use clap::{Arg, ArgAction, ArgMatches};
+use clap::{Arg, ArgAction, ArgMatches, value_parser};
 use std::alloc::{AllocError, Global};
 use thiserror::Error;
 
 const VERSION: &str = "0.1.0";
+
+/// The most events that threads may be allowed.
+const MOST_EVENTS: u32 = 1_000_000;
 
 /// What the program is asked to do.
 #[derive(Debug, Drop)]
@@ -14,6 +20,8 @@ pub enum Command<'a> {
     Check { json: bool },
     /// Step the program through this schedule.
     Step { schedule: &'a str },
+    /// Run the program on threads: with the choices of this seed, and at most so many events of its threads, from 1.
+    Run { seed: u32, limit: u32 },
     /// Show this text: help, or the version.
     Show(String),
 }
@@ -59,6 +67,26 @@ fn described_step<'a>(alloc: Global) -> Result<clap::Command<'a>, AllocError> {
         .arg(schedule)
 }
 
+/// The words of `run`.
+fn described_run<'a>(alloc: Global) -> Result<clap::Command<'a>, AllocError> {
+    let seed = Arg::new(alloc, "seed")
+        .long("seed")
+        .value_name("N")
+        .required(true)
+        .value_parser(value_parser!(u32))
+        .help("What the choices are made by, from 0 to 4294967295");
+    let limit = Arg::new(alloc, "limit")
+        .long("limit")
+        .value_name("N")
+        .required(true)
+        .value_parser(value_parser!(u32).range(1..=1000000))
+        .help("How many events its threads may make, from 1 to 1000000");
+    clap::Command::new(alloc, "run")
+        .about("Run the program on standard input on threads, and print the trace")
+        .arg(seed)?
+        .arg(limit)
+}
+
 /// The words that the program takes.
 fn described<'a>(alloc: Global) -> Result<clap::Command<'a>, AllocError> {
     clap::Command::new(alloc, "ringcheck")
@@ -67,32 +95,52 @@ fn described<'a>(alloc: Global) -> Result<clap::Command<'a>, AllocError> {
         .no_binary_name(true)
         .subcommand_required(true)
         .subcommand(described_check(alloc)?)?
-        .subcommand(described_step(alloc)?)
+        .subcommand(described_step(alloc)?)?
+        .subcommand(described_run(alloc)?)
 }
 
 /// Reads the words behind the program's name.
-pub fn read_words<'a>(alloc: Global, words: &'a [&'a str]) -> Result<Command<'a>, WordsFault> {
+pub fn read_words<'a>(alloc: Global, words: &'a [&'a str]) -> Result<Command<'a>, WordsFault>
+    ensures { IfOk result HasRanges }
+{
     match described(alloc)?.try_get_matches_from(words) {
-        Ok(matches) => Ok(command_of(&matches)),
+        Ok(matches) => command_of(alloc, &matches),
         Err(error) => shown_or_wrong(alloc, &error),
     }
 }
 
 /// The command of words that were taken: there is one subcommand.
-fn command_of<'a>(matches: &ArgMatches<'a>) -> Command<'a> {
+fn command_of<'a>(alloc: Global, matches: &ArgMatches<'a>) -> Result<Command<'a>, WordsFault>
+    ensures { IfOk result HasRanges }
+{
     match matches.subcommand() {
-        Some(("check", check)) => Command::Check {
+        Some(("check", check)) => Ok(Command::Check {
             json: check.get_flag("json"),
-        },
-        Some((_, step)) => Command::Step {
+        }),
+        Some(("run", run)) => run_of(alloc, run),
+        Some((_, step)) => Ok(Command::Step {
             schedule: step.get_str("schedule").unwrap_or(""),
-        },
-        None => Command::Step { schedule: "" },
+        }),
+        None => Ok(Command::Step { schedule: "" }),
     }
 }
 
+/// The command `run`. That its numbers are there and in their ranges was seen before.
+fn run_of<'a>(alloc: Global, run: &ArgMatches<'a>) -> Result<Command<'a>, WordsFault>
+    ensures { IfOk result HasRanges }
+{
+    let seed = run.get_one::<u32>("seed").unwrap_or(0);
+    let limit = run.get_one::<u32>("limit").unwrap_or(0);
+    if limit < 1 || limit > MOST_EVENTS {
+        return Err(WordsFault::Wrong(format!(in alloc; "{limit} is no limit")?));
+    }
+    Ok(Command::Run { seed, limit })
+}
+
 /// Help and the version are shown; of any other error the first line is told.
-fn shown_or_wrong<'a>(alloc: Global, error: &clap::Error) -> Result<Command<'a>, WordsFault> {
+fn shown_or_wrong<'a>(alloc: Global, error: &clap::Error) -> Result<Command<'a>, WordsFault>
+    ensures { IfOk result HasRanges }
+{
     let text = format!(in alloc; "{error}")?;
     match error.kind() {
         ErrorKind::DisplayHelp | ErrorKind::DisplayVersion => Ok(Command::Show(text)),

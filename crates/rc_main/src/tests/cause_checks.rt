@@ -4,6 +4,8 @@ use super::cause_texts as texts;
 use crate::command::command;
 use std::alloc::Global;
 use std::process::Abort;
+use std::sync::Wait;
+use std::thread::Threads;
 
 /// A text, its verdict and the status.
 type Judged = (&'static str, &'static str, u8);
@@ -86,7 +88,7 @@ const JUDGED: &[Judged] = &[
     ),
 ];
 
-fn judge_all(rt: &impl Abort, alloc: Global, rows: &[Judged]) {
+fn judge_all(rt: &(impl Abort + Threads + Wait + Sync), alloc: Global, rows: &[Judged]) {
     for (text, verdict, wanted) in rows {
         let mut writer = Vec::new(alloc);
         let mut errors = Vec::new(alloc);

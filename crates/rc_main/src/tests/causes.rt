@@ -5,6 +5,8 @@ use crate::command::command;
 use std::alloc::Global;
 use std::process::Abort;
 use std::str;
+use std::sync::Wait;
+use std::thread::Threads;
 
 /// What the program is run on, the last line that it must write, and its status.
 #[derive(Clone, Copy)]
@@ -15,7 +17,7 @@ struct Stepped {
     status: u8,
 }
 
-fn step_all(rt: &impl Abort, alloc: Global, rows: &[Stepped]) {
+fn step_all(rt: &(impl Abort + Threads + Wait + Sync), alloc: Global, rows: &[Stepped]) {
     for row in rows {
         let mut writer = Vec::new(alloc);
         let mut errors = Vec::new(alloc);

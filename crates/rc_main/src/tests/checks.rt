@@ -4,6 +4,8 @@ use super::programs;
 use crate::command::command;
 use std::alloc::Global;
 use std::process::Abort;
+use std::sync::Wait;
+use std::thread::Threads;
 
 /// What the program is run on, and what it must write.
 #[derive(Clone, Copy)]
@@ -14,7 +16,14 @@ struct Checked {
     status: u8,
 }
 
-fn check_as(rt: &impl Abort, alloc: Global, words: &[&str], text: &str, output: &str, wanted: u8) {
+fn check_as(
+    rt: &(impl Abort + Threads + Wait + Sync),
+    alloc: Global,
+    words: &[&str],
+    text: &str,
+    output: &str,
+    wanted: u8,
+) {
     let mut writer = Vec::new(alloc);
     let mut errors = Vec::new(alloc);
     let status = command(rt, alloc, words, text.as_bytes(), &mut writer, &mut errors);
@@ -23,7 +32,7 @@ fn check_as(rt: &impl Abort, alloc: Global, words: &[&str], text: &str, output: 
     assert_eq!(rt; status, wanted, "status at {output}");
 }
 
-fn check_all(rt: &impl Abort, alloc: Global, rows: &[Checked]) {
+fn check_all(rt: &(impl Abort + Threads + Wait + Sync), alloc: Global, rows: &[Checked]) {
     for row in rows {
         check_as(rt, alloc, &["check"], row.text, row.verdict, row.status);
         check_as(

@@ -5,6 +5,8 @@ use crate::command::command;
 use std::alloc::Global;
 use std::io::{self, ErrorKind, Read, Write};
 use std::process::Abort;
+use std::sync::Wait;
+use std::thread::Threads;
 
 const SCHEDULE: &[&str] = &["step", "--schedule", "t0,t0,t0,t0,t0,k:7=0,t0,t0,t0"];
 
@@ -72,7 +74,12 @@ impl Write for Narrow {
     }
 }
 
-fn reader_fails(rt: &impl Abort, alloc: Global, words: &[&str], pieces: u32) {
+fn reader_fails(
+    rt: &(impl Abort + Threads + Wait + Sync),
+    alloc: Global,
+    words: &[&str],
+    pieces: u32,
+) {
     let mut writer = Vec::new(alloc);
     let mut errors = Vec::new(alloc);
     let reader = Cut {
@@ -106,7 +113,7 @@ const ANSWERED: [Answered; 3] = [
 ];
 
 fn writer_fails(
-    rt: &impl Abort,
+    rt: &(impl Abort + Threads + Wait + Sync),
     alloc: Global,
     words: &[&str],
     answer: &[u8],

@@ -47,6 +47,25 @@ none {
 
 pub const EMPTY_THREAD: &str = "ringcheck 1\nring 1\nthread t0 holds {\n}\n";
 
+pub const DEAD: &str = "ringcheck 1
+ring 1
+token 7 nop
+thread t0 holds t:7 c:1 {
+lock {
+peek_cqe r {
+case 7 {
+cqe_seen
+cqe_seen
+}
+other {
+}
+none {
+}
+}
+}
+}
+";
+
 pub const DRAIN: &str = "ringcheck 1
 ring 1
 token 7 nop
@@ -419,25 +438,6 @@ loop keeps a:1 t:7 c:1 q:0 {
 get_sqe
 prep_read 3 a 1 0
 set_data64 7
-}
-}
-}
-";
-
-pub const DEAD: &str = "ringcheck 1
-ring 1
-token 7 nop
-thread t0 holds t:7 c:1 {
-lock {
-peek_cqe r {
-case 7 {
-cqe_seen
-cqe_seen
-}
-other {
-}
-none {
-}
 }
 }
 }

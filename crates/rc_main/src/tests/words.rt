@@ -57,6 +57,7 @@ Usage: ringcheck <COMMAND>
 Commands:
   check  Check the program on standard input, and print the verdict
   step   Step the program on standard input through a schedule, and print the trace
+  run    Run the program on standard input on threads, and print the trace
   help   Print this message or the help of the given subcommand(s)
 
 Options:
