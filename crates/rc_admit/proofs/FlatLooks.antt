@@ -15,7 +15,7 @@ use Rattle.rc_rules.specs.declared.mode.Peeked.TheVariants.{Unseen}
 use Rattle.rc_rules.specs.Labels.{Label, Weaker, WeakerThanEach}
 use Rattle.rc_rules.specs.Labellings.{arm_end, arm_ends, break_end, break_ends, label_at}
 use Rattle.rc_rules.specs.Rules.{broken, peek_at}
-use Rattle.rc_world.specs.Controls.{arm_for, arms_of, is_case, is_none_arm, is_other, none_arm, place_of}
+use Rattle.rc_world.specs.Controls.{arm_for, arms_of, first_place, is_case, is_none_arm, is_other, none_arm}
 use Rattle.rc_admit.proofs.FlatRules.{and_left, and_right}
 
 -- ---- lists
@@ -48,7 +48,7 @@ module _ (test : Stmt → Bool) (lines : List Line) where
   abbrev passes : Line → Bool
   passes l = test l.stmt
 
-  place_there : (k : ℕ) (l : Line) → slice_get lines k ≡ Some l → test l.stmt ≡ true → (j : ℕ) × (place_of test lines ≡ Some j)
+  place_there : (k : ℕ) (l : Line) → slice_get lines k ≡ Some l → test l.stmt ≡ true → (j : ℕ) × (first_place test lines ≡ Some j)
   place_there k l e h = (position_or_len passes lines, found (ltb (position_or_len passes lines) (length lines)) refl)
     where
       found : (x : Bool) → ltb (position_or_len passes lines) (length lines) ≡ x → cond x (Some (position_or_len passes lines)) None ≡ Some (position_or_len passes lines)
@@ -60,7 +60,7 @@ module _ (test : Stmt → Bool) (lines : List Line) where
           let g : passes (get_or lines k l) ≡ true = ap passes (get_or_from_slice_get lines k l l e) ∙ h in
           absurd (cc)
 
-  place_passes : (j : ℕ) (d : Line) → place_of test lines ≡ Some j → (l : Line) × (slice_get lines j ≡ Some l) × (test l.stmt ≡ true)
+  place_passes : (j : ℕ) (d : Line) → first_place test lines ≡ Some j → (l : Line) × (slice_get lines j ≡ Some l) × (test l.stmt ≡ true)
   place_passes j d e = let f = position-Some passes lines j d e in (get_or lines j d, slice_get-get_or lines j d f.0, f.1)
 
 -- ---- the arms of a peek
@@ -92,12 +92,12 @@ module _ (P : Program) (i o : ℕ) where
       let n : o + (p - o) ≡ p = omega arith in
       get_take (end_at P i o - o) (p - o) (drop o (lines_of P i)) l (omega arith) (get_drop o (p - o) (lines_of P i) ∙ ap (λ j. slice_get (lines_of P i) j) n ∙ e)
 
-  found : (test : Stmt → Bool) (j : ℕ) (d : Line) → place_of test (arms_of P i o) ≡ Some j → (s : Stmt) × (stmt_at (lines_of P i) (o + j) ≡ Some s) × (test s ≡ true)
+  found : (test : Stmt → Bool) (j : ℕ) (d : Line) → first_place test (arms_of P i o) ≡ Some j → (s : Stmt) × (stmt_at (lines_of P i) (o + j) ≡ Some s) × (test s ≡ true)
   found test j d e =
       let f = place_passes test (arms_of P i o) j d e in
       (f.0.stmt, ap stmt_of (sym (get_drop o j (lines_of P i)) ∙ get_taken (end_at P i o - o) j (drop o (lines_of P i)) f.0 f.1), f.2)
 
-  there : (test : Stmt → Bool) (p : ℕ) (s : Stmt) → IsBetween p s → test s ≡ true → (j : ℕ) × (t : Stmt) × (place_of test (arms_of P i o) ≡ Some j) × (stmt_at (lines_of P i) (o + j) ≡ Some t) × (test t ≡ true)
+  there : (test : Stmt → Bool) (p : ℕ) (s : Stmt) → IsBetween p s → test s ≡ true → (j : ℕ) × (t : Stmt) × (first_place test (arms_of P i o) ≡ Some j) × (stmt_at (lines_of P i) (o + j) ≡ Some t) × (test t ≡ true)
   there test p s b h =
       let l = line_with (lines_of P i) p s b.stands in
       let j = place_there test (arms_of P i o) (p - o) l.0 (among p l.0 l.1 b.behind b.before) (ap test l.2 ∙ h) in
@@ -106,20 +106,20 @@ module _ (P : Program) (i o : ℕ) where
 
   -- A completion leads into an arm for its user data, or into that for any other,
   pub arm_is : (u p : ℕ) → IsBetween p (Other o) → (stmt_at (lines_of P i) (arm_for P i o u) ≡ Some (Case o u)) ⊎ (stmt_at (lines_of P i) (arm_for P i o u) ≡ Some (Other o))
-  arm_is u p b = go (place_of (is_case o u) (arms_of P i o)) refl
+  arm_is u p b = go (first_place (is_case o u) (arms_of P i o)) refl
     where
-      go : (x : Option ℕ) → place_of (is_case o u) (arms_of P i o) ≡ x → (stmt_at (lines_of P i) (o + unwrap_or x (unwrap_or (place_of (is_other o) (arms_of P i o)) 0)) ≡ Some (Case o u)) ⊎ (stmt_at (lines_of P i) (o + unwrap_or x (unwrap_or (place_of (is_other o) (arms_of P i o)) 0)) ≡ Some (Other o))
+      go : (x : Option ℕ) → first_place (is_case o u) (arms_of P i o) ≡ x → (stmt_at (lines_of P i) (o + unwrap_or x (unwrap_or (first_place (is_other o) (arms_of P i o)) 0)) ≡ Some (Case o u)) ⊎ (stmt_at (lines_of P i) (o + unwrap_or x (unwrap_or (first_place (is_other o) (arms_of P i o)) 0)) ≡ Some (Other o))
       go (Some j) e = let f = found (is_case o u) j (line_with (lines_of P i) p (Other o) b.stands).0 e in inl (f.1 ∙ ap Some (case_is o u f.0 f.2))
       go None e =
           let f = there (is_other o) p (Other o) b (eq-eqb o o refl) in
-          let w : unwrap_or (place_of (is_other o) (arms_of P i o)) 0 ≡ f.0 = ap (λ x. unwrap_or x 0) f.2 in
+          let w : unwrap_or (first_place (is_other o) (arms_of P i o)) 0 ≡ f.0 = ap (λ x. unwrap_or x 0) f.2 in
           inr (ap (λ j. stmt_at (lines_of P i) (o + j)) w ∙ f.3 ∙ ap Some (other_is o f.1 f.4))
 
   -- and none leads into that for none.
   pub none_is_at : (p : ℕ) → IsBetween p (Nothing o) → stmt_at (lines_of P i) (none_arm P i o) ≡ Some (Nothing o)
   none_is_at p b =
       let f = there (is_none_arm o) p (Nothing o) b (eq-eqb o o refl) in
-      let w : unwrap_or (place_of (is_none_arm o) (arms_of P i o)) 0 ≡ f.0 = ap (λ x. unwrap_or x 0) f.2 in
+      let w : unwrap_or (first_place (is_none_arm o) (arms_of P i o)) 0 ≡ f.0 = ap (λ x. unwrap_or x 0) f.2 in
       ap (λ j. stmt_at (lines_of P i) (o + j)) w ∙ f.3 ∙ ap Some (none_is o f.1 f.4)
 
 -- ---- ends of arms, and breaks

@@ -19,7 +19,7 @@ use Rattle.rc_world.specs.declared.world.Slot.{Slot}
 use Rattle.rc_world.specs.declared.world.Slot.TheVariants.{Closed, Vacant, Prepared}
 use Rattle.rc_world.specs.Controls.{Controls, Standing, controls_step, low_byte, next_line, variable}
 use Rattle.rc_world.specs.Faults.{count_of, fault_of, has_data, is_in_flight}
-use Rattle.rc_world.specs.Machine.{Pending, World, answer_of, brings, bytes_of, completion_of, count_in, fills, fits, given_back, hands_over, in_rings, is_take, kernel_event, kernel_step, kernel_step_of, op_in_rings, opens_entry, prepares, queues, reaps_front, start_world, stores, submits_by, thread_step, thread_step_at, with_bytes, with_controls, without, without_data}
+use Rattle.rc_world.specs.Machine.{Pending, World, bytes_brought, bytes_of, completion_of, count_in, fills, fits_buffer, given_back, hands_over, in_rings, is_take, kernel_event, kernel_step, kernel_step_of, op_in_rings, opens_entry, prepares, queues, reaps_front, start_world, stmt_answer, stores, submits_by, thread_step, thread_step_at, with_bytes, with_controls, without, without_data}
 use Rattle.rc_world.specs.Runs.{IsRun}
 use Rattle.rc_admit.specs.Worlds.{DataIsOne, in_flight_with}
 use Rattle.rc_admit.proofs.Lists.{sum_over, sum_over-cut, sum_over-map, sum_over-without}
@@ -115,7 +115,7 @@ module _ (w : World) (h : IsTidy w) where
 
   prepares_tidy : (r : Request) (x : Slot) → Tidy (prepares w r x)
   prepares_tidy r Closed = tt
-  prepares_tidy r Vacant = go (fits w.program r)
+  prepares_tidy r Vacant = go (fits_buffer w.program r)
     where
       go : (y : Bool) → Tidy (if y then Some (record w { slot = Prepared r }) else None)
       go true = same (Prepared r) w.buffers
@@ -219,7 +219,7 @@ module _ (w : World) (h : IsTidy w) where
       go : (x : Option Standing) (y : Option Line) → next_line w.program w.controls i ≡ y → TidyStep (thread_step_at w i r x y)
       go None y f = tt
       go (Some t) None f = tt
-      go (Some t) (Some l) f = controls_tidy (in_rings w t r l.stmt) (line_tidy i t r l.stmt (λ u e. none_in_flight w none i u (l, f, e))) (controls_step w.program w.controls i (answer_of w r l.stmt))
+      go (Some t) (Some l) f = controls_tidy (in_rings w t r l.stmt) (line_tidy i t r l.stmt (λ u e. none_in_flight w none i u (l, f, e))) (controls_step w.program w.controls i (stmt_answer w r l.stmt))
 
   kernel_tidy : (k : ℕ) (res : ℤ) (bytes : List ℕ) → TidyStep (kernel_step w k res bytes)
   kernel_tidy k res bytes = go (slice_get w.pending k) refl
@@ -241,7 +241,7 @@ module _ (w : World) (h : IsTidy w) where
 
       go : (x : Option Pending) → slice_get w.pending k ≡ x → TidyStep (kernel_step_of w k res bytes x)
       go None e = tt
-      go (Some x) e = tested x e (may_complete x.request res && nat_eq (length bytes) (brings x.request))
+      go (Some x) e = tested x e (may_complete x.request res && nat_eq (length bytes) (bytes_brought x.request))
 
 pub run_tidy : (events : List Event) (w after : World) → IsTidy w → IsRun w events after → IsTidy after
 run_tidy [] w after h r = subst IsTidy r h

@@ -15,7 +15,7 @@ use Rattle.rc_world.specs.declared.event.Completion.{Completion}
 use Rattle.rc_world.specs.declared.event.Event.{Event}
 use Rattle.rc_world.specs.Controls.{Controls, Move, Standing, acts, acts_on, as_event, made, next_at, next_line}
 use Rattle.rc_world.specs.Faults.{is_holder}
-use Rattle.rc_world.specs.Machine.{Pending, World, answer_of, brings, completes, completion_of, given_back, in_rings, kernel_event, kernel_step, kernel_step_of, thread_step, thread_step_at, with_controls, without}
+use Rattle.rc_world.specs.Machine.{Pending, World, bytes_brought, completes, completion_of, given_back, in_rings, kernel_event, kernel_step, kernel_step_of, stmt_answer, thread_step, thread_step_at, with_controls, without}
 use Rattle.rc_admit.proofs.Lists.{sum_to, sum_over, sum_over-append, sum_over-without, Each-append, Each-without, Each-get}
 use Rattle.rc_admit.proofs.Ops.{Keeps}
 use Rattle.rc_admit.proofs.Owned.{Stand, HasEdge, EdgeAt, owns, owns_pending, in_flight, FrontFits, Fits, held, HasKind, HasKindPending, WellOwned}
@@ -78,7 +78,7 @@ kernel_keeps P S w k res bytes h = go (slice_get w.pending k) refl
 
     go : (x : Option Pending) → slice_get w.pending k ≡ x → KeepsStep P S (kernel_step_of w k res bytes x)
     go None e = tt
-    go (Some x) e = tested x e (may_complete x.request res && nat_eq (length bytes) (brings x.request))
+    go (Some x) e = tested x e (may_complete x.request res && nat_eq (length bytes) (bytes_brought x.request))
 
 -- ---- a thread
 
@@ -96,9 +96,9 @@ own_step S w i r edge h = go (slice_get w.controls.threads i) refl (next_line w.
     go (Some t) e (Some l) f =
         let at : stmt_of (slice_get (lines_of w.program i) t.place) ≡ Some l.stmt = ap stmt_of (ap (λ x. next_at w.program i x) (sym e) ∙ f) in
         let line = line_keeps w.program S edge w h.0 h.1 i t r h.2 e l.stmt (subst (λ x. EdgeAt w.program S i (h.0 i) (h.1 i) t.variables t.place x) at (edge i (h.0 i) (h.1 i) t.variables t.place (h.2.stands i t e))) in
-        subst (λ x. KeepsStep w.program S (with_controls (in_rings w t r l.stmt) (acts_on w.program w.controls i (answer_of w r l.stmt) x (next_line w.program w.controls i)))) (sym e)
-        (subst (λ y. KeepsStep w.program S (with_controls (in_rings w t r l.stmt) (acts_on w.program w.controls i (answer_of w r l.stmt) (Some t) y))) (sym f)
-        (event_keeps w.program S w.controls i l (in_rings w t r l.stmt) (acts w.program w.controls i t l.stmt (answer_of w r l.stmt)) line))
+        subst (λ x. KeepsStep w.program S (with_controls (in_rings w t r l.stmt) (acts_on w.program w.controls i (stmt_answer w r l.stmt) x (next_line w.program w.controls i)))) (sym e)
+        (subst (λ y. KeepsStep w.program S (with_controls (in_rings w t r l.stmt) (acts_on w.program w.controls i (stmt_answer w r l.stmt) (Some t) y))) (sym f)
+        (event_keeps w.program S w.controls i l (in_rings w t r l.stmt) (acts w.program w.controls i t l.stmt (stmt_answer w r l.stmt)) line))
 
 pub thread_keeps : (P : Program) (S : Stand) → HasEdge P S → (w : World) (i : ℕ) (r : ℤ) → WellOwned P S w → KeepsStep P S (thread_step w i r)
 thread_keeps P S edge w i r h = subst (λ Q. KeepsStep Q S (thread_step w i r)) h.2.of (own_step S w i r (subst (λ Q. HasEdge Q S) (sym h.2.of) edge) (subst (λ Q. WellOwned Q S w) (sym h.2.of) h))

@@ -25,7 +25,7 @@ use Rattle.rc_world.specs.declared.world.Slot.{Slot as Entry}
 use Rattle.rc_world.specs.declared.world.Slot.TheVariants as entries
 use Rattle.rc_world.specs.Controls.{Controls, Move, Standing, does, goes_on, loads, low_byte, moved, reaps, variable}
 use Rattle.rc_world.specs.Faults.{is_holder}
-use Rattle.rc_world.specs.Machine.{Pending, World, all_begin, begins, bytes_of, byte_of, count_in, fills, fits, front_of, hands_over, is_take, op_answer, op_in_rings, opens_entry, prepares, queues, reaps_front, slot_len, stores, submits_by, taken_bytes, with_bytes, without_data}
+use Rattle.rc_world.specs.Machine.{Pending, World, all_begin, begins, bytes_of, byte_of, count_in, fills, fits_buffer, front_of, hands_over, is_take, op_answer, op_in_rings, opens_entry, prepares, queues, reaps_front, slot_len, stores, submits_by, taken_bytes, with_bytes, without_data}
 use Rattle.rc_admit.proofs.Lists.{sum_over, sum_over-append, sum_over-cut, sum_over-map, nat_eq_cases, Each, Each-append, Each-take, Each-drop, Each-map}
 use Rattle.rc_admit.proofs.Moves.{Moved, moves, put, rung_moved, fits_parts}
 use Rattle.rc_admit.proofs.Owned.{Stand, Leads, MayBecome, HasEdge, slot_bag, owns, owns_pending, FitsKind, SlotFits, StartsWith, IsNonempty, FrontFits, Fits, HasKind, HasKindPending, data_of, data_in, Owned, WellOwned, locked_of}
@@ -296,7 +296,7 @@ module _ (P : Program) (S : Stand) (edge : HasEdge P S) (w : World) (bags : ℕ 
   prep_keeps : (s : Inside) (action : Action) (kind : TokenKind) (q : Request) (x : Entry) → modes i ≡ Locked s → FitsKind q kind → ((p : Part) → kind_bag P kind p ≤ bags i p) → s.slot ≡ Vacant → Leads S i (minus (bags i) (kind_bag P kind)) (Locked (record s { slot = Prepared kind })) t.variables (t.place + 1) → Keeps P S w.controls i (prepares w q x) (Some (goes_on w.controls t action))
   prep_keeps s action kind q entries.Closed e k c f l = tt
   prep_keeps s action kind q (entries.Prepared y) e k c f l = tt
-  prep_keeps s action kind q entries.Vacant e k c f l = go (fits w.program q)
+  prep_keeps s action kind q entries.Vacant e k c f l = go (fits_buffer w.program q)
     where
       go : (y : Bool) → Keeps P S w.controls i (if y then Some (record w { slot = entries.Prepared q }) else None) (Some (goes_on w.controls t action))
       go true = goes _ t.variables _ _ (prep P S w bags modes i o s e kind q k c f) l

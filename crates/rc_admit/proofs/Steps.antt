@@ -22,7 +22,7 @@ use Rattle.rc_world.specs.declared.event.Completion.{Completion}
 use Rattle.rc_world.specs.declared.world.Slot.TheVariants as entries
 use Rattle.rc_world.specs.Controls.{Standing, acts, arm_for, breaks, compares, decides, locks, none_arm, peeks}
 use Rattle.rc_world.specs.Faults.{is_holder}
-use Rattle.rc_world.specs.Machine.{World, answer_of, front_of, in_rings, slot_len, test_answer, used_entries}
+use Rattle.rc_world.specs.Machine.{World, front_of, in_rings, slot_len, stmt_answer, test_answer, used_entries}
 use Rattle.rc_admit.proofs.Lists.{sum_to, sum_over, sum_to_one, nat_eq_cases, get_within}
 use Rattle.rc_admit.proofs.Moves.{Moved, moves, put, rung_moved, fits_parts, fits_made, holder_one, with_lock}
 use Rattle.rc_admit.proofs.Ops.{Keeps, slot_closed, op_keeps, quiet, has, agree_head}
@@ -175,7 +175,7 @@ module _ (P : Program) (S : Stand) (edge : HasEdge P S) (w : World) (bags : ℕ 
   break_keeps (Locked s) false l p e h = goes _ _ _ _ _ (knows P S w bags modes i o (if l then false else w.controls.peeked) s (record s { peeked = Unseen }) e refl (has P S w bags modes i o s e).0 tt) h.1
   break_keeps (Locked s) true l p e h = goes _ _ _ _ _ (frees P S w bags modes i o (if l then false else w.controls.peeked) s e h.0 h.1) h.2
 
-  pub line_keeps : (s : Stmt) → EdgeAt P S i (bags i) (modes i) t.variables t.place (Some s) → Keeps P S w.controls i (in_rings w t r s) (acts P w.controls i t s (answer_of w r s))
+  pub line_keeps : (s : Stmt) → EdgeAt P S i (bags i) (modes i) t.variables t.place (Some s) → Keeps P S w.controls i (in_rings w t r s) (acts P w.controls i t s (stmt_answer w r s))
   line_keeps (Else p) h = tt
   line_keeps (EndIf p) h = tt
   line_keeps (Case p u) h = tt

@@ -17,9 +17,9 @@ use Rattle.rc_world.specs.declared.world.Slot.{Slot}
 use Rattle.rc_world.specs.declared.world.Slot.TheVariants.{Closed, Vacant, Prepared}
 use Rattle.rc_world.specs.Controls.{Controls, Standing, controls_step, next_line}
 use Rattle.rc_world.specs.Faults.{Access, access_at, access_by, access_of, clash, clashes, clashes_with, conflicts, count_of, fault_of, front_is_one, has_buffer, has_data, has_fault, in_kernel, is_closed, is_holder, is_in_flight, is_prepared, is_raw_at, is_ring_call, is_vacant, names, overflows, races_from, reads_into}
-use Rattle.rc_world.specs.Machine.{Pending, World, answer_of, in_rings, is_read, reaps_front, thread_step, thread_step_at, used_entries, with_controls, without_data}
+use Rattle.rc_world.specs.Machine.{Pending, World, in_rings, is_read, reaps_front, stmt_answer, thread_step, thread_step_at, used_entries, with_controls, without_data}
 use Rattle.rc_world.proofs.LawFaultless.{none_at, none_in_kernel, none_of_kind}
-use Rattle.rc_admit.specs.Worlds.{DataIsFresh, CallsUnderLock, EachReapsOne, EntrySuits, Fills, FindsEntry, HasRoom, IsNext, IsPending, Names, NoKernelClash, NoReadOfFilling, NoThreadRace, NoWriteOfPending, OfSafeWorlds, Reads, StaysWithinBuffers, Suits, Writes}
+use Rattle.rc_admit.specs.Worlds.{DataIsFresh, CallsUnderLock, EachReapsOne, EntrySuits, Fills, FindsEntry, HasRoom, IsNext, IsPending, Names, NoKernelClash, NoReadOfFilling, NoThreadRace, NoWriteOfPending, OfSafeWorlds, ReadsBuffer, StaysWithinBuffers, Suits, WritesBuffer}
 use Rattle.rc_admit.proofs.Excludes.{next_is}
 use Rattle.rc_admit.proofs.Lists.{get_within}
 
@@ -78,15 +78,15 @@ clash_there (x ∷ ps) (suc j) (suc k) p q lt e f h = or_right (clashes_with x.r
 abbrev wrote : ℕ → Access
 wrote b = record { buffer = b; writes = true }
 
-writes_it : (op : Op) (b : ℕ) → Writes op b → access_by op ≡ Some (wrote b)
+writes_it : (op : Op) (b : ℕ) → WritesBuffer op b → access_by op ≡ Some (wrote b)
 writes_it (Store c j x) b e = ap (λ n. Some (wrote n)) e
 writes_it (Fill c x) b e = ap (λ n. Some (wrote n)) e
 writes_it _ b e = absurd e
 
-goes_there : (op : Op) (b : ℕ) → Writes op b ⊎ Reads op b → (a : Access) × (access_by op ≡ Some a) × (a.buffer ≡ b)
+goes_there : (op : Op) (b : ℕ) → WritesBuffer op b ⊎ ReadsBuffer op b → (a : Access) × (access_by op ≡ Some a) × (a.buffer ≡ b)
 goes_there op b h = elim h [ inl e ↦ (wrote b, writes_it op b e, refl) | inr e ↦ reads op e ]
   where
-    reads : (op : Op) → Reads op b → (a : Access) × (access_by op ≡ Some a) × (a.buffer ≡ b)
+    reads : (op : Op) → ReadsBuffer op b → (a : Access) × (access_by op ≡ Some a) × (a.buffer ≡ b)
     reads (Load x c j) e = (record { buffer = c; writes = false }, refl, e)
     reads _ e = absurd e
 
@@ -138,7 +138,7 @@ module _ (w : World) (none : fault_of w ≡ None) where
       bad : (c : ℕ) → c ≡ b → list_any (λ (x : Pending). names c x.request) w.pending ≡ false → ⊥
       bad c e f = let g : list_any (λ (x : Pending). names b x.request) w.pending ≡ false = subst (λ d. list_any (λ (x : Pending). names d x.request) w.pending ≡ false) e f in let h = is_there in absurd (cc)
 
-      go : (op : Op) → Writes op b → IsNext w i (Do op) → ⊥
+      go : (op : Op) → WritesBuffer op b → IsNext w i (Do op) → ⊥
       go (Store c j x) e m = bad c e (at WriteOfPending i (Do (Store c j x)) m)
       go (Fill c x) e m = bad c e (at WriteOfPending i (Do (Fill c x)) m)
       go _ e m = e
@@ -149,7 +149,7 @@ module _ (w : World) (none : fault_of w ≡ None) where
       is_there : list_any (λ (x : Pending). reads_into b x.request) w.pending ≡ true
       is_there = there k b r p (λ (x : Request). reads_into b x) (fills r b q)
 
-      go : (op : Op) → Reads op b → IsNext w i (Do op) → ⊥
+      go : (op : Op) → ReadsBuffer op b → IsNext w i (Do op) → ⊥
       go (Load x c j) e m =
           let f : list_any (λ (x : Pending). reads_into c x.request) w.pending ≡ false = at ReadOfFilling i (Do (Load x c j)) m in
           let g : list_any (λ (x : Pending). reads_into b x.request) w.pending ≡ false = subst (λ d. list_any (λ (x : Pending). reads_into d x.request) w.pending ≡ false) e f in
@@ -289,7 +289,7 @@ module _ (w : World) (none : fault_of w ≡ None) where
       let t = next_is w i n.0 n.1 in
       subst (λ x. Leaves c ds (thread_step_at w i r x (next_line w.program w.controls i))) (sym t.stands)
       (subst (λ y. Leaves c ds (thread_step_at w i r (Some t.thread) y)) (sym n.1)
-      (subst (λ s. Leaves c ds (with_controls (in_rings w t.thread r s) (controls_step w.program w.controls i (answer_of w r s)))) (sym n.2) (go t.thread (controls_step w.program w.controls i (answer_of w r (Do CqeSeen))))))
+      (subst (λ s. Leaves c ds (with_controls (in_rings w t.thread r s) (controls_step w.program w.controls i (stmt_answer w r s)))) (sym n.2) (go t.thread (controls_step w.program w.controls i (stmt_answer w r (Do CqeSeen))))))
     where
       after : (x : Option (Event × Controls)) → Leaves c ds (with_controls (Some (record w { completions = ds; completed = without_data c.user_data w.completed })) x)
       after None = tt

@@ -28,14 +28,14 @@ IsNext w i s = (l : Line) × (next_line w.program w.controls i ≡ Some l) × (l
 -- ---- buffers
 
 -- The statement writes the buffer, or reads it.
-abbrev pub Writes : Op → ℕ → Type 0
-Writes (Store c j x) b = c ≡ b
-Writes (Fill c x) b = c ≡ b
-Writes _ b = ⊥
+abbrev pub WritesBuffer : Op → ℕ → Type 0
+WritesBuffer (Store c j x) b = c ≡ b
+WritesBuffer (Fill c x) b = c ≡ b
+WritesBuffer _ b = ⊥
 
-abbrev pub Reads : Op → ℕ → Type 0
-Reads (Load x c j) b = c ≡ b
-Reads _ b = ⊥
+abbrev pub ReadsBuffer : Op → ℕ → Type 0
+ReadsBuffer (Load x c j) b = c ≡ b
+ReadsBuffer _ b = ⊥
 
 -- The kernel has this request, as its k-th.
 abbrev pub IsPending : World → ℕ → Request → Type 0
@@ -50,11 +50,11 @@ Names r b = ((r.kind ≡ Read) ⊎ (r.kind ≡ Write)) × (r.buffer ≡ b)
 
 -- No thread is about to write a buffer that a pending request names.
 abbrev pub NoWriteOfPending : World → Type 0
-NoWriteOfPending w = (i k b : ℕ) (op : Op) (r : Request) → IsNext w i (Do op) → Writes op b → IsPending w k r → Names r b → ⊥
+NoWriteOfPending w = (i k b : ℕ) (op : Op) (r : Request) → IsNext w i (Do op) → WritesBuffer op b → IsPending w k r → Names r b → ⊥
 
 -- No thread is about to read a buffer that a pending read fills.
 abbrev pub NoReadOfFilling : World → Type 0
-NoReadOfFilling w = (i k b : ℕ) (op : Op) (r : Request) → IsNext w i (Do op) → Reads op b → IsPending w k r → Fills r b → ⊥
+NoReadOfFilling w = (i k b : ℕ) (op : Op) (r : Request) → IsNext w i (Do op) → ReadsBuffer op b → IsPending w k r → Fills r b → ⊥
 
 -- No two pending requests name one buffer of which one fills it.
 abbrev pub NoKernelClash : World → Type 0
@@ -62,7 +62,7 @@ NoKernelClash w = (j k b : ℕ) (r s : Request) → j ≢ k → IsPending w j r 
 
 -- No two threads are about to go to one buffer of which one writes it.
 abbrev pub NoThreadRace : World → Type 0
-NoThreadRace w = (i j b : ℕ) (x y : Op) → i ≢ j → IsNext w i (Do x) → IsNext w j (Do y) → Writes x b → Writes y b ⊎ Reads y b → ⊥
+NoThreadRace w = (i j b : ℕ) (x y : Op) → i ≢ j → IsNext w i (Do x) → IsNext w j (Do y) → WritesBuffer x b → WritesBuffer y b ⊎ ReadsBuffer y b → ⊥
 
 -- No load and no store is next behind the end of its buffer, and no prep of more bytes than its buffer has.
 abbrev pub IsInBuffer : Program → Op → Type 0

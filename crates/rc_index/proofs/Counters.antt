@@ -9,7 +9,7 @@ use Rattle.std.proofs.lemmas.Bool.{cases_lt}
 use Rattle.std.proofs.lemmas.List.{get_or_past}
 use Rattle.std.proofs.lemmas.Option.{slice_get-get_or}
 use Rattle.rc_index.specs.RingList.{counter_after, counters_between, places_from, RingList, ring_list, IsRingList}
-use Rattle.rc_index.specs.Counters.{HasRoom}
+use Rattle.rc_index.specs.Counters.{AreCounters}
 
 -- a power of two of at most 2048 is 2 to at most 11
 exponent_le : (k : ℕ) → 2 ^ k ≤ 2048 → k ≤ 11
@@ -85,12 +85,12 @@ module _ (n : ℕ) (power : IsPowerOfTwo n) (small : n ≤ 2048) where
       ∙ ap (λ (x : ℕ). places_from n (counter_after c) count ++ x ∷ []) (after_is c count))
 
 -- the place of the tail, by the number of items
-pub next_is : (n head tail : ℕ) → HasRoom n head tail → (head + counters_between head tail) % n ≡ tail % n
+pub next_is : (n head tail : ℕ) → AreCounters n head tail → (head + counters_between head tail) % n ≡ tail % n
 next_is n head tail r =
     sym (wraps n (head + counters_between head tail) r.power r.small)
     ∙ ap (λ (x : ℕ). x % n) (tail_is head tail r.head_fits r.tail_fits)
 
-ring_list-push : (n head tail : ℕ) → HasRoom n head tail → counters_between head tail < n → ring_list n head (counter_after tail) ≡ record { entries = n; places = places_from n head (counters_between head tail) ++ tail % n ∷ []; next = (tail % n + 1) % n }
+ring_list-push : (n head tail : ℕ) → AreCounters n head tail → counters_between head tail < n → ring_list n head (counter_after tail) ≡ record { entries = n; places = places_from n head (counters_between head tail) ++ tail % n ∷ []; next = (tail % n + 1) % n }
 ring_list-push n head tail r has_room =
     let more : counters_between head (counter_after tail) ≡ suc (counters_between head tail) =
     omega (arith, between-push head tail r.head_fits r.tail_fits (omega (arith, r.small))) in
@@ -101,7 +101,7 @@ ring_list-push n head tail r has_room =
     let next_place : counter_after tail % n ≡ (tail % n + 1) % n = wraps n (tail + 1) r.power r.small ∙ sym (mod-add-mod tail n 1) in
     cc
 
-ring_list-pop : (n head tail : ℕ) → HasRoom n head tail → 0 < counters_between head tail → ring_list n (counter_after head) tail ≡ record { entries = n; places = drop 1 (places_from n head (counters_between head tail)); next = tail % n }
+ring_list-pop : (n head tail : ℕ) → AreCounters n head tail → 0 < counters_between head tail → ring_list n (counter_after head) tail ≡ record { entries = n; places = drop 1 (places_from n head (counters_between head tail)); next = tail % n }
 ring_list-pop n head tail r some =
     let less : counters_between head tail ≡ suc (counters_between (counter_after head) tail) = omega (arith, between-pop head tail r.head_fits r.tail_fits some) in
     let unfolded : drop 1 (places_from n head (counters_between head tail)) ≡ places_from n (counter_after head) (counters_between (counter_after head) tail) =
@@ -109,7 +109,7 @@ ring_list-pop n head tail r some =
     cc
 
 -- behind each place comes the next one, and behind the last the place of the tail
-consecutive_places : (n head tail : ℕ) → HasRoom n head tail → (i : ℕ) → i < counters_between head tail
+consecutive_places : (n head tail : ℕ) → AreCounters n head tail → (i : ℕ) → i < counters_between head tail
     → (get_or (places_from n head (counters_between head tail)) i 0 + 1) % n
     ≡ get_or (places_from n head (counters_between head tail)) (i + 1) (tail % n)
 consecutive_places n head tail r i below =
@@ -128,7 +128,7 @@ consecutive_places n head tail r i below =
     ]
 
 -- every pair of counters with room has a ring list
-pub is_ring_list : (n head tail : ℕ) → HasRoom n head tail → IsRingList (ring_list n head tail)
+pub is_ring_list : (n head tail : ℕ) → AreCounters n head tail → IsRingList (ring_list n head tail)
 is_ring_list n head tail r =
     let count : ℕ = counters_between head tail in
     let count_le : count ≤ n = r.room in
@@ -154,7 +154,7 @@ is_ring_list n head tail r =
     }
 
 -- The same of a ring list v that the counters show.
-module _ (n head tail : ℕ) (v : RingList) (r : HasRoom n head tail) (view_is : ring_list n head tail ≡ v) where
+module _ (n head tail : ℕ) (v : RingList) (r : AreCounters n head tail) (view_is : ring_list n head tail ≡ v) where
   count_is : counters_between head tail ≡ length v.places
   count_is = sym (length-places_from n head (counters_between head tail)) ∙ ap (λ (x : RingList). length x.places) view_is
 
@@ -172,7 +172,7 @@ module _ (n head tail : ℕ) (v : RingList) (r : HasRoom n head tail) (view_is :
       ring_list-push n head tail r (omega (arith, count_is, entries_is))
       ∙ ap (λ (x : RingList). record { entries = x.entries; places = x.places ++ x.next ∷ []; next = (x.next + 1) % x.entries }) view_is
 
-  pub room_after_push : length v.places < v.entries → HasRoom n head (counter_after tail)
+  pub room_after_push : length v.places < v.entries → AreCounters n head (counter_after tail)
   room_after_push has_room = record {
     power = r.power;
     small = r.small;
@@ -186,7 +186,7 @@ module _ (n head tail : ℕ) (v : RingList) (r : HasRoom n head tail) (view_is :
       ring_list-pop n head tail r (omega (arith, count_is))
       ∙ ap (λ (x : RingList). record { entries = x.entries; places = drop 1 x.places; next = x.next }) view_is
 
-  pub room_after_pop : 0 < length v.places → HasRoom n (counter_after head) tail
+  pub room_after_pop : 0 < length v.places → AreCounters n (counter_after head) tail
   room_after_pop some = record {
     power = r.power;
     small = r.small;

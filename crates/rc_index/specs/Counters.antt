@@ -4,7 +4,7 @@ use Rattle.std.specs.Int.{IsPowerOfTwo}
 use Rattle.rc_index.specs.RingList.{counters_between}
 
 -- a power of two of entries, two counters of 32 bits, and at most as many items as entries
-pub record HasRoom (n head tail : ℕ) : Type 0 where
+pub record AreCounters (n head tail : ℕ) : Type 0 where
   pub power : IsPowerOfTwo n
   pub small : n ≤ 2048
   pub head_fits : head < 2 ^ 32

@@ -21,13 +21,13 @@ pub struct Indices {
 // Clauses see the list of the places of the items, and the place after it.
 impl Model for Indices {
     ghost use Rattle.rc_index.specs.RingList.{RingList, ring_list};
-    ghost use Rattle.rc_index.specs.Counters.{HasRoom};
+    ghost use Rattle.rc_index.specs.Counters.{AreCounters};
 
     ghost Value = { RingList };
 
     ghost view = { λ a. ring_list a.entries a.head a.tail };
 
-    ghost invariant = { λ a. HasRoom a.entries a.head a.tail };
+    ghost invariant = { λ a. AreCounters a.entries a.head a.tail };
 }
 
 impl Indices {

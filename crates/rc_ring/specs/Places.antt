@@ -9,8 +9,8 @@ use Rattle.rc_ring.specs.Rings.{Rings, OpenSlot, NoSlot, VacantSlot, PreparedSlo
 use Rattle.rc_ring.specs.Spelled.{IsSpelling, IsSpelledSlot}
 
 -- the bytes at these places, in their order
-abbrev pub items_at : List (List ℕ) → List ℕ → List (List ℕ)
-items_at slots places = map (λ place. slice_index_or slots place []) places
+abbrev pub slots_at : List (List ℕ) → List ℕ → List (List ℕ)
+slots_at slots places = map (λ place. slice_index_or slots place []) places
 
 -- the completion in 16 bytes (`struct io_uring_cqe` of io_uring_enter(2))
 abbrev pub cqe_of : List ℕ → Cqe
@@ -27,8 +27,8 @@ abbrev pub rings_of : RingList → RingList → List (List ℕ) → List (List �
 rings_of sq cq sqes cqes parked stage = record {
   entries = sq.entries;
   completion_entries = cq.entries;
-  queued = items_at sqes sq.places;
-  completions = map cqe_of (items_at cqes cq.places);
+  queued = slots_at sqes sq.places;
+  completions = map cqe_of (slots_at cqes cq.places);
   place = sq.next;
   slot = slot_of (slice_index_or sqes sq.next []) stage;
   parked = parked;
@@ -45,6 +45,6 @@ pub record IsWellFormed (sq cq : RingList) (sqes cqes : List (List ℕ)) (parked
   pub cqes_len : length cqes ≡ cq.entries
   pub room : length sq.places + slot_count (slot_of [] stage) ≤ sq.entries
   pub open_where_parked : parked ≡ true → slot_count (slot_of [] stage) ≡ 1
-  pub queue : All IsSpelling (items_at sqes sq.places)
+  pub queue : All IsSpelling (slots_at sqes sq.places)
   pub prepared : IsSpelledSlot (slot_of (slice_index_or sqes sq.next []) stage)
-  pub spelled : All (λ bytes. SpellsCqe (cqe_of bytes) bytes) (items_at cqes cq.places)
+  pub spelled : All (λ bytes. SpellsCqe (cqe_of bytes) bytes) (slots_at cqes cq.places)

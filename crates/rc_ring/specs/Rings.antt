@@ -60,10 +60,10 @@ is_prepared_slot VacantSlot = false
 is_prepared_slot (PreparedSlot bytes) = true
 
 -- the bytes that a prep left in the open slot
-abbrev pub bytes_of : OpenSlot → List ℕ
-bytes_of NoSlot = []
-bytes_of VacantSlot = []
-bytes_of (PreparedSlot bytes) = bytes
+abbrev pub slot_bytes : OpenSlot → List ℕ
+slot_bytes NoSlot = []
+slot_bytes VacantSlot = []
+slot_bytes (PreparedSlot bytes) = bytes
 
 -- the place, if a slot is open
 abbrev pub place_if_open : ℕ → OpenSlot → Option ℕ
@@ -90,7 +90,7 @@ entry_with_data given (Write fd addr len off user_data) = Write fd addr len off 
 -- the open slot's entry, with the user_data, goes last into the queue, and the slot is closed
 abbrev pub after_queueing : Rings → ℕ → Rings
 after_queueing rings user_data = record rings {
-  queued = rings.queued ++ bytes_with_data user_data (bytes_of rings.slot) ∷ [];
+  queued = rings.queued ++ bytes_with_data user_data (slot_bytes rings.slot) ∷ [];
   place = (rings.place + 1) % rings.entries;
   slot = NoSlot;
 }

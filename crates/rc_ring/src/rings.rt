@@ -4,7 +4,7 @@ ghost use Rattle.std.specs.Prelude.{◌≡◌, ◌+◌, ◌*◌, ◌%◌, ◌<�
 ghost use Rattle.std.specs.Int.{IsPowerOfTwo};
 ghost use Rattle.std.specs.Option.{option_copied};
 ghost use Rattle.rc_index.specs.RingList.{IsRingList};
-ghost use Rattle.rc_ring.specs.Rings.{NoSlot, empty_rings, slot_count, used, is_prepared_slot, bytes_of, open_place, Prepares, GetSqeCall, SetData64Call, AbandonCall, ParkCall, ResumeCall, SubmitCall, PostCall, CqeSeenCall, after_call, entry_with_data, bytes_with_data};
+ghost use Rattle.rc_ring.specs.Rings.{NoSlot, empty_rings, slot_count, used, is_prepared_slot, slot_bytes, open_place, Prepares, GetSqeCall, SetData64Call, AbandonCall, ParkCall, ResumeCall, SubmitCall, PostCall, CqeSeenCall, after_call, entry_with_data, bytes_with_data};
 ghost use Rattle.rc_ring.specs.Spelled.{HoldEntries};
 ghost use Rattle.rc_entry.specs.declared.Entry.{Entry};
 ghost use Rattle.rc_entry.specs.Spelling.{SpellsEntry};
@@ -298,8 +298,8 @@ impl Ring {
         requires stage { is_prepared_slot self.old.slot ≡ true }
         requires out { self.old.parked ≡ false }
         ensures after { self.new ≡ after_call (SetData64Call user_data) self.old }
-        ensures spells { (entry : Entry) → SpellsEntry entry (bytes_of self.old.slot)
-            → SpellsEntry (entry_with_data user_data entry) (bytes_with_data user_data (bytes_of self.old.slot)) }
+        ensures spells { (entry : Entry) → SpellsEntry entry (slot_bytes self.old.slot)
+            → SpellsEntry (entry_with_data user_data entry) (bytes_with_data user_data (slot_bytes self.old.slot)) }
     {
         let entry = &mut self.sqes[place as usize];
         entry[32..40].copy_from_slice(&user_data.to_le_bytes());

@@ -1,7 +1,7 @@
 //! Slots of the submission ring, with their stage in their type.
 
 ghost use Rattle.std.specs.Prelude.{◌≡◌, negsuc, Bool, true, false, Some};
-ghost use Rattle.rc_ring.specs.Rings.{Prepares, SetData64Call, AbandonCall, ParkCall, after_call, open_place, is_prepared_slot, bytes_of, entry_with_data, bytes_with_data};
+ghost use Rattle.rc_ring.specs.Rings.{Prepares, SetData64Call, AbandonCall, ParkCall, after_call, open_place, is_prepared_slot, slot_bytes, entry_with_data, bytes_with_data};
 ghost use Rattle.rc_entry.specs.declared.Entry.{Entry};
 ghost use Rattle.rc_entry.specs.declared.Entry.TheVariants.{Nop, Fsync, Read, Write};
 ghost use Rattle.rc_entry.specs.Spelling.{SpellsEntry};
@@ -201,8 +201,8 @@ impl Slot<Prepared> {
         requires stage { is_prepared_slot ring.old.slot ≡ true }
         requires out { ring.old.parked ≡ false }
         ensures after { ring.new ≡ after_call (SetData64Call user_data) ring.old }
-        ensures spells { (entry : Entry) → SpellsEntry entry (bytes_of ring.old.slot)
-            → SpellsEntry (entry_with_data user_data entry) (bytes_with_data user_data (bytes_of ring.old.slot)) }
+        ensures spells { (entry : Entry) → SpellsEntry entry (slot_bytes ring.old.slot)
+            → SpellsEntry (entry_with_data user_data entry) (bytes_with_data user_data (slot_bytes ring.old.slot)) }
     {
         let Slot {
             place,

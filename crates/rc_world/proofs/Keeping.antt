@@ -7,7 +7,7 @@ use Rattle.rc_world.specs.declared.world.Slot.{Slot}
 use Rattle.rc_world.specs.declared.world.Slot.TheVariants.{Closed, Prepared}
 use Rattle.rc_world.specs.Faults.{clashes}
 use Rattle.rc_world.specs.Kept.{AllFit, IsFitting, IsKept, IsMemory, SlotFits}
-use Rattle.rc_world.specs.Machine.{Pending, World, all_begin, brings, given_back, hands_over, is_read, slot_len, without}
+use Rattle.rc_world.specs.Machine.{Pending, World, all_begin, bytes_brought, given_back, hands_over, is_read, slot_len, without}
 use Rattle.rc_world.specs.WorldParts.{begun_buffers, begun_pending}
 use Rattle.rc_world.proofs.Lists.{get_drop, get_push, get_take}
 use Rattle.rc_world.proofs.Memory.{memory_begins, memory_done, memory_read}
@@ -87,7 +87,7 @@ handed_as w n queued pending buffers q p b =
 
 -- ---- a request completes
 
-module _ (w : World) (kept : IsKept w) (calm : clashes w.pending ≡ false) (k : ℕ) (p : Pending) (here : slice_get w.pending k ≡ Some p) (bytes : List ℕ) (many : length bytes ≡ brings p.request) (buffers : List (Option (List ℕ))) where
+module _ (w : World) (kept : IsKept w) (calm : clashes w.pending ≡ false) (k : ℕ) (p : Pending) (here : slice_get w.pending k ≡ Some p) (bytes : List ℕ) (many : length bytes ≡ bytes_brought p.request) (buffers : List (Option (List ℕ))) where
   not_read : (b : Bool) → is_read p.request.kind ≡ b → (if b then None else Some w.buffers) ≡ Some buffers → IsMemory w.program (without k w.pending) buffers
   not_read true f e = absurd (cc)
   not_read false f e = subst (λ bs. IsMemory w.program (without k w.pending) bs) (same_Some w.buffers buffers e) (memory_done w.program w.pending w.buffers kept.memory calm k p here f)

@@ -13,8 +13,8 @@ use Rattle.rc_world.specs.declared.event.Event.{Event}
 use Rattle.rc_world.specs.declared.event.Event.TheVariants.{ByKernel}
 use Rattle.rc_world.specs.Faults.{clashes}
 use Rattle.rc_world.specs.Items.{filled, item_bytes, kernel_item, pending_place}
-use Rattle.rc_world.specs.Kept.{IsKept, IsMemory, IsPending}
-use Rattle.rc_world.specs.Machine.{Pending, World, brings, completes, completion_of, count_in, given_back, is_read, kernel_event, kernel_step_of, without}
+use Rattle.rc_world.specs.Kept.{IsKept, IsKeptPending, IsMemory}
+use Rattle.rc_world.specs.Machine.{Pending, World, bytes_brought, completes, completion_of, count_in, given_back, is_read, kernel_event, kernel_step_of, without}
 use Rattle.rc_world.specs.WorldParts.{refilled, refilled_in}
 use Rattle.rc_world.proofs.Keeping.{memory_given}
 use Rattle.rc_world.proofs.Memory.{read_has_buffer}
@@ -60,16 +60,16 @@ module _ (w : World) (k : IsKept w) (u n : ℕ) (res : ℤ) (fill : ℕ) (p : Pe
   step_is : kernel_item w res fill (pending_place w u) ≡ kernel_step_of w n res (item_bytes res fill (Some p)) (Some p)
   step_is = ap (kernel_item w res fill) place ∙ ap (λ o. kernel_step_of w n res (item_bytes res fill o) o) here
 
-  allowed : (may_complete p.request res ≡ true) × (nat_eq (length (item_bytes res fill (Some p))) (brings p.request) ≡ true) × IsSome (kernel_event w n res p.request (given_back w p.request (item_bytes res fill (Some p)) p.bytes))
+  allowed : (may_complete p.request res ≡ true) × (nat_eq (length (item_bytes res fill (Some p))) (bytes_brought p.request) ≡ true) × IsSome (kernel_event w n res p.request (given_back w p.request (item_bytes res fill (Some p)) p.bytes))
   allowed =
-      let h = if_some (may_complete p.request res && nat_eq (length (item_bytes res fill (Some p))) (brings p.request)) _ (subst IsSome step_is some) in
+      let h = if_some (may_complete p.request res && nat_eq (length (item_bytes res fill (Some p))) (bytes_brought p.request)) _ (subst IsSome step_is some) in
       let b = both _ _ h.0 in
       (b.0, b.1, h.1)
 
   pub may : may_complete p.request res ≡ true
   may = allowed.0
 
-  held : IsPending w.program w.pending p
+  held : IsKeptPending w.program w.pending p
   held = k.memory.pending n p here
 
   pub counted : count_in res ≤ p.request.len
@@ -117,7 +117,7 @@ module _ (w : World) (k : IsKept w) (u n : ℕ) (res : ℤ) (fill : ℕ) (p : Pe
   pub completed_as : kernel_item w res fill (pending_place w u) ≡ Some (ByKernel (completion_of p.request res), completes w n res p.request (refilled_in w.buffers p.request.buffer (count_in res) fill p.bytes))
   completed_as =
       step_is
-      ∙ ap (λ b. if b && nat_eq (length (item_bytes res fill (Some p))) (brings p.request) then kernel_event w n res p.request (given_back w p.request (item_bytes res fill (Some p)) p.bytes) else None) allowed.0
+      ∙ ap (λ b. if b && nat_eq (length (item_bytes res fill (Some p))) (bytes_brought p.request) then kernel_event w n res p.request (given_back w p.request (item_bytes res fill (Some p)) p.bytes) else None) allowed.0
       ∙ ap (λ b. if b then kernel_event w n res p.request (given_back w p.request (item_bytes res fill (Some p)) p.bytes) else None) allowed.1
       ∙ ap (kernel_event w n res p.request) (gives p.bytes refl)
 

@@ -26,7 +26,7 @@ use Rattle.rc_world.specs.Faults.{clashes, fault_of, front_is_one, has_buffer, h
 use Rattle.rc_world.specs.Items.{is_submit}
 use Rattle.rc_world.specs.Laws.{CompletesFreely, GoesOn, NoHiddenHarm, StandsAtEnd}
 use Rattle.rc_world.specs.Kept.{IsKept, IsMemory}
-use Rattle.rc_world.specs.Machine.{Pending, World, answer_of, brings, byte_of, completes, completion_of, count_in, fills, fits, front_of, given_back, hands_over, in_rings, is_read, is_take, kernel_event, kernel_step_of, new_request, opens_entry, prepared_nop, prepares, queues, reaps_front, slot_len, start_world, stores, thread_step, with_bytes, with_controls}
+use Rattle.rc_world.specs.Machine.{Pending, World, byte_of, bytes_brought, completes, completion_of, count_in, fills, fits_buffer, front_of, given_back, hands_over, in_rings, is_read, is_take, kernel_event, kernel_step_of, new_request, opens_entry, prepared_nop, prepares, queues, reaps_front, slot_len, start_world, stmt_answer, stores, thread_step, with_bytes, with_controls}
 use Rattle.rc_world.proofs.Laid.{resolved_in}
 use Rattle.rc_world.proofs.LawFaultless.{none_at, none_in_kernel, none_of_kind}
 use Rattle.rc_world.proofs.LawLists.{and_both, and_left, and_right, get_at, get_past}
@@ -84,7 +84,7 @@ opens w Closed a b =
 opens w Vacant a b = absurd (cc)
 opens w (Prepared r) a b = absurd (cc)
 
-prepares_vacant : (w : World) (r : Request) → fits w.program r ≡ true → (s : Slot) → not (is_vacant s) ≡ false → (v : World) × (prepares w r s ≡ Some v)
+prepares_vacant : (w : World) (r : Request) → fits_buffer w.program r ≡ true → (s : Slot) → not (is_vacant s) ≡ false → (v : World) × (prepares w r s ≡ Some v)
 prepares_vacant w r f Closed a = absurd (cc)
 prepares_vacant w r f Vacant a = (record w { slot = Prepared r }, ap (λ b. if b then Some (record w { slot = Prepared r }) else None) f)
 prepares_vacant w r f (Prepared q) a = absurd (cc)
@@ -106,7 +106,7 @@ record CanDo (w : World) (i : ℕ) (t : Standing) (r : ℤ) (s : Stmt) : Type 0 
   rings : World
   move : Move
   in_the_rings : in_rings w t r s ≡ Some rings
-  acted : acts w.program w.controls i t s (answer_of w r s) ≡ Some move
+  acted : acts w.program w.controls i t s (stmt_answer w r s) ≡ Some move
 
 abbrev HasNoFault : World → ℕ → Stmt → Type 0
 HasNoFault w i s = (kind : FaultKind) → has_fault w kind i s ≡ false
@@ -117,8 +117,8 @@ module _ (w : World) (i : ℕ) (t : Standing) (r : ℤ) where
   holds s c f = not_false (is_holder w.controls.holder i) (and_false (is_ring_call s) (not (is_holder w.controls.holder i)) (f NoLock) c)
 
   -- a prep of an entry that the holder has opened
-  can_prepare : (op : Op) (q : Request) (m : Move) → is_ring_call (Do op) ≡ true → HasNoFault w i (Do op) → (is_holder w.controls.holder i && not (is_vacant w.slot)) ≡ false → fits w.program q ≡ true
-      → in_rings w t r (Do op) ≡ prepares w q w.slot → acts w.program w.controls i t (Do op) (answer_of w r (Do op)) ≡ Some m → CanDo w i t r (Do op)
+  can_prepare : (op : Op) (q : Request) (m : Move) → is_ring_call (Do op) ≡ true → HasNoFault w i (Do op) → (is_holder w.controls.holder i && not (is_vacant w.slot)) ≡ false → fits_buffer w.program q ≡ true
+      → in_rings w t r (Do op) ≡ prepares w q w.slot → acts w.program w.controls i t (Do op) (stmt_answer w r (Do op)) ≡ Some m → CanDo w i t r (Do op)
   can_prepare op q m c f raw room e a =
       let v = prepares_vacant w q room w.slot (and_false (is_holder w.controls.holder i) _ raw (holds (Do op) c f)) in
       record { rings = v.0; move = m; in_the_rings = e ∙ v.1; acted = a }
@@ -201,7 +201,7 @@ module _ (w : World) (i : ℕ) (t : Standing) (r : ℤ) where
   steps l s d = (
     (ByThread i (number_of_event w.program i l l.stmt) d.move.action, record d.rings { controls = moved w.program w.controls i d.move }),
     step_is w i r t l s
-        ∙ ap (λ v. with_controls v (as_event w.program i l (made w.program w.controls i (acts w.program w.controls i t l.stmt (answer_of w r l.stmt))))) d.in_the_rings
+        ∙ ap (λ v. with_controls v (as_event w.program i l (made w.program w.controls i (acts w.program w.controls i t l.stmt (stmt_answer w r l.stmt))))) d.in_the_rings
         ∙ ap (λ m. with_controls (Some d.rings) (as_event w.program i l (made w.program w.controls i m))) d.acted,
   )
 
@@ -273,7 +273,7 @@ module _ (w : World) (safe : clashes w.pending ≡ false) where
   pub completes_freely : IsMemory w.program w.pending w.buffers → CompletesFreely w
   completes_freely m k p res bytes e may n =
       let g = given m k p e bytes p.bytes refl in
-      let allowed = and_both (may_complete p.request res) (nat_eq (length bytes) (brings p.request)) may (eq-eqb (length bytes) (brings p.request) n) in (
+      let allowed = and_both (may_complete p.request res) (nat_eq (length bytes) (bytes_brought p.request)) may (eq-eqb (length bytes) (bytes_brought p.request) n) in (
         (ByKernel (completion_of p.request res), completes w k res p.request g.0),
         ap (kernel_step_of w k res bytes) e
             ∙ ap (λ b. if b then kernel_event w k res p.request (given_back w p.request bytes p.bytes) else None) allowed

@@ -21,7 +21,7 @@ use Rattle.rc_lang.proofs.Spans.{nothing_between, other_between}
 use Rattle.rc_world.specs.declared.controls.Answer.{Answer}
 use Rattle.rc_world.specs.declared.controls.Answer.TheVariants.{Plain, Number, Byte, Front}
 use Rattle.rc_world.specs.declared.event.Action.TheVariants.{VariableSet, Stored, Filled, Printed, Locked, EntryOpened, ReadPrepared, WritePrepared, FsyncPrepared, NopPrepared, DataSet, Looped}
-use Rattle.rc_world.specs.Controls.{Controls, Move, Standing, acts, arm_for, arms_of, assigns, branches, breaks, compares, decides, does, goes_on, hop_of, is_case, is_none_arm, is_other, loads, locks, low_byte, none_arm, operand_value, or_from, peeks, place_of, plainly, reaps, releases_lock, rest_at, returns_to, sets_variable, settled, submits, variable, wrapped}
+use Rattle.rc_world.specs.Controls.{Controls, Move, Standing, acts, arm_for, arms_of, assigns, branches, breaks, compares, decides, does, first_place, goes_on, hop_of, is_case, is_none_arm, is_other, loads, locks, low_byte, none_arm, operand_value, or_from, peeks, plainly, reaps, releases_lock, rest_at, returns_to, sets_variable, settled, submits, variable, wrapped}
 use Rattle.rc_world.proofs.Laid.{laid}
 use Rattle.rc_world.proofs.LawLists.{get_in_range, range_has}
 
@@ -33,13 +33,13 @@ record Passes (test : Stmt → Bool) (lines : List Line) (k : ℕ) : Type 0 wher
   stands : slice_get lines k ≡ Some line
   passes : test line.stmt ≡ true
 
-place_passes : (test : Stmt → Bool) (lines : List Line) (k : ℕ) → place_of test lines ≡ Some k → Passes test lines k
+place_passes : (test : Stmt → Bool) (lines : List Line) (k : ℕ) → first_place test lines ≡ Some k → Passes test lines k
 place_passes test [] k e = absurd (cc)
 place_passes test (l ∷ lines) k e =
     let h = position-Some (λ (m : Line). test m.stmt) (l ∷ lines) k l e in
     record { line = get_or (l ∷ lines) k l; stands = slice_get-get_or (l ∷ lines) k l h.0; passes = h.1 }
 
-place_there : (test : Stmt → Bool) (lines : List Line) (k : ℕ) (l : Line) → slice_get lines k ≡ Some l → test l.stmt ≡ true → (p : ℕ) × (place_of test lines ≡ Some p)
+place_there : (test : Stmt → Bool) (lines : List Line) (k : ℕ) (l : Line) → slice_get lines k ≡ Some l → test l.stmt ≡ true → (p : ℕ) × (first_place test lines ≡ Some p)
 place_there test lines k l e t = (position_or_len by_line lines, ap (λ b. cond b (Some (position_or_len by_line lines)) None) (lt-ltb (position_or_len by_line lines) (length lines) within))
   where
     by_line : Line → Bool
@@ -100,13 +100,13 @@ module _ (program : Program) (is : IsProgram program) (i : ℕ) where
     arms : HasArms (lines_of program i) (ends_in (slice_get program.threads i)) o
     arms = lines_laid.linked o (Peek x) here
 
-    in_arm : (test : Stmt → Bool) → ((s : Stmt) → test s ≡ true → leads_open s ≡ true) → (k : ℕ) → place_of test (arms_of program i o) ≡ Some k → IsOpen (lines_of program i) (o + k + 1)
+    in_arm : (test : Stmt → Bool) → ((s : Stmt) → test s ≡ true → leads_open s ≡ true) → (k : ℕ) → first_place test (arms_of program i o) ≡ Some k → IsOpen (lines_of program i) (o + k + 1)
     in_arm test leads k e =
         let p = place_passes test (arms_of program i o) k e in
         open_behind (lines_of program i) lines_laid.each (o + k) p.line.stmt (ap stmt_of (get_in_range (lines_of program i) o (end_at program i o) k p.line p.stands)) (leads p.line.stmt p.passes)
 
     -- an arm that stands between the peek and its end is found
-    arm_found : (test : Stmt → Bool) (s : Stmt) (p : ℕ) → stmt_at (lines_of program i) p ≡ Some s → test s ≡ true → (o < p) × (p < end_at program i o) → (k : ℕ) × (place_of test (arms_of program i o) ≡ Some k)
+    arm_found : (test : Stmt → Bool) (s : Stmt) (p : ℕ) → stmt_at (lines_of program i) p ≡ Some s → test s ≡ true → (o < p) × (p < end_at program i o) → (k : ℕ) × (first_place test (arms_of program i o) ≡ Some k)
     arm_found test s p e t b =
         let l = line_with (lines_of program i) p s e in
         let lt : o < p = b.0 in
@@ -118,13 +118,13 @@ module _ (program : Program) (is : IsProgram program) (i : ℕ) where
         subst (λ k. IsOpen (lines_of program i) (o + k + 1)) (sym (ap (λ k. unwrap_or k 0) p.1)) (in_arm (is_none_arm o) (none_leads o) p.0 p.1)
 
     open_arm_for : (u : ℕ) → IsOpen (lines_of program i) (arm_for program i o u + 1)
-    open_arm_for u = go (place_of (is_case o u) (arms_of program i o)) refl
+    open_arm_for u = go (first_place (is_case o u) (arms_of program i o)) refl
       where
-        go : (k : Option ℕ) → place_of (is_case o u) (arms_of program i o) ≡ k → IsOpen (lines_of program i) (o + unwrap_or (place_of (is_case o u) (arms_of program i o)) (unwrap_or (place_of (is_other o) (arms_of program i o)) 0) + 1)
-        go (Some k) g = subst (λ n. IsOpen (lines_of program i) (o + n + 1)) (sym (ap (λ n. unwrap_or n (unwrap_or (place_of (is_other o) (arms_of program i o)) 0)) g)) (in_arm (is_case o u) (case_leads o u) k g)
+        go : (k : Option ℕ) → first_place (is_case o u) (arms_of program i o) ≡ k → IsOpen (lines_of program i) (o + unwrap_or (first_place (is_case o u) (arms_of program i o)) (unwrap_or (first_place (is_other o) (arms_of program i o)) 0) + 1)
+        go (Some k) g = subst (λ n. IsOpen (lines_of program i) (o + n + 1)) (sym (ap (λ n. unwrap_or n (unwrap_or (first_place (is_other o) (arms_of program i o)) 0)) g)) (in_arm (is_case o u) (case_leads o u) k g)
         go None g =
             let p = arm_found (is_other o) (Other o) arms.other.place arms.other.stands (eq-eqb o o refl) (other_between (lines_of program i) _ lines_laid o arms.other.place arms.other.stands) in
-            let q = ap (λ n. unwrap_or n (unwrap_or (place_of (is_other o) (arms_of program i o)) 0)) g ∙ ap (λ n. unwrap_or n 0) p.1 in
+            let q = ap (λ n. unwrap_or n (unwrap_or (first_place (is_other o) (arms_of program i o)) 0)) g ∙ ap (λ n. unwrap_or n 0) p.1 in
             subst (λ n. IsOpen (lines_of program i) (o + n + 1)) (sym q) (in_arm (is_other o) (other_leads o) p.0 p.1)
 
   -- ---- where a statement leads

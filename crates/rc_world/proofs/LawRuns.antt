@@ -9,7 +9,7 @@ use Rattle.rc_world.specs.declared.fault.FaultKind.TheVariants.{KernelClash}
 use Rattle.rc_world.specs.Controls.{Standing, rest_at}
 use Rattle.rc_world.specs.Faults.{clashes}
 use Rattle.rc_world.specs.Kept.{IsKept}
-use Rattle.rc_world.specs.Machine.{World, answer_of, start_world}
+use Rattle.rc_world.specs.Machine.{World, start_world, stmt_answer}
 use Rattle.rc_world.specs.Runs.{IsRun, IsStep}
 use Rattle.rc_world.proofs.Keeping.{memory_given}
 use Rattle.rc_world.proofs.LawFaultless.{none_in_kernel, none_of_kind}
@@ -44,7 +44,7 @@ after_thread : (program : Program) (w after : World) (i : ℕ) (r : ℤ) → IsS
 after_thread program w after i r h s =
     let here = ap stmt_of s.stands.line in
     let k = rings_same w h.kept s.standing r s.line.stmt (small_stmt w.program h.kept.made i s.standing.place s.line.stmt here) s.rings s.in_the_rings in
-    let o = acts_open w.program h.kept.made i w.controls s.standing (answer_of w r s.line.stmt) s.move s.line.stmt here s.acted in
+    let o = acts_open w.program h.kept.made i w.controls s.standing (stmt_answer w r s.line.stmt) s.move s.line.stmt here s.acted in
     let t : Standing = record { place = rest_at w.program i s.move.place; variables = s.move.variables } in
     let rest = one_rests w.program w.controls.threads i t h.rest (rests_from w.program h.kept.made i s.move.place o) in
     subst (λ x. IsSound program x) s.same (record {

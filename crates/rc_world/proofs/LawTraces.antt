@@ -20,7 +20,7 @@ use Rattle.rc_world.specs.Faults.{clashes, fault_of}
 use Rattle.rc_world.specs.Items.{filled, is_enabled, is_ready, is_submit, item_bytes, item_step, kernel_item, kernel_may, next_by, next_of, pending_at, pending_place, ready_or_taken, take_of}
 use Rattle.rc_world.specs.Kept.{IsKept}
 use Rattle.rc_world.specs.Laws.{EnabledItemsStep, GoesOn, TracesAreRuns}
-use Rattle.rc_world.specs.Machine.{Pending, World, brings, count_in, is_read, is_take, kernel_step, start_world, thread_step}
+use Rattle.rc_world.specs.Machine.{Pending, World, bytes_brought, count_in, is_read, is_take, kernel_step, start_world, thread_step}
 use Rattle.rc_world.specs.Runs.{IsRun, IsStep}
 use Rattle.rc_world.specs.Trace.{at_item, trace_from}
 use Rattle.rc_world.proofs.LawFaultless.{none_in_kernel, none_of_kind}
@@ -94,7 +94,7 @@ module _ (w : World) (safe : fault_of w ≡ None) (kept : IsKept w) (res : ℤ) 
   no_clash = none_in_kernel w KernelClash (none_of_kind w safe KernelClash)
 
   -- the item names as many bytes as the request brings
-  item_length : (k : ℕ) (p : Pending) → slice_get w.pending k ≡ Some p → may_complete p.request res ≡ true → length (item_bytes res fill (Some p)) ≡ brings p.request
+  item_length : (k : ℕ) (p : Pending) → slice_get w.pending k ≡ Some p → may_complete p.request res ≡ true → length (item_bytes res fill (Some p)) ≡ bytes_brought p.request
   item_length k p e may = go (is_read p.request.kind) refl
     where
       room : p.request.len ≤ bytes_at w.program.buffers p.request.buffer

@@ -7,8 +7,8 @@ use Rattle.rc_lang.specs.declared.request.Kind.TheVariants.{Nop, Fsync, Read, Wr
 use Rattle.rc_lang.specs.declared.request.Request.{Request}
 use Rattle.rc_lang.specs.Program.{Program, bytes_at}
 use Rattle.rc_world.specs.Faults.{clash, clashes, clashes_with, has_buffer, is_filling, reads_into}
-use Rattle.rc_world.specs.Kept.{IsFitting, IsMemory, IsPending}
-use Rattle.rc_world.specs.Machine.{Pending, brings, is_read, taken_bytes, without, without_taken}
+use Rattle.rc_world.specs.Kept.{IsFitting, IsKeptPending, IsMemory}
+use Rattle.rc_world.specs.Machine.{Pending, bytes_brought, is_read, taken_bytes, without, without_taken}
 use Rattle.rc_world.proofs.Lists.{any_at, any_push, any_without, found, get_none, get_of, get_push, get_set, get_without, neither, none_without, or_left, or_right}
 
 -- ---- clashes
@@ -92,7 +92,7 @@ module _ (program : Program) (ps : List Pending) (buffers : List (Option (List �
   more : List Pending
   more = ps ++ new ∷ []
 
-  later : (q : Pending) → IsPending program ps q → IsPending program (ps ++ record { request = r; bytes = taken_bytes buffers r } ∷ []) q
+  later : (q : Pending) → IsKeptPending program ps q → IsKeptPending program (ps ++ record { request = r; bytes = taken_bytes buffers r } ∷ []) q
   later q h = record {
     fitting = h.fitting;
     of_read = h.of_read;
@@ -106,7 +106,7 @@ module _ (program : Program) (ps : List Pending) (buffers : List (Option (List �
   left_is : (b : Bool) → is_read r.kind ≡ b → without_taken buffers r ≡ (if b then slice_set buffers r.buffer None else buffers)
   left_is b e = ap (λ x. if x then slice_set buffers r.buffer None else buffers) e
 
-  fresh : (b : Bool) → is_read r.kind ≡ b → IsPending program (ps ++ record { request = r; bytes = taken_bytes buffers r } ∷ []) (record { request = r; bytes = taken_bytes buffers r })
+  fresh : (b : Bool) → is_read r.kind ≡ b → IsKeptPending program (ps ++ record { request = r; bytes = taken_bytes buffers r } ∷ []) (record { request = r; bytes = taken_bytes buffers r })
   fresh true e = record {
     fitting = fitting;
     of_read = λ bytes q. e;
@@ -126,10 +126,10 @@ module _ (program : Program) (ps : List Pending) (buffers : List (Option (List �
   pub memory_begins : IsMemory program (ps ++ record { request = r; bytes = taken_bytes buffers r } ∷ []) (without_taken buffers r)
   memory_begins = go (is_read r.kind) refl
     where
-      pending : (k : ℕ) (q : Pending) → slice_get (ps ++ record { request = r; bytes = taken_bytes buffers r } ∷ []) k ≡ Some q → IsPending program (ps ++ record { request = r; bytes = taken_bytes buffers r } ∷ []) q
+      pending : (k : ℕ) (q : Pending) → slice_get (ps ++ record { request = r; bytes = taken_bytes buffers r } ∷ []) k ≡ Some q → IsKeptPending program (ps ++ record { request = r; bytes = taken_bytes buffers r } ∷ []) q
       pending k q e = elim (get_push ps _ k q e) [
         | inl h ↦ later q (m.pending k q h)
-        | inr h ↦ subst (λ x. IsPending program (ps ++ record { request = r; bytes = taken_bytes buffers r } ∷ []) x) h (fresh (is_read r.kind) refl)
+        | inr h ↦ subst (λ x. IsKeptPending program (ps ++ record { request = r; bytes = taken_bytes buffers r } ∷ []) x) h (fresh (is_read r.kind) refl)
       ]
 
       filling : (b : ℕ) → is_filling ps b ≡ true → is_filling (ps ++ record { request = r; bytes = taken_bytes buffers r } ∷ []) b ≡ true
@@ -179,7 +179,7 @@ memory_written program ps buffers m b bytes new e n = record {
 -- ---- a request completes
 
 module _ (program : Program) (ps : List Pending) (buffers : List (Option (List ℕ))) (m : IsMemory program ps buffers) (calm : clashes ps ≡ false) (k : ℕ) (p : Pending) (here : slice_get ps k ≡ Some p) where
-  left : (j : ℕ) (q : Pending) → slice_get (without k ps) j ≡ Some q → IsPending program (without k ps) q
+  left : (j : ℕ) (q : Pending) → slice_get (without k ps) j ≡ Some q → IsKeptPending program (without k ps) q
   left j q e =
       let g = get_without k ps j q e in
       let h = m.pending g.0 q g.1 in
@@ -200,7 +200,7 @@ module _ (program : Program) (ps : List Pending) (buffers : List (Option (List �
       go true = differs
       go false = refl
 
-  pub memory_read : (stood bytes : List ℕ) → p.bytes ≡ Some stood → length bytes ≡ brings p.request
+  pub memory_read : (stood bytes : List ℕ) → p.bytes ≡ Some stood → length bytes ≡ bytes_brought p.request
       → IsMemory program (without k ps) (slice_set buffers p.request.buffer (Some (bytes ++ drop p.request.len stood)))
   memory_read stood bytes e n = record {
     pending = left;

@@ -8,7 +8,7 @@ use Rattle.rc_world.specs.declared.event.Event.{Event}
 use Rattle.rc_world.specs.Changes.{StmtIsSmall, nowhere, standing_at}
 use Rattle.rc_world.specs.Controls.{Controls, Standing, controls_step, next_at, next_line}
 use Rattle.rc_world.specs.Kept.{IsKept}
-use Rattle.rc_world.specs.Machine.{World, answer_of, in_rings, thread_step, thread_step_at, with_controls}
+use Rattle.rc_world.specs.Machine.{World, in_rings, stmt_answer, thread_step, thread_step_at, with_controls}
 use Rattle.rc_world.proofs.RingSteps.{IsSameBut, rings_same, small_stmt}
 
 -- The thread has this line next.
@@ -30,7 +30,7 @@ module _ (w : World) (k : IsKept w) (i : ℕ) (r : ℤ) (l : Line) (next : next_
   here : IsAtLine w.program w.controls i l
   here = at_line w.program w.controls i l next
 
-  pub step_is : thread_step w i r ≡ with_controls (in_rings w (standing_at w.controls i) r l.stmt) (controls_step w.program w.controls i (answer_of w r l.stmt))
+  pub step_is : thread_step w i r ≡ with_controls (in_rings w (standing_at w.controls i) r l.stmt) (controls_step w.program w.controls i (stmt_answer w r l.stmt))
   step_is = ap (λ o. thread_step_at w i r o (next_line w.program w.controls i)) here.found ∙ ap (thread_step_at w i r (Some (standing_at w.controls i))) next
 
   both_some : (o : Option World) (s : Option (Event × Controls)) → IsSome (with_controls o s) → IsSome o × IsSome s
@@ -38,17 +38,17 @@ module _ (w : World) (k : IsKept w) (i : ℕ) (r : ℤ) (l : Line) (next : next_
   both_some (Some v) None h = absurd (cc)
   both_some (Some v) (Some (e, c)) h = (refl, refl)
 
-  pub step_some : IsSome (thread_step w i r) → IsSome (in_rings w (standing_at w.controls i) r l.stmt) × IsSome (controls_step w.program w.controls i (answer_of w r l.stmt))
+  pub step_some : IsSome (thread_step w i r) → IsSome (in_rings w (standing_at w.controls i) r l.stmt) × IsSome (controls_step w.program w.controls i (stmt_answer w r l.stmt))
   step_some h = both_some _ _ (subst IsSome step_is h)
 
   pub small_here : StmtIsSmall w.program l.stmt
   small_here = small_stmt w.program k.made i (standing_at w.controls i).place l.stmt (ap stmt_of here.line)
 
-  module _ (after : World) (rings : in_rings w (standing_at w.controls i) r l.stmt ≡ Some after) (a : Answer) (answer : a ≡ answer_of w r l.stmt) where
+  module _ (after : World) (rings : in_rings w (standing_at w.controls i) r l.stmt ≡ Some after) (a : Answer) (answer : a ≡ stmt_answer w r l.stmt) where
     same : IsSameBut w after
     same = rings_same w k (standing_at w.controls i) r l.stmt small_here after rings
 
-    turned : controls_step after.program after.controls i a ≡ controls_step w.program w.controls i (answer_of w r l.stmt)
+    turned : controls_step after.program after.controls i a ≡ controls_step w.program w.controls i (stmt_answer w r l.stmt)
     turned =
         ap (λ P. controls_step P after.controls i a) same.program
         ∙ ap (λ c. controls_step w.program c i a) same.controls
@@ -61,5 +61,5 @@ module _ (w : World) (k : IsKept w) (i : ℕ) (r : ℤ) (l : Line) (next : next_
     pub step_done : (e : Event) (c : Controls) → controls_step after.program after.controls i a ≡ Some (e, c) → thread_step w i r ≡ Some (e, record after { controls = c })
     step_done e c step =
         step_is
-        ∙ ap (λ o. with_controls o (controls_step w.program w.controls i (answer_of w r l.stmt))) rings
+        ∙ ap (λ o. with_controls o (controls_step w.program w.controls i (stmt_answer w r l.stmt))) rings
         ∙ ap (with_controls (Some after)) (sym turned ∙ step)

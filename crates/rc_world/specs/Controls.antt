@@ -109,14 +109,14 @@ is_none_arm o _ = false
 abbrev pub arms_of : Program → ℕ → ℕ → List Line
 arms_of program i o = slice_range (lines_of program i) o (end_at program i o)
 
-abbrev pub place_of : (Stmt → Bool) → List Line → Option ℕ
-place_of test lines = position (λ (l : Line). test l.stmt) lines
+abbrev pub first_place : (Stmt → Bool) → List Line → Option ℕ
+first_place test lines = position (λ (l : Line). test l.stmt) lines
 
 abbrev pub arm_for : Program → ℕ → ℕ → ℕ → ℕ
-arm_for program i o u = o + unwrap_or (place_of (is_case o u) (arms_of program i o)) (unwrap_or (place_of (is_other o) (arms_of program i o)) 0)
+arm_for program i o u = o + unwrap_or (first_place (is_case o u) (arms_of program i o)) (unwrap_or (first_place (is_other o) (arms_of program i o)) 0)
 
 abbrev pub none_arm : Program → ℕ → ℕ → ℕ
-none_arm program i o = o + unwrap_or (place_of (is_none_arm o) (arms_of program i o)) 0
+none_arm program i o = o + unwrap_or (first_place (is_none_arm o) (arms_of program i o)) 0
 
 -- ---- what a statement does
 

@@ -6,12 +6,12 @@ use Rattle.rc_lang.specs.Program.{IsProgram, Program, bytes_at}
 use Rattle.rc_world.specs.declared.world.Slot.{Slot}
 use Rattle.rc_world.specs.declared.world.Slot.TheVariants.{Closed, Vacant, Prepared}
 use Rattle.rc_world.specs.Faults.{clashes, has_buffer, is_filling}
-use Rattle.rc_world.specs.Machine.{Pending, World, fits, is_read, used_entries}
+use Rattle.rc_world.specs.Machine.{Pending, World, fits_buffer, is_read, used_entries}
 
 -- A request names a buffer that is there and has as many bytes as it moves.
 pub record IsFitting (program : Program) (r : Request) : Type 0 where
   pub exists : has_buffer r.kind ≡ true → r.buffer < length program.buffers
-  pub room : fits program r ≡ true
+  pub room : fits_buffer program r ≡ true
 
 abbrev pub SlotFits : Program → Slot → Type 0
 SlotFits program Closed = Unit {0}
@@ -22,7 +22,7 @@ abbrev pub AllFit : Program → List Request → Type 0
 AllFit program rs = (k : ℕ) (r : Request) → slice_get rs k ≡ Some r → IsFitting program r
 
 -- With a pending read all bytes of its buffer stand, unless two pending requests clash, and with others none.
-pub record IsPending (program : Program) (ps : List Pending) (p : Pending) : Type 0 where
+pub record IsKeptPending (program : Program) (ps : List Pending) (p : Pending) : Type 0 where
   pub fitting : IsFitting program p.request
   pub of_read : (bytes : List ℕ) → p.bytes ≡ Some bytes → is_read p.request.kind ≡ true
   pub sized : (bytes : List ℕ) → p.bytes ≡ Some bytes → length bytes ≡ bytes_at program.buffers p.request.buffer
@@ -30,7 +30,7 @@ pub record IsPending (program : Program) (ps : List Pending) (p : Pending) : Typ
 
 -- The pending requests and the buffers.
 pub record IsMemory (program : Program) (ps : List Pending) (buffers : List (Option (List ℕ))) : Type 0 where
-  pub pending : (k : ℕ) (p : Pending) → slice_get ps k ≡ Some p → IsPending program ps p
+  pub pending : (k : ℕ) (p : Pending) → slice_get ps k ≡ Some p → IsKeptPending program ps p
   pub as_many : length buffers ≡ length program.buffers
   pub sized : (b : ℕ) (bytes : List ℕ) → slice_get buffers b ≡ Some (Some bytes) → length bytes ≡ bytes_at program.buffers b
   pub filled : (b : ℕ) → slice_get buffers b ≡ Some None → is_filling ps b ≡ true

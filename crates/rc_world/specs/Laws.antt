@@ -9,7 +9,7 @@ use Rattle.rc_world.specs.declared.event.Item.{Item}
 use Rattle.rc_world.specs.Controls.{Standing, next_line}
 use Rattle.rc_world.specs.Faults.{fault_of}
 use Rattle.rc_world.specs.Items.{is_enabled, item_step}
-use Rattle.rc_world.specs.Machine.{Pending, World, brings, is_take, kernel_step, start_world, thread_step}
+use Rattle.rc_world.specs.Machine.{Pending, World, bytes_brought, is_take, kernel_step, start_world, thread_step}
 use Rattle.rc_world.specs.Runs.{IsRun}
 use Rattle.rc_world.specs.Trace.{trace_of}
 
@@ -31,7 +31,7 @@ GoesOn w i = StandsAtEnd w i ⊎ (StandsAtTakenLock w i ⊎ HasStep w i)
 -- Each pending request can complete with each result that it may have, a read with any bytes.
 abbrev pub CompletesFreely : World → Type 0
 CompletesFreely w =
-    (k : ℕ) (p : Pending) (res : ℤ) (bytes : List ℕ) → slice_get w.pending k ≡ Some p → may_complete p.request res ≡ true → length bytes ≡ brings p.request →
+    (k : ℕ) (p : Pending) (res : ℤ) (bytes : List ℕ) → slice_get w.pending k ≡ Some p → may_complete p.request res ≡ true → length bytes ≡ bytes_brought p.request →
     (s : Event × World) × (kernel_step w k res bytes ≡ Some s)
 
 -- In a world without a fault, of any run of a made program, every thread and every pending request can go on.

@@ -83,13 +83,13 @@ abbrev pub prepared_nop : Request
 prepared_nop = new_request Nop (negsuc 0) 0 0 0
 
 -- the request moves no more bytes than its buffer has
-abbrev pub fits : Program → Request → Bool
-fits program r = nat_le r.len (bytes_at program.buffers r.buffer)
+abbrev pub fits_buffer : Program → Request → Bool
+fits_buffer program r = nat_le r.len (bytes_at program.buffers r.buffer)
 
 -- A prep fills a vacant entry.
 abbrev pub prepares : World → Request → Slot → Option World
 prepares w r Closed = None
-prepares w r Vacant = if fits w.program r then Some (record w { slot = Prepared r }) else None
+prepares w r Vacant = if fits_buffer w.program r then Some (record w { slot = Prepared r }) else None
 prepares w r (Prepared s) = None
 
 -- io_uring_sqe_set_data64(3): the prepared entry is queued under the next serial number.
@@ -205,11 +205,11 @@ test_answer w (Compare x comparison n) = Plain
 test_answer w ReadyZero = Number (pos (used_entries w))
 test_answer w (SpaceAtLeast n) = Number (pos (w.program.entries - used_entries w))
 
-abbrev pub answer_of : World → ℤ → Stmt → Answer
-answer_of w r (Do op) = op_answer w r op
-answer_of w r (If test) = test_answer w test
-answer_of w r (Peek x) = front_of w.completions
-answer_of w r _ = Plain
+abbrev pub stmt_answer : World → ℤ → Stmt → Answer
+stmt_answer w r (Do op) = op_answer w r op
+stmt_answer w r (If test) = test_answer w test
+stmt_answer w r (Peek x) = front_of w.completions
+stmt_answer w r _ = Plain
 
 -- ---- the step of a thread
 
@@ -221,7 +221,7 @@ with_controls (Some w) (Some (e, c)) = Some (e, record w { controls = c })
 abbrev pub thread_step_at : World → ℕ → ℤ → Option Standing → Option Line → Option (Event × World)
 thread_step_at w i r None l = None
 thread_step_at w i r (Some t) None = None
-thread_step_at w i r (Some t) (Some l) = with_controls (in_rings w t r l.stmt) (controls_step w.program w.controls i (answer_of w r l.stmt))
+thread_step_at w i r (Some t) (Some l) = with_controls (in_rings w t r l.stmt) (controls_step w.program w.controls i (stmt_answer w r l.stmt))
 
 -- The step of a thread whose submit is answered r: the event, and the world after it. None where it can't be made.
 abbrev pub thread_step : World → ℕ → ℤ → Option (Event × World)
@@ -237,8 +237,8 @@ abbrev pub completion_of : Request → ℤ → Completion
 completion_of r res = record { user_data = r.user_data; res = res }
 
 -- how many bytes a completion brings: those of a read
-abbrev pub brings : Request → ℕ
-brings r = if is_read r.kind then r.len else 0
+abbrev pub bytes_brought : Request → ℕ
+bytes_brought r = if is_read r.kind then r.len else 0
 
 -- A read's buffer is there again: these bytes in its first places, and behind them what stood with the request.
 abbrev pub given_back : World → Request → List ℕ → Option (List ℕ) → Option (List (Option (List ℕ)))
@@ -260,7 +260,7 @@ kernel_event w k res r (Some buffers) = Some (ByKernel (completion_of r res), co
 abbrev pub kernel_step_of : World → ℕ → ℤ → List ℕ → Option Pending → Option (Event × World)
 kernel_step_of w k res bytes None = None
 kernel_step_of w k res bytes (Some p) =
-    if may_complete p.request res && nat_eq (length bytes) (brings p.request) then kernel_event w k res p.request (given_back w p.request bytes p.bytes) else None
+    if may_complete p.request res && nat_eq (length bytes) (bytes_brought p.request) then kernel_event w k res p.request (given_back w p.request bytes p.bytes) else None
 
 -- The k-th pending request completes with a result that it may have, a read with any bytes: the event, and the world
 -- after it (io_uring_enter(2)).

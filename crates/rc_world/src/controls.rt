@@ -683,7 +683,7 @@ fn none_arm(program: &Program, thread: u32, peek: usize) -> usize
 }
 
 fn case_place(arms: &[Line], peek: usize, user_data: u64) -> Option<usize>
-    ensures value { result ≡ spec.place_of (spec.is_case peek user_data) arms.now }
+    ensures value { result ≡ spec.first_place (spec.is_case peek user_data) arms.now }
     ensures within { IfSome result (λ k. k < length arms.now) }
 {
     arms.iter()
@@ -691,14 +691,14 @@ fn case_place(arms: &[Line], peek: usize, user_data: u64) -> Option<usize>
 }
 
 fn other_place(arms: &[Line], peek: usize) -> Option<usize>
-    ensures value { result ≡ spec.place_of (spec.is_other peek) arms.now }
+    ensures value { result ≡ spec.first_place (spec.is_other peek) arms.now }
     ensures within { IfSome result (λ k. k < length arms.now) }
 {
     arms.iter().position(|line| is_other(line.stmt, peek))
 }
 
 fn none_place(arms: &[Line], peek: usize) -> Option<usize>
-    ensures value { result ≡ spec.place_of (spec.is_none_arm peek) arms.now }
+    ensures value { result ≡ spec.first_place (spec.is_none_arm peek) arms.now }
     ensures within { IfSome result (λ k. k < length arms.now) }
 {
     arms.iter().position(|line| is_none_arm(line.stmt, peek))

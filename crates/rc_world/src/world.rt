@@ -266,7 +266,7 @@ impl<'a> World<'a> {
 
     // What the world answers to a statement.
     fn answer(&self, taken: i32, stmt: Stmt) -> Answer
-        ensures { result ≡ machine.answer_of self.now taken stmt }
+        ensures { result ≡ machine.stmt_answer self.now taken stmt }
     {
         match stmt {
             Stmt::Do(Op::Load(_, buffer, i)) => self.byte(buffer, i),

@@ -3,7 +3,7 @@ use Rattle.std.proofs.lemmas.Int.{to_z-of_z}
 use Rattle.rc_world.specs.Changes.{StmtIsSmall, standing_at}
 use Rattle.rc_world.specs.Controls.{next_line}
 use Rattle.rc_world.specs.Kept.{IsKept}
-use Rattle.rc_world.specs.Machine.{World, answer_of, in_rings, thread_step}
+use Rattle.rc_world.specs.Machine.{World, in_rings, stmt_answer, thread_step}
 use Rattle.rc_world.specs.WorldParts.{view_world}
 use Rattle.rc_world.proofs.WorldSteps.{small_here, step_done, step_ready}
 use Rattle.rc_world.proofs.world.World.step.Goals as goal
@@ -21,7 +21,7 @@ step-requires c =
     let kept = subst IsKept c.self.view_is c.self.invariant.0 in
     let line = ap (λ (w : World). next_line w.program w.controls c.args.thread) (sym c.self.view_is) ∙ sym c.line.ensures ∙ c.in-Some.is in
     let rings = ap (λ z. in_rings old (standing_at old.controls c.args.thread) z l.stmt) (sym read) ∙ c.in_ok-rings.ensures ∙ ap (λ (w : World). Some w) (sym c.self-2.view_is) in
-    let answer = c.answer-answer.ensures ∙ ap (λ z. answer_of old z l.stmt) read in
+    let answer = c.answer-answer.ensures ∙ ap (λ z. stmt_answer old z l.stmt) read in
     let some = subst (λ (r : ℤ). IsSome (thread_step old c.args.thread r)) (sym c.taken-taken.ensures) c.requires.step in
     step_ready old kept c.args.thread c.taken-taken.result l line (view_world c.self-2.inside) rings c.answer-answer.result answer some
 
@@ -33,6 +33,6 @@ returns c =
     let kept = subst IsKept c.self.view_is c.self.invariant.0 in
     let line = ap (λ (w : World). next_line w.program w.controls c.args.thread) (sym c.self.view_is) ∙ sym c.line.ensures ∙ c.in-Some.is in
     let rings = ap (λ z. in_rings old (standing_at old.controls c.args.thread) z l.stmt) (sym read) ∙ c.in_ok-rings.ensures ∙ ap (λ (w : World). Some w) (sym c.self-2.view_is) in
-    let answer = c.answer-answer.ensures ∙ ap (λ z. answer_of old z l.stmt) read in
+    let answer = c.answer-answer.ensures ∙ ap (λ z. stmt_answer old z l.stmt) read in
     ap (thread_step old c.args.thread) (sym c.taken-taken.ensures)
     ∙ step_done old kept c.args.thread c.taken-taken.result l line (view_world c.self-2.inside) rings c.answer-answer.result answer c.step.result c.step.new.self c.step.ensures
