@@ -18,8 +18,8 @@ use Rattle.rc_rules.specs.declared.mode.Peeked.TheVariants.{Unseen, Sees, SeesOt
 use Rattle.rc_rules.specs.declared.mode.Slot.{Slot}
 use Rattle.rc_rules.specs.declared.mode.Slot.TheVariants.{Closed, Vacant}
 use Rattle.rc_rules.specs.Labels.{Label, Dead, Live, Weaker, WeakerMode, WeakerInside}
-use Rattle.rc_rules.specs.Premises.{Premise, Holds, Meets, MeetsBelow}
-use Rattle.rc_rules.specs.Rules.{kind_of, same_slot, is_prepared, is_prepared_as, is_seen, op_premises, op_effect, reaped, asks, goes, entered, may_release, released, test_premises, test_mode, peek_premises, with_peeked, peek_at, case_at, agree_modes, agree, agree_each, agree_all, may_join, queue_on, keeps_queue, may_loop, top_mode, top, may_break, broken}
+use Rattle.rc_rules.specs.Premises.{Premise, IsMet, Meets, MeetsBelow}
+use Rattle.rc_rules.specs.Rules.{kind_of, same_slot, has_kind, is_prepared_as, is_seen, op_premises, op_effect, reaped, asks, goes, entered, may_release, released, test_premises, test_mode, peek_premises, with_peeked, peek_at, case_at, agree_modes, agree, agree_each, agree_all, may_join, queue_on, keeps_queue, may_loop, top_mode, top, may_break, broken}
 use Rattle.rc_rules.specs.Labellings.{label_at, here, skipped, arm_end, arm_ends, break_end, break_ends, befores, premises}
 use Rattle.rc_rules.specs.Laws.{EachWeaker, IsStronger, GrowsAt}
 use Rattle.rc_rules.proofs.Moves.{mode_refl}
@@ -51,7 +51,7 @@ weaker_trans (Live a m) (Live b n) (Live c o) v w = (λ p. omega (arith, v.0 p, 
 abbrev Less : List (ℕ × Premise) → List (ℕ × Premise) → Type 0
 Less ps [] = Unit {0}
 Less [] (q ∷ qs) = ⊥
-Less (p ∷ ps) (q ∷ qs) = (p.0 ≡ q.0) × (Holds p.1 → Holds q.1) × Less ps qs
+Less (p ∷ ps) (q ∷ qs) = (p.0 ≡ q.0) × (IsMet p.1 → IsMet q.1) × Less ps qs
 
 less_refl : (ps : List (ℕ × Premise)) → Less ps ps
 less_refl [] = tt
@@ -115,7 +115,7 @@ asks_less P (ops.PrepRead f d l o) b c (Locked i) (Locked j) w v = (refl, slot_o
 asks_less P (ops.PrepWrite f d l o k) b c (Locked i) (Locked j) w v = (refl, slot_of i j Vacant v, (refl, more k (b (ShareOf d)) (c (ShareOf d)) (w (ShareOf d)), (refl, λ h. h, tt)))
 asks_less P (ops.PrepFsync f d) b c (Locked i) (Locked j) w v = (refl, slot_of i j Vacant v, tt)
 asks_less P ops.PrepNop b c (Locked i) (Locked j) w v = (refl, slot_of i j Vacant v, tt)
-asks_less P (ops.SetData64 u) b c (Locked i) (Locked j) w v = (refl, subst (λ y. is_prepared y ≡ true) v.slot, (refl, subst (λ y. is_prepared_as (kind_of P u) y ≡ true) v.slot, (refl, more 1 (b (TokenOf u)) (c (TokenOf u)) (w (TokenOf u)), tt)))
+asks_less P (ops.SetData64 u) b c (Locked i) (Locked j) w v = (refl, subst (λ y. has_kind y ≡ true) v.slot, (refl, subst (λ y. is_prepared_as (kind_of P u) y ≡ true) v.slot, (refl, more 1 (b (TokenOf u)) (c (TokenOf u)) (w (TokenOf u)), tt)))
 asks_less P (ops.Submit x) b c (Locked i) (Locked j) w v = (refl, slot_of i j Closed v, tt)
 asks_less P (ops.SubmitAndWait x k) b c (Locked i) (Locked j) w v = (refl, slot_of i j Closed v, tt)
 asks_less P ops.CqeSeen b c (Locked i) (Locked j) w v = (refl, seen i.peeked j.peeked v.peeked, tt)

@@ -16,7 +16,7 @@ use Rattle.rc_rules.specs.declared.mode.Slot.TheVariants.{Closed, Vacant, Prepar
 use Rattle.rc_rules.specs.Labels.{Label, Dead, Live, Weaker, WeakerMode, WeakerInside, IsStrongest}
 use Rattle.rc_rules.specs.Rules.{same_kind, same_slot, agree_modes, may_join}
 use Rattle.rc_rules.specs.Premises.{Meets}
-use Rattle.rc_rules.specs.States.{State, label_of, label_in, same_peeked, both_inside, both, IsFreeIn, IsFreeFor, AreAlike, Gives}
+use Rattle.rc_rules.specs.States.{State, label_of, label_in, same_peeked, both_inside, both, IsFreeIn, IsFreeFor, AgreeOnLock, Gives}
 use Rattle.rc_rules.proofs.Moves.{fewer_free}
 
 and_left : (x y : Bool) → (x && y) ≡ true → x ≡ true
@@ -98,7 +98,7 @@ right_inside i j e = record { queued = omega arith; slot = same_slot_is i.slot j
 best_inside : (x i j : Inside) → WeakerInside x i → WeakerInside x j → WeakerInside x (both_inside i j)
 best_inside x i j h g = record { queued = omega (arith, h.queued, g.queued); slot = h.slot; peeked = both_peeked x.peeked i.peeked j.peeked h.peeked g.peeked }
 
-pub both_strongest : (a b c : Part → ℕ) (m n k : Mode) → agree_modes m n ≡ true → AreAlike (Live a m) (Live b n) → ((p : Part) → c p ≡ least a b p) → k ≡ both m n → IsStrongest (Live c k) (Live a m ∷ Live b n ∷ [])
+pub both_strongest : (a b c : Part → ℕ) (m n k : Mode) → agree_modes m n ≡ true → AgreeOnLock (Live a m) (Live b n) → ((p : Part) → c p ≡ least a b p) → k ≡ both m n → IsStrongest (Live c k) (Live a m ∷ Live b n ∷ [])
 both_strongest a b c m n k e l h q = subst (λ x. IsStrongest (Live c x) (Live a m ∷ Live b n ∷ [])) (sym q) (go m n e l)
   where
     best : (m n : Mode) → ((u : Mode) → WeakerMode u m → WeakerMode u n → WeakerMode u (both m n)) → (t : Label) → Weaker t (Live a m) → Weaker t (Live b n) → Weaker t (Live c (both m n))
@@ -109,7 +109,7 @@ both_strongest a b c m n k e l h q = subst (λ x. IsStrongest (Live c x) (Live a
     insides Unlocked i j x y = absurd x
     insides (Locked s) i j x y = best_inside s i j x y
 
-    go : (m n : Mode) → agree_modes m n ≡ true → AreAlike (Live a m) (Live b n) → IsStrongest (Live c (both m n)) (Live a m ∷ Live b n ∷ [])
+    go : (m n : Mode) → agree_modes m n ≡ true → AgreeOnLock (Live a m) (Live b n) → IsStrongest (Live c (both m n)) (Live a m ∷ Live b n ∷ [])
     go Unlocked Unlocked e l = record { weaker = ((λ p. omega (arith, h p), tt), ((λ p. omega (arith, h p), tt), tt)); strongest = λ t w. best Unlocked Unlocked (λ u x y. x) t w.0 w.1.0 }
     go Unlocked (Locked j) e l = absurd l
     go (Locked i) Unlocked e l = absurd l
@@ -127,12 +127,12 @@ both_free P Q a b c m n k f r h q = subst (λ R. IsFreeIn R c k) (sym r) (subst 
     go (Locked i) (Locked j) f = seen i j.peeked f
 
 -- two live states join
-pub joined : (s t x y : State) (c : Holding) (m n k : Mode) → s ≡ x → t ≡ y → s.mode ≡ Some m → t.mode ≡ Some n → agree_modes m n ≡ true → AreAlike (label_of x) (label_of y) → ((p : Part) → bag c p ≡ least (bag s.holding) (bag t.holding) p) → k ≡ both m n → c.program ≡ s.holding.program → Gives {X = Unit {0}} x (record { holding = c; mode = Some k }) (Ok tt) (may_join (label_of x ∷ label_of y ∷ [])) (label_of x ∷ label_of y ∷ [])
+pub joined : (s t x y : State) (c : Holding) (m n k : Mode) → s ≡ x → t ≡ y → s.mode ≡ Some m → t.mode ≡ Some n → agree_modes m n ≡ true → AgreeOnLock (label_of x) (label_of y) → ((p : Part) → bag c p ≡ least (bag s.holding) (bag t.holding) p) → k ≡ both m n → c.program ≡ s.holding.program → Gives {X = Unit {0}} x (record { holding = c; mode = Some k }) (Ok tt) (may_join (label_of x ∷ label_of y ∷ [])) (label_of x ∷ label_of y ∷ [])
 joined s t x y c m n k p q e f a l h r o =
-    subst (λ x. AreAlike (label_of x) (label_of y) → Gives {X = Unit {0}} x (record { holding = c; mode = Some k }) (Ok tt) (may_join (label_of x ∷ label_of y ∷ [])) (label_of x ∷ label_of y ∷ [])) p
-    (subst (λ y. AreAlike (label_of s) (label_of y) → Gives {X = Unit {0}} s (record { holding = c; mode = Some k }) (Ok tt) (may_join (label_of s ∷ label_of y ∷ [])) (label_of s ∷ label_of y ∷ [])) q (λ l. go s.mode t.mode e f l)) l
+    subst (λ x. AgreeOnLock (label_of x) (label_of y) → Gives {X = Unit {0}} x (record { holding = c; mode = Some k }) (Ok tt) (may_join (label_of x ∷ label_of y ∷ [])) (label_of x ∷ label_of y ∷ [])) p
+    (subst (λ y. AgreeOnLock (label_of s) (label_of y) → Gives {X = Unit {0}} s (record { holding = c; mode = Some k }) (Ok tt) (may_join (label_of s ∷ label_of y ∷ [])) (label_of s ∷ label_of y ∷ [])) q (λ l. go s.mode t.mode e f l)) l
   where
-    go : (d g : Option Mode) → d ≡ Some m → g ≡ Some n → AreAlike (label_in (bag s.holding) d) (label_in (bag t.holding) g) → Meets (may_join (label_in (bag s.holding) d ∷ label_in (bag t.holding) g ∷ [])) × IsStrongest (Live (bag c) k) (label_in (bag s.holding) d ∷ label_in (bag t.holding) g ∷ []) × (c.program ≡ s.holding.program)
+    go : (d g : Option Mode) → d ≡ Some m → g ≡ Some n → AgreeOnLock (label_in (bag s.holding) d) (label_in (bag t.holding) g) → Meets (may_join (label_in (bag s.holding) d ∷ label_in (bag t.holding) g ∷ [])) × IsStrongest (Live (bag c) k) (label_in (bag s.holding) d ∷ label_in (bag t.holding) g ∷ []) × (c.program ≡ s.holding.program)
     go None g e f l = absurd cc
     go (Some m') None e f l = absurd cc
     go (Some m') (Some n') e f l =

@@ -3,25 +3,25 @@ use Rattle.std.specs.Prelude.{ℕ, List, codes}
 use Rattle.rc_rules.specs.declared.cause.Cause.{Cause}
 use Rattle.rc_rules.specs.declared.cause.Cause.TheVariants.{Unlocked, NoCredit, QueueFull, SlotOpen, NoSlot, WrongKind, NotWhole, NoShare, OutOfBuffer, NoToken, NoEntry, QueueLeft, LoopEntry, LoopBody, JoinMismatch, OverShares, TokenTwice, OverCredits}
 
-abbrev pub number_of : Cause → ℕ
-number_of Unlocked = 1
-number_of NoCredit = 2
-number_of QueueFull = 3
-number_of SlotOpen = 4
-number_of NoSlot = 5
-number_of WrongKind = 6
-number_of NotWhole = 7
-number_of NoShare = 8
-number_of OutOfBuffer = 9
-number_of NoToken = 10
-number_of NoEntry = 11
-number_of QueueLeft = 12
-number_of LoopEntry = 13
-number_of LoopBody = 14
-number_of JoinMismatch = 15
-number_of OverShares = 16
-number_of TokenTwice = 17
-number_of OverCredits = 18
+abbrev pub premise_number : Cause → ℕ
+premise_number Unlocked = 1
+premise_number NoCredit = 2
+premise_number QueueFull = 3
+premise_number SlotOpen = 4
+premise_number NoSlot = 5
+premise_number WrongKind = 6
+premise_number NotWhole = 7
+premise_number NoShare = 8
+premise_number OutOfBuffer = 9
+premise_number NoToken = 10
+premise_number NoEntry = 11
+premise_number QueueLeft = 12
+premise_number LoopEntry = 13
+premise_number LoopBody = 14
+premise_number JoinMismatch = 15
+premise_number OverShares = 16
+premise_number TokenTwice = 17
+premise_number OverCredits = 18
 
 abbrev pub name_of : Cause → List ℕ
 name_of Unlocked = codes "Unlocked"

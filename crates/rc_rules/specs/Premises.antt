@@ -1,25 +1,25 @@
 -- Premises with their numbers.
 use Rattle.std.specs.Prelude.{ℕ, ◌≡◌, ◌+◌, ◌<◌, ◌≤◌, Bool, true, List, [], ◌∷◌, Result, Ok, Err}
 use Rattle.rc_rules.specs.declared.cause.Cause.{Cause}
-use Rattle.rc_rules.specs.Causes.{number_of}
+use Rattle.rc_rules.specs.Causes.{premise_number}
 use Rattle.rc_split.specs.Bags.{Part, IsWithin}
 
 pub data Premise : Type 0 where
   Is : Bool → Premise
   Covers : (large small : Part → ℕ) → Premise
 
-abbrev pub Holds : Premise → Type 0
-Holds (Is b) = b ≡ true
-Holds (Covers large small) = IsWithin small large
+abbrev pub IsMet : Premise → Type 0
+IsMet (Is b) = b ≡ true
+IsMet (Covers large small) = IsWithin small large
 
 abbrev pub Meets : List (ℕ × Premise) → Type 0
 Meets [] = Unit {0}
-Meets (p ∷ ps) = Holds p.1 × Meets ps
+Meets (p ∷ ps) = IsMet p.1 × Meets ps
 
 -- the premises with numbers below n
 abbrev pub MeetsBelow : ℕ → List (ℕ × Premise) → Type 0
 MeetsBelow n [] = Unit {0}
-MeetsBelow n (p ∷ ps) = (p.0 < n → Holds p.1) × MeetsBelow n ps
+MeetsBelow n (p ∷ ps) = (p.0 < n → IsMet p.1) × MeetsBelow n ps
 
 -- The least number of a premise that fails is n.
 pub record FailsFirst (n : ℕ) (ps : List (ℕ × Premise)) : Type 0 where
@@ -38,9 +38,9 @@ IsRising (p ∷ ps) = IsFrom p.0 ps × IsRising ps
 -- whether each of some causes is ruled out
 abbrev pub tests_of : List (Bool × Cause) → List (ℕ × Premise)
 tests_of [] = []
-tests_of (t ∷ ts) = (number_of t.1, Is t.0) ∷ tests_of ts
+tests_of (t ∷ ts) = (premise_number t.1, Is t.0) ∷ tests_of ts
 
 -- Ok: the premises hold. A cause: the least that fails.
 abbrev pub Tests : {X : Type 0} → Result X Cause → List (ℕ × Premise) → Type 0
 Tests (Ok x) ps = Meets ps
-Tests (Err cause) ps = FailsFirst (number_of cause) ps
+Tests (Err cause) ps = FailsFirst (premise_number cause) ps

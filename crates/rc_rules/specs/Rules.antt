@@ -69,10 +69,10 @@ same_slot Vacant Vacant = true
 same_slot (Prepared k) (Prepared l) = same_kind k l
 same_slot _ _ = false
 
-abbrev pub is_prepared : Slot → Bool
-is_prepared Closed = false
-is_prepared Vacant = false
-is_prepared (Prepared kind) = true
+abbrev pub has_kind : Slot → Bool
+has_kind Closed = false
+has_kind Vacant = false
+has_kind (Prepared kind) = true
 
 -- the slot is prepared as the token's line says
 abbrev pub is_prepared_as : Option TokenKind → Slot → Bool
@@ -103,7 +103,7 @@ op_premises P bag m (ops.PrepRead fd b len off) = locked m (λ i. (5, Is (same_s
 op_premises P bag m (ops.PrepWrite fd b len off k) = locked m (λ i. (5, Is (same_slot i.slot Vacant)) ∷ (8, Is (nat_le k (bag (ShareOf b)))) ∷ (9, Is (nat_le len (bytes_at P.buffers b))) ∷ [])
 op_premises P bag m (ops.PrepFsync fd datasync) = locked m (λ i. (5, Is (same_slot i.slot Vacant)) ∷ [])
 op_premises P bag m ops.PrepNop = locked m (λ i. (5, Is (same_slot i.slot Vacant)) ∷ [])
-op_premises P bag m (ops.SetData64 u) = locked m (λ i. (5, Is (is_prepared i.slot)) ∷ (6, Is (is_prepared_as (kind_of P u) i.slot)) ∷ (10, Is (nat_le 1 (bag (TokenOf u)))) ∷ [])
+op_premises P bag m (ops.SetData64 u) = locked m (λ i. (5, Is (has_kind i.slot)) ∷ (6, Is (is_prepared_as (kind_of P u) i.slot)) ∷ (10, Is (nat_le 1 (bag (TokenOf u)))) ∷ [])
 op_premises P bag m (ops.Submit x) = locked m (λ i. (4, Is (same_slot i.slot Closed)) ∷ [])
 op_premises P bag m (ops.SubmitAndWait x n) = locked m (λ i. (4, Is (same_slot i.slot Closed)) ∷ [])
 op_premises P bag m ops.CqeSeen = locked m (λ i. (11, Is (is_seen i.peeked)) ∷ [])
@@ -114,9 +114,9 @@ op_premises P bag m (ops.Subtract x a b) = []
 op_premises P bag m (ops.Print x) = []
 
 -- no premise of a call on the ring is met without the lock
-abbrev pub in_lock : Mode → (Inside → Label) → Label
-in_lock Unlocked F = Dead
-in_lock (Locked i) F = F i
+abbrev pub if_locked : Mode → (Inside → Label) → Label
+if_locked Unlocked F = Dead
+if_locked (Locked i) F = F i
 
 -- a reaped request gives back what it owned, as far as it is known which one it was
 abbrev pub reaped : Program → Peeked → Part → ℕ
@@ -125,13 +125,13 @@ reaped P (Sees u) p = owned P u p
 reaped P SeesOther p = credits_bag 1 p
 
 abbrev pub op_effect : Program → (Part → ℕ) → Mode → Op → Label
-op_effect P bag m ops.GetSqe = in_lock m (λ i. Live (minus bag (credits_bag 1)) (Locked (record { queued = i.queued + 1; slot = Vacant; peeked = i.peeked })))
-op_effect P bag m (ops.PrepRead fd b len off) = in_lock m (λ i. Live (minus bag (kind_bag P (Read b))) (Locked (record i { slot = Prepared (Read b) })))
-op_effect P bag m (ops.PrepWrite fd b len off k) = in_lock m (λ i. Live (minus bag (kind_bag P (Write b k))) (Locked (record i { slot = Prepared (Write b k) })))
-op_effect P bag m (ops.PrepFsync fd datasync) = in_lock m (λ i. Live bag (Locked (record i { slot = Prepared Fsync })))
-op_effect P bag m ops.PrepNop = in_lock m (λ i. Live bag (Locked (record i { slot = Prepared Nop })))
-op_effect P bag m (ops.SetData64 u) = in_lock m (λ i. Live (minus bag (token_bag u)) (Locked (record i { slot = Closed })))
-op_effect P bag m ops.CqeSeen = in_lock m (λ i. Live (plus bag (reaped P i.peeked)) (Locked (record i { peeked = Unseen })))
+op_effect P bag m ops.GetSqe = if_locked m (λ i. Live (minus bag (credits_bag 1)) (Locked (record { queued = i.queued + 1; slot = Vacant; peeked = i.peeked })))
+op_effect P bag m (ops.PrepRead fd b len off) = if_locked m (λ i. Live (minus bag (kind_bag P (Read b))) (Locked (record i { slot = Prepared (Read b) })))
+op_effect P bag m (ops.PrepWrite fd b len off k) = if_locked m (λ i. Live (minus bag (kind_bag P (Write b k))) (Locked (record i { slot = Prepared (Write b k) })))
+op_effect P bag m (ops.PrepFsync fd datasync) = if_locked m (λ i. Live bag (Locked (record i { slot = Prepared Fsync })))
+op_effect P bag m ops.PrepNop = if_locked m (λ i. Live bag (Locked (record i { slot = Prepared Nop })))
+op_effect P bag m (ops.SetData64 u) = if_locked m (λ i. Live (minus bag (token_bag u)) (Locked (record i { slot = Closed })))
+op_effect P bag m ops.CqeSeen = if_locked m (λ i. Live (plus bag (reaped P i.peeked)) (Locked (record i { peeked = Unseen })))
 op_effect P bag m (ops.Submit x) = Live bag m
 op_effect P bag m (ops.SubmitAndWait x n) = Live bag m
 op_effect P bag m (ops.Load x b i) = Live bag m

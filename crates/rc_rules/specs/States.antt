@@ -10,7 +10,7 @@ use Rattle.rc_rules.specs.declared.mode.Peeked.{Peeked}
 use Rattle.rc_rules.specs.declared.mode.Peeked.TheVariants.{Unseen, Sees, SeesOther}
 use Rattle.rc_split.specs.Bags.{Part, TokenOf}
 use Rattle.rc_split.specs.Holdings.{Holding, bag}
-use Rattle.rc_rules.specs.Causes.{number_of}
+use Rattle.rc_rules.specs.Causes.{premise_number}
 use Rattle.rc_rules.specs.Labellings.{start_of}
 use Rattle.rc_rules.specs.Labels.{Label, Dead, Live, IsStrongest, IsSame}
 use Rattle.rc_rules.specs.Premises.{Premise, Meets, FailsFirst}
@@ -61,11 +61,11 @@ IsUnlocked (Live bag Unlocked) = Unit {0}
 IsUnlocked (Live bag (Locked i)) = ⊥
 
 -- Unless one is dead, both are locked, or both are not.
-abbrev pub AreAlike : Label → Label → Type 0
-AreAlike Dead t = Unit {0}
-AreAlike (Live a m) Dead = Unit {0}
-AreAlike (Live a Unlocked) (Live b n) = IsUnlocked (Live b n)
-AreAlike (Live a (Locked i)) (Live b n) = IsLocked (Live b n)
+abbrev pub AgreeOnLock : Label → Label → Type 0
+AgreeOnLock Dead t = Unit {0}
+AgreeOnLock (Live a m) Dead = Unit {0}
+AgreeOnLock (Live a Unlocked) (Live b n) = IsUnlocked (Live b n)
+AgreeOnLock (Live a (Locked i)) (Live b n) = IsLocked (Live b n)
 
 -- No count is above 2^19.
 abbrev pub IsSmall : Label → Type 0
@@ -78,12 +78,12 @@ IsSmall (Live bag m) = (p : Part) → bag p ≤ 2 ^ 19
 -- that fails, and nothing changes.
 abbrev pub Gives : {X : Type 0} → State → State → Result X Cause → List (ℕ × Premise) → List Label → Type 0
 Gives old new (Ok x) premises befores = Meets premises × IsStrongest (label_of new) befores × (program_of new ≡ program_of old)
-Gives old new (Err cause) premises befores = FailsFirst (number_of cause) premises × (new ≡ old)
+Gives old new (Err cause) premises befores = FailsFirst (premise_number cause) premises × (new ≡ old)
 
 -- A rule of one line changes a holding and the mode to the effect, or names the least premise that fails.
 abbrev pub Steps : Holding → Holding → Result Mode Cause → List (ℕ × Premise) → Label → Type 0
 Steps old new (Ok m) premises effect = Meets premises × IsSame (Live (bag new) m) effect × (new.program ≡ old.program)
-Steps old new (Err cause) premises effect = FailsFirst (number_of cause) premises × (new ≡ old)
+Steps old new (Err cause) premises effect = FailsFirst (premise_number cause) premises × (new ≡ old)
 
 -- What a token's line says is true of the program.
 abbrev pub IsLine : Program → Option TokenKind → Type 0
@@ -93,7 +93,7 @@ IsLine P (Some kind) = IsTokenKind P kind
 -- A rule of a block changes the mode to this one, or names the least premise that fails.
 abbrev pub Becomes : Result Mode Cause → List (ℕ × Premise) → Mode → Type 0
 Becomes (Ok m) premises mode = Meets premises × (m ≡ mode)
-Becomes (Err cause) premises mode = FailsFirst (number_of cause) premises
+Becomes (Err cause) premises mode = FailsFirst (premise_number cause) premises
 
 -- ---- two states
 

@@ -2,7 +2,7 @@
 
 ghost use Rattle.std.specs.Prelude.{◌≡◌, ◌∷◌, [], ◌<◌, ◌^◌, IfOk};
 ghost use Rattle.rc_lang.specs.Parts.{view_items};
-ghost use Rattle.rc_rules.specs.Causes.{number_of};
+ghost use Rattle.rc_rules.specs.Causes.{premise_number};
 ghost use Rattle.rc_rules.specs.Premises.{Tests, Is};
 ghost use Rattle.rc_rules.specs.Rules as rules;
 ghost use Rattle.rc_rules.specs.States as states;
@@ -96,7 +96,7 @@ fn keeps_queue(program: &Program, items: &Items, mode: Mode) -> bool
 
 /// Whether the items of a loop are held at its top or its end; the cause says which.
 pub fn may_loop(holding: &Holding, items: &Items, mode: Mode, cause: Cause) -> Result<(), Cause>
-    ensures answer { Tests result (rules.may_loop holding.now.program (number_of cause) (view_items items.now) (bag holding.now) mode) }
+    ensures answer { Tests result (rules.may_loop holding.now.program (premise_number cause) (view_items items.now) (bag holding.now) mode) }
     ensures small { IfOk result (λ _. (p : Part) → bag holding.now p < 2 ^ 20) }
 {
     if !keeps_queue(holding.program(), items, mode) {

@@ -47,7 +47,7 @@ pub enum Cause {
 impl Cause {
     /// The number that is printed behind `V`, 1 to 18.
     pub fn number(self) -> u32
-        ensures { result ≡ spec.number_of self }
+        ensures { result ≡ spec.premise_number self }
     {
         match self {
             Cause::Unlocked => 1,

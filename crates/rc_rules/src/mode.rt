@@ -68,8 +68,8 @@ pub fn same_slot(a: Slot, b: Slot) -> bool
     }
 }
 
-pub fn is_prepared(slot: Slot) -> bool
-    ensures { result ≡ spec.is_prepared slot }
+pub fn has_kind(slot: Slot) -> bool
+    ensures { result ≡ spec.has_kind slot }
 {
     match slot {
         Slot::Prepared(_) => true,

@@ -13,7 +13,7 @@ ghost use Rattle.rc_rules.specs.declared.mode.Slot.TheVariants as slots;
 ghost use Rattle.rc_lang.specs.declared.lines.Op.TheVariants as ops;
 
 use crate::cause::Cause;
-use crate::mode::{Inside, Mode, Peeked, Slot, is_prepared, is_prepared_as, is_seen, same_slot};
+use crate::mode::{Inside, Mode, Peeked, Slot, has_kind, is_prepared_as, is_seen, same_slot};
 use crate::premises::tested;
 use rc_lang::lines::Op;
 use rc_lang::program::{Program, TokenKind};
@@ -190,7 +190,7 @@ fn set_data64(holding: &mut Holding, mode: Mode, user_data: u64) -> Result<Mode,
     let inside = locked(mode)?;
     let kind = kind_of(holding.program(), user_data);
     tested(&[
-        (is_prepared(inside.slot), Cause::NoSlot),
+        (has_kind(inside.slot), Cause::NoSlot),
         (is_prepared_as(kind, inside.slot), Cause::WrongKind),
         (holding.holds(Part::Token(user_data)), Cause::NoToken),
     ])?;

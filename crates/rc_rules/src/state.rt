@@ -97,15 +97,38 @@ impl<'a> State<'a> {
         }
     }
 
-    /// A state of the same program that nothing reaches, as behind the end of an arm.
-    pub fn dead(&self) -> State<'a>
+    /// Becomes the same state as another, with no copy between.
+    pub fn copy_from(&mut self, other: &State<'a>)
+        ensures { self.new ≡ other.now }
+    {
+        self.holding.copy_from(&other.holding);
+        self.mode = other.mode;
+    }
+
+    /// A state of the program that nothing reaches.
+    pub fn dead(program: &'a Program) -> State<'a>
         ensures dead { spec.label_of result ≡ Dead }
-        ensures of { spec.program_of result ≡ spec.program_of self.now }
+        ensures of { spec.program_of result ≡ program.now }
     {
         State {
-            holding: self.holding.again(),
+            holding: Holding::nothing(program),
             mode: None,
         }
+    }
+
+    /// The state is dead from now on, as behind the end of an arm.
+    pub fn die(&mut self)
+        ensures dead { spec.label_of self.new ≡ Dead }
+        ensures of { spec.program_of self.new ≡ spec.program_of self.old }
+    {
+        self.mode = None;
+    }
+
+    /// The program of the state.
+    pub fn program(&self) -> &'a Program
+        ensures { result.now ≡ spec.program_of self.now }
+    {
+        self.holding.program()
     }
 
     /// `lock {`: as many entries may be queued as may be left. The state is dead, or unlocked.
@@ -148,7 +171,7 @@ impl<'a> State<'a> {
         };
         let arm = blocks::in_arm(Peeked::Sees(user_data), mode)?;
         if self.holding.holds(Part::Token(user_data)) {
-            self.mode = None;
+            self.die();
             return Ok(false);
         }
         self.mode = Some(arm);
@@ -222,7 +245,7 @@ impl<'a> State<'a> {
         if let Some(mode) = self.mode {
             blocks::may_loop(&self.holding, items, mode, Cause::LoopBody)?;
         }
-        self.mode = None;
+        self.die();
         Ok(())
     }
 
@@ -235,7 +258,7 @@ impl<'a> State<'a> {
         if let Some(mode) = self.mode {
             blocks::may_break(self.holding.program(), releases, mode)?;
         }
-        self.mode = None;
+        self.die();
         Ok(())
     }
 
@@ -243,14 +266,14 @@ impl<'a> State<'a> {
     /// not.
     pub fn meet(&mut self, other: &State<'a>) -> Result<(), Cause>
         requires of { spec.program_of other.now ≡ spec.program_of self.old }
-        requires alike { spec.AreAlike (spec.label_of self.old) (spec.label_of other.now) }
+        requires alike { spec.AgreeOnLock (spec.label_of self.old) (spec.label_of other.now) }
         ensures { spec.Gives self.old self.new result (rules.may_join (spec.label_of self.old ∷ spec.label_of other.now ∷ [])) (spec.label_of self.old ∷ spec.label_of other.now ∷ []) }
     {
         let Some(theirs) = other.mode else {
             return Ok(());
         };
         let Some(mine) = self.mode else {
-            *self = other.again();
+            self.copy_from(other);
             return Ok(());
         };
         self.mode = Some(blocks::both(mine, theirs)?);

@@ -1,5 +1,5 @@
 -- Where tokens stand among those of a program, and marks at their places.
-use Rattle.std.proofs.Common.{◌≡◌, ℕ, ◌<◌, ◌≤◌, Bool, true, false, cond, List, length, Option, Some, None, refl, sym, ap, ◌∙◌, subst, get_or, ltb, arith, nat_eq}
+use Rattle.std.proofs.Common.{◌≡◌, ℕ, ◌-◌, ◌<◌, ◌≤◌, Bool, true, false, cond, List, length, Option, Some, None, refl, sym, ap, ◌∙◌, subst, get_or, ltb, arith, nat_eq, nat_le}
 use Rattle.std.proofs.Math.ListN.{set}
 use Rattle.std.proofs.lemmas.Bool.{eqb-true, eq-eqb, ltb-true, ltb-false}
 use Rattle.std.proofs.lemmas.List.{get_or-set_same, get_or-set_other, get_or-map, length-map}
@@ -10,7 +10,7 @@ use Rattle.std.specs.Prelude.{map}
 use Rattle.rc_lang.specs.declared.program.Token.{Token}
 use Rattle.rc_lang.specs.declared.program.TokenKind.TheVariants.{Nop}
 use Rattle.rc_lang.specs.Program.{Program, token_place}
-use Rattle.rc_split.specs.Bags.{Part, ShareOf, TokenOf, Credit}
+use Rattle.rc_split.specs.Bags.{Part, ShareOf, TokenOf, Credit, minus, token_bag}
 use Rattle.rc_split.specs.Holdings.{mark_at, bag, marked, Holds}
 
 no_token : Token
@@ -63,6 +63,27 @@ mark_held P shares marks new credits u i x e lt q = record { of = refl; each = e
     each (ShareOf b) = refl
     each (TokenOf v) = rw q (mark_set P.tokens marks u v i x e lt)
     each Credit = refl
+
+-- a token that is held is there no more
+one_at_most : (marks : List Bool) (o : Option ℕ) → mark_at marks o ≤ 1
+one_at_most marks None = omega arith
+one_at_most marks (Some i) = go (get_or marks i false)
+  where
+    go : (b : Bool) → cond b 1 0 ≤ 1
+    go true = omega arith
+    go false = omega arith
+
+less : (b : Bool) (m : ℕ) → m ≤ 1 → cond b 0 m ≡ m - cond b 1 0
+less true m le = omega (arith, le)
+less false m le = omega arith
+
+pub token_taken : (P : Program) (shares : List ℕ) (marks : List Bool) (credits u i : ℕ) → token_place P.tokens u ≡ Some i → i < length marks → get_or marks i false ≡ true → (nat_le 1 (mark_at marks (token_place P.tokens u)) ≡ true) × Holds (record { program = P; shares = shares; marks = set marks i false; credits = credits }) P (minus (bag (record { program = P; shares = shares; marks = marks; credits = credits })) (token_bag u))
+token_taken P shares marks credits u i e lt h = (rw e (rw h refl), record { of = refl; each = each })
+  where
+    each : (p : Part) → bag (record { program = P; shares = shares; marks = set marks i false; credits = credits }) p ≡ minus (bag (record { program = P; shares = shares; marks = marks; credits = credits })) (token_bag u) p
+    each (ShareOf b) = omega arith
+    each (TokenOf v) = mark_set P.tokens marks u v i false e lt ∙ less (nat_eq u v) _ (one_at_most marks (token_place P.tokens v))
+    each Credit = omega arith
 
 pub place_within : (tokens : List Token) (u i : ℕ) → token_place tokens u ≡ Some i → i < length tokens
 place_within tokens u i e = (position-Some (λ (t : Token). nat_eq t.user_data u) tokens i no_token e).0

@@ -40,7 +40,8 @@ impl<'a> Holding<'a> {
         Ok(Holding::nothing(program))
     }
 
-    fn nothing(program: &'a Program) -> Holding<'a>
+    /// Nothing of the program's is held, as [`empty`](Holding::empty) makes it.
+    pub fn nothing(program: &'a Program) -> Holding<'a>
         ensures { spec.Holds result program.now bags.nothing }
     {
         // Any of a program's readers says that it was made, and so how many buffers and tokens it has at most.
@@ -71,6 +72,16 @@ impl<'a> Holding<'a> {
             marks: self.marks,
             credits: self.credits,
         }
+    }
+
+    /// Becomes the same holding as another, with no copy between.
+    pub fn copy_from(&mut self, other: &Holding<'a>)
+        ensures { self.new ≡ other.now }
+    {
+        self.program = other.program;
+        self.shares = other.shares;
+        self.marks = other.marks;
+        self.credits = other.credits;
     }
 
     /// The program whose parts are held.
@@ -131,7 +142,7 @@ impl<'a> Holding<'a> {
         ensures { spec.TakesAll self.old self.new (bags.tokens_alone tokens.now) result }
     {
         for user_data in tokens {
-            if self.take(Part::Token(*user_data)).is_none() {
+            if self.take_token(*user_data).is_none() {
                 return false;
             }
         }
@@ -146,10 +157,19 @@ impl<'a> Holding<'a> {
         requires small { (p : bags.Part) → bags.bag_of (view_items items.now) p < 2 ^ 20 }
         ensures { spec.Holds self.new self.old.program (bags.bag_of (view_items items.now)) }
     {
-        *self = Holding::nothing(self.program);
+        self.clear();
         self.give_shares(&items.shares);
         self.give_tokens(&items.tokens);
         self.give(Part::Credits(items.credits));
+    }
+
+    /// Nothing is held from now on.
+    fn clear(&mut self)
+        ensures { spec.Holds self.new self.old.program bags.nothing }
+    {
+        self.shares = [0; 64];
+        self.marks = [false; 256];
+        self.credits = 0;
     }
 
     fn give_shares(&mut self, shares: &[Share])
@@ -195,6 +215,18 @@ impl<'a> Holding<'a> {
             return None;
         }
         self.remove(part);
+        Some(())
+    }
+
+    /// Takes the token away, as [`take`](Holding::take) does, and looks for its place once.
+    fn take_token(&mut self, user_data: u64) -> Option<()>
+        ensures { spec.Takes self.old self.new (Part.Token user_data) result }
+    {
+        let place = self.program.token_place(user_data)?;
+        if !self.marks[place] {
+            return None;
+        }
+        self.marks[place] = false;
         Some(())
     }
 

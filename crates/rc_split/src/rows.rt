@@ -34,9 +34,7 @@ pub fn least_counts(mine: &mut [u32; 64], theirs: &[u32; 64])
     ensures { (k : ℕ) → slice_index mine.new k ≡ min (slice_index mine.old k) (slice_index theirs.now k) }
 {
     for place in 0..64 {
-        if theirs[place] < mine[place] {
-            mine[place] = theirs[place];
-        }
+        mine[place] = mine[place].min(theirs[place]);
     }
 }
 
@@ -45,8 +43,6 @@ pub fn least_marks(mine: &mut [bool; 256], theirs: &[bool; 256])
     ensures { (k : ℕ) → slice_index_or mine.new k false ≡ (slice_index_or mine.old k false && slice_index_or theirs.now k false) }
 {
     for place in 0..256 {
-        if !theirs[place] {
-            mine[place] = false;
-        }
+        mine[place] &= theirs[place];
     }
 }

@@ -20,7 +20,7 @@ use Rattle.rc_rules.specs.Labellings.{label_at, befores, premises, IsGood, HasLa
 use Rattle.rc_rules.specs.Laws.{IsStronger}
 use Rattle.rc_rules.specs.Premises.{MeetsBelow, FailsFirst}
 use Rattle.rc_rules.specs.Rules.{same_kind, same_slot, agree_modes}
-use Rattle.rc_rules.specs.States.{both, AreAlike}
+use Rattle.rc_rules.specs.States.{both, AgreeOnLock}
 use Rattle.rc_rules.proofs.Growth.{weaker_trans, rules_grow}
 use Rattle.rc_rules.proofs.Meets.{both_strongest}
 use Rattle.rc_rules.proofs.Moves.{weaker_refl}
@@ -49,7 +49,7 @@ modes_agree Unlocked Unlocked (Locked h) v w = absurd w
 modes_agree (Locked i) Unlocked n v w = absurd v
 modes_agree (Locked i) (Locked j) Unlocked v w = absurd w
 
-modes_alike : (a b : Part → ℕ) (k m n : Mode) → WeakerMode k m → WeakerMode k n → AreAlike (Live a m) (Live b n)
+modes_alike : (a b : Part → ℕ) (k m n : Mode) → WeakerMode k m → WeakerMode k n → AgreeOnLock (Live a m) (Live b n)
 modes_alike a b Unlocked Unlocked Unlocked v w = tt
 modes_alike a b (Locked i) (Locked j) (Locked h) v w = tt
 modes_alike a b Unlocked (Locked j) n v w = absurd v

@@ -16,7 +16,7 @@ use Rattle.rc_rules.specs.Labels.{Label, Dead, Live, IsStrongest}
 use Rattle.rc_rules.specs.Labellings.{here, label_at}
 use Rattle.rc_rules.specs.Premises.{Premise}
 use Rattle.rc_rules.specs.Rules.{asks, goes, may_join, test_mode, test_premises}
-use Rattle.rc_rules.specs.States.{State, AreAlike, Gives, label_of, program_of}
+use Rattle.rc_rules.specs.States.{State, AgreeOnLock, Gives, label_of, program_of}
 use Rattle.arrayvec.specs.ArrayVec.{ArrayVec}
 use Rattle.rc_verify.specs.declared.walk.Walk.{Walk}
 use Rattle.rc_verify.specs.Kept.{last_of, rest_of}
@@ -160,7 +160,7 @@ module _ (P : Program) (t : Thread) (j : ℕ) (w : Walk) (r : Reaches P t j w) w
   pub end_of : (o : ℕ) (s : State) → stmt_at t.lines j ≡ Some (EndIf o) → last_of w.branches.items ≡ Some s → program_of s ≡ program_of w.state
   end_of o s e q = (saved_last o s e q).of ∙ sym r.at.here.of
 
-  pub end_alike : (o : ℕ) (s : State) → stmt_at t.lines j ≡ Some (EndIf o) → last_of w.branches.items ≡ Some s → AreAlike (label_of w.state) (label_of s)
+  pub end_alike : (o : ℕ) (s : State) → stmt_at t.lines j ≡ Some (EndIf o) → last_of w.branches.items ≡ Some s → AgreeOnLock (label_of w.state) (label_of s)
   end_alike o s e q = fits_alike (in_lock (blocks_at t.lines j)) (most_at j) (most_at j) (label_of w.state) (label_of s) (fits_here P t j w r (EndIf o) e) (fits_last o s e q)
 
   ends : {X : Type 0} (o : ℕ) (s new : State) (kept : ArrayVec (Option State)) (x : Result X Cause) → stmt_at t.lines j ≡ Some (EndIf o) → last_of w.branches.items ≡ Some s → Gives w.state new x (may_join (label_of w.state ∷ label_of s ∷ [])) (label_of w.state ∷ label_of s ∷ []) → kept.items ≡ rest_of w.branches.items → Turns P t j (record { state = new; branches = kept; peek = w.peek; loops = w.loops }) x

@@ -11,12 +11,12 @@ use Rattle.rc_lang.proofs.Closing.{ClosesArm, closes_arm, closes_peek}
 use Rattle.rc_lang.proofs.Lookups.{get_old}
 use Rattle.rc_rules.specs.declared.cause.Cause.{Cause}
 use Rattle.rc_rules.specs.declared.mode.Peeked.TheVariants.{Unseen}
-use Rattle.rc_rules.specs.Causes.{number_of}
+use Rattle.rc_rules.specs.Causes.{premise_number}
 use Rattle.rc_rules.specs.Labels.{Label, Dead, IsStrongest}
 use Rattle.rc_rules.specs.Labellings.{arm_ends}
 use Rattle.rc_rules.specs.Premises.{FailsFirst}
 use Rattle.rc_rules.specs.Rules.{agree, agree_all, may_join, peek_at}
-use Rattle.rc_rules.specs.States.{State, AreAlike, IsLocked, label_of, program_of}
+use Rattle.rc_rules.specs.States.{State, AgreeOnLock, IsLocked, label_of, program_of}
 use Rattle.rc_verify.specs.Arms.{ClosesPeek, EndsArm, EndsArmIn, JoinsOn}
 use Rattle.rc_verify.specs.declared.arms.Arms.{Arms}
 use Rattle.rc_verify.specs.declared.walk.Walk.{Walk}
@@ -85,10 +85,10 @@ module _ (P : Program) (t : Thread) (j : ℕ) (w : Walk) (r : Reaches P t j w) w
   end_fits : (o : ℕ) → stmt_at t.lines j ≡ Some (EndArm o) → Fits (in_lock (blocks_at t.lines o)) (most_at j) (peek_at Unseen (label_of w.state))
   end_fits o e = peek_fits Unseen (in_lock (blocks_at t.lines o)) (most_at j) (label_of w.state) (subst (λ b. Fits b (most_at j) (label_of w.state)) (arm_lock o (closes_arm t.lines r.thread.nested.each j o e)) (fits_here P t j w r (EndArm o) e))
 
-  pub arm_alike : (o : ℕ) → stmt_at t.lines j ≡ Some (EndArm o) → IfSome w.peek (λ a. a.agree ≡ true → AreAlike (label_of a.ends) (peek_at Unseen (label_of w.state)))
+  pub arm_alike : (o : ℕ) → stmt_at t.lines j ≡ Some (EndArm o) → IfSome w.peek (λ a. a.agree ≡ true → AgreeOnLock (label_of a.ends) (peek_at Unseen (label_of w.state)))
   arm_alike o e =
       let a = ending o (closes_arm t.lines r.thread.nested.each j o e) in
-      subst (λ (x : Option Arms). IfSome x (λ a. a.agree ≡ true → AreAlike (label_of a.ends) (peek_at Unseen (label_of w.state)))) (sym a.is)
+      subst (λ (x : Option Arms). IfSome x (λ a. a.agree ≡ true → AgreeOnLock (label_of a.ends) (peek_at Unseen (label_of w.state)))) (sym a.is)
       (λ q. fits_alike (in_lock (blocks_at t.lines o)) (most_at j) (most_at j) (label_of a.arms.ends) (peek_at Unseen (label_of w.state)) (a.holds.ends q).fits (end_fits o e))
 
   ended : (o : ℕ) (a a' : Arms) (new : Label) → stmt_at t.lines j ≡ Some (EndArm o) → IsPeeked P t j r.labels o a → EndsArm a a' w.state → IsPeeked P t (j + 1) (r.labels ++ new ∷ []) o a'
@@ -151,7 +151,7 @@ module _ (P : Program) (t : Thread) (j : ℕ) (w : Walk) (r : Reaches P t j w) w
     where
       same : (f : Block → List ℕ) → f (InPeek o) ≡ [] → places f (blocks_at t.lines (j + 1)) ≡ places f (blocks_at t.lines j)
       same f n = let c = closes_peek t.lines r.thread.nested.each j o e in ap (places f) c.1.behind ∙ sym (ap (places f) c.1.within ∙ pushed_none f (blocks_at t.lines o) (InPeek o) n)
-  closed o a new peek (Err c) e h g q = refused P t j w r (EndPeek o) e (number_of c) (subst (λ v. FailsFirst v (may_join (arm_ends (take j t.lines) r.labels o))) (sym g.1) (fails_join (arm_ends (take j t.lines) r.labels o) (h.agree ∙ g.0)))
+  closed o a new peek (Err c) e h g q = refused P t j w r (EndPeek o) e (premise_number c) (subst (λ v. FailsFirst v (may_join (arm_ends (take j t.lines) r.labels o))) (sym g.1) (fails_join (arm_ends (take j t.lines) r.labels o) (h.agree ∙ g.0)))
 
   pub end_peek_turns : {X : Type 0} (o : ℕ) (new : State) (peek : Option Arms) (x : Result X Cause) → stmt_at t.lines j ≡ Some (EndPeek o) → IfSome w.peek (λ a. ClosesPeek a new x) → peek ≡ None → Turns P t j (record { state = new; branches = w.branches; peek = peek; loops = w.loops }) x
   end_peek_turns o new peek x e g q =

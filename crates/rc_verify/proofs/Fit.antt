@@ -16,7 +16,7 @@ use Rattle.rc_rules.specs.Labels.{Label, Dead, Live, Weaker, WeakerMode, WeakerT
 use Rattle.rc_rules.specs.Labellings.{start_of}
 use Rattle.rc_rules.specs.Rules.{kind_of, same_slot, op_effect, reaped, goes, entered, released, test_mode, with_peeked, peek_at, case_at, top, broken, asks, may_break, agree}
 use Rattle.rc_rules.specs.Premises.{Meets}
-use Rattle.rc_rules.specs.States.{IsLocked, IsUnlocked, AreAlike, IsSmall}
+use Rattle.rc_rules.specs.States.{IsLocked, IsUnlocked, AgreeOnLock, IsSmall}
 use Rattle.rc_rules.proofs.Headers.{few_of, once}
 use Rattle.rc_rules.proofs.Lines.{line_few, line_of, one_at_most, one_credit}
 use Rattle.rc_verify.specs.Walk.{Fits, is_locked, IsClosed}
@@ -80,7 +80,7 @@ fits_unlocked n Dead h = tt
 fits_unlocked n (Live a Unlocked) h = tt
 fits_unlocked n (Live a (Locked i)) h = absurd (cc (h.0))
 
-pub fits_alike : (b : Bool) (n k : ℕ) (s t : Label) → Fits b n s → Fits b k t → AreAlike s t
+pub fits_alike : (b : Bool) (n k : ℕ) (s t : Label) → Fits b n s → Fits b k t → AgreeOnLock s t
 fits_alike b n k Dead t h g = tt
 fits_alike b n k (Live a m) Dead h g = tt
 fits_alike b n k (Live a Unlocked) (Live c Unlocked) h g = tt

@@ -5,14 +5,14 @@ use Rattle.rc_lang.specs.Program.{Program}
 use Rattle.rc_rules.specs.declared.cause.Cause.{Cause}
 use Rattle.rc_rules.specs.declared.mode.Mode.TheVariants.{Unlocked, Locked}
 use Rattle.rc_rules.specs.declared.mode.Peeked.TheVariants.{Unseen}
-use Rattle.rc_rules.specs.Causes.{number_of}
+use Rattle.rc_rules.specs.Causes.{premise_number}
 use Rattle.rc_rules.specs.Labels.{Label, Dead, Live, Weaker, IsStrongest}
 use Rattle.rc_rules.specs.Premises.{Premise, Meets, MeetsBelow, FailsFirst}
 use Rattle.rc_rules.specs.Rules.{same_slot, agree, asks, broken, may_break, may_join, may_release, peek_at, peek_premises, released}
-use Rattle.rc_rules.specs.States.{State, label_of, program_of, AreAlike, Gives}
+use Rattle.rc_rules.specs.States.{State, label_of, program_of, AgreeOnLock, Gives}
 use Rattle.rc_rules.proofs.Moves.{weaker_refl}
 use Rattle.rc_verify.specs.declared.arms.Arms.{Arms}
-use Rattle.rc_verify.specs.Arms.{Joins, JoinsOn, EndsArm}
+use Rattle.rc_verify.specs.Arms.{Joins, JoinsOn}
 use Rattle.rc_verify.specs.Kept.{last_of, rest_of}
 use Rattle.rc_verify.specs.Loops.{Breaks, FitsWith, KeepsMeet, MayBreak}
 
@@ -37,7 +37,7 @@ below s t h = h.weaker.0
 pub above : (s t : Label) → IsStrongest s (t ∷ []) → Weaker t s
 above s t h = h.strongest t (weaker_refl t, tt)
 
-pub alike_same : (a e t : Label) → Weaker e t → Weaker t e → AreAlike a t → AreAlike a e
+pub alike_same : (a e t : Label) → Weaker e t → Weaker t e → AgreeOnLock a t → AgreeOnLock a e
 alike_same Dead e t v w h = tt
 alike_same (Live a m) Dead t v w h = tt
 alike_same (Live a m) (Live b n) Dead v w h = absurd w
@@ -66,7 +66,7 @@ not_peeked (Live b (Locked i)) n f = absurd (f.fails tt)
 
 pub forgets : {X : Type 0} (old new : State) (x : Result X Cause) → Gives old new x (asks (label_of old) (λ bag m. peek_premises m)) (peek_at Unseen (label_of old) ∷ []) → IsStrongest (label_of new) (peek_at Unseen (label_of old) ∷ []) × (program_of new ≡ program_of old)
 forgets old new (Ok x) g = (g.1, g.2)
-forgets old new (Err c) g = subst (λ (s : State). IsStrongest (label_of s) (peek_at Unseen (label_of old) ∷ []) × (program_of s ≡ program_of old)) (sym g.1) (not_peeked (label_of old) (number_of c) g.0, refl)
+forgets old new (Err c) g = subst (λ (s : State). IsStrongest (label_of s) (peek_at Unseen (label_of old) ∷ []) × (program_of s ≡ program_of old)) (sym g.1) (not_peeked (label_of old) (premise_number c) g.0, refl)
 
 -- ---- a release behind a break's test
 
@@ -77,7 +77,7 @@ may_too P (Live b (Locked i)) h = h
 
 pub releases : {X : Type 0} (old new : State) (x : Result X Cause) → Meets (asks (label_of old) (λ bag m. may_break (program_of old) true m)) → Gives old new x (asks (label_of old) (λ bag m. may_release (program_of old) m)) (released (label_of old) ∷ []) → IsStrongest (label_of new) (released (label_of old) ∷ []) × (program_of new ≡ program_of old)
 releases old new (Ok x) h g = (g.1, g.2)
-releases old new (Err c) h g = absurd (not_both (number_of c) _ (may_too (program_of old) (label_of old) h) g.0)
+releases old new (Err c) h g = absurd (not_both (premise_number c) _ (may_too (program_of old) (label_of old) h) g.0)
 
 -- ---- two that join
 
@@ -100,35 +100,21 @@ differ_two s t n f = go (agree s t) refl
 
 pub joins : {X : Type 0} (old new : State) (end : Label) (x : Result X Cause) → Gives old new x (may_join (label_of old ∷ end ∷ [])) (label_of old ∷ end ∷ []) → Joins old new end (is_ok x) × (program_of new ≡ program_of old)
 joins old new end (Ok x) g = ((agree_two (label_of old) end g.0, g.1, g.2), g.2)
-joins old new end (Err c) g = (differ_two (label_of old) end (number_of c) g.0, ap program_of g.1)
+joins old new end (Err c) g = (differ_two (label_of old) end (premise_number c) g.0, ap program_of g.1)
 
 meets_always : {X : Type 0} (old new : State) (end : Label) (x : Result X Cause) → agree (label_of old) end ≡ true → Gives old new x (may_join (label_of old ∷ end ∷ [])) (label_of old ∷ end ∷ []) → IsStrongest (label_of new) (label_of old ∷ end ∷ []) × (program_of new ≡ program_of old)
 meets_always old new end (Ok x) e g = (g.1, g.2)
-meets_always old new end (Err c) e g = absurd (not_both (number_of c) _ (join_two (label_of old) end e) g.0)
+meets_always old new end (Err c) e g = absurd (not_both (premise_number c) _ (join_two (label_of old) end e) g.0)
 
 -- ---- an arm's end
 
 -- It joins those before it,
-pub arm_joins : {X : Type 0} (old : Arms) (s moved end new : State) (x : Result X Cause) (b : Bool) → moved ≡ s → IsStrongest (label_of end) (peek_at Unseen (label_of moved) ∷ []) → old.agree ≡ true → Gives old.ends new x (may_join (label_of old.ends ∷ label_of end ∷ [])) (label_of old.ends ∷ label_of end ∷ []) → b ≡ is_ok x → EndsArm old (record { before = old.before; ends = new; agree = b }) s
-arm_joins old s moved end new x b q h e g f =
-    let j = joins old.ends new (label_of end) x g in
-    record {
-      before = refl;
-      end = label_of end;
-      forgets = subst (λ (t : State). IsStrongest (label_of end) (peek_at Unseen (label_of t) ∷ [])) q h;
-      of = j.1;
-      joins = subst (λ a. JoinsOn old.ends new (label_of end) b a) (sym e) (subst (λ a. Joins old.ends new (label_of end) a) (sym f) j.0);
-    }
+pub arm_joins : {X : Type 0} (old : Arms) (end : Label) (new : State) (x : Result X Cause) (b : Bool) → old.agree ≡ true → Gives old.ends new x (may_join (label_of old.ends ∷ end ∷ [])) (label_of old.ends ∷ end ∷ []) → b ≡ is_ok x → JoinsOn old.ends new end b old.agree
+arm_joins old end new x b e g f = subst (λ a. JoinsOn old.ends new end b a) (sym e) (subst (λ a. Joins old.ends new end a) (sym f) (joins old.ends new end x g).0)
 
 -- or they don't agree anyway.
-pub arm_passes : (old : Arms) (s moved end : State) → moved ≡ s → IsStrongest (label_of end) (peek_at Unseen (label_of moved) ∷ []) → old.agree ≡ false → EndsArm old old s
-arm_passes old s moved end q h e = record {
-  before = refl;
-  end = label_of end;
-  forgets = subst (λ (t : State). IsStrongest (label_of end) (peek_at Unseen (label_of t) ∷ [])) q h;
-  of = refl;
-  joins = subst (λ a. JoinsOn old.ends old.ends (label_of end) old.agree a) (sym e) e;
-}
+pub arm_passes : (old : Arms) (end : Label) → old.agree ≡ false → JoinsOn old.ends old.ends end old.agree old.agree
+arm_passes old end e = subst (λ a. JoinsOn old.ends old.ends end old.agree a) (sym e) e
 
 -- ---- a break's end
 

@@ -13,7 +13,7 @@ use Rattle.rc_lang.proofs.Closing.{closes_loop, in_loop, leaves_loop}
 use Rattle.rc_lang.proofs.Lookups.{blocks_next}
 use Rattle.rc_lang.proofs.Placed.{EachPlaced}
 use Rattle.rc_rules.specs.declared.cause.Cause.{Cause}
-use Rattle.rc_rules.specs.Causes.{number_of}
+use Rattle.rc_rules.specs.Causes.{premise_number}
 use Rattle.rc_rules.specs.Labels.{Label, Dead, IsStrongest}
 use Rattle.rc_rules.specs.Labellings.{break_end, break_ends, here, label_at}
 use Rattle.rc_rules.specs.Premises.{Premise}
@@ -160,7 +160,7 @@ module _ (P : Program) (t : Thread) (j : ℕ) (w : Walk) (r : Reaches P t j w) w
       same f n = let c = closes_loop t.lines r.thread.nested.each j o k e in ap (places f) c.behind ∙ sym (ap (places f) c.within ∙ pushed_none f (blocks_at t.lines o) (InLoop o k) n)
 
       go : {X : Type 0} (x : Result X Cause) → ClosesLoop (asked_at P t j r.labels (EndLoop o k)) w.loops.items kept.items new x → Turns P t j (record { state = new; branches = w.branches; peek = w.peek; loops = kept }) x
-      go (Err c) h = refused P t j w r (EndLoop o k) e (number_of c) h
+      go (Err c) h = refused P t j w r (EndLoop o k) e (premise_number c) h
       go (Ok y) h =
           let w' : Walk = record { state = new; branches = w.branches; peek = w.peek; loops = kept } in
           let c = closes_loop t.lines r.thread.nested.each j o k e in

@@ -13,7 +13,7 @@ use Rattle.rc_lang.proofs.Lookups.{blocks_next, get_new, nested_here}
 use Rattle.rc_rules.specs.declared.cause.Cause.{Cause}
 use Rattle.rc_rules.specs.declared.mode.Mode.TheVariants.{Unlocked, Locked}
 use Rattle.rc_rules.specs.declared.mode.Peeked.TheVariants.{Unseen}
-use Rattle.rc_rules.specs.Causes.{number_of}
+use Rattle.rc_rules.specs.Causes.{premise_number}
 use Rattle.rc_rules.specs.Labels.{Label, Dead, Live, Weaker, IsStrongest}
 use Rattle.rc_rules.specs.Labellings.{arm_end, arm_ends, label_at}
 use Rattle.rc_rules.specs.Premises.{FailsFirst, Meets}
@@ -131,4 +131,4 @@ module _ (P : Program) (t : Thread) (j : ℕ) (w : Walk) (r : Reaches P t j w) w
         peek = subst (λ os. AreKept (IsPeeked P t (j + 1) (r.labels ++ label_of w.state ∷ [])) os (listed peek)) (sym p) (subst (λ (z : Option Arms). AreKept (IsPeeked P t (j + 1) (r.labels ++ label_of w.state ∷ [])) (j ∷ []) (listed z)) (sym g.1.1) one);
         loops = loops_same P t j w r (Peek v) e (label_of w.state) (λ o z. refl) (same loop_place refl);
       })
-  peek_turns v peek (Err c) e g = refused P t j w r (Peek v) e (number_of c) (subst (λ l. FailsFirst (number_of c) (asks l (λ bag m. peek_premises m))) (here_is P t j w r (Peek v) e) g)
+  peek_turns v peek (Err c) e g = refused P t j w r (Peek v) e (premise_number c) (subst (λ l. FailsFirst (premise_number c) (asks l (λ bag m. peek_premises m))) (here_is P t j w r (Peek v) e) g)

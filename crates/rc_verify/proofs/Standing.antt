@@ -7,7 +7,7 @@ use Rattle.rc_lang.specs.Nesting.{blocks_at, in_lock}
 use Rattle.rc_lang.specs.Program.{Program, Thread, stmt_at}
 use Rattle.rc_lang.proofs.Lookups.{EachNested, get_new, get_old, get_push, line_with, stands_within}
 use Rattle.rc_rules.specs.declared.cause.Cause.{Cause}
-use Rattle.rc_rules.specs.Causes.{number_of}
+use Rattle.rc_rules.specs.Causes.{premise_number}
 use Rattle.rc_rules.specs.Labels.{Label, Dead, IsStrongest}
 use Rattle.rc_rules.specs.Labellings.{label_at, here, premises, befores, arm_end, arm_ends, break_end, break_ends, IsRefusedAt}
 use Rattle.rc_rules.specs.Premises.{Premise, Meets, FailsFirst}
@@ -32,7 +32,7 @@ lead_at P t j labels s = befores P t.loops (take j t.lines) labels s
 -- What a rule of one line answers, whatever it began with.
 abbrev pub Gave : {X : Type 0} → Program → State → Result X Cause → List (ℕ × Premise) → List Label → Type 0
 Gave P new (Ok x) ps bs = Meets ps × IsStrongest (label_of new) bs × (program_of new ≡ P)
-Gave P new (Err cause) ps bs = FailsFirst (number_of cause) ps
+Gave P new (Err cause) ps bs = FailsFirst (premise_number cause) ps
 
 gives_any : {X : Type 0} (old new : State) (x : Result X Cause) (ps : List (ℕ × Premise)) (bs : List Label) → Gives old new x ps bs → Gave (program_of old) new x ps bs
 gives_any old new (Ok x) ps bs g = g
@@ -165,7 +165,7 @@ module _ (P : Program) (t : Thread) (j : ℕ) (w : Walk) (r : Reaches P t j w) (
 
   pub turns : {X : Type 0} (w' : Walk) (x : Result X Cause) → Gave P w'.state x (asked_at P t j r.labels s) (lead_at P t j r.labels s) → (IsStrongest (label_of w'.state) (lead_at P t j r.labels s) → Fits (in_lock (blocks_at t.lines (j + 1))) (most_at (j + 1)) (label_of w'.state)) → ((y : X) → x ≡ Ok y → Keeps P t (j + 1) (r.labels ++ label_of w'.state ∷ []) w') → Turns P t j w' x
   turns w' (Ok y) g f k = onward w' g.0 g.1 g.2 (f g.1) (k y refl)
-  turns w' (Err c) g f k = refused (number_of c) g
+  turns w' (Err c) g f k = refused (premise_number c) g
 
   -- ---- what is kept of blocks that stay open
 

@@ -2,7 +2,7 @@
 use Rattle.std.specs.Prelude.{ℕ, ◌≡◌, ◌⊎◌, Result, Ok, Err}
 use Rattle.rc_lang.specs.declared.lines.Line.{Line}
 use Rattle.rc_lang.specs.Program.{Program, Thread}
-use Rattle.rc_rules.specs.Causes.{number_of}
+use Rattle.rc_rules.specs.Causes.{premise_number}
 use Rattle.rc_rules.specs.Labellings.{HasLabels, Passes, Accepts, IsHeaderRefused, IsBodyRefused, IsRefused, IsRefusedAt, start_of}
 use Rattle.rc_verify.specs.declared.refusal.Refusal.{Refusal}
 use Rattle.rc_verify.specs.declared.refusal.VerifyFault.{VerifyFault}
@@ -11,15 +11,15 @@ use Rattle.rc_verify.specs.declared.refusal.VerifyFault.TheVariants.{Refused, Ou
 -- The lines of a thread have a labelling, or this one is refused.
 abbrev pub IsWalked : {X : Type 0} → Program → Thread → Result X Refusal → Type 0
 IsWalked P t (Ok x) = HasLabels P t.loops (start_of t) t.lines
-IsWalked P t (Err r) = (j : ℕ) × (l : Line) × (l.number ≡ r.line) × IsRefusedAt P t j l (number_of r.cause)
+IsWalked P t (Err r) = (j : ℕ) × (l : Line) × (l.number ≡ r.line) × IsRefusedAt P t j l (premise_number r.cause)
 
 -- The thread passes, or its header or its body is refused at this line.
 abbrev pub IsJudged : {X : Type 0} → Program → ℕ → Thread → Result X Refusal → Type 0
 IsJudged P i t (Ok x) = Passes P i t
-IsJudged P i t (Err r) = ((t.line ≡ r.line) × IsHeaderRefused P i (number_of r.cause)) ⊎ IsBodyRefused P i t r.line (number_of r.cause)
+IsJudged P i t (Err r) = ((t.line ≡ r.line) × IsHeaderRefused P i (premise_number r.cause)) ⊎ IsBodyRefused P i t r.line (premise_number r.cause)
 
 -- The program is accepted, or refused at this line for this cause.
 abbrev pub Verifies : {X : Type 0} → Program → Result X VerifyFault → Type 0
 Verifies P (Ok x) = Accepts P
-Verifies P (Err (Refused r)) = IsRefused P r.line (number_of r.cause)
+Verifies P (Err (Refused r)) = IsRefused P r.line (premise_number r.cause)
 Verifies P (Err OutOfMemory) = ⊥

@@ -2,7 +2,7 @@
 use Rattle.std.specs.Prelude.{◌≡◌, Bool, true, false, [], ◌∷◌, Option, Some, Result, Ok, Err}
 use Rattle.rc_rules.specs.declared.cause.Cause.{Cause}
 use Rattle.rc_rules.specs.declared.mode.Peeked.TheVariants.{Unseen}
-use Rattle.rc_rules.specs.Causes.{number_of}
+use Rattle.rc_rules.specs.Causes.{premise_number}
 use Rattle.rc_rules.specs.Labels.{Label, Dead, IsStrongest}
 use Rattle.rc_rules.specs.Premises.{Meets, FailsFirst}
 use Rattle.rc_rules.specs.Rules.{asks, agree, peek_at, peek_premises}
@@ -18,7 +18,7 @@ pub record IsOpened (s : State) (a : Arms) : Type 0 where
 
 abbrev pub OpensPeek : {X : Type 0} → State → Option Arms → Result X Cause → Type 0
 OpensPeek s peek (Ok x) = Meets (asks (label_of s) (λ bag m. peek_premises m)) × ((a : Arms) × (peek ≡ Some a) × IsOpened s a)
-OpensPeek s peek (Err cause) = FailsFirst (number_of cause) (asks (label_of s) (λ bag m. peek_premises m))
+OpensPeek s peek (Err cause) = FailsFirst (premise_number cause) (asks (label_of s) (λ bag m. peek_premises m))
 
 -- This end and the ones before agree, and the new meet is that of both; or they don't, and nothing changes.
 abbrev pub Joins : State → State → Label → Bool → Type 0
@@ -44,4 +44,4 @@ EndsArmIn old peek s = (new : Arms) × (peek ≡ Some new) × EndsArm old new s
 -- All arms have ended: where their ends agree, what is known behind the peek is their meet.
 abbrev pub ClosesPeek : {X : Type 0} → Arms → State → Result X Cause → Type 0
 ClosesPeek a new (Ok x) = (a.agree ≡ true) × (new ≡ a.ends)
-ClosesPeek a new (Err cause) = (a.agree ≡ false) × (number_of cause ≡ 15)
+ClosesPeek a new (Err cause) = (a.agree ≡ false) × (premise_number cause ≡ 15)

@@ -11,7 +11,7 @@ use Rattle.rc_rules.specs.declared.mode.Mode.{Mode}
 use Rattle.rc_rules.specs.declared.mode.Mode.TheVariants.{Unlocked, Locked}
 use Rattle.rc_rules.specs.declared.mode.Slot.TheVariants.{Closed}
 use Rattle.rc_split.specs.Bags.{Part}
-use Rattle.rc_rules.specs.Causes.{number_of}
+use Rattle.rc_rules.specs.Causes.{premise_number}
 use Rattle.rc_rules.specs.Labels.{Label, Dead, Live, IsSame, IsStrongest}
 use Rattle.rc_rules.specs.Labellings.{arm_ends, break_ends, start_of, IsRefusedAt}
 use Rattle.rc_rules.specs.Rules.{same_slot, agree_all}
@@ -36,13 +36,13 @@ abbrev pub most_at : ℕ → ℕ
 most_at j = 2048 + 18 * j
 
 -- No slot is open.
-abbrev pub is_closed : Mode → Bool
-is_closed Unlocked = true
-is_closed (Locked i) = same_slot i.slot Closed
+abbrev pub has_no_slot : Mode → Bool
+has_no_slot Unlocked = true
+has_no_slot (Locked i) = same_slot i.slot Closed
 
 abbrev pub IsClosed : Label → Type 0
 IsClosed Dead = Unit {0}
-IsClosed (Live bag m) = is_closed m ≡ true
+IsClosed (Live bag m) = has_no_slot m ≡ true
 
 -- ---- what is kept of the blocks that are open
 
@@ -143,4 +143,4 @@ pub record Reaches (P : Program) (t : Thread) (j : ℕ) (w : Walk) : Type 0 wher
 -- The walk goes on behind the line at j, or that line is refused.
 abbrev pub Turns : {X : Type 0} → Program → Thread → ℕ → Walk → Result X Cause → Type 0
 Turns P t j w (Ok x) = Reaches P t (j + 1) w
-Turns P t j w (Err cause) = (l : Line) × IsRefusedAt P t j l (number_of cause)
+Turns P t j w (Err cause) = (l : Line) × IsRefusedAt P t j l (premise_number cause)

@@ -11,7 +11,6 @@ ghost use Rattle.rc_verify.specs.declared.arms.Arms as parts;
 
 use rc_rules::cause::Cause;
 use rc_rules::state::State;
-use std::mem;
 
 /// What is known of the peek that is open: the state before its arms, and where their ends join.
 #[derive(Drop)]
@@ -27,10 +26,12 @@ pub struct Arms<'a> {
 pub fn open_peek<'a>(state: &State<'a>, peek: &mut Option<Arms<'a>>) -> Result<(), Cause>
     ensures { spec.OpensPeek state.now peek.new result }
 {
-    state.again().arm_none()?;
+    let mut ends = state.again();
+    ends.arm_none()?;
+    ends.die();
     *peek = Some(Arms {
         before: state.again(),
-        ends: state.dead(),
+        ends,
         agree: true,
     });
     Ok(())
@@ -52,7 +53,7 @@ pub fn enter_case<'a>(state: &mut State<'a>, arms: &Arms<'a>, user_data: u64) ->
     requires { DeclaresToken (states.program_of arms.now.before) user_data }
     ensures { states.Gives arms.now.before state.new result (rules.asks (states.label_of arms.now.before) (λ bag m. rules.peek_premises m)) (rules.case_at user_data (states.label_of arms.now.before) ∷ []) }
 {
-    *state = arms.before.again();
+    state.copy_from(&arms.before);
     state.arm_case(user_data)?;
     Ok(())
 }
@@ -61,7 +62,7 @@ pub fn enter_case<'a>(state: &mut State<'a>, arms: &Arms<'a>, user_data: u64) ->
 pub fn enter_other<'a>(state: &mut State<'a>, arms: &Arms<'a>) -> Result<(), Cause>
     ensures { states.Gives arms.now.before state.new result (rules.asks (states.label_of arms.now.before) (λ bag m. rules.peek_premises m)) (rules.peek_at peeks.SeesOther (states.label_of arms.now.before) ∷ []) }
 {
-    *state = arms.before.again();
+    state.copy_from(&arms.before);
     state.arm_other()
 }
 
@@ -69,7 +70,7 @@ pub fn enter_other<'a>(state: &mut State<'a>, arms: &Arms<'a>) -> Result<(), Cau
 pub fn enter_none<'a>(state: &mut State<'a>, arms: &Arms<'a>) -> Result<(), Cause>
     ensures { states.Gives arms.now.before state.new result (rules.asks (states.label_of arms.now.before) (λ bag m. rules.peek_premises m)) (rules.peek_at peeks.Unseen (states.label_of arms.now.before) ∷ []) }
 {
-    *state = arms.before.again();
+    state.copy_from(&arms.before);
     state.arm_none()
 }
 
@@ -82,27 +83,37 @@ pub fn forget_peeked(state: &mut State)
     let _ = state.arm_none();
 }
 
+/// An arm's end joins the ends before it, as long as they agree.
+fn join_end<'a>(arms: &mut Arms<'a>, end: &State<'a>)
+    requires of { states.program_of end.now ≡ states.program_of arms.old.ends }
+    requires alike { arms.old.agree ≡ true → states.AgreeOnLock (states.label_of arms.old.ends) (states.label_of end.now) }
+    ensures before { arms.new.before ≡ arms.old.before }
+    ensures of { states.program_of arms.new.ends ≡ states.program_of arms.old.ends }
+    ensures joins { spec.JoinsOn arms.old.ends arms.new.ends (states.label_of end.now) arms.new.agree arms.old.agree }
+{
+    if arms.agree {
+        arms.agree = arms.ends.meet(end).is_ok();
+    }
+}
+
 /// The closing brace of an arm: nothing comes from above behind it.
 fn end_arm<'a>(state: &mut State<'a>, arms: &mut Arms<'a>)
     requires of { states.program_of state.old ≡ states.program_of arms.old.ends }
-    requires alike { arms.old.agree ≡ true → states.AreAlike (states.label_of arms.old.ends) (rules.peek_at peeks.Unseen (states.label_of state.old)) }
+    requires alike { arms.old.agree ≡ true → states.AgreeOnLock (states.label_of arms.old.ends) (rules.peek_at peeks.Unseen (states.label_of state.old)) }
     ensures dead { states.label_of state.new ≡ Dead }
     ensures same { states.program_of state.new ≡ states.program_of state.old }
     ensures ends { spec.EndsArm arms.old arms.new state.old }
 {
-    let dead = state.dead();
-    let mut end = mem::replace(state, dead);
-    forget_peeked(&mut end);
-    if arms.agree {
-        arms.agree = arms.ends.meet(&end).is_ok();
-    }
+    forget_peeked(state);
+    join_end(arms, state);
+    state.die();
 }
 
 /// The closing brace of an arm, of the peek that is open. There is one.
 pub fn end_arms<'a>(state: &mut State<'a>, peek: &mut Option<Arms<'a>>)
     requires kept { IsSome peek.old }
     requires of { IfSome peek.old (λ a. states.program_of state.old ≡ states.program_of a.ends) }
-    requires alike { IfSome peek.old (λ a. a.agree ≡ true → states.AreAlike (states.label_of a.ends) (rules.peek_at peeks.Unseen (states.label_of state.old))) }
+    requires alike { IfSome peek.old (λ a. a.agree ≡ true → states.AgreeOnLock (states.label_of a.ends) (rules.peek_at peeks.Unseen (states.label_of state.old))) }
     ensures dead { states.label_of state.new ≡ Dead }
     ensures same { states.program_of state.new ≡ states.program_of state.old }
     ensures ends { (a : parts.Arms) → peek.old ≡ Some a → spec.EndsArmIn a peek.new state.old }

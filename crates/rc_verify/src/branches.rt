@@ -6,7 +6,7 @@ ghost use Rattle.rc_rules.specs.Rules as rules;
 ghost use Rattle.rc_rules.specs.States as states;
 ghost use Rattle.rc_verify.specs.Kept.{last_of, rest_of};
 
-use crate::kept::{Kept, take};
+use crate::kept::{Kept, innermost, let_go};
 use rc_lang::lines::Test;
 use rc_rules::cause::Cause;
 use rc_rules::state::State;
@@ -41,19 +41,22 @@ pub fn turn<'a>(state: &mut State<'a>, branches: &mut Kept<'a>)
     ensures state { last_of branches.old.items ≡ Some state.new }
     ensures kept { branches.new.items ≡ rest_of branches.old.items ++ Some state.old ∷ [] }
 {
-    let before = take(branches);
-    let end = mem::replace(state, before);
-    branches.push(Some(end));
+    let last = branches.len() - 1;
+    match &mut branches.as_mut_slice()[last] {
+        Some(kept) => mem::swap(state, kept),
+        None => unreachable!(),
+    }
 }
 
 /// The closing brace of an if.
 pub fn end_if<'a>(state: &mut State<'a>, branches: &mut Kept<'a>) -> Result<(), Cause>
     requires kept { IsSome (last_of branches.old.items) }
     requires of { (s : states.State) → last_of branches.old.items ≡ Some s → states.program_of s ≡ states.program_of state.old }
-    requires alike { (s : states.State) → last_of branches.old.items ≡ Some s → states.AreAlike (states.label_of state.old) (states.label_of s) }
+    requires alike { (s : states.State) → last_of branches.old.items ≡ Some s → states.AgreeOnLock (states.label_of state.old) (states.label_of s) }
     ensures gives { (s : states.State) → last_of branches.old.items ≡ Some s → states.Gives state.old state.new result (rules.may_join (states.label_of state.old ∷ states.label_of s ∷ [])) (states.label_of state.old ∷ states.label_of s ∷ []) }
     ensures rest { branches.new.items ≡ rest_of branches.old.items }
 {
-    let other = take(branches);
-    state.meet(&other)
+    let answer = state.meet(innermost(branches));
+    let_go(branches);
+    answer
 }

@@ -11,7 +11,7 @@ ghost use Rattle.rc_verify.specs.Kept.{last_of, rest_of};
 ghost use Rattle.rc_verify.specs.Loops as spec;
 
 use crate::arms::forget_peeked;
-use crate::kept::{Kept, take};
+use crate::kept::{Kept, innermost, let_go, take};
 use rc_lang::program::Items;
 use rc_rules::cause::Cause;
 use rc_rules::state::State;
@@ -27,9 +27,8 @@ pub fn open_loop<'a>(
     ensures gives { states.Gives state.old state.new result (rules.asks (states.label_of state.old) (λ bag m. rules.may_loop (states.program_of state.old) 13 (view_items items.now) bag m)) (rules.top (states.program_of state.old) (view_items items.now) (states.label_of state.old) ∷ []) }
     ensures kept { OnOk result (spec.KeepsDead state.old loops.old.items loops.new.items) }
 {
-    let dead = state.dead();
     state.enter_loop(items)?;
-    loops.push(Some(dead));
+    loops.push(Some(State::dead(state.program())));
     Ok(())
 }
 
@@ -43,24 +42,23 @@ pub fn close_loop<'a>(
     ensures { spec.ClosesLoop (rules.asks (states.label_of state.old) (λ bag m. rules.may_loop (states.program_of state.old) 14 (view_items items.now) bag m)) loops.old.items loops.new.items state.new result }
 {
     state.loop_end(items)?;
-    *state = take(loops);
+    state.copy_from(innermost(loops));
+    let_go(loops);
     Ok(())
 }
 
-/// What a break takes to the end of its loop, where it may break there.
-fn carried<'a>(end: State<'a>, releases: bool) -> State<'a>
-    requires meets { Meets (rules.asks (states.label_of end) (λ bag m. rules.may_break (states.program_of end) releases m)) }
-    requires locked { releases ≡ true → states.IsLocked (states.label_of end) }
-    ensures gives { IsStrongest (states.label_of result) (rules.broken releases (states.label_of end.entry) ∷ []) }
-    ensures of { states.program_of result ≡ states.program_of end.entry }
+/// Becomes what a break takes to the end of its loop, where it may break there.
+fn carry(end: &mut State, releases: bool)
+    requires meets { Meets (rules.asks (states.label_of end.old) (λ bag m. rules.may_break (states.program_of end.old) releases m)) }
+    requires locked { releases ≡ true → states.IsLocked (states.label_of end.old) }
+    ensures gives { IsStrongest (states.label_of end.new) (rules.broken releases (states.label_of end.old) ∷ []) }
+    ensures of { states.program_of end.new ≡ states.program_of end.old }
 {
-    let mut taken = end;
     if releases {
-        let _ = taken.release();
+        let _ = end.release();
     } else {
-        forget_peeked(&mut taken);
+        forget_peeked(end);
     }
-    taken
 }
 
 /// A break joins the ones before it. The slot is at the same stage in all of them.
@@ -88,8 +86,9 @@ pub fn leave_loop<'a>(
     ensures gives { states.Gives state.old state.new result (rules.asks (states.label_of state.old) (λ bag m. rules.may_break (states.program_of state.old) releases m)) [] }
     ensures kept { OnOk result ((s : states.State) → last_of loops.old.items ≡ Some s → spec.Breaks s (rules.broken releases (states.label_of state.old)) loops.old.items loops.new.items) }
 {
-    let end = state.again();
+    let mut end = state.again();
     state.break_out(releases)?;
-    join(loops, &carried(end, releases));
+    carry(&mut end, releases);
+    join(loops, &end);
     Ok(())
 }

@@ -8,12 +8,17 @@ ghost use Rattle.rc_verify.specs.Answer.{IsJudged, Verifies};
 
 use crate::headers::judge_header;
 use crate::refusal::{Refusal, VerifyFault};
-use crate::walk::walk_thread;
+use crate::walk::{Walk, walk_thread};
 use rc_lang::program::Program;
 use std::alloc::Global;
 
 /// Judges a thread, where the headers before it were judged: its header, and then its lines.
-fn judge_thread(alloc: Global, program: &Program, thread: u32) -> Result<(), Refusal>
+fn judge_thread<'a>(
+    alloc: Global,
+    walk: &mut Walk<'a>,
+    program: &'a Program,
+    thread: u32,
+) -> Result<(), Refusal>
     requires there { thread < length program.now.threads }
     requires before { Meets (header_premises program.now (take thread program.now.threads)) }
     ensures { (t : Thread) → slice_get program.now.threads thread ≡ Some t → IsJudged program.now thread t result }
@@ -22,7 +27,7 @@ fn judge_thread(alloc: Global, program: &Program, thread: u32) -> Result<(), Ref
         let line = program.threads()[thread as usize].line;
         return Err(Refusal { line, cause });
     }
-    walk_thread(alloc, program, thread)
+    walk_thread(alloc, walk, program, thread)
 }
 
 /// Verifies a program: Ok where each header meets its premises and each thread has a labelling that is good at each of
@@ -32,8 +37,9 @@ pub fn verify(alloc: Global, program: &Program) -> Result<(), VerifyFault>
     ensures { Verifies program.now result }
 {
     let count = program.threads().len() as u32;
+    let mut walk = Walk::new(program);
     for thread in 0..count {
-        if let Err(refusal) = judge_thread(alloc, program, thread) {
+        if let Err(refusal) = judge_thread(alloc, &mut walk, program, thread) {
             return Err(VerifyFault::Refused(refusal));
         }
     }

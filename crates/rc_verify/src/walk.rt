@@ -3,6 +3,7 @@
 ghost use Rattle.std.specs.Prelude.{◌≡◌, ◌<◌, length, Some, slice_get};
 ghost use Rattle.rc_lang.specs.Parts.{view_thread};
 ghost use Rattle.rc_lang.specs.Program as programs;
+ghost use Rattle.rc_lang.specs.Program.{IsProgram};
 ghost use Rattle.rc_rules.specs.States.{program_of};
 ghost use Rattle.rc_verify.specs.Answer.{IsWalked};
 ghost use Rattle.rc_verify.specs.Walk as spec;
@@ -31,6 +32,30 @@ pub struct Walk<'a> {
     peek: Option<Arms<'a>>,
     /// What is known where the breaks so far of each open loop join.
     loops: Kept<'a>,
+}
+
+impl<'a> Walk<'a> {
+    /// A walk that stands nowhere yet. It is large, so all threads are walked over with one.
+    pub fn new(program: &'a Program) -> Walk<'a> {
+        Walk {
+            state: State::dead(program),
+            branches: ArrayVec::new(),
+            peek: None,
+            loops: ArrayVec::new(),
+        }
+    }
+
+    /// Stands before the first line of a thread, whatever was walked over before.
+    fn begin(&mut self, alloc: Global, program: &'a Program, thread: u32)
+        requires made { IsProgram program.now }
+        requires there { thread < length program.now.threads }
+        ensures { (t : programs.Thread) → slice_get program.now.threads thread ≡ Some t → spec.Reaches program.now t 0 self.new }
+    {
+        self.state = State::start(alloc, program, thread).unwrap();
+        self.branches.clear();
+        self.peek = None;
+        self.loops.clear();
+    }
 }
 
 /// Goes over the line at a place: the least premise that fails, if one does.
@@ -66,19 +91,19 @@ fn pass<'a>(walk: &mut Walk<'a>, thread: &Thread, place: usize) -> Result<(), Ca
 }
 
 /// Walks over the lines of a thread, and answers the first that the rules refuse. This takes no memory.
-pub fn walk_thread(alloc: Global, program: &Program, thread: u32) -> Result<(), Refusal>
+pub fn walk_thread<'a>(
+    alloc: Global,
+    walk: &mut Walk<'a>,
+    program: &'a Program,
+    thread: u32,
+) -> Result<(), Refusal>
     requires { thread < length program.now.threads }
     ensures { (t : programs.Thread) → slice_get program.now.threads thread ≡ Some t → IsWalked program.now t result }
 {
     let part = &program.threads()[thread as usize];
-    let mut walk = Walk {
-        state: State::start(alloc, program, thread).unwrap(),
-        branches: ArrayVec::new(),
-        peek: None,
-        loops: ArrayVec::new(),
-    };
+    walk.begin(alloc, program, thread);
     for place in 0..part.lines.len() {
-        if let Err(cause) = pass(&mut walk, part, place) {
+        if let Err(cause) = pass(walk, part, place) {
             return Err(Refusal {
                 line: part.lines[place].number,
                 cause,

@@ -5,5 +5,5 @@ use Rattle.rc_verify.proofs.branches.end_if.Goals as goal
 
 pub returns-clause-gives : goal.returns-clause-gives
 returns-clause-gives c = λ s e.
-    let q : c.take-other.result ≡ s = cc (c.take-other.ensures.value, e) in
-    subst (λ (t : State). Gives c.args.state.now c.meet.new.self c.meet.result (may_join (label_of c.args.state.now ∷ label_of t ∷ [])) (label_of c.args.state.now ∷ label_of t ∷ [])) q c.meet.ensures
+    let q : c.innermost.result.now ≡ s = cc (c.innermost.ensures, e) in
+    subst (λ (t : State). Gives c.args.state.now c.meet-answer.new.self c.meet-answer.result (may_join (label_of c.args.state.now ∷ label_of t ∷ [])) (label_of c.args.state.now ∷ label_of t ∷ [])) q c.meet-answer.ensures

@@ -1,6 +1,6 @@
 use Rattle.std.proofs.Common.{arith}
 use Rattle.std.proofs.lemmas.Option.{slice_get_within}
-use Rattle.rc_rules.specs.Causes.{number_of}
+use Rattle.rc_rules.specs.Causes.{premise_number}
 use Rattle.rc_verify.proofs.Threads.{headers_met, one_more, refused_at, parts_length}
 use Rattle.rc_verify.proofs.verify.verify.Goals as goal
 
@@ -8,7 +8,7 @@ pub judge_thread-requires-clause-before : goal.judge_thread-requires-clause-befo
 judge_thread-requires-clause-before c = headers_met c.args.program.now c.loop-thread.thread (omega (arith, c.loop-thread-test.true, parts_length c.args.program.now c.threads.result.now c.threads.ensures.value)) c.loop-thread.invariant
 
 pub returns-in-Err : goal.returns-in-Err
-returns-in-Err c = refused_at c.args.program.now c.loop-thread.thread c.in-Err.refusal.line (number_of c.in-Err.refusal.cause) (omega (arith, c.loop-thread-test.true, parts_length c.args.program.now c.threads.result.now c.threads.ensures.value)) c.loop-thread.invariant (λ t e. c.in-Err.ensures t e)
+returns-in-Err c = refused_at c.args.program.now c.loop-thread.thread c.in-Err.refusal.line (premise_number c.in-Err.refusal.cause) (omega (arith, c.loop-thread-test.true, parts_length c.args.program.now c.threads.result.now c.threads.ensures.value)) c.loop-thread.invariant (λ t e. c.in-Err.ensures t e)
 
 pub loop-thread-preserved : goal.loop-thread-preserved
 loop-thread-preserved c = one_more c.args.program.now c.loop-thread.thread c.loop-thread.invariant (λ t e. c.in_default.ensures t e)

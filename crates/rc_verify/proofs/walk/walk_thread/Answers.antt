@@ -1,11 +1,11 @@
 use Rattle.std.proofs.Common.{arith}
-use Rattle.rc_verify.proofs.Beginning.{ends, refuses_line, started, starts, thread_is}
+use Rattle.rc_verify.proofs.Beginning.{ends, refuses_line, thread_is}
 use Rattle.rc_verify.proofs.walk.walk_thread.Goals as goal
 
 pub loop-place-init : goal.loop-place-init
 loop-place-init c =
     let is = thread_is c.args.program.now c.threads.result.now c.args.thread c.index-threads-thread.result c.threads.ensures.value c.requires c.index-threads-thread.is in
-    starts c.args.program.now c.args.thread _ c.unwrap.result c.new.result c.new-2.result c.threads.ensures.made is (started c.args.program.now c.args.thread c.start.result c.unwrap.result c.start.ensures c.unwrap.ensures) c.new.ensures c.new-2.ensures
+    c.begin.ensures _ is
 
 pub returns-in-Err : goal.returns-in-Err
 returns-in-Err c = λ t that.

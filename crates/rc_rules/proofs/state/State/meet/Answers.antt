@@ -3,8 +3,8 @@ use Rattle.rc_rules.proofs.Meets.{both_free, joined}
 use Rattle.rc_rules.proofs.Moves.{mode_free}
 use Rattle.rc_rules.proofs.state.State.meet.Goals as goal
 
-pub invariant_of-self-2 : goal.invariant_of-self-2
-invariant_of-self-2 c =
+pub invariant_of-self : goal.invariant_of-self
+invariant_of-self c =
     let s = c.self.inside in
     both_free s.holding.program c.meet.new.self.program (bag s.holding) (bag c.other.inside.holding) (bag c.meet.new.self) c.in-Some-mode.mine c.in-Some.theirs c.in_ok-both.field-0 (mode_free s.holding s.mode c.in-Some-mode.mine c.in-Some-mode.is c.self.invariant) c.meet.ensures.of c.meet.ensures.each c.in_ok-both.ensures.1
 

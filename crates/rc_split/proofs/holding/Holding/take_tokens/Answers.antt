@@ -9,4 +9,4 @@ pub returns-then-is_none : goal.returns-then-is_none
 returns-then-is_none c =
     let xs = c.args.tokens.now in
     let i = c.loop-user_data.user_data-index in
-    refused (Token (get_or xs i 0)) c.loop-user_data.self c.take.new.self (bag_of (tokens_alone (take i xs))) (bag c.args.self.now) (bag_of (tokens_alone xs)) c.take.result c.loop-user_data.invariant.each c.take.ensures c.is_none.ensures c.if-is_none.true (λ p. tokens_more_le xs i p c.loop-user_data-test.true)
+    refused (Token (get_or xs i 0)) c.loop-user_data.self c.take_token.new.self (bag_of (tokens_alone (take i xs))) (bag c.args.self.now) (bag_of (tokens_alone xs)) c.take_token.result c.loop-user_data.invariant.each c.take_token.ensures c.is_none.ensures c.if-is_none.true (λ p. tokens_more_le xs i p c.loop-user_data-test.true)

@@ -1,0 +1,10 @@
+use Rattle.std.proofs.Common.{◌<◌, sym, ◌∙◌, length, arith}
+use Rattle.rc_split.proofs.Tokens.{place_within, token_taken}
+use Rattle.rc_split.proofs.holding.Holding.take_token.Goals as goal
+
+pub returns : goal.returns
+returns c =
+    let s = c.self.inside in
+    let e = sym c.token_place.ensures.value ∙ c.in_ok-place.was in
+    let lt : c.in_ok-place.place < length s.program.now.tokens = place_within s.program.now.tokens c.args.user_data c.in_ok-place.place e in
+    rw (← c.self.view_is) (token_taken s.program.now s.shares s.marks s.credits c.args.user_data c.in_ok-place.place e (omega arith) c.if-not-self-place.false)
