@@ -1,9 +1,9 @@
 -- Lines that are cut at the places of bytes.
-use Rattle.std.proofs.Common.{◌≡◌, ℕ, ◌+◌, ◌-◌, ◌<◌, ◌≤◌, List, [], ◌∷◌, ◌++◌, length, take, drop, get_or, Bool, true, false, cond, not, ltb, eqb, ◌&&◌, ◌||◌, refl, sym, ap, ◌∙◌, arith, append_assoc, length-drop}
-use Rattle.std.proofs.lemmas.Bool.{ne_eqb}
+use Rattle.std.proofs.Common.{◌≡◌, ℕ, zero, suc, ◌+◌, ◌-◌, ◌<◌, ◌≤◌, List, [], ◌∷◌, ◌++◌, length, take, drop, get_or, Bool, true, false, cond, not, ltb, eqb, ◌&&◌, ◌||◌, refl, sym, ap, ◌∙◌, inl, inr, arith, append_assoc, length-drop}
+use Rattle.std.proofs.lemmas.Bool.{ne_eqb, and_parts, or_cases, or_parts, or_from, ltb-true, le-ltb, eqb-true}
 use Rattle.std.proofs.lemmas.List.{drop_more, take_more, get_or-drop}
-use Rattle.rc_read.specs.Quick.{any_outside}
-use Rattle.rc_read.specs.Sentences.{any_strange}
+use Rattle.rc_read.specs.Quick.{any_outside, is_word_byte}
+use Rattle.rc_read.specs.Sentences.{any_strange, is_strange}
 use Rattle.rc_read.specs.Words.{without_comment, words_after, word_if_any, is_blank}
 
 not_true : (c : Bool) → ¬ (c ≡ true) → c ≡ false
@@ -20,6 +20,57 @@ none_by false false p q n m k h = k h
 pub none_strange : (bytes : List ℕ) → any_outside bytes ≡ false → any_outside bytes ≡ any_strange bytes
 none_strange [] h = refl
 none_strange (b ∷ bytes) h = none_by (ltb 126 b) (ltb b 32) (not (eqb b 9)) (not (eqb b 13)) (any_outside bytes) (any_strange bytes) (none_strange bytes) h
+
+or_more : (a b c : Bool) → ((a || b) || c) ≡ (a || (b || c))
+or_more true b c = refl
+or_more false b c = refl
+
+-- at any byte
+pub strange_more : (bytes : List ℕ) (i : ℕ) (old whole : Bool) → i < length bytes → (old || any_strange (drop i bytes)) ≡ whole → ((old || is_strange (get_or bytes i 0)) || any_strange (drop (i + 1) bytes)) ≡ whole
+strange_more bytes i old whole lt h =
+    or_more old (is_strange (get_or bytes i 0)) (any_strange (drop (i + 1) bytes)) ∙ sym (ap (λ (xs : List ℕ). old || any_strange xs) (drop_more bytes i 0 lt)) ∙ h
+
+pub letter_within : (b : ℕ) → is_word_byte b ≡ true → (35 < b) × (b < 127)
+letter_within b h = let p = and_parts (ltb 35 b) (ltb b 127) h in (ltb-true 35 b p.0, ltb-true b 127 p.1)
+
+plain : (b : ℕ) → 35 < b → b < 127 → is_strange b ≡ false
+plain b lt le = rw (le-ltb 126 b (omega (arith, le)), le-ltb b 32 (omega (arith, lt))) refl
+
+-- at a byte of a word
+pub letter_more : (bytes : List ℕ) (i : ℕ) (old whole : Bool) → i < length bytes → is_word_byte (get_or bytes i 0) ≡ true → (old || any_strange (drop i bytes)) ≡ whole → (old || any_strange (drop (i + 1) bytes)) ≡ whole
+letter_more bytes i old whole lt is h =
+    let p = letter_within (get_or bytes i 0) is in
+    ap (λ (x : Bool). old || (x || any_strange (drop (i + 1) bytes))) (sym (plain (get_or bytes i 0) p.0 p.1)) ∙ sym (ap (λ (xs : List ℕ). old || any_strange xs) (drop_more bytes i 0 lt)) ∙ h
+
+blank_by : (x y z p : Bool) → ((x || y) || z) ≡ true → (z ≡ true → p ≡ false) → (p && not x && not y) ≡ false
+blank_by true y z true e k = refl
+blank_by true y z false e k = refl
+blank_by false true z true e k = refl
+blank_by false true z false e k = refl
+blank_by false false true p e k = rw (k refl) refl
+blank_by false false false p e k = absurd cc
+
+pub blank_within : (b : ℕ) → is_blank b ≡ true → b ≤ 32
+blank_within b e = elim (or_cases (eqb b 9 || eqb b 13) (eqb b 32) e) [
+  | inl h ↦ elim (or_cases (eqb b 9) (eqb b 13) h) [ inl k ↦ omega (arith, eqb-true b 9 k) | inr k ↦ omega (arith, eqb-true b 13 k) ]
+  | inr h ↦ omega (arith, eqb-true b 32 h)
+]
+
+blank_is_plain : (b : ℕ) → is_blank b ≡ true → is_strange b ≡ false
+blank_is_plain b e =
+    let le = blank_within b e in
+    rw (le-ltb 126 b (omega (arith, le))) (blank_by (eqb b 9) (eqb b 13) (eqb b 32) (ltb b 32) e (λ h. le-ltb b 32 (omega (arith, eqb-true b 32 h))))
+
+-- at a blank
+pub blank_more : (bytes : List ℕ) (i : ℕ) (old whole : Bool) → i < length bytes → is_blank (get_or bytes i 0) ≡ true → (old || any_strange (drop i bytes)) ≡ whole → (old || any_strange (drop (i + 1) bytes)) ≡ whole
+blank_more bytes i old whole lt is h =
+    ap (λ (x : Bool). old || (x || any_strange (drop (i + 1) bytes))) (sym (blank_is_plain (get_or bytes i 0) is)) ∙ sym (ap (λ (xs : List ℕ). old || any_strange xs) (drop_more bytes i 0 lt)) ∙ h
+
+-- among the first bytes
+pub none_of_first : (n : ℕ) (bytes : List ℕ) → any_strange bytes ≡ false → any_strange (take n bytes) ≡ false
+none_of_first zero bytes h = refl
+none_of_first (suc n) [] h = refl
+none_of_first (suc n) (b ∷ bytes) h = let p = or_parts (is_strange b) (any_strange bytes) h in or_from (is_strange b) (any_strange (take n bytes)) p.0 (none_of_first n bytes p.1)
 
 -- ---- the comment
 

@@ -11,7 +11,7 @@ use Rattle.rc_read.specs.declared.table.Row.{Row}
 use Rattle.rc_read.specs.Judging.{named_sentences, JudgesRow, JudgesWords}
 use Rattle.rc_read.specs.Says.{says_of, says_by}
 use Rattle.rc_read.specs.Sentences.{bad_head, bad_line, may_stand, is_unknown, any_unknown, is_double, any_double, any_twice, bad_brace, is_too_long, is_too_deep, is_full, any_full, has_too_many_names, bad_nesting, bad_case, form_sentences, first_true}
-use Rattle.rc_read.specs.Sheets.{Sheet, Draft, named, naming}
+use Rattle.rc_read.specs.Sheets.{Sheet, Draft, with_names, naming}
 use Rattle.rc_read.specs.Spots.{Spot, row_of, spots_of, spots_by, spots_in}
 use Rattle.rc_read.specs.Table.{parts_of, stand_of}
 use Rattle.rc_read.specs.Texts.{texts_of}
@@ -22,31 +22,31 @@ use Rattle.rc_read.specs.Values.{any_lacks, items_in, start}
 or_same : (a b c d : Bool) → a ≡ b → c ≡ d → (a || c) ≡ (b || d)
 or_same a b c d e f = rw (e, f) refl
 
-unknown_same : (p : Part) (s : Sheet) (vs : List Spot) (w : List ℕ) → is_unknown (named s vs) p w ≡ is_unknown s p w
+unknown_same : (p : Part) (s : Sheet) (vs : List Spot) (w : List ℕ) → is_unknown (with_names s vs) p w ≡ is_unknown s p w
 unknown_same part.File s vs w = refl
 unknown_same _ s vs w = refl
 
-any_unknown_same : (s : Sheet) (vs ps : List Spot) → any_unknown (named s vs) ps ≡ any_unknown s ps
+any_unknown_same : (s : Sheet) (vs ps : List Spot) → any_unknown (with_names s vs) ps ≡ any_unknown s ps
 any_unknown_same s vs [] = refl
-any_unknown_same s vs (p ∷ ps) = or_same (is_unknown (named s vs) p.part p.word) (is_unknown s p.part p.word) (any_unknown (named s vs) ps) (any_unknown s ps) (unknown_same p.part s vs p.word) (any_unknown_same s vs ps)
+any_unknown_same s vs (p ∷ ps) = or_same (is_unknown (with_names s vs) p.part p.word) (is_unknown s p.part p.word) (any_unknown (with_names s vs) ps) (any_unknown s ps) (unknown_same p.part s vs p.word) (any_unknown_same s vs ps)
 
-double_same : (p : Part) (s : Sheet) (vs : List Spot) (w : List ℕ) → is_double (named s vs) p w ≡ is_double s p w
+double_same : (p : Part) (s : Sheet) (vs : List Spot) (w : List ℕ) → is_double (with_names s vs) p w ≡ is_double s p w
 double_same part.NewFile s vs w = refl
 double_same _ s vs w = refl
 
-any_double_same : (s : Sheet) (vs ps : List Spot) → any_double (named s vs) ps ≡ any_double s ps
+any_double_same : (s : Sheet) (vs ps : List Spot) → any_double (with_names s vs) ps ≡ any_double s ps
 any_double_same s vs [] = refl
-any_double_same s vs (p ∷ ps) = or_same (is_double (named s vs) p.part p.word) (is_double s p.part p.word) (any_double (named s vs) ps) (any_double s ps) (double_same p.part s vs p.word) (any_double_same s vs ps)
+any_double_same s vs (p ∷ ps) = or_same (is_double (with_names s vs) p.part p.word) (is_double s p.part p.word) (any_double (with_names s vs) ps) (any_double s ps) (double_same p.part s vs p.word) (any_double_same s vs ps)
 
-full_same : (p : Part) (s : Sheet) (vs : List Spot) → is_full (named s vs) p ≡ is_full s p
+full_same : (p : Part) (s : Sheet) (vs : List Spot) → is_full (with_names s vs) p ≡ is_full s p
 full_same part.NewFile s vs = refl
 full_same _ s vs = refl
 
-any_full_same : (s : Sheet) (vs ps : List Spot) → any_full (named s vs) ps ≡ any_full s ps
+any_full_same : (s : Sheet) (vs ps : List Spot) → any_full (with_names s vs) ps ≡ any_full s ps
 any_full_same s vs [] = refl
-any_full_same s vs (p ∷ ps) = or_same (is_full (named s vs) p.part) (is_full s p.part) (any_full (named s vs) ps) (any_full s ps) (full_same p.part s vs) (any_full_same s vs ps)
+any_full_same s vs (p ∷ ps) = or_same (is_full (with_names s vs) p.part) (is_full s p.part) (any_full (with_names s vs) ps) (any_full s ps) (full_same p.part s vs) (any_full_same s vs ps)
 
-brace_same : (what : Says) (s : Sheet) (vs : List Spot) → bad_brace (named s vs) what ≡ bad_brace s what
+brace_same : (what : Says) (s : Sheet) (vs : List Spot) → bad_brace (with_names s vs) what ≡ bad_brace s what
 brace_same Close s vs = refl
 brace_same _ s vs = refl
 
@@ -59,7 +59,7 @@ case_same _ d vs = refl
 -- the sentences from the fourth on, by the form of the line
 abbrev later_by : Sheet → List ℕ → List (List ℕ) → Option Row → List (ℕ × Bool)
 later_by s line ws o =
-    (4, any_lacks (named s (spots_by o ws)) start (spots_by o ws))
+    (4, any_lacks (with_names s (spots_by o ws)) start (spots_by o ws))
     ∷ (5, any_unknown s (spots_by o ws))
     ∷ (6, any_double s (spots_by o ws) || any_twice (items_in (values s (spots_by o ws))))
     ∷ (7, bad_brace s (says_by o (values s (spots_by o ws))))
@@ -76,26 +76,26 @@ seven_same a b c d e f g b' c' d' e' g' eb ec ed ee eg =
     ap (λ (x : Bool). seven a x c d e f g) (sym eb) ∙ ap (λ (x : Bool). seven a b' x d e f g) (sym ec) ∙ ap (λ (x : Bool). seven a b' c' x e f g) (sym ed) ∙ ap (λ (x : Bool). seven a b' c' d' x f g) (sym ee)
     ∙ ap (λ (x : Bool). seven a b' c' d' e' f x) (sym eg)
 
-row_same : (s : Sheet) (line : List ℕ) (ws : List (List ℕ)) (row : Row) → first_true (later_by s line ws (Some row)) ≡ first_true (named_sentences (named s (spots_of (parts_of row) ws)) line row (spots_of (parts_of row) ws))
+row_same : (s : Sheet) (line : List ℕ) (ws : List (List ℕ)) (row : Row) → first_true (later_by s line ws (Some row)) ≡ first_true (named_sentences (with_names s (spots_of (parts_of row) ws)) line row (spots_of (parts_of row) ws))
 row_same s line ws row =
     let sp = spots_of (parts_of row) ws in
     let what = says_of row (values s sp) in
-    seven_same (any_lacks (named s sp) start sp) (any_unknown s sp) (any_double s sp || any_twice (items_in (values s sp))) (bad_brace s what)
+    seven_same (any_lacks (with_names s sp) start sp) (any_unknown s sp) (any_double s sp || any_twice (items_in (values s sp))) (bad_brace s what)
     (is_too_long s line || is_too_deep s what || any_full s sp || has_too_many_names s sp) (bad_nesting s.draft.blocks (items_in (values s sp)) what) (bad_case s.draft what)
-    (any_unknown (named s sp) sp) (any_double (named s sp) sp || any_twice (items_in (values s sp))) (bad_brace (named s sp) what)
-    (is_too_long s line || is_too_deep s what || any_full (named s sp) sp || has_too_many_names s sp) (bad_case (naming s.draft sp) what)
+    (any_unknown (with_names s sp) sp) (any_double (with_names s sp) sp || any_twice (items_in (values s sp))) (bad_brace (with_names s sp) what)
+    (is_too_long s line || is_too_deep s what || any_full (with_names s sp) sp || has_too_many_names s sp) (bad_case (naming s.draft sp) what)
     (any_unknown_same s sp sp) (ap (λ (x : Bool). x || any_twice (items_in (values s sp))) (any_double_same s sp sp)) (brace_same what s sp)
     (ap (λ (x : Bool). is_too_long s line || is_too_deep s what || x || has_too_many_names s sp) (any_full_same s sp sp)) (case_same what s.draft sp)
 
 skip_two : (a b : Bool) (rest : List (ℕ × Bool)) → a ≡ false → b ≡ false → first_true ((2, a) ∷ (3, b) ∷ rest) ≡ first_true rest
 skip_two a b rest ea eb = rw (ea, eb) refl
 
-form_same : (s : Sheet) (line : List ℕ) (ws : List (List ℕ)) (row : Row) → row_of ws ≡ Some row → bad_head s.region ws ≡ false → may_stand (stand_of row) s.region ≡ true → first_true (form_sentences s line ws) ≡ first_true (named_sentences (named s (spots_of (parts_of row) ws)) line row (spots_of (parts_of row) ws))
+form_same : (s : Sheet) (line : List ℕ) (ws : List (List ℕ)) (row : Row) → row_of ws ≡ Some row → bad_head s.region ws ≡ false → may_stand (stand_of row) s.region ≡ true → first_true (form_sentences s line ws) ≡ first_true (named_sentences (with_names s (spots_of (parts_of row) ws)) line row (spots_of (parts_of row) ws))
 form_same s line ws row er eh em =
     skip_two (bad_head s.region ws) (bad_line s.region (row_of ws)) (later_by s line ws (row_of ws)) eh (ap (bad_line s.region) er ∙ ap not em) ∙ ap (λ (o : Option Row). first_true (later_by s line ws o)) er ∙ row_same s line ws row
 
-added_same : (s : Sheet) (ws : List (List ℕ)) (row : Row) → row_of ws ≡ Some row → added (named s (spots_in ws)) ws (items_in (values s (spots_in ws))) (says_by (row_of ws) (values s (spots_in ws))) ≡ added (named s (spots_of (parts_of row) ws)) ws (items_in (values s (spots_of (parts_of row) ws))) (says_of row (values s (spots_of (parts_of row) ws)))
-added_same s ws row er = ap (λ (o : Option Row). added (named s (spots_by o ws)) ws (items_in (values s (spots_by o ws))) (says_by o (values s (spots_by o ws)))) er
+added_same : (s : Sheet) (ws : List (List ℕ)) (row : Row) → row_of ws ≡ Some row → added (with_names s (spots_in ws)) ws (items_in (values s (spots_in ws))) (says_by (row_of ws) (values s (spots_in ws))) ≡ added (with_names s (spots_of (parts_of row) ws)) ws (items_in (values s (spots_of (parts_of row) ws))) (says_of row (values s (spots_of (parts_of row) ws)))
+added_same s ws row er = ap (λ (o : Option Row). added (with_names s (spots_by o ws)) ws (items_in (values s (spots_by o ws))) (says_by o (values s (spots_by o ws)))) er
 
 judges_by : {E : Type 0} (r : Result (Option ReadCause) E) (s new : Sheet) (line w : List ℕ) (ws : List (List ℕ)) (row : Row) → row_of (w ∷ ws) ≡ Some row → bad_head s.region (w ∷ ws) ≡ false → may_stand (stand_of row) s.region ≡ true → JudgesRow s line (w ∷ ws) row new r → JudgesWords s line (w ∷ ws) new r
 judges_by (Ok None) s new line w ws row er eh em j =

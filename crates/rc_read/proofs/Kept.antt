@@ -16,11 +16,11 @@ use Rattle.rc_read.specs.declared.table.Row.{Row}
 use Rattle.rc_read.specs.declared.table.Stand.{Stand}
 use Rattle.rc_read.specs.declared.table.Stand.TheVariants as stand
 use Rattle.rc_read.specs.declared.values.Item.{Item}
-use Rattle.rc_read.specs.Adds.{added, counted, held, place_of, said, second_of, stmt_in, values, with_line, with_words}
+use Rattle.rc_read.specs.Adds.{added, block_place, counted, held, said, second_of, stmt_in, values, with_line, with_words}
 use Rattle.rc_read.specs.Answer.{at_end, judged, lacks_head, on_line, program_in}
 use Rattle.rc_read.specs.Says.{says_by, says_of}
 use Rattle.rc_read.specs.Sentences.{any_queue, any_strange, bad_brace, bad_case, bad_nesting, first_true, is_first_branch, is_inside, is_too_deep, sentences, word_sentences}
-use Rattle.rc_read.specs.Sheets.{Sheet, empty, named, naming}
+use Rattle.rc_read.specs.Sheets.{Sheet, empty, naming, with_names}
 use Rattle.rc_read.specs.Spots.{Spot, matches, row_of, spots_by, spots_of}
 use Rattle.rc_read.specs.Stream.{IsReached}
 use Rattle.rc_read.specs.Table.{parts_of, rows, stand_of}
@@ -39,11 +39,11 @@ module _ (ts : List ThreadOf) where
   -- ---- what a line says
 
   -- the innermost block is a peek, or the first branch of an if
-  peeked : (x : Option Block) → is_some_peek x ≡ true → x ≡ Some (InPeek (place_of x))
+  peeked : (x : Option Block) → is_some_peek x ≡ true → x ≡ Some (InPeek (block_place x))
   peeked (Some (InPeek o)) e = refl
   peeked x e = absurd (cc)
 
-  first_branch : (x : Option Block) → is_first_branch x ≡ true → x ≡ Some (InIf (place_of x))
+  first_branch : (x : Option Block) → is_first_branch x ≡ true → x ≡ Some (InIf (block_place x))
   first_branch (Some (InIf o)) e = refl
   first_branch x e = absurd (cc)
 
@@ -57,12 +57,12 @@ module _ (ts : List ThreadOf) where
   no_queue_outside : (its : List Item) (locked : Bool) → any_queue its && not locked ≡ false → locked ≡ false → any_queue its ≡ false
   no_queue_outside its locked e n = elim (and_cases (any_queue its) (not locked) e) [ inl h ↦ h | inr h ↦ absurd (cc (h, n)) ]
 
-  module _ (s : Sheet) (ps : List Spot) (ws : List (List ℕ)) (its : List Item) (st : Stand) (region : IsRegion st s.region) (lt : s.count < 4096) (k : IsKept ts (named s ps)) where
+  module _ (s : Sheet) (ps : List Spot) (ws : List (List ℕ)) (its : List Item) (st : Stand) (region : IsRegion st s.region) (lt : s.count < 4096) (k : IsKept ts (with_names s ps)) where
     stands : (st' : Stand) → st ≡ st' → IsRegion st' s.region
     stands st' e = subst (λ x. IsRegion x s.region) e region
 
-    follows : (what : Says) → s.region ≡ InThread → MayFollow (made ts s) (naming s.draft ps) its (stmt_in (naming s.draft ps) what) → IsKept ts (counted (said (named s ps) its what))
-    follows what e may = kept_said ts (named s ps) lt k e its what may
+    follows : (what : Says) → s.region ≡ InThread → MayFollow (made ts s) (naming s.draft ps) its (stmt_in (naming s.draft ps) what) → IsKept ts (counted (said (with_names s ps) its what))
+    follows what e may = kept_said ts (with_names s ps) lt k e its what may
 
     room : nat_le 31 (length s.draft.blocks) ≡ false → length s.draft.blocks < 31
     room e = leb-false 31 (length s.draft.blocks) e
@@ -72,33 +72,33 @@ module _ (ts : List ThreadOf) where
 
     header : (s.region ≡ Declarations) ⊎ (s.region ≡ Between) → AreThreads (made ts s) s.threads
     header h = elim h [
-      | inl e ↦ let none : s.threads ≡ [] = at ts (named s ps) lt k Declarations e in subst (λ xs. AreThreads (made ts s) xs) (sym none) (no_threads (made ts s))
-      | inr e ↦ at ts (named s ps) lt k Between e
+      | inl e ↦ let none : s.threads ≡ [] = at ts (with_names s ps) lt k Declarations e in subst (λ xs. AreThreads (made ts s) xs) (sym none) (no_threads (made ts s))
+      | inr e ↦ at ts (with_names s ps) lt k Between e
     ]
 
     -- a declaration
     declares : (t : Sheet) → s.region ≡ Declarations → t.region ≡ s.region → t.threads ≡ s.threads → ThreadsAt (made ts t) (s.count + 1) t.draft t.threads t.region
-    declares t e r h = subst (λ q. ThreadsAt (made ts t) (s.count + 1) t.draft t.threads q) (sym (r ∙ e)) (h ∙ at ts (named s ps) lt k Declarations e)
+    declares t e r h = subst (λ q. ThreadsAt (made ts t) (s.count + 1) t.draft t.threads q) (sym (r ∙ e)) (h ∙ at ts (with_names s ps) lt k Declarations e)
 
-    kept_what : (what : Says) → IsTold ts s (naming s.draft ps) ws its st what → bad_brace s what ≡ false → is_too_deep s what ≡ false → bad_nesting s.draft.blocks its what ≡ false → bad_case s.draft what ≡ false → IsKept ts (counted (added (named s ps) ws its what))
-    kept_what says.Version t b d n c = record { few_lines = omega arith; declared = k.declared; threads = at ts (named s ps) lt k Start (stands stand.First t) }
-    kept_what (says.Ring h) t b d n c = record { few_lines = omega arith; declared = record { sizes = t.1; known_files = k.declared.known_files; known_buffers = k.declared.known_buffers; known_tokens = k.declared.known_tokens }; threads = at ts (named s ps) lt k Second (stands stand.Second t.0) }
+    kept_what : (what : Says) → IsTold ts s (naming s.draft ps) ws its st what → bad_brace s what ≡ false → is_too_deep s what ≡ false → bad_nesting s.draft.blocks its what ≡ false → bad_case s.draft what ≡ false → IsKept ts (counted (added (with_names s ps) ws its what))
+    kept_what says.Version t b d n c = record { few_lines = omega arith; declared = k.declared; threads = at ts (with_names s ps) lt k Start (stands stand.First t) }
+    kept_what (says.Ring h) t b d n c = record { few_lines = omega arith; declared = record { sizes = t.1; known_files = k.declared.known_files; known_buffers = k.declared.known_buffers; known_tokens = k.declared.known_tokens }; threads = at ts (with_names s ps) lt k Second (stands stand.Second t.0) }
     kept_what (says.File f) t b d n c = record {
       few_lines = omega arith;
       declared = record { sizes = k.declared.sizes; known_files = files_more s.files f k.declared.known_files t.1 t.2 t.3; known_buffers = k.declared.known_buffers; known_tokens = k.declared.known_tokens };
-      threads = declares (added (named s ps) ws its (says.File f)) (stands stand.Declaration t.0) refl refl;
+      threads = declares (added (with_names s ps) ws its (says.File f)) (stands stand.Declaration t.0) refl refl;
     }
     kept_what (says.Buffer bytes shares) t b d n c =
         let buffer : BufferOf = record { name = second_of ws; bytes = bytes; shares = shares } in
         record {
           few_lines = omega arith;
           declared = record { sizes = k.declared.sizes; known_files = k.declared.known_files; known_buffers = buffers_more s.buffers buffer k.declared.known_buffers (record { name = t.4.0; bytes = t.1; shares = t.2 }) t.4.1 t.3; known_tokens = tokens_on s.buffers buffer s.tokens k.declared.known_tokens };
-          threads = declares (added (named s ps) ws its (says.Buffer bytes shares)) (stands stand.Declaration t.0) refl refl;
+          threads = declares (added (with_names s ps) ws its (says.Buffer bytes shares)) (stands stand.Declaration t.0) refl refl;
         }
     kept_what (says.Token token) t b d n c = record {
       few_lines = omega arith;
       declared = record { sizes = k.declared.sizes; known_files = k.declared.known_files; known_buffers = k.declared.known_buffers; known_tokens = tokens_more s.buffers s.tokens token k.declared.known_tokens t.1 t.2 t.3 };
-      threads = declares (added (named s ps) ws its (says.Token token)) (stands stand.Declaration t.0) refl refl;
+      threads = declares (added (with_names s ps) ws its (says.Token token)) (stands stand.Declaration t.0) refl refl;
     }
     kept_what says.Thread t b d n c = record {
       few_lines = omega arith;
@@ -131,11 +131,11 @@ module _ (ts : List ThreadOf) where
         let h = or_parts (in_peek s.draft.blocks) (any_queue its && not (in_lock s.draft.blocks)) n in
         follows says.Loop (stands stand.Inside t.0) (record { nested = h.0; room = room d; arm = tt; resolved = longer; loop = (refl, t.1, λ locked. no_queue its (no_queue_outside its (in_lock s.draft.blocks) h.1 locked)) })
     kept_what says.Break t b d n c = follows says.Break (stands stand.Inside t) (record { nested = (c, out_of_loop (way_out s.draft.blocks) n); room = tt; arm = tt; resolved = tt; loop = tt })
-    kept_what says.Close t b d n c = kept_brace ts (named s ps) lt k (inside s.region b) (innermost s.draft.blocks) refl c
+    kept_what says.Close t b d n c = kept_brace ts (with_names s ps) lt k (inside s.region b) (innermost s.draft.blocks) refl c
 
   -- ---- a line
 
-  kept_row : (s : Sheet) (ws : List (List ℕ)) (r : Row) → matches (parts_of r) ws ≡ true → AreFalse s ws (Some r) → IsKept ts s → IsKept ts (counted (added (named s (spots_of (parts_of r) ws)) ws (items_by s ws (Some r)) (says_of r (values s (spots_of (parts_of r) ws)))))
+  kept_row : (s : Sheet) (ws : List (List ℕ)) (r : Row) → matches (parts_of r) ws ≡ true → AreFalse s ws (Some r) → IsKept ts s → IsKept ts (counted (added (with_names s (spots_of (parts_of r) ws)) ws (items_by s ws (Some r)) (says_of r (values s (spots_of (parts_of r) ws)))))
   kept_row s ws r m a k =
       let ps = spots_of (parts_of r) ws in
       let vs = values s ps in
@@ -148,7 +148,7 @@ module _ (ts : List ThreadOf) where
   kept_words s line [] e k = kept_counted ts s (few_lines s line (none_alone 8 _ e)) k
   kept_words s line (w ∷ ws) e k = go (row_of (w ∷ ws)) refl (are_false s line (w ∷ ws) e)
     where
-      go : (form : Option Row) → row_of (w ∷ ws) ≡ form → AreFalse s (w ∷ ws) form → IsKept ts (counted (added (named s (spots_by form (w ∷ ws))) (w ∷ ws) (items_by s (w ∷ ws) form) (says_by form (values s (spots_by form (w ∷ ws))))))
+      go : (form : Option Row) → row_of (w ∷ ws) ≡ form → AreFalse s (w ∷ ws) form → IsKept ts (counted (added (with_names s (spots_by form (w ∷ ws))) (w ∷ ws) (items_by s (w ∷ ws) form) (says_by form (values s (spots_by form (w ∷ ws))))))
       go None f a = absurd (cc (a.line))
       go (Some r) f a = kept_row s (w ∷ ws) r (first_matches rows (w ∷ ws) r f) a k
 

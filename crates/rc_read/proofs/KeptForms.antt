@@ -10,7 +10,7 @@ use Rattle.rc_read.specs.declared.values.Item.{Item}
 use Rattle.rc_read.specs.Adds.{values}
 use Rattle.rc_read.specs.Says.{says_by}
 use Rattle.rc_read.specs.Sentences.{any_double, any_full, any_twice, any_unknown, bad_brace, bad_case, bad_head, bad_line, bad_nesting, first_true, form_sentences, has_too_many_names, is_inside, is_too_deep, is_too_long, may_stand}
-use Rattle.rc_read.specs.Sheets.{Sheet, named, names_behind}
+use Rattle.rc_read.specs.Sheets.{Sheet, names_behind, with_names}
 use Rattle.rc_read.specs.Spots.{first_row, matches, row_of, spots_by}
 use Rattle.rc_read.specs.Table.{parts_of}
 use Rattle.rc_read.specs.Values.{any_lacks, items_in, start}
@@ -36,7 +36,7 @@ items_by s ws form = items_in (values s (spots_by form ws))
 -- None of the sentences about a line with this form is true.
 pub record AreFalse (s : Sheet) (ws : List (List ℕ)) (form : Option Row) : Type 0 where
   pub line : bad_line s.region form ≡ false
-  pub numbers : any_lacks (named s (spots_by form ws)) start (spots_by form ws) ≡ false
+  pub numbers : any_lacks (with_names s (spots_by form ws)) start (spots_by form ws) ≡ false
   pub known : any_unknown s (spots_by form ws) ≡ false
   pub new : any_double s (spots_by form ws) ≡ false
   pub once : any_twice (items_by s ws form) ≡ false
@@ -54,7 +54,7 @@ are_false s line ws e =
     let what = says_by (row_of ws) (values s spots) in
     let p2 = (none_true 2 (bad_head s.region ws) _ e).1 in
     let p3 = none_true 3 (bad_line s.region (row_of ws)) _ p2 in
-    let p4 = none_true 4 (any_lacks (named s spots) start spots) _ p3.1 in
+    let p4 = none_true 4 (any_lacks (with_names s spots) start spots) _ p3.1 in
     let p5 = none_true 5 (any_unknown s spots) _ p4.1 in
     let p6 = none_true 6 (any_double s spots || any_twice (items_by s ws (row_of ws))) _ p5.1 in
     let p7 = none_true 7 (bad_brace s what) _ p6.1 in

@@ -13,7 +13,7 @@ use Rattle.rc_lang.specs.Program.{HasEnd, IsAhead, IsFirst, IsLinked, stmt_at}
 use Rattle.rc_lang.proofs.Closing.{way_out_found}
 use Rattle.rc_lang.proofs.Lookups.{innermost_split, stands_within, stmt_new, stmt_old, stmt_push}
 use Rattle.rc_lang.proofs.Placed.{ArePlaced, placed_innermost}
-use Rattle.rc_read.specs.Adds.{closed_by, ends_behind, marked}
+use Rattle.rc_read.specs.Adds.{closed_by, ends_behind, ends_marked}
 
 -- ---- what waits
 
@@ -112,11 +112,11 @@ end_kept [] (suc k) = refl
 end_kept (e ∷ ends) zero = refl
 end_kept (e ∷ ends) (suc k) = end_kept ends k
 
-end_other : (ends : List ℕ) (n : ℕ) (c : Option ℕ) (o : ℕ) → (c ≡ Some o → ⊥) → slice_index (marked (ends ++ 0 ∷ []) n c) o ≡ slice_index ends o
+end_other : (ends : List ℕ) (n : ℕ) (c : Option ℕ) (o : ℕ) → (c ≡ Some o → ⊥) → slice_index (ends_marked (ends ++ 0 ∷ []) n c) o ≡ slice_index ends o
 end_other ends n None o ne = end_kept ends o
 end_other ends n (Some p) o ne = get_or-set_other (ends ++ 0 ∷ []) p o n 0 (λ q. ne (ap Some (sym q))) ∙ end_kept ends o
 
-end_here : (ends : List ℕ) (n : ℕ) (c : Option ℕ) (o : ℕ) → c ≡ Some o → o < length ends → slice_index (marked (ends ++ 0 ∷ []) n c) o ≡ n
+end_here : (ends : List ℕ) (n : ℕ) (c : Option ℕ) (o : ℕ) → c ≡ Some o → o < length ends → slice_index (ends_marked (ends ++ 0 ∷ []) n c) o ≡ n
 end_here ends n None o e lt = absurd (cc)
 end_here ends n (Some p) o e lt =
     let q : p ≡ o = cc in
@@ -126,7 +126,7 @@ end_here ends n (Some p) o e lt =
 pub as_long : (ends : List ℕ) (n : ℕ) (s : Stmt) → length (ends_behind ends n s) ≡ length ends + 1
 as_long ends n s = go (closed_by s)
   where
-    go : (c : Option ℕ) → length (marked (ends ++ 0 ∷ []) n c) ≡ length ends + 1
+    go : (c : Option ℕ) → length (ends_marked (ends ++ 0 ∷ []) n c) ≡ length ends + 1
     go None = length-append ends (0 ∷ [])
     go (Some o) = length-set (ends ++ 0 ∷ []) o n ∙ length-append ends (0 ∷ [])
 

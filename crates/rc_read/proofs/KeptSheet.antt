@@ -12,7 +12,7 @@ use Rattle.rc_read.specs.declared.says.Says.{Says}
 use Rattle.rc_read.specs.declared.says.Says.TheVariants as says
 use Rattle.rc_read.specs.declared.values.Item.{Item}
 use Rattle.rc_read.specs.Adds.{closed, closing, closing_of, counted, said, stmt_in, whole_thread}
-use Rattle.rc_read.specs.Sheets.{Draft, Sheet, empty, is_among, named, names_behind, naming, thread_names}
+use Rattle.rc_read.specs.Sheets.{Draft, Sheet, empty, is_among, names_behind, naming, thread_names, with_names}
 use Rattle.rc_read.specs.Spots.{Spot}
 use Rattle.rc_read.proofs.KeptDraft.{IsDraft, MayFollow, draft_more, draft_named, draft_whole, open_loop}
 use Rattle.rc_read.proofs.KeptParts.{AreDeclared, AreThreads, nothing_declared, one_more, threads_more}
@@ -59,7 +59,7 @@ module _ (ts : List ThreadOf) where
   threads_named p count d ps threads few InThread h = record { finished = h.finished; room = h.room; new = h.new; few_lines = h.few_lines; draft = draft_named p d ps few h.draft }
   threads_named p count d ps threads few r h = h
 
-  pub kept_named : (s : Sheet) (ps : List Spot) → length (names_behind s.draft.names ps) ≤ 64 → IsKept ts s → IsKept ts (named s ps)
+  pub kept_named : (s : Sheet) (ps : List Spot) → length (names_behind s.draft.names ps) ≤ 64 → IsKept ts s → IsKept ts (with_names s ps)
   kept_named s ps few k = record { few_lines = k.few_lines; declared = k.declared; threads = threads_named (made ts s) s.count s.draft ps s.threads few s.region k.threads }
 
   -- ---- lines of the open thread

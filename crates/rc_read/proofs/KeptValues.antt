@@ -19,7 +19,7 @@ use Rattle.rc_read.specs.Says.{as_named, as_operand, as_small, as_user_data}
 use Rattle.rc_read.specs.Sentences.{any_double, any_full, any_unknown, is_double, is_full, is_unknown, lacks_file, lacks_token, repeats_file, repeats_token}
 use Rattle.rc_read.specs.Sheets.{Draft, Sheet, buffer_names, buffer_number, has_file, has_token, is_among, is_variable, number_in, shares_in}
 use Rattle.rc_read.specs.Spots.{Spot, begins_number}
-use Rattle.rc_read.specs.Values.{any_lacks, file_number_of, rounded_up, seen_behind, shares_of, signed_of, sized, small, start, user_data_of, value_at, values_of, with_room}
+use Rattle.rc_read.specs.Values.{any_lacks, file_number_of, rounded_up, seen_behind, share_number, signed_of, sized, small_value, start, user_data_of, value_at, values_of, with_room}
 use Rattle.rc_read.proofs.KeptSpots.{AllNamed, AreOf, number_below}
 
 -- The program of a sheet, with these threads.
@@ -76,7 +76,7 @@ shares_known (b ∷ bs) w e = go (bytes_eq b.name w) e (λ h. shares_known bs w 
 -- ---- numbers
 
 -- what the word of a number's place says, where it is one
-some_small : (o : Option ℕ) → is_none (small o) ≡ false → o ≡ Some (as_small (Some (unwrap_or (small o) value.Nothing)))
+some_small : (o : Option ℕ) → is_none (small_value o) ≡ false → o ≡ Some (as_small (Some (unwrap_or (small_value o) value.Nothing)))
 some_small None e = absurd (cc)
 some_small (Some n) e = refl
 
@@ -90,14 +90,14 @@ in_range low high w n e =
     let q : value_of w ≡ n = c.1 in
     (omega arith, omega arith)
 
-within : (low high : ℕ) (w : List ℕ) → is_none (small (number_of low high w)) ≡ false → (low ≤ as_small (Some (unwrap_or (small (number_of low high w)) value.Nothing))) × (as_small (Some (unwrap_or (small (number_of low high w)) value.Nothing)) ≤ high)
-within low high w e = in_range low high w (as_small (Some (unwrap_or (small (number_of low high w)) value.Nothing))) (some_small (number_of low high w) e)
+within : (low high : ℕ) (w : List ℕ) → is_none (small_value (number_of low high w)) ≡ false → (low ≤ as_small (Some (unwrap_or (small_value (number_of low high w)) value.Nothing))) × (as_small (Some (unwrap_or (small_value (number_of low high w)) value.Nothing)) ≤ high)
+within low high w e = in_range low high w (as_small (Some (unwrap_or (small_value (number_of low high w)) value.Nothing))) (some_small (number_of low high w) e)
 
-with_room_is : (r : ℕ) (o : Option ℕ) → is_none (small (with_room r o)) ≡ false → r ≤ rounded_up (as_small (Some (unwrap_or (small (with_room r o)) value.Nothing)))
+with_room_is : (r : ℕ) (o : Option ℕ) → is_none (small_value (with_room r o)) ≡ false → r ≤ rounded_up (as_small (Some (unwrap_or (small_value (with_room r o)) value.Nothing)))
 with_room_is r None e = absurd (cc)
 with_room_is r (Some n) e = go (nat_le r (rounded_up n)) refl e
   where
-    go : (b : Bool) → nat_le r (rounded_up n) ≡ b → is_none (small (cond b (Some n) None)) ≡ false → r ≤ rounded_up (as_small (Some (unwrap_or (small (cond b (Some n) None)) value.Nothing)))
+    go : (b : Bool) → nat_le r (rounded_up n) ≡ b → is_none (small_value (cond b (Some n) None)) ≡ false → r ≤ rounded_up (as_small (Some (unwrap_or (small_value (cond b (Some n) None)) value.Nothing)))
     go true f h = leb-true r (rounded_up n) f
     go false f h = absurd (cc)
 
@@ -105,7 +105,7 @@ known_token : (threads : List ThreadOf) (s : Sheet) (o : Option ℕ) → is_none
 known_token threads s None e h = absurd (cc)
 known_token threads s (Some u) e h = token_declared threads s u (not-false (has_token s.tokens u) h)
 
-known_file : (threads : List ThreadOf) (s : Sheet) (o : Option ℕ) → is_none (small o) ≡ false → lacks_file s o ≡ false → DeclaresFile (made threads s) (as_small (Some (unwrap_or (small o) value.Nothing)))
+known_file : (threads : List ThreadOf) (s : Sheet) (o : Option ℕ) → is_none (small_value o) ≡ false → lacks_file s o ≡ false → DeclaresFile (made threads s) (as_small (Some (unwrap_or (small_value o) value.Nothing)))
 known_file threads s None e h = absurd (cc)
 known_file threads s (Some n) e h = file_declared threads s n (not-false (has_file s.files n) h)
 
@@ -113,7 +113,7 @@ new_token : (s : Sheet) (o : Option ℕ) → is_none (option_map (λ u. value.Us
 new_token s None e h = absurd (cc)
 new_token s (Some u) e h = h
 
-new_file : (s : Sheet) (o : Option ℕ) → is_none (small o) ≡ false → repeats_file s o ≡ false → has_file s.files (as_small (Some (unwrap_or (small o) value.Nothing))) ≡ false
+new_file : (s : Sheet) (o : Option ℕ) → is_none (small_value o) ≡ false → repeats_file s o ≡ false → has_file s.files (as_small (Some (unwrap_or (small_value o) value.Nothing))) ≡ false
 new_file s None e h = absurd (cc)
 new_file s (Some n) e h = h
 
@@ -179,10 +179,10 @@ module _ (threads : List ThreadOf) (s : Sheet) (d : Draft) where
     pub room : is_full s part ≡ false
     pub named : is_variable part w ≡ true → is_among d.names w ≡ true
 
-  fine_shares : (w : List ℕ) (b seen : Option ℕ) → IsSeen b seen → is_none (small (shares_of seen w)) ≡ false → FineShares s.buffers b (as_small (Some (unwrap_or (small (shares_of seen w)) value.Nothing)))
+  fine_shares : (w : List ℕ) (b seen : Option ℕ) → IsSeen b seen → is_none (small_value (share_number seen w)) ≡ false → FineShares s.buffers b (as_small (Some (unwrap_or (small_value (share_number seen w)) value.Nothing)))
   fine_shares w None seen e h = tt
   fine_shares w (Some b) None e h = absurd (cc)
-  fine_shares w (Some b) (Some n) e h = let q : n ≡ shares_at s.buffers b = cc in let k = within 1 n w h in (k.0, subst (λ m. as_small (Some (unwrap_or (small (number_of 1 n w)) value.Nothing)) ≤ m) q k.1)
+  fine_shares w (Some b) (Some n) e h = let q : n ≡ shares_at s.buffers b = cc in let k = within 1 n w h in (k.0, subst (λ m. as_small (Some (unwrap_or (small_value (number_of 1 n w)) value.Nothing)) ≤ m) q k.1)
 
   fine_here : (seen : Seen) (r : ℕ) (b : Option ℕ) → Agrees seen r b → (part : Part) (w : List ℕ) → IsRight seen part w → FineAt r b part (Some (unwrap_or (value_at sheet seen part w) value.Nothing))
   fine_here seen r b a Variable w h = number_below d.names w (h.named refl)
@@ -194,8 +194,8 @@ module _ (threads : List ThreadOf) (s : Sheet) (d : Draft) where
       signed_or_variable false n o = number_below d.names w (n refl)
   fine_here seen r b a (Number (Within low high)) w h = within low high w h.value
   fine_here seen r b a (Number Size) w h = (within 1 1024 w h.value).1
-  fine_here seen r b a (Number CompletionSize) w h = subst (λ n. n ≤ rounded_up (as_small (Some (unwrap_or (small (with_room seen.rounded (number_of 1 2048 w))) value.Nothing)))) a.rounded (with_room_is seen.rounded (number_of 1 2048 w) h.value)
-  fine_here seen r b a (Number Rounded) w h = subst (λ n. as_small (Some (unwrap_or (small (number_of 0 seen.rounded w)) value.Nothing)) ≤ n) a.rounded (within 0 seen.rounded w h.value).1
+  fine_here seen r b a (Number CompletionSize) w h = subst (λ n. n ≤ rounded_up (as_small (Some (unwrap_or (small_value (with_room seen.rounded (number_of 1 2048 w))) value.Nothing)))) a.rounded (with_room_is seen.rounded (number_of 1 2048 w) h.value)
+  fine_here seen r b a (Number Rounded) w h = subst (λ n. as_small (Some (unwrap_or (small_value (number_of 0 seen.rounded w)) value.Nothing)) ≤ n) a.rounded (within 0 seen.rounded w h.value).1
   fine_here seen r b a (Number Entries) w h = (within 0 s.head.entries w h.value).1
   fine_here seen r b a (Number Shares) w h = fine_shares w b seen.shares a.shares h.value
   fine_here seen r b a File w h = known_file threads s (file_number_of w) h.value h.known
@@ -210,7 +210,7 @@ module _ (threads : List ThreadOf) (s : Sheet) (d : Draft) where
   agrees_behind : (seen : Seen) (r : ℕ) (b : Option ℕ) → Agrees seen r b → (part : Part) (w : List ℕ) → IsRight seen part w → Agrees (seen_behind sheet seen part w) (rounded_behind r part (Some (unwrap_or (value_at sheet seen part w) value.Nothing))) (buffer_behind b part (Some (unwrap_or (value_at sheet seen part w) value.Nothing)))
   agrees_behind seen r b a (Number Size) w h = go (number_of 1 1024 w) h.value
     where
-      go : (o : Option ℕ) → is_none (small o) ≡ false → Agrees (sized seen o) (rounded_up (as_small (Some (unwrap_or (small o) value.Nothing)))) b
+      go : (o : Option ℕ) → is_none (small_value o) ≡ false → Agrees (sized seen o) (rounded_up (as_small (Some (unwrap_or (small_value o) value.Nothing)))) b
       go None e = absurd (cc)
       go (Some n) e = record { rounded = refl; shares = a.shares }
   agrees_behind seen r b a Buffer w h = record { rounded = a.rounded; shares = shares_known s.buffers w (not-false (is_among (buffer_names s.buffers) w) h.known) }

@@ -18,5 +18,7 @@ pub mod Places
 pub mod Rows
 pub mod Sizes
 pub mod Streams
+pub mod Tokens
 pub mod Twice
+pub mod Among
 pub mod Differ

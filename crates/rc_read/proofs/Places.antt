@@ -3,19 +3,16 @@ use Rattle.std.proofs.Common.{◌≡◌, ℕ, zero, suc, ◌+◌, ◌-◌, ◌<�
 use Rattle.std.specs.Borrow.{Bor}
 use Rattle.std.specs.Prelude.{option_map, unwrap_or}
 use Rattle.std.proofs.lemmas.Bool.{ne_eqb}
-use Rattle.std.proofs.lemmas.List.{drop-map, take-map, drop-drop, drop_more, take_rest}
+use Rattle.std.proofs.lemmas.List.{drop-map, drop-drop, drop_more, take_rest}
 use Rattle.std.proofs.Math.Dec.{eqb-suc-suc}
 use Rattle.std.proofs.Math.ListN.{drop_of_length-le}
-use Rattle.rc_read.specs.Quick.{items_in_front, taken_one, taken_by, spots_of_all, spots_of_taken}
-use Rattle.rc_read.specs.Spots.{Spot, are_items, fits, is_item, spots_of_item, spots_of_items, behind_items, behind_one, is_end, matches, spot_of_part, spots_at, spots_of}
+use Rattle.rc_read.specs.Quick.{items_in_front, taken_one, taken_by}
+use Rattle.rc_read.specs.Spots.{Spot, are_items, fits, is_item, behind_items, behind_one, is_end, matches, spots_at, spots_of}
 use Rattle.rc_read.specs.declared.table.Part.{Part}
 use Rattle.rc_read.specs.Texts.{texts_of}
 
 drop_one_more : (n : ℕ) (w : List ℕ) (ws : List (List ℕ)) → drop (n + 1) (w ∷ ws) ≡ drop n ws
 drop_one_more n w ws = ap (λ (k : ℕ). drop k (w ∷ ws)) (add-one n)
-
-take_one_more : (n : ℕ) (w : List ℕ) (ws : List (List ℕ)) → take (n + 1) (w ∷ ws) ≡ w ∷ take n ws
-take_one_more n w ws = ap (λ (k : ℕ). take k (w ∷ ws)) (add-one n)
 
 drop_by : (b : Bool) (n : ℕ) (w : List ℕ) (ws vs : List (List ℕ)) → drop n ws ≡ vs → drop (cond b (n + 1) 0) (w ∷ ws) ≡ cond b vs (w ∷ ws)
 drop_by true n w ws vs e = drop_one_more n w ws ∙ e
@@ -25,14 +22,6 @@ drop_items : (ws : List (List ℕ)) → drop (items_in_front ws) ws ≡ behind_i
 drop_items [] = refl
 drop_items (w ∷ ws) = drop_by (is_item w) (items_in_front ws) w ws (behind_items ws) (drop_items ws)
 
-take_by : (b : Bool) (n : ℕ) (w : List ℕ) (ws : List (List ℕ)) (ps : List Spot) → spots_of_all (take n ws) ≡ ps → spots_of_all (take (cond b (n + 1) 0) (w ∷ ws)) ≡ cond b (spots_of_item w ++ ps) []
-take_by true n w ws ps e = ap spots_of_all (take_one_more n w ws) ∙ ap (λ (x : List Spot). spots_of_item w ++ x) e
-take_by false n w ws ps e = refl
-
-take_items : (ws : List (List ℕ)) → spots_of_all (take (items_in_front ws) ws) ≡ spots_of_items ws
-take_items [] = refl
-take_items (w ∷ ws) = take_by (is_item w) (items_in_front ws) w ws (spots_of_items ws) (take_items ws)
-
 some_is : (m n : ℕ) → Some m ≡ Some n → m ≡ n
 some_is m n e = cc
 
@@ -40,19 +29,10 @@ one_by : (f : Bool) (n : ℕ) (w : List ℕ) (ws : List (List ℕ)) → cond f (
 one_by true n w ws e = ap (λ (k : ℕ). Some (drop k (w ∷ ws))) (some_is 1 n e)
 one_by false n w ws e = absurd cc
 
-one_spot : (f : Bool) (p : Part) (n : ℕ) (w : List ℕ) (ws : List (List ℕ)) → cond f (Some 1) None ≡ Some n → spot_of_part p (take n (w ∷ ws)) ≡ spot_of_part p (w ∷ ws)
-one_spot true p n w ws e = ap (λ (k : ℕ). spot_of_part p (take k (w ∷ ws))) (sym (some_is 1 n e))
-one_spot false p n w ws e = absurd cc
-
 behind_case : (b : Bool) (p : Part) (ws : List (List ℕ)) (n : ℕ) → cond b (Some (items_in_front ws)) (taken_one p ws) ≡ Some n → cond b (Some (behind_items ws)) (behind_one p ws) ≡ Some (drop n ws)
 behind_case true p ws n e = ap (λ (vs : List (List ℕ)). Some vs) (sym (drop_items ws) ∙ ap (λ (k : ℕ). drop k ws) (some_is (items_in_front ws) n e))
 behind_case false p [] n e = absurd cc
 behind_case false p (w ∷ ws) n e = one_by (fits p w) n w ws e
-
-spots_case : (b : Bool) (p : Part) (ws : List (List ℕ)) (n : ℕ) → cond b (Some (items_in_front ws)) (taken_one p ws) ≡ Some n → cond b (spots_of_all (take n ws)) (spot_of_part p (take n ws)) ≡ cond b (spots_of_items ws) (spot_of_part p ws)
-spots_case true p ws n e = ap (λ (k : ℕ). spots_of_all (take k ws)) (sym (some_is (items_in_front ws) n e)) ∙ take_items ws
-spots_case false p [] n e = absurd cc
-spots_case false p (w ∷ ws) n e = one_spot (fits p w) p n w ws e
 
 none_one : (f : Bool) (ws : List (List ℕ)) → cond {A = Option ℕ} f (Some 1) None ≡ None → cond f (Some ws) None ≡ None
 none_one true ws e = absurd cc
@@ -71,19 +51,13 @@ matches_none p ps ws e = ap (λ (o : Option (List (List ℕ))). unwrap_or (optio
 pub matches_some : (p : Part) (ps : List Part) (ws : List (List ℕ)) (n : ℕ) → taken_by p ws ≡ Some n → matches (p ∷ ps) ws ≡ matches ps (drop n ws)
 matches_some p ps ws n e = ap (λ (o : Option (List (List ℕ))). unwrap_or (option_map (λ rest. matches ps rest) o) false) (behind_case (are_items p) p ws n e)
 
-pub spots_some : (p : Part) (ps : List Part) (ws : List (List ℕ)) (n : ℕ) → taken_by p ws ≡ Some n → spots_of (p ∷ ps) ws ≡ spots_of_taken p (take n ws) ++ spots_of ps (drop n ws)
-spots_some p ps ws n e =
-    ap (λ (o : Option (List (List ℕ))). spots_at p ws ++ spots_of ps (unwrap_or o [])) (behind_case (are_items p) p ws n e) ∙ ap (λ (x : List Spot). x ++ spots_of ps (drop n ws)) (sym (spots_case (are_items p) p ws n e))
+pub spots_some : (p : Part) (ps : List Part) (ws : List (List ℕ)) (n : ℕ) → taken_by p ws ≡ Some n → spots_of (p ∷ ps) ws ≡ spots_at p ws ++ spots_of ps (drop n ws)
+spots_some p ps ws n e = ap (λ (o : Option (List (List ℕ))). spots_at p ws ++ spots_of ps (unwrap_or o [])) (behind_case (are_items p) p ws n e)
 
 -- ---- in the loop over the parts
 
 texts_drop : (words : List (Bor (List ℕ))) (at n : ℕ) → drop n (texts_of (drop at words)) ≡ texts_of (drop (at + n) words)
 texts_drop words at n = drop-map (λ (w : Bor (List ℕ)). w.now) n (drop at words) ∙ ap texts_of (drop-drop n at words)
-
-texts_take : (words : List (Bor (List ℕ))) (at n : ℕ) → texts_of (take (at + n - at) (drop at words)) ≡ take n (texts_of (drop at words))
-texts_take words at n =
-    let e : at + n - at ≡ n = omega arith in
-    ap (λ (k : ℕ). texts_of (take k (drop at words))) e ∙ sym (take-map (λ (w : Bor (List ℕ)). w.now) n (drop at words))
 
 seen_from : (p : Part) (words : List (Bor (List ℕ))) (at : ℕ) (o : Option ℕ) → o ≡ taken_by p (texts_of (take (length words - at) (drop at words))) → taken_by p (texts_of (drop at words)) ≡ o
 seen_from p words at o e = ap (λ (ws : List (Bor (List ℕ))). taken_by p (texts_of ws)) (sym (take_rest words at)) ∙ sym e
@@ -100,14 +74,14 @@ goes parts i d words at n whole lt e h =
     let ws = texts_of (drop at words) in
     ap (λ (x : List (List ℕ)). matches (drop (i + 1) parts) x) (sym (texts_drop words at n)) ∙ sym (matches_some p (drop (i + 1) parts) ws n (seen_from p words at (Some n) e)) ∙ ap (λ (x : List Part). matches x ws) (sym (drop_more parts i d lt)) ∙ h
 
-pub adds : (parts : List Part) (i : ℕ) (d : Part) (words : List (Bor (List ℕ))) (at n : ℕ) (old new whole : List Spot) → i < length parts → Some n ≡ taken_by (get_or parts i d) (texts_of (take (length words - at) (drop at words))) → new ≡ old ++ spots_of_taken (get_or parts i d) (texts_of (take (at + n - at) (drop at words))) → old ++ spots_of (drop i parts) (texts_of (drop at words)) ≡ whole → new ++ spots_of (drop (i + 1) parts) (texts_of (drop (at + n) words)) ≡ whole
+pub adds : (parts : List Part) (i : ℕ) (d : Part) (words : List (Bor (List ℕ))) (at n : ℕ) (old new whole : List Spot) → i < length parts → Some n ≡ taken_by (get_or parts i d) (texts_of (take (length words - at) (drop at words))) → new ≡ old ++ spots_at (get_or parts i d) (texts_of (take (length words - at) (drop at words))) → old ++ spots_of (drop i parts) (texts_of (drop at words)) ≡ whole → new ++ spots_of (drop (i + 1) parts) (texts_of (drop (at + n) words)) ≡ whole
 adds parts i d words at n old new whole lt e k h =
     let p = get_or parts i d in
     let ws = texts_of (drop at words) in
     let ps = drop (i + 1) parts in
-    let t : new ≡ old ++ spots_of_taken p (take n ws) = k ∙ ap (λ (x : List (List ℕ)). old ++ spots_of_taken p x) (texts_take words at n) in
-    let f : spots_of (drop i parts) ws ≡ spots_of_taken p (take n ws) ++ spots_of ps (drop n ws) = ap (λ (x : List Part). spots_of x ws) (drop_more parts i d lt) ∙ spots_some p ps ws n (seen_from p words at (Some n) e) in
-    ap (λ (x : List (List ℕ)). new ++ spots_of ps x) (sym (texts_drop words at n)) ∙ ap (λ (x : List Spot). x ++ spots_of ps (drop n ws)) t ∙ append_assoc old (spots_of_taken p (take n ws)) (spots_of ps (drop n ws))
+    let t : new ≡ old ++ spots_at p ws = k ∙ ap (λ (x : List (Bor (List ℕ))). old ++ spots_at p (texts_of x)) (take_rest words at) in
+    let f : spots_of (drop i parts) ws ≡ spots_at p ws ++ spots_of ps (drop n ws) = ap (λ (x : List Part). spots_of x ws) (drop_more parts i d lt) ∙ spots_some p ps ws n (seen_from p words at (Some n) e) in
+    ap (λ (x : List (List ℕ)). new ++ spots_of ps x) (sym (texts_drop words at n)) ∙ ap (λ (x : List Spot). x ++ spots_of ps (drop n ws)) t ∙ append_assoc old (spots_at p ws) (spots_of ps (drop n ws))
     ∙ ap (λ (x : List Spot). old ++ x) (sym f) ∙ h
 
 at_end_is : (words : List (Bor (List ℕ))) (at : ℕ) → at ≤ length words → eqb at (length words) ≡ is_end (texts_of (drop at words))

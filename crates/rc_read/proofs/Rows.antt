@@ -5,13 +5,13 @@ use Rattle.std.specs.Str.{bytes_eq}
 use Rattle.rc_read.specs.declared.table.Part.{Part}
 use Rattle.rc_read.specs.declared.table.Part.TheVariants.{Fixed}
 use Rattle.rc_read.specs.declared.table.Row.{Row}
-use Rattle.rc_read.specs.Quick.{begins, may_begin, beginning, first_byte}
+use Rattle.rc_read.specs.Quick.{starts_with, may_begin, beginning, first_byte}
 use Rattle.rc_read.specs.Spots.{matches, first_row, row_of}
 use Rattle.rc_read.specs.Table.{text_of, parts_of, rows}
 
 -- ---- the first word of a line begins as its form does
 
-word_begins : (w text : List ℕ) (ws : List (List ℕ)) → bytes_eq w text ≡ true → begins (first_byte (w ∷ ws)) text ≡ true
+word_begins : (w text : List ℕ) (ws : List (List ℕ)) → bytes_eq w text ≡ true → starts_with (first_byte (w ∷ ws)) text ≡ true
 word_begins w [] ws h = refl
 word_begins [] (c ∷ text) ws h = absurd cc
 word_begins (b ∷ w) (c ∷ text) ws h = first_is (eqb b c) (bytes_eq w text) h

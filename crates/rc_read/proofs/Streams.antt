@@ -10,7 +10,7 @@ use Rattle.rc_read.specs.Pieces.{fault_in, ReadsMore, IsSoundBy}
 use Rattle.rc_read.specs.Sentences.{sentences, first_true}
 use Rattle.rc_read.specs.Sheets.{Sheet, empty}
 use Rattle.rc_read.specs.Adds.{with_line}
-use Rattle.rc_read.specs.Stream.{Reads, HasRead, Reading, IsAnswer, IsAnswerSoFar, IsReached, IsSound, Judges, JudgesAll, Ends}
+use Rattle.rc_read.specs.Stream.{Reads, HasRead, Reading, IsAnswer, IsAnswerSoFar, IsReached, IsReachedOrFaulty, Judges, JudgesAll, Ends}
 use Rattle.rc_read.specs.Words.{cut, before_line, last_line}
 use Rattle.rc_read.specs.declared.fault.ReadFault.{ReadFault}
 use Rattle.rc_read.specs.declared.fault.ReadFault.TheVariants.{Text, OutOfMemory}
@@ -207,9 +207,9 @@ sound_by s s' line (Err f) j h = tt
 pub sound_ok : (r : Result (Unit {0}) ReadFault) (s : Sheet) → r ≡ Ok tt → IsSoundBy r s → IsReached s
 sound_ok r s e h = subst (λ (x : Result (Unit {0}) ReadFault). IsSoundBy x s) e h
 
-pub reached_end : (o : Option ReadFault) (s s' : Sheet) (pending rest : List ℕ) → o ≡ None → rest ≡ pending → judged s (last_line rest) ≡ Ok s' → IsSound o s → IsReached s'
+pub reached_end : (o : Option ReadFault) (s s' : Sheet) (pending rest : List ℕ) → o ≡ None → rest ≡ pending → judged s (last_line rest) ≡ Ok s' → IsReachedOrFaulty o s → IsReached s'
 reached_end o s s' pending rest eo ep j h =
-    let lines = subst (λ (x : Option ReadFault). IsSound x s) eo h in
+    let lines = subst (λ (x : Option ReadFault). IsReachedOrFaulty x s) eo h in
     (lines.0 ++ last_line rest, judged-append_ok empty s lines.0 (last_line rest) lines.1 ∙ j)
 
 pub fault_seen : (r v : Reading) (o : Option ReadFault) → r ≡ v → v.fault ≡ o → r.fault ≡ o

@@ -14,7 +14,7 @@ use Rattle.rc_read.specs.declared.values.Item.{Item}
 use Rattle.rc_read.specs.declared.values.Item.TheVariants as item
 use Rattle.rc_read.specs.declared.values.Value.{Value}
 use Rattle.rc_read.specs.Says.{says_by}
-use Rattle.rc_read.specs.Sheets.{Sheet, Draft, Arms, no_arms, headed, no_draft, named}
+use Rattle.rc_read.specs.Sheets.{Sheet, Draft, Arms, no_arms, headed, no_draft, with_names}
 use Rattle.rc_read.specs.Spots.{Spot, row_of, spots_in}
 use Rattle.rc_read.specs.Values.{items_in, start, values_of}
 use Rattle.rc_read.specs.Words.{words_of}
@@ -55,12 +55,12 @@ closed_by (stmt.EndLoop o k) = Some o
 closed_by _ = None
 
 -- The table of ends, where one more line stands at place j: that line has none, and is that of the line that it closes.
-abbrev pub marked : List ℕ → ℕ → Option ℕ → List ℕ
-marked ends j None = ends
-marked ends j (Some o) = slice_set ends o j
+abbrev pub ends_marked : List ℕ → ℕ → Option ℕ → List ℕ
+ends_marked ends j None = ends
+ends_marked ends j (Some o) = slice_set ends o j
 
 abbrev pub ends_behind : List ℕ → ℕ → Stmt → List ℕ
-ends_behind ends j s = marked (ends ++ 0 ∷ []) j (closed_by s)
+ends_behind ends j s = ends_marked (ends ++ 0 ∷ []) j (closed_by s)
 
 -- A peek begins without arms, and its arms are kept.
 abbrev pub arms_behind : Arms → Stmt → Arms
@@ -85,14 +85,14 @@ with_stmt d number items s = record d {
 }
 
 -- the place that a block belongs to
-abbrev pub place_of : Option Block → ℕ
-place_of None = 0
-place_of (Some (InLock o)) = o
-place_of (Some (InIf o)) = o
-place_of (Some (InElse o)) = o
-place_of (Some (InPeek o)) = o
-place_of (Some (InArm o)) = o
-place_of (Some (InLoop o k)) = o
+abbrev pub block_place : Option Block → ℕ
+block_place None = 0
+block_place (Some (InLock o)) = o
+block_place (Some (InIf o)) = o
+block_place (Some (InElse o)) = o
+block_place (Some (InPeek o)) = o
+block_place (Some (InArm o)) = o
+block_place (Some (InLoop o k)) = o
 
 -- the closing brace of a block
 abbrev pub closing : Block → Stmt
@@ -112,11 +112,11 @@ abbrev pub stmt_in : Draft → Says → Stmt
 stmt_in d (Op op) = stmt.Do op
 stmt_in d Lock = stmt.Lock
 stmt_in d (If test) = stmt.If test
-stmt_in d Else = stmt.Else (place_of (innermost d.blocks))
+stmt_in d Else = stmt.Else (block_place (innermost d.blocks))
 stmt_in d (Peek x) = stmt.Peek x
-stmt_in d (Case u) = stmt.Case (place_of (innermost d.blocks)) u
-stmt_in d Other = stmt.Other (place_of (innermost d.blocks))
-stmt_in d Nothing = stmt.Nothing (place_of (innermost d.blocks))
+stmt_in d (Case u) = stmt.Case (block_place (innermost d.blocks)) u
+stmt_in d Other = stmt.Other (block_place (innermost d.blocks))
+stmt_in d Nothing = stmt.Nothing (block_place (innermost d.blocks))
 stmt_in d Loop = stmt.Loop (length d.loops)
 stmt_in d Break = stmt.Break (unwrap_or (way_out d.blocks).loop 0) (way_out d.blocks).releases (way_out d.blocks).leaves
 stmt_in d _ = closing_of (innermost d.blocks)
@@ -152,7 +152,7 @@ added s ws items what = said s items what
 
 -- What stands in the places of a line, its own variables among the names.
 abbrev pub values : Sheet → List Spot → List Value
-values s spots = values_of (named s spots) start spots
+values s spots = values_of (with_names s spots) start spots
 
 abbrev pub says : Sheet → List (List ℕ) → Says
 says s ws = says_by (row_of ws) (values s (spots_in ws))
@@ -163,7 +163,7 @@ items s ws = items_in (values s (spots_in ws))
 -- The sheet behind a line, where no sentence is true of it.
 abbrev pub with_words : Sheet → List (List ℕ) → Sheet
 with_words s [] = s
-with_words s (w ∷ ws) = added (named s (spots_in (w ∷ ws))) (w ∷ ws) (items s (w ∷ ws)) (says s (w ∷ ws))
+with_words s (w ∷ ws) = added (with_names s (spots_in (w ∷ ws))) (w ∷ ws) (items s (w ∷ ws)) (says s (w ∷ ws))
 
 abbrev pub counted : Sheet → Sheet
 counted s = record s { count = s.count + 1 }

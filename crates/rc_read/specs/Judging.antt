@@ -10,7 +10,7 @@ use Rattle.rc_read.specs.declared.values.Item.{Item}
 use Rattle.rc_read.specs.declared.values.Wrong.{Wrong}
 use Rattle.rc_read.specs.Says.{says_of}
 use Rattle.rc_read.specs.Sentences.{is_unknown, any_unknown, is_double, any_double, any_twice, bad_brace, is_too_long, is_too_deep, is_full, any_full, bad_nesting, bad_case, word_sentences, first_true}
-use Rattle.rc_read.specs.Sheets.{Sheet, named}
+use Rattle.rc_read.specs.Sheets.{Sheet, with_names}
 use Rattle.rc_read.specs.Spots.{Spot, spots_of}
 use Rattle.rc_read.specs.Table.{parts_of}
 use Rattle.rc_read.specs.Values.{any_lacks, values_of, items_in, start}
@@ -47,7 +47,7 @@ JudgesNamed s line ws row spots new (Err e) = Unit {0}
 
 -- A line of this form.
 abbrev pub JudgesRow : {E : Type 0} → Sheet → List ℕ → List (List ℕ) → Row → Sheet → Result (Option ReadCause) E → Type 0
-JudgesRow old line ws row new r = JudgesNamed (named old (spots_of (parts_of row) ws)) line ws row (spots_of (parts_of row) ws) new r
+JudgesRow old line ws row new r = JudgesNamed (with_names old (spots_of (parts_of row) ws)) line ws row (spots_of (parts_of row) ws) new r
 
 -- A line with words or without.
 abbrev pub JudgesWords : {E : Type 0} → Sheet → List ℕ → List (List ℕ) → Sheet → Result (Option ReadCause) E → Type 0

@@ -1,7 +1,7 @@
 -- What becomes of a reader's parts by a piece of the text.
 use Rattle.std.specs.Prelude.{◌++◌, List, ℕ, Option, Some, None, Result, Ok, Err}
 use Rattle.rc_read.specs.Sheets.{Sheet}
-use Rattle.rc_read.specs.Stream.{Reads, IsSound}
+use Rattle.rc_read.specs.Stream.{Reads, IsReachedOrFaulty}
 use Rattle.rc_read.specs.declared.fault.ReadFault.{ReadFault}
 
 abbrev pub fault_in : {X : Type 0} → Result X ReadFault → Option ReadFault
@@ -14,4 +14,4 @@ ReadsMore old pending more new left r = (bytes : List ℕ) → Reads None old pe
 
 -- The sheet is reached by some lines, unless there is a fault.
 abbrev pub IsSoundBy : {X : Type 0} → Result X ReadFault → Sheet → Type 0
-IsSoundBy r s = IsSound (fault_in r) s
+IsSoundBy r s = IsReachedOrFaulty (fault_in r) s

@@ -1,5 +1,5 @@
 -- Faster ways to what the definitions of the notation say, and likely sizes. Nothing that is told of it speaks of these.
-use Rattle.std.specs.Prelude.{ℕ, ◌+◌, ◌/◌, min, List, [], ◌∷◌, ◌++◌, length, slice_index_or, Option, Some, None, Bool, true, false, ◌&&◌, ◌||◌, ◌==◌, nat_lt, if◌then◌else◌}
+use Rattle.std.specs.Prelude.{ℕ, ◌+◌, ◌/◌, min, List, [], ◌∷◌, length, slice_index_or, Option, Some, None, Bool, true, false, ◌&&◌, ◌||◌, ◌==◌, nat_le, nat_lt, if◌then◌else◌}
 use Rattle.std.specs.Str.{bytes_eq}
 use Rattle.rc_lang.specs.declared.program.Thread.{Thread}
 use Rattle.rc_read.specs.declared.table.Part.{Part}
@@ -7,7 +7,7 @@ use Rattle.rc_read.specs.declared.table.Part.TheVariants.{Fixed}
 use Rattle.rc_read.specs.declared.table.Row.{Row}
 use Rattle.rc_read.specs.declared.values.Item.{Item}
 use Rattle.rc_read.specs.declared.values.Item.TheVariants as item
-use Rattle.rc_read.specs.Spots.{Spot, are_items, fits, is_end, is_item, spots_of_item, spot_of_part}
+use Rattle.rc_read.specs.Spots.{are_items, fits, is_end, is_item}
 use Rattle.rc_read.specs.Table.{text_of, parts_of}
 
 -- Among these is a byte above 126 or below 32, as each strange one is.
@@ -15,13 +15,17 @@ abbrev pub any_outside : List ℕ → Bool
 any_outside [] = false
 any_outside (b ∷ bytes) = (nat_lt 126 b || nat_lt b 32) || any_outside bytes
 
+-- Each byte above `#` and below 127 is of a word: neither strange nor a blank nor the beginning of a comment.
+abbrev pub is_word_byte : ℕ → Bool
+is_word_byte b = nat_lt 35 b && nat_lt b 127
+
 -- The forms that a line can have whose first word begins with this byte.
-abbrev pub begins : ℕ → List ℕ → Bool
-begins b [] = true
-begins b (c ∷ text) = b == c
+abbrev pub starts_with : ℕ → List ℕ → Bool
+starts_with b [] = true
+starts_with b (c ∷ text) = b == c
 
 abbrev pub may_begin : ℕ → List Part → Bool
-may_begin b (Fixed fixed ∷ parts) = begins b (text_of fixed)
+may_begin b (Fixed fixed ∷ parts) = starts_with b (text_of fixed)
 may_begin b _ = true
 
 abbrev pub beginning : ℕ → List Row → List Row
@@ -47,7 +51,7 @@ abbrev pub may_match : List Part → List (List ℕ) → Bool
 may_match (part ∷ parts) (w ∷ ws) = are_items part || may_follow parts ws
 may_match _ _ = true
 
--- How many words a part takes, where they stand there, and the places of these words.
+-- How many words a part takes, where they stand there.
 abbrev pub items_in_front : List (List ℕ) → ℕ
 items_in_front [] = 0
 items_in_front (w ∷ ws) = if is_item w then items_in_front ws + 1 else 0
@@ -58,13 +62,6 @@ taken_one part (w ∷ ws) = if fits part w then Some 1 else None
 
 abbrev pub taken_by : Part → List (List ℕ) → Option ℕ
 taken_by part ws = if are_items part then Some (items_in_front ws) else taken_one part ws
-
-abbrev pub spots_of_all : List (List ℕ) → List Spot
-spots_of_all [] = []
-spots_of_all (w ∷ ws) = spots_of_item w ++ spots_of_all ws
-
-abbrev pub spots_of_taken : Part → List (List ℕ) → List Spot
-spots_of_taken part ws = if are_items part then spots_of_all ws else spot_of_part part ws
 
 -- Items in an order: shares by the numbers of their buffers, tokens by their user data, credits and queued entries.
 abbrev pub comes_before : Item → Item → Bool
@@ -88,6 +85,10 @@ ascend (i ∷ is) = ascend_from i is
 abbrev pub second_last : List ℕ → ℕ
 second_last (a ∷ b ∷ name) = slice_index_or (a ∷ b ∷ name) (length name) 0
 second_last _ = 0
+
+-- A number, where it is one and lies in a range.
+abbrev pub in_range : ℕ → ℕ → Bool → ℕ → Option ℕ
+in_range low high is n = if is && nat_le low n && nat_le n high then Some n else None
 
 -- For how many lines a thread takes memory behind this one, or as the first, in a piece of so many bytes.
 abbrev pub size_by : Option Thread → ℕ → ℕ

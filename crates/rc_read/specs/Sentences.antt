@@ -17,7 +17,7 @@ use Rattle.rc_read.specs.declared.table.Stand.TheVariants as stand
 use Rattle.rc_read.specs.declared.values.Item.{Item}
 use Rattle.rc_read.specs.declared.values.Item.TheVariants as item
 use Rattle.rc_read.specs.Adds.{items, says}
-use Rattle.rc_read.specs.Sheets.{Sheet, Draft, named, names_behind, is_among, buffer_names, thread_names, has_file, has_token}
+use Rattle.rc_read.specs.Sheets.{Sheet, Draft, with_names, names_behind, is_among, buffer_names, thread_names, has_file, has_token}
 use Rattle.rc_read.specs.Spots.{Spot, row_of, spots_in}
 use Rattle.rc_read.specs.Table.{stand_of}
 use Rattle.rc_read.specs.Values.{any_lacks, start, user_data_of, file_number_of}
@@ -211,7 +211,7 @@ abbrev pub form_sentences : Sheet → List ℕ → List (List ℕ) → List (ℕ
 form_sentences s line ws =
     (2, bad_head s.region ws)
     ∷ (3, bad_line s.region (row_of ws))
-    ∷ (4, any_lacks (named s (spots_in ws)) start (spots_in ws))
+    ∷ (4, any_lacks (with_names s (spots_in ws)) start (spots_in ws))
     ∷ (5, any_unknown s (spots_in ws))
     ∷ (6, any_double s (spots_in ws) || any_twice (items s ws))
     ∷ (7, bad_brace s (says s ws))

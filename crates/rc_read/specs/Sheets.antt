@@ -120,5 +120,5 @@ names_behind names (p ∷ ps) = names_behind (if is_variable p.part p.word then 
 abbrev pub naming : Draft → List Spot → Draft
 naming d spots = record d { names = names_behind d.names spots }
 
-abbrev pub named : Sheet → List Spot → Sheet
-named s spots = record s { draft = naming s.draft spots }
+abbrev pub with_names : Sheet → List Spot → Sheet
+with_names s spots = record s { draft = naming s.draft spots }

@@ -37,9 +37,9 @@ IsAnswerSoFar bytes (Err OutOfMemory) = Unit {0}
 abbrev pub IsReached : Sheet → Type 0
 IsReached s = (lines : List (List ℕ)) × (judged empty lines ≡ Ok s)
 
-abbrev pub IsSound : Option ReadFault → Sheet → Type 0
-IsSound None s = IsReached s
-IsSound (Some f) s = Unit {0}
+abbrev pub IsReachedOrFaulty : Option ReadFault → Sheet → Type 0
+IsReachedOrFaulty None s = IsReached s
+IsReachedOrFaulty (Some f) s = Unit {0}
 
 -- The answer for these bytes, unless memory ran out.
 abbrev pub IsAnswer : List ℕ → Result Program ReadFault → Type 0

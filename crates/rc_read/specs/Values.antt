@@ -35,9 +35,9 @@ with_room entries (Some n) = if nat_le entries (rounded_up n) then Some n else N
 abbrev pub any_share : List ℕ → Option ℕ
 any_share w = if is_number w && nat_le 1 (value_of w) then Some 1 else None
 
-abbrev pub shares_of : Option ℕ → List ℕ → Option ℕ
-shares_of None w = any_share w
-shares_of (Some shares) w = number_of 1 shares w
+abbrev pub share_number : Option ℕ → List ℕ → Option ℕ
+share_number None w = any_share w
+share_number (Some shares) w = number_of 1 shares w
 
 -- The number that a word spells, where it lies in a range.
 abbrev pub number_at : Sheet → Seen → Range → List ℕ → Option ℕ
@@ -46,7 +46,7 @@ number_at s seen Size w = number_of 1 1024 w
 number_at s seen CompletionSize w = with_room seen.rounded (number_of 1 2048 w)
 number_at s seen Rounded w = number_of 0 seen.rounded w
 number_at s seen Entries w = number_of 0 s.head.entries w
-number_at s seen Shares w = shares_of seen.shares w
+number_at s seen Shares w = share_number seen.shares w
 
 abbrev pub signed_of : List ℕ → Option ℤ
 signed_of w = signed_number_of (negsuc (2 ^ 63 - 1)) (pos (2 ^ 63 - 1)) w
@@ -59,28 +59,28 @@ file_number_of w = number_of 0 1023 w
 
 -- ---- places
 
-abbrev pub small : Option ℕ → Option Value
-small n = option_map (λ n. Small n) n
+abbrev pub small_value : Option ℕ → Option Value
+small_value n = option_map (λ n. Small n) n
 
-abbrev pub signed : List ℕ → Option Value
-signed w = option_map (λ n. Operand (operand.Number n)) (signed_of w)
+abbrev pub signed_value : List ℕ → Option Value
+signed_value w = option_map (λ n. Operand (operand.Number n)) (signed_of w)
 
 abbrev pub operand_of : Sheet → List ℕ → Option Value
-operand_of s w = if begins_number w then signed w else Some (Operand (operand.Variable (number_in s.draft.names w)))
+operand_of s w = if begins_number w then signed_value w else Some (Operand (operand.Variable (number_in s.draft.names w)))
 
-abbrev pub compares : Option Comparison → Value
-compares None = Nothing
-compares (Some c) = Compares c
+abbrev pub comparison_value : Option Comparison → Value
+comparison_value None = Nothing
+comparison_value (Some c) = Compares c
 
 -- What the word of a place says; none where the place is a number's and the word is no number or is out of its range.
 abbrev pub value_at : Sheet → Seen → Part → List ℕ → Option Value
 value_at s seen part.Variable w = Some (Named (number_in s.draft.names w))
 value_at s seen part.Operand w = operand_of s w
-value_at s seen part.Comparison w = Some (compares (comparison_of w))
-value_at s seen part.Signed w = signed w
-value_at s seen (part.Number range) w = small (number_at s seen range w)
-value_at s seen part.File w = small (file_number_of w)
-value_at s seen part.NewFile w = small (file_number_of w)
+value_at s seen part.Comparison w = Some (comparison_value (comparison_of w))
+value_at s seen part.Signed w = signed_value w
+value_at s seen (part.Number range) w = small_value (number_at s seen range w)
+value_at s seen part.File w = small_value (file_number_of w)
+value_at s seen part.NewFile w = small_value (file_number_of w)
 value_at s seen part.Buffer w = Some (Named (buffer_number s.buffers w))
 value_at s seen part.Token w = option_map (λ u. UserData u) (user_data_of w)
 value_at s seen part.NewToken w = option_map (λ u. UserData u) (user_data_of w)

@@ -17,7 +17,7 @@ use crate::parts::{Arms, Draft, Parts, Region};
 use crate::says::Says;
 use crate::values::Item;
 use rc_lang::lines::{Block, Line, Stmt};
-use rc_lang::program::{Buffer, Items, Share, Thread};
+use rc_lang::program::{Buffer, Items, Share, Thread, Token};
 use std::alloc::{AllocError, Global};
 use std::mem;
 
@@ -210,8 +210,8 @@ impl Arms {
 }
 
 // The place that a block belongs to.
-fn place_of(block: Option<Block>) -> usize
-    ensures { result ≡ spec.place_of block }
+fn block_place(block: Option<Block>) -> usize
+    ensures { result ≡ spec.block_place block }
 {
     match block {
         Some(Block::InLock(place) | Block::InIf(place) | Block::InElse(place)) => place,
@@ -261,11 +261,11 @@ impl Draft {
             Says::Op(op) => Stmt::Do(op),
             Says::Lock => Stmt::Lock,
             Says::If(test) => Stmt::If(test),
-            Says::Else => Stmt::Else(place_of(block)),
+            Says::Else => Stmt::Else(block_place(block)),
             Says::Peek(variable) => Stmt::Peek(variable),
-            Says::Case(user_data) => Stmt::Case(place_of(block), user_data),
-            Says::Other => Stmt::Other(place_of(block)),
-            Says::Nothing => Stmt::Nothing(place_of(block)),
+            Says::Case(user_data) => Stmt::Case(block_place(block), user_data),
+            Says::Other => Stmt::Other(block_place(block)),
+            Says::Nothing => Stmt::Nothing(block_place(block)),
             Says::Loop => Stmt::Loop(self.loops.len()),
             Says::Break => break_out(&self.blocks),
             Says::Version | Says::Ring(_) | Says::File(_) => closing_of(block),
@@ -426,6 +426,16 @@ impl Parts {
         Ok(())
     }
 
+    // Declares a token.
+    fn put_token(&mut self, token: Token) -> Result<(), AllocError>
+        ensures ok { OnOk result (view_sheet self.new ≡ spec.added (view_sheet self.old) [] [] (Says.Token token)) }
+        ensures count { self.new.count ≡ self.old.count }
+    {
+        self.tokens.push(token)?;
+        self.highest = self.highest.max(token.user_data);
+        Ok(())
+    }
+
     fn put(
         &mut self,
         alloc: Global,
@@ -449,7 +459,7 @@ impl Parts {
             }
             Says::File(file) => Ok(self.files.push(file)?),
             Says::Buffer(bytes, shares) => self.put_buffer(alloc, words, bytes, shares),
-            Says::Token(token) => Ok(self.tokens.push(token)?),
+            Says::Token(token) => self.put_token(token),
             Says::Thread => self.open(alloc, words, items),
             Says::Close => self.close(alloc),
             Says::Op(_)

@@ -20,7 +20,7 @@ use crate::parts::{Parts, Region};
 use crate::says::{Says, says_of};
 use crate::spots::{Spot, put_spots};
 use crate::table::{Row, Stand, stand_of};
-use crate::values::{Item, Value, Wrong, put_items, put_values};
+use crate::values::{Item, Value, Wrong, put_values};
 use crate::words::{begins_strange, is, put_words};
 use std::alloc::{AllocError, Global};
 
@@ -130,10 +130,10 @@ fn judge_named(
 ) -> Result<Option<ReadCause>, AllocError>
     ensures { JudgesNamed (view_sheet parts.old) line.now (texts_of words.now) row (view_spots found.old.spots.items) (view_sheet parts.new) result }
 {
-    let Some(wrong) = put_values(&mut found.values, &mut found.near, parts, &found.spots)? else {
+    let (values, items) = (&mut found.values, &mut found.items);
+    let Some(wrong) = put_values(values, items, &mut found.near, parts, &found.spots)? else {
         return Ok(Some(ReadCause::BadNumber));
     };
-    put_items(&mut found.items, &found.values)?;
     let says = says_of(row, &found.values);
     if let Some(cause) = later_cause(parts, line, wrong, &found.items, says) {
         return Ok(Some(cause));
@@ -198,14 +198,14 @@ pub fn judge<'a>(
     ensures { Judges (view_sheet parts.old) line.now (view_sheet parts.new) result }
 {
     let number = parts.count + 1;
-    if begins_strange(line) {
+    let strange = put_words(&mut scratch.words, line)?;
+    if begins_strange(line, strange) {
         let cause = ReadCause::NotAscii;
         return Err(ReadFault::Text {
             line: number,
             cause,
         });
     }
-    put_words(&mut scratch.words, line)?;
     match judge_words(alloc, parts, &mut scratch.found, line, &scratch.words)? {
         None => Ok(()),
         Some(cause) => Err(ReadFault::Text {

@@ -31,12 +31,12 @@ impl Model for Reader {
 
     ghost Value = { spec.Reading };
 
-    ghost use Rattle.rc_read.specs.Stream.{IsSound};
+    ghost use Rattle.rc_read.specs.Stream.{IsReachedOrFaulty};
     ghost use Rattle.rc_read.specs.View.{view_sheet};
 
     ghost view = { λ r. record { fault = r.fault; sheet = view_sheet r.parts; pending = r.pending.items } };
 
-    ghost invariant = { λ r. IsSound r.fault (view_sheet r.parts) };
+    ghost invariant = { λ r. IsReachedOrFaulty r.fault (view_sheet r.parts) };
 }
 
 // Judges a line that a line feed ends: the pending bytes and these behind them. Where none are pending it is judged

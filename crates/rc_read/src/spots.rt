@@ -1,6 +1,6 @@
 //! Which form a line has, and the places of its words.
 
-ghost use Rattle.std.specs.Prelude.{◌≡◌, ◌≤◌, ◌++◌, length, true, IfOk, IfSome, OnOk};
+ghost use Rattle.std.specs.Prelude.{◌≡◌, ◌≤◌, ◌++◌, ◌∷◌, [], length, true, if◌then◌else◌, IfOk, IfSome, OnOk};
 ghost use Rattle.rc_read.specs.Quick as quick;
 ghost use Rattle.rc_read.specs.Spots as spec;
 ghost use Rattle.rc_read.specs.Table.{parts_of as spec_parts_of};
@@ -78,27 +78,14 @@ fn colon_in(word: &[u8]) -> Option<usize>
     word.iter().position(|b| *b == b':')
 }
 
-fn is_item_name(name: &[u8]) -> bool
-    ensures { result ≡ spec.is_item_name name.now }
-{
-    is(name, b"t") || is(name, b"c") || is(name, b"q") || is_name(name)
-}
-
-fn is_item(word: &[u8]) -> bool
-    ensures { result ≡ spec.is_item word.now }
-{
-    match colon_in(word) {
-        None => false,
-        Some(i) => is_item_name(&word[..i]),
-    }
-}
-
-fn push_item<'a>(
+// Adds the places of an item that is cut at a colon, if its name is one.
+fn push_named<'a>(
     spots: &mut Vec<Spot<'a>>,
     name: &'a [u8],
     number: &'a [u8],
-) -> Result<(), AllocError>
-    ensures { OnOk result (view_spots spots.new.items ≡ view_spots spots.old.items ++ spec.item_spots name.now number.now) }
+) -> Result<bool, AllocError>
+    ensures is { IfOk result (λ b. b ≡ spec.is_item_name name.now) }
+    ensures spots { IfOk result (λ b. view_spots spots.new.items ≡ view_spots spots.old.items ++ (if b then spec.item_spots name.now number.now else [])) }
 {
     if is(name, b"t") {
         spots.push(Spot {
@@ -115,7 +102,7 @@ fn push_item<'a>(
             part: Part::Queued,
             word: number,
         })?;
-    } else {
+    } else if is_name(name) {
         spots.push(Spot {
             part: Part::Buffer,
             word: name,
@@ -124,72 +111,88 @@ fn push_item<'a>(
             part: Part::HeldShares,
             word: number,
         })?;
+    } else {
+        return Ok(false);
     }
-    Ok(())
+    Ok(true)
 }
 
-fn push_cut<'a>(spots: &mut Vec<Spot<'a>>, word: &'a [u8]) -> Result<(), AllocError>
-    ensures { OnOk result (view_spots spots.new.items ≡ view_spots spots.old.items ++ spec.spots_of_item word.now) }
+fn push_cut<'a>(spots: &mut Vec<Spot<'a>>, word: &'a [u8]) -> Result<bool, AllocError>
+    ensures is { IfOk result (λ b. b ≡ spec.is_item word.now) }
+    ensures spots { IfOk result (λ b. view_spots spots.new.items ≡ view_spots spots.old.items ++ (if b then spec.spots_of_item word.now else [])) }
 {
     match colon_in(word) {
-        None => Ok(()),
-        Some(i) => push_item(spots, &word[..i], &word[i + 1..]),
+        None => Ok(false),
+        Some(i) => push_named(spots, &word[..i], &word[i + 1..]),
     }
 }
 
-// How many words are items, from the left.
-fn items_in_front(words: &[&[u8]]) -> usize
-    ensures value { result ≡ quick.items_in_front (texts_of words.now) }
-    ensures within { result ≤ length words.now }
+// Adds the places of a word, if it is an item.
+fn push_item<'a>(spots: &mut Vec<Spot<'a>>, word: &'a [u8]) -> Result<bool, AllocError>
+    ensures is { IfOk result (λ b. b ≡ spec.is_item word.now) }
+    ensures spots { IfOk result (λ b. view_spots spots.new.items ≡ view_spots spots.old.items ++ (if b then spec.spots_of_item word.now else [])) }
+{
+    match word {
+        // Most items are tokens.
+        [b't', b':', number @ ..] => {
+            spots.push(Spot {
+                part: Part::HeldToken,
+                word: number,
+            })?;
+            Ok(true)
+        }
+        _ => push_cut(spots, word),
+    }
+}
+
+// Adds the places of the items in front. The answer is how many words they are.
+fn push_items<'a>(spots: &mut Vec<Spot<'a>>, words: &[&'a [u8]]) -> Result<usize, AllocError>
+    ensures value { IfOk result (λ n. n ≡ quick.items_in_front (texts_of words.now)) }
+    ensures within { IfOk result (λ n. n ≤ length words.now) }
+    ensures spots { OnOk result (view_spots spots.new.items ≡ view_spots spots.old.items ++ spec.spots_of_items (texts_of words.now)) }
 {
     for (i, word) in words.iter().enumerate() {
-        if !is_item(word) {
-            return i;
+        if !push_item(spots, word)? {
+            return Ok(i);
         }
     }
-    words.len()
+    Ok(words.len())
 }
 
-// How many words a part takes, where they stand there.
-fn taken_by(part: Part, words: &[&[u8]]) -> Option<usize>
-    ensures value { result ≡ quick.taken_by part (texts_of words.now) }
-    ensures within { IfSome result (λ n. n ≤ length words.now) }
+// Adds the place of a word that stands in a part. A fixed word has none.
+fn push_word<'a>(spots: &mut Vec<Spot<'a>>, part: Part, word: &'a [u8]) -> Result<(), AllocError>
+    ensures { OnOk result (view_spots spots.new.items ≡ view_spots spots.old.items ++ spec.spot_of_part part (word.now ∷ [])) }
 {
-    if are_items(part) {
-        return Some(items_in_front(words));
-    }
-    match words {
-        [] => None,
-        [word, ..] => fits(part, word).then_some(1),
+    match part {
+        Part::Fixed(_) => Ok(()),
+        part => {
+            spots.push(Spot { part, word })?;
+            Ok(())
+        }
     }
 }
 
-// Adds the places of these items.
-fn push_items<'a>(spots: &mut Vec<Spot<'a>>, words: &[&'a [u8]]) -> Result<(), AllocError>
-    ensures { OnOk result (view_spots spots.new.items ≡ view_spots spots.old.items ++ quick.spots_of_all (texts_of words.now)) }
-{
-    for word in words {
-        push_cut(spots, word)?;
-    }
-    Ok(())
-}
-
-// Adds the places of the words that a part takes.
-fn push_taken<'a>(
+// Adds the places of the words that a part takes, where they stand there. The answer is how many words they are.
+fn push_part<'a>(
     spots: &mut Vec<Spot<'a>>,
     part: Part,
     words: &[&'a [u8]],
-) -> Result<(), AllocError>
-    ensures { OnOk result (view_spots spots.new.items ≡ view_spots spots.old.items ++ quick.spots_of_taken part (texts_of words.now)) }
+) -> Result<Option<usize>, AllocError>
+    ensures value { IfOk result (λ o. o ≡ quick.taken_by part (texts_of words.now)) }
+    ensures within { IfOk result (λ o. IfSome o (λ n. n ≤ length words.now)) }
+    ensures spots { IfOk result (λ o. IfSome o (λ _. view_spots spots.new.items ≡ view_spots spots.old.items ++ spec.spots_at part (texts_of words.now))) }
 {
     if are_items(part) {
-        return push_items(spots, words);
+        return Ok(Some(push_items(spots, words)?));
     }
-    match (part, words) {
-        (Part::Fixed(_), _) | (_, []) => Ok(()),
-        (part, [word, ..]) => {
-            spots.push(Spot { part, word })?;
-            Ok(())
+    match words {
+        [] => Ok(None),
+        [word, ..] => {
+            if !fits(part, word) {
+                return Ok(None);
+            }
+            push_word(spots, part, word)?;
+            Ok(Some(1))
         }
     }
 }
@@ -206,10 +209,10 @@ fn put_places<'a>(
     spots.clear();
     let mut at = 0;
     for part in parts {
-        let Some(count) = taken_by(*part, &words[at..]) else {
+        let taken = push_part(spots, *part, &words[at..])?;
+        let Some(count) = taken else {
             return Ok(false);
         };
-        push_taken(spots, *part, &words[at..at + count])?;
         at += count;
     }
     Ok(at == words.len())
@@ -240,6 +243,15 @@ fn may_match(parts: &[Part], words: &[&[u8]]) -> bool
     }
 }
 
+// Whether a form's first word stands as it is.
+fn begins_fixed(parts: &[Part]) -> bool {
+    match parts {
+        [Part::Fixed(_), ..] => true,
+        _ => false,
+    }
+}
+
+// Puts the places of a line as `put_places` does. A form that begins with a fixed word fails fast at that word.
 fn put_parts<'a>(
     spots: &mut Vec<Spot<'a>>,
     parts: &[Part],
@@ -248,7 +260,7 @@ fn put_parts<'a>(
     ensures matches { IfOk result (λ b. b ≡ spec.matches parts.now (texts_of words.now)) }
     ensures spots { IfOk result (λ b. b ≡ true → view_spots spots.new.items ≡ spec.spots_of parts.now (texts_of words.now)) }
 {
-    if !may_match(parts, words) {
+    if !begins_fixed(parts) && !may_match(parts, words) {
         return Ok(false);
     }
     put_places(spots, parts, words)

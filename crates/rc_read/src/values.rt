@@ -1,6 +1,6 @@
 //! What the words of a line say in their places.
 
-ghost use Rattle.std.specs.Prelude.{◌≡◌, ◌≤◌, ◌&&◌, false, nat_le, ◌++◌, IfOk, IfSome, OnOk, is_none};
+ghost use Rattle.std.specs.Prelude.{◌≡◌, ◌≤◌, ◌&&◌, false, nat_le, ◌++◌, ◌∷◌, [], IfOk, IfSome, OnOk, is_none};
 ghost use Rattle.std.specs.List.{list_all};
 ghost use Rattle.rc_lang.specs.Numbers.{is_digit, is_number, number_of as number_in_range, value_of};
 ghost use Rattle.rc_read.specs.Judging as judging;
@@ -13,12 +13,13 @@ ghost use Rattle.rc_read.specs.View.{view_sheet};
 use crate::names::{
     find_buffer, find_near, has_buffer, has_file, has_thread, has_token, number_in,
 };
+use crate::numbers::number_of;
 use crate::parts::Parts;
 use crate::spots::{Spot, begins_number, comparison_of};
 use crate::table::{Part, Range};
 use crate::words::is;
 use rc_lang::lines::{Comparison, Operand};
-use rc_lang::numbers::{number_of, signed_number_of};
+use rc_lang::numbers::signed_number_of;
 use std::alloc::AllocError;
 
 /// An item of a list: shares of a buffer, a token, credits or queued entries.
@@ -149,8 +150,8 @@ pub fn file_number_of(word: &[u8]) -> Option<u32>
     small_number_of(0, 1023, word)
 }
 
-fn small(n: Option<u32>) -> Option<Value>
-    ensures { result ≡ spec.small n }
+fn small_value(n: Option<u32>) -> Option<Value>
+    ensures { result ≡ spec.small_value n }
 {
     match n {
         None => None,
@@ -158,8 +159,8 @@ fn small(n: Option<u32>) -> Option<Value>
     }
 }
 
-fn signed(word: &[u8]) -> Option<Value>
-    ensures { result ≡ spec.signed word.now }
+fn signed_value(word: &[u8]) -> Option<Value>
+    ensures { result ≡ spec.signed_value word.now }
 {
     match signed_of(word) {
         None => None,
@@ -171,15 +172,15 @@ fn operand_of(parts: &Parts, word: &[u8]) -> Option<Value>
     ensures { result ≡ spec.operand_of (view_sheet parts.now) word.now }
 {
     if begins_number(word) {
-        signed(word)
+        signed_value(word)
     } else {
         let variable = number_in(&parts.draft.names, word);
         Some(Value::Operand(Operand::Variable(variable)))
     }
 }
 
-fn compares(comparison: Option<Comparison>) -> Value
-    ensures { result ≡ spec.compares comparison }
+fn comparison_value(comparison: Option<Comparison>) -> Value
+    ensures { result ≡ spec.comparison_value comparison }
 {
     match comparison {
         None => Value::Nothing,
@@ -196,10 +197,10 @@ pub fn value_at(parts: &Parts, seen: Seen, part: Part, word: &[u8]) -> Option<Va
         Part::Fixed(_) | Part::NewBuffer | Part::NewThread | Part::Items => Some(Value::Nothing),
         Part::Variable => Some(Value::Named(number_in(&parts.draft.names, word))),
         Part::Operand => operand_of(parts, word),
-        Part::Comparison => Some(compares(comparison_of(word))),
-        Part::Signed => signed(word),
-        Part::Number(range) => small(number_at(parts, seen, range, word)),
-        Part::File | Part::NewFile => small(file_number_of(word)),
+        Part::Comparison => Some(comparison_value(comparison_of(word))),
+        Part::Signed => signed_value(word),
+        Part::Number(range) => small_value(number_at(parts, seen, range, word)),
+        Part::File | Part::NewFile => small_value(file_number_of(word)),
         Part::Buffer => Some(Value::Named(find_buffer(&parts.buffers, word).0)),
         Part::Token | Part::NewToken => match user_data_of(word) {
             None => None,
@@ -279,7 +280,7 @@ fn repeats_token(parts: &Parts, user_data: Option<u64>) -> bool
 {
     match user_data {
         None => false,
-        Some(u) => has_token(&parts.tokens, u),
+        Some(u) => u <= parts.highest && has_token(&parts.tokens, u),
     }
 }
 
@@ -409,20 +410,20 @@ fn look_at_file(parts: &Parts, seen: Seen, word: &[u8]) -> Known
 {
     let number = file_number_of(word);
     Known {
-        value: small(number),
+        value: small_value(number),
         behind: seen,
         wrong: may_lack(lacks_file(parts, number)),
     }
 }
 
 fn look_at_size(seen: Seen, word: &[u8]) -> Known
-    ensures value { result.value ≡ spec.small (number_in_range 1 1024 word.now) }
+    ensures value { result.value ≡ spec.small_value (number_in_range 1 1024 word.now) }
     ensures behind { result.behind ≡ spec.sized seen (number_in_range 1 1024 word.now) }
     ensures wrong { result.wrong ≡ record { unknown = false; double = false; full = false } }
 {
     let size = small_number_of(1, 1024, word);
     Known {
-        value: small(size),
+        value: small_value(size),
         behind: sized(seen, size),
         wrong: may_lack(false),
     }
@@ -435,7 +436,7 @@ fn look_at_new_file(parts: &Parts, seen: Seen, word: &[u8]) -> Known
 {
     let number = file_number_of(word);
     Known {
-        value: small(number),
+        value: small_value(number),
         behind: seen,
         wrong: may_repeat(repeats_file(parts, number), parts.files.len() >= 16),
     }
@@ -507,27 +508,43 @@ fn look_at(parts: &Parts, near: usize, seen: Seen, part: Part, word: &[u8]) -> K
     }
 }
 
-/// Puts what the places of a line say there, unless a word in a number's place is no number or is out of its range.
-/// The answer is what is wrong with their names. A buffer is looked for first near the one that was named last.
+// Adds the item that a value is, if it is one.
+fn push_if_item(items: &mut Vec<Item>, value: Value) -> Result<(), AllocError>
+    ensures { OnOk result (items.new.items ≡ items.old.items ++ spec.items_in (value ∷ [])) }
+{
+    match value {
+        Value::Item(item) => Ok(items.push(item)?),
+        _ => Ok(()),
+    }
+}
+
+/// Puts what the places of a line say there, and the items among it, unless a word in a number's place is no number or
+/// is out of its range. The answer is what is wrong with their names. A buffer is looked for first near the one that
+/// was named last.
+#[tactic(auto, using(crate::proofs::Among::items_first))]
 pub fn put_values(
     values: &mut Vec<Value>,
+    items: &mut Vec<Item>,
     near: &mut usize,
     parts: &Parts,
     spots: &[Spot],
 ) -> Result<Option<Wrong>, AllocError>
     ensures lacks { IfOk result (λ o. is_none o ≡ spec.any_lacks (view_sheet parts.now) spec.start (view_spots spots.now)) }
     ensures values { IfOk result (λ o. IfSome o (λ _. values.new.items ≡ spec.values_of (view_sheet parts.now) spec.start (view_spots spots.now))) }
+    ensures items { IfOk result (λ o. IfSome o (λ _. items.new.items ≡ spec.items_in (spec.values_of (view_sheet parts.now) spec.start (view_spots spots.now)))) }
     ensures wrong { IfOk result (λ o. IfSome o (λ wrong. wrong ≡ judging.wrong_in (view_sheet parts.now) (view_spots spots.now))) }
 {
     let mut seen = start();
     let mut wrong = may_lack(false);
     values.clear();
+    items.clear();
     for spot in spots {
         let known = look_at(parts, *near, seen, spot.part, spot.word);
         let Some(value) = known.value else {
             return Ok(None);
         };
         values.push(value)?;
+        push_if_item(items, value)?;
         seen = known.behind;
         if let Value::Named(number) = value {
             if let Part::Buffer = spot.part {
@@ -537,17 +554,4 @@ pub fn put_values(
         wrong = wrong.or(known.wrong);
     }
     Ok(Some(wrong))
-}
-
-/// Puts the items of a line there.
-pub fn put_items(items: &mut Vec<Item>, values: &[Value]) -> Result<(), AllocError>
-    ensures { OnOk result (items.new.items ≡ spec.items_in values.now) }
-{
-    items.clear();
-    for value in values {
-        if let Value::Item(item) = value {
-            items.push(*item)?;
-        }
-    }
-    Ok(())
 }

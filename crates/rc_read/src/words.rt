@@ -1,9 +1,9 @@
 //! The words of a line, as slices of it.
 
-ghost use Rattle.std.specs.Prelude.{◌≡◌, ◌++◌, OnOk, take};
+ghost use Rattle.std.specs.Prelude.{◌≡◌, ◌++◌, IfOk, OnOk, take};
 ghost use Rattle.std.specs.Str.{bytes_eq};
 ghost use Rattle.rc_lang.specs.Names as names;
-ghost use Rattle.rc_read.specs.Quick.{any_outside};
+ghost use Rattle.rc_read.specs.Quick.{any_outside, is_word_byte};
 ghost use Rattle.rc_read.specs.Sentences.{any_strange, is_strange};
 ghost use Rattle.rc_read.specs.Texts.{texts_of};
 ghost use Rattle.rc_read.specs.Words as spec;
@@ -52,14 +52,18 @@ fn has_strange(bytes: &[u8]) -> bool
     any_outside(bytes) && any_strange(bytes)
 }
 
-/// Whether a byte that no line may have is among a line's first 256.
-pub fn begins_strange(line: &[u8]) -> bool
+/// Whether a strange byte is among a line's first 256, where it is known whether one is among all.
+pub fn begins_strange(line: &[u8], strange: bool) -> bool
+    requires { strange ≡ any_strange line.now }
     ensures { result ≡ any_strange (take 256 line.now) }
 {
+    if !strange {
+        return false;
+    }
     if line.len() > 256 {
         has_strange(&line[..256])
     } else {
-        has_strange(line)
+        true
     }
 }
 
@@ -79,26 +83,37 @@ fn push_word<'a>(words: &mut Vec<&'a [u8]>, word: &'a [u8]) -> Result<(), AllocE
     Ok(())
 }
 
-/// Puts the words of a line there, without its comment.
-pub fn put_words<'a>(words: &mut Vec<&'a [u8]>, line: &'a [u8]) -> Result<(), AllocError>
-    ensures { OnOk result (texts_of words.new.items ≡ spec.words_of line.now) }
+// Whether a byte is surely of a word, as most are: above `#` it is neither strange nor a blank nor the beginning of a
+// comment. `!` and `"` are of words too, and looked at closer.
+fn is_word_byte(b: u8) -> bool
+    ensures { result ≡ is_word_byte b }
+{
+    b > b'#' && b < 127
+}
+
+/// Puts the words of a line there, without its comment. The answer is whether a strange byte is among its bytes.
+pub fn put_words<'a>(words: &mut Vec<&'a [u8]>, line: &'a [u8]) -> Result<bool, AllocError>
+    ensures words { OnOk result (texts_of words.new.items ≡ spec.words_of line.now) }
+    ensures strange { IfOk result (λ b. b ≡ any_strange line.now) }
 {
     words.clear();
     let mut start = 0;
+    let mut strange = false;
     for i in 0..line.len() {
-        // Most bytes are letters.
-        if line[i] <= b'#' {
-            if line[i] == b'#' {
-                return push_word(words, &line[start..i]);
-            }
+        if !is_word_byte(line[i]) {
             if is_blank(line[i]) {
                 push_word(words, &line[start..i])?;
                 start = i + 1;
+            } else if line[i] == b'#' {
+                push_word(words, &line[start..i])?;
+                return Ok(strange | has_strange(&line[i..]));
+            } else {
+                strange = strange | is_strange(line[i]);
             }
         }
     }
     push_word(words, &line[start..])?;
-    Ok(())
+    Ok(strange)
 }
 
 fn is_name_byte(b: u8) -> bool

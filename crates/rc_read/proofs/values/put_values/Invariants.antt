@@ -8,6 +8,7 @@ use Rattle.rc_read.proofs.values.put_values.Given as goal
 abbrev pub invariant-loop-spot : goal.invariant-loop-spot
 invariant-loop-spot l = record {
   values : l.values.items ++ spec.values_of (view_sheet l.parts) l.seen (view_spots (drop l.spot-index l.spots)) ≡ spec.values_of (view_sheet l.parts) spec.start (view_spots l.spots);
+  items : l.items.items ++ spec.items_in (spec.values_of (view_sheet l.parts) l.seen (view_spots (drop l.spot-index l.spots))) ≡ spec.items_in (spec.values_of (view_sheet l.parts) spec.start (view_spots l.spots));
   lacks : spec.any_lacks (view_sheet l.parts) l.seen (view_spots (drop l.spot-index l.spots)) ≡ spec.any_lacks (view_sheet l.parts) spec.start (view_spots l.spots);
   unknown : (l.wrong.unknown || sentences.any_unknown (view_sheet l.parts) (view_spots (drop l.spot-index l.spots))) ≡ sentences.any_unknown (view_sheet l.parts) (view_spots l.spots);
   double : (l.wrong.double || sentences.any_double (view_sheet l.parts) (view_spots (drop l.spot-index l.spots))) ≡ sentences.any_double (view_sheet l.parts) (view_spots l.spots);
