@@ -15,7 +15,7 @@ use Rattle.rc_world.specs.declared.world.Slot.{Slot}
 use Rattle.rc_world.specs.declared.world.Slot.TheVariants.{Closed, Vacant, Prepared}
 use Rattle.rc_world.specs.Controls.{Controls, Standing, controls_step, next_line}
 use Rattle.rc_world.specs.Items.{item_bytes, item_step, kernel_item, pending_place, take_of}
-use Rattle.rc_world.specs.Machine.{Pending, World, all_begin, answer_of, begins, count_in, fills, given_back, hands_over, in_rings, kernel_event, kernel_step_of, op_in_rings, opens_entry, prepares, queues, reaps_front, stores, submits_by, thread_step_at, with_controls}
+use Rattle.rc_world.specs.Machine.{Pending, World, all_begin, begins, count_in, fills, given_back, hands_over, in_rings, kernel_event, kernel_step_of, op_in_rings, opens_entry, prepares, queues, reaps_front, stmt_answer, stores, submits_by, thread_step_at, with_controls}
 
 pub record Grows (w next : World) : Type 0 where
   pub program : next.program ≡ w.program
@@ -126,7 +126,7 @@ thread_grows : (w : World) (i : ℕ) (r : ℤ) (t : Option Standing) (l : Option
 thread_grows w i r None l = tt
 thread_grows w i r (Some t) None = tt
 thread_grows w i r (Some t) (Some l) =
-    controls_grow w (in_rings w t r l.stmt) (controls_step w.program w.controls i (answer_of w r l.stmt)) (rings_grow w t r l.stmt)
+    controls_grow w (in_rings w t r l.stmt) (controls_step w.program w.controls i (stmt_answer w r l.stmt)) (rings_grow w t r l.stmt)
 
 event_grows : (w : World) (k : ℕ) (res : ℤ) (r : Request) (buffers : Option (List (Option (List ℕ)))) → IfStep w (kernel_event w k res r buffers)
 event_grows w k res r None = tt

@@ -1,6 +1,7 @@
 pub mod Causes
 pub mod Grows
 pub mod Lines
+pub mod Names
 pub mod Objects
 pub mod Pieces
 pub mod Traces

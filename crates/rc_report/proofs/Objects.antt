@@ -7,7 +7,7 @@ use Rattle.rc_read.specs.declared.fault.ReadCause.TheVariants.{NotAscii, BadHead
 use Rattle.rc_read.specs.Causes.{name_of_cause, number_of_cause}
 use Rattle.rc_rules.specs.declared.cause.Cause.{Cause}
 use Rattle.rc_rules.specs.declared.cause.Cause.TheVariants.{Unlocked, NoCredit, QueueFull, SlotOpen, NoSlot, WrongKind, NotWhole, NoShare, OutOfBuffer, NoToken, NoEntry, QueueLeft, LoopEntry, LoopBody, JoinMismatch, OverShares, TokenTwice, OverCredits}
-use Rattle.rc_rules.specs.Causes.{name_of, number_of}
+use Rattle.rc_rules.specs.Causes.{name_of, premise_number}
 use Rattle.rc_report.specs.declared.verdict.Verdict.{Verdict}
 use Rattle.rc_report.specs.declared.verdict.Verdict.TheVariants.{Accepted, Refused, Unreadable}
 use Rattle.rc_report.specs.Objects.{verdict_object}
@@ -64,7 +64,7 @@ named name plain rest e = ap (λ t. codes "{\"cause\":\"" ++ ((t ++ codes "\"") 
 pub text_of_object : (verdict : Verdict) → compact_text (verdict_object verdict) ≡ object_text verdict
 unfolding escape_byte
 text_of_object Accepted = refl
-text_of_object (Refused r) = named (name_of r.cause) (escape (name_of r.cause)) (behind (number_of r.cause) r.line refused) (plain_refusal r.cause)
+text_of_object (Refused r) = named (name_of r.cause) (escape (name_of r.cause)) (behind (premise_number r.cause) r.line refused) (plain_refusal r.cause)
 text_of_object (Unreadable line cause) = named (name_of_cause cause) (escape (name_of_cause cause)) (behind (number_of_cause cause) line unreadable) (plain_cause cause)
 
 pub object_has_no_float : (verdict : Verdict) → has_float (verdict_object verdict) ≡ false

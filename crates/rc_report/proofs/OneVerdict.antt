@@ -7,7 +7,7 @@ use Rattle.rc_read.specs.Causes.{number_of_cause}
 use Rattle.rc_read.specs.declared.fault.ReadCause.{ReadCause}
 use Rattle.rc_rules.specs.declared.cause.Cause.{Cause}
 use Rattle.rc_rules.specs.declared.cause.Cause.TheVariants.{Unlocked, NoCredit, QueueFull, SlotOpen, NoSlot, WrongKind, NotWhole, NoShare, OutOfBuffer, NoToken, NoEntry, QueueLeft, LoopEntry, LoopBody, JoinMismatch, OverShares, TokenTwice, OverCredits}
-use Rattle.rc_rules.specs.Causes.{number_of}
+use Rattle.rc_rules.specs.Causes.{premise_number}
 use Rattle.rc_verify.specs.declared.refusal.Refusal.{Refusal}
 use Rattle.rc_verify.proofs.Refusals.{never_both, one_refusal}
 use Rattle.rc_report.specs.declared.engine_fault.EngineFault.{EngineFault}
@@ -26,7 +26,7 @@ premise_causes = Unlocked ∷ NoCredit ∷ QueueFull ∷ SlotOpen ∷ NoSlot ∷
 abbrev premise_numbered : ℕ → Cause
 premise_numbered n = slice_index_or premise_causes (n - 1) Unlocked
 
-numbered : (c : Cause) → premise_numbered (number_of c) ≡ c
+numbered : (c : Cause) → premise_numbered (premise_number c) ≡ c
 numbered Unlocked = refl
 numbered NoCredit = refl
 numbered QueueFull = refl
@@ -46,7 +46,7 @@ numbered OverShares = refl
 numbered TokenTwice = refl
 numbered OverCredits = refl
 
-same_cause : (c d : Cause) → number_of c ≡ number_of d → c ≡ d
+same_cause : (c d : Cause) → premise_number c ≡ premise_number d → c ≡ d
 same_cause c d e = sym (numbered c) ∙ ap premise_numbered e ∙ numbered d
 
 same_fault : (c d : ReadCause) → number_of_cause c ≡ number_of_cause d → c ≡ d
@@ -57,15 +57,15 @@ same_fault c d e = sym (cause_numbered-number c) ∙ ap cause_numbered e ∙ cau
 abbrev refusal_of : ℕ → Cause → Refusal
 refusal_of line cause = record { line = line; cause = cause }
 
-same_refusal : (r s : Refusal) → (r.line ≡ s.line) × (number_of r.cause ≡ number_of s.cause) → r ≡ s
+same_refusal : (r s : Refusal) → (r.line ≡ s.line) × (premise_number r.cause ≡ premise_number s.cause) → r ≡ s
 same_refusal r s e = ap (λ line. refusal_of line r.cause) e.0 ∙ ap (refusal_of s.line) (same_cause r.cause s.cause e.1)
 
 of_program : (P : Program) (v w : Verdict) → IsVerdict (Ok P) v → IsVerdict (Ok P) w → v ≡ w
 of_program P Accepted Accepted a b = refl
-of_program P Accepted (Refused s) a b = absurd (never_both P s.line (number_of s.cause) a b)
+of_program P Accepted (Refused s) a b = absurd (never_both P s.line (premise_number s.cause) a b)
 of_program P Accepted (Unreadable l c) a b = absurd b
-of_program P (Refused r) Accepted a b = absurd (never_both P r.line (number_of r.cause) b a)
-of_program P (Refused r) (Refused s) a b = ap Refused (same_refusal r s (one_refusal P r.line s.line (number_of r.cause) (number_of s.cause) a b))
+of_program P (Refused r) Accepted a b = absurd (never_both P r.line (premise_number r.cause) b a)
+of_program P (Refused r) (Refused s) a b = ap Refused (same_refusal r s (one_refusal P r.line s.line (premise_number r.cause) (premise_number s.cause) a b))
 of_program P (Refused r) (Unreadable l c) a b = absurd b
 of_program P (Unreadable l c) w a b = absurd a
 

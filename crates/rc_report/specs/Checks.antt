@@ -4,7 +4,7 @@ use Rattle.std.specs.Io.KnownBytes.{Appends}
 use Rattle.rc_lang.specs.Program.{Program}
 use Rattle.rc_read.specs.Answer.{answer_of}
 use Rattle.rc_read.specs.Causes.{number_of_cause}
-use Rattle.rc_rules.specs.Causes.{number_of}
+use Rattle.rc_rules.specs.Causes.{premise_number}
 use Rattle.rc_rules.specs.Labellings.{Accepts, IsRefused}
 use Rattle.rc_report.specs.declared.engine_fault.EngineFault.{EngineFault}
 use Rattle.rc_report.specs.declared.verdict.Verdict.{Verdict}
@@ -15,7 +15,7 @@ use Rattle.rc_report.specs.Verdicts.{verdict_json, verdict_text}
 -- The rules say this of a program.
 abbrev pub IsProgramVerdict : Program → Verdict → Type 0
 IsProgramVerdict P Accepted = Accepts P
-IsProgramVerdict P (Refused r) = IsRefused P r.line (number_of r.cause)
+IsProgramVerdict P (Refused r) = IsRefused P r.line (premise_number r.cause)
 IsProgramVerdict P (Unreadable line cause) = ⊥
 
 -- A text can't be read at this line, for the cause with this number.

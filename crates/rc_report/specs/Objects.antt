@@ -13,5 +13,5 @@ line_object name code line word =
 
 abbrev pub verdict_object : Verdict → Data
 verdict_object Accepted = object (member (codes "verdict") (string (codes "accepted")) no_members)
-verdict_object (Refused r) = line_object (rules_of.name_of r.cause) (rules_of.number_of r.cause) r.line (codes "refused")
+verdict_object (Refused r) = line_object (rules_of.name_of r.cause) (rules_of.premise_number r.cause) r.line (codes "refused")
 verdict_object (Unreadable line cause) = line_object (reading.name_of_cause cause) (reading.number_of_cause cause) line (codes "unreadable")

@@ -13,7 +13,7 @@ line_text word line letter number name =
 
 abbrev pub verdict_text : Verdict → List ℕ
 verdict_text Accepted = codes "accepted\n"
-verdict_text (Refused r) = line_text (codes "refused") r.line (codes "V") (rules_of.number_of r.cause) (rules_of.name_of r.cause)
+verdict_text (Refused r) = line_text (codes "refused") r.line (codes "V") (rules_of.premise_number r.cause) (rules_of.name_of r.cause)
 verdict_text (Unreadable line cause) = line_text (codes "unreadable") line (codes "P") (reading.number_of_cause cause) (reading.name_of_cause cause)
 
 -- one JSON object without spaces, its keys in order
@@ -23,7 +23,7 @@ line_json name code line word =
 
 abbrev pub object_text : Verdict → List ℕ
 object_text Accepted = codes "{\"verdict\":\"accepted\"}"
-object_text (Refused r) = line_json (rules_of.name_of r.cause) (rules_of.number_of r.cause) r.line (codes "refused")
+object_text (Refused r) = line_json (rules_of.name_of r.cause) (rules_of.premise_number r.cause) r.line (codes "refused")
 object_text (Unreadable line cause) = line_json (reading.name_of_cause cause) (reading.number_of_cause cause) line (codes "unreadable")
 
 -- and a line feed

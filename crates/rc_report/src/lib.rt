@@ -6,6 +6,7 @@
 
 pub mod check_engine;
 pub mod engine_fault;
+mod line_buffer;
 mod printed;
 pub mod reading;
 pub mod step_engine;

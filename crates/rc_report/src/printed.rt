@@ -1,12 +1,14 @@
 //! The printed forms of events and faults.
 
-ghost use Rattle.std.specs.Prelude.{◌≡◌, ◌+◌, ◌<◌, ◌^◌, ◌++◌, [], ◌∷◌, codes, decimal};
+ghost use Rattle.std.specs.Prelude.{◌≡◌, ◌+◌, ◌<◌, ◌≤◌, ◌^◌, ◌++◌, [], ◌∷◌, codes, decimal, length};
 ghost use Rattle.std.specs.Fmt.{signed_decimal};
+ghost use Rattle.rc_lang.specs.Program.{IsProgram};
 ghost use Rattle.rc_world.specs.FaultNames.{name_of_fault, number_of_fault};
 ghost use Rattle.rc_report.specs.Printed.{action_text, end_line, event_text, event_line, fault_line, item_line, joined, party_text, place_text, schedule_line, thread_name, valued};
 ghost use Rattle.rc_report.specs.Streams.{FailsToWrite, Wrote};
 
 use crate::engine_fault::EngineFault;
+use crate::line_buffer::LineBuffer;
 use crate::streams::Sink;
 use crate::writing::{write_piece, write_pieces};
 use itoa::Buffer;
@@ -15,8 +17,10 @@ use rc_world::event::{Action, Completion, Event};
 use rc_world::fault::{Fault, FaultKind, Party};
 
 /// The name of a thread, and nothing where the program has no such thread.
+#[inline]
 fn thread_name(program: &Program, thread: u32) -> &[u8]
-    ensures { result.now ≡ thread_name program.now thread }
+    ensures name { result.now ≡ thread_name program.now thread }
+    ensures made { IsProgram program.now }
 {
     match program.threads().get(thread as usize) {
         Some(thread) => &thread.name,
@@ -24,119 +28,107 @@ fn thread_name(program: &Program, thread: u32) -> &[u8]
     }
 }
 
-/// Writes a word, with its blanks, and a value.
-fn write_valued<W: Sink>(writer: &mut W, word: &[u8], value: &str) -> Result<(), EngineFault>
-    requires { W.failure_count writer.old + 1 < 2 ^ 64 }
-    ensures text { Wrote (W.contents writer.old) (W.contents writer.new) (valued word.now value.now) result }
-    ensures failures { FailsToWrite (W.failure_count writer.old) (W.failure_count writer.new) result }
+/// Puts a word, with its blanks, and a number.
+#[inline]
+fn put_counted(text: &mut LineBuffer, word: &[u8], value: u64)
+    requires { length word.now + 20 + length text.old ≤ 128 }
+    ensures text { text.new ≡ valued word.now (decimal value) ++ text.old }
+    ensures len { length text.new ≤ length word.now + 20 + length text.old }
 {
-    write_pieces(writer, &[word, value.as_bytes()])
+    text.put_number(value);
+    text.put(word);
 }
 
-/// Writes a word and the values of a completion.
-fn write_completion<W: Sink>(
-    writer: &mut W,
-    word: &[u8],
-    completion: Completion,
-) -> Result<(), EngineFault>
-    requires { W.failure_count writer.old + 1 < 2 ^ 64 }
-    ensures text { Wrote (W.contents writer.old) (W.contents writer.new)
-        (joined (word.now ∷ decimal completion.user_data ∷ codes " " ∷ signed_decimal completion.res ∷ [])) result }
-    ensures failures { FailsToWrite (W.failure_count writer.old) (W.failure_count writer.new) result }
+/// Puts a word, with its blanks, and a number that may be below 0.
+#[inline]
+fn put_valued(text: &mut LineBuffer, word: &[u8], value: i64)
+    requires { length word.now + 21 + length text.old ≤ 128 }
+    ensures text { text.new ≡ valued word.now (signed_decimal value) ++ text.old }
+    ensures len { length text.new ≤ length word.now + 21 + length text.old }
 {
-    let mut first = Buffer::new();
-    let mut second = Buffer::new();
-    let user_data = first.format(completion.user_data).as_bytes();
-    let res = second.format(completion.res).as_bytes();
-    write_pieces(writer, &[word, user_data, b" ", res])
+    text.put_signed(value);
+    text.put(word);
 }
 
-/// Writes the words of a step, behind a blank.
-fn write_action<W: Sink>(writer: &mut W, action: Action) -> Result<(), EngineFault>
-    requires { W.failure_count writer.old + 1 < 2 ^ 64 }
-    ensures text { Wrote (W.contents writer.old) (W.contents writer.new) (action_text action) result }
-    ensures failures { FailsToWrite (W.failure_count writer.old) (W.failure_count writer.new) result }
+/// Puts a word and the values of a completion.
+#[inline]
+fn put_completion(text: &mut LineBuffer, word: &[u8], completion: Completion)
+    requires { length word.now + 42 + length text.old ≤ 128 }
+    ensures text { text.new
+        ≡ joined (word.now ∷ decimal completion.user_data ∷ codes " " ∷ signed_decimal completion.res ∷ []) ++ text.old }
+    ensures len { length text.new ≤ length word.now + 42 + length text.old }
 {
-    let mut buffer = Buffer::new();
+    text.put_signed(i64::from(completion.res));
+    text.put(b" ");
+    text.put_number(completion.user_data);
+    text.put(word);
+}
+
+/// Puts the words of a step, behind a blank.
+#[inline]
+fn put_action(text: &mut LineBuffer, action: Action)
+    requires { length text.old ≤ 1 }
+    ensures text { text.new ≡ action_text action ++ text.old }
+    ensures len { length text.new ≤ 53 }
+{
     match action {
-        Action::VariableSet(value) => write_valued(writer, b" set ", buffer.format(value)),
-        Action::Loaded(byte) => write_valued(writer, b" load ", buffer.format(byte)),
-        Action::Stored(byte) => write_valued(writer, b" store ", buffer.format(byte)),
-        Action::Filled(byte) => write_valued(writer, b" fill ", buffer.format(byte)),
-        Action::Printed(value) => write_valued(writer, b" print ", buffer.format(value)),
-        Action::Locked => write_piece(writer, b" lock"),
-        Action::Released => write_piece(writer, b" release"),
-        Action::EntryOpened => write_piece(writer, b" get_sqe"),
-        Action::ReadPrepared => write_piece(writer, b" prep_read"),
-        Action::WritePrepared => write_piece(writer, b" prep_write"),
-        Action::FsyncPrepared => write_piece(writer, b" prep_fsync"),
-        Action::NopPrepared => write_piece(writer, b" prep_nop"),
-        Action::DataSet(data) => write_valued(writer, b" set_data64 ", buffer.format(data)),
-        Action::Submitted(answer) => write_valued(writer, b" submit ", buffer.format(answer)),
-        Action::Peeked(completion) => write_completion(writer, b" peek_cqe ", completion),
-        Action::PeekedNone => write_piece(writer, b" peek_cqe none"),
-        Action::Reaped(data) => write_valued(writer, b" cqe_seen ", buffer.format(data)),
-        Action::Branched(true) => write_piece(writer, b" if yes"),
-        Action::Branched(false) => write_piece(writer, b" if no"),
-        Action::Looped => write_piece(writer, b" loop"),
-        Action::LoopLeft => write_piece(writer, b" break"),
+        Action::VariableSet(value) => put_valued(text, b" set ", value),
+        Action::Loaded(byte) => put_counted(text, b" load ", u64::from(byte)),
+        Action::Stored(byte) => put_counted(text, b" store ", u64::from(byte)),
+        Action::Filled(byte) => put_counted(text, b" fill ", u64::from(byte)),
+        Action::Printed(value) => put_valued(text, b" print ", value),
+        Action::Locked => text.put(b" lock"),
+        Action::Released => text.put(b" release"),
+        Action::EntryOpened => text.put(b" get_sqe"),
+        Action::ReadPrepared => text.put(b" prep_read"),
+        Action::WritePrepared => text.put(b" prep_write"),
+        Action::FsyncPrepared => text.put(b" prep_fsync"),
+        Action::NopPrepared => text.put(b" prep_nop"),
+        Action::DataSet(data) => put_counted(text, b" set_data64 ", data),
+        Action::Submitted(answer) => put_valued(text, b" submit ", i64::from(answer)),
+        Action::Peeked(completion) => put_completion(text, b" peek_cqe ", completion),
+        Action::PeekedNone => text.put(b" peek_cqe none"),
+        Action::Reaped(data) => put_counted(text, b" cqe_seen ", data),
+        Action::Branched(true) => text.put(b" if yes"),
+        Action::Branched(false) => text.put(b" if no"),
+        Action::Looped => text.put(b" loop"),
+        Action::LoopLeft => text.put(b" break"),
     }
 }
 
-/// Writes where a step is: the thread's name and the line.
-fn write_place<W: Sink>(writer: &mut W, name: &[u8], line: u32) -> Result<(), EngineFault>
-    requires { W.failure_count writer.old + 1 < 2 ^ 64 }
-    ensures text { Wrote (W.contents writer.old) (W.contents writer.new) (place_text name.now line) result }
-    ensures failures { FailsToWrite (W.failure_count writer.old) (W.failure_count writer.new) result }
+/// Puts where a step is: the thread's name and the line.
+#[inline]
+fn put_place(text: &mut LineBuffer, name: &[u8], line: u32)
+    requires { length name.now + 21 + length text.old ≤ 128 }
+    ensures text { text.new ≡ place_text name.now line ++ text.old }
+    ensures len { length text.new ≤ length name.now + 21 + length text.old }
 {
-    let mut buffer = Buffer::new();
-    let line = buffer.format(line).as_bytes();
-    write_pieces(writer, &[name, b" ", line])
+    text.put_number(u64::from(line));
+    text.put(b" ");
+    text.put(name);
 }
 
-/// Writes a step: where it is, and its words.
-fn write_step<W: Sink>(
-    writer: &mut W,
-    name: &[u8],
-    line: u32,
-    action: Action,
-) -> Result<(), EngineFault>
-    requires { W.failure_count writer.old + 1 < 2 ^ 64 }
-    ensures text { Wrote (W.contents writer.old) (W.contents writer.new) (place_text name.now line ++ action_text action) result }
-    ensures failures { FailsToWrite (W.failure_count writer.old) (W.failure_count writer.new) result }
-{
-    write_place(writer, name, line)?;
-    write_action(writer, action)
-}
-
-/// Writes an event without its number.
-fn write_event<W: Sink>(writer: &mut W, program: &Program, event: Event) -> Result<(), EngineFault>
-    requires { W.failure_count writer.old + 1 < 2 ^ 64 }
-    ensures text { Wrote (W.contents writer.old) (W.contents writer.new) (event_text program.now event) result }
-    ensures failures { FailsToWrite (W.failure_count writer.old) (W.failure_count writer.new) result }
+/// Puts an event without its number.
+#[inline]
+fn put_event(text: &mut LineBuffer, program: &Program, event: Event)
+    requires { length text.old ≤ 1 }
+    ensures text { text.new ≡ event_text program.now event ++ text.old }
+    ensures len { length text.new ≤ 90 }
 {
     match event {
         Event::ByThread {
             thread,
             line,
             action,
-        } => write_step(writer, thread_name(program, thread), line, action),
-        Event::ByKernel(completion) => write_completion(writer, b"kernel ", completion),
+        } => {
+            put_action(text, action);
+            put_place(text, thread_name(program, thread), line);
+        }
+        Event::ByKernel(completion) => put_completion(text, b"kernel ", completion),
     }
 }
 
-/// Writes a number and a blank.
-fn write_number<W: Sink>(writer: &mut W, number: u64) -> Result<(), EngineFault>
-    requires { W.failure_count writer.old + 1 < 2 ^ 64 }
-    ensures text { Wrote (W.contents writer.old) (W.contents writer.new) (joined (decimal number ∷ codes " " ∷ [])) result }
-    ensures failures { FailsToWrite (W.failure_count writer.old) (W.failure_count writer.new) result }
-{
-    let mut buffer = Buffer::new();
-    let number = buffer.format(number).as_bytes();
-    write_pieces(writer, &[number, b" "])
-}
-
-/// Writes the line of the event with this number.
+/// Writes the line of the event with this number, in one piece.
 pub fn write_event_line<W: Sink>(
     writer: &mut W,
     program: &Program,
@@ -147,9 +139,12 @@ pub fn write_event_line<W: Sink>(
     ensures text { Wrote (W.contents writer.old) (W.contents writer.new) (event_line program.now number event) result }
     ensures failures { FailsToWrite (W.failure_count writer.old) (W.failure_count writer.new) result }
 {
-    write_number(writer, number)?;
-    write_event(writer, program, event)?;
-    write_piece(writer, b"\n")
+    let mut text = LineBuffer::new();
+    text.put(b"\n");
+    put_event(&mut text, program, event);
+    text.put(b" ");
+    text.put_number(number);
+    write_piece(writer, text.as_slice())
 }
 
 /// Writes where a fault is, to the line's end.

@@ -2,6 +2,7 @@
 
 ghost use Rattle.std.specs.Prelude.{◌≡◌, ◌+◌, ◌<◌, ◌≤◌, ◌^◌, length, IfOk};
 ghost use Rattle.rc_read.specs.Answer.{answer_of};
+ghost use Rattle.rc_read.specs.Stream.{IsAnswer};
 ghost use Rattle.rc_world.specs.Faults.{fault_of};
 ghost use Rattle.rc_world.specs.Schedule.{items_of};
 ghost use Rattle.rc_world.specs.Trace.{all_ended, last_ending, trace_from, trace_of};
@@ -68,22 +69,29 @@ pub fn step_engine<R: Source, W: Sink>(
     ensures writes { CountsWrites (W.failure_count writer.old) (W.failure_count writer.new) result }
 {
     let text = read_text(alloc, reader)?;
-    step_bytes(alloc, &text, schedule, writer)
+    step_bytes(alloc, text, schedule, writer)
+}
+
+/// The program of a text, whose memory is given back before a world takes some.
+fn program_of(alloc: Global, text: Vec<u8>) -> Result<Program, ReadFault>
+    ensures { IsAnswer text.items result }
+{
+    read_program(alloc, &text)
 }
 
 /// Steps the program of a text through a schedule.
 fn step_bytes<W: Sink>(
     alloc: Global,
-    text: &[u8],
+    text: Vec<u8>,
     schedule: &str,
     writer: &mut W,
 ) -> Result<StepEnd, EngineFault>
     requires { W.failure_count writer.old + 1 < 2 ^ 64 }
-    ensures text { Wrote (W.contents writer.old) (W.contents writer.new) (stepped_text text.now schedule.now) result }
-    ensures end { IfOk result (EndsBy (answer_of text.now) schedule.now) }
+    ensures text { Wrote (W.contents writer.old) (W.contents writer.new) (stepped_text text.items schedule.now) result }
+    ensures end { IfOk result (EndsBy (answer_of text.items) schedule.now) }
     ensures failures { FailsToWriteOrGrow (W.failure_count writer.old) (W.failure_count writer.new) result }
 {
-    match read_program(alloc, text) {
+    match program_of(alloc, text) {
         Ok(program) => step_program(alloc, &program, schedule, writer),
         Err(ReadFault::Text { line, cause }) => {
             verdict_text(&Verdict::Unreadable { line, cause }, writer)?;

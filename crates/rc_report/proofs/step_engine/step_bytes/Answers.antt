@@ -11,9 +11,9 @@ use Rattle.rc_report.proofs.step_engine.step_bytes.Goals as goal
 
 pub returns-in_ok-verdict_text-in-Err-Text-clause-text : goal.returns-in_ok-verdict_text-in-Err-Text-clause-text
 returns-in_ok-verdict_text-in-Err-Text-clause-text g c =
-    let answer : answer_of c.args.text.now ≡ Err (c.in-Err-Text.line, number_of_cause c.in-Err-Text.cause) =
-    subst (λ f. IsAnswer c.args.text.now (Err f)) c.in-Err-Text.field-0-is c.in-Err-Text.ensures in
-    let same : verdict_text (Unreadable c.in-Err-Text.line c.in-Err-Text.cause) ≡ stepped_text c.args.text.now c.args.schedule.now =
+    let answer : answer_of c.args.text.items ≡ Err (c.in-Err-Text.line, number_of_cause c.in-Err-Text.cause) =
+    subst (λ f. IsAnswer c.args.text.items (Err f)) c.in-Err-Text.field-0-is c.in-Err-Text.ensures in
+    let same : verdict_text (Unreadable c.in-Err-Text.line c.in-Err-Text.cause) ≡ stepped_text c.args.text.items c.args.schedule.now =
     ap (λ cause. verdict_text (Unreadable c.in-Err-Text.line cause)) (sym (cause_numbered-number c.in-Err-Text.cause))
     ∙ sym (ap (λ answer. answer_text answer c.args.schedule.now) answer) in
     let written = rw (c.in-Err-Text.line-is, c.in-Err-Text.cause-is) at c.in_ok-verdict_text-in-Err-Text.ensures.text in
