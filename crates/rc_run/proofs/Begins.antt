@@ -6,11 +6,11 @@ use Rattle.rc_lang.specs.declared.request.Request.{Request}
 use Rattle.rc_world.specs.Machine.{taken_bytes, without_taken}
 use Rattle.rc_world.specs.WorldParts.{begun_buffers, begun_pending, view_bytes}
 use Rattle.rc_run.specs.declared.machine.Pending.{Pending as PendingPart}
-use Rattle.rc_run.specs.Machine.{view_pending}
+use Rattle.rc_run.specs.Machine.{pending_of}
 
 -- The first i of these requests have become pending.
 pub record IsBegun (pending0 : Vec PendingPart) (buffers0 : Vec (Option (Vec ℕ))) (requests : List Request) (i : ℕ) (pending : Vec PendingPart) (buffers : Vec (Option (Vec ℕ))) : Type 0 where
-  pub pending_is : begun_pending (map view_pending pending.items) (map view_bytes buffers.items) (drop i requests) ≡ begun_pending (map view_pending pending0.items) (map view_bytes buffers0.items) requests
+  pub pending_is : begun_pending (map pending_of pending.items) (map view_bytes buffers.items) (drop i requests) ≡ begun_pending (map pending_of pending0.items) (map view_bytes buffers0.items) requests
   pub buffers_is : begun_buffers (map view_bytes buffers.items) (drop i requests) ≡ begun_buffers (map view_bytes buffers0.items) requests
   pub len : vec_len pending ≡ vec_len pending0 + i
   pub capacity : vec_capacity pending ≡ vec_capacity pending0
@@ -33,14 +33,14 @@ pub begun_more : (pending0 : Vec PendingPart) (buffers0 : Vec (Option (Vec ℕ))
     → view_bytes bytes ≡ taken_bytes (map view_bytes buffers.items) r → map view_bytes less.items ≡ without_taken (map view_bytes buffers.items) r
     → IsBegun pending0 buffers0 (take n xs) (i + 1) more less
 begun_more pending0 buffers0 xs n i pending buffers h r lt at bytes more less items len capacity taken left =
-    let ps = map view_pending pending.items in
+    let ps = map pending_of pending.items in
     let bs = map view_bytes buffers.items in
     let next = drop_at n xs i r lt at in
     let rest = drop (suc i) (take n xs) in
     let one : suc i ≡ i + 1 = omega arith in
     let old : vec_len pending ≡ vec_len pending0 + i = h.len in
-    let pushed : map view_pending more.items ≡ ps ++ record { request = r; bytes = taken_bytes bs r } ∷ [] =
-    ap (map view_pending) items ∙ map-append view_pending pending.items (record { request = r; bytes = bytes } ∷ [])
+    let pushed : map pending_of more.items ≡ ps ++ record { request = r; bytes = taken_bytes bs r } ∷ [] =
+    ap (map pending_of) items ∙ map-append pending_of pending.items (record { request = r; bytes = bytes } ∷ [])
     ∙ ap (λ x. ps ++ record { request = r; bytes = x } ∷ []) taken
     in
     subst (λ k. IsBegun pending0 buffers0 (take n xs) k more less) one (record {
@@ -54,9 +54,9 @@ begun_more pending0 buffers0 xs n i pending buffers h r lt at bytes more less it
     })
 
 pub begun_all : (pending0 : Vec PendingPart) (buffers0 : Vec (Option (Vec ℕ))) (xs : List Request) (n : ℕ) (pending : Vec PendingPart) (buffers : Vec (Option (Vec ℕ)))
-    → IsBegun pending0 buffers0 (take n xs) n pending buffers → map view_pending pending.items ≡ begun_pending (map view_pending pending0.items) (map view_bytes buffers0.items) (take n xs)
+    → IsBegun pending0 buffers0 (take n xs) n pending buffers → map pending_of pending.items ≡ begun_pending (map pending_of pending0.items) (map view_bytes buffers0.items) (take n xs)
 begun_all pending0 buffers0 xs n pending buffers h =
-    sym (ap (begun_pending (map view_pending pending.items) (map view_bytes buffers.items)) (drop_taken n xs)) ∙ h.pending_is
+    sym (ap (begun_pending (map pending_of pending.items) (map view_bytes buffers.items)) (drop_taken n xs)) ∙ h.pending_is
 
 pub taken_all : (pending0 : Vec PendingPart) (buffers0 : Vec (Option (Vec ℕ))) (xs : List Request) (n : ℕ) (pending : Vec PendingPart) (buffers : Vec (Option (Vec ℕ)))
     → IsBegun pending0 buffers0 (take n xs) n pending buffers → map view_bytes buffers.items ≡ begun_buffers (map view_bytes buffers0.items) (take n xs)

@@ -10,12 +10,12 @@ use Rattle.rc_lang.specs.Requests.{may_complete}
 use Rattle.rc_world.specs.declared.event.Completion.{Completion}
 use Rattle.rc_world.specs.declared.event.Event.{Event}
 use Rattle.rc_world.specs.declared.event.Event.TheVariants.{ByKernel}
-use Rattle.rc_world.specs.Kept.{IsKept, IsPending}
-use Rattle.rc_world.specs.Machine.{Pending, World, brings, completes, completion_of, given_back, is_read, kernel_event, kernel_step_of, without}
+use Rattle.rc_world.specs.Kept.{IsKept, IsKeptPending}
+use Rattle.rc_world.specs.Machine.{Pending, World, bytes_brought, completes, completion_of, given_back, is_read, kernel_event, kernel_step_of, without}
 use Rattle.rc_world.specs.WorldParts.{view_bytes}
 use Rattle.rc_world.proofs.Memory.{read_has_buffer}
 use Rattle.rc_run.specs.declared.machine.Pending.{Pending as PendingPart}
-use Rattle.rc_run.specs.Machine.{brought, completed_at, completed_by, given_to, view_pending}
+use Rattle.rc_run.specs.Machine.{brought, completed_at, completed_by, given_to, pending_of}
 
 both : (a b : Bool) → (a && b) ≡ true → (a ≡ true) × (b ≡ true)
 both true b e = (refl, e)
@@ -25,8 +25,8 @@ some_if : {A : Type 0} (b : Bool) (x : Option A) → IsSome (if b then x else No
 some_if true x h = (refl, h)
 some_if false x h = absurd (cc)
 
-pub view_at : (items : List PendingPart) (n : ℕ) (r : PendingPart) → n < length items → r ≡ get_or items n r → slice_get (map view_pending items) n ≡ Some (view_pending r)
-view_at items n r lt e = slice_get-map view_pending items n ∙ ap (option_map view_pending) (slice_get-get_or items n r lt ∙ ap Some (sym e))
+pub view_at : (items : List PendingPart) (n : ℕ) (r : PendingPart) → n < length items → r ≡ get_or items n r → slice_get (map pending_of items) n ≡ Some (pending_of r)
+view_at items n r lt e = slice_get-map pending_of items n ∙ ap (option_map pending_of) (slice_get-get_or items n r lt ∙ ap Some (sym e))
 
 pub given_some : (items : List (Option (Vec ℕ))) (q : Request) (bytes : List ℕ) (stood : Option (Vec ℕ)) (v new : Vec ℕ) → stood ≡ Some v → new.items ≡ take q.len bytes ++ drop q.len v.items
     → map view_bytes (slice_set items q.buffer (Some new)) ≡ given_to (map view_bytes items) q bytes (view_bytes stood)
@@ -39,13 +39,13 @@ module _ (w : World) (k : IsKept w) (n : ℕ) (res : ℤ) (bytes : List ℕ) (p 
   step_is : completed_by w n res bytes ≡ kernel_step_of w n res (brought p.request bytes) (Some p)
   step_is = ap (completed_at w n res bytes) here ∙ ap (kernel_step_of w n res (brought p.request bytes)) here
 
-  allowed : (may_complete p.request res ≡ true) × (nat_eq (length (brought p.request bytes)) (brings p.request) ≡ true) × IsSome (kernel_event w n res p.request (given_back w p.request (brought p.request bytes) p.bytes))
+  allowed : (may_complete p.request res ≡ true) × (nat_eq (length (brought p.request bytes)) (bytes_brought p.request) ≡ true) × IsSome (kernel_event w n res p.request (given_back w p.request (brought p.request bytes) p.bytes))
   allowed =
-      let h = some_if (may_complete p.request res && nat_eq (length (brought p.request bytes)) (brings p.request)) _ (subst IsSome step_is some) in
+      let h = some_if (may_complete p.request res && nat_eq (length (brought p.request bytes)) (bytes_brought p.request)) _ (subst IsSome step_is some) in
       let b = both _ _ h.0 in
       (b.0, b.1, h.1)
 
-  held : IsPending w.program w.pending p
+  held : IsKeptPending w.program w.pending p
   held = k.memory.pending n p here
 
   pub there : (stood : List ℕ) → p.bytes ≡ Some stood → p.request.buffer < length w.buffers
@@ -57,10 +57,10 @@ module _ (w : World) (k : IsKept w) (n : ℕ) (res : ℤ) (bytes : List ℕ) (p 
       let le : p.request.len ≤ bytes_at w.program.buffers p.request.buffer = leb-true p.request.len _ held.fitting.room in
       omega arith
 
-  brings_is : (stood : List ℕ) → p.bytes ≡ Some stood → brings p.request ≡ p.request.len
+  brings_is : (stood : List ℕ) → p.bytes ≡ Some stood → bytes_brought p.request ≡ p.request.len
   brings_is stood e = ap (λ b. if b then p.request.len else 0) (held.of_read stood e)
 
-  pub brought_enough : brings p.request ≤ length bytes → (stood : List ℕ) → p.bytes ≡ Some stood → p.request.len ≤ length bytes
+  pub brought_enough : bytes_brought p.request ≤ length bytes → (stood : List ℕ) → p.bytes ≡ Some stood → p.request.len ≤ length bytes
   brought_enough le stood e = subst (λ m. m ≤ length bytes) (brings_is stood e) le
 
   given : (o : Option (List ℕ)) → p.bytes ≡ o → given_back w p.request (brought p.request bytes) o ≡ Some (given_to w.buffers p.request bytes o)
@@ -78,7 +78,7 @@ module _ (w : World) (k : IsKept w) (n : ℕ) (res : ℤ) (bytes : List ℕ) (p 
   completed_as : completed_by w n res bytes ≡ Some (ByKernel (completion_of p.request res), completes w n res p.request (given_to w.buffers p.request bytes p.bytes))
   completed_as =
       step_is
-      ∙ ap (λ b. if b && nat_eq (length (brought p.request bytes)) (brings p.request) then kernel_event w n res p.request (given_back w p.request (brought p.request bytes) p.bytes) else None) allowed.0
+      ∙ ap (λ b. if b && nat_eq (length (brought p.request bytes)) (bytes_brought p.request) then kernel_event w n res p.request (given_back w p.request (brought p.request bytes) p.bytes) else None) allowed.0
       ∙ ap (λ b. if b then kernel_event w n res p.request (given_back w p.request (brought p.request bytes) p.bytes) else None) allowed.1
       ∙ ap (kernel_event w n res p.request) (given p.bytes refl)
 

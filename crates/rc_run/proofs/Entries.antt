@@ -8,17 +8,17 @@ use Rattle.rc_entry.specs.declared.Entry.TheVariants.{Nop, Fsync, Read, Write}
 use Rattle.rc_entry.specs.Spelling.{HasFields, SpellsEntry, opcode_fsync, opcode_nop, opcode_read, opcode_write, sqe_addr, sqe_fd, sqe_len, sqe_off, sqe_opcode, sqe_user_data, sync_flags}
 use Rattle.rc_lang.specs.declared.request.Request.{Request}
 use Rattle.rc_entry.specs.declared.EntryFault.{EntryFault}
-use Rattle.rc_ring.specs.Rings.{NoSlot, OpenSlot, PreparedSlot, Rings, SubmitCall, VacantSlot, after_call, after_queueing, bytes_of, bytes_with_data, entry_with_data}
+use Rattle.rc_ring.specs.Rings.{NoSlot, OpenSlot, PreparedSlot, Rings, SubmitCall, VacantSlot, after_call, after_queueing, bytes_with_data, entry_with_data, slot_bytes}
 use Rattle.rc_ring.specs.Spelled.{HoldEntries, IsSpelledSlot, IsSpelling}
 use Rattle.rc_run.specs.declared.request_ring.Serial.{Serial}
 use Rattle.rc_run.specs.Held.{AreDistinct, IsHeld, ring_of}
-use Rattle.rc_run.specs.Requests.{address_of, after_data, buffer_at, data_of, kind_of, request_in, request_of, serial_of, slot_in}
+use Rattle.rc_run.specs.Requests.{address_of, after_data, buffer_at, data_of, kind_of_opcode, request_in, request_of, serial_of, slot_in}
 use Rattle.rc_world.specs.declared.world.Slot.TheVariants.{Closed, Prepared}
 
 -- ---- the fields of an entry
 
 abbrev made : List Serial → (opcode : ℕ) → ℤ → (address len off u : ℕ) → Request
-made serials opcode fd address len off u = record { serial = serial_of u serials; kind = kind_of opcode; fd = fd; buffer = buffer_at address; len = len; off = off; user_data = u }
+made serials opcode fd address len off u = record { serial = serial_of u serials; kind = kind_of_opcode opcode; fd = fd; buffer = buffer_at address; len = len; off = off; user_data = u }
 
 by_fields : (serials : List Serial) (opcode : ℕ) (fd : ℤ) (off address len flags u : ℕ) (bytes : List ℕ) → HasFields opcode fd off address len flags u bytes
     → request_in serials bytes ≡ made serials opcode fd address len off u
@@ -93,7 +93,7 @@ same_requests : (old new : List Serial) (queue : List (List ℕ)) → ((k : ℕ)
 same_requests old new [] h = refl
 same_requests old new (b ∷ queue) h =
     let first : request_in new b ≡ request_in old b =
-    ap (λ n. record { serial = n; kind = kind_of (sqe_opcode b); fd = sqe_fd b; buffer = buffer_at (sqe_addr b); len = sqe_len b; off = sqe_off b; user_data = sqe_user_data b }) (h 0 (sqe_user_data b) refl)
+    ap (λ n. record { serial = n; kind = kind_of_opcode (sqe_opcode b); fd = sqe_fd b; buffer = buffer_at (sqe_addr b); len = sqe_len b; off = sqe_off b; user_data = sqe_user_data b }) (h 0 (sqe_user_data b) refl)
     in
     ap (λ (q : Request). q ∷ map (request_in new) queue) first
     ∙ ap (λ qs. request_in old b ∷ qs) (same_requests old new queue (λ k u e. h (suc k) u e))
@@ -157,7 +157,7 @@ handed_is old new serials rest made n h distinct r a =
     ap (λ x. ring_of x rest made) a ∙ ap (λ x. ring_of (after_call (SubmitCall n) old) x made) r
     ∙ ap (λ qs. record (ring_of old serials made) { queued = qs }) (requests_drop n serials old.queued h.named (subst AreDistinct (data_of-requests serials old.queued) distinct))
 
-prepared_bytes : (slot : OpenSlot) (q : Request) → slot_in slot ≡ Prepared q → IsSpelledSlot slot → (e : Entry) × SpellsEntry e (bytes_of slot) × (request_in [] (bytes_of slot) ≡ q)
+prepared_bytes : (slot : OpenSlot) (q : Request) → slot_in slot ≡ Prepared q → IsSpelledSlot slot → (e : Entry) × SpellsEntry e (slot_bytes slot) × (request_in [] (slot_bytes slot) ≡ q)
 prepared_bytes NoSlot q e h = absurd (cc)
 prepared_bytes VacantSlot q e h = absurd (cc)
 prepared_bytes (PreparedSlot bytes) q e h = (h.0, h.1, same_prepared _ _ e)
@@ -167,34 +167,34 @@ prepared_bytes (PreparedSlot bytes) q e h = (h.0, h.1, same_prepared _ _ e)
 
 pub queued_held : (old new : Rings) (serials : List Serial) (u n : ℕ) (q : Request) → IsHeld old serials → slot_in old.slot ≡ Prepared q → HoldEntries old
     → new ≡ after_queueing (record old { parked = false }) u
-    → ((e : Entry) → SpellsEntry e (bytes_of old.slot) → SpellsEntry (entry_with_data u e) (bytes_with_data u (bytes_of old.slot)))
+    → ((e : Entry) → SpellsEntry e (slot_bytes old.slot) → SpellsEntry (entry_with_data u e) (bytes_with_data u (slot_bytes old.slot)))
     → IsHeld new (serials ++ record { user_data = u; serial = n } ∷ [])
 queued_held old new serials u n q h is law a spells =
     let p = prepared_bytes old.slot q is law.prepared in
-    let named_so : sqe_user_data (bytes_with_data u (bytes_of old.slot)) ≡ u = ap (λ (x : Request). x.user_data) (request_with_data [] [] p.0 u _ _ p.1 (spells p.0 p.1)) in
+    let named_so : sqe_user_data (bytes_with_data u (slot_bytes old.slot)) ≡ u = ap (λ (x : Request). x.user_data) (request_with_data [] [] p.0 u _ _ p.1 (spells p.0 p.1)) in
     subst (λ x. IsHeld x (serials ++ record { user_data = u; serial = n } ∷ [])) (sym a) (record {
       parks = refl;
       named =
           map-append (λ (s : Serial). s.user_data) serials (record { user_data = u; serial = n } ∷ [])
           ∙ ap (λ xs. xs ++ u ∷ []) h.named
           ∙ ap (λ v. map sqe_user_data old.queued ++ v ∷ []) (sym named_so)
-          ∙ sym (map-append sqe_user_data old.queued (bytes_with_data u (bytes_of old.slot) ∷ []));
+          ∙ sym (map-append sqe_user_data old.queued (bytes_with_data u (slot_bytes old.slot) ∷ []));
     })
 
 pub queued_is : (old new : Rings) (serials : List Serial) (u made : ℕ) (q : Request) → IsHeld old serials → slot_in old.slot ≡ Prepared q → HoldEntries old
     → AreDistinct (data_of (map (request_in serials) old.queued) ++ u ∷ [])
     → new ≡ after_queueing (record old { parked = false }) u
-    → ((e : Entry) → SpellsEntry e (bytes_of old.slot) → SpellsEntry (entry_with_data u e) (bytes_with_data u (bytes_of old.slot)))
+    → ((e : Entry) → SpellsEntry e (slot_bytes old.slot) → SpellsEntry (entry_with_data u e) (bytes_with_data u (slot_bytes old.slot)))
     → ring_of new (serials ++ record { user_data = u; serial = made + 1 } ∷ []) (made + 1) ≡ after_data (ring_of old serials made) u q
 queued_is old new serials u made q h is law distinct a spells =
     let more = serials ++ record { user_data = u; serial = made + 1 } ∷ [] in
-    let b = bytes_with_data u (bytes_of old.slot) in
+    let b = bytes_with_data u (slot_bytes old.slot) in
     let p = prepared_bytes old.slot q is law.prepared in
     let named = data_of-requests serials old.queued ∙ sym h.named in
     let number = serial_new serials u (made + 1) (subst (λ xs. AreDistinct (xs ++ u ∷ [])) named distinct) in
     let one : request_in more b ≡ record q { serial = made + 1; user_data = u } =
     request_with_data [] more p.0 u _ b p.1 (spells p.0 p.1)
-    ∙ ap (λ n. record (request_in [] (bytes_of old.slot)) { serial = n; user_data = u }) number
+    ∙ ap (λ n. record (request_in [] (slot_bytes old.slot)) { serial = n; user_data = u }) number
     ∙ ap (λ (x : Request). record x { serial = made + 1; user_data = u }) p.2
     in
     let all : map (request_in more) (old.queued ++ b ∷ []) ≡ map (request_in serials) old.queued ++ record q { serial = made + 1; user_data = u } ∷ [] =
@@ -203,17 +203,17 @@ queued_is old new serials u made q h is law distinct a spells =
     ∙ ap (λ x. map (request_in serials) old.queued ++ x ∷ []) one
     in
     ap (λ x. ring_of x more (made + 1)) a
-    ∙ ap (λ qs. record (ring_of old serials made) { slot = Closed; queued = qs; made = made + 1 }) all
+    ∙ ap (λ qs. record (ring_of old serials made) { slot = Closed; datasync = false; queued = qs; made = made + 1 }) all
 
 -- The prepared entry gets its user data once it is handed out again.
 pub record IsQueued (old new : Rings) (u : ℕ) : Type 0 where
   pub after : new ≡ after_queueing (record old { parked = false }) u
-  pub spells : (e : Entry) → SpellsEntry e (bytes_of old.slot) → SpellsEntry (entry_with_data u e) (bytes_with_data u (bytes_of old.slot))
+  pub spells : (e : Entry) → SpellsEntry e (slot_bytes old.slot) → SpellsEntry (entry_with_data u e) (bytes_with_data u (slot_bytes old.slot))
 
 pub queued_so : (old resumed new : Rings) (u : ℕ) → resumed ≡ record old { parked = false } → new ≡ after_queueing resumed u
-    → ((e : Entry) → SpellsEntry e (bytes_of resumed.slot) → SpellsEntry (entry_with_data u e) (bytes_with_data u (bytes_of resumed.slot)))
+    → ((e : Entry) → SpellsEntry e (slot_bytes resumed.slot) → SpellsEntry (entry_with_data u e) (bytes_with_data u (slot_bytes resumed.slot)))
     → IsQueued old new u
 queued_so old resumed new u r a spells = record {
   after = a ∙ ap (λ x. after_queueing x u) r;
-  spells = subst (λ (x : Rings). (e : Entry) → SpellsEntry e (bytes_of x.slot) → SpellsEntry (entry_with_data u e) (bytes_with_data u (bytes_of x.slot))) r spells;
+  spells = subst (λ (x : Rings). (e : Entry) → SpellsEntry e (slot_bytes x.slot) → SpellsEntry (entry_with_data u e) (bytes_with_data u (slot_bytes x.slot))) r spells;
 }

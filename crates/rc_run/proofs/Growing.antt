@@ -10,7 +10,7 @@ use Rattle.rc_run.specs.declared.live.Turn.TheVariants.{Done}
 use Rattle.rc_run.specs.Jobs.{Job}
 use Rattle.rc_run.specs.Reports.{AllGiven, IsGiven, is_turn}
 use Rattle.rc_run.specs.Lives.{Live, Posted, Turned}
-use Rattle.rc_run.specs.Machine.{brought, completed_at, taken_by}
+use Rattle.rc_run.specs.Machine.{brought, completed_at, submit_answer}
 use Rattle.rc_run.proofs.TurnEvents.{of_completion, of_thread}
 
 count_by_add : (p : Event → Bool) (xs ys : List Event) → count_by p (xs ++ ys) ≡ count_by p xs + count_by p ys
@@ -39,7 +39,7 @@ turn_more gives s v i t x e is d0 =
     let T : Turn → Type 0 = λ y. Turned s i t y v in
     let d : Turned s i t (Done e) v = subst T is d0 in
     let more : v.history ≡ s.history ++ e ∷ [] = ap (λ (x : Live). x.history) d.1 in
-    let turn : is_turn e ≡ true = ap is_turn (of_thread s.world i (taken_by s.world t) e v.world d.0).is in
+    let turn : is_turn e ≡ true = ap is_turn (of_thread s.world i (submit_answer s.world t) e v.world d.0).is in
     let F : List Event → Type 0 = λ x. AllGiven gives x in
     record {
       long = ap length more ∙ length-append s.history (e ∷ []);

@@ -11,7 +11,7 @@ use Rattle.rc_lang.specs.declared.request.Kind.TheVariants.{Nop, Fsync, Read, Wr
 use Rattle.rc_lang.specs.Program.{Buffer, IsProgram, Program, bytes_at, no_buffer}
 use Rattle.rc_world.specs.declared.fault.FaultKind.TheVariants.{KernelClash}
 use Rattle.rc_world.specs.Faults.{has_buffer, reads_into}
-use Rattle.rc_world.specs.Kept.{IsPending}
+use Rattle.rc_world.specs.Kept.{IsKeptPending}
 use Rattle.rc_world.specs.Machine.{Pending, World, bytes_of, is_read}
 use Rattle.rc_world.proofs.LawFaultless.{none_in_kernel, none_of_kind}
 use Rattle.rc_world.proofs.Lists.{found, get_none, get_of}
@@ -36,7 +36,7 @@ read_kind Read e = refl
 read_kind Write e = absurd (cc)
 
 module _ (w : World) (c : IsCalm w) (k : ℕ) (p : Pending) (here : slice_get w.pending k ≡ Some p) where
-  held : IsPending w.program w.pending p
+  held : IsKeptPending w.program w.pending p
   held = c.kept.memory.pending k p here
 
   within : p.request.len ≤ bytes_at w.program.buffers p.request.buffer

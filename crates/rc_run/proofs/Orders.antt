@@ -18,7 +18,7 @@ use Rattle.rc_world.specs.declared.event.Event.{Event}
 use Rattle.rc_world.specs.declared.world.Slot.{Slot}
 use Rattle.rc_world.specs.declared.world.Slot.TheVariants.{Closed, Vacant, Prepared}
 use Rattle.rc_world.specs.Controls.{Controls, Standing, controls_step, low_byte, next_line, variable}
-use Rattle.rc_world.specs.Machine.{Pending, World, answer_of, brings, bytes_of, count_in, fills, fits, given_back, hands_over, in_rings, is_take, kernel_event, kernel_step, kernel_step_of, new_request, op_in_rings, opens_entry, prepared_nop, prepares, queues, reaps_front, start_world, stores, submits_by, thread_step, thread_step_at, with_bytes, with_controls, without}
+use Rattle.rc_world.specs.Machine.{Pending, World, bytes_brought, bytes_of, count_in, fills, fits_buffer, given_back, hands_over, in_rings, is_take, kernel_event, kernel_step, kernel_step_of, new_request, op_in_rings, opens_entry, prepared_nop, prepares, queues, reaps_front, start_world, stmt_answer, stores, submits_by, thread_step, thread_step_at, with_bytes, with_controls, without}
 use Rattle.rc_world.specs.Runs.{IsRun}
 use Rattle.rc_admit.proofs.Ops.{begun}
 use Rattle.rc_run.specs.Calm.{IsPlain}
@@ -125,7 +125,7 @@ module _ (w : World) (h : IsOrderly w) where
 
   prepares_orderly : (r : Request) → IsPlain r → (x : Slot) → Orderly (prepares w r x)
   prepares_orderly r plain Closed = tt
-  prepares_orderly r plain Vacant = go (fits w.program r)
+  prepares_orderly r plain Vacant = go (fits_buffer w.program r)
     where
       go : (y : Bool) → Orderly (if y then Some (record w { slot = Prepared r }) else None)
       go true = same (Prepared r) w.buffers plain
@@ -192,7 +192,7 @@ module _ (w : World) (h : IsOrderly w) where
       go : (x : Option Standing) (y : Option Line) → OrderlyStep (thread_step_at w i r x y)
       go None y = tt
       go (Some t) None = tt
-      go (Some t) (Some l) = controls_orderly (in_rings w t r l.stmt) (line_orderly t r l.stmt) (controls_step w.program w.controls i (answer_of w r l.stmt))
+      go (Some t) (Some l) = controls_orderly (in_rings w t r l.stmt) (line_orderly t r l.stmt) (controls_step w.program w.controls i (stmt_answer w r l.stmt))
 
   kernel_orderly : (k : ℕ) (res : ℤ) (bytes : List ℕ) → OrderlyStep (kernel_step w k res bytes)
   kernel_orderly k res bytes = go (slice_get w.pending k)
@@ -207,7 +207,7 @@ module _ (w : World) (h : IsOrderly w) where
 
       go : (x : Option Pending) → OrderlyStep (kernel_step_of w k res bytes x)
       go None = tt
-      go (Some x) = tested x (may_complete x.request res && nat_eq (length bytes) (brings x.request))
+      go (Some x) = tested x (may_complete x.request res && nat_eq (length bytes) (bytes_brought x.request))
 
 pub run_orderly : (events : List Event) (w after : World) → IsOrderly w → IsRun w events after → IsOrderly after
 run_orderly [] w after h r = subst IsOrderly r h

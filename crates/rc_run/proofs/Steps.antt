@@ -13,11 +13,11 @@ use Rattle.rc_world.specs.declared.controls.Answer.TheVariants.{Plain, Number, B
 use Rattle.rc_world.specs.declared.event.Event.{Event}
 use Rattle.rc_world.specs.Changes.{standing_at}
 use Rattle.rc_world.specs.Controls.{Controls, Standing, acts, as_event, controls_step, low_byte, made, next_line, variable}
-use Rattle.rc_world.specs.Machine.{World, answer_of, bytes_of, fills, in_rings, stores, thread_step, with_bytes, with_controls}
+use Rattle.rc_world.specs.Machine.{World, bytes_of, fills, in_rings, stmt_answer, stores, thread_step, with_bytes, with_controls}
 use Rattle.rc_world.specs.Kept.{IsKept}
 use Rattle.rc_world.proofs.StepParts.{step_at}
 use Rattle.rc_world.proofs.WorldSteps.{at_line, step_is}
-use Rattle.rc_run.specs.Machine.{byte_in, call_step}
+use Rattle.rc_run.specs.Machine.{byte_in, call_step, datasync_by}
 
 pub both_some : (o : Option World) (s : Option (Event × Controls)) → IsSome (with_controls o s) → IsSome o × IsSome s
 both_some None s h = absurd (cc)
@@ -82,15 +82,20 @@ pub plain_rings : (w : World) (t : Standing) (r : ℤ) (s : Stmt) → ((op : Op)
 plain_rings w t r (Do op) h = absurd (h op refl)
 plain_rings w t r _ h = refl
 
-module _ (w : World) (k : IsKept w) (i : ℕ) (r : ℤ) (l : Line) (next : next_line w.program w.controls i ≡ Some l) (a : Answer) (answer : a ≡ answer_of w r l.stmt) where
+module _ (w : World) (k : IsKept w) (i : ℕ) (r : ℤ) (l : Line) (next : next_line w.program w.controls i ≡ Some l) (a : Answer) (answer : a ≡ stmt_answer w r l.stmt) where
   pub step_of_call : (op : Op) → l.stmt ≡ Do op → thread_step w i r ≡ call_step w i op r a
   step_of_call op is =
       step_is w k i r l next
-      ∙ ap (λ s. with_controls (in_rings w (standing_at w.controls i) r s) (controls_step w.program w.controls i (answer_of w r l.stmt))) is
+      ∙ ap (λ s. with_controls (in_rings w (standing_at w.controls i) r s) (controls_step w.program w.controls i (stmt_answer w r l.stmt))) is
       ∙ ap (λ x. call_step w i op r x) (sym answer)
 
   pub step_of_plain : ((op : Op) → l.stmt ≡ Do op → ⊥) → thread_step w i r ≡ with_controls (Some w) (controls_step w.program w.controls i a)
   step_of_plain h =
       step_is w k i r l next
-      ∙ ap (λ o. with_controls o (controls_step w.program w.controls i (answer_of w r l.stmt))) (plain_rings w (standing_at w.controls i) r l.stmt h)
+      ∙ ap (λ o. with_controls o (controls_step w.program w.controls i (stmt_answer w r l.stmt))) (plain_rings w (standing_at w.controls i) r l.stmt h)
       ∙ ap (λ x. with_controls (Some w) (controls_step w.program w.controls i x)) (sym answer)
+
+-- a statement with a block leaves the open entry
+pub plain_datasync : (s : Stmt) (b : Bool) → ((op : Op) → s ≡ Do op → ⊥) → datasync_by s b ≡ b
+plain_datasync (Do op) b h = absurd (h op refl)
+plain_datasync _ b h = refl

@@ -11,7 +11,7 @@ use Rattle.rc_world.specs.declared.event.Action.{Action}
 use Rattle.rc_world.specs.declared.event.Event.{Event}
 use Rattle.rc_world.specs.declared.event.Event.TheVariants.{ByThread, ByKernel}
 use Rattle.rc_world.specs.Controls.{Controls, Standing, acts, acts_on, as_event, controls_step, made, next_line, number_of_event}
-use Rattle.rc_world.specs.Machine.{Pending, World, answer_of, brings, completion_of, given_back, in_rings, kernel_event, kernel_step_of, thread_step, thread_step_at, with_controls}
+use Rattle.rc_world.specs.Machine.{Pending, World, bytes_brought, completion_of, given_back, in_rings, kernel_event, kernel_step_of, stmt_answer, thread_step, thread_step_at, with_controls}
 
 -- It is one of this thread.
 pub record IsOf (i : ℕ) (e : Event) : Type 0 where
@@ -41,8 +41,8 @@ stepped : (w : World) (i : ℕ) (r : ℤ) (t : Option Standing) (l : Option Line
 stepped w i r None l e v h = absurd (cc)
 stepped w i r (Some t) None e v h = absurd (cc)
 stepped w i r (Some t) (Some l) e v h =
-    let d = joined (in_rings w t r l.stmt) (controls_step w.program w.controls i (answer_of w r l.stmt)) e v h in
-    acted w.program w.controls i (answer_of w r l.stmt) (slice_get w.controls.threads i) (next_line w.program w.controls i) e d.0 d.1
+    let d = joined (in_rings w t r l.stmt) (controls_step w.program w.controls i (stmt_answer w r l.stmt)) e v h in
+    acted w.program w.controls i (stmt_answer w r l.stmt) (slice_get w.controls.threads i) (next_line w.program w.controls i) e d.0 d.1
 
 pub of_thread : (w : World) (i : ℕ) (r : ℤ) (e : Event) (v : World) → thread_step w i r ≡ Some (e, v) → IsOf i e
 of_thread w i r e v h = stepped w i r (slice_get w.controls.threads i) (next_line w.program w.controls i) e v h
@@ -53,7 +53,7 @@ kernel_made w v k res r None e h = absurd (cc)
 kernel_made w v k res r (Some buffers) e h = sym (ap (λ (p : Event × World). p.0) (same_Some _ _ h))
 
 pub of_completion : (w v : World) (k : ℕ) (res : ℤ) (bytes : List ℕ) (p : Pending) (e : Event) → kernel_step_of w k res bytes (Some p) ≡ Some (e, v) → e ≡ ByKernel (completion_of p.request res)
-of_completion w v k res bytes p e h = go (may_complete p.request res && nat_eq (length bytes) (brings p.request)) h
+of_completion w v k res bytes p e h = go (may_complete p.request res && nat_eq (length bytes) (bytes_brought p.request)) h
   where
     go : (b : Bool) → (if b then kernel_event w k res p.request (given_back w p.request bytes p.bytes) else None) ≡ Some (e, v) → e ≡ ByKernel (completion_of p.request res)
     go true q = kernel_made w v k res p.request (given_back w p.request bytes p.bytes) e q

@@ -19,7 +19,7 @@ use Rattle.rc_world.specs.Machine.{World, is_take, start_world, thread_step}
 use Rattle.rc_world.specs.Runs.{IsRun, IsStep}
 use Rattle.rc_run.specs.Calm.{IsCalm}
 use Rattle.rc_run.specs.Held.{AreDistinct}
-use Rattle.rc_run.specs.Machine.{IsClosedAt, IsFreshAt, taken_by}
+use Rattle.rc_run.specs.Machine.{IsClosedAt, IsFreshAt, submit_answer}
 use Rattle.rc_run.specs.Requests.{data_of}
 
 -- ---- the next line
@@ -79,7 +79,7 @@ has_step w c i l e = go (c.goes_on i (standing_within w i l next))
 
 -- ---- what a submit takes
 
-pub take_allowed : (w : World) (t : ℤ) → negsuc 4094 ≤ℤ t → is_take w (taken_by w t) ≡ true
+pub take_allowed : (w : World) (t : ℤ) → negsuc 4094 ≤ℤ t → is_take w (submit_answer w t) ≡ true
 take_allowed w (pos n) h = le-leb (min n (length w.queued)) (length w.queued) (omega arith)
 take_allowed w (negsuc n) h = lt-ltb n 4095 (omega (arith, ints, h))
 

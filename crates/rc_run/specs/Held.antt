@@ -3,13 +3,14 @@ use Rattle.std.specs.Prelude.{ℕ, ◌≡◌, ◌≢◌, List, [], ◌∷◌, ma
 use Rattle.rc_entry.specs.Spelling.{sqe_user_data}
 use Rattle.rc_ring.specs.Rings.{Rings}
 use Rattle.rc_run.specs.declared.request_ring.Serial.{Serial}
-use Rattle.rc_run.specs.Requests.{RequestRing, completion_in, is_open, request_in, slot_in}
+use Rattle.rc_run.specs.Requests.{RequestRing, completion_in, is_datasync, is_open, request_in, slot_in}
 
 abbrev pub ring_of : Rings → List Serial → ℕ → RequestRing
 ring_of ring serials made = record {
   entries = ring.entries;
   completion_entries = ring.completion_entries;
   slot = slot_in ring.slot;
+  datasync = is_datasync ring.slot;
   queued = map (request_in serials) ring.queued;
   completions = map completion_in ring.completions;
   made = made;

@@ -9,28 +9,35 @@ use Rattle.rc_run.specs.declared.live.Turn.{Turn}
 use Rattle.rc_run.specs.declared.live.Turn.TheVariants.{Done, Waits, Ended}
 use Rattle.rc_run.specs.declared.machine.Pending.{Pending as PendingPart}
 use Rattle.rc_run.specs.Jobs.{Job}
-use Rattle.rc_run.specs.Machine.{completed_by, taken_by}
+use Rattle.rc_run.specs.Machine.{completed_by, datasync_after, submit_answer}
 use Rattle.rc_world.specs.declared.controls.Next.TheVariants as next
 use Rattle.rc_world.specs.declared.event.Event.{Event}
+use Rattle.rc_world.specs.Controls.{next_line}
 use Rattle.rc_world.specs.Items.{next_of}
 use Rattle.rc_world.specs.Machine.{Pending, World, bytes_of, start_world, thread_step, without}
 
--- The events so far, the world to which they lead, and the serial numbers of the requests whose jobs are out.
+-- The events so far, the world to which they lead, whether the open entry is an fsync that asks for fdatasync(2), which
+-- no world tells, and the serial numbers of the requests whose jobs are out.
 pub record Live : Type 0 where
   pub history : List Event
   pub world : World
+  pub datasync : Bool
   pub out : List ℕ
 
 abbrev pub begun : Program → Live
-begun P = record { history = []; world = start_world P; out = [] }
+begun P = record { history = []; world = start_world P; datasync = false; out = [] }
 
 -- one event more
-abbrev pub grown : Live → Event → World → Live
-grown s e w = record { history = s.history ++ e ∷ []; world = w; out = s.out }
+abbrev pub grown : Live → Event → World → Bool → Live
+grown s e w datasync = record { history = s.history ++ e ∷ []; world = w; datasync = datasync; out = s.out }
+
+-- whether the open entry asks for fdatasync(2) once the thread has made its step
+abbrev pub datasync_next : Live → ℕ → Bool
+datasync_next s i = datasync_after (next_line s.world.program s.world.controls i) s.datasync
 
 -- A turn of a thread whose submit is granted t.
 abbrev pub Turned : Live → ℕ → ℤ → Turn → Live → Type 0
-Turned s i t (Done e) v = (thread_step s.world i (taken_by s.world t) ≡ Some (e, v.world)) × (v ≡ grown s e v.world)
+Turned s i t (Done e) v = (thread_step s.world i (submit_answer s.world t) ≡ Some (e, v.world)) × (v ≡ grown s e v.world (datasync_next s i))
 Turned s i t Waits v = (next_of s.world.program s.world.controls i ≡ next.TakenLock) × (v ≡ s)
 Turned s i t Ended v = (next_of s.world.program s.world.controls i ≡ next.Ended) × (v ≡ s)
 
@@ -85,7 +92,7 @@ pub record Posted (s : Live) (job : Job) (res : ℤ) (v : Live) : Type 0 where
   pub is_out : IsOut s job.request place number
   pub event : Event
   pub step : completed_by s.world place res job.bytes ≡ Some (event, v.world)
-  pub after : v ≡ record { history = s.history ++ event ∷ []; world = v.world; out = without number s.out }
+  pub after : v ≡ record s { history = s.history ++ event ∷ []; world = v.world; out = without number s.out }
 
 abbrev pub IsNotOut : Live → Request → Type 0
 IsNotOut s r = (k n : ℕ) → IsOut s r k n → ⊥

@@ -1,5 +1,5 @@
 -- The world that a machine's parts stand for.
-use Rattle.std.specs.Prelude.{ℕ, ◌≡◌, ◌+◌, ◌≤◌, List, [], ◌∷◌, ◌++◌, map, Option, Some, None, ℤ, pos, negsuc, min, length, take, drop, slice_get, slice_set}
+use Rattle.std.specs.Prelude.{ℕ, ◌≡◌, ◌+◌, ◌≤◌, Bool, false, List, [], ◌∷◌, ◌++◌, map, Option, Some, None, ℤ, pos, negsuc, min, length, take, drop, slice_get, slice_set}
 use Rattle.std.specs.Arc.{arc_value}
 use Rattle.rc_world.specs.declared.event.Action.{Action}
 use Rattle.rc_world.specs.declared.event.Action.TheVariants.{Stored, Filled}
@@ -8,6 +8,7 @@ use Rattle.rc_world.specs.declared.event.Event.TheVariants.{ByThread}
 use Rattle.rc_lang.specs.declared.lines.Op.{Op}
 use Rattle.rc_lang.specs.declared.lines.Op.TheVariants.{Store, Fill, GetSqe, PrepRead, PrepWrite, PrepFsync, PrepNop, SetData64, Submit, SubmitAndWait, CqeSeen}
 use Rattle.rc_lang.specs.declared.request.Kind.TheVariants.{Fsync, Read, Write}
+use Rattle.rc_lang.specs.declared.lines.Line.{Line}
 use Rattle.rc_lang.specs.declared.lines.Stmt.{Stmt}
 use Rattle.rc_lang.specs.declared.lines.Stmt.TheVariants.{Do}
 use Rattle.rc_lang.specs.declared.request.Request.{Request}
@@ -19,13 +20,13 @@ use Rattle.rc_world.specs.Controls.{controls_step}
 use Rattle.std.specs.Vec.{vec_capacity, vec_len}
 use Rattle.rc_run.specs.Held.{AreDistinct}
 use Rattle.rc_run.specs.Requests.{data_of}
-use Rattle.rc_world.specs.Machine.{Pending, World, brings, kernel_step, new_request, op_in_rings, prepared_nop, prepares, with_controls}
+use Rattle.rc_world.specs.Machine.{Pending, World, bytes_brought, kernel_step, new_request, op_in_rings, prepared_nop, prepares, with_controls}
 use Rattle.rc_world.specs.WorldParts.{view_bytes}
 use Rattle.rc_run.specs.declared.machine.Machine.{Machine}
 use Rattle.rc_run.specs.declared.machine.Pending.{Pending as PendingPart}
 
-abbrev pub view_pending : PendingPart → Pending
-view_pending p = record { request = p.request; bytes = view_bytes p.bytes }
+abbrev pub pending_of : PendingPart → Pending
+pending_of p = record { request = p.request; bytes = view_bytes p.bytes }
 
 abbrev pub world_of : Machine → World
 world_of m = record {
@@ -33,7 +34,7 @@ world_of m = record {
   controls = m.controls;
   slot = m.ring.slot;
   queued = m.ring.queued;
-  pending = map view_pending m.pending.items;
+  pending = map pending_of m.pending.items;
   completed = m.completed.items;
   completions = m.ring.completions;
   made = m.ring.made;
@@ -56,9 +57,27 @@ byte_in (ByThread i n action) = byte_by action
 byte_in _ = 0
 
 -- What a submit that is granted this answers: no more than is queued, or the errno.
-abbrev pub taken_by : World → ℤ → ℤ
-taken_by w (pos n) = pos (min n (length w.queued))
-taken_by w (negsuc n) = negsuc n
+abbrev pub submit_answer : World → ℤ → ℤ
+submit_answer w (pos n) = pos (min n (length w.queued))
+submit_answer w (negsuc n) = negsuc n
+
+-- Whether the open entry is an fsync that asks for fdatasync(2), once a statement is made; before, it was this.
+abbrev pub datasync_by_call : Op → Bool → Bool
+datasync_by_call GetSqe b = false
+datasync_by_call (PrepRead fd buffer len off) b = false
+datasync_by_call (PrepWrite fd buffer len off k) b = false
+datasync_by_call (PrepFsync fd datasync) b = datasync
+datasync_by_call PrepNop b = false
+datasync_by_call (SetData64 u) b = false
+datasync_by_call _ b = b
+
+abbrev pub datasync_by : Stmt → Bool → Bool
+datasync_by (Do op) b = datasync_by_call op b
+datasync_by _ b = b
+
+abbrev pub datasync_after : Option Line → Bool → Bool
+datasync_after None b = b
+datasync_after (Some line) b = datasync_by line.stmt b
 
 -- The step of a statement without a block, whose answer is given.
 abbrev pub call_step : World → ℕ → Op → ℤ → Answer → Option (Event × World)
@@ -104,7 +123,7 @@ pub record IsSameRest (old new : Machine) : Type 0 where
 
 -- The bytes that a request's completion brings, of those of a job: the first ones, for a read.
 abbrev pub brought : Request → List ℕ → List ℕ
-brought r bytes = take (brings r) bytes
+brought r bytes = take (bytes_brought r) bytes
 
 -- The step of the kernel that a job's result and bytes name.
 abbrev pub completed_at : World → ℕ → ℤ → List ℕ → Option Pending → Option (Event × World)

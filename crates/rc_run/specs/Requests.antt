@@ -4,7 +4,7 @@ use Rattle.std.specs.Prelude.{ℕ, ◌+◌, ◌-◌, ◌*◌, ◌/◌, ◌%◌, 
 use Rattle.rc_entry.specs.declared.Cqe.{Cqe}
 use Rattle.rc_entry.specs.declared.Entry.{Entry}
 use Rattle.rc_entry.specs.declared.Entry.TheVariants as entry
-use Rattle.rc_entry.specs.Spelling.{opcode_fsync, opcode_read, opcode_write, sqe_addr, sqe_fd, sqe_len, sqe_off, sqe_opcode, sqe_user_data}
+use Rattle.rc_entry.specs.Spelling.{datasync_bit, opcode_fsync, opcode_read, opcode_write, sqe_addr, sqe_fd, sqe_flags, sqe_len, sqe_off, sqe_opcode, sqe_user_data}
 use Rattle.rc_lang.specs.declared.request.Kind.{Kind}
 use Rattle.rc_lang.specs.declared.request.Kind.TheVariants.{Nop, Fsync, Read, Write}
 use Rattle.rc_lang.specs.declared.request.Request.{Request}
@@ -15,8 +15,8 @@ use Rattle.rc_world.specs.declared.world.Slot.{Slot}
 use Rattle.rc_world.specs.declared.world.Slot.TheVariants.{Closed, Vacant, Prepared}
 use Rattle.rc_world.specs.Machine.{new_request, prepared_nop}
 
-abbrev pub kind_of : ℕ → Kind
-kind_of opcode = if nat_eq opcode opcode_read then Read else if nat_eq opcode opcode_write then Write else if nat_eq opcode opcode_fsync then Fsync else Nop
+abbrev pub kind_of_opcode : ℕ → Kind
+kind_of_opcode opcode = if nat_eq opcode opcode_read then Read else if nat_eq opcode opcode_write then Write else if nat_eq opcode opcode_fsync then Fsync else Nop
 
 -- Each buffer has a page of addresses of its own, the first from 4096 on.
 abbrev pub address_of : ℕ → ℕ
@@ -35,7 +35,7 @@ serial_of u (s ∷ serials) = if nat_eq s.user_data u then s.serial else serial_
 abbrev pub request_in : List Serial → List ℕ → Request
 request_in serials bytes = record {
   serial = serial_of (sqe_user_data bytes) serials;
-  kind = kind_of (sqe_opcode bytes);
+  kind = kind_of_opcode (sqe_opcode bytes);
   fd = sqe_fd bytes;
   buffer = buffer_at (sqe_addr bytes);
   len = sqe_len bytes;
@@ -59,6 +59,12 @@ slot_in NoSlot = Closed
 slot_in VacantSlot = Vacant
 slot_in (PreparedSlot bytes) = Prepared (request_in [] bytes)
 
+-- whether the open entry is an fsync that asks for fdatasync(2)
+abbrev pub is_datasync : OpenSlot → Bool
+is_datasync NoSlot = false
+is_datasync VacantSlot = false
+is_datasync (PreparedSlot bytes) = nat_eq (sqe_flags bytes) datasync_bit
+
 abbrev pub completion_in : Cqe → Completion
 completion_in c = record { user_data = c.user_data; res = c.res }
 
@@ -67,12 +73,14 @@ is_open NoSlot = false
 is_open VacantSlot = true
 is_open (PreparedSlot bytes) = true
 
--- What clauses see of a ring of requests: the numbers of entries, the open entry, the queued requests and the
--- completions from the front, and how many requests were made.
+-- What clauses see of a ring of requests: the numbers of entries, the open entry, whether it is an fsync that asks for
+-- fdatasync(2), which no request tells, the queued requests and the completions from the front, and how many requests
+-- were made.
 pub record RequestRing : Type 0 where
   pub entries : ℕ
   pub completion_entries : ℕ
   pub slot : Slot
+  pub datasync : Bool
   pub queued : List Request
   pub completions : List Completion
   pub made : ℕ
@@ -83,6 +91,7 @@ empty_ring entries completion_entries = record {
   entries = entries;
   completion_entries = completion_entries;
   slot = Closed;
+  datasync = false;
   queued = [];
   completions = [];
   made = 0;
@@ -90,7 +99,7 @@ empty_ring entries completion_entries = record {
 
 -- the prepared request goes last into the queue, under the next serial number
 abbrev pub after_data : RequestRing → ℕ → Request → RequestRing
-after_data r u q = record r { slot = Closed; queued = r.queued ++ record q { serial = r.made + 1; user_data = u } ∷ []; made = r.made + 1 }
+after_data r u q = record r { slot = Closed; datasync = false; queued = r.queued ++ record q { serial = r.made + 1; user_data = u } ∷ []; made = r.made + 1 }
 
 abbrev pub data_of : List Request → List ℕ
 data_of rs = map (λ (r : Request). r.user_data) rs

@@ -4,5 +4,5 @@ use Rattle.std.specs.Global.{Vec}
 use Rattle.std.specs.Vec.{vec_capacity}
 
 -- The list is empty, with room for so many.
-abbrev pub HasRoom : {X : Type 0} → ℕ → Vec X → Type 0
-HasRoom n v = (v.items ≡ []) × (n ≤ vec_capacity v)
+abbrev pub HasCapacity : {X : Type 0} → ℕ → Vec X → Type 0
+HasCapacity n v = (v.items ≡ []) × (n ≤ vec_capacity v)

@@ -1,10 +1,56 @@
 -- What lies under the lock of a run, as contracts see it.
-use Rattle.std.specs.Prelude.{ℕ, Bool}
+use Rattle.std.specs.Prelude.{ℕ, ◌≡◌, ◌≢◌, ◌⊎◌, ◌<◌, Bool, true, false, ◌||◌, if◌then◌else◌, length, nat_le}
+use Rattle.rc_lang.specs.declared.lines.Line.{Line}
+use Rattle.rc_run.specs.declared.live.Turn.{Turn}
+use Rattle.rc_run.specs.declared.live.Turn.TheVariants as turn
 use Rattle.rc_run.specs.Lives.{Live}
+use Rattle.rc_run.specs.Reports.{AllEnded}
+use Rattle.rc_world.specs.declared.controls.Next.TheVariants.{Ready}
+use Rattle.rc_world.specs.Items.{next_of}
+use Rattle.rc_world.specs.Machine.{World}
 
--- The run, how many of its events are of threads and how many may be, and whether memory was refused.
+-- The run, how many of its events are of threads and how many may be, whether memory was refused, and whether a thread
+-- sleeps until there is an event more.
 pub record Table : Type 0 where
   pub run : Live
   pub turns : ℕ
   pub limit : ℕ
   pub memory : Bool
+  pub awaited : Bool
+
+-- nothing is counted
+abbrev pub new_table : Live → ℕ → Table
+new_table run limit = record { run = run; turns = 0; limit = limit; memory = false; awaited = false }
+
+-- Memory was refused, or the limit is reached.
+abbrev pub is_stopped : Table → Bool
+is_stopped t = t.memory || nat_le t.limit t.turns
+
+-- memory was refused
+abbrev pub after_refusal : Table → Table
+after_refusal t = record t { memory = true }
+
+-- A turn is refused where the threads are to stop, and else for want of memory alone.
+abbrev pub after_no_turn : Table → Table
+after_no_turn t = if is_stopped t then t else after_refusal t
+
+-- An answer with an event is a turn.
+abbrev pub turns_by : Turn → ℕ
+turns_by (turn.Done e) = 1
+turns_by turn.Waits = 0
+turns_by turn.Ended = 0
+
+-- The threads are to stop, or each has ended.
+abbrev pub IsOver : Table → Type 0
+IsOver t = (is_stopped t ≡ true) ⊎ AllEnded t.run.world
+
+-- Another thread than the i-th can make a step.
+abbrev pub OtherMoves : World → ℕ → Type 0
+OtherMoves w i = (j : ℕ) × (j ≢ i) × ((l : Line) × (next_of w.program w.controls j ≡ Ready l))
+
+-- No event came since there were so many, the threads go on, and there is something to wait for: that a request
+-- completes, or that another thread makes an event.
+pub record MayWait (t : Table) (i seen : ℕ) : Type 0 where
+  pub same : length t.run.history ≡ seen
+  pub goes_on : is_stopped t ≡ false
+  pub something : (0 < length t.run.world.pending) ⊎ OtherMoves t.run.world i

@@ -9,7 +9,7 @@ ghost use Rattle.rc_world.specs.Runs.{IsRun, IsSafe};
 ghost use Rattle.rc_run.specs.Calm.{IsCalm};
 ghost use Rattle.rc_run.specs.Jobs.{allows};
 ghost use Rattle.rc_run.specs.Lives.{IsAsked, IsInOrder, IsNotOut, Lent, Posted, Turned, begun, free, is_free};
-ghost use Rattle.rc_run.specs.Machine.{view_pending, world_of};
+ghost use Rattle.rc_run.specs.Machine.{pending_of, world_of};
 
 use crate::job::Job;
 use crate::machine::{Machine, Pending};
@@ -95,6 +95,7 @@ impl Live {
     }
 
     /// What a thread has next.
+    #[inline(always)]
     pub fn next(&self, thread: u32) -> Next
         ensures { result ≡ next_of self.now.world.program self.now.world.controls thread }
     {

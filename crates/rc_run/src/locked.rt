@@ -1,9 +1,11 @@
 //! What lies under the lock of a run.
 
-ghost use Rattle.std.specs.Prelude.{◌≡◌, ◌≢◌, ◌⊎◌, ◌≤◌, ℕ, ℤ, negsuc, ◌≤ℤ◌, [], true, length, IfErr, IfNone, IfSome, MatchOption, OnOk};
+ghost use Rattle.std.specs.Prelude.{◌≡◌, ◌≢◌, ◌⊎◌, ◌↔◌, ◌||◌, ◌+◌, ◌≤◌, ℕ, ℤ, negsuc, ◌≤ℤ◌, [], true, false, length, IfErr, IfNone, IfSome, IsTrue, MatchOption, OnOk};
 ghost use Rattle.rc_run.specs.Jobs.{allows};
 ghost use Rattle.rc_run.specs.Reports.{AllEnded, AllGiven, IsUnended, is_turn};
-ghost use Rattle.rc_run.specs.Lives.{IsNotOut, Lent, Posted, Turned};
+ghost use Rattle.rc_run.specs.Lives.{IsNotOut, Lent, Posted, Turned, free};
+ghost use Rattle.rc_run.specs.Table.{IsOver, MayWait, OtherMoves, after_no_turn, after_refusal, is_stopped, new_table, turns_by};
+ghost use Rattle.rc_world.specs.Items.{next_of};
 
 use crate::job::Job;
 use crate::live::{Live, Turn};
@@ -36,7 +38,7 @@ pub struct Locked<D: Device, L: Ledger> {
     of: PhantomData<D>,
 }
 
-// Clauses see the run, its turns, their limit, and whether memory was refused.
+// Clauses see all but the book.
 impl<D: Device, L: Ledger> Model for Locked<D, L> {
     ghost use Rattle.std.specs.Prelude.{◌≡◌, length, count_by};
     ghost use Rattle.rc_run.specs.Reports.{AllGiven, is_turn};
@@ -44,7 +46,7 @@ impl<D: Device, L: Ledger> Model for Locked<D, L> {
 
     ghost Value = { Table };
 
-    ghost view = { λ s. record { run = s.live; turns = s.turns; limit = s.limit; memory = s.memory } };
+    ghost view = { λ s. record { run = s.live; turns = s.turns; limit = s.limit; memory = s.memory; awaited = s.awaited } };
 
     ghost invariant = { λ s.
         (length s.live.history ≡ s.events.total) × AllGiven D.gives s.live.history
@@ -56,7 +58,7 @@ impl<D: Device, L: Ledger> Locked<D, L> {
     pub fn new(live: Live, events: Book<L>, limit: u64) -> Locked<D, L>
         requires live { live.history ≡ [] }
         requires total { events.total ≡ 0 }
-        ensures { result.run ≡ live }
+        ensures { result ≡ new_table live limit }
     {
         Locked {
             live,
@@ -88,7 +90,9 @@ impl<D: Device, L: Ledger> Locked<D, L> {
     pub fn turn(&mut self, thread: u32, take: i32, mine: &mut Counted<L>) -> Option<Turn>
         requires { negsuc 4094 ≤ℤ take }
         ensures some { IfSome result (λ t. Turned self.old.run thread take t self.new.run) }
-        ensures none { IfNone result (self.new.run ≡ self.old.run) }
+        ensures goes_on { IfSome result (λ _. is_stopped self.old ≡ false) }
+        ensures counted { IfSome result (λ t. self.new ≡ record self.old { run = self.new.run; turns = self.old.turns + turns_by t }) }
+        ensures none { IfNone result (self.new ≡ after_no_turn self.old) }
     {
         if self.memory || self.turns >= self.limit {
             return None;
@@ -118,7 +122,8 @@ impl<D: Device, L: Ledger> Locked<D, L> {
     /// Lends a job, if there is one. Where memory is refused that is noted.
     pub fn take_job(&mut self, choice: u32) -> Option<Job>
         ensures some { IfSome result (λ j. Lent self.old.run choice j self.new.run) }
-        ensures none { IfNone result (self.new.run ≡ self.old.run) }
+        ensures rest { IfSome result (λ _. self.new ≡ record self.old { run = self.new.run }) }
+        ensures none { IfNone result (((free self.old.run ≡ []) × (self.new ≡ self.old)) ⊎ (self.new ≡ after_refusal self.old)) }
     {
         match self.live.take_job(choice) {
             Ok(job) => job,
@@ -134,7 +139,8 @@ impl<D: Device, L: Ledger> Locked<D, L> {
         requires allowed { allows job res ≡ true }
         requires given { D.gives job.request.user_data res ⊎ (res ≡ negsuc 11) }
         ensures ok { OnOk result (Posted self.old.run job res self.new.run) }
-        ensures err { IfErr result (λ j. (j ≡ job) × (self.new.run ≡ self.old.run) × IsNotOut self.old.run job.request) }
+        ensures rest { OnOk result (self.new ≡ record self.old { run = self.new.run }) }
+        ensures err { IfErr result (λ j. (j ≡ job) × (self.new ≡ self.old) × IsNotOut self.old.run job.request) }
     {
         let Counted {
             events: count,
@@ -154,7 +160,7 @@ impl<D: Device, L: Ledger> Locked<D, L> {
 
     /// Notes that memory was refused.
     pub fn refuse(&mut self)
-        ensures { self.new.run ≡ self.old.run }
+        ensures { self.new ≡ after_refusal self.old }
     {
         self.memory = true;
     }
@@ -176,33 +182,44 @@ impl<D: Device, L: Ledger> Locked<D, L> {
     }
 
     /// Whether the threads are to stop.
-    pub fn is_over(&self) -> bool {
+    pub fn is_over(&self) -> bool
+        ensures { IsTrue result ↔ IsOver self.now }
+    {
         self.is_stopped() || unended(&self.live).is_none()
     }
 
     /// Whether a worker has nothing to do yet.
-    pub fn is_idle(&self) -> bool {
+    pub fn is_idle(&self) -> bool
+        ensures { IsTrue result ↔ ((free self.now.run ≡ []) × ¬ IsOver self.now) }
+    {
         self.live.free() == 0 && !self.is_over()
     }
 
     /// Whether a thread that saw so many events has something to wait for: that a request completes, or that another
     /// thread makes an event.
-    pub fn may_wait(&self, thread: u32, seen: usize) -> bool {
+    pub fn may_wait(&self, thread: u32, seen: usize) -> bool
+        ensures { IsTrue result ↔ MayWait self.now thread seen }
+    {
         self.len() == seen
             && !self.is_stopped()
             && (self.live.pending() > 0 || self.other_moves(thread))
     }
 
-    /// Notes that a thread sleeps until there is an event more.
-    pub fn listen(&mut self)
-        ensures { self.new ≡ self.old }
+    /// Whether a thread that saw so many events has something to wait for; then it is noted that it sleeps until there is
+    /// an event more. Who is woken before that asks again, so that the note stands whenever it sleeps.
+    pub fn listen(&mut self, thread: u32, seen: usize) -> bool
+        ensures value { IsTrue result ↔ MayWait self.old thread seen }
+        ensures noted { self.new ≡ record self.old { awaited = self.old.awaited || result } }
     {
-        self.awaited = true;
+        let waits = self.may_wait(thread, seen);
+        self.awaited = self.awaited || waits;
+        waits
     }
 
     /// Whether a thread was noted to sleep since the last such question.
     pub fn is_heard(&mut self) -> bool
-        ensures { self.new ≡ self.old }
+        ensures value { result ≡ self.old.awaited }
+        ensures forgotten { self.new ≡ record self.old { awaited = false } }
     {
         let heard = self.awaited;
         self.awaited = false;
@@ -210,12 +227,16 @@ impl<D: Device, L: Ledger> Locked<D, L> {
     }
 
     // Whether the limit is reached or memory was refused.
-    fn is_stopped(&self) -> bool {
+    fn is_stopped(&self) -> bool
+        ensures { result ≡ is_stopped self.now }
+    {
         self.memory || self.turns >= self.limit
     }
 
     // Whether another thread than this one can go on.
-    fn other_moves(&self, thread: u32) -> bool {
+    fn other_moves(&self, thread: u32) -> bool
+        ensures { IsTrue result ↔ OtherMoves self.now.run.world thread }
+    {
         for other in 0..self.live.admitted().program().threads().len() as u32 {
             if other == thread {
                 continue;

@@ -12,10 +12,10 @@ ghost use Rattle.rc_world.specs.Items.{next_of};
 ghost use Rattle.rc_world.specs.Kept.{IsKept};
 ghost use Rattle.rc_world.specs.declared.world.Slot.TheVariants.{Closed};
 ghost use Rattle.rc_world.specs.Machine as machine;
-ghost use Rattle.rc_world.specs.Machine.{brings};
+ghost use Rattle.rc_world.specs.Machine.{bytes_brought};
 ghost use Rattle.rc_world.specs.WorldParts.{begun_buffers, begun_pending, view_bytes};
 ghost use Rattle.rc_run.specs.Held.{AreDistinct};
-ghost use Rattle.rc_run.specs.Machine.{IsClosedAt, IsFreshAt, IsPrepOrPlain, IsSameRest, IsSized, byte_by, byte_in, call_step, completed_by, given_to, prepared_by, taken_by, view_pending, world_of};
+ghost use Rattle.rc_run.specs.Machine.{IsClosedAt, IsFreshAt, IsPrepOrPlain, IsSameRest, IsSized, byte_by, byte_in, call_step, completed_by, datasync_by, datasync_by_call, given_to, pending_of, prepared_by, submit_answer, world_of};
 ghost use Rattle.rc_run.specs.Lives.{IsJobOf};
 ghost use Rattle.rc_run.specs.Calm.{IsCalm};
 ghost use Rattle.rc_run.specs.Requests.{data_of};
@@ -105,7 +105,7 @@ impl Machine {
 
     /// What a submit that is granted this answers.
     pub fn taken(&self, take: i32) -> i32
-        ensures { result ≡ taken_by (world_of self.now) take }
+        ensures { result ≡ submit_answer (world_of self.now) take }
     {
         match u32::try_from(take) {
             Ok(count) => count.min(self.ring.queued()) as i32,
@@ -116,7 +116,7 @@ impl Machine {
     // What the world answers to a statement.
     fn answer(&self, taken: i32, stmt: Stmt) -> Answer
         requires { IsSized self.now }
-        ensures { result ≡ machine.answer_of (world_of self.now) taken stmt }
+        ensures { result ≡ machine.stmt_answer (world_of self.now) taken stmt }
     {
         match stmt {
             Stmt::Do(Op::Load(_, buffer, i)) => self.byte(buffer, i),
@@ -182,6 +182,9 @@ impl Machine {
         ensures step { MatchResult result
             (λ e. machine.thread_step (world_of self.old) thread taken ≡ Some (e, world_of self.new))
             (λ _. world_of self.new ≡ world_of self.old) }
+        ensures datasync { MatchResult result
+            (λ _. self.new.ring.datasync ≡ datasync_by line.stmt self.old.ring.datasync)
+            (λ _. self.new.ring.datasync ≡ self.old.ring.datasync) }
         ensures rest { IsSameRest self.old self.new }
     {
         let answer = self.answer(taken, line.stmt);
@@ -203,6 +206,9 @@ impl Machine {
         ensures step { MatchResult result
             (λ e. call_step (world_of self.old) thread op taken answer ≡ Some (e, world_of self.new))
             (λ _. world_of self.new ≡ world_of self.old) }
+        ensures datasync { MatchResult result
+            (λ _. self.new.ring.datasync ≡ datasync_by_call op self.old.ring.datasync)
+            (λ _. self.new.ring.datasync ≡ self.old.ring.datasync) }
         ensures rest { IsSameRest self.old self.new }
     {
         match op {
@@ -250,6 +256,7 @@ impl Machine {
         requires plain { IsPrepOrPlain op }
         requires step { IsSome (prepared_by (world_of self.old) op) }
         ensures step { prepared_by (world_of self.old) op ≡ Some (world_of self.new) }
+        ensures datasync { self.new.ring.datasync ≡ datasync_by_call op self.old.ring.datasync }
         ensures rest { IsSameRest self.old self.new }
         ensures controls { self.new.controls ≡ self.old.controls }
     {
@@ -275,6 +282,7 @@ impl Machine {
         ensures step { MatchResult result
             (λ _. world_of self.new ≡ machine.hands_over (world_of self.old) (machine.count_in taken))
             (λ _. world_of self.new ≡ world_of self.old) }
+        ensures datasync { self.new.ring.datasync ≡ self.old.ring.datasync }
         ensures rest { IsSameRest self.old self.new }
         ensures controls { self.new.controls ≡ self.old.controls }
     {
@@ -290,6 +298,7 @@ impl Machine {
         requires step { IsSome (machine.reaps_front (world_of self.old) self.old.ring.completions) }
         requires sized { IsSized self.old }
         ensures step { machine.reaps_front (world_of self.old) self.old.ring.completions ≡ Some (world_of self.new) }
+        ensures datasync { self.new.ring.datasync ≡ self.old.ring.datasync }
         ensures rest { IsSameRest self.old self.new }
         ensures controls { self.new.controls ≡ self.old.controls }
     {
@@ -329,12 +338,13 @@ impl Machine {
         requires step { IsSome (completed_by (world_of self.old) place res bytes.now) }
         requires kept { IsKept (world_of self.old) }
         requires ring { length self.old.ring.completions < self.old.ring.completion_entries }
-        requires enough { (p : machine.Pending) → slice_get (world_of self.old).pending place ≡ Some p → brings p.request ≤ length bytes.now }
+        requires enough { (p : machine.Pending) → slice_get (world_of self.old).pending place ≡ Some p → bytes_brought p.request ≤ length bytes.now }
         requires room { vec_len self.old.completed < vec_capacity self.old.completed }
         ensures step { completed_by (world_of self.old) place res bytes.now ≡ Some (result, world_of self.new) }
         ensures sized { IsSized self.new }
         ensures admitted { self.new.admitted ≡ self.old.admitted }
         ensures made { self.new.ring.made ≡ self.old.ring.made }
+        ensures datasync { self.new.ring.datasync ≡ self.old.ring.datasync }
         ensures completed { vec_len self.new.completed ≡ vec_len self.old.completed + 1 }
         ensures room { vec_capacity self.new.completed ≡ vec_capacity self.old.completed }
     {
@@ -408,8 +418,8 @@ fn begin_all(
 )
     requires room { vec_len pending.old + count ≤ vec_capacity pending.old }
     requires queued { count ≤ length ring.now.queued }
-    ensures pending { map view_pending pending.new.items
-        ≡ begun_pending (map view_pending pending.old.items) (map view_bytes buffers.old.items) (take count ring.now.queued) }
+    ensures pending { map pending_of pending.new.items
+        ≡ begun_pending (map pending_of pending.old.items) (map view_bytes buffers.old.items) (take count ring.now.queued) }
     ensures buffers { map view_bytes buffers.new.items ≡ begun_buffers (map view_bytes buffers.old.items) (take count ring.now.queued) }
 {
     for i in 0..count {

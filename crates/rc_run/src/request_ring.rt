@@ -1,6 +1,6 @@
 //! The requests that the entries of a ring ask for.
 
-ghost use Rattle.std.specs.Prelude.{◌≡◌, ◌+◌, ◌<◌, ◌≤◌, ◌^◌, [], ◌∷◌, ◌++◌, length, drop, slice_get, Some, IfOk, OnOk, OnErr, ℤ};
+ghost use Rattle.std.specs.Prelude.{◌≡◌, ◌+◌, ◌<◌, ◌≤◌, ◌^◌, false, [], ◌∷◌, ◌++◌, length, drop, slice_get, Some, IfOk, OnOk, OnErr, ℤ};
 ghost use Rattle.std.specs.Int.{IsPowerOfTwo};
 ghost use Rattle.rc_entry.specs.Spelling.{SpellsEntry};
 ghost use Rattle.rc_entry.specs.declared.Entry.{Entry as SpecEntry};
@@ -72,7 +72,7 @@ impl RequestRing {
     pub fn open(&mut self)
         requires closed { self.old.slot ≡ Closed }
         requires room { length self.old.queued < self.old.entries }
-        ensures { self.new ≡ record self.old { slot = Vacant } }
+        ensures { self.new ≡ record self.old { slot = Vacant; datasync = false } }
     {
         let slot = self.ring.get_sqe().unwrap();
         slot.park(&mut self.ring);
@@ -81,7 +81,7 @@ impl RequestRing {
     /// Makes the open entry a read.
     pub fn prepare_read(&mut self, fd: i32, buffer: u32, len: u32, off: u32)
         requires { self.old.slot ≡ Vacant }
-        ensures { self.new ≡ record self.old { slot = Prepared (new_request Read fd buffer len off) } }
+        ensures { self.new ≡ record self.old { slot = Prepared (new_request Read fd buffer len off); datasync = false } }
     {
         let slot = self.ring.resume_vacant();
         let slot = slot.prep_read(&mut self.ring, fd, address_of(buffer), len, u64::from(off));
@@ -91,17 +91,17 @@ impl RequestRing {
     /// Makes the open entry a write.
     pub fn prepare_write(&mut self, fd: i32, buffer: u32, len: u32, off: u32)
         requires { self.old.slot ≡ Vacant }
-        ensures { self.new ≡ record self.old { slot = Prepared (new_request Write fd buffer len off) } }
+        ensures { self.new ≡ record self.old { slot = Prepared (new_request Write fd buffer len off); datasync = false } }
     {
         let slot = self.ring.resume_vacant();
         let slot = slot.prep_write(&mut self.ring, fd, address_of(buffer), len, u64::from(off));
         slot.park(&mut self.ring);
     }
 
-    /// Makes the open entry an fsync.
+    /// Makes the open entry an fsync, or with `datasync` an fdatasync.
     pub fn prepare_fsync(&mut self, fd: i32, datasync: bool)
         requires { self.old.slot ≡ Vacant }
-        ensures { self.new ≡ record self.old { slot = Prepared (new_request Fsync fd 0 0 0) } }
+        ensures { self.new ≡ record self.old { slot = Prepared (new_request Fsync fd 0 0 0); datasync = datasync } }
     {
         let slot = self.ring.resume_vacant();
         let slot = slot.prep_fsync(&mut self.ring, fd, datasync);
@@ -111,7 +111,7 @@ impl RequestRing {
     /// Makes the open entry a nop.
     pub fn prepare_nop(&mut self)
         requires { self.old.slot ≡ Vacant }
-        ensures { self.new ≡ record self.old { slot = Prepared prepared_nop } }
+        ensures { self.new ≡ record self.old { slot = Prepared prepared_nop; datasync = false } }
     {
         let slot = self.ring.resume_vacant();
         let slot = slot.prep_nop(&mut self.ring);

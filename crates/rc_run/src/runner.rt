@@ -3,8 +3,9 @@
 ghost use Rattle.std.specs.Prelude.{◌≡◌, ◌≢◌, ◌⊎◌, ◌+◌, ◌<◌, ◌≤◌, ℤ, pos, negsuc, ◌≤ℤ◌, [], true, Err, IfOk, count_by, length, sum, vec_capacity, vec_len};
 ghost use Rattle.std.specs.Arc.{arc_value};
 ghost use Rattle.rc_run.specs.Jobs.{allows};
+ghost use Rattle.rc_run.specs.Lives.{begun};
 ghost use Rattle.rc_run.specs.Reports.{Tells, is_turn};
-ghost use Rattle.rc_run.specs.Rooms.{HasRoom};
+ghost use Rattle.rc_run.specs.Rooms.{HasCapacity};
 
 use crate::gate::Gate;
 use crate::job::Job;
@@ -103,7 +104,7 @@ fn draw<D: Device, C: Chooser, L: Ledger, R: Wait>(rt: &R, shared: &Shared<D, C,
     shared.chooser.lock(rt).pick(n)
 }
 
-// What a submit is to take, where so many entries are queued: so many of them, or -11 (EAGAIN).
+// What a submit is to take, where so many entries are queued: at most as many, or -11 (EAGAIN).
 fn draw_take<D: Device, C: Chooser, L: Ledger, R: Wait>(
     rt: &R,
     shared: &Shared<D, C, L>,
@@ -194,12 +195,11 @@ fn rest<D: Device, C: Chooser, L: Ledger, R: Wait>(
 ) -> bool {
     match brought {
         Brought::NoCompletion => {
-            let mut guard = shared.locked.lock(rt);
+            let guard = shared.locked.lock(rt);
             let waits = guard.may_wait(thread, seen);
-            guard.listen();
             shared
                 .moved
-                .wait_while(rt, guard, |l| l.may_wait(thread, seen));
+                .wait_while(rt, guard, |l| l.listen(thread, seen));
             !waits
         }
         Brought::FreeLock => {
@@ -431,8 +431,8 @@ struct Rooms<L: Ledger> {
 }
 
 fn make_rooms<L: Ledger>(alloc: Global, threads: u32) -> Result<Rooms<L>, AllocError>
-    ensures players { IfOk result (λ r. HasRoom threads r.players × HasRoom threads r.turns) }
-    ensures workers { IfOk result (λ r. HasRoom WORKERS r.workers × HasRoom WORKERS r.posts) }
+    ensures players { IfOk result (λ r. HasCapacity threads r.players × HasCapacity threads r.turns) }
+    ensures workers { IfOk result (λ r. HasCapacity WORKERS r.workers × HasCapacity WORKERS r.posts) }
 {
     let players = Vec::with_capacity(alloc, threads as usize)?;
     let workers = Vec::with_capacity(alloc, WORKERS)?;
@@ -446,12 +446,58 @@ fn make_rooms<L: Ledger>(alloc: Global, threads: u32) -> Result<Rooms<L>, AllocE
     })
 }
 
+// The run at its start, and the lists.
+fn begin<L: Ledger>(
+    alloc: Global,
+    admitted: &Arc<Admitted, Global>,
+    threads: u32,
+) -> Result<(Live, Rooms<L>), AllocError>
+    ensures live { IfOk result (λ r. r.0 ≡ begun (arc_value admitted.now)) }
+    ensures players { IfOk result (λ r. HasCapacity threads r.1.players × HasCapacity threads r.1.turns) }
+    ensures workers { IfOk result (λ r. HasCapacity WORKERS r.1.workers × HasCapacity WORKERS r.1.posts) }
+{
+    let live = Live::start(alloc, Arc::try_clone(admitted)?)?;
+    Ok((live, make_rooms(alloc, threads)?))
+}
+
 // What the threads counted, with a share that has all their parts.
 #[derive(Drop)]
 struct Tally<L: Ledger> {
     turns: Vec<u64>,
     posts: Vec<u64>,
     all: Share<L>,
+}
+
+// Starts the threads, and waits for each.
+fn play_all<
+    's,
+    E,
+    D: Device + Drop + Send + 's,
+    C: Chooser + Drop + Send + 's,
+    G: Gate + Sync + 's,
+    L: Ledger + Send + Sync + 's,
+    R: Threads + Wait + Sync + 's,
+>(
+    scope: &Scope<'s, E>,
+    rt: &'s R,
+    shared: &'s Shared<D, C, L>,
+    gate: &'s G,
+    threads: u32,
+    rooms: Rooms<L>,
+    mut all: Share<L>,
+) -> Tally<L>
+    requires players { HasCapacity threads rooms.players × HasCapacity threads rooms.turns }
+    requires workers { HasCapacity WORKERS rooms.workers × HasCapacity WORKERS rooms.posts }
+    requires parts { all.parts ≡ threads + WORKERS }
+    requires amount { all.amount ≡ 0 }
+    ensures parts { result.all.parts ≡ threads + WORKERS }
+    ensures amount { result.all.amount ≡ sum result.turns.items + sum result.posts.items }
+{
+    let players = start_players(scope, rt, shared, gate, threads, rooms.players, &mut all);
+    let workers = start_workers(scope, rt, shared, rooms.workers, &mut all);
+    let turns = joined(rt, players, rooms.turns, &mut all);
+    let posts = joined(rt, workers, rooms.posts, &mut all);
+    Tally { turns, posts, all }
 }
 
 // Runs the threads to their ends.
@@ -467,10 +513,10 @@ fn together<
     gate: &G,
     threads: u32,
     rooms: Rooms<L>,
-    mut all: Share<L>,
+    all: Share<L>,
 ) -> Tally<L>
-    requires players { HasRoom threads rooms.players × HasRoom threads rooms.turns }
-    requires workers { HasRoom WORKERS rooms.workers × HasRoom WORKERS rooms.posts }
+    requires players { HasCapacity threads rooms.players × HasCapacity threads rooms.turns }
+    requires workers { HasCapacity WORKERS rooms.workers × HasCapacity WORKERS rooms.posts }
     requires parts { all.parts ≡ threads + WORKERS }
     requires amount { all.amount ≡ 0 }
     ensures parts { result.all.parts ≡ threads + WORKERS }
@@ -480,25 +526,13 @@ fn together<
         thread::scope_env(),
         rt,
         move |scope| -> Tally<L>
-            requires players { HasRoom threads rooms.players × HasRoom threads rooms.turns }
-            requires workers { HasRoom WORKERS rooms.workers × HasRoom WORKERS rooms.posts }
+            requires players { HasCapacity threads rooms.players × HasCapacity threads rooms.turns }
+            requires workers { HasCapacity WORKERS rooms.workers × HasCapacity WORKERS rooms.posts }
             requires parts { all.parts ≡ threads + WORKERS }
             requires amount { all.amount ≡ 0 }
             ensures parts { result.all.parts ≡ threads + WORKERS }
             ensures amount { result.all.amount ≡ sum result.turns.items + sum result.posts.items }
-        {
-            let Rooms {
-                players,
-                workers,
-                turns,
-                posts,
-            } = rooms;
-            let players = start_players(scope, rt, shared, gate, threads, players, &mut all);
-            let workers = start_workers(scope, rt, shared, workers, &mut all);
-            let turns = joined(rt, players, turns, &mut all);
-            let posts = joined(rt, workers, posts, &mut all);
-            Tally { turns, posts, all }
-        },
+        { play_all(scope, rt, shared, gate, threads, rooms, all) },
     )
 }
 
@@ -594,13 +628,7 @@ fn run_in<
     ensures { Tells D.gives (arc_value admitted) limit result }
 {
     let device = Mutex::new(device);
-    let Ok(theirs) = admitted.clone() else {
-        return refused(&device, alloc, &admitted, limit);
-    };
-    let Ok(live) = Live::start(alloc, theirs) else {
-        return refused(&device, alloc, &admitted, limit);
-    };
-    let Ok(rooms) = make_rooms(alloc, threads) else {
+    let Ok((live, rooms)) = begin(alloc, &admitted, threads) else {
         return refused(&device, alloc, &admitted, limit);
     };
     let (book, all) = blank.open::<L>();

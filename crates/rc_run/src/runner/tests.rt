@@ -324,6 +324,67 @@ fn run_starves_every_job(rt: HostRuntime) -> Result<(), Fail> {
     Ok(())
 }
 
+/// Leaves the processor to the others for some milliseconds.
+fn linger() {
+    for _ in 0..20000 {
+        thread::yield_now();
+    }
+}
+
+/// Holds the turn with which thread 0 ends until thread 1 has had time to sleep.
+#[derive(Drop)]
+struct LateEnd(Arc<Flags, Global>);
+
+impl Gate for LateEnd {
+    fn pass(&self, thread: u32, turn: u64) {
+        if thread == 0 && turn == 10 {
+            linger();
+            self.0.first.store(true, Ordering::SeqCst);
+        }
+    }
+
+    fn answered(&self, _thread: u32, _turn: u64) {}
+}
+
+/// A disk that serves once thread 0 has had time to end.
+#[derive(Drop)]
+struct AfterEnd {
+    disk: Disk,
+    flags: Arc<Flags, Global>,
+}
+
+impl Device for AfterEnd {
+    ghost use Rattle.std.specs.Prelude.{pos, negsuc, ◌≤ℤ◌};
+
+    ghost gives = { λ _ res. (negsuc 4094 ≤ℤ res) × (res ≤ℤ pos 4096) };
+
+    fn serve(&mut self, request: &Request, bytes: &mut [u8], _grant: i32) -> i32 {
+        if !comes(&self.flags.first) {
+            self.flags.missed.store(true, Ordering::SeqCst);
+        }
+        linger();
+        self.disk.serve(request, bytes, 5)
+    }
+}
+
+#[test]
+fn a_sleeper_that_an_end_wakes_is_woken_again(rt: HostRuntime) -> Result<(), Fail> {
+    let alloc = rt.alloc();
+    let flags = Arc::new(alloc, Flags::new())?;
+    let admitted = admitted(alloc, HANDOFF)?;
+    let device = AfterEnd {
+        disk: Disk::new(alloc, admitted.program())?,
+        flags: Arc::try_clone(&flags)?,
+    };
+    let gate = LateEnd(Arc::try_clone(&flags)?);
+    let report = run(&rt, alloc, admitted, device, LastButOne, gate, 1000000)
+        .ok()
+        .ok_or("ends")?;
+    assert!(rt; !flags.missed.load(Ordering::SeqCst));
+    assert_eq!(rt; report.turns.first(), Some(&9));
+    Ok(())
+}
+
 #[test]
 fn run_always_out_of_memory(rt: HostRuntime) -> Result<(), Fail> {
     let refused = match seeded(&rt, rt.alloc(), HANDOFF, 1, 1000000)? {

@@ -1,4 +1,4 @@
-use Rattle.std.proofs.Common.{◌≡◌, ◌<◌, ◌≤◌, ◌++◌, ◌∷◌, [], ℕ, ℤ, List, length, w32, IsSome, Some, true, false, to_z, of_z, refl, rules, sym, ap, subst, ◌∙◌}
+use Rattle.std.proofs.Common.{◌≡◌, ◌<◌, ◌≤◌, Bool, ◌++◌, ◌∷◌, [], ℕ, ℤ, List, length, w32, IsSome, Some, true, false, to_z, of_z, refl, rules, sym, ap, subst, ◌∙◌}
 use Rattle.std.specs.Prelude.{slice_get}
 use Rattle.std.specs.Arc.{arc_value}
 use Rattle.std.proofs.lemmas.Int.{to_z-of_z}
@@ -6,12 +6,12 @@ use Rattle.std.proofs.lemmas.Option.{same_Some}
 use Rattle.rc_lang.specs.declared.request.Kind.TheVariants.{Write}
 use Rattle.rc_lang.specs.declared.request.Request.{Request}
 use Rattle.rc_world.specs.declared.event.Event.{Event}
-use Rattle.rc_world.specs.Machine.{Pending, brings}
+use Rattle.rc_world.specs.Machine.{Pending, bytes_brought, without}
 use Rattle.rc_run.specs.declared.machine.Pending.{Pending as PendingPart}
 use Rattle.rc_run.specs.Calm.{IsCalm}
 use Rattle.rc_run.specs.LiveParts.{live_of}
 use Rattle.rc_run.specs.Lives.{IsAsked, IsNotOut, Live, Posted}
-use Rattle.rc_run.specs.Machine.{completed_by, view_pending, world_of}
+use Rattle.rc_run.specs.Machine.{completed_by, pending_of, world_of}
 use Rattle.rc_run.proofs.Posting.{asked_here, asked_within, completes, enough, not_out, posted, posted_leads}
 use Rattle.rc_run.proofs.live.Live.post.Goals as goal
 
@@ -45,7 +45,7 @@ complete-event-requires-clause-step c =
     let read = to_z-of_z w32 c.args.res c.ranges.res in
     subst (λ (xs : List ℕ). IsSome (completed_by w c.in-Some.place (to_z w32 (of_z w32 c.args.res)) xs)) (sym bytes)
     (subst (λ (z : ℤ). IsSome (completed_by w c.in-Some.place z c.args.job.bytes)) (sym read)
-    (completes w calm c.in-Some.place (view_pending asked.part) here c.args.job (sym asked.same) fed starved c.args.res c.requires))
+    (completes w calm c.in-Some.place (pending_of asked.part) here c.args.job (sym asked.same) fed starved c.args.res c.requires))
 
 pub complete-event-requires-clause-ring : goal.complete-event-requires-clause-ring
 complete-event-requires-clause-ring c =
@@ -55,7 +55,7 @@ complete-event-requires-clause-ring c =
     (subst (λ (r : Request). IsAsked c.deref.result.now r c.in-Some.place) c.request-request.ensures.value c.in-Some.ensures.some) in
     let here = asked_here items c.args.job.request c.in-Some.place asked in
     subst (λ n. length c.self.inside.machine.ring.completions < n) (sym c.self.invariant.sized.completion_entries)
-    (calm.has_room c.in-Some.place c.args.job.request (view_pending asked.part, here, asked.same))
+    (calm.has_room c.in-Some.place c.args.job.request (pending_of asked.part, here, asked.same))
 
 pub complete-event-requires-clause-enough : goal.complete-event-requires-clause-enough
 complete-event-requires-clause-enough c p at =
@@ -69,9 +69,9 @@ complete-event-requires-clause-enough c p at =
     let fed = subst (λ (r : Request). c.args.job.starved ≡ false → r.len ≤ length c.args.job.bytes) j.value j.enough in
     let starved = subst (λ (r : Request). c.args.job.starved ≡ true → r.kind ≡ Write) j.value j.starved in
     let bytes = c.deref-3.ensures.value ∙ c.into_parts-bytes.ensures.bytes in
-    let le = enough w calm c.in-Some.place (view_pending asked.part) here c.args.job (sym asked.same) fed starved in
-    subst (λ (q : Pending). brings q.request ≤ length c.deref-3.result.now) (same_Some _ _ (sym here ∙ at))
-    (subst (λ (xs : List ℕ). brings asked.part.request ≤ length xs) (sym bytes) le)
+    let le = enough w calm c.in-Some.place (pending_of asked.part) here c.args.job (sym asked.same) fed starved in
+    subst (λ (q : Pending). bytes_brought q.request ≤ length c.deref-3.result.now) (same_Some _ _ (sym here ∙ at))
+    (subst (λ (xs : List ℕ). bytes_brought asked.part.request ≤ length xs) (sym bytes) le)
 
 pub invariant_of-self : goal.invariant_of-self
 invariant_of-self c =
@@ -89,7 +89,7 @@ invariant_of-self c =
     let read = to_z-of_z w32 c.args.res c.ranges.res in
     let step = ap (λ (z : ℤ). completed_by w c.in-Some.place z c.args.job.bytes) (sym read) ∙ ap (completed_by w c.in-Some.place (to_z w32 (of_z w32 c.args.res))) (sym bytes) ∙ c.complete-event.ensures.step in
     record {
-      leads = posted_leads w calm c.in-Some.place (view_pending asked.part) here c.args.job (sym asked.same) fed starved
+      leads = posted_leads w calm c.in-Some.place (pending_of asked.part) here c.args.job (sym asked.same) fed starved
           (arc_value a.machine.admitted) (arc_value c.complete-event.new.self.admitted) v a.history.items c.push_reserved.new.self.items c.args.res c.complete-event.result
           c.self.invariant.leads step (ap arc_value c.complete-event.ensures.admitted) (search rules);
       sized = c.complete-event.ensures.sized;
@@ -109,7 +109,12 @@ returns-clause-ok c =
     let read = to_z-of_z w32 c.args.res c.ranges.res in
     let step = ap (λ (z : ℤ). completed_by w c.in-Some.place z c.args.job.bytes) (sym read) ∙ ap (completed_by w c.in-Some.place (to_z w32 (of_z w32 c.args.res))) (sym bytes) ∙ c.complete-event.ensures.step in
     let out : slice_get a.out.items c.in-Some-number_of.number ≡ Some c.args.job.request.serial = search rules in
-    let with : List Event → List ℕ → Live = λ h o. record { history = h; world = v; out = o } in
-    let after = ap (λ h. with h c.remove.new.self.items) c.push_reserved.ensures.items ∙ ap (with (a.history.items ++ c.complete-event.result ∷ [])) c.remove.ensures.items in
-    subst (λ (s : Live). Posted s c.args.job c.args.res (with c.push_reserved.new.self.items c.remove.new.self.items)) c.self.view_is
-    (posted (live_of a) (with c.push_reserved.new.self.items c.remove.new.self.items) a.machine.pending.items c.args.job c.args.res c.in-Some.place c.in-Some-number_of.number asked c.complete-event.result refl out step after)
+    let d = c.complete-event.new.self.ring.datasync in
+    let with : List Event → List ℕ → Bool → Live = λ h o b. record { history = h; world = v; datasync = b; out = o } in
+    let longer = a.history.items ++ c.complete-event.result ∷ [] in
+    let after =
+    ap (λ h. with h c.remove.new.self.items d) c.push_reserved.ensures.items
+    ∙ ap (λ o. with longer o d) c.remove.ensures.items
+    ∙ ap (with longer (without c.in-Some-number_of.number a.out.items)) c.complete-event.ensures.datasync in
+    subst (λ (s : Live). Posted s c.args.job c.args.res (with c.push_reserved.new.self.items c.remove.new.self.items d)) c.self.view_is
+    (posted (live_of a) (with c.push_reserved.new.self.items c.remove.new.self.items d) a.machine.pending.items c.args.job c.args.res c.in-Some.place c.in-Some-number_of.number asked c.complete-event.result refl out step after)

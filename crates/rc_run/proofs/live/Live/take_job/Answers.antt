@@ -32,7 +32,7 @@ returns-clause-ok c =
     let counted : c.free_count-count.result ≡ length (filter (λ (p : Pending). is_free a.out.items p.request) m.pending.items) = search rules in
     let lt : c.in-Some.place < length m.pending.items = search rules in
     let at : slice_get m.pending.items c.in-Some.place ≡ slice_get (filter (λ (p : Pending). is_free a.out.items p.request) m.pending.items) (c.args.choice % c.free_count-count.result) = search rules in
-    let with : List Event → List Request → List ℕ → Live = λ h r o. record { history = h; world = record w { completed = r }; out = o } in
+    let with : List Event → List Request → List ℕ → Live = λ h r o. record { history = h; world = record w { completed = r }; datasync = m.ring.datasync; out = o } in
     let out = c.push_reserved.ensures.items ∙ ap (λ xs. xs ++ c.request.result.serial ∷ []) c.reserve-3.ensures.items in
     let after =
     ap (λ h. with h c.reserve-2.new.self.items c.push_reserved.new.self.items) c.reserve.ensures.items

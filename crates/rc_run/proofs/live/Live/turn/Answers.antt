@@ -1,9 +1,10 @@
-use Rattle.std.proofs.Common.{ℤ, w32, IsSome, is_some, to_z, of_z, ap, sym, subst, ◌∙◌, rules}
+use Rattle.std.proofs.Common.{◌≡◌, ◌++◌, ◌∷◌, [], Bool, List, Some, ℤ, w32, IsSome, is_some, to_z, of_z, ap, sym, subst, ◌∙◌, rules}
 use Rattle.std.specs.Arc.{arc_value}
 use Rattle.std.proofs.lemmas.Int.{to_z-of_z}
 use Rattle.rc_run.specs.Calm.{IsCalm}
-use Rattle.rc_run.specs.Lives.{Live}
-use Rattle.rc_run.specs.Machine.{taken_by, world_of}
+use Rattle.rc_run.specs.Lives.{Live, datasync_next, grown}
+use Rattle.rc_run.specs.Machine.{datasync_after, submit_answer, world_of}
+use Rattle.rc_world.specs.declared.event.Event.{Event}
 use Rattle.rc_world.specs.Machine.{thread_step}
 use Rattle.rc_run.proofs.Turns.{closed_at, fresh_at, has_step, ready_line, take_allowed, turned_leads}
 use Rattle.rc_run.proofs.live.Live.turn.Goals as goal
@@ -14,8 +15,8 @@ step-requires-clause-step c =
     let w = world_of m in
     let calm = subst (λ (l : Live). IsCalm l.world) (sym c.self.view_is) c.look.ensures in
     let ready = sym c.next.ensures ∙ c.in-Ready.is in
-    let taken = c.taken-taken.ensures ∙ ap (taken_by w) (to_z-of_z w32 c.args.take c.ranges.take) in
-    let step = has_step w calm c.args.thread c.in-Ready.line ready (taken_by w c.args.take) (take_allowed w c.args.take c.requires) in
+    let taken = c.taken-taken.ensures ∙ ap (submit_answer w) (to_z-of_z w32 c.args.take c.ranges.take) in
+    let step = has_step w calm c.args.thread c.in-Ready.line ready (submit_answer w c.args.take) (take_allowed w c.args.take c.requires) in
     let same = to_z-of_z w32 c.taken-taken.result (record { sfits = c.taken-taken.type_inv }) ∙ taken in
     subst (λ (r : ℤ). IsSome (thread_step w c.args.thread r)) (sym same) (ap is_some step.1)
 
@@ -45,3 +46,25 @@ invariant_of-self-2 c =
       room = search rules;
       space = search rules;
     }
+
+pub returns-clause-ok : goal.returns-clause-ok
+returns-clause-ok c =
+    let a = c.self.inside in
+    let w = world_of a.machine in
+    let v = world_of c.step.new.self in
+    let e = c.in_ok-event.event in
+    let made = c.in_ok-event.ensures in
+    let taken = c.taken-taken.ensures ∙ ap (submit_answer w) (to_z-of_z w32 c.args.take c.ranges.take) in
+    let same = to_z-of_z w32 c.taken-taken.result (record { sfits = c.taken-taken.type_inv }) ∙ taken in
+    let step = subst (λ (r : ℤ). thread_step w c.args.thread r ≡ Some (e, v)) same made.step in
+    let line = ready_line w c.args.thread c.in-Ready.line (sym c.next.ensures ∙ c.in-Ready.is) in
+    let with : List Event → Bool → Live = λ h b. record { history = h; world = v; datasync = b; out = a.out.items } in
+    let d = c.step.new.self.ring.datasync in
+    let longer = a.history.items ++ e ∷ [] in
+    let after =
+    ap (λ h. with h d) c.push_reserved.ensures.items
+    ∙ ap (λ h. with (h ++ e ∷ []) d) c.reserve.ensures.items
+    ∙ ap (with longer) made.datasync
+    ∙ ap (λ o. with longer (datasync_after o a.machine.ring.datasync)) (sym line)
+    in
+    subst (λ (s : Live). (thread_step s.world c.args.thread (submit_answer s.world c.args.take) ≡ Some (e, v)) × (with c.push_reserved.new.self.items d ≡ grown s e v (datasync_next s c.args.thread))) c.self.view_is (step, after)

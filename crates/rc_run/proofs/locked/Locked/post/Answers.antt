@@ -17,5 +17,8 @@ invariant_of-self g c =
 
 pub returns-in-Err-clause-err : goal.returns-in-Err-clause-err
 returns-in-Err-clause-err g c =
-    let F : Live → Type 0 = λ s. (c.in-Err.job ≡ c.args.job) × (c.post.new.self ≡ s) × IsNotOut s c.args.job.request in
-    subst F (ap (λ (t : Table). t.run) c.self.view_is) c.in-Err.ensures.err
+    let a = c.self.inside in
+    let e = c.in-Err.ensures.err in
+    let table : Live → Table = λ s. record { run = s; turns = a.turns; limit = a.limit; memory = a.memory; awaited = a.awaited } in
+    let F : Table → Type 0 = λ t. (c.in-Err.job ≡ c.args.job) × (table c.post.new.self ≡ t) × IsNotOut t.run c.args.job.request in
+    subst F c.self.view_is (e.0, ap table e.1, e.2)

@@ -5,7 +5,7 @@ use Rattle.rc_world.specs.Machine.{World, completion_of}
 use Rattle.rc_world.specs.WorldParts.{view_bytes}
 use Rattle.rc_world.proofs.Lists.{map_without}
 use Rattle.rc_world.proofs.Removing.{asks_buffer, asks_bytes}
-use Rattle.rc_run.specs.Machine.{view_pending, world_of}
+use Rattle.rc_run.specs.Machine.{pending_of, world_of}
 use Rattle.rc_run.specs.Requests.{RequestRing}
 use Rattle.rc_run.proofs.Completes.{asks_count, brought_enough, completed_so, enough, there, view_at}
 use Rattle.rc_run.proofs.machine.Machine.complete.Goals as goal
@@ -17,7 +17,7 @@ give_back-requires-clause-there c =
     let lt = c.requires.place in
     let here = view_at m.pending.items c.args.place p lt c.remove-stood.ensures.value in
     asks_buffer p.bytes p.request.buffer m.buffers.items
-    (there (world_of m) c.requires.kept c.args.place c.args.res c.args.bytes.now (view_pending p) here c.requires.step)
+    (there (world_of m) c.requires.kept c.args.place c.args.res c.args.bytes.now (pending_of p) here c.requires.step)
 
 pub give_back-requires-clause-enough : goal.give_back-requires-clause-enough
 give_back-requires-clause-enough c =
@@ -26,7 +26,7 @@ give_back-requires-clause-enough c =
     let lt = c.requires.place in
     let here = view_at m.pending.items c.args.place p lt c.remove-stood.ensures.value in
     asks_bytes p.bytes p.request.len p.request.len refl
-    (enough (world_of m) c.requires.kept c.args.place c.args.res c.args.bytes.now (view_pending p) here c.requires.step)
+    (enough (world_of m) c.requires.kept c.args.place c.args.res c.args.bytes.now (pending_of p) here c.requires.step)
 
 pub give_back-requires-clause-brought : goal.give_back-requires-clause-brought
 give_back-requires-clause-brought c =
@@ -35,7 +35,7 @@ give_back-requires-clause-brought c =
     let lt = c.requires.place in
     let here = view_at m.pending.items c.args.place p lt c.remove-stood.ensures.value in
     asks_count p.bytes p.request.len c.args.bytes.now
-    (brought_enough (world_of m) c.requires.kept c.args.place c.args.res c.args.bytes.now (view_pending p) here c.requires.step (c.requires.enough (view_pending p) here))
+    (brought_enough (world_of m) c.requires.kept c.args.place c.args.res c.args.bytes.now (pending_of p) here c.requires.step (c.requires.enough (pending_of p) here))
 
 pub returns-clause-step : goal.returns-clause-step
 returns-clause-step c =
@@ -44,11 +44,11 @@ returns-clause-step c =
     let lt = c.requires.place in
     let here = view_at m.pending.items c.args.place p lt c.remove-stood.ensures.value in
     let read = to_z-of_z w32 c.args.res c.ranges.res in
-    let pending = ap (map view_pending) c.remove-stood.ensures.items ∙ map_without view_pending c.args.place m.pending.items in
+    let pending = ap (map pending_of) c.remove-stood.ensures.items ∙ map_without pending_of c.args.place m.pending.items in
     let bs = map view_bytes c.give_back.new.buffers.items in
-    let with : RequestRing → World = λ r. record (world_of m) { slot = r.slot; queued = r.queued; pending = map view_pending c.remove-stood.new.self.items; completed = c.push_reserved.new.self.items; completions = r.completions; made = r.made; buffers = bs } in
+    let with : RequestRing → World = λ r. record (world_of m) { slot = r.slot; queued = r.queued; pending = map pending_of c.remove-stood.new.self.items; completed = c.push_reserved.new.self.items; completions = r.completions; made = r.made; buffers = bs } in
     let ring = ap with (c.post.ensures ∙ ap (λ (z : ℤ). record m.ring { completions = m.ring.completions ++ record { user_data = p.request.user_data; res = z } ∷ [] }) read) in
-    completed_so (world_of m) c.requires.kept c.args.place c.args.res c.args.bytes.now (view_pending p) here c.requires.step
-    (map view_pending c.remove-stood.new.self.items) c.push_reserved.new.self.items (m.ring.completions ++ completion_of p.request c.args.res ∷ []) bs pending c.push_reserved.ensures.items refl c.give_back.ensures
+    completed_so (world_of m) c.requires.kept c.args.place c.args.res c.args.bytes.now (pending_of p) here c.requires.step
+    (map pending_of c.remove-stood.new.self.items) c.push_reserved.new.self.items (m.ring.completions ++ completion_of p.request c.args.res ∷ []) bs pending c.push_reserved.ensures.items refl c.give_back.ensures
     ∙ ap (λ v. Some (ByKernel (completion_of p.request c.args.res), v)) (sym ring)
     ∙ ap (λ (z : ℤ). Some (ByKernel (record { user_data = p.request.user_data; res = z }), with c.post.new.self)) (sym read)
