@@ -2,11 +2,15 @@
 use Rattle.std.specs.Prelude.{ℕ, ◌+◌, ◌/◌, min, List, [], ◌∷◌, length, slice_index_or, Option, Some, None, Bool, true, false, ◌&&◌, ◌||◌, ◌==◌, nat_le, nat_lt, if◌then◌else◌}
 use Rattle.std.specs.Str.{bytes_eq}
 use Rattle.rc_lang.specs.declared.program.Thread.{Thread}
+use Rattle.rc_read.specs.declared.blocks.Misplaced.{Misplaced}
+use Rattle.rc_read.specs.declared.says.Says.{Says}
 use Rattle.rc_read.specs.declared.table.Part.{Part}
 use Rattle.rc_read.specs.declared.table.Part.TheVariants.{Fixed}
 use Rattle.rc_read.specs.declared.table.Row.{Row}
 use Rattle.rc_read.specs.declared.values.Item.{Item}
 use Rattle.rc_read.specs.declared.values.Item.TheVariants as item
+use Rattle.rc_read.specs.Sentences.{bad_brace, is_too_deep, bad_nesting, bad_case}
+use Rattle.rc_read.specs.Sheets.{Sheet}
 use Rattle.rc_read.specs.Spots.{are_items, fits, is_end, is_item}
 use Rattle.rc_read.specs.Table.{text_of, parts_of}
 
@@ -80,6 +84,10 @@ ascend_from i (j ∷ is) = comes_before i j && ascend_from j is
 abbrev pub ascend : List Item → Bool
 ascend [] = true
 ascend (i ∷ is) = ascend_from i is
+
+-- What is wrong with where a line stands, sentence by sentence.
+abbrev pub misplaced_at : Sheet → List Item → Says → Misplaced
+misplaced_at s items what = record { brace = bad_brace s what; depth = is_too_deep s what; nesting = bad_nesting s.draft.blocks items what; case = bad_case s.draft what }
 
 -- The byte before a name's last, and 0 where there is none.
 abbrev pub second_last : List ℕ → ℕ

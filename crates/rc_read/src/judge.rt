@@ -11,9 +11,7 @@ ghost use Rattle.rc_read.specs.Texts.{texts_of, view_spots};
 ghost use Rattle.rc_read.specs.View.{view_sheet};
 ghost use Rattle.rc_read.specs.Words.{words_of};
 
-use crate::blocks::{
-    any_twice, bad_brace, bad_case, bad_nesting, is_too_deep, is_too_long, may_stand,
-};
+use crate::blocks::{any_twice, is_too_long, may_stand, misplaced_by};
 use crate::fault::{ReadCause, ReadFault};
 use crate::names::add_names;
 use crate::parts::{Parts, Region};
@@ -98,21 +96,22 @@ fn later_cause(
 ) -> Option<ReadCause>
     ensures { option_map number_of_cause result ≡ spec.first_true (later_sentences (view_sheet parts.now) line.now wrong items.now says) }
 {
+    let misplaced = misplaced_by(parts, items, says);
     if wrong.unknown {
         Some(ReadCause::UnknownName)
     } else if wrong.double || any_twice(items) {
         Some(ReadCause::DoubleName)
-    } else if bad_brace(parts, says) {
+    } else if misplaced.brace {
         Some(ReadCause::Braces)
     } else if is_too_long(parts, line)
-        || is_too_deep(parts, says)
+        || misplaced.depth
         || wrong.full
         || parts.draft.names.len() > 64
     {
         Some(ReadCause::TooLarge)
-    } else if bad_nesting(&parts.draft, items, says) {
+    } else if misplaced.nesting {
         Some(ReadCause::BadNesting)
-    } else if bad_case(&parts.draft, says) {
+    } else if misplaced.case {
         Some(ReadCause::BadCase)
     } else {
         None
