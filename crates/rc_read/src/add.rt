@@ -1,6 +1,6 @@
 //! What a line adds to what was read so far.
 
-ghost use Rattle.std.specs.Prelude.{◌≡◌, ◌-◌, ◌<◌, ◌++◌, ◌∷◌, [], None, length, map, slice_get, true, unwrap_or, OnOk, IfOk};
+ghost use Rattle.std.specs.Prelude.{◌≡◌, ◌-◌, ◌<◌, ◌++◌, ◌∷◌, [], None, length, map, slice_get, slice_set, true, unwrap_or, OnOk, IfOk};
 ghost use Rattle.std.specs.List.{IsDistinct};
 ghost use Rattle.std.specs.Str.{bytes_eq};
 ghost use Rattle.rc_lang.specs.Nesting as nesting;
@@ -16,7 +16,7 @@ use crate::names::has_buffer;
 use crate::parts::{Arms, Draft, Parts, Region};
 use crate::says::Says;
 use crate::values::Item;
-use rc_lang::lines::{Block, Line, Stmt};
+use rc_lang::lines::{Block, Line, Op, Stmt};
 use rc_lang::program::{Buffer, Items, Share, Thread, Token};
 use std::alloc::{AllocError, Global};
 use std::mem;
@@ -139,20 +139,24 @@ fn closed_by(stmt: Stmt) -> Option<usize>
     }
 }
 
+// Marks the line at this place as the end of an earlier one.
+fn mark_end(ends: &mut Vec<usize>, place: usize, start: usize)
+    ensures { ends.new.items ≡ slice_set ends.old.items start place }
+{
+    if start < ends.len() {
+        ends[start] = place;
+    }
+}
+
 // Adds a line at this place to the table of ends.
 fn put_end(ends: &mut Vec<usize>, place: usize, stmt: Stmt) -> Result<(), AllocError>
     ensures { OnOk result (ends.new.items ≡ spec.ends_behind ends.old.items place stmt) }
 {
     ends.push(0)?;
-    match closed_by(stmt) {
-        Some(start) => {
-            if start < ends.len() {
-                ends[start] = place;
-            }
-            Ok(())
-        }
-        None => Ok(()),
+    if let Some(start) = closed_by(stmt) {
+        mark_end(ends, place, start);
     }
+    Ok(())
 }
 
 // Adds the items of a loop.
@@ -243,6 +247,29 @@ fn closing_of(block: Option<Block>) -> Stmt
     }
 }
 
+// The closing brace of a block at this place. It is the end of the block's line, where a jump starts from there.
+fn end_block(ends: &mut Vec<usize>, place: usize, block: Block) -> Stmt
+    ensures stmt { result ≡ spec.closing block }
+    ensures ends { ends.new.items ≡ spec.ends_marked ends.old.items place (spec.closed_by (spec.closing block)) }
+{
+    match block {
+        Block::InLock(start) => Stmt::EndLock(start),
+        Block::InArm(peek) => Stmt::EndArm(peek),
+        Block::InIf(start) | Block::InElse(start) => {
+            mark_end(ends, place, start);
+            Stmt::EndIf(start)
+        }
+        Block::InPeek(start) => {
+            mark_end(ends, place, start);
+            Stmt::EndPeek(start)
+        }
+        Block::InLoop(start, number) => {
+            mark_end(ends, place, start);
+            Stmt::EndLoop(start, number)
+        }
+    }
+}
+
 // A break out of the innermost of these blocks' loops.
 fn break_out(blocks: &[Block]) -> Stmt
     ensures { let way = nesting.way_out blocks.now in result ≡ Stmt.Break (unwrap_or way.loop 0) way.releases way.leaves }
@@ -289,6 +316,28 @@ impl Draft {
         put_block(&mut self.blocks, place, stmt)?;
         put_end(&mut self.ends, place, stmt)?;
         self.arms.put(stmt)?;
+        self.lines.push(Line { number, stmt })?;
+        Ok(())
+    }
+
+    // Adds a statement without a block with this number, which opens, closes and keeps nothing else.
+    fn put_op(&mut self, number: u32, op: Op) -> Result<(), AllocError>
+        ensures { OnOk result (view_draft self.new ≡ spec.with_stmt (view_draft self.old) number [] (Stmt.Do op)) }
+    {
+        self.ends.push(0)?;
+        let stmt = Stmt::Do(op);
+        self.lines.push(Line { number, stmt })?;
+        Ok(())
+    }
+
+    // Closes the innermost block, which is this one, by a line with this number.
+    fn put_close(&mut self, number: u32, block: Block) -> Result<(), AllocError>
+        ensures { OnOk result (view_draft self.new ≡ spec.with_stmt (view_draft self.old) number [] (spec.closing block)) }
+    {
+        let place = self.lines.len();
+        let _ = self.blocks.pop();
+        self.ends.push(0)?;
+        let stmt = end_block(&mut self.ends, place, block);
         self.lines.push(Line { number, stmt })?;
         Ok(())
     }
@@ -379,7 +428,7 @@ impl Parts {
         ensures count { self.new.count ≡ self.old.count }
     {
         match innermost(&self.draft.blocks) {
-            Some(_) => self.say(alloc, &[], &Says::Close),
+            Some(block) => self.draft.put_close(self.count + 1, block),
             None => self.end_thread(alloc),
         }
     }
@@ -462,8 +511,8 @@ impl Parts {
             Says::Token(token) => self.put_token(token),
             Says::Thread => self.open(alloc, words, items),
             Says::Close => self.close(alloc),
-            Says::Op(_)
-            | Says::Lock
+            Says::Op(op) => self.draft.put_op(self.count + 1, op),
+            Says::Lock
             | Says::If(_)
             | Says::Else
             | Says::Peek(_)
