@@ -34,67 +34,28 @@ fn count_shares(items: &[Item]) -> usize
     count
 }
 
-// The shares among a list of items.
-fn shares_held(alloc: Global, items: &[Item]) -> Result<Vec<Share>, AllocError>
-    ensures { IfOk result (λ v. v.items ≡ spec.shares_held items.now) }
-{
-    let mut shares = Vec::with_capacity(alloc, count_shares(items))?;
-    for item in items {
-        if let Item::Shares(buffer, count) = *item {
-            shares.push(Share { buffer, count })?;
-        }
-    }
-    Ok(shares)
-}
-
-// The tokens among a list of items, with memory for so many.
-fn tokens_held(alloc: Global, items: &[Item], size: usize) -> Result<Vec<u64>, AllocError>
-    ensures { IfOk result (λ v. v.items ≡ spec.tokens_held items.now) }
-{
-    let mut tokens = Vec::with_capacity(alloc, size)?;
-    for item in items {
-        if let Item::Token(user_data) = *item {
-            tokens.push(user_data)?;
-        }
-    }
-    Ok(tokens)
-}
-
-// The credits among a list of items.
-fn credits_held(items: &[Item]) -> u32
-    ensures { result ≡ spec.credits_held items.now }
-{
-    for item in items {
-        if let Item::Credits(count) = *item {
-            return count;
-        }
-    }
-    0
-}
-
-// The queued entries among a list of items.
-fn queue_held(items: &[Item]) -> Option<u32>
-    ensures { result ≡ spec.queue_held items.now }
-{
-    for item in items {
-        if let Item::Queued(count) = *item {
-            return Some(count);
-        }
-    }
-    None
-}
-
 // What a list of items holds.
 fn held(alloc: Global, items: &[Item]) -> Result<Items, AllocError>
     ensures { IfOk result (λ i. view_items i ≡ spec.held items.now) }
 {
-    let shares = shares_held(alloc, items)?;
-    let others = items.len().saturating_sub(shares.len());
+    let size = count_shares(items);
+    let mut shares = Vec::with_capacity(alloc, size)?;
+    let mut tokens = Vec::with_capacity(alloc, items.len().saturating_sub(size))?;
+    let mut credits = None;
+    let mut queue = None;
+    for item in items {
+        match *item {
+            Item::Shares(buffer, count) => shares.push(Share { buffer, count })?,
+            Item::Token(user_data) => tokens.push(user_data)?,
+            Item::Credits(count) => credits = credits.or(Some(count)),
+            Item::Queued(count) => queue = queue.or(Some(count)),
+        }
+    }
     Ok(Items {
-        tokens: tokens_held(alloc, items, others)?,
         shares,
-        credits: credits_held(items),
-        queue: queue_held(items),
+        tokens,
+        credits: credits.unwrap_or(0),
+        queue,
     })
 }
 

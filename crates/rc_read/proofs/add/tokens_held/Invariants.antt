@@ -1,6 +1,0 @@
-use Rattle.std.proofs.Common.{◌≡◌, ◌++◌, drop}
-use Rattle.rc_read.specs.Adds as spec
-use Rattle.rc_read.proofs.add.tokens_held.Given as goal
-
-abbrev pub invariant-loop-item : goal.invariant-loop-item
-invariant-loop-item l = l.tokens.items ++ spec.tokens_held (drop l.item-index l.items) ≡ spec.tokens_held l.items
