@@ -14,6 +14,7 @@ pub mod KeptSheet
 pub mod KeptSpots
 pub mod KeptValues
 pub mod May
+pub mod Numbered
 pub mod Places
 pub mod Rows
 pub mod Sizes

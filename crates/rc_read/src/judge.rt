@@ -2,7 +2,7 @@
 
 ghost use Rattle.std.specs.Prelude.{◌≡◌, option_map};
 ghost use Rattle.rc_read.specs.Causes.{number_of_cause};
-ghost use Rattle.rc_read.specs.Judging.{JudgesNamed, JudgesRow, JudgesWords, later_sentences};
+ghost use Rattle.rc_read.specs.Judging.{JudgesRow, JudgesWords, later_sentences};
 ghost use Rattle.rc_read.specs.Sentences as spec;
 ghost use Rattle.rc_read.specs.Spots.{row_of as row_in, spots_of};
 ghost use Rattle.rc_read.specs.Stream.{Judges};
@@ -13,7 +13,6 @@ ghost use Rattle.rc_read.specs.Words.{words_of};
 
 use crate::blocks::{any_twice, is_too_long, may_stand, misplaced_by};
 use crate::fault::{ReadCause, ReadFault};
-use crate::names::add_names;
 use crate::parts::{Parts, Region};
 use crate::says::{Says, says_of};
 use crate::spots::{Spot, put_spots};
@@ -118,29 +117,6 @@ fn later_cause(
     }
 }
 
-// The cause of a line of this form, whose variables the parts have, or the line is added.
-fn judge_named(
-    alloc: Global,
-    parts: &mut Parts,
-    found: &mut Found,
-    line: &[u8],
-    words: &[&[u8]],
-    row: Row,
-) -> Result<Option<ReadCause>, AllocError>
-    ensures { JudgesNamed (view_sheet parts.old) line.now (texts_of words.now) row (view_spots found.old.spots.items) (view_sheet parts.new) result }
-{
-    let (values, items) = (&mut found.values, &mut found.items);
-    let Some(wrong) = put_values(values, items, &mut found.near, parts, &found.spots)? else {
-        return Ok(Some(ReadCause::BadNumber));
-    };
-    let says = says_of(row, &found.values);
-    if let Some(cause) = later_cause(parts, line, wrong, &found.items, says) {
-        return Ok(Some(cause));
-    }
-    parts.add(alloc, words, &found.items, &says)?;
-    Ok(None)
-}
-
 // The cause of a line of this form with these places, or the line is added.
 fn judge_row(
     alloc: Global,
@@ -153,8 +129,17 @@ fn judge_row(
     requires { view_spots found.old.spots.items ≡ spots_of (parts_of row) (texts_of words.now) }
     ensures { JudgesRow (view_sheet parts.old) line.now (texts_of words.now) row (view_sheet parts.new) result }
 {
-    add_names(alloc, &mut parts.draft.names, &found.spots)?;
-    judge_named(alloc, parts, found, line, words, row)
+    let (values, items) = (&mut found.values, &mut found.items);
+    let put = put_values(alloc, values, items, &mut found.near, parts, &found.spots)?;
+    let Some(wrong) = put else {
+        return Ok(Some(ReadCause::BadNumber));
+    };
+    let says = says_of(row, &found.values);
+    if let Some(cause) = later_cause(parts, line, wrong, &found.items, says) {
+        return Ok(Some(cause));
+    }
+    parts.add(alloc, words, &found.items, &says)?;
+    Ok(None)
 }
 
 // The cause of a line with these words, or the line is added.

@@ -1,16 +1,13 @@
 //! Names, and what is declared.
 
-ghost use Rattle.std.specs.Prelude.{◌≡◌, Some, map, IfSome, OnOk};
+ghost use Rattle.std.specs.Prelude.{◌≡◌, Some, map, IfOk, IfSome, OnOk};
 ghost use Rattle.std.specs.List.{IsDistinct};
 ghost use Rattle.std.specs.Str.{bytes_eq};
 ghost use Rattle.rc_lang.specs.Parts.{view_buffer, view_thread};
 ghost use Rattle.rc_read.specs.Quick.{second_last};
 ghost use Rattle.rc_read.specs.Sheets as spec;
-ghost use Rattle.rc_read.specs.Texts.{view_spots};
 ghost use Rattle.rc_read.specs.View.{view_names};
 
-use crate::spots::{Spot, begins_number};
-use crate::table::Part;
 use rc_lang::program::{Buffer, File, Thread, Token};
 use std::alloc::{AllocError, Global};
 
@@ -34,8 +31,8 @@ fn is_same(name: &[u8], word: &[u8]) -> bool
         && name == word
 }
 
-/// The number of a name, which for a new one is that of the next.
-pub fn number_in(names: &[Vec<u8>], word: &[u8]) -> usize
+// The number of a name, which for a new one is that of the next.
+fn number_in(names: &[Vec<u8>], word: &[u8]) -> usize
     ensures { result ≡ spec.number_in (view_names names.now) word.now }
 {
     for (i, name) in names.iter().enumerate() {
@@ -122,44 +119,14 @@ pub fn has_token(tokens: &[Token], user_data: u64) -> bool
     any
 }
 
-fn is_among(names: &[Vec<u8>], word: &[u8]) -> bool
-    ensures { result ≡ spec.is_among (view_names names.now) word.now }
+/// The number of a name, which is added where it is new.
+pub fn add_name(alloc: Global, names: &mut Vec<Vec<u8>>, word: &[u8]) -> Result<usize, AllocError>
+    ensures number { IfOk result (λ n. n ≡ spec.number_in (view_names names.old.items) word.now) }
+    ensures names { OnOk result (view_names names.new.items ≡ spec.with_name (view_names names.old.items) word.now) }
 {
-    for name in names {
-        if is_same(name, word) {
-            return true;
-        }
-    }
-    false
-}
-
-fn add_name(alloc: Global, names: &mut Vec<Vec<u8>>, word: &[u8]) -> Result<(), AllocError>
-    ensures { OnOk result (view_names names.new.items ≡ spec.with_name (view_names names.old.items) word.now) }
-{
-    if !is_among(names, word) {
+    let number = number_in(names, word);
+    if number == names.len() {
         names.push(word.to_vec(alloc)?)?;
     }
-    Ok(())
-}
-
-fn is_variable(part: Part, word: &[u8]) -> bool
-    ensures { result ≡ spec.is_variable part word.now }
-{
-    match part {
-        Part::Variable => true,
-        Part::Operand => !begins_number(word),
-        _ => false,
-    }
-}
-
-/// Adds the variables of a line.
-pub fn add_names(alloc: Global, names: &mut Vec<Vec<u8>>, spots: &[Spot]) -> Result<(), AllocError>
-    ensures { OnOk result (view_names names.new.items ≡ spec.names_behind (view_names names.old.items) (view_spots spots.now)) }
-{
-    for spot in spots {
-        if is_variable(spot.part, spot.word) {
-            add_name(alloc, names, spot.word)?;
-        }
-    }
-    Ok(())
+    Ok(number)
 }

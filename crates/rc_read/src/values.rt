@@ -1,6 +1,6 @@
 //! What the words of a line say in their places.
 
-ghost use Rattle.std.specs.Prelude.{◌≡◌, ◌≤◌, ◌&&◌, false, nat_le, ◌++◌, ◌∷◌, [], IfOk, IfSome, OnOk, is_none};
+ghost use Rattle.std.specs.Prelude.{◌≡◌, ◌≤◌, ◌&&◌, false, nat_le, ◌++◌, ◌∷◌, [], IfOk, IfSome, OnOk, is_none, option_map};
 ghost use Rattle.std.specs.List.{list_all};
 ghost use Rattle.rc_lang.specs.Numbers.{is_digit, is_number, number_of as number_in_range, value_of};
 ghost use Rattle.rc_read.specs.Judging as judging;
@@ -10,9 +10,7 @@ ghost use Rattle.rc_read.specs.Texts.{view_spots};
 ghost use Rattle.rc_read.specs.Values as spec;
 ghost use Rattle.rc_read.specs.View.{view_sheet};
 
-use crate::names::{
-    find_buffer, find_near, has_buffer, has_file, has_thread, has_token, number_in,
-};
+use crate::names::{add_name, find_buffer, find_near, has_buffer, has_file, has_thread, has_token};
 use crate::numbers::number_of;
 use crate::parts::Parts;
 use crate::spots::{Spot, begins_number, comparison_of};
@@ -20,7 +18,7 @@ use crate::table::{Part, Range};
 use crate::words::is;
 use rc_lang::lines::{Comparison, Operand};
 use rc_lang::numbers::signed_number_of;
-use std::alloc::AllocError;
+use std::alloc::{AllocError, Global};
 
 /// An item of a list: shares of a buffer, a token, credits or queued entries.
 #[derive(Clone, Copy)]
@@ -168,17 +166,6 @@ fn signed_value(word: &[u8]) -> Option<Value>
     }
 }
 
-fn operand_of(parts: &Parts, word: &[u8]) -> Option<Value>
-    ensures { result ≡ spec.operand_of (view_sheet parts.now) word.now }
-{
-    if begins_number(word) {
-        signed_value(word)
-    } else {
-        let variable = number_in(&parts.draft.names, word);
-        Some(Value::Operand(Operand::Variable(variable)))
-    }
-}
-
 fn comparison_value(comparison: Option<Comparison>) -> Value
     ensures { result ≡ spec.comparison_value comparison }
 {
@@ -188,40 +175,39 @@ fn comparison_value(comparison: Option<Comparison>) -> Value
     }
 }
 
-/// What the word of a place says. It is none where the place is a number's and the word is no number or is out of its
-/// range.
-pub fn value_at(parts: &Parts, seen: Seen, part: Part, word: &[u8]) -> Option<Value>
-    ensures { result ≡ spec.value_at (view_sheet parts.now) seen part word.now }
+fn user_data_value(user_data: Option<u64>) -> Option<Value>
+    ensures { result ≡ option_map (λ u. Value.UserData u) user_data }
 {
-    match part {
-        Part::Fixed(_) | Part::NewBuffer | Part::NewThread | Part::Items => Some(Value::Nothing),
-        Part::Variable => Some(Value::Named(number_in(&parts.draft.names, word))),
-        Part::Operand => operand_of(parts, word),
-        Part::Comparison => Some(comparison_value(comparison_of(word))),
-        Part::Signed => signed_value(word),
-        Part::Number(range) => small_value(number_at(parts, seen, range, word)),
-        Part::File | Part::NewFile => small_value(file_number_of(word)),
-        Part::Buffer => Some(Value::Named(find_buffer(&parts.buffers, word).0)),
-        Part::Token | Part::NewToken => match user_data_of(word) {
-            None => None,
-            Some(u) => Some(Value::UserData(u)),
-        },
-        Part::HeldShares => match small_number_of(1, 16, word) {
-            None => None,
-            Some(k) => Some(Value::Item(Item::Shares(seen.buffer, k))),
-        },
-        Part::HeldToken => match user_data_of(word) {
-            None => None,
-            Some(u) => Some(Value::Item(Item::Token(u))),
-        },
-        Part::Credits => match small_number_of(0, 2048, word) {
-            None => None,
-            Some(n) => Some(Value::Item(Item::Credits(n))),
-        },
-        Part::Queued => match small_number_of(0, parts.head.entries, word) {
-            None => None,
-            Some(k) => Some(Value::Item(Item::Queued(k))),
-        },
+    match user_data {
+        None => None,
+        Some(u) => Some(Value::UserData(u)),
+    }
+}
+
+fn held_shares(buffer: usize, word: &[u8]) -> Option<Value>
+    ensures { result ≡ option_map (λ k. Value.Item (Item.Shares buffer k)) (number_in_range 1 16 word.now) }
+{
+    match small_number_of(1, 16, word) {
+        None => None,
+        Some(k) => Some(Value::Item(Item::Shares(buffer, k))),
+    }
+}
+
+fn held_credits(word: &[u8]) -> Option<Value>
+    ensures { result ≡ option_map (λ n. Value.Item (Item.Credits n)) (number_in_range 0 2048 word.now) }
+{
+    match small_number_of(0, 2048, word) {
+        None => None,
+        Some(n) => Some(Value::Item(Item::Credits(n))),
+    }
+}
+
+fn held_queued(entries: u32, word: &[u8]) -> Option<Value>
+    ensures { result ≡ option_map (λ k. Value.Item (Item.Queued k)) (number_in_range 0 entries word.now) }
+{
+    match small_number_of(0, entries, word) {
+        None => None,
+        Some(k) => Some(Value::Item(Item::Queued(k))),
     }
 }
 
@@ -375,12 +361,8 @@ fn look_at_token(parts: &Parts, seen: Seen, word: &[u8]) -> Known
     ensures wrong { result.wrong ≡ judging.wrong_at (view_sheet parts.now) Part.Token word.now }
 {
     let user_data = user_data_of(word);
-    let value = match user_data {
-        None => None,
-        Some(u) => Some(Value::UserData(u)),
-    };
     Known {
-        value,
+        value: user_data_value(user_data),
         behind: seen,
         wrong: may_lack(lacks_token(parts, user_data)),
     }
@@ -460,12 +442,8 @@ fn look_at_new_token(parts: &Parts, seen: Seen, word: &[u8]) -> Known
     ensures wrong { result.wrong ≡ judging.wrong_at (view_sheet parts.now) Part.NewToken word.now }
 {
     let user_data = user_data_of(word);
-    let value = match user_data {
-        None => None,
-        Some(u) => Some(Value::UserData(u)),
-    };
     Known {
-        value,
+        value: user_data_value(user_data),
         behind: seen,
         wrong: may_repeat(repeats_token(parts, user_data), parts.tokens.len() >= 256),
     }
@@ -484,28 +462,79 @@ fn look_at_new_thread(parts: &Parts, seen: Seen, word: &[u8]) -> Known
     }
 }
 
-// What is known of a place with this word, where the buffer that was named last is near.
-fn look_at(parts: &Parts, near: usize, seen: Seen, part: Part, word: &[u8]) -> Known
-    ensures value { result.value ≡ spec.value_at (view_sheet parts.now) seen part word.now }
-    ensures behind { result.behind ≡ spec.seen_behind (view_sheet parts.now) seen part word.now }
-    ensures wrong { result.wrong ≡ judging.wrong_at (view_sheet parts.now) part word.now }
+// A place that says nothing of those behind it, and has no name that could be wrong.
+fn look_at_plain(seen: Seen, value: Option<Value>) -> Known
+    ensures value { result.value ≡ value }
+    ensures behind { result.behind ≡ seen }
+    ensures wrong { result.wrong ≡ record { unknown = false; double = false; full = false } }
 {
-    match part {
+    Known {
+        value,
+        behind: seen,
+        wrong: may_lack(false),
+    }
+}
+
+// The number of a variable, which is added where it is new.
+fn variable_of(alloc: Global, parts: &mut Parts, word: &[u8]) -> Result<usize, AllocError>
+    ensures number { IfOk result (λ n. n ≡ sheets.number_in (view_sheet parts.old).draft.names word.now) }
+    ensures sheet { OnOk result (view_sheet parts.new ≡ sheets.with_names (view_sheet parts.old) (record { part = Part.Variable; word = word.now } ∷ [])) }
+{
+    Ok(add_name(alloc, &mut parts.draft.names, word)?)
+}
+
+// What an operand is. A variable is added where it is new.
+fn operand_of(alloc: Global, parts: &mut Parts, word: &[u8]) -> Result<Option<Value>, AllocError>
+    ensures value { IfOk result (λ o. o ≡ spec.operand_of (view_sheet parts.old) word.now) }
+    ensures sheet { OnOk result (view_sheet parts.new ≡ sheets.with_names (view_sheet parts.old) (record { part = Part.Operand; word = word.now } ∷ [])) }
+{
+    if begins_number(word) {
+        return Ok(signed_value(word));
+    }
+    let variable = variable_of(alloc, parts, word)?;
+    Ok(Some(Value::Operand(Operand::Variable(variable))))
+}
+
+// What is known of a place with this word, where the buffer that was named last is near. A variable is added where it
+// is new.
+fn look_at(
+    alloc: Global,
+    parts: &mut Parts,
+    near: usize,
+    seen: Seen,
+    part: Part,
+    word: &[u8],
+) -> Result<Known, AllocError>
+    ensures value { IfOk result (λ k. k.value ≡ spec.value_at (view_sheet parts.old) seen part word.now) }
+    ensures behind { IfOk result (λ k. k.behind ≡ spec.seen_behind (view_sheet parts.old) seen part word.now) }
+    ensures wrong { IfOk result (λ k. k.wrong ≡ judging.wrong_at (view_sheet parts.old) part word.now) }
+    ensures sheet { OnOk result (view_sheet parts.new ≡ sheets.with_names (view_sheet parts.old) (record { part = part; word = word.now } ∷ [])) }
+{
+    Ok(match part {
+        Part::Fixed(_) | Part::Items => look_at_plain(seen, Some(Value::Nothing)),
+        Part::Variable => {
+            let number = variable_of(alloc, parts, word)?;
+            look_at_plain(seen, Some(Value::Named(number)))
+        }
+        Part::Operand => look_at_plain(seen, operand_of(alloc, parts, word)?),
+        Part::Comparison => look_at_plain(seen, Some(comparison_value(comparison_of(word)))),
+        Part::Signed => look_at_plain(seen, signed_value(word)),
+        Part::Number(Range::Size) => look_at_size(seen, word),
+        Part::Number(range) => {
+            look_at_plain(seen, small_value(number_at(parts, seen, range, word)))
+        }
         Part::Buffer => look_at_buffer(parts, near, seen, word),
         Part::Token => look_at_token(parts, seen, word),
-        Part::HeldToken => look_at_held_token(parts, seen, word),
         Part::File => look_at_file(parts, seen, word),
-        Part::Number(Range::Size) => look_at_size(seen, word),
         Part::NewFile => look_at_new_file(parts, seen, word),
         Part::NewBuffer => look_at_new_buffer(parts, seen, word),
         Part::NewToken => look_at_new_token(parts, seen, word),
         Part::NewThread => look_at_new_thread(parts, seen, word),
-        part => Known {
-            value: value_at(parts, seen, part, word),
-            behind: seen,
-            wrong: may_lack(false),
-        },
-    }
+        Part::HeldShares => look_at_plain(seen, held_shares(seen.buffer, word)),
+        Part::HeldToken => look_at_held_token(parts, seen, word),
+        Part::Credits => look_at_plain(seen, held_credits(word)),
+        Part::Queued => look_at_plain(seen, held_queued(parts.head.entries, word)),
+    })
 }
 
 // Adds the item that a value is, if it is one.
@@ -518,28 +547,29 @@ fn push_if_item(items: &mut Vec<Item>, value: Value) -> Result<(), AllocError>
     }
 }
 
-/// Puts what the places of a line say there, and the items among it, unless a word in a number's place is no number or
-/// is out of its range. The answer is what is wrong with their names. A buffer is looked for first near the one that
-/// was named last.
-#[tactic(auto, using(crate::proofs::Among::items_first))]
+/// Puts what the places of a line say there, and the items among it, and adds the line's variables, unless a word in a
+/// number's place is no number or is out of its range. The answer is what is wrong with their names. A buffer is looked
+/// for first near the one that was named last.
 pub fn put_values(
+    alloc: Global,
     values: &mut Vec<Value>,
     items: &mut Vec<Item>,
     near: &mut usize,
-    parts: &Parts,
+    parts: &mut Parts,
     spots: &[Spot],
 ) -> Result<Option<Wrong>, AllocError>
-    ensures lacks { IfOk result (λ o. is_none o ≡ spec.any_lacks (view_sheet parts.now) spec.start (view_spots spots.now)) }
-    ensures values { IfOk result (λ o. IfSome o (λ _. values.new.items ≡ spec.values_of (view_sheet parts.now) spec.start (view_spots spots.now))) }
-    ensures items { IfOk result (λ o. IfSome o (λ _. items.new.items ≡ spec.items_in (spec.values_of (view_sheet parts.now) spec.start (view_spots spots.now)))) }
-    ensures wrong { IfOk result (λ o. IfSome o (λ wrong. wrong ≡ judging.wrong_in (view_sheet parts.now) (view_spots spots.now))) }
+    ensures lacks { IfOk result (λ o. is_none o ≡ spec.any_lacks (sheets.with_names (view_sheet parts.old) (view_spots spots.now)) spec.start (view_spots spots.now)) }
+    ensures sheet { IfOk result (λ o. IfSome o (λ _. view_sheet parts.new ≡ sheets.with_names (view_sheet parts.old) (view_spots spots.now))) }
+    ensures values { IfOk result (λ o. IfSome o (λ _. values.new.items ≡ spec.values_of (sheets.with_names (view_sheet parts.old) (view_spots spots.now)) spec.start (view_spots spots.now))) }
+    ensures items { IfOk result (λ o. IfSome o (λ _. items.new.items ≡ spec.items_in (spec.values_of (sheets.with_names (view_sheet parts.old) (view_spots spots.now)) spec.start (view_spots spots.now)))) }
+    ensures wrong { IfOk result (λ o. IfSome o (λ wrong. wrong ≡ judging.wrong_in (sheets.with_names (view_sheet parts.old) (view_spots spots.now)) (view_spots spots.now))) }
 {
     let mut seen = start();
     let mut wrong = may_lack(false);
     values.clear();
     items.clear();
     for spot in spots {
-        let known = look_at(parts, *near, seen, spot.part, spot.word);
+        let known = look_at(alloc, parts, *near, seen, spot.part, spot.word)?;
         let Some(value) = known.value else {
             return Ok(None);
         };

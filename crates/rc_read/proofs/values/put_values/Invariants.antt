@@ -1,5 +1,6 @@
 use Rattle.std.proofs.Common.{◌≡◌, ◌++◌, ◌||◌, drop}
 use Rattle.rc_read.specs.Sentences as sentences
+use Rattle.rc_read.specs.Sheets.{with_names}
 use Rattle.rc_read.specs.Texts.{view_spots}
 use Rattle.rc_read.specs.Values as spec
 use Rattle.rc_read.specs.View.{view_sheet}
@@ -7,10 +8,11 @@ use Rattle.rc_read.proofs.values.put_values.Given as goal
 
 abbrev pub invariant-loop-spot : goal.invariant-loop-spot
 invariant-loop-spot l = record {
-  values : l.values.items ++ spec.values_of (view_sheet l.parts) l.seen (view_spots (drop l.spot-index l.spots)) ≡ spec.values_of (view_sheet l.parts) spec.start (view_spots l.spots);
-  items : l.items.items ++ spec.items_in (spec.values_of (view_sheet l.parts) l.seen (view_spots (drop l.spot-index l.spots))) ≡ spec.items_in (spec.values_of (view_sheet l.parts) spec.start (view_spots l.spots));
-  lacks : spec.any_lacks (view_sheet l.parts) l.seen (view_spots (drop l.spot-index l.spots)) ≡ spec.any_lacks (view_sheet l.parts) spec.start (view_spots l.spots);
-  unknown : (l.wrong.unknown || sentences.any_unknown (view_sheet l.parts) (view_spots (drop l.spot-index l.spots))) ≡ sentences.any_unknown (view_sheet l.parts) (view_spots l.spots);
-  double : (l.wrong.double || sentences.any_double (view_sheet l.parts) (view_spots (drop l.spot-index l.spots))) ≡ sentences.any_double (view_sheet l.parts) (view_spots l.spots);
-  full : (l.wrong.full || sentences.any_full (view_sheet l.parts) (view_spots (drop l.spot-index l.spots))) ≡ sentences.any_full (view_sheet l.parts) (view_spots l.spots);
+  sheet : with_names (view_sheet l.parts) (view_spots (drop l.spot-index l.spots)) ≡ with_names (view_sheet l.initial.parts) (view_spots l.spots);
+  values : l.values.items ++ spec.values_of (with_names (view_sheet l.initial.parts) (view_spots l.spots)) l.seen (view_spots (drop l.spot-index l.spots)) ≡ spec.values_of (with_names (view_sheet l.initial.parts) (view_spots l.spots)) spec.start (view_spots l.spots);
+  items : l.items.items ++ spec.items_in (spec.values_of (with_names (view_sheet l.initial.parts) (view_spots l.spots)) l.seen (view_spots (drop l.spot-index l.spots))) ≡ spec.items_in (spec.values_of (with_names (view_sheet l.initial.parts) (view_spots l.spots)) spec.start (view_spots l.spots));
+  lacks : spec.any_lacks (with_names (view_sheet l.initial.parts) (view_spots l.spots)) l.seen (view_spots (drop l.spot-index l.spots)) ≡ spec.any_lacks (with_names (view_sheet l.initial.parts) (view_spots l.spots)) spec.start (view_spots l.spots);
+  unknown : (l.wrong.unknown || sentences.any_unknown (with_names (view_sheet l.initial.parts) (view_spots l.spots)) (view_spots (drop l.spot-index l.spots))) ≡ sentences.any_unknown (with_names (view_sheet l.initial.parts) (view_spots l.spots)) (view_spots l.spots);
+  double : (l.wrong.double || sentences.any_double (with_names (view_sheet l.initial.parts) (view_spots l.spots)) (view_spots (drop l.spot-index l.spots))) ≡ sentences.any_double (with_names (view_sheet l.initial.parts) (view_spots l.spots)) (view_spots l.spots);
+  full : (l.wrong.full || sentences.any_full (with_names (view_sheet l.initial.parts) (view_spots l.spots)) (view_spots (drop l.spot-index l.spots))) ≡ sentences.any_full (with_names (view_sheet l.initial.parts) (view_spots l.spots)) (view_spots l.spots);
 }
