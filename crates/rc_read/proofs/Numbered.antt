@@ -131,15 +131,17 @@ lacks_on p ps s t seen next v e f g =
     let more : seen_behind t seen p.part p.word ≡ next = behind_on p ps s t seen e ∙ sym g in
     ap (λ (o : Option Value). is_none o || any_lacks t (seen_behind t seen p.part p.word) ps) one ∙ ap (λ (x : Seen). any_lacks t x ps) more
 
-or_more : (a b b' c d : Bool) → b' ≡ b → (a || (b' || c)) ≡ d → ((a || b) || c) ≡ d
-or_more true b b' c d e h = h
-or_more false b b' c d e h = rw (sym e) h
+or_more : (a b b' c d : Bool) → b' ≡ b → (a || (b' || c)) ≡ d → ((b || a) || c) ≡ d
+or_more true true b' c d e h = h
+or_more true false b' c d e h = h
+or_more false true b' c d e h = ap (λ (x : Bool). x || c) (sym e) ∙ h
+or_more false false b' c d e h = ap (λ (x : Bool). x || c) (sym e) ∙ h
 
-pub unknown_on : (p : Spot) (ps : List Spot) (s t : Sheet) (a d : Bool) → with_names s (p ∷ ps) ≡ t → (a || any_unknown t (p ∷ ps)) ≡ d → ((a || is_unknown s p.part p.word) || any_unknown t ps) ≡ d
+pub unknown_on : (p : Spot) (ps : List Spot) (s t : Sheet) (a d : Bool) → with_names s (p ∷ ps) ≡ t → (a || any_unknown t (p ∷ ps)) ≡ d → ((is_unknown s p.part p.word || a) || any_unknown t ps) ≡ d
 unknown_on p ps s t a d e h = or_more a (is_unknown s p.part p.word) (is_unknown t p.part p.word) (any_unknown t ps) d (ap (λ (x : Sheet). is_unknown x p.part p.word) (sym e) ∙ unknown_kept p.part p.word s (p ∷ ps)) h
 
-pub double_on : (p : Spot) (ps : List Spot) (s t : Sheet) (a d : Bool) → with_names s (p ∷ ps) ≡ t → (a || any_double t (p ∷ ps)) ≡ d → ((a || is_double s p.part p.word) || any_double t ps) ≡ d
+pub double_on : (p : Spot) (ps : List Spot) (s t : Sheet) (a d : Bool) → with_names s (p ∷ ps) ≡ t → (a || any_double t (p ∷ ps)) ≡ d → ((is_double s p.part p.word || a) || any_double t ps) ≡ d
 double_on p ps s t a d e h = or_more a (is_double s p.part p.word) (is_double t p.part p.word) (any_double t ps) d (ap (λ (x : Sheet). is_double x p.part p.word) (sym e) ∙ double_kept p.part p.word s (p ∷ ps)) h
 
-pub full_on : (p : Spot) (ps : List Spot) (s t : Sheet) (a d : Bool) → with_names s (p ∷ ps) ≡ t → (a || any_full t (p ∷ ps)) ≡ d → ((a || is_full s p.part) || any_full t ps) ≡ d
+pub full_on : (p : Spot) (ps : List Spot) (s t : Sheet) (a d : Bool) → with_names s (p ∷ ps) ≡ t → (a || any_full t (p ∷ ps)) ≡ d → ((is_full s p.part || a) || any_full t ps) ≡ d
 full_on p ps s t a d e h = or_more a (is_full s p.part) (is_full t p.part) (any_full t ps) d (ap (λ (x : Sheet). is_full x p.part) (sym e) ∙ full_kept p.part s (p ∷ ps)) h

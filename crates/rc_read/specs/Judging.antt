@@ -15,9 +15,12 @@ use Rattle.rc_read.specs.Spots.{Spot, spots_of}
 use Rattle.rc_read.specs.Table.{parts_of}
 use Rattle.rc_read.specs.Values.{any_lacks, values_of, items_in, start}
 
--- What is wrong with the name in a place, and in one of these.
+-- What is wrong with the name in a place, in it or in one before it, and in one of these.
 abbrev pub wrong_at : Sheet → Part → List ℕ → Wrong
 wrong_at s part w = record { unknown = is_unknown s part w; double = is_double s part w; full = is_full s part }
+
+abbrev pub wrong_with : Sheet → Part → List ℕ → Wrong → Wrong
+wrong_with s part w wrong = record { unknown = is_unknown s part w || wrong.unknown; double = is_double s part w || wrong.double; full = is_full s part || wrong.full }
 
 abbrev pub wrong_in : Sheet → List Spot → Wrong
 wrong_in s spots = record { unknown = any_unknown s spots; double = any_double s spots; full = any_full s spots }

@@ -288,6 +288,13 @@ pub struct Known {
     wrong: Wrong,
 }
 
+// What is noted of the places so far: what they say of the next, and what is wrong with their names.
+#[derive(Clone, Copy)]
+struct Noted {
+    seen: Seen,
+    wrong: Wrong,
+}
+
 impl Wrong {
     ghost use Rattle.std.specs.Prelude.{◌≡◌, ◌||◌};
 
@@ -300,6 +307,21 @@ impl Wrong {
             double: self.double | other.double,
             full: self.full | other.full,
         }
+    }
+}
+
+impl Noted {
+    ghost use Rattle.std.specs.Prelude.{◌≡◌, ◌||◌};
+
+    // Notes what is known of the next place. The answer is what its word says.
+    fn add(&mut self, known: Known) -> Option<Value>
+        ensures value { result ≡ known.value }
+        ensures seen { self.new.seen ≡ known.behind }
+        ensures wrong { self.new.wrong ≡ record { unknown = known.wrong.unknown || self.old.wrong.unknown; double = known.wrong.double || self.old.wrong.double; full = known.wrong.full || self.old.wrong.full } }
+    {
+        self.seen = known.behind;
+        self.wrong = known.wrong.or(self.wrong);
+        known.value
     }
 }
 
@@ -462,19 +484,6 @@ fn look_at_new_thread(parts: &Parts, seen: Seen, word: &[u8]) -> Known
     }
 }
 
-// A place that says nothing of those behind it, and has no name that could be wrong.
-fn look_at_plain(seen: Seen, value: Option<Value>) -> Known
-    ensures value { result.value ≡ value }
-    ensures behind { result.behind ≡ seen }
-    ensures wrong { result.wrong ≡ record { unknown = false; double = false; full = false } }
-{
-    Known {
-        value,
-        behind: seen,
-        wrong: may_lack(false),
-    }
-}
-
 // The number of a variable, which is added where it is new.
 fn variable_of(alloc: Global, parts: &mut Parts, word: &[u8]) -> Result<usize, AllocError>
     ensures number { IfOk result (λ n. n ≡ sheets.number_in (view_sheet parts.old).draft.names word.now) }
@@ -495,45 +504,45 @@ fn operand_of(alloc: Global, parts: &mut Parts, word: &[u8]) -> Result<Option<Va
     Ok(Some(Value::Operand(Operand::Variable(variable))))
 }
 
-// What is known of a place with this word, where the buffer that was named last is near. A variable is added where it
-// is new.
+// What the word of a place says. What it says of the places behind it, and what is wrong with its name, is noted, and a
+// variable is added where it is new. A buffer is looked for first near the one that was named last.
 fn look_at(
     alloc: Global,
     parts: &mut Parts,
-    near: usize,
-    seen: Seen,
+    near: &mut usize,
+    noted: &mut Noted,
     part: Part,
     word: &[u8],
-) -> Result<Known, AllocError>
-    ensures value { IfOk result (λ k. k.value ≡ spec.value_at (view_sheet parts.old) seen part word.now) }
-    ensures behind { IfOk result (λ k. k.behind ≡ spec.seen_behind (view_sheet parts.old) seen part word.now) }
-    ensures wrong { IfOk result (λ k. k.wrong ≡ judging.wrong_at (view_sheet parts.old) part word.now) }
+) -> Result<Option<Value>, AllocError>
+    ensures value { IfOk result (λ o. o ≡ spec.value_at (view_sheet parts.old) noted.old.seen part word.now) }
+    ensures seen { OnOk result (noted.new.seen ≡ spec.seen_behind (view_sheet parts.old) noted.old.seen part word.now) }
+    ensures wrong { OnOk result (noted.new.wrong ≡ judging.wrong_with (view_sheet parts.old) part word.now noted.old.wrong) }
     ensures sheet { OnOk result (view_sheet parts.new ≡ sheets.with_names (view_sheet parts.old) (record { part = part; word = word.now } ∷ [])) }
 {
+    let seen = noted.seen;
     Ok(match part {
-        Part::Fixed(_) | Part::Items => look_at_plain(seen, Some(Value::Nothing)),
-        Part::Variable => {
-            let number = variable_of(alloc, parts, word)?;
-            look_at_plain(seen, Some(Value::Named(number)))
+        Part::Fixed(_) | Part::Items => Some(Value::Nothing),
+        Part::Variable => Some(Value::Named(variable_of(alloc, parts, word)?)),
+        Part::Operand => operand_of(alloc, parts, word)?,
+        Part::Comparison => Some(comparison_value(comparison_of(word))),
+        Part::Signed => signed_value(word),
+        Part::Number(Range::Size) => noted.add(look_at_size(seen, word)),
+        Part::Number(range) => small_value(number_at(parts, seen, range, word)),
+        Part::Buffer => {
+            let known = look_at_buffer(parts, *near, seen, word);
+            *near = known.behind.buffer;
+            noted.add(known)
         }
-        Part::Operand => look_at_plain(seen, operand_of(alloc, parts, word)?),
-        Part::Comparison => look_at_plain(seen, Some(comparison_value(comparison_of(word)))),
-        Part::Signed => look_at_plain(seen, signed_value(word)),
-        Part::Number(Range::Size) => look_at_size(seen, word),
-        Part::Number(range) => {
-            look_at_plain(seen, small_value(number_at(parts, seen, range, word)))
-        }
-        Part::Buffer => look_at_buffer(parts, near, seen, word),
-        Part::Token => look_at_token(parts, seen, word),
-        Part::File => look_at_file(parts, seen, word),
-        Part::NewFile => look_at_new_file(parts, seen, word),
-        Part::NewBuffer => look_at_new_buffer(parts, seen, word),
-        Part::NewToken => look_at_new_token(parts, seen, word),
-        Part::NewThread => look_at_new_thread(parts, seen, word),
-        Part::HeldShares => look_at_plain(seen, held_shares(seen.buffer, word)),
-        Part::HeldToken => look_at_held_token(parts, seen, word),
-        Part::Credits => look_at_plain(seen, held_credits(word)),
-        Part::Queued => look_at_plain(seen, held_queued(parts.head.entries, word)),
+        Part::Token => noted.add(look_at_token(parts, seen, word)),
+        Part::File => noted.add(look_at_file(parts, seen, word)),
+        Part::NewFile => noted.add(look_at_new_file(parts, seen, word)),
+        Part::NewBuffer => noted.add(look_at_new_buffer(parts, seen, word)),
+        Part::NewToken => noted.add(look_at_new_token(parts, seen, word)),
+        Part::NewThread => noted.add(look_at_new_thread(parts, seen, word)),
+        Part::HeldShares => held_shares(seen.buffer, word),
+        Part::HeldToken => noted.add(look_at_held_token(parts, seen, word)),
+        Part::Credits => held_credits(word),
+        Part::Queued => held_queued(parts.head.entries, word),
     })
 }
 
@@ -564,24 +573,19 @@ pub fn put_values(
     ensures items { IfOk result (λ o. IfSome o (λ _. items.new.items ≡ spec.items_in (spec.values_of (sheets.with_names (view_sheet parts.old) (view_spots spots.now)) spec.start (view_spots spots.now)))) }
     ensures wrong { IfOk result (λ o. IfSome o (λ wrong. wrong ≡ judging.wrong_in (sheets.with_names (view_sheet parts.old) (view_spots spots.now)) (view_spots spots.now))) }
 {
-    let mut seen = start();
-    let mut wrong = may_lack(false);
+    let mut noted = Noted {
+        seen: start(),
+        wrong: may_lack(false),
+    };
     values.clear();
     items.clear();
     for spot in spots {
-        let known = look_at(alloc, parts, *near, seen, spot.part, spot.word)?;
-        let Some(value) = known.value else {
+        let says = look_at(alloc, parts, near, &mut noted, spot.part, spot.word)?;
+        let Some(value) = says else {
             return Ok(None);
         };
         values.push(value)?;
         push_if_item(items, value)?;
-        seen = known.behind;
-        if let Value::Named(number) = value {
-            if let Part::Buffer = spot.part {
-                *near = number;
-            }
-        }
-        wrong = wrong.or(known.wrong);
     }
-    Ok(Some(wrong))
+    Ok(Some(noted.wrong))
 }

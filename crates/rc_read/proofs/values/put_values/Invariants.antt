@@ -9,10 +9,10 @@ use Rattle.rc_read.proofs.values.put_values.Given as goal
 abbrev pub invariant-loop-spot : goal.invariant-loop-spot
 invariant-loop-spot l = record {
   sheet : with_names (view_sheet l.parts) (view_spots (drop l.spot-index l.spots)) ≡ with_names (view_sheet l.initial.parts) (view_spots l.spots);
-  values : l.values.items ++ spec.values_of (with_names (view_sheet l.initial.parts) (view_spots l.spots)) l.seen (view_spots (drop l.spot-index l.spots)) ≡ spec.values_of (with_names (view_sheet l.initial.parts) (view_spots l.spots)) spec.start (view_spots l.spots);
-  items : l.items.items ++ spec.items_in (spec.values_of (with_names (view_sheet l.initial.parts) (view_spots l.spots)) l.seen (view_spots (drop l.spot-index l.spots))) ≡ spec.items_in (spec.values_of (with_names (view_sheet l.initial.parts) (view_spots l.spots)) spec.start (view_spots l.spots));
-  lacks : spec.any_lacks (with_names (view_sheet l.initial.parts) (view_spots l.spots)) l.seen (view_spots (drop l.spot-index l.spots)) ≡ spec.any_lacks (with_names (view_sheet l.initial.parts) (view_spots l.spots)) spec.start (view_spots l.spots);
-  unknown : (l.wrong.unknown || sentences.any_unknown (with_names (view_sheet l.initial.parts) (view_spots l.spots)) (view_spots (drop l.spot-index l.spots))) ≡ sentences.any_unknown (with_names (view_sheet l.initial.parts) (view_spots l.spots)) (view_spots l.spots);
-  double : (l.wrong.double || sentences.any_double (with_names (view_sheet l.initial.parts) (view_spots l.spots)) (view_spots (drop l.spot-index l.spots))) ≡ sentences.any_double (with_names (view_sheet l.initial.parts) (view_spots l.spots)) (view_spots l.spots);
-  full : (l.wrong.full || sentences.any_full (with_names (view_sheet l.initial.parts) (view_spots l.spots)) (view_spots (drop l.spot-index l.spots))) ≡ sentences.any_full (with_names (view_sheet l.initial.parts) (view_spots l.spots)) (view_spots l.spots);
+  values : l.values.items ++ spec.values_of (with_names (view_sheet l.initial.parts) (view_spots l.spots)) l.noted.seen (view_spots (drop l.spot-index l.spots)) ≡ spec.values_of (with_names (view_sheet l.initial.parts) (view_spots l.spots)) spec.start (view_spots l.spots);
+  items : l.items.items ++ spec.items_in (spec.values_of (with_names (view_sheet l.initial.parts) (view_spots l.spots)) l.noted.seen (view_spots (drop l.spot-index l.spots))) ≡ spec.items_in (spec.values_of (with_names (view_sheet l.initial.parts) (view_spots l.spots)) spec.start (view_spots l.spots));
+  lacks : spec.any_lacks (with_names (view_sheet l.initial.parts) (view_spots l.spots)) l.noted.seen (view_spots (drop l.spot-index l.spots)) ≡ spec.any_lacks (with_names (view_sheet l.initial.parts) (view_spots l.spots)) spec.start (view_spots l.spots);
+  unknown : (l.noted.wrong.unknown || sentences.any_unknown (with_names (view_sheet l.initial.parts) (view_spots l.spots)) (view_spots (drop l.spot-index l.spots))) ≡ sentences.any_unknown (with_names (view_sheet l.initial.parts) (view_spots l.spots)) (view_spots l.spots);
+  double : (l.noted.wrong.double || sentences.any_double (with_names (view_sheet l.initial.parts) (view_spots l.spots)) (view_spots (drop l.spot-index l.spots))) ≡ sentences.any_double (with_names (view_sheet l.initial.parts) (view_spots l.spots)) (view_spots l.spots);
+  full : (l.noted.wrong.full || sentences.any_full (with_names (view_sheet l.initial.parts) (view_spots l.spots)) (view_spots (drop l.spot-index l.spots))) ≡ sentences.any_full (with_names (view_sheet l.initial.parts) (view_spots l.spots)) (view_spots l.spots);
 }
