@@ -15,10 +15,7 @@ use Rattle.rc_read.specs.Spots.{Spot, spots_of}
 use Rattle.rc_read.specs.Table.{parts_of}
 use Rattle.rc_read.specs.Values.{any_lacks, values_of, items_in, start}
 
--- What is wrong with the name in a place, in it or in one before it, and in one of these.
-abbrev pub wrong_at : Sheet → Part → List ℕ → Wrong
-wrong_at s part w = record { unknown = is_unknown s part w; double = is_double s part w; full = is_full s part }
-
+-- What is wrong with the name in a place or is wrong already, and with one in these places.
 abbrev pub wrong_with : Sheet → Part → List ℕ → Wrong → Wrong
 wrong_with s part w wrong = record { unknown = is_unknown s part w || wrong.unknown; double = is_double s part w || wrong.double; full = is_full s part || wrong.full }
 

@@ -193,6 +193,15 @@ fn held_shares(buffer: usize, word: &[u8]) -> Option<Value>
     }
 }
 
+fn held_token(user_data: Option<u64>) -> Option<Value>
+    ensures { result ≡ option_map (λ u. Value.Item (Item.Token u)) user_data }
+{
+    match user_data {
+        None => None,
+        Some(u) => Some(Value::Item(Item::Token(u))),
+    }
+}
+
 fn held_credits(word: &[u8]) -> Option<Value>
     ensures { result ≡ option_map (λ n. Value.Item (Item.Credits n)) (number_in_range 0 2048 word.now) }
 {
@@ -279,15 +288,6 @@ pub struct Wrong {
     pub full: bool,
 }
 
-/// What is known of a place from its word: what it says, what it says of the places behind it, and what is wrong with
-/// its name.
-#[derive(Clone, Copy)]
-pub struct Known {
-    value: Option<Value>,
-    behind: Seen,
-    wrong: Wrong,
-}
-
 // What is noted of the places so far: what they say of the next, and what is wrong with their names.
 #[derive(Clone, Copy)]
 struct Noted {
@@ -295,55 +295,40 @@ struct Noted {
     wrong: Wrong,
 }
 
-impl Wrong {
-    ghost use Rattle.std.specs.Prelude.{◌≡◌, ◌||◌};
+impl Noted {
+    ghost use Rattle.std.specs.Prelude.{◌≡◌, ◌||◌, false};
+    ghost use Rattle.rc_read.specs.Values.{start};
 
-    // What is wrong of either.
-    fn or(self, other: Wrong) -> Wrong
-        ensures { result ≡ record { unknown = self.unknown || other.unknown; double = self.double || other.double; full = self.full || other.full } }
+    // Before the first place.
+    fn new() -> Noted
+        ensures seen { result.seen ≡ start }
+        ensures wrong { result.wrong ≡ record { unknown = false; double = false; full = false } }
     {
-        Wrong {
-            unknown: self.unknown | other.unknown,
-            double: self.double | other.double,
-            full: self.full | other.full,
+        Noted {
+            seen: start(),
+            wrong: Wrong {
+                unknown: false,
+                double: false,
+                full: false,
+            },
         }
     }
-}
 
-impl Noted {
-    ghost use Rattle.std.specs.Prelude.{◌≡◌, ◌||◌};
-
-    // Notes what is known of the next place. The answer is what its word says.
-    fn add(&mut self, known: Known) -> Option<Value>
-        ensures value { result ≡ known.value }
-        ensures seen { self.new.seen ≡ known.behind }
-        ensures wrong { self.new.wrong ≡ record { unknown = known.wrong.unknown || self.old.wrong.unknown; double = known.wrong.double || self.old.wrong.double; full = known.wrong.full || self.old.wrong.full } }
+    // Notes whether a name isn't declared.
+    fn lack(&mut self, unknown: bool)
+        ensures seen { self.new.seen ≡ self.old.seen }
+        ensures wrong { self.new.wrong ≡ record self.old.wrong { unknown = unknown || self.old.wrong.unknown } }
     {
-        self.seen = known.behind;
-        self.wrong = known.wrong.or(self.wrong);
-        known.value
+        self.wrong.unknown = unknown | self.wrong.unknown;
     }
-}
 
-// Wrong is at most that a name isn't declared.
-fn may_lack(unknown: bool) -> Wrong
-    ensures { result ≡ record { unknown = unknown; double = false; full = false } }
-{
-    Wrong {
-        unknown,
-        double: false,
-        full: false,
-    }
-}
-
-// Wrong is at most that a name is declared a second time, or is one too many.
-fn may_repeat(double: bool, full: bool) -> Wrong
-    ensures { result ≡ record { unknown = false; double = double; full = full } }
-{
-    Wrong {
-        unknown: false,
-        double,
-        full,
+    // Notes whether a name is declared a second time, and whether it is one too many.
+    fn repeat(&mut self, double: bool, full: bool)
+        ensures seen { self.new.seen ≡ self.old.seen }
+        ensures wrong { self.new.wrong ≡ record self.old.wrong { double = double || self.old.wrong.double; full = full || self.old.wrong.full } }
+    {
+        self.wrong.double = double | self.wrong.double;
+        self.wrong.full = full | self.wrong.full;
     }
 }
 
@@ -360,128 +345,95 @@ fn find_about(parts: &Parts, near: usize, word: &[u8]) -> (usize, Option<u32>)
     find_buffer(&parts.buffers, word)
 }
 
-fn look_at_buffer(parts: &Parts, near: usize, seen: Seen, word: &[u8]) -> Known
-    ensures value { result.value ≡ spec.value_at (view_sheet parts.now) seen Part.Buffer word.now }
-    ensures behind { result.behind ≡ spec.seen_behind (view_sheet parts.now) seen Part.Buffer word.now }
-    ensures wrong { result.wrong ≡ judging.wrong_at (view_sheet parts.now) Part.Buffer word.now }
+fn look_at_buffer(parts: &Parts, near: usize, noted: &mut Noted, word: &[u8]) -> Option<Value>
+    ensures value { result ≡ spec.value_at (view_sheet parts.now) noted.old.seen Part.Buffer word.now }
+    ensures seen { noted.new.seen ≡ spec.seen_behind (view_sheet parts.now) noted.old.seen Part.Buffer word.now }
+    ensures wrong { noted.new.wrong ≡ judging.wrong_with (view_sheet parts.now) Part.Buffer word.now noted.old.wrong }
 {
     let (buffer, shares) = find_about(parts, near, word);
-    Known {
-        value: Some(Value::Named(buffer)),
-        behind: Seen {
-            buffer,
-            shares,
-            ..seen
-        },
-        wrong: may_lack(shares.is_none()),
-    }
+    noted.lack(shares.is_none());
+    noted.seen.buffer = buffer;
+    noted.seen.shares = shares;
+    Some(Value::Named(buffer))
 }
 
-fn look_at_token(parts: &Parts, seen: Seen, word: &[u8]) -> Known
-    ensures value { result.value ≡ spec.value_at (view_sheet parts.now) seen Part.Token word.now }
-    ensures behind { result.behind ≡ seen }
-    ensures wrong { result.wrong ≡ judging.wrong_at (view_sheet parts.now) Part.Token word.now }
+fn look_at_token(parts: &Parts, noted: &mut Noted, word: &[u8]) -> Option<Value>
+    ensures value { result ≡ spec.value_at (view_sheet parts.now) noted.old.seen Part.Token word.now }
+    ensures seen { noted.new.seen ≡ noted.old.seen }
+    ensures wrong { noted.new.wrong ≡ judging.wrong_with (view_sheet parts.now) Part.Token word.now noted.old.wrong }
 {
     let user_data = user_data_of(word);
-    Known {
-        value: user_data_value(user_data),
-        behind: seen,
-        wrong: may_lack(lacks_token(parts, user_data)),
-    }
+    noted.lack(lacks_token(parts, user_data));
+    user_data_value(user_data)
 }
 
-fn look_at_held_token(parts: &Parts, seen: Seen, word: &[u8]) -> Known
-    ensures value { result.value ≡ spec.value_at (view_sheet parts.now) seen Part.HeldToken word.now }
-    ensures behind { result.behind ≡ seen }
-    ensures wrong { result.wrong ≡ judging.wrong_at (view_sheet parts.now) Part.HeldToken word.now }
+fn look_at_held_token(parts: &Parts, noted: &mut Noted, word: &[u8]) -> Option<Value>
+    ensures value { result ≡ spec.value_at (view_sheet parts.now) noted.old.seen Part.HeldToken word.now }
+    ensures seen { noted.new.seen ≡ noted.old.seen }
+    ensures wrong { noted.new.wrong ≡ judging.wrong_with (view_sheet parts.now) Part.HeldToken word.now noted.old.wrong }
 {
     let user_data = user_data_of(word);
-    let value = match user_data {
-        None => None,
-        Some(u) => Some(Value::Item(Item::Token(u))),
-    };
-    Known {
-        value,
-        behind: seen,
-        wrong: may_lack(lacks_token(parts, user_data)),
-    }
+    noted.lack(lacks_token(parts, user_data));
+    held_token(user_data)
 }
 
-fn look_at_file(parts: &Parts, seen: Seen, word: &[u8]) -> Known
-    ensures value { result.value ≡ spec.value_at (view_sheet parts.now) seen Part.File word.now }
-    ensures behind { result.behind ≡ seen }
-    ensures wrong { result.wrong ≡ judging.wrong_at (view_sheet parts.now) Part.File word.now }
+fn look_at_file(parts: &Parts, noted: &mut Noted, word: &[u8]) -> Option<Value>
+    ensures value { result ≡ spec.value_at (view_sheet parts.now) noted.old.seen Part.File word.now }
+    ensures seen { noted.new.seen ≡ noted.old.seen }
+    ensures wrong { noted.new.wrong ≡ judging.wrong_with (view_sheet parts.now) Part.File word.now noted.old.wrong }
 {
     let number = file_number_of(word);
-    Known {
-        value: small_value(number),
-        behind: seen,
-        wrong: may_lack(lacks_file(parts, number)),
-    }
+    noted.lack(lacks_file(parts, number));
+    small_value(number)
 }
 
-fn look_at_size(seen: Seen, word: &[u8]) -> Known
-    ensures value { result.value ≡ spec.small_value (number_in_range 1 1024 word.now) }
-    ensures behind { result.behind ≡ spec.sized seen (number_in_range 1 1024 word.now) }
-    ensures wrong { result.wrong ≡ record { unknown = false; double = false; full = false } }
+fn look_at_size(noted: &mut Noted, word: &[u8]) -> Option<Value>
+    ensures value { result ≡ spec.small_value (number_in_range 1 1024 word.now) }
+    ensures seen { noted.new.seen ≡ spec.sized noted.old.seen (number_in_range 1 1024 word.now) }
+    ensures wrong { noted.new.wrong ≡ noted.old.wrong }
 {
     let size = small_number_of(1, 1024, word);
-    Known {
-        value: small_value(size),
-        behind: sized(seen, size),
-        wrong: may_lack(false),
-    }
+    noted.seen = sized(noted.seen, size);
+    small_value(size)
 }
 
-fn look_at_new_file(parts: &Parts, seen: Seen, word: &[u8]) -> Known
-    ensures value { result.value ≡ spec.value_at (view_sheet parts.now) seen Part.NewFile word.now }
-    ensures behind { result.behind ≡ seen }
-    ensures wrong { result.wrong ≡ judging.wrong_at (view_sheet parts.now) Part.NewFile word.now }
+fn look_at_new_file(parts: &Parts, noted: &mut Noted, word: &[u8]) -> Option<Value>
+    ensures value { result ≡ spec.value_at (view_sheet parts.now) noted.old.seen Part.NewFile word.now }
+    ensures seen { noted.new.seen ≡ noted.old.seen }
+    ensures wrong { noted.new.wrong ≡ judging.wrong_with (view_sheet parts.now) Part.NewFile word.now noted.old.wrong }
 {
     let number = file_number_of(word);
-    Known {
-        value: small_value(number),
-        behind: seen,
-        wrong: may_repeat(repeats_file(parts, number), parts.files.len() >= 16),
-    }
+    noted.repeat(repeats_file(parts, number), parts.files.len() >= 16);
+    small_value(number)
 }
 
-fn look_at_new_buffer(parts: &Parts, seen: Seen, word: &[u8]) -> Known
-    ensures value { result.value ≡ spec.value_at (view_sheet parts.now) seen Part.NewBuffer word.now }
-    ensures behind { result.behind ≡ seen }
-    ensures wrong { result.wrong ≡ judging.wrong_at (view_sheet parts.now) Part.NewBuffer word.now }
+fn look_at_new_buffer(parts: &Parts, noted: &mut Noted, word: &[u8]) -> Option<Value>
+    ensures value { result ≡ spec.value_at (view_sheet parts.now) noted.old.seen Part.NewBuffer word.now }
+    ensures seen { noted.new.seen ≡ noted.old.seen }
+    ensures wrong { noted.new.wrong ≡ judging.wrong_with (view_sheet parts.now) Part.NewBuffer word.now noted.old.wrong }
 {
-    Known {
-        value: Some(Value::Nothing),
-        behind: seen,
-        wrong: may_repeat(has_buffer(&parts.buffers, word), parts.buffers.len() >= 64),
-    }
+    noted.repeat(has_buffer(&parts.buffers, word), parts.buffers.len() >= 64);
+    Some(Value::Nothing)
 }
 
-fn look_at_new_token(parts: &Parts, seen: Seen, word: &[u8]) -> Known
-    ensures value { result.value ≡ spec.value_at (view_sheet parts.now) seen Part.NewToken word.now }
-    ensures behind { result.behind ≡ seen }
-    ensures wrong { result.wrong ≡ judging.wrong_at (view_sheet parts.now) Part.NewToken word.now }
+fn look_at_new_token(parts: &Parts, noted: &mut Noted, word: &[u8]) -> Option<Value>
+    ensures value { result ≡ spec.value_at (view_sheet parts.now) noted.old.seen Part.NewToken word.now }
+    ensures seen { noted.new.seen ≡ noted.old.seen }
+    ensures wrong { noted.new.wrong ≡ judging.wrong_with (view_sheet parts.now) Part.NewToken word.now noted.old.wrong }
 {
     let user_data = user_data_of(word);
-    Known {
-        value: user_data_value(user_data),
-        behind: seen,
-        wrong: may_repeat(repeats_token(parts, user_data), parts.tokens.len() >= 256),
-    }
+    noted.repeat(repeats_token(parts, user_data), parts.tokens.len() >= 256);
+    user_data_value(user_data)
 }
 
-fn look_at_new_thread(parts: &Parts, seen: Seen, word: &[u8]) -> Known
-    ensures value { result.value ≡ spec.value_at (view_sheet parts.now) seen Part.NewThread word.now }
-    ensures behind { result.behind ≡ seen }
-    ensures wrong { result.wrong ≡ judging.wrong_at (view_sheet parts.now) Part.NewThread word.now }
+fn look_at_new_thread(parts: &Parts, noted: &mut Noted, word: &[u8]) -> Option<Value>
+    ensures value { result ≡ spec.value_at (view_sheet parts.now) noted.old.seen Part.NewThread word.now }
+    ensures seen { noted.new.seen ≡ noted.old.seen }
+    ensures wrong { noted.new.wrong ≡ judging.wrong_with (view_sheet parts.now) Part.NewThread word.now noted.old.wrong }
 {
     let double = has_thread(&parts.threads, word) || is(&parts.draft.name, word);
-    Known {
-        value: Some(Value::Nothing),
-        behind: seen,
-        wrong: may_repeat(double, parts.threads.len() >= 16),
-    }
+    noted.repeat(double, parts.threads.len() >= 16);
+    Some(Value::Nothing)
 }
 
 // The number of a variable, which is added where it is new.
@@ -519,28 +471,27 @@ fn look_at(
     ensures wrong { OnOk result (noted.new.wrong ≡ judging.wrong_with (view_sheet parts.old) part word.now noted.old.wrong) }
     ensures sheet { OnOk result (view_sheet parts.new ≡ sheets.with_names (view_sheet parts.old) (record { part = part; word = word.now } ∷ [])) }
 {
-    let seen = noted.seen;
     Ok(match part {
         Part::Fixed(_) | Part::Items => Some(Value::Nothing),
         Part::Variable => Some(Value::Named(variable_of(alloc, parts, word)?)),
         Part::Operand => operand_of(alloc, parts, word)?,
         Part::Comparison => Some(comparison_value(comparison_of(word))),
         Part::Signed => signed_value(word),
-        Part::Number(Range::Size) => noted.add(look_at_size(seen, word)),
-        Part::Number(range) => small_value(number_at(parts, seen, range, word)),
+        Part::Number(Range::Size) => look_at_size(noted, word),
+        Part::Number(range) => small_value(number_at(parts, noted.seen, range, word)),
         Part::Buffer => {
-            let known = look_at_buffer(parts, *near, seen, word);
-            *near = known.behind.buffer;
-            noted.add(known)
+            let value = look_at_buffer(parts, *near, noted, word);
+            *near = noted.seen.buffer;
+            value
         }
-        Part::Token => noted.add(look_at_token(parts, seen, word)),
-        Part::File => noted.add(look_at_file(parts, seen, word)),
-        Part::NewFile => noted.add(look_at_new_file(parts, seen, word)),
-        Part::NewBuffer => noted.add(look_at_new_buffer(parts, seen, word)),
-        Part::NewToken => noted.add(look_at_new_token(parts, seen, word)),
-        Part::NewThread => noted.add(look_at_new_thread(parts, seen, word)),
-        Part::HeldShares => held_shares(seen.buffer, word),
-        Part::HeldToken => noted.add(look_at_held_token(parts, seen, word)),
+        Part::Token => look_at_token(parts, noted, word),
+        Part::File => look_at_file(parts, noted, word),
+        Part::NewFile => look_at_new_file(parts, noted, word),
+        Part::NewBuffer => look_at_new_buffer(parts, noted, word),
+        Part::NewToken => look_at_new_token(parts, noted, word),
+        Part::NewThread => look_at_new_thread(parts, noted, word),
+        Part::HeldShares => held_shares(noted.seen.buffer, word),
+        Part::HeldToken => look_at_held_token(parts, noted, word),
         Part::Credits => held_credits(word),
         Part::Queued => held_queued(parts.head.entries, word),
     })
@@ -573,10 +524,7 @@ pub fn put_values(
     ensures items { IfOk result (λ o. IfSome o (λ _. items.new.items ≡ spec.items_in (spec.values_of (sheets.with_names (view_sheet parts.old) (view_spots spots.now)) spec.start (view_spots spots.now)))) }
     ensures wrong { IfOk result (λ o. IfSome o (λ wrong. wrong ≡ judging.wrong_in (sheets.with_names (view_sheet parts.old) (view_spots spots.now)) (view_spots spots.now))) }
 {
-    let mut noted = Noted {
-        seen: start(),
-        wrong: may_lack(false),
-    };
+    let mut noted = Noted::new();
     values.clear();
     items.clear();
     for spot in spots {

@@ -1,13 +1,13 @@
-use Rattle.std.proofs.Common.{Bool, false, ap, map, refl, ◌∙◌}
+use Rattle.std.proofs.Common.{Bool, ◌||◌, ap, map, refl, ◌∙◌}
 use Rattle.rc_lang.specs.Parts.{view_buffer}
 use Rattle.rc_read.specs.declared.values.Wrong.{Wrong}
 use Rattle.rc_read.proofs.Sizes.{undeclared}
 use Rattle.rc_read.proofs.values.look_at_buffer.Goals as goal
 
-abbrev lacking : Bool → Wrong
-lacking unknown = record { unknown = unknown; double = false; full = false }
+abbrev with_unknown : Wrong → Bool → Wrong
+with_unknown wrong unknown = record wrong { unknown = unknown || wrong.unknown }
 
 pub returns-clause-wrong : goal.returns-clause-wrong
 returns-clause-wrong c =
     let bs = map view_buffer c.args.parts.now.buffers.items in
-    c.may_lack.ensures ∙ ap lacking (undeclared c.is_none.result c.find_about-buffer.result.1 bs bs c.args.word.now c.is_none.ensures c.find_about-buffer.ensures.shares refl)
+    c.lack.ensures.wrong ∙ ap (with_unknown c.args.noted.now.wrong) (undeclared c.is_none.result c.find_about-buffer.result.1 bs bs c.args.word.now c.is_none.ensures c.find_about-buffer.ensures.shares refl)
