@@ -1,5 +1,6 @@
 pub mod Cuts
 pub mod FirstFault
+pub mod FirstLines
 pub mod Judged
 pub mod Kept
 pub mod KeptArms

@@ -1,8 +1,9 @@
 //! The fault sentences about a line, and what becomes of the parts at it.
 
-ghost use Rattle.std.specs.Prelude.{◌≡◌, option_map};
+ghost use Rattle.std.specs.Prelude.{◌≡◌, IfOk, length, option_map};
 ghost use Rattle.rc_read.specs.Causes.{number_of_cause};
 ghost use Rattle.rc_read.specs.Judging.{JudgesRow, JudgesWords, later_sentences};
+ghost use Rattle.rc_read.specs.Pieces.{line_in};
 ghost use Rattle.rc_read.specs.Sentences as spec;
 ghost use Rattle.rc_read.specs.Spots.{row_of as row_in, spots_of};
 ghost use Rattle.rc_read.specs.Stream.{Judges};
@@ -18,7 +19,7 @@ use crate::says::{Says, says_of};
 use crate::spots::{Spot, put_spots};
 use crate::table::{Row, Stand, stand_of};
 use crate::values::{Item, Value, Wrong, put_values};
-use crate::words::{begins_strange, is, put_words};
+use crate::words::{FirstLine, begins_strange, is, put_words};
 use std::alloc::{AllocError, Global};
 
 /// What stands in the places of a line.
@@ -172,17 +173,19 @@ fn judge_words<'a>(
     judge_row(alloc, parts, found, line, words, row)
 }
 
-/// Judges a line, and adds it where no sentence is true of it.
-pub fn judge<'a>(
+// Judges a line whose words are put there, where it is known whether a strange byte is among its bytes.
+fn judge_line<'a>(
     alloc: Global,
     parts: &mut Parts,
     scratch: &mut Scratch<'a>,
     line: &'a [u8],
+    strange: bool,
 ) -> Result<(), ReadFault>
+    requires words { texts_of scratch.old.words.items ≡ words_of line.now }
+    requires strange { strange ≡ spec.any_strange line.now }
     ensures { Judges (view_sheet parts.old) line.now (view_sheet parts.new) result }
 {
     let number = parts.count + 1;
-    let strange = put_words(&mut scratch.words, line)?;
     if begins_strange(line, strange) {
         let cause = ReadCause::NotAscii;
         return Err(ReadFault::Text {
@@ -196,5 +199,22 @@ pub fn judge<'a>(
             line: number,
             cause,
         }),
+    }
+}
+
+/// Judges the line that these bytes begin with, and adds it where no sentence is true of it. The answer is where it ends.
+pub fn judge<'a>(
+    alloc: Global,
+    parts: &mut Parts,
+    scratch: &mut Scratch<'a>,
+    bytes: &'a [u8],
+) -> Result<usize, ReadFault>
+    ensures judges { Judges (view_sheet parts.old) (line_in bytes.now) (view_sheet parts.new) result }
+    ensures end { IfOk result (λ end. end ≡ length (line_in bytes.now)) }
+{
+    let FirstLine { end, strange } = put_words(&mut scratch.words, bytes)?;
+    match judge_line(alloc, parts, scratch, &bytes[..end], strange) {
+        Ok(()) => Ok(end),
+        Err(fault) => Err(fault),
     }
 }

@@ -1,15 +1,26 @@
 //! The words of a line, as slices of it.
 
-ghost use Rattle.std.specs.Prelude.{◌≡◌, ◌++◌, IfOk, OnOk, take};
+ghost use Rattle.std.specs.Prelude.{◌≡◌, ◌++◌, IfOk, OnOk, length, take};
 ghost use Rattle.std.specs.Str.{bytes_eq};
 ghost use Rattle.rc_lang.specs.Names as names;
+ghost use Rattle.rc_read.specs.Pieces.{line_in};
 ghost use Rattle.rc_read.specs.Quick.{any_outside, is_word_byte};
 ghost use Rattle.rc_read.specs.Sentences.{any_strange, is_strange};
 ghost use Rattle.rc_read.specs.Texts.{texts_of};
 ghost use Rattle.rc_read.specs.Words as spec;
 
 use crate::reserved::is_reserved;
+use memchr::memchr;
 use std::alloc::AllocError;
+
+/// The line that some bytes begin with.
+#[derive(Clone, Copy)]
+pub struct FirstLine {
+    /// The place of the line feed that ends it, or the number of the bytes where there is none.
+    pub end: usize,
+    /// Whether a strange byte is among its bytes.
+    pub strange: bool,
+}
 
 /// Whether a word is this text.
 pub fn is(word: &[u8], text: &[u8]) -> bool
@@ -91,29 +102,47 @@ fn is_word_byte(b: u8) -> bool
     b > b'#' && b < 127
 }
 
-/// Puts the words of a line there, without its comment. The answer is whether a strange byte is among its bytes.
-pub fn put_words<'a>(words: &mut Vec<&'a [u8]>, line: &'a [u8]) -> Result<bool, AllocError>
-    ensures words { OnOk result (texts_of words.new.items ≡ spec.words_of line.now) }
-    ensures strange { IfOk result (λ b. b ≡ any_strange line.now) }
+// How long the line is that some bytes begin with.
+fn line_length(bytes: &[u8]) -> usize
+    ensures { result ≡ length (line_in bytes.now) }
+{
+    match memchr(b'\n', bytes) {
+        Some(end) => end,
+        None => bytes.len(),
+    }
+}
+
+/// Puts the words of the line there that these bytes begin with, without its comment.
+pub fn put_words<'a>(words: &mut Vec<&'a [u8]>, bytes: &'a [u8]) -> Result<FirstLine, AllocError>
+    ensures words { OnOk result (texts_of words.new.items ≡ spec.words_of (line_in bytes.now)) }
+    ensures end { IfOk result (λ line. line.end ≡ length (line_in bytes.now)) }
+    ensures strange { IfOk result (λ line. line.strange ≡ any_strange (line_in bytes.now)) }
 {
     words.clear();
     let mut start = 0;
     let mut strange = false;
-    for i in 0..line.len() {
-        if !is_word_byte(line[i]) {
-            if is_blank(line[i]) {
-                push_word(words, &line[start..i])?;
+    for i in 0..bytes.len() {
+        let b = bytes[i];
+        if !is_word_byte(b) {
+            if is_blank(b) {
+                push_word(words, &bytes[start..i])?;
                 start = i + 1;
-            } else if line[i] == b'#' {
-                push_word(words, &line[start..i])?;
-                return Ok(strange | has_strange(&line[i..]));
+            } else if b == b'\n' {
+                push_word(words, &bytes[start..i])?;
+                return Ok(FirstLine { end: i, strange });
+            } else if b == b'#' {
+                push_word(words, &bytes[start..i])?;
+                let end = i + line_length(&bytes[i..]);
+                let strange = strange | has_strange(&bytes[i..end]);
+                return Ok(FirstLine { end, strange });
             } else {
-                strange = strange | is_strange(line[i]);
+                strange = strange | is_strange(b);
             }
         }
     }
-    push_word(words, &line[start..])?;
-    Ok(strange)
+    push_word(words, &bytes[start..])?;
+    let end = bytes.len();
+    Ok(FirstLine { end, strange })
 }
 
 fn is_name_byte(b: u8) -> bool
