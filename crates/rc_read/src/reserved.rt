@@ -1,74 +1,69 @@
 //! The words that are no names.
 
-ghost use Rattle.std.specs.Prelude.{◌≡◌};
+ghost use Rattle.std.specs.Prelude.{◌≡◌, ◌∷◌, drop};
 ghost use Rattle.rc_lang.specs.Names as spec;
 
 use crate::words::is;
 
-fn is_heading(w: &[u8]) -> bool
-    ensures { result ≡ spec.is_heading w.now }
+// Whether a word that begins with `p` is reserved.
+fn is_reserved_at_p(w: &[u8]) -> bool
+    requires { w.now ≡ 112 ∷ drop 1 w.now }
+    ensures { result ≡ spec.is_reserved w.now }
 {
-    is(w, b"ringcheck")
-        || is(w, b"ring")
-        || is(w, b"left")
-        || is(w, b"file")
-        || is(w, b"buffer")
-        || is(w, b"token")
-        || is(w, b"thread")
-        || is(w, b"holds")
-        || is(w, b"t")
-        || is(w, b"c")
-        || is(w, b"q")
-}
-
-fn is_acting(w: &[u8]) -> bool
-    ensures { result ≡ spec.is_acting w.now }
-{
-    is(w, b"read")
-        || is(w, b"write")
-        || is(w, b"fsync")
-        || is(w, b"nop")
-        || is(w, b"load")
-        || is(w, b"store")
-        || is(w, b"fill")
-        || is(w, b"print")
-        || is(w, b"lock")
-}
-
-fn is_calling(w: &[u8]) -> bool
-    ensures { result ≡ spec.is_calling w.now }
-{
-    is(w, b"get_sqe")
+    is(w, b"print")
         || is(w, b"prep_read")
         || is(w, b"prep_write")
         || is(w, b"prep_fsync")
         || is(w, b"prep_nop")
+        || is(w, b"peek_cqe")
+}
+
+// Whether a word that begins with `s` is reserved.
+fn is_reserved_at_s(w: &[u8]) -> bool
+    requires { w.now ≡ 115 ∷ drop 1 w.now }
+    ensures { result ≡ spec.is_reserved w.now }
+{
+    is(w, b"store")
         || is(w, b"set_data64")
         || is(w, b"submit")
         || is(w, b"submit_and_wait")
-        || is(w, b"peek_cqe")
-        || is(w, b"cqe_seen")
-}
-
-fn is_branching(w: &[u8]) -> bool
-    ensures { result ≡ spec.is_branching w.now }
-{
-    is(w, b"case")
-        || is(w, b"other")
-        || is(w, b"none")
-        || is(w, b"if")
-        || is(w, b"else")
-        || is(w, b"loop")
-        || is(w, b"keeps")
-        || is(w, b"break")
         || is(w, b"sq_ready")
         || is(w, b"sq_space_left")
-        || is(w, b"kernel")
+}
+
+// Whether a word that begins with this byte is reserved.
+fn is_reserved_at(first: u8, w: &[u8]) -> bool
+    requires { w.now ≡ first ∷ drop 1 w.now }
+    ensures { result ≡ spec.is_reserved w.now }
+{
+    match first {
+        b'b' => is(w, b"buffer") || is(w, b"break"),
+        b'c' => is(w, b"c") || is(w, b"cqe_seen") || is(w, b"case"),
+        b'e' => is(w, b"else"),
+        b'f' => is(w, b"file") || is(w, b"fsync") || is(w, b"fill"),
+        b'g' => is(w, b"get_sqe"),
+        b'h' => is(w, b"holds"),
+        b'i' => is(w, b"if"),
+        b'k' => is(w, b"keeps") || is(w, b"kernel"),
+        b'l' => is(w, b"left") || is(w, b"load") || is(w, b"lock") || is(w, b"loop"),
+        b'n' => is(w, b"nop") || is(w, b"none"),
+        b'o' => is(w, b"other"),
+        b'p' => is_reserved_at_p(w),
+        b'q' => is(w, b"q"),
+        b'r' => is(w, b"ringcheck") || is(w, b"ring") || is(w, b"read"),
+        b's' => is_reserved_at_s(w),
+        b't' => is(w, b"token") || is(w, b"thread") || is(w, b"t"),
+        b'w' => is(w, b"write"),
+        _ => false,
+    }
 }
 
 /// Whether a word is reserved.
 pub fn is_reserved(w: &[u8]) -> bool
     ensures { result ≡ spec.is_reserved w.now }
 {
-    is_heading(w) || is_acting(w) || is_calling(w) || is_branching(w)
+    match w {
+        [] => false,
+        [first, ..] => is_reserved_at(*first, w),
+    }
 }

@@ -168,7 +168,7 @@ fn is_spelt(word: &[u8]) -> bool
     match word {
         [] => false,
         [first, rest @ ..] => {
-            first.is_ascii_lowercase() && all_name_bytes(rest) && rest.len() < 16
+            first.is_ascii_lowercase() && rest.len() < 16 && all_name_bytes(rest)
         }
     }
 }
