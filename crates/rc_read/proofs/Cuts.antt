@@ -1,12 +1,12 @@
 -- Lines that are cut at the places of bytes.
-use Rattle.std.proofs.Common.{◌≡◌, ℕ, zero, suc, ◌+◌, ◌-◌, ◌<◌, ◌≤◌, List, [], ◌∷◌, ◌++◌, length, take, drop, get_or, Bool, true, false, cond, not, ltb, eqb, ◌&&◌, ◌||◌, refl, sym, ap, ◌∙◌, inl, inr, arith, append_assoc, eq-eqb, length-drop}
+use Rattle.std.proofs.Common.{◌≡◌, ℕ, zero, suc, ◌+◌, ◌-◌, ◌<◌, ◌≤◌, List, [], ◌∷◌, ◌++◌, length, take, drop, get_or, Bool, true, false, cond, not, ltb, eqb, ◌&&◌, ◌||◌, refl, sym, ap, ◌∙◌, inl, inr, arith, append_assoc, length-drop}
 use Rattle.std.proofs.lemmas.Bool.{ne_eqb, and_parts, or_cases, or_parts, or_from, ltb-true, le-ltb, eqb-true}
 use Rattle.std.proofs.lemmas.List.{take_more, get_or-drop}
 use Rattle.rc_read.specs.Pieces.{line_in}
 use Rattle.rc_read.specs.Quick.{any_outside, is_word_byte}
 use Rattle.rc_read.specs.Sentences.{any_strange, is_strange}
-use Rattle.rc_read.proofs.FirstLines.{not_true, goes_on, stops, line_grows}
 use Rattle.rc_read.specs.Words.{without_comment, words_after, word_if_any, is_blank}
+use Rattle.rc_read.proofs.FirstLines.{not_true, goes_on, line_grows}
 
 -- ---- strange bytes
 
@@ -86,11 +86,6 @@ none_of_first (suc n) (b ∷ bytes) h = let p = or_parts (is_strange b) (any_str
 letter_first : (bytes : List ℕ) (i : ℕ) → i < length bytes → eqb (get_or bytes i 0) 10 ≡ false → eqb (get_or bytes i 0) 35 ≡ false → without_comment (line_in (drop i bytes)) ≡ get_or bytes i 0 ∷ without_comment (line_in (drop (i + 1) bytes))
 letter_first bytes i lt f n =
     ap without_comment (line_grows bytes i lt f) ∙ goes_on (eqb (get_or bytes i 0) 35) (get_or bytes i 0) (without_comment (line_in (drop (i + 1) bytes))) n
-
--- where a comment begins
-pub comment_first : (bytes : List ℕ) (i : ℕ) → i < length bytes → get_or bytes i 0 ≡ 35 → without_comment (line_in (drop i bytes)) ≡ []
-comment_first bytes i lt e =
-    ap without_comment (line_grows bytes i lt (ne_eqb (get_or bytes i 0) 10 (omega (arith, e)))) ∙ stops (eqb (get_or bytes i 0) 35) (get_or bytes i 0 ∷ without_comment (line_in (drop (i + 1) bytes))) (eq-eqb (get_or bytes i 0) 35 e)
 
 -- ---- words
 

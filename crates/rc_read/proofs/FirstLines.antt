@@ -76,7 +76,7 @@ strange_to bytes hay i n old whole found e l f h =
 
 -- ---- lines and what is behind the last of them
 
--- these bytes are cut into
+-- what bytes are cut into: lines, and the bytes behind the last line feed
 abbrev Cut : Type 0
 Cut = List (List ℕ) × List ℕ
 
@@ -121,7 +121,7 @@ rest_within (b ∷ bytes) = within_by (eqb b 10) b (length bytes) (cut bytes) (r
 
 -- ---- a line that a line feed ends
 
--- the line feed of the first line is there, and behind it the last one is the same
+-- a line feed ends the first line, and what is behind the last line feed is the same from the second line on
 pub record IsEnded (bytes : List ℕ) : Type 0 where
   pub within : length (line_in bytes) < length bytes
   pub feed : get_or bytes (length (line_in bytes)) 0 ≡ 10
@@ -154,7 +154,7 @@ ended_or : (bytes : List ℕ) (ls : List (List ℕ)) → (cut bytes).0 ≡ ls �
 ended_or bytes [] e lt = absurd (omega (arith, lt, ap length (no_lines bytes e)))
 ended_or bytes (l ∷ ls) e lt = ended bytes l ls e
 
--- where something is behind which the last line feed stands
+-- where a line feed is among the bytes
 pub is_ended : (bytes : List ℕ) → length (cut bytes).1 < length bytes → IsEnded bytes
 is_ended bytes lt = ended_or bytes (cut bytes).0 refl lt
 

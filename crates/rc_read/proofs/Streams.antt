@@ -12,9 +12,9 @@ use Rattle.rc_read.specs.Sheets.{Sheet, empty}
 use Rattle.rc_read.specs.Adds.{with_line}
 use Rattle.rc_read.specs.Stream.{Reads, HasRead, Reading, IsAnswer, IsAnswerSoFar, IsReached, IsReachedOrFaulty, Judges, JudgesAll, Ends}
 use Rattle.rc_read.specs.Words.{cut, before_line, last_line}
-use Rattle.rc_read.proofs.FirstLines.{IsEnded, ended_line, first_is_last, is_ended, line_front, line_twice, no_lines, not_true, rest_is_line, rest_within}
 use Rattle.rc_read.specs.declared.fault.ReadFault.{ReadFault}
 use Rattle.rc_read.specs.declared.fault.ReadFault.TheVariants.{Text, OutOfMemory}
+use Rattle.rc_read.proofs.FirstLines.{IsEnded, ended_line, first_is_last, is_ended, line_front, line_twice, no_lines, not_true, rest_is_line, rest_within}
 
 abbrev pub ok : Result (Unit {0}) ReadFault
 ok = Ok tt
@@ -246,9 +246,6 @@ pub sound_by : (s s' : Sheet) (line : List ℕ) (r : Result (Unit {0}) ReadFault
 sound_by s s' line (Ok u) j h =
     (h.0 ++ line ∷ [], judged-append_ok empty s h.0 (line ∷ []) h.1 ∙ none_goes s line j.0 ∙ ap as_ok (sym j.1))
 sound_by s s' line (Err f) j h = tt
-
-pub sound_ok : (r : Result (Unit {0}) ReadFault) (s : Sheet) → r ≡ Ok tt → IsSoundBy r s → IsReached s
-sound_ok r s e h = subst (λ (x : Result (Unit {0}) ReadFault). IsSoundBy x s) e h
 
 pub reached_end : (o : Option ReadFault) (s s' : Sheet) (pending rest : List ℕ) → o ≡ None → rest ≡ pending → judged s (first_line rest) ≡ Ok s' → IsReachedOrFaulty o s → IsReached s'
 reached_end o s s' pending rest eo ep j h =
