@@ -1,5 +1,5 @@
 -- The step of the kernel that an item names.
-use Rattle.std.proofs.Common.{ℕ, ℤ, pos, negsuc, zero, suc, Bool, true, false, ◌&&◌, if◌then◌else◌, ◌≡◌, ◌≤◌, ◌<◌, List, [], ◌∷◌, ◌++◌, append_assoc, drop, get_or, take, replicate, length, nat_eq, nat_le, Option, Some, None, IsSome, slice_get, slice_set, refl, sym, ap, subst, ◌∙◌, arith}
+use Rattle.std.proofs.Common.{ℕ, ℤ, pos, negsuc, zero, suc, Bool, true, false, ◌&&◌, if◌then◌else◌, ◌≡◌, ◌≤◌, ◌<◌, List, [], ◌∷◌, ◌++◌, append_assoc, drop, get_or, take, replicate, length, nat_eq, nat_le, Option, Some, None, IsSome, option_map, slice_get, slice_set, refl, sym, ap, subst, ◌∙◌, arith}
 use Rattle.std.proofs.lemmas.Bool.{eqb-true, leb-true}
 use Rattle.std.proofs.lemmas.List.Quantifiers.{position-Some}
 use Rattle.std.proofs.lemmas.Option.{get_or_from_slice_get}
@@ -15,7 +15,8 @@ use Rattle.rc_world.specs.Faults.{clashes}
 use Rattle.rc_world.specs.Items.{filled, item_bytes, kernel_item, pending_place}
 use Rattle.rc_world.specs.Kept.{IsKept, IsKeptPending, IsMemory}
 use Rattle.rc_world.specs.Machine.{Pending, World, bytes_brought, completes, completion_of, count_in, given_back, is_read, kernel_event, kernel_step_of, without}
-use Rattle.rc_world.specs.WorldParts.{refilled, refilled_in}
+use Rattle.rc_world.specs.Parts.{refilled}
+use Rattle.rc_world.specs.WorldParts.{given_in}
 use Rattle.rc_world.proofs.Keeping.{memory_given}
 use Rattle.rc_world.proofs.Memory.{read_has_buffer}
 
@@ -104,25 +105,25 @@ module _ (w : World) (k : IsKept w) (u n : ℕ) (res : ℤ) (fill : ℕ) (p : Pe
   bytes_are stood e =
       ap (λ b. if b then filled (count_in res) fill p.request.len p.bytes else []) (held.of_read stood e) ∙ ap (filled (count_in res) fill p.request.len) e
 
-  gives : (o : Option (List ℕ)) → p.bytes ≡ o → given_back w p.request (item_bytes res fill (Some p)) p.bytes ≡ Some (refilled_in w.buffers p.request.buffer (count_in res) fill p.bytes)
+  gives : (o : Option (List ℕ)) → p.bytes ≡ o → given_back w p.request (item_bytes res fill (Some p)) p.bytes ≡ Some (given_in w.buffers p.request.buffer (option_map (refilled (count_in res) fill) p.bytes))
   gives None e =
       ap (given_back w p.request (item_bytes res fill (Some p))) e ∙ ap (λ b. if b then None else Some w.buffers) (ap is_read refl ∙ (let r = not_read (is_read p.request.kind) refl e in r))
-      ∙ ap (λ o. Some (refilled_in w.buffers p.request.buffer (count_in res) fill o)) (sym e)
+      ∙ ap (λ o. Some (given_in w.buffers p.request.buffer (option_map (refilled (count_in res) fill) o))) (sym e)
   gives (Some stood) e =
       ap (given_back w p.request (item_bytes res fill (Some p))) e
       ∙ ap (λ xs. Some (slice_set w.buffers p.request.buffer (Some (xs ++ drop p.request.len stood)))) (bytes_are stood e)
       ∙ ap (λ xs. Some (slice_set w.buffers p.request.buffer (Some xs))) (refilled_is (count_in res) fill p.request.len stood counted)
-      ∙ ap (λ o. Some (refilled_in w.buffers p.request.buffer (count_in res) fill o)) (sym e)
+      ∙ ap (λ o. Some (given_in w.buffers p.request.buffer (option_map (refilled (count_in res) fill) o))) (sym e)
 
-  pub completed_as : kernel_item w res fill (pending_place w u) ≡ Some (ByKernel (completion_of p.request res), completes w n res p.request (refilled_in w.buffers p.request.buffer (count_in res) fill p.bytes))
+  pub completed_as : kernel_item w res fill (pending_place w u) ≡ Some (ByKernel (completion_of p.request res), completes w n res p.request (given_in w.buffers p.request.buffer (option_map (refilled (count_in res) fill) p.bytes)))
   completed_as =
       step_is
       ∙ ap (λ b. if b && nat_eq (length (item_bytes res fill (Some p))) (bytes_brought p.request) then kernel_event w n res p.request (given_back w p.request (item_bytes res fill (Some p)) p.bytes) else None) allowed.0
       ∙ ap (λ b. if b then kernel_event w n res p.request (given_back w p.request (item_bytes res fill (Some p)) p.bytes) else None) allowed.1
       ∙ ap (kernel_event w n res p.request) (gives p.bytes refl)
 
-  pub memory_completed : clashes w.pending ≡ false → IsMemory w.program (without n w.pending) (refilled_in w.buffers p.request.buffer (count_in res) fill p.bytes)
-  memory_completed calm = memory_given w k calm n p here (item_bytes res fill (Some p)) (eqb-true _ _ allowed.1) (refilled_in w.buffers p.request.buffer (count_in res) fill p.bytes) (gives p.bytes refl)
+  pub memory_completed : clashes w.pending ≡ false → IsMemory w.program (without n w.pending) (given_in w.buffers p.request.buffer (option_map (refilled (count_in res) fill) p.bytes))
+  memory_completed calm = memory_given w k calm n p here (item_bytes res fill (Some p)) (eqb-true _ _ allowed.1) (given_in w.buffers p.request.buffer (option_map (refilled (count_in res) fill) p.bytes)) (gives p.bytes refl)
 
   same : p.request.user_data ≡ u
   same =
@@ -137,10 +138,10 @@ module _ (w : World) (k : IsKept w) (u n : ℕ) (res : ℤ) (fill : ℕ) (p : Pe
   -- what the code has made of the lists
   pub completed_by : (pending : List Pending) (completed : List Request) (completions : List Completion) (buffers : List (Option (List ℕ)))
       → pending ≡ without n w.pending → completed ≡ w.completed ++ p.request ∷ [] → completions ≡ w.completions ++ record { user_data = u; res = res } ∷ []
-      → buffers ≡ refilled_in w.buffers p.request.buffer (count_in res) fill p.bytes
+      → buffers ≡ given_in w.buffers p.request.buffer (option_map (refilled (count_in res) fill) p.bytes)
       → kernel_item w res fill (pending_place w u) ≡ Some (ByKernel (record { user_data = u; res = res }), record w { pending = pending; completed = completed; completions = completions; buffers = buffers })
   completed_by pending completed completions buffers a c q b =
-      let bs = refilled_in w.buffers p.request.buffer (count_in res) fill p.bytes in
+      let bs = given_in w.buffers p.request.buffer (option_map (refilled (count_in res) fill) p.bytes) in
       completed_as
       ∙ ap (λ v. done v (without n w.pending) (w.completed ++ p.request ∷ []) (w.completions ++ record { user_data = v; res = res } ∷ []) bs) same
       ∙ ap (λ x. done u x (w.completed ++ p.request ∷ []) (w.completions ++ record { user_data = u; res = res } ∷ []) bs) (sym a)
@@ -149,7 +150,7 @@ module _ (w : World) (k : IsKept w) (u n : ℕ) (res : ℤ) (fill : ℕ) (p : Pe
       ∙ ap (λ x. done u pending completed completions x) (sym b)
 
   pub kept_completed : clashes w.pending ≡ false → (pending : List Pending) (completed : List Request) (completions : List Completion) (buffers : List (Option (List ℕ)))
-      → pending ≡ without n w.pending → buffers ≡ refilled_in w.buffers p.request.buffer (count_in res) fill p.bytes
+      → pending ≡ without n w.pending → buffers ≡ given_in w.buffers p.request.buffer (option_map (refilled (count_in res) fill) p.bytes)
       → IsKept (record w { pending = pending; completed = completed; completions = completions; buffers = buffers })
   kept_completed calm pending completed completions buffers a b =
       let m = memory_completed calm in

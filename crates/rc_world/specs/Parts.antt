@@ -1,6 +1,15 @@
--- What the parts of controls in the code stand for.
+-- What the parts of controls and the bytes of a buffer in the code stand for.
+use Rattle.std.specs.Prelude.{ℕ, ◌-◌, List, ◌++◌, drop, length, replicate}
 use Rattle.rc_world.specs.declared.controls.Control.{Control}
 use Rattle.rc_world.specs.Controls.{Standing}
 
 abbrev pub view_control : Control → Standing
 view_control t = record { place = t.place; variables = t.variables }
+
+-- so many bytes, of which these are the first; all behind them are 0
+abbrev pub bytes_in : ℕ → List ℕ → List ℕ
+bytes_in len written = written ++ replicate (len - length written) 0
+
+-- the bytes of which the first ones are the fill byte
+abbrev pub refilled : (count fill : ℕ) → List ℕ → List ℕ
+refilled count fill stood = replicate count fill ++ drop count stood

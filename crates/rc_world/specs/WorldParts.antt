@@ -1,5 +1,5 @@
 -- What a world in the code stands for.
-use Rattle.std.specs.Prelude.{ℕ, List, [], ◌∷◌, ◌++◌, drop, Option, Some, None, map, option_map, replicate, slice_set}
+use Rattle.std.specs.Prelude.{ℕ, List, [], ◌∷◌, ◌++◌, Option, Some, None, map, option_map, slice_set}
 use Rattle.std.specs.Global.{Vec}
 use Rattle.rc_lang.specs.declared.request.Request.{Request}
 use Rattle.rc_world.specs.declared.world.Pending.{Pending as PendingPart}
@@ -8,11 +8,12 @@ use Rattle.rc_world.specs.declared.world.faults.Access.{Access as AccessPart}
 use Rattle.rc_world.specs.Faults.{Access}
 use Rattle.rc_world.specs.Machine.{Pending, World, taken_bytes, without_taken}
 
+-- the bytes of a buffer that is a Vec, where it is there
 abbrev pub view_bytes : Option (Vec ℕ) → Option (List ℕ)
 view_bytes bytes = option_map (λ (v : Vec ℕ). v.items) bytes
 
 abbrev pub view_pending : PendingPart → Pending
-view_pending p = record { request = p.request; bytes = view_bytes p.bytes }
+view_pending p = record { request = p.request; bytes = p.bytes }
 
 abbrev pub view_world : Inside → World
 view_world w = record {
@@ -24,7 +25,7 @@ view_world w = record {
   completed = w.completed.items;
   completions = w.completions.items;
   made = w.made;
-  buffers = map view_bytes w.buffers.items;
+  buffers = w.buffers.items;
 }
 
 -- What becomes of the pending requests and of the buffers where these requests become pending.
@@ -40,10 +41,7 @@ begun_buffers buffers (r ∷ rs) = begun_buffers (without_taken buffers r) rs
 abbrev pub view_access : AccessPart → Access
 view_access a = record { buffer = a.buffer; writes = a.writes }
 
--- The bytes of a read of which the first ones are the fill byte, and the buffers with them.
-abbrev pub refilled : (count fill : ℕ) → List ℕ → List ℕ
-refilled count fill stood = replicate count fill ++ drop count stood
-
-abbrev pub refilled_in : List (Option (List ℕ)) → (buffer count fill : ℕ) → Option (List ℕ) → List (Option (List ℕ))
-refilled_in buffers buffer count fill None = buffers
-refilled_in buffers buffer count fill (Some stood) = slice_set buffers buffer (Some (refilled count fill stood))
+-- the buffers where these bytes come back to theirs
+abbrev pub given_in : List (Option (List ℕ)) → ℕ → Option (List ℕ) → List (Option (List ℕ))
+given_in buffers buffer None = buffers
+given_in buffers buffer (Some bytes) = slice_set buffers buffer (Some bytes)

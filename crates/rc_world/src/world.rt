@@ -9,8 +9,9 @@ ghost use Rattle.rc_world.specs.Changes.{standing_at};
 ghost use Rattle.rc_world.specs.Faults as faults;
 ghost use Rattle.rc_world.specs.Items as items;
 ghost use Rattle.rc_world.specs.Machine as machine;
-ghost use Rattle.rc_world.specs.WorldParts.{begun_buffers, begun_pending, view_bytes, view_pending};
+ghost use Rattle.rc_world.specs.WorldParts.{begun_buffers, begun_pending, view_pending};
 
+use self::bytes::Bytes;
 use crate::controls::{Answer, Controls, Next, low_byte};
 use crate::event::{Completion, Event, Item};
 use crate::fault::Fault;
@@ -21,6 +22,7 @@ use std::alloc::{AllocError, Global};
 use std::marker::Model;
 use thiserror::Error;
 
+mod bytes;
 mod faults;
 mod rings;
 
@@ -61,7 +63,7 @@ impl From<AllocError> for Stop {
 #[derive(Drop)]
 struct Pending {
     request: Request,
-    bytes: Option<Vec<u8>>,
+    bytes: Option<Bytes>,
 }
 
 /// Everything that a running program and its ring hold (`io_uring(7)`).
@@ -76,7 +78,7 @@ pub struct World<'a> {
     completions: Vec<Completion>,
     made: u64,
     // The bytes of each buffer; none while a pending read fills it.
-    buffers: Vec<Option<Vec<u8>>>,
+    buffers: Vec<Option<Bytes>>,
     // Whether two pending requests name one buffer and one of them is a read.
     has_clash: bool,
 }
@@ -294,7 +296,7 @@ impl<'a> World<'a> {
     {
         match self.buffers.get(buffer) {
             Some(Some(bytes)) => match bytes.get(i as usize) {
-                Some(byte) => Answer::Byte(*byte),
+                Some(byte) => Answer::Byte(byte),
                 None => Answer::Plain,
             },
             _ => Answer::Plain,
@@ -313,13 +315,12 @@ impl<'a> World<'a> {
 }
 
 // Buffers whose bytes are all 0.
-fn zeroed(alloc: Global, buffers: &[Buffer]) -> Result<Vec<Option<Vec<u8>>>, AllocError>
-    ensures { IfOk result (λ v. map view_bytes v.items ≡ map (λ b. Some (replicate b.bytes 0)) buffers.now) }
+fn zeroed(alloc: Global, buffers: &[Buffer]) -> Result<Vec<Option<Bytes>>, AllocError>
+    ensures { IfOk result (λ v. v.items ≡ map (λ b. Some (replicate b.bytes 0)) buffers.now) }
 {
     let mut zeroed = Vec::new(alloc);
     for buffer in buffers {
-        let bytes = vec![in alloc; 0u8; buffer.bytes as usize]?;
-        zeroed.push(Some(bytes)).map_err(|_| AllocError)?;
+        zeroed.push(Some(Bytes::zeroed(alloc, buffer.bytes as usize)))?;
     }
     Ok(zeroed)
 }

@@ -1,14 +1,16 @@
 //! What the steps of threads and of the kernel do to the rings and the buffers.
 
-ghost use Rattle.std.specs.Prelude.{◌≡◌, ◌+◌, ◌<◌, ◌≤◌, ◌^◌, true, false, length, map, pos, IfSome, IsSome, MatchResult};
+ghost use Rattle.std.specs.Prelude.{◌≡◌, ◌+◌, ◌<◌, ◌≤◌, ◌^◌, true, false, length, map, option_map, pos, IfSome, IsSome, MatchResult};
 ghost use Rattle.std.specs.List.{list_any};
 ghost use Rattle.std.specs.Vec.{vec_capacity, vec_len};
 ghost use Rattle.rc_world.specs.Changes.{CallIsSmall, StmtIsSmall, standing_at};
 ghost use Rattle.rc_world.specs.Faults.{clash, clashes, has_buffer};
 ghost use Rattle.rc_world.specs.Items as items;
 ghost use Rattle.rc_world.specs.Machine as machine;
-ghost use Rattle.rc_world.specs.WorldParts.{begun_buffers, begun_pending, refilled, refilled_in, view_bytes, view_pending};
+ghost use Rattle.rc_world.specs.Parts.{refilled};
+ghost use Rattle.rc_world.specs.WorldParts.{begun_buffers, begun_pending, given_in, view_pending};
 
+use super::bytes::Bytes;
 use super::faults::{has_buffer, names};
 use super::{Pending, Slot, World, is_read, place_of_pending, remove_first};
 use crate::controls::low_byte;
@@ -52,13 +54,11 @@ impl<'a> World<'a> {
             Op::Load(_, _, _) => Ok(()),
             Op::Store(buffer, i, x) => {
                 let byte = low_byte(self.controls.variable(thread, x));
-                self.store(buffer, i, byte);
-                Ok(())
+                self.store(buffer, i, byte)
             }
             Op::Fill(buffer, x) => {
                 let byte = low_byte(self.controls.variable(thread, x));
-                self.fill(buffer, byte);
-                Ok(())
+                self.fill(buffer, byte)
             }
             Op::Print(_) => Ok(()),
             Op::GetSqe => {
@@ -92,25 +92,31 @@ impl<'a> World<'a> {
     }
 
     // A byte is written at a place of a buffer.
-    fn store(&mut self, buffer: usize, i: u32, byte: u8)
+    fn store(&mut self, buffer: usize, i: u32, byte: u8) -> Result<(), AllocError>
         requires { IsSome (machine.stores self.old buffer i byte (machine.bytes_of self.old buffer)) }
-        ensures { machine.stores self.old buffer i byte (machine.bytes_of self.old buffer) ≡ Some self.new }
+        ensures { MatchResult result
+            (λ _. machine.stores self.old buffer i byte (machine.bytes_of self.old buffer) ≡ Some self.new)
+            (λ _. self.new ≡ self.old) }
     {
         match &mut self.buffers[buffer] {
-            Some(bytes) => bytes[i as usize] = byte,
+            Some(bytes) => bytes.store(i as usize, byte)?,
             None => unreachable!(),
         }
+        Ok(())
     }
 
     // A byte is written at every place of a buffer.
-    fn fill(&mut self, buffer: usize, byte: u8)
+    fn fill(&mut self, buffer: usize, byte: u8) -> Result<(), AllocError>
         requires { IsSome (machine.fills self.old buffer byte (machine.bytes_of self.old buffer)) }
-        ensures { machine.fills self.old buffer byte (machine.bytes_of self.old buffer) ≡ Some self.new }
+        ensures { MatchResult result
+            (λ _. machine.fills self.old buffer byte (machine.bytes_of self.old buffer) ≡ Some self.new)
+            (λ _. self.new ≡ self.old) }
     {
         match &mut self.buffers[buffer] {
-            Some(bytes) => bytes.fill(byte),
+            Some(bytes) => bytes.fill(byte)?,
             None => unreachable!(),
         }
+        Ok(())
     }
 
     // An entry is opened.
@@ -195,47 +201,38 @@ impl<'a> World<'a> {
         };
         let completion = Completion { user_data, res };
         self.completed.reserve(1)?;
-        self.completions.push(completion)?;
+        self.completions.reserve(1)?;
+        refill(&mut self.pending[place].bytes, count_in(res), fill)?;
+        self.completions.push(completion).unwrap();
         let Pending { request, bytes } = self.pending.remove(place);
-        give_back(
-            &mut self.buffers,
-            request.buffer as usize,
-            bytes,
-            count_in(res),
-            fill,
-        );
+        give_back(&mut self.buffers, request.buffer as usize, bytes);
         self.completed.push(request).unwrap();
         Ok(Event::ByKernel(completion))
     }
 }
 
-// The bytes of a read come back to their buffer, the first ones as the fill byte.
-fn give_back(
-    buffers: &mut Vec<Option<Vec<u8>>>,
-    buffer: usize,
-    bytes: Option<Vec<u8>>,
-    count: usize,
-    fill: u8,
-)
-    requires there { IfSome bytes (λ _. buffer < length buffers.old.items) }
-    requires enough { IfSome bytes (λ v. count ≤ length v.items) }
-    ensures { map view_bytes buffers.new.items ≡ refilled_in (map view_bytes buffers.old.items) buffer count fill (view_bytes bytes) }
+// The first bytes of a read become the fill byte.
+fn refill(bytes: &mut Option<Bytes>, count: usize, fill: u8) -> Result<(), AllocError>
+    requires { IfSome bytes.old (λ stood. count ≤ length stood) }
+    ensures { MatchResult result
+        (λ _. bytes.new ≡ option_map (refilled count fill) bytes.old)
+        (λ _. bytes.new ≡ bytes.old) }
 {
     match bytes {
-        Some(bytes) => buffers[buffer] = Some(refilled(bytes, count, fill)),
-        None => {}
+        Some(bytes) => bytes.refill(count, fill),
+        None => Ok(()),
     }
 }
 
-// The bytes, the first ones as the fill byte.
-fn refilled(mut bytes: Vec<u8>, count: usize, fill: u8) -> Vec<u8>
-    requires { count ≤ length bytes.items }
-    ensures { result.items ≡ refilled count fill bytes.items }
+// The bytes of a read come back to their buffer.
+fn give_back(buffers: &mut Vec<Option<Bytes>>, buffer: usize, bytes: Option<Bytes>)
+    requires { IfSome bytes (λ _. buffer < length buffers.old.items) }
+    ensures { buffers.new.items ≡ given_in buffers.old.items buffer bytes }
 {
-    for i in 0..count {
-        bytes[i] = fill;
+    match bytes {
+        Some(bytes) => buffers[buffer] = Some(bytes),
+        None => {}
     }
-    bytes
 }
 
 // The number in a count or a negative errno, which counts for 0.
@@ -272,15 +269,15 @@ fn request_of(kind: Kind, fd: u32, buffer: usize, len: u32, off: u32) -> Request
 // These requests become pending, in order; whether two of the pending ones clash then.
 fn begin_all(
     pending: &mut Vec<Pending>,
-    buffers: &mut Vec<Option<Vec<u8>>>,
+    buffers: &mut Vec<Option<Bytes>>,
     requests: &[Request],
     had_clash: bool,
 ) -> bool
     requires room { vec_len pending.old + length requests.now ≤ vec_capacity pending.old }
     requires clash { had_clash ≡ clashes (map view_pending pending.old.items) }
     ensures pending { map view_pending pending.new.items
-        ≡ begun_pending (map view_pending pending.old.items) (map view_bytes buffers.old.items) requests.now }
-    ensures buffers { map view_bytes buffers.new.items ≡ begun_buffers (map view_bytes buffers.old.items) requests.now }
+        ≡ begun_pending (map view_pending pending.old.items) buffers.old.items requests.now }
+    ensures buffers { buffers.new.items ≡ begun_buffers buffers.old.items requests.now }
     ensures clash { result ≡ clashes (map view_pending pending.new.items) }
 {
     let mut has_clash = had_clash;
@@ -298,9 +295,9 @@ fn begin_all(
 }
 
 // The bytes that a request takes with it as it becomes pending.
-fn taken_bytes(buffers: &mut Vec<Option<Vec<u8>>>, request: Request) -> Option<Vec<u8>>
-    ensures bytes { view_bytes result ≡ machine.taken_bytes (map view_bytes buffers.old.items) request }
-    ensures buffers { map view_bytes buffers.new.items ≡ machine.without_taken (map view_bytes buffers.old.items) request }
+fn taken_bytes(buffers: &mut Vec<Option<Bytes>>, request: Request) -> Option<Bytes>
+    ensures bytes { result ≡ machine.taken_bytes buffers.old.items request }
+    ensures buffers { buffers.new.items ≡ machine.without_taken buffers.old.items request }
 {
     if !is_read(request.kind) {
         return None;

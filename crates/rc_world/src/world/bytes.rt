@@ -1,0 +1,104 @@
+//! The bytes of a buffer, which take no memory before the first of them is written.
+
+ghost use Rattle.std.specs.Prelude.{◌≡◌, ◌<◌, ◌≤◌, length, replicate, slice_get, slice_set, MatchResult};
+ghost use Rattle.rc_world.specs.Parts.{bytes_in, refilled};
+
+use std::alloc::{AllocError, Global};
+use std::marker::Model;
+
+// The bytes of a buffer.
+#[derive(Drop)]
+pub(super) struct Bytes {
+    len: usize,
+    // The first of them; all behind these are 0.
+    written: Vec<u8>,
+}
+
+impl Model for Bytes {
+    ghost use Rattle.std.specs.Prelude.{ℕ, List, ◌≤◌, length};
+    ghost use Rattle.rc_world.specs.Parts.{bytes_in};
+
+    ghost Value = { List ℕ };
+
+    ghost view = { λ b. bytes_in b.len b.written.items };
+
+    ghost invariant = { λ b. length b.written.items ≤ b.len };
+}
+
+impl Bytes {
+    // So many bytes, each of them 0.
+    pub(super) fn zeroed(alloc: Global, len: usize) -> Bytes
+        ensures { result ≡ replicate len 0 }
+    {
+        Bytes {
+            len,
+            written: Vec::new(alloc),
+        }
+    }
+
+    // The byte at a place.
+    pub(super) fn get(&self, i: usize) -> Option<u8>
+        ensures { result ≡ slice_get self.now i }
+    {
+        match self.written.get(i) {
+            Some(byte) => Some(*byte),
+            None if i < self.len => Some(0),
+            None => None,
+        }
+    }
+
+    // A byte is written at a place.
+    pub(super) fn store(&mut self, i: usize, byte: u8) -> Result<(), AllocError>
+        requires { i < length self.old }
+        ensures { MatchResult result (λ _. self.new ≡ slice_set self.old i byte) (λ _. self.new ≡ self.old) }
+    {
+        grow(&mut self.written, self.len)?;
+        self.written[i] = byte;
+        Ok(())
+    }
+
+    // A byte is written at every place.
+    pub(super) fn fill(&mut self, byte: u8) -> Result<(), AllocError>
+        ensures { MatchResult result (λ _. self.new ≡ replicate (length self.old) byte) (λ _. self.new ≡ self.old) }
+    {
+        grow(&mut self.written, self.len)?;
+        self.written.fill(byte);
+        Ok(())
+    }
+
+    // A byte is written at the first places, so many of them.
+    pub(super) fn refill(&mut self, count: usize, fill: u8) -> Result<(), AllocError>
+        requires { count ≤ length self.old }
+        ensures { MatchResult result (λ _. self.new ≡ refilled count fill self.old) (λ _. self.new ≡ self.old) }
+    {
+        if count == 0 {
+            return Ok(());
+        }
+        grow(&mut self.written, self.len)?;
+        fill_first(&mut self.written, count, fill);
+        Ok(())
+    }
+}
+
+// The bytes behind the written ones are written too, as 0.
+fn grow(written: &mut Vec<u8>, len: usize) -> Result<(), AllocError>
+    requires { length written.old.items ≤ len }
+    ensures { MatchResult result
+        (λ _. written.new.items ≡ bytes_in len written.old.items)
+        (λ _. written.new.items ≡ written.old.items) }
+{
+    written.resize(len, 0)
+}
+
+// The first bytes, so many of them, become the fill byte.
+fn fill_first(bytes: &mut Vec<u8>, count: usize, fill: u8)
+    requires { count ≤ length bytes.old.items }
+    ensures { bytes.new.items ≡ refilled count fill bytes.old.items }
+{
+    for i in 0..count {
+        bytes[i] = fill;
+    }
+}
+
+#[cfg(test)]
+mod tests;
