@@ -59,11 +59,11 @@ JudgesAll old lines new (Ok u) = judged old lines ≡ Ok new
 JudgesAll old lines new (Err (Text line cause)) = judged old lines ≡ Err (line, number_of_cause cause)
 JudgesAll old lines new (Err OutOfMemory) = Unit {0}
 
--- The answer of the text's end, unless memory ran out.
+-- The answer of the text's end, which takes no memory.
 abbrev pub Ends : Sheet → Result Program ReadFault → Type 0
 Ends s (Ok p) = at_end s ≡ Ok p
 Ends s (Err (Text line cause)) = at_end s ≡ Err (line, number_of_cause cause)
-Ends s (Err OutOfMemory) = Unit {0}
+Ends s (Err OutOfMemory) = ⊥
 
 abbrev pub JudgesEnd : {X : Type 0} → Sheet → Result X ReadFault → Type 0
 JudgesEnd s (Ok u) = at_end s ≡ Ok (program_in s)

@@ -43,7 +43,7 @@ module _ (old new : State) (end y : Label) (xs : List Label) (forgets : IsStrong
 
   next_agree : (b c : Bool) → agree_all xs ≡ b → (b ≡ true → IsStrongest (label_of old) xs) → JoinsOn old new end c b → agree_all (xs ++ y ∷ []) ≡ c
   next_agree true true e h j = all_agree (label_of old) y xs e (h refl) (agree_same (label_of old) y end (above end y forgets) (below end y forgets) j.0)
-  next_agree true false e h j = not_all (label_of old) y xs (h refl) (differs j)
+  next_agree true false e h j = not_all (label_of old) y xs (h refl) (differs j.0)
   next_agree false c e h j = never_all y xs e ∙ sym j
 
   next_strongest : (b c : Bool) → c ≡ true → (b ≡ true → IsStrongest (label_of old) xs) → JoinsOn old new end c b → IsStrongest (label_of new) (xs ++ y ∷ [])

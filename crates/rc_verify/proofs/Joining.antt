@@ -100,7 +100,7 @@ differ_two s t n f = go (agree s t) refl
 
 pub joins : {X : Type 0} (old new : State) (end : Label) (x : Result X Cause) → Gives old new x (may_join (label_of old ∷ end ∷ [])) (label_of old ∷ end ∷ []) → Joins old new end (is_ok x) × (program_of new ≡ program_of old)
 joins old new end (Ok x) g = ((agree_two (label_of old) end g.0, g.1, g.2), g.2)
-joins old new end (Err c) g = (differ_two (label_of old) end (premise_number c) g.0, ap program_of g.1)
+joins old new end (Err c) g = ((differ_two (label_of old) end (premise_number c) g.0, g.1), ap program_of g.1)
 
 meets_always : {X : Type 0} (old new : State) (end : Label) (x : Result X Cause) → agree (label_of old) end ≡ true → Gives old new x (may_join (label_of old ∷ end ∷ [])) (label_of old ∷ end ∷ []) → IsStrongest (label_of new) (label_of old ∷ end ∷ []) × (program_of new ≡ program_of old)
 meets_always old new end (Ok x) e g = (g.1, g.2)

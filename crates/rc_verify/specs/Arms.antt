@@ -23,7 +23,7 @@ OpensPeek s peek (Err cause) = FailsFirst (premise_number cause) (asks (label_of
 -- This end and the ones before agree, and the new meet is that of both; or they don't, and nothing changes.
 abbrev pub Joins : State → State → Label → Bool → Type 0
 Joins old new end true = (agree (label_of old) end ≡ true) × IsStrongest (label_of new) (label_of old ∷ end ∷ []) × (program_of new ≡ program_of old)
-Joins old new end false = agree (label_of old) end ≡ false
+Joins old new end false = (agree (label_of old) end ≡ false) × (new ≡ old)
 
 -- As long as the ends agree, the next one joins them.
 abbrev pub JoinsOn : State → State → Label → Bool → Bool → Type 0
