@@ -163,6 +163,10 @@ fn any_same(item: Item, items: &[Item]) -> bool
 fn comes_before(i: Item, j: Item) -> bool
     ensures { result ≡ quick.comes_before i j }
 {
+    // Most items are tokens.
+    if let (Item::Token(u), Item::Token(v)) = (i, j) {
+        return u < v;
+    }
     match (i, j) {
         (Item::Shares(b, _), Item::Shares(c, _)) => b < c,
         (Item::Shares(_, _), Item::Token(_) | Item::Credits(_) | Item::Queued(_)) => true,

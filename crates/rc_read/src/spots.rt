@@ -188,6 +188,10 @@ fn push_part<'a>(
     match words {
         [] => Ok(None),
         [word, ..] => {
+            // Most words are fixed, and have no place.
+            if let Part::Fixed(fixed) = part {
+                return Ok(is(word, text_of(fixed)).then_some(1));
+            }
             if !fits(part, word) {
                 return Ok(None);
             }
