@@ -18,4 +18,5 @@ mod Looping
 mod Breaking
 mod Placing
 mod Beginning
+mod Highest
 mod Examples

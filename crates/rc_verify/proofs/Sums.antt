@@ -77,7 +77,7 @@ shares_within_fit P ts (x ∷ xs) h = and_both (share_fits P ts x) (list_all (sh
 
 -- ---- tokens
 
-token_sum : (u x : ℕ) (xs : List ℕ) → count_by (λ v. nat_eq v u) (x ∷ xs) ≡ cond (nat_eq x u) 1 0 + count_by (λ v. nat_eq v u) xs
+pub token_sum : (u x : ℕ) (xs : List ℕ) → count_by (λ v. nat_eq v u) (x ∷ xs) ≡ cond (nat_eq x u) 1 0 + count_by (λ v. nat_eq v u) xs
 token_sum u x xs = sum_by-cons (λ v. cond (nat_eq v u) 1 0) x xs
 
 tokens_fit_in : (ts : List Thread) (u : ℕ) (xs : List ℕ) → IsDistinct nat_eq xs → list_all (token_fits ts) xs ≡ true → headers_bag ts (TokenOf u) ≤ 1 → headers_bag ts (TokenOf u) + count_by (λ v. nat_eq v u) xs ≤ 1
