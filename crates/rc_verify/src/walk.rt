@@ -4,7 +4,8 @@ ghost use Rattle.std.specs.Prelude.{◌≡◌, ◌<◌, length, Some, slice_get}
 ghost use Rattle.rc_lang.specs.Parts.{view_thread};
 ghost use Rattle.rc_lang.specs.Program as programs;
 ghost use Rattle.rc_lang.specs.Program.{IsProgram};
-ghost use Rattle.rc_rules.specs.States.{program_of};
+ghost use Rattle.rc_rules.specs.Labels.{Dead};
+ghost use Rattle.rc_rules.specs.States.{label_of, program_of};
 ghost use Rattle.rc_verify.specs.Answer.{IsWalked};
 ghost use Rattle.rc_verify.specs.Walk as spec;
 
@@ -36,7 +37,10 @@ pub struct Walk<'a> {
 
 impl<'a> Walk<'a> {
     /// A walk that stands nowhere yet. It is large, so all threads are walked over with one.
-    pub fn new(program: &'a Program) -> Walk<'a> {
+    pub fn new(program: &'a Program) -> Walk<'a>
+        ensures nowhere { label_of result.state ≡ Dead }
+        ensures of { program_of result.state ≡ program.now }
+    {
         Walk {
             state: State::dead(program),
             branches: ArrayVec::new(),
