@@ -170,7 +170,6 @@ fn comes_before(i: Item, j: Item) -> bool
     match (i, j) {
         (Item::Shares(b, _), Item::Shares(c, _)) => b < c,
         (Item::Shares(_, _), Item::Token(_) | Item::Credits(_) | Item::Queued(_)) => true,
-        (Item::Token(u), Item::Token(v)) => u < v,
         (Item::Token(_), Item::Credits(_) | Item::Queued(_)) => true,
         (Item::Credits(_), Item::Queued(_)) => true,
         _ => false,
