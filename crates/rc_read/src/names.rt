@@ -56,7 +56,7 @@ pub fn find_buffer(buffers: &[Buffer], word: &[u8]) -> (usize, Option<u32>)
     (buffers.len(), None)
 }
 
-/// The number and the shares of a buffer, where it is one of the eight from this place on and no other has its name.
+/// The number and the shares of a buffer, where one is found near this place. That none is found says nothing of it.
 pub fn find_near(buffers: &[Buffer], place: usize, word: &[u8]) -> Option<(usize, u32)>
     requires { IsDistinct bytes_eq (spec.buffer_names (map view_buffer buffers.now)) }
     ensures number { IfSome result (λ p. p.0 ≡ spec.buffer_number (map view_buffer buffers.now) word.now) }
