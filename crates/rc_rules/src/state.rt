@@ -68,16 +68,24 @@ fn header(program: &Program, thread: u32) -> &Items
 
 impl<'a> State<'a> {
     /// The state of a thread's header: its items, without the lock. This takes no memory and always answers Ok.
-    pub fn start(alloc: Global, program: &'a Program, thread: u32) -> Result<State<'a>, AllocError>
+    pub fn start(_alloc: Global, program: &'a Program, thread: u32) -> Result<State<'a>, AllocError>
         requires { thread < length program.now.threads }
         ensures { IsOkAnd result (λ s. spec.IsStart program.now thread s) }
     {
-        let mut holding = Holding::empty(alloc, program)?;
+        Ok(State::first(program, thread))
+    }
+
+    /// The state of a thread's header, as [`start`](State::start) makes it.
+    pub fn first(program: &'a Program, thread: u32) -> State<'a>
+        requires { thread < length program.now.threads }
+        ensures { spec.IsStart program.now thread result }
+    {
+        let mut holding = Holding::nothing(program);
         holding.hold(header(program, thread));
-        Ok(State {
+        State {
             holding,
             mode: Some(Mode::Unlocked),
-        })
+        }
     }
 
     /// The same state again. This takes no memory and always answers Ok.

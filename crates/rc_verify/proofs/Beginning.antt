@@ -1,6 +1,5 @@
 -- Where a walk begins, and what it answers.
-use Rattle.std.proofs.Common.{◌≡◌, ℕ, zero, suc, false, ◌<◌, ◌≤◌, List, [], ◌∷◌, length, map, take_all, Option, Some, None, Result, Ok, Err, get_or, refl, sym, ap, subst, ◌∙◌, arith, slice_get}
-use Rattle.std.specs.Prelude.{IsOkAnd}
+use Rattle.std.proofs.Common.{◌≡◌, ℕ, zero, suc, false, ◌<◌, ◌≤◌, List, [], ◌∷◌, length, map, take_all, Option, Some, None, get_or, refl, sym, ap, subst, ◌∙◌, arith, slice_get}
 use Rattle.std.proofs.lemmas.Option.{slice_get-get_or}
 use Rattle.rc_lang.specs.declared.lines.Line.{Line}
 use Rattle.rc_lang.specs.declared.program.Thread.{Thread as ThreadPart}
@@ -49,10 +48,6 @@ starts P i t s branches loops made is h e f = record {
     fits : (k : ℕ) (x : Label) → slice_get (label_of s ∷ []) k ≡ Some x → Fits (in_lock (blocks_at t.lines k)) (most_at 0) x
     fits zero x q = let g : label_of s ≡ x = cc in subst (λ y. Fits false 2048 y) g (start_fits P t (label_of s) (made.each i t is).items (h.1 t is))
     fits (suc k) x q = absurd (cc)
-
-pub started : {E : Type 0} (P : Program) (i : ℕ) (x : Result State E) (s : State) → IsOkAnd x (λ y. IsStart P i y) → x ≡ Ok s → IsStart P i s
-started P i (Ok y) s h e = let q : y ≡ s = cc in subst (IsStart P i) q h
-started P i (Err z) s h e = absurd (cc)
 
 -- ---- the answers
 

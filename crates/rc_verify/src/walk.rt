@@ -21,7 +21,6 @@ use rc_lang::lines::Stmt;
 use rc_lang::program::{Program, Thread};
 use rc_rules::cause::Cause;
 use rc_rules::state::{State, transfer};
-use std::alloc::Global;
 
 /// What is known at the place of a thread that a walk has come to, and what it needs for the lines that close a block.
 #[derive(Drop)]
@@ -50,12 +49,12 @@ impl<'a> Walk<'a> {
     }
 
     /// Stands before the first line of a thread, whatever was walked over before.
-    fn begin(&mut self, alloc: Global, program: &'a Program, thread: u32)
+    fn begin(&mut self, program: &'a Program, thread: u32)
         requires made { IsProgram program.now }
         requires there { thread < length program.now.threads }
         ensures { (t : programs.Thread) → slice_get program.now.threads thread ≡ Some t → spec.Reaches program.now t 0 self.new }
     {
-        self.state = State::start(alloc, program, thread).unwrap();
+        self.state = State::first(program, thread);
         self.branches.clear();
         self.peek = None;
         self.loops.clear();
@@ -96,7 +95,6 @@ fn pass<'a>(walk: &mut Walk<'a>, thread: &Thread, place: usize) -> Result<(), Ca
 
 /// Walks over the lines of a thread, and answers the first that the rules refuse. This takes no memory.
 pub fn walk_thread<'a>(
-    alloc: Global,
     walk: &mut Walk<'a>,
     program: &'a Program,
     thread: u32,
@@ -105,7 +103,7 @@ pub fn walk_thread<'a>(
     ensures { (t : programs.Thread) → slice_get program.now.threads thread ≡ Some t → IsWalked program.now t result }
 {
     let part = &program.threads()[thread as usize];
-    walk.begin(alloc, program, thread);
+    walk.begin(program, thread);
     for place in 0..part.lines.len() {
         if let Err(cause) = pass(walk, part, place) {
             return Err(Refusal {

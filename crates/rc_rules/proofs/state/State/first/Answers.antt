@@ -2,10 +2,10 @@ use Rattle.std.proofs.Common.{subst, sym}
 use Rattle.rc_lang.specs.Parts.{view_items}
 use Rattle.rc_split.specs.Holdings.{AreDeclared}
 use Rattle.rc_rules.proofs.Headers.{names_declared, once, small}
-use Rattle.rc_rules.proofs.state.State.start.Goals as goal
+use Rattle.rc_rules.proofs.state.State.first.Goals as goal
 
 pub hold-requires-clause-names : goal.hold-requires-clause-names
-hold-requires-clause-names c = subst (λ P. AreDeclared P (view_items c.header.result.now)) (sym c.in_ok-holding.ensures.of) (names_declared c.args.program.now (view_items c.header.result.now) c.header.ensures.made)
+hold-requires-clause-names c = subst (λ P. AreDeclared P (view_items c.header.result.now)) (sym c.nothing-holding.ensures.of) (names_declared c.args.program.now (view_items c.header.result.now) c.header.ensures.made)
 
 pub hold-requires-clause-once : goal.hold-requires-clause-once
 hold-requires-clause-once c = λ u. once c.args.program.now (view_items c.header.result.now) u c.header.ensures.made
