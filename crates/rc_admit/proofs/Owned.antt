@@ -1,6 +1,7 @@
 -- What is true of each world of an accepted program, over any claim of how a thread may stand.
 use Rattle.std.proofs.Common.{◌≡◌, ℕ, zero, suc, ◌+◌, ◌≤◌, Bool, true, false, ◌||◌, List, [], ◌∷◌, length, map, Option, Some, None, refl, sym, ◌∙◌, subst, ◌⊎◌, inl, inr, arith}
 use Rattle.std.specs.Prelude.{replicate, slice_get, slice_set, slice_index_or, ℤ, pos}
+use Rattle.rc_lang.specs.Comparisons.{compares}
 use Rattle.rc_lang.specs.declared.lines.Op.{Op}
 use Rattle.rc_lang.specs.declared.lines.Op.TheVariants.{Set, Assign, Add, Subtract, Load, Submit, SubmitAndWait}
 use Rattle.rc_lang.specs.declared.lines.Stmt.{Stmt}
@@ -25,7 +26,7 @@ use Rattle.rc_split.specs.Bags.{Part, TokenOf, bag_of, credits_bag}
 use Rattle.rc_world.specs.declared.event.Completion.{Completion}
 use Rattle.rc_world.specs.declared.world.Slot.{Slot as Entry}
 use Rattle.rc_world.specs.declared.world.Slot.TheVariants as entries
-use Rattle.rc_world.specs.Controls.{Standing, arm_for, compares, ends_arm, hop_of, is_arm_end, none_arm, or_from, settled}
+use Rattle.rc_world.specs.Controls.{Standing, arm_for, ends_arm, hop_of, is_arm_end, none_arm, or_from, settled}
 use Rattle.rc_world.specs.Faults.{is_holder}
 use Rattle.rc_world.specs.Machine.{Pending, World, slot_len}
 use Rattle.rc_admit.proofs.Lists.{sum_to, sum_over, Each}

@@ -4,6 +4,7 @@ use Rattle.std.specs.Prelude.{slice_set, slice_get, slice_index_or, nat_eq, min,
 use Rattle.std.specs.Ordering.{int_eq}
 use Rattle.std.proofs.lemmas.Bool.{leb-true}
 use Rattle.std.proofs.lemmas.Bool.Decides.{Decides-int_eq}
+use Rattle.rc_lang.specs.Comparisons.{compares}
 use Rattle.rc_lang.specs.declared.lines.Stmt.{Stmt}
 use Rattle.rc_lang.specs.declared.lines.Stmt.TheVariants.{Do, Lock, EndLock, If, Else, EndIf, Peek, Case, Other, Nothing, EndArm, EndPeek, Loop, EndLoop, Break}
 use Rattle.rc_lang.specs.declared.lines.Test.{Test}
@@ -20,7 +21,7 @@ use Rattle.rc_split.specs.Bags.{Part, TokenOf, token_bag}
 use Rattle.rc_world.specs.declared.controls.Answer.TheVariants.{Plain}
 use Rattle.rc_world.specs.declared.event.Completion.{Completion}
 use Rattle.rc_world.specs.declared.world.Slot.TheVariants as entries
-use Rattle.rc_world.specs.Controls.{Standing, acts, arm_for, breaks, compares, decides, locks, none_arm, peeks}
+use Rattle.rc_world.specs.Controls.{Standing, acts, arm_for, breaks, decides, locks, none_arm, peeks}
 use Rattle.rc_world.specs.Faults.{is_holder}
 use Rattle.rc_world.specs.Machine.{World, front_of, in_rings, slot_len, stmt_answer, test_answer, used_entries}
 use Rattle.rc_admit.proofs.Lists.{sum_to, sum_over, sum_to_one, nat_eq_cases, get_within}

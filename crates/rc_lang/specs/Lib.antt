@@ -1,3 +1,4 @@
+pub mod Comparisons
 pub mod Names
 pub mod Nesting
 pub mod Numbers

@@ -1,5 +1,8 @@
 //! The lines of a thread.
 
+ghost use Rattle.std.specs.Prelude.{◌≡◌};
+ghost use Rattle.rc_lang.specs.Comparisons as spec;
+
 /// An operand of a sum: a variable's number, or a number.
 #[derive(Clone, Copy)]
 pub enum Operand {
@@ -16,6 +19,22 @@ pub enum Comparison {
     AtMost,
     Greater,
     AtLeast,
+}
+
+impl Comparison {
+    /// Whether the first number compares so with the second.
+    pub fn compares(self, a: i64, b: i64) -> bool
+        ensures { result ≡ spec.compares self a b }
+    {
+        match self {
+            Comparison::Equal => a == b,
+            Comparison::NotEqual => a != b,
+            Comparison::Less => a < b,
+            Comparison::AtMost => a <= b,
+            Comparison::Greater => a > b,
+            Comparison::AtLeast => a >= b,
+        }
+    }
 }
 
 /// A statement without a block. Variables and buffers stand by their numbers, files by the numbers that they are

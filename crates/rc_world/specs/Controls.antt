@@ -1,9 +1,8 @@
 -- Where each thread stands, and what a step of it does there, given what the rings and buffers answer.
-use Rattle.std.specs.Prelude.{ℕ, zero, suc, ◌+◌, ◌%◌, Bool, true, false, ◌&&◌, ◌||◌, not, if◌then◌else◌, List, length, map, replicate, Option, Some, None, nat_eq, position, unwrap_or, slice_get, slice_index_or, slice_range, slice_set, ℤ, pos, negsuc, ◌+ℤ◌, ◌-ℤ◌, int_lt, int_le}
+use Rattle.std.specs.Prelude.{ℕ, zero, suc, ◌+◌, ◌%◌, Bool, true, false, ◌&&◌, ◌||◌, if◌then◌else◌, List, length, map, replicate, Option, Some, None, nat_eq, position, unwrap_or, slice_get, slice_index_or, slice_range, slice_set, ℤ, pos, negsuc, ◌+ℤ◌, ◌-ℤ◌, int_le}
 use Rattle.std.specs.Int.{cast_unsigned, int_wrap, w64}
 use Rattle.std.specs.Ordering.{int_eq}
-use Rattle.rc_lang.specs.declared.lines.Comparison.{Comparison}
-use Rattle.rc_lang.specs.declared.lines.Comparison.TheVariants.{Equal, NotEqual, Less, AtMost, Greater, AtLeast}
+use Rattle.rc_lang.specs.Comparisons.{compares}
 use Rattle.rc_lang.specs.declared.lines.Line.{Line}
 use Rattle.rc_lang.specs.declared.lines.Op.{Op}
 use Rattle.rc_lang.specs.declared.lines.Op.TheVariants.{Set, Assign, Add, Subtract, Load, Store, Fill, Print, GetSqe, PrepRead, PrepWrite, PrepFsync, PrepNop, SetData64, Submit, SubmitAndWait, CqeSeen}
@@ -48,14 +47,6 @@ wrapped z = int_wrap w64 z
 -- the low eight bits
 abbrev pub low_byte : ℤ → ℕ
 low_byte z = cast_unsigned w64 z % 256
-
-abbrev pub compares : Comparison → ℤ → ℤ → Bool
-compares Equal a b = int_eq a b
-compares NotEqual a b = not (int_eq a b)
-compares Less a b = int_lt a b
-compares AtMost a b = int_le a b
-compares Greater a b = int_lt b a
-compares AtLeast a b = int_le b a
 
 -- ---- where a thread goes
 

@@ -8,7 +8,7 @@ ghost use Rattle.rc_world.specs.Controls as spec;
 ghost use Rattle.rc_world.specs.Items.{ready_or_taken};
 
 use crate::event::{Action, Completion, Event};
-use rc_lang::lines::{Comparison, Line, Op, Operand, Stmt, Test};
+use rc_lang::lines::{Line, Op, Operand, Stmt, Test};
 use rc_lang::program::{Program, Thread};
 use std::alloc::{AllocError, Global};
 use std::marker::Model;
@@ -402,7 +402,7 @@ impl Controls {
         ensures { spec.decides program.now self.now thread (standing_at self.now thread) test answer ≡ Some (spec.branches program.now self.now thread (standing_at self.now thread) result) }
     {
         match test {
-            Test::Compare(x, comparison, n) => compares(comparison, self.variable(thread, x), n),
+            Test::Compare(x, comparison, n) => comparison.compares(self.variable(thread, x), n),
             Test::ReadyZero => match answer {
                 Answer::Number(used) => used == 0,
                 _ => unreachable!(),
@@ -590,19 +590,6 @@ pub(crate) fn low_byte(value: i64) -> u8
     ensures { result ≡ spec.low_byte value }
 {
     (value.cast_unsigned() % 256) as u8
-}
-
-fn compares(comparison: Comparison, a: i64, b: i64) -> bool
-    ensures { result ≡ spec.compares comparison a b }
-{
-    match comparison {
-        Comparison::Equal => a == b,
-        Comparison::NotEqual => a != b,
-        Comparison::Less => a < b,
-        Comparison::AtMost => a <= b,
-        Comparison::Greater => a > b,
-        Comparison::AtLeast => a >= b,
-    }
 }
 
 // The place where a thread comes to rest that goes to this one, over lines that are no events, and whether an arm ends
