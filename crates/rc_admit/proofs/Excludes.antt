@@ -30,7 +30,7 @@ use Rattle.rc_world.specs.Machine.{Pending, World, is_read, slot_len, used_entri
 use Rattle.rc_admit.proofs.Lists.{sum_to, sum_to_one, sum_to_two, sum_over, sum_over_one, Each-get, get_within}
 use Rattle.rc_admit.proofs.Moves.{fits_parts}
 use Rattle.rc_admit.proofs.Ops.{slot_closed, slot_vacant, slot_prepared, agree_head}
-use Rattle.rc_admit.proofs.Owned.{Stand, EdgeAt, HasEdge, owns, owns_pending, in_flight, SlotFits, StartsWith, IsNonempty, FrontFits, Fits, held, HasKind, HasKindPending, data_in, Owned, WellOwned, locked_of}
+use Rattle.rc_admit.proofs.Owned.{Stand, EdgeAt, HasEdge, owns, owns_pending, unheld, SlotFits, StartsWith, IsNonempty, FrontFits, Fits, held, HasKind, HasKindPending, data_in, Owned, WellOwned, locked_of}
 use Rattle.rc_admit.proofs.Rule.{Claim, BreakRule, Rule, Reaps}
 use Rattle.rc_admit.proofs.Shares.{any_is, buffer_shared, credits_owned, data_owned, data_pending, fills_all, names_one, no_clash}
 use Rattle.rc_admit.proofs.Steps.{token_owned}
@@ -113,20 +113,20 @@ module _ (w : World) (made : IsProgram w.program) (S : Stand) (edge : HasEdge w.
   within i s n = get_within w.controls.threads i n.thread n.stands
 
   -- one thread and the requests in flight
-  one_and_flight : (p : Part) (i : ℕ) → i < length w.controls.threads → bags i p + in_flight P w p ≤ limit P p
+  one_and_flight : (p : Part) (i : ℕ) → i < length w.controls.threads → bags i p + unheld P w p ≤ limit P p
   one_and_flight p i lt =
       let f : ℕ → ℕ = λ j. held P (bags j) (modes j) p in
       let a : f i ≤ sum_to f (length w.controls.threads) = sum_to_one f (length w.controls.threads) i lt in
-      let b : sum_to f (length w.controls.threads) + in_flight P w p ≤ limit P p = o.total p in
+      let b : sum_to f (length w.controls.threads) + unheld P w p ≤ limit P p = o.total p in
       omega arith
 
-  flight_most : (p : Part) → in_flight P w p ≤ limit P p
+  flight_most : (p : Part) → unheld P w p ≤ limit P p
   flight_most p =
       let f : ℕ → ℕ = λ j. held P (bags j) (modes j) p in
-      let b : sum_to f (length w.controls.threads) + in_flight P w p ≤ limit P p = o.total p in
+      let b : sum_to f (length w.controls.threads) + unheld P w p ≤ limit P p = o.total p in
       omega arith
 
-  pending_most : (p : Part) (k : ℕ) (x : Pending) → slice_get w.pending k ≡ Some x → owned P x.request.user_data p ≤ in_flight P w p
+  pending_most : (p : Part) (k : ℕ) (x : Pending) → slice_get w.pending k ≡ Some x → owned P x.request.user_data p ≤ unheld P w p
   pending_most p k x e = let a : owned P x.request.user_data p ≤ sum_over (owns_pending P p) w.pending = sum_over_one (owns_pending P p) k w.pending x e in omega arith
 
   kind_at : (k : ℕ) (x : Pending) → slice_get w.pending k ≡ Some x → HasKind P x.request
@@ -163,8 +163,8 @@ module _ (w : World) (made : IsProgram w.program) (S : Stand) (edge : HasEdge w.
           let x = any_is (λ (p : Pending). names b p.request) w.pending t.1 in
           let mine : shares_at P.buffers b ≤ bags i (ShareOf b) = all_shares i s n a e t.0 in
           let its : 1 ≤ owned P x.1.request.user_data (ShareOf b) = names_one P made x.1.request b (kind_at x.0 x.1 x.2) x.3 in
-          let le : owned P x.1.request.user_data (ShareOf b) ≤ in_flight P w (ShareOf b) = pending_most (ShareOf b) x.0 x.1 x.2 in
-          let all : bags i (ShareOf b) + in_flight P w (ShareOf b) ≤ shares_at P.buffers b = one_and_flight (ShareOf b) i (within i s n) in
+          let le : owned P x.1.request.user_data (ShareOf b) ≤ unheld P w (ShareOf b) = pending_most (ShareOf b) x.0 x.1 x.2 in
+          let all : bags i (ShareOf b) + unheld P w (ShareOf b) ≤ shares_at P.buffers b = one_and_flight (ShareOf b) i (within i s n) in
           omega arith
 
   no_read_of_filling : (i : ℕ) (s : Stmt) → Next w i s → (x : Option Access) → access_of s ≡ x → reads_filling w.pending x ≡ false
@@ -179,12 +179,12 @@ module _ (w : World) (made : IsProgram w.program) (S : Stand) (edge : HasEdge w.
           let r = and_parts (is_read x.1.request.kind) (nat_eq x.1.request.buffer b) x.3 in
           let mine : 1 ≤ bags i (ShareOf b) = one_share i s n a e in
           let its : shares_at P.buffers b ≤ owned P x.1.request.user_data (ShareOf b) = fills_all P x.1.request b (kind_at x.0 x.1 x.2) r.0 (eqb-true x.1.request.buffer b r.1) in
-          let le : owned P x.1.request.user_data (ShareOf b) ≤ in_flight P w (ShareOf b) = pending_most (ShareOf b) x.0 x.1 x.2 in
-          let all : bags i (ShareOf b) + in_flight P w (ShareOf b) ≤ shares_at P.buffers b = one_and_flight (ShareOf b) i (within i s n) in
+          let le : owned P x.1.request.user_data (ShareOf b) ≤ unheld P w (ShareOf b) = pending_most (ShareOf b) x.0 x.1 x.2 in
+          let all : bags i (ShareOf b) + unheld P w (ShareOf b) ≤ shares_at P.buffers b = one_and_flight (ShareOf b) i (within i s n) in
           omega arith
 
   no_kernel_clash : clashes w.pending ≡ false
-  no_kernel_clash = no_clash P made w.pending o.pending (λ b. let h : in_flight P w (ShareOf b) ≤ shares_at P.buffers b = flight_most (ShareOf b) in omega arith)
+  no_kernel_clash = no_clash P made w.pending o.pending (λ b. let h : unheld P w (ShareOf b) ≤ shares_at P.buffers b = flight_most (ShareOf b) in omega arith)
 
   -- two threads at one buffer, of which one writes it
   two_at : (i j : ℕ) (s t : Stmt) → i < j → Next w i s → Next w j t → (a b : Access) → access_of s ≡ Some a → access_of t ≡ Some b → conflicts (Some a) (Some b) ≡ true → ⊥
@@ -194,7 +194,7 @@ module _ (w : World) (made : IsProgram w.program) (S : Stand) (edge : HasEdge w.
       let q : b.buffer ≡ c = sym (eqb-true a.buffer b.buffer x.0) in
       let f : ℕ → ℕ = λ k. held P (bags k) (modes k) (ShareOf c) in
       let two : f i + f j ≤ sum_to f (length w.controls.threads) = sum_to_two f (length w.controls.threads) i j (λ e. omega arith) (within i s n) (within j t m) in
-      let all : sum_to f (length w.controls.threads) + in_flight P w (ShareOf c) ≤ shares_at P.buffers c = o.total (ShareOf c) in
+      let all : sum_to f (length w.controls.threads) + unheld P w (ShareOf c) ≤ shares_at P.buffers c = o.total (ShareOf c) in
       let one_i : 1 ≤ bags i (ShareOf c) = one_share i s n a ea in
       let one_j : 1 ≤ bags j (ShareOf c) = subst (λ k. 1 ≤ bags j (ShareOf k)) q (one_share j t m b eb) in
       elim (or_cases a.writes b.writes x.1) [
@@ -294,14 +294,14 @@ module _ (w : World) (made : IsProgram w.program) (S : Stand) (edge : HasEdge w.
       let x : sum_over (owns_pending P Credit) w.pending ≡ owned P p.request.user_data Credit + sum_over (owns_pending P Credit) ps = ap (sum_over (owns_pending P Credit)) e in
       let y : length w.completed ≤ sum_over (owns P Credit) w.completed = credits_owned P w.completed in
       let z : length w.completions ≡ length w.completed = sym (length-map w.completions (λ (c : Completion). c.user_data)) ∙ (ap length (sym o.agree) ∙ length-map w.completed (λ (r : Request). r.user_data)) in
-      let t : in_flight P w Credit ≤ P.completion_entries = flight_most Credit in
+      let t : unheld P w Credit ≤ P.completion_entries = flight_most Credit in
       lt-leb P.completion_entries (length w.completions) (omega arith)
 
   -- ---- user data
 
   no_data_twice : (i : ℕ) (u : ℕ) → i < length w.controls.threads → 1 ≤ bags i (TokenOf u) → is_in_flight w u ≡ false
   no_data_twice i u lt h =
-      let all : bags i (TokenOf u) + in_flight P w (TokenOf u) ≤ 1 = one_and_flight (TokenOf u) i lt in
+      let all : bags i (TokenOf u) + unheld P w (TokenOf u) ≤ 1 = one_and_flight (TokenOf u) i lt in
       or_from _ _
       (or_from _ _
       (false_from_ne_true (list_any (has_data u) w.queued) (λ e. let x : 1 ≤ sum_over (owns P (TokenOf u)) w.queued = data_owned P u w.queued e in omega arith))
@@ -328,7 +328,7 @@ module _ (w : World) (made : IsProgram w.program) (S : Stand) (edge : HasEdge w.
       let a = agree_head w.completed d ds (o.agree ∙ ap data_in e) in
       let fl : sum_over (owns P p) w.completed ≡ owned P a.0.user_data p + sum_over (owns P p) a.1 = ap (sum_over (owns P p)) a.2 in
       let one : 1 ≤ owned P a.0.user_data p = subst (λ u. 1 ≤ owned P u p) (sym a.3) (token_owned P u) in
-      let tot : in_flight P w p ≤ 1 = flight_most p in
+      let tot : unheld P w p ≤ 1 = flight_most p in
       let few : count_of u a.1 ≤ sum_over (owns P p) a.1 = count_most u a.1 in
       let first : count_of u (a.0 ∷ a.1) ≡ 1 + count_of u a.1 = ap (λ (t : Bool). (if t then 1 else 0) + count_of u a.1) (eq-eqb a.0.user_data u a.3) in
       let all : count_of u w.completed ≡ count_of u (a.0 ∷ a.1) = ap (count_of u) a.2 in

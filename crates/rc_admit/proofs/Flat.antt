@@ -11,7 +11,7 @@ use Rattle.rc_lang.specs.declared.lines.Stmt.{Stmt}
 use Rattle.rc_lang.specs.declared.lines.Stmt.TheVariants.{Do, Lock, EndLock, If, Else, EndIf, Peek, Case, Other, Nothing, EndArm, EndPeek, Loop, EndLoop, Break}
 use Rattle.rc_lang.specs.declared.lines.Test.{Test}
 use Rattle.rc_lang.specs.Nesting.{blocks_at, in_lock, in_peek}
-use Rattle.rc_lang.specs.Program.{HasArms, IsProgram, Items, Program, end_at, ends_in, items_at, lines_of, stmt_at}
+use Rattle.rc_lang.specs.Program.{HasArms, IsProgram, Program, Thread, end_at, ends_in, items_at, lines_of, stmt_at}
 use Rattle.rc_lang.proofs.Along.{same_lock}
 use Rattle.rc_lang.proofs.Closing.{closes_arm, closes_if, closes_lock, closes_loop, leaves_loop, turns}
 use Rattle.rc_lang.proofs.Fitting.{peek_found, placed_at}
@@ -27,19 +27,22 @@ use Rattle.rc_rules.specs.declared.mode.Slot.TheVariants.{Closed}
 use Rattle.rc_rules.specs.Labels.{Label, Dead, Live, Weaker}
 use Rattle.rc_rules.specs.Labellings.{IsGood, IsGoodAt, here, label_at}
 use Rattle.rc_rules.specs.Premises.{Meets, Premise}
-use Rattle.rc_rules.specs.Rules.{asks, bag_on, broken, case_at, goes, may_break, may_loop, may_release, op_effect, op_premises, peek_at, peek_premises, test_mode, test_premises, top_mode, with_peeked}
+use Rattle.rc_rules.specs.Rules.{asks, bag_on, broken, case_at, goes, may_break, may_loop, may_release, op_effect, op_premises, peek_at, peek_premises, test_effect, test_mode, test_premises, top_mode, with_peeked}
+use Rattle.rc_rules.specs.States.{is_locked}
+use Rattle.rc_rules.proofs.Weaker.{locked_same, peeked_grows, weaker_trans}
 use Rattle.rc_split.specs.Bags.{Part, TokenOf}
 use Rattle.rc_world.specs.Controls.{arm_for, none_arm}
 use Rattle.rc_admit.proofs.FlatLooks.{arm_in, arm_is, break_in, get_take, len_take, none_is_at}
-use Rattle.rc_admit.proofs.FlatRules.{IsBelow, arm_of, below, break_of, close_of, covered, front_locked, front_weaker, is_locked, locked_same, peek_locked, rule_of, test_of, top_same, unlocked_of, weaker_trans}
+use Rattle.rc_admit.proofs.FlatRules.{IsBelow, arm_of, below, break_of, close_of, covered, front_locked, peek_locked, rule_of, test_of, top_same, unlocked_of}
 use Rattle.rc_admit.proofs.Lists.{Each, Each-append}
 use Rattle.rc_admit.proofs.Owned.{EdgeAt, HasEdge, Leads, MayPass, Stand}
 use Rattle.rc_admit.proofs.Rule.{Claim}
 
 -- ---- how a thread stands
 
--- A label that is live, in a lock exactly where its place is.
+-- With some variables, a label that is live, in a lock exactly where its place is.
 pub record Entered (lines : List Line) (labels : List Label) (o : ℕ) : Type 0 where
+  pub variables : List ℤ
   pub bag : Part → ℕ
   pub mode : Mode
   pub label : label_at labels o ≡ Live bag mode
@@ -55,14 +58,14 @@ Enters lines labels (InArm o) = Unit {0}
 Enters lines labels (InLoop o k) = Entered lines labels o
 
 -- A thread stands at a place with its label, which is live, in blocks that were entered so.
-pub record At (lines : List Line) (labels : List Label) (b : Part → ℕ) (m : Mode) (k : ℕ) : Type 0 where
+pub record At (lines : List Line) (labels : List Label) (b : Part → ℕ) (m : Mode) (vars : List ℤ) (k : ℕ) : Type 0 where
   pub label : label_at labels k ≡ Live b m
   pub locked : is_locked m ≡ in_lock (blocks_at lines k)
   pub openers : Each (Enters lines labels) (blocks_at lines k)
 
 -- with the labels of some labelling that obeys the rules
 abbrev pub Labelled : Program → Stand
-Labelled P i b m vars k = (loops : List Items) × (start : Label) × (labels : List Label) × IsGood P loops start (lines_of P i) labels × At (lines_of P i) labels b m k
+Labelled P i b m vars k = (thread : Thread) × (labels : List Label) × IsGood P thread (lines_of P i) labels × At (lines_of P i) labels b m vars k
 
 -- ---- lists
 
@@ -88,7 +91,7 @@ or_first false b e = absurd (cc)
 
 -- ---- the edges
 
-module _ (P : Program) (wf : IsProgram P) (i : ℕ) (loops : List Items) (start : Label) (labels : List Label) (good : IsGood P loops start (lines_of P i) labels) where
+module _ (P : Program) (wf : IsProgram P) (i : ℕ) (thread : Thread) (labels : List Label) (good : IsGood P thread (lines_of P i) labels) where
   abbrev lines : List Line
   lines = lines_of P i
 
@@ -98,8 +101,8 @@ module _ (P : Program) (wf : IsProgram P) (i : ℕ) (loops : List Items) (start 
   laid : IsLaid lines ends
   laid = laid_in P wf i
 
-  good_at : (j : ℕ) (s : Stmt) → stmt_at lines j ≡ Some s → IsGoodAt P loops lines labels j s
-  good_at j s e = let l = line_with lines j s e in subst (λ x. IsGoodAt P loops lines labels j x) l.2 (good.each j l.0 l.1)
+  good_at : (j : ℕ) (s : Stmt) → stmt_at lines j ≡ Some s → IsGoodAt P thread lines labels j s
+  good_at j s e = let l = line_with lines j s e in subst (λ x. IsGoodAt P thread lines labels j x) l.2 (good.each j l.0 l.1)
 
   -- the label of a place before a line, as the rule of that line sees it
   known_is : (k j : ℕ) → k ≤ j → label_at (take (j + 1) labels) k ≡ label_at labels k
@@ -109,7 +112,7 @@ module _ (P : Program) (wf : IsProgram P) (i : ℕ) (loops : List Items) (start 
   here_is k s e = let l = line_with lines k s e in ap (λ n. label_at (take (k + 1) labels) n) (len_take k lines l.0 l.1) ∙ known_is k k (omega arith)
 
   -- to a place where these blocks are open
-  lead : (b : Part → ℕ) (m : Mode) (new : List ℤ) (k : ℕ) (bs : List Block) → blocks_at lines k ≡ bs → is_locked m ≡ in_lock bs → Each (Enters lines labels) bs → Weaker (label_at labels k) (Live b m) → Leads (Labelled P) i b m new k
+  pub lead : (b : Part → ℕ) (m : Mode) (new : List ℤ) (k : ℕ) (bs : List Block) → blocks_at lines k ≡ bs → is_locked m ≡ in_lock bs → Each (Enters lines labels) bs → Weaker (label_at labels k) (Live b m) → Leads (Labelled P) i b m new k
   lead b m new k bs n l os w =
       let s = below (label_at labels k) b m w in
       record {
@@ -118,8 +121,7 @@ module _ (P : Program) (wf : IsProgram P) (i : ℕ) (loops : List Items) (start 
         less = s.less;
         weaker = s.weaker;
         stands = (
-          loops,
-          start,
+          thread,
           labels,
           good,
           record {
@@ -130,9 +132,9 @@ module _ (P : Program) (wf : IsProgram P) (i : ℕ) (loops : List Items) (start 
         );
       }
 
-  module _ (b : Part → ℕ) (m : Mode) (vars : List ℤ) (k : ℕ) (a : At lines labels b m k) where
+  module _ (b : Part → ℕ) (m : Mode) (vars : List ℤ) (k : ℕ) (a : At lines labels b m vars k) where
     entered : Entered lines labels k
-    entered = record { bag = b; mode = m; label = a.label; locked = a.locked }
+    entered = record { variables = vars; bag = b; mode = m; label = a.label; locked = a.locked }
 
     abbrev Reach : ℕ → Claim
     Reach j c n = Leads (Labelled P) i c n vars j
@@ -211,7 +213,7 @@ module _ (P : Program) (wf : IsProgram P) (i : ℕ) (loops : List Items) (start 
     if_edge : (test : Test) → stmt_at lines k ≡ Some (If test) → EdgeAt P (Labelled P) i b m vars k (Some (If test))
     if_edge test e =
         let g = good_at k (If test) e in
-        let w = comes (If test) (λ bag n. Live bag (test_mode P test n)) (label_at labels (k + 1)) e g.after.0 in (
+        let w = comes (If test) (λ bag n. test_effect P bag n test) (label_at labels (k + 1)) e g.after.0 in (
           test_of P m test (λ n. MayPass test vars true → Leads (Labelled P) i b n vars (k + 1)) (asked (If test) (λ bag n. test_premises n test) e g.meets) (λ l may. into b (test_mode P test m) vars (k + 1) (InIf k ∷ []) (blocks_next lines k (If test) e) refl (tt, tt) l w),
           λ may. false_edge test e,
         )
@@ -235,7 +237,7 @@ module _ (P : Program) (wf : IsProgram P) (i : ℕ) (loops : List Items) (start 
     peek_edge : (x : ℕ) → stmt_at lines k ≡ Some (Peek x) → EdgeAt P (Labelled P) i b m vars k (Some (Peek x))
     peek_edge x e = go m (asked (Peek x) (λ bag n. peek_premises n) e g.meets) to_arm to_none
       where
-        g : IsGoodAt P loops lines labels k (Peek x)
+        g : IsGoodAt P thread lines labels k (Peek x)
         g = good_at k (Peek x) e
 
         arms : HasArms lines ends k
@@ -250,7 +252,7 @@ module _ (P : Program) (wf : IsProgram P) (i : ℕ) (loops : List Items) (start 
         -- what leads into an arm is no stronger than what stands here
         lands : (c : ℕ) (f : Peeked) (new : List ℤ) → blocks_at lines (c + 1) ≡ blocks_at lines k ++ InPeek k ∷ InArm k ∷ [] → Weaker (label_at labels (c + 1)) (Live s.bag (with_peeked f s.mode)) → Leads (Labelled P) i b (with_peeked f m) new (c + 1)
         lands c f new n w =
-            into b (with_peeked f m) new (c + 1) (InPeek k ∷ InArm k ∷ []) n refl (entered, (tt, tt)) (front_locked f m) (weaker_trans (label_at labels (c + 1)) (Live s.bag (with_peeked f s.mode)) (Live b (with_peeked f m)) w (s.less, front_weaker f s.mode m s.weaker))
+            into b (with_peeked f m) new (c + 1) (InPeek k ∷ InArm k ∷ []) n refl (entered, (tt, tt)) (front_locked f m) (weaker_trans (label_at labels (c + 1)) (Live s.bag (with_peeked f s.mode)) (Live b (with_peeked f m)) w (s.less, peeked_grows f s.mode m s.weaker))
 
         to_case : (u : ℕ) (new : List ℤ) (c : ℕ) → stmt_at lines c ≡ Some (Case k u) → (1 ≤ b (TokenOf u)) ⊎ Leads (Labelled P) i b (with_peeked (Sees u) m) new (c + 1)
         to_case u new c d =
@@ -297,7 +299,7 @@ module _ (P : Program) (wf : IsProgram P) (i : ℕ) (loops : List Items) (start 
     loop_edge : (n : ℕ) → stmt_at lines k ≡ Some (Loop n) → EdgeAt P (Labelled P) i b m vars k (Some (Loop n))
     loop_edge n e =
         let g = good_at k (Loop n) e in
-        let items = items_at loops n in
+        let items = items_at thread.loops n in
         let w = comes (Loop n) (λ bag o. Live (bag_on items) (top_mode P items o)) (label_at labels (k + 1)) e g.after.0 in
         into b m vars (k + 1) (InLoop k n ∷ []) (blocks_next lines k (Loop n) e) refl (entered, tt) refl (weaker_trans (label_at labels (k + 1)) (Live (bag_on items) (top_mode P items m)) (Live b m) w (covered P 13 items b m (asked (Loop n) (λ bag o. may_loop P 13 items bag o) e g.meets)))
 
@@ -306,7 +308,7 @@ module _ (P : Program) (wf : IsProgram P) (i : ℕ) (loops : List Items) (start 
     again_edge o n e =
         let c = closes_loop lines laid.each k o n e in
         let h : Entered lines labels o = opener (blocks_at lines o) (InLoop o n) [] c.within in
-        let items = items_at loops n in
+        let items = items_at thread.loops n in
         let w = subst (λ s. Weaker (label_at labels (o + 1)) (goes s (λ bag l. Live (bag_on items) (top_mode P items l)))) (here_is o (Loop n) c.stands ∙ h.label) (good_at o (Loop n) c.stands).after.0 in
         let s : is_locked h.mode ≡ is_locked m = h.locked ∙ sym (a.locked ∙ ap in_lock c.within ∙ same_lock (blocks_at lines o) (InLoop o n) refl) in
         let v = subst (λ l. Weaker (label_at labels (o + 1)) (Live (bag_on items) l)) (top_same P items h.mode m s) w in
@@ -346,4 +348,4 @@ module _ (P : Program) (wf : IsProgram P) (i : ℕ) (loops : List Items) (start 
 
 -- The labels of a labelling that obeys the rules have the edge law.
 pub labelled_edge : (P : Program) → IsProgram P → HasEdge P (Labelled P)
-labelled_edge P wf i b m vars k h = edge_at P wf i h.0 h.1 h.2 h.3 b m vars k h.4 (stmt_at (lines_of P i) k) refl
+labelled_edge P wf i b m vars k h = edge_at P wf i h.0 h.1 h.2 b m vars k h.3 (stmt_at (lines_of P i) k) refl

@@ -2,7 +2,7 @@
 use Rattle.std.proofs.Common.{◌≡◌, ℕ, zero, suc, ◌+◌, ◌-◌, ◌<◌, ◌≤◌, Bool, true, false, cond, List, [], ◌∷◌, ◌++◌, length, get_or, take, drop, ltb, Option, Some, None, refl, sym, ap, ◌∙◌, subst, ◌⊎◌, inl, inr, arith}
 use Rattle.std.specs.Prelude.{nat_eq, slice_get, unwrap_or}
 use Rattle.std.specs.List.{position_or_len}
-use Rattle.std.proofs.lemmas.Bool.{eq-eqb, eqb-true, ltb-false}
+use Rattle.std.proofs.lemmas.Bool.{and_parts, eq-eqb, eqb-true, ltb-false}
 use Rattle.std.proofs.lemmas.List.Quantifiers.{position-Some}
 use Rattle.std.proofs.lemmas.List.Sums.{fails_before_first}
 use Rattle.std.proofs.lemmas.Option.{get_or_from_slice_get, slice_get-get_or, slice_get_within}
@@ -16,7 +16,7 @@ use Rattle.rc_rules.specs.Labels.{Label, Weaker, WeakerThanEach}
 use Rattle.rc_rules.specs.Labellings.{arm_end, arm_ends, break_end, break_ends, label_at}
 use Rattle.rc_rules.specs.Rules.{broken, peek_at}
 use Rattle.rc_world.specs.Controls.{arm_for, arms_of, first_place, is_case, is_none_arm, is_other, none_arm}
-use Rattle.rc_admit.proofs.FlatRules.{and_left, and_right}
+use Rattle.rc_rules.proofs.Weaker.{label_drop}
 
 -- ---- lists
 
@@ -67,8 +67,9 @@ module _ (test : Stmt → Bool) (lines : List Line) where
 
 case_is : (o u : ℕ) (s : Stmt) → is_case o u s ≡ true → s ≡ Case o u
 case_is o u (Case p v) e =
-    let x : p ≡ o = eqb-true p o (and_left (nat_eq p o) (nat_eq v u) e) in
-    let y : v ≡ u = eqb-true v u (and_right (nat_eq p o) (nat_eq v u) e) in
+    let h = and_parts (nat_eq p o) (nat_eq v u) e in
+    let x : p ≡ o = eqb-true p o h.0 in
+    let y : v ≡ u = eqb-true v u h.1 in
     cc
 case_is o u _ e = absurd (cc)
 
@@ -131,10 +132,6 @@ each_left t (x ∷ xs) ys h = (h.0, each_left t xs ys h.1)
 each_right : (t : Label) (xs ys : List Label) → WeakerThanEach t (xs ++ ys) → WeakerThanEach t ys
 each_right t [] ys h = h
 each_right t (x ∷ xs) ys h = each_right t xs ys h.1
-
-label_drop : (labels : List Label) (k : ℕ) → label_at (drop 1 labels) k ≡ label_at labels (suc k)
-label_drop [] k = refl
-label_drop (s ∷ labels) k = refl
 
 -- The end of an arm is among those of its peek.
 pub arm_in : (lines : List Line) (labels : List Label) (t : Label) (k o : ℕ) (l : Line) → slice_get lines k ≡ Some l → l.stmt ≡ EndArm o → WeakerThanEach t (arm_ends lines labels o) → Weaker t (peek_at Unseen (label_at labels k))

@@ -1,7 +1,7 @@
 -- What the premises and effects of lines say in rules, and what passes from a label to a weaker one.
 use Rattle.std.proofs.Common.{◌≡◌, ℕ, Bool, true, false, ◌&&◌, cond, Option, Some, None, refl, sym, ap, inl, inr, arith}
 use Rattle.std.specs.Prelude.{nat_eq, nat_le}
-use Rattle.std.proofs.lemmas.Bool.{ltb-true, leb-true, eqb-true}
+use Rattle.std.proofs.lemmas.Bool.{and_parts, ltb-true, leb-true}
 use Rattle.rc_lang.specs.declared.lines.Op.{Op}
 use Rattle.rc_lang.specs.declared.lines.Op.TheVariants.{Set, Assign, Add, Subtract, Load, Store, Fill, Print, GetSqe, PrepRead, PrepWrite, PrepFsync, PrepNop, SetData64, Submit, SubmitAndWait, CqeSeen}
 use Rattle.rc_lang.specs.declared.lines.Test.{Test}
@@ -20,20 +20,9 @@ use Rattle.rc_rules.specs.Labels.{Label, Dead, Live, Weaker, WeakerMode}
 use Rattle.rc_rules.specs.Premises.{Meets}
 use Rattle.rc_rules.specs.Rules.{bag_on, broken, is_prepared_as, is_seen, keeps_queue, kind_of, may_break, may_loop, may_release, op_effect, op_premises, peek_premises, queue_on, reaped, same_kind, same_slot, test_mode, test_premises, top_mode, with_peeked}
 use Rattle.rc_split.specs.Bags.{Part, IsWithin, plus}
-use Rattle.rc_admit.proofs.Owned.{mode_refl, mode_trans}
+use Rattle.rc_rules.specs.States.{is_locked}
+use Rattle.rc_rules.proofs.Weaker.{locked_same, same_slot_is}
 use Rattle.rc_admit.proofs.Rule.{ArmRule, BreakRule, Claim, CloseRule, Reaps, Rule, TestRule}
-
--- ---- weaker labels
-
-pub weaker_refl : (s : Label) → Weaker s s
-weaker_refl Dead = tt
-weaker_refl (Live b m) = (λ p. omega arith, mode_refl m)
-
-pub weaker_trans : (r s t : Label) → Weaker r s → Weaker s t → Weaker r t
-weaker_trans r s Dead x y = tt
-weaker_trans r Dead (Live b n) x y = absurd y
-weaker_trans Dead (Live a m) (Live b n) x y = absurd x
-weaker_trans (Live c l) (Live a m) (Live b n) x y = (λ p. omega (arith, x.0 p, y.0 p), mode_trans l m n x.1 y.1)
 
 -- A label that says no more than a live one is live.
 pub record IsBelow (s : Label) (b : Part → ℕ) (m : Mode) : Type 0 where
@@ -49,16 +38,6 @@ below (Live a n) b m w = record { bag = a; mode = n; is = refl; less = w.0; weak
 
 -- ---- locked or not
 
-abbrev pub is_locked : Mode → Bool
-is_locked Unlocked = false
-is_locked (Locked s) = true
-
-pub locked_same : (n m : Mode) → WeakerMode n m → is_locked n ≡ is_locked m
-locked_same Unlocked Unlocked w = refl
-locked_same (Locked s) (Locked t) w = refl
-locked_same Unlocked (Locked t) w = absurd w
-locked_same (Locked s) Unlocked w = absurd w
-
 pub unlocked_of : (m : Mode) → is_locked m ≡ false → m ≡ Unlocked
 unlocked_of Unlocked e = refl
 unlocked_of (Locked s) e = absurd (cc)
@@ -67,41 +46,9 @@ pub front_locked : (x : Peeked) (m : Mode) → is_locked (with_peeked x m) ≡ i
 front_locked x Unlocked = refl
 front_locked x (Locked s) = refl
 
-pub front_weaker : (x : Peeked) (n m : Mode) → WeakerMode n m → WeakerMode (with_peeked x n) (with_peeked x m)
-front_weaker x Unlocked Unlocked w = tt
-front_weaker x (Locked s) (Locked t) w = record { queued = w.queued; slot = w.slot; peeked = inl refl }
-front_weaker x Unlocked (Locked t) w = absurd w
-front_weaker x (Locked s) Unlocked w = absurd w
-
--- ---- tests of premises
-
-pub and_left : (a b : Bool) → (a && b) ≡ true → a ≡ true
-and_left true b e = refl
-and_left false b e = e
-
-pub and_right : (a b : Bool) → (a && b) ≡ true → b ≡ true
-and_right true b e = e
-and_right false b e = absurd (cc)
-
-same_kind-true : (k l : TokenKind) → same_kind k l ≡ true → k ≡ l
-same_kind-true (Read b) (Read c) e = ap Read (eqb-true b c e)
-same_kind-true (Write b k) (Write c l) e =
-    let x : b ≡ c = eqb-true b c (and_left (nat_eq b c) (nat_eq k l) e) in
-    let y : k ≡ l = eqb-true k l (and_right (nat_eq b c) (nat_eq k l) e) in
-    cc
-same_kind-true Fsync Fsync e = refl
-same_kind-true Nop Nop e = refl
-same_kind-true _ _ e = absurd (cc)
-
-same_slot-true : (s t : Slot) → same_slot s t ≡ true → s ≡ t
-same_slot-true Closed Closed e = refl
-same_slot-true Vacant Vacant e = refl
-same_slot-true (Prepared k) (Prepared l) e = ap Prepared (same_kind-true k l e)
-same_slot-true _ _ e = absurd (cc)
-
 prepared_as : (x : Option TokenKind) (slot : Slot) → is_prepared_as x slot ≡ true → (kind : TokenKind) × (x ≡ Some kind) × (slot ≡ Prepared kind)
 prepared_as None slot e = absurd (cc)
-prepared_as (Some kind) slot e = (kind, refl, same_slot-true slot (Prepared kind) e)
+prepared_as (Some kind) slot e = (kind, refl, same_slot_is slot (Prepared kind) e)
 
 -- ---- the rules
 
@@ -120,14 +67,14 @@ rule_of P b m (Load x c i) K t h w f = (leb-true 1 _ h.0, ltb-true _ _ h.1.0, f 
 rule_of P b m (Store c i x) K t h w f = (leb-true _ _ h.0, ltb-true _ _ h.1.0, f b m refl w)
 rule_of P b m (Fill c x) K t h w f = (leb-true _ _ h.0, f b m refl w)
 rule_of P b m (Print x) K t h w f = f b m refl w
-rule_of P b (Locked s) GetSqe K t h w f = (leb-true 1 _ h.0, ltb-true _ _ h.1.0, same_slot-true s.slot Closed h.1.1.0, f _ _ refl w)
-rule_of P b (Locked s) (PrepRead fd c len off) K t h w f = (same_slot-true s.slot Vacant h.0, leb-true _ _ h.1.0, leb-true _ _ h.1.1.0, f _ _ refl w)
-rule_of P b (Locked s) (PrepWrite fd c len off k) K t h w f = (same_slot-true s.slot Vacant h.0, leb-true _ _ h.1.0, leb-true _ _ h.1.1.0, f _ _ refl w)
-rule_of P b (Locked s) (PrepFsync fd datasync) K t h w f = (same_slot-true s.slot Vacant h.0, f _ _ refl w)
-rule_of P b (Locked s) PrepNop K t h w f = (same_slot-true s.slot Vacant h.0, f _ _ refl w)
+rule_of P b (Locked s) GetSqe K t h w f = (leb-true 1 _ h.0, ltb-true _ _ h.1.0, same_slot_is s.slot Closed h.1.1.0, f _ _ refl w)
+rule_of P b (Locked s) (PrepRead fd c len off) K t h w f = (same_slot_is s.slot Vacant h.0, leb-true _ _ h.1.0, leb-true _ _ h.1.1.0, f _ _ refl w)
+rule_of P b (Locked s) (PrepWrite fd c len off k) K t h w f = (same_slot_is s.slot Vacant h.0, leb-true _ _ h.1.0, leb-true _ _ h.1.1.0, f _ _ refl w)
+rule_of P b (Locked s) (PrepFsync fd datasync) K t h w f = (same_slot_is s.slot Vacant h.0, f _ _ refl w)
+rule_of P b (Locked s) PrepNop K t h w f = (same_slot_is s.slot Vacant h.0, f _ _ refl w)
 rule_of P b (Locked s) (SetData64 u) K t h w f = let x = prepared_as (kind_of P u) s.slot h.1.0 in (x.0, x.1, x.2, leb-true 1 _ h.1.1.0, f _ _ refl w)
-rule_of P b (Locked s) (Submit x) K t h w f = (same_slot-true s.slot Closed h.0, f _ _ refl w)
-rule_of P b (Locked s) (SubmitAndWait x n) K t h w f = (same_slot-true s.slot Closed h.0, f _ _ refl w)
+rule_of P b (Locked s) (Submit x) K t h w f = (same_slot_is s.slot Closed h.0, f _ _ refl w)
+rule_of P b (Locked s) (SubmitAndWait x n) K t h w f = (same_slot_is s.slot Closed h.0, f _ _ refl w)
 rule_of P b (Locked s) CqeSeen K t h w f = reaps P b s K s.peeked h.0 (f _ _ refl w)
 rule_of P b Unlocked _ K t h w f = absurd (let e : false ≡ true = h.0 in cc)
 
@@ -145,7 +92,7 @@ peek_locked (Locked s) h = refl
 -- The closing brace of a lock stands in one.
 pub close_of : (P : Program) (b : Part → ℕ) (m : Mode) (K : Claim) → is_locked m ≡ true → Meets (may_release P m) → K b Unlocked → CloseRule P b m K
 close_of P b Unlocked K l h f = absurd (cc)
-close_of P b (Locked s) K l h f = (same_slot-true s.slot Closed h.0, leb-true _ _ h.1.0, f)
+close_of P b (Locked s) K l h f = (same_slot_is s.slot Closed h.0, leb-true _ _ h.1.0, f)
 
 -- So does the end of an arm,
 pub arm_of : (b : Part → ℕ) (m : Mode) (K : Claim) (t : Label) → is_locked m ≡ true → Weaker t (Live b (with_peeked Unseen m)) → ((n : Mode) → is_locked n ≡ is_locked m → Weaker t (Live b n) → K b n) → ArmRule b m K
@@ -157,8 +104,8 @@ pub break_of : (P : Program) (b : Part → ℕ) (m : Mode) (releases leaves : Bo
 break_of P b Unlocked false false K t r l h w f = f Unlocked refl w
 break_of P b Unlocked false true K t r l h w f = absurd (let e : false ≡ true = l refl in cc)
 break_of P b Unlocked true leaves K t r l h w f = absurd (let e : false ≡ true = r refl in cc)
-break_of P b (Locked s) false leaves K t r l h w f = (same_slot-true s.slot Closed h.0, f _ refl w)
-break_of P b (Locked s) true leaves K t r l h w f = (same_slot-true s.slot Closed h.0, leb-true _ _ h.1.0, f Unlocked refl w)
+break_of P b (Locked s) false leaves K t r l h w f = (same_slot_is s.slot Closed h.0, f _ refl w)
+break_of P b (Locked s) true leaves K t r l h w f = (same_slot_is s.slot Closed h.0, leb-true _ _ h.1.0, f Unlocked refl w)
 
 -- ---- loops
 
@@ -166,8 +113,8 @@ break_of P b (Locked s) true leaves K t r l h w f = (same_slot-true s.slot Close
 queue_less : (P : Program) (items : Items) (m : Mode) → keeps_queue P items m ≡ true → WeakerMode (top_mode P items m) m
 queue_less P items Unlocked e = tt
 queue_less P items (Locked s) e = record {
-  queued = leb-true _ _ (and_right (same_slot s.slot Closed) (nat_le s.queued (queue_on P items)) e);
-  slot = sym (same_slot-true s.slot Closed (and_left (same_slot s.slot Closed) (nat_le s.queued (queue_on P items)) e));
+  queued = leb-true _ _ (and_parts (same_slot s.slot Closed) (nat_le s.queued (queue_on P items)) e).1;
+  slot = sym (same_slot_is s.slot Closed (and_parts (same_slot s.slot Closed) (nat_le s.queued (queue_on P items)) e).0);
   peeked = inr refl;
 }
 

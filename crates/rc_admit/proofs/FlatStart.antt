@@ -1,27 +1,22 @@
 -- The threads of an accepted program start as their labellings say, and hold together no more than there is.
 use Rattle.std.proofs.Common.{◌≡◌, suc, ◌+◌, ◌≤◌, List, [], ◌∷◌, length, take_all, Some, refl, sym, ap, ◌∙◌, subst, arith}
-use Rattle.std.specs.Prelude.{slice_get}
-use Rattle.rc_lang.specs.Program.{Program, Thread, lines_in, lines_of}
+use Rattle.std.specs.Prelude.{pos, replicate, slice_get}
+use Rattle.rc_lang.specs.Program.{IsProgram, Program, Thread, lines_in, lines_of}
 use Rattle.rc_rules.specs.declared.mode.Mode.TheVariants.{Unlocked}
-use Rattle.rc_rules.specs.Labellings.{Accepts, IsGood, header_premises, headers_bag, start_of}
+use Rattle.rc_rules.specs.Labellings.{Accepts, IsGood, header_premises, headers_bag, label_at, start_of}
 use Rattle.rc_rules.specs.Premises.{Meets}
 use Rattle.rc_rules.specs.Rules.{limit}
 use Rattle.rc_split.specs.Bags.{Part, ShareOf, TokenOf, Credit, bag_of}
-use Rattle.rc_admit.proofs.Flat.{Labelled}
-use Rattle.rc_admit.proofs.Owned.{HasStart, mode_refl}
+use Rattle.rc_rules.proofs.Weaker.{same_below}
+use Rattle.rc_admit.proofs.Flat.{Labelled, lead}
+use Rattle.rc_admit.proofs.Owned.{HasStart}
 
 -- Each thread starts at its first place, which has the label of its header's items.
-pub labelled_start : (P : Program) → Accepts P → HasStart P (Labelled P)
-labelled_start P accepts i t e =
+pub labelled_start : (P : Program) → IsProgram P → Accepts P → HasStart P (Labelled P)
+labelled_start P made accepts i t e =
     let h = (accepts i t e).labels in
-    let lines : lines_of P i ≡ t.lines = ap lines_in e in
-    record {
-      bag = bag_of t.items;
-      mode = Unlocked;
-      less = λ p. omega arith;
-      weaker = mode_refl Unlocked;
-      stands = (t.loops, start_of t, h.0, subst (λ x. IsGood P t.loops (start_of t) x h.0) (sym lines) h.1, record { label = h.1.begins; locked = refl; openers = tt });
-    }
+    let good : IsGood P t (lines_of P i) h.0 = subst (λ x. IsGood P t x h.0) (sym (ap lines_in e)) h.1 in
+    lead P made i t h.0 good (bag_of t.items) Unlocked (replicate 64 (pos 0)) 0 [] refl refl tt (same_below (label_at h.0 0) (start_of t) h.1.begins)
 
 last : {A : Type 0} (x : A) (xs : List A) → (y : A) × (slice_get (x ∷ xs) (length xs) ≡ Some y)
 last x [] = (x, refl)

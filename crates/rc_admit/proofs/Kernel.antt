@@ -18,7 +18,7 @@ use Rattle.rc_world.specs.Faults.{is_holder}
 use Rattle.rc_world.specs.Machine.{Pending, World, bytes_brought, completes, completion_of, given_back, in_rings, kernel_event, kernel_step, kernel_step_of, stmt_answer, thread_step, thread_step_at, with_controls, without}
 use Rattle.rc_admit.proofs.Lists.{sum_to, sum_over, sum_over-append, sum_over-without, Each-append, Each-without, Each-get}
 use Rattle.rc_admit.proofs.Ops.{Keeps}
-use Rattle.rc_admit.proofs.Owned.{Stand, HasEdge, EdgeAt, owns, owns_pending, in_flight, FrontFits, Fits, held, HasKind, HasKindPending, WellOwned}
+use Rattle.rc_admit.proofs.Owned.{Stand, HasEdge, EdgeAt, owns, owns_pending, unheld, FrontFits, Fits, held, HasKind, HasKindPending, WellOwned}
 use Rattle.rc_admit.proofs.Steps.{line_keeps}
 
 -- Where a step can be made, the world after it is well owned.
@@ -54,7 +54,7 @@ completes_keeps P S w k res x bs e h =
         total = λ p.
             let a : sum_over (owns_pending P p) (without k w.pending) + owns P p r ≡ sum_over (owns_pending P p) w.pending = sum_over-without (owns_pending P p) k w.pending x e in
             let b : sum_over (owns P p) (w.completed ++ r ∷ []) ≡ sum_over (owns P p) w.completed + (owns P p r + 0) = sum_over-append (owns P p) w.completed (r ∷ []) in
-            let t : sum_to (λ i. held P (h.0 i) (h.1 i) p) (length w.controls.threads) + in_flight P w p ≤ limit P p = o.total p in
+            let t : sum_to (λ i. held P (h.0 i) (h.1 i) p) (length w.controls.threads) + unheld P w p ≤ limit P p = o.total p in
             omega arith;
         free = o.free;
         each = λ i. fits_more w k res r bs (is_holder w.controls.holder i) (h.1 i) (o.each i);

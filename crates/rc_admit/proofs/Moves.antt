@@ -14,7 +14,7 @@ use Rattle.rc_world.specs.Controls.{Standing, passes_arm, rest_at}
 use Rattle.rc_world.specs.Faults.{is_holder}
 use Rattle.rc_world.specs.Machine.{World, slot_len}
 use Rattle.rc_admit.proofs.Lists.{sum_to, sum_to_changed, nat_eq_cases, Each, get_set, get_within}
-use Rattle.rc_admit.proofs.Owned.{Stand, Leads, HasEdge, slot_bag, mode_bag, in_flight, SlotFits, FrontFits, Fits, held, HasKind, HasKindPending, data_of, data_in, Owned, WellOwned, IsUnseen, settle, fits_weaker}
+use Rattle.rc_admit.proofs.Owned.{Stand, Leads, HasEdge, slot_bag, mode_bag, unheld, SlotFits, FrontFits, Fits, held, HasKind, HasKindPending, data_of, data_in, Owned, WellOwned, IsUnseen, settle, fits_weaker}
 
 -- The world in which thread i went to this place, with these variables: it comes to rest, and at the end of an arm
 -- nothing is peeked any more.
@@ -76,7 +76,7 @@ pub record Moved (P : Program) (w w1 : World) (bags : ℕ → Part → ℕ) (mod
   pub of : w1.program ≡ P
   pub room : length w1.queued + slot_len w1.slot ≤ P.entries
   pub same : w1.controls.threads ≡ w.controls.threads
-  pub local : (p : Part) → held P b m p + in_flight P w1 p ≤ held P (bags i) (modes i) p + in_flight P w p
+  pub local : (p : Part) → held P b m p + unheld P w1 p ≤ held P (bags i) (modes i) p + unheld P w p
   pub free : w1.controls.holder ≡ None → (length w1.queued ≤ P.left) × (w1.slot ≡ entries.Closed)
   pub mine : Fits w1 (is_holder w1.controls.holder i) m
   pub others : (k : ℕ) → (k ≡ i → ⊥) → Fits w1 (is_holder w1.controls.holder k) (modes k)
@@ -121,8 +121,8 @@ module _ (P : Program) (S : Stand) (edge : HasEdge P S) (w w1 : World) (bags : �
               let changed : sum_to g (length w.controls.threads) + f i ≡ sum_to f (length w.controls.threads) + g i = sum_to_changed f g (length w.controls.threads) i within off in
               let less : s.bag p ≤ b p = s.less p in
               let stage : mode_bag P s.mode p ≡ mode_bag P m p = mode_bag_same P s.mode m p s.weaker in
-              let local : held P b m p + in_flight P w1 p ≤ f i + in_flight P w p = v.local p in
-              let before : sum_to f (length w.controls.threads) + in_flight P w p ≤ limit P p = o.total p in
+              let local : held P b m p + unheld P w1 p ≤ f i + unheld P w p = v.local p in
+              let before : sum_to f (length w.controls.threads) + unheld P w p ≤ limit P p = o.total p in
               let n : sum_to g (length ts) ≡ sum_to g (length w.controls.threads) = ap (λ x. sum_to g x) len in
               omega (arith, local);
           free = v.free;
@@ -163,7 +163,7 @@ pub record Rung (P : Program) (w w1 : World) (b0 : Part → ℕ) (s0 : Inside) (
   pub room : length w1.queued + slot_len w1.slot ≤ P.entries
   pub same : w1.controls.threads ≡ w.controls.threads
   pub lock : w1.controls.holder ≡ w.controls.holder
-  pub local : (p : Part) → (b p + slot_bag P s.slot p) + in_flight P w1 p ≤ (b0 p + slot_bag P s0.slot p) + in_flight P w p
+  pub local : (p : Part) → (b p + slot_bag P s.slot p) + unheld P w1 p ≤ (b0 p + slot_bag P s0.slot p) + unheld P w p
   pub bound : length w1.queued + slot_len w1.slot ≤ s.queued
   pub slot : SlotFits w1.slot s.slot
   pub front : FrontFits w1.controls.peeked w1.completions s.peeked
@@ -181,7 +181,7 @@ rung_moved P S w w1 bags modes i b s0 s o e v =
       of = v.of;
       room = v.room;
       same = v.same;
-      local = λ p. let l : (b p + slot_bag P s.slot p) + in_flight P w1 p ≤ (bags i p + slot_bag P s0.slot p) + in_flight P w p = v.local p in let x : mode_bag P (modes i) p ≡ slot_bag P s0.slot p = ap (λ m. mode_bag P m p) e in omega arith;
+      local = λ p. let l : (b p + slot_bag P s.slot p) + unheld P w1 p ≤ (bags i p + slot_bag P s0.slot p) + unheld P w p = v.local p in let x : mode_bag P (modes i) p ≡ slot_bag P s0.slot p = ap (λ m. mode_bag P m p) e in omega arith;
       free = λ n. absurd (not_none w1.controls.holder i mine1 n);
       mine = fits_made w1 (is_holder w1.controls.holder i) s mine1 v.bound v.slot v.front;
       others = λ k ne. fits_outside w w1 (is_holder w1.controls.holder k) (modes k) (holder_one w1.controls.holder i k mine1 ne) (subst (λ (x : Option ℕ). Fits w (is_holder x k) (modes k)) (sym v.lock) (o.each k));

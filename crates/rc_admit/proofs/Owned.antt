@@ -21,6 +21,7 @@ use Rattle.rc_rules.specs.declared.mode.Peeked.TheVariants.{Unseen, Sees, SeesOt
 use Rattle.rc_rules.specs.declared.mode.Slot.{Slot}
 use Rattle.rc_rules.specs.declared.mode.Slot.TheVariants.{Closed, Vacant, Prepared}
 use Rattle.rc_rules.specs.Labels.{WeakerMode}
+use Rattle.rc_rules.proofs.Weaker.{mode_trans}
 use Rattle.rc_rules.specs.Rules.{kind_bag, kind_of, limit, owned}
 use Rattle.rc_split.specs.Bags.{Part, TokenOf, bag_of, credits_bag}
 use Rattle.rc_world.specs.declared.event.Completion.{Completion}
@@ -104,15 +105,15 @@ abbrev pub mode_bag : Program → Mode → Part → ℕ
 mode_bag P Unlocked p = 0
 mode_bag P (Locked s) p = slot_bag P s.slot p
 
--- what the requests in flight own
+-- what no thread holds: what the requests in flight own
 abbrev pub owns : Program → Part → Request → ℕ
 owns P p r = owned P r.user_data p
 
 abbrev pub owns_pending : Program → Part → Pending → ℕ
 owns_pending P p x = owns P p x.request
 
-abbrev pub in_flight : Program → World → Part → ℕ
-in_flight P w p = sum_over (owns P p) w.queued + sum_over (owns_pending P p) w.pending + sum_over (owns P p) w.completed
+abbrev pub unheld : Program → World → Part → ℕ
+unheld P w p = sum_over (owns P p) w.queued + sum_over (owns_pending P p) w.pending + sum_over (owns P p) w.completed
 
 -- The request is one of this kind, of this buffer.
 abbrev pub FitsKind : Request → TokenKind → Type 0
@@ -167,7 +168,7 @@ pub record Owned (P : Program) (S : ℕ → (Part → ℕ) → Mode → List ℤ
   pub of : w.program ≡ P
   pub room : length w.queued + slot_len w.slot ≤ P.entries
   pub stands : (i : ℕ) (t : Standing) → slice_get w.controls.threads i ≡ Some t → S i (bags i) (modes i) t.variables t.place
-  pub total : (p : Part) → sum_to (λ i. held P (bags i) (modes i) p) (length w.controls.threads) + in_flight P w p ≤ limit P p
+  pub total : (p : Part) → sum_to (λ i. held P (bags i) (modes i) p) (length w.controls.threads) + unheld P w p ≤ limit P p
   pub free : w.controls.holder ≡ None → (length w.queued ≤ P.left) × (w.slot ≡ entries.Closed)
   pub each : (i : ℕ) → Fits w (is_holder w.controls.holder i) (modes i)
   pub queued : Each (HasKind P) w.queued
@@ -179,22 +180,6 @@ abbrev pub WellOwned : Program → Stand → World → Type 0
 WellOwned P S w = (bags : ℕ → Part → ℕ) × (modes : ℕ → Mode) × Owned P S w bags modes
 
 -- ---- weaker modes
-
-pub mode_refl : (m : Mode) → WeakerMode m m
-mode_refl Unlocked = tt
-mode_refl (Locked s) = record { queued = omega arith; slot = refl; peeked = inl refl }
-
-pub mode_trans : (l m n : Mode) → WeakerMode l m → WeakerMode m n → WeakerMode l n
-mode_trans Unlocked Unlocked Unlocked a b = tt
-mode_trans Unlocked Unlocked (Locked s) a b = b
-mode_trans Unlocked (Locked s) n a b = absurd a
-mode_trans (Locked s) Unlocked n a b = absurd a
-mode_trans (Locked s) (Locked t) Unlocked a b = absurd b
-mode_trans (Locked s) (Locked t) (Locked u) a b = record {
-  queued = omega (arith, a.queued, b.queued);
-  slot = a.slot ∙ b.slot;
-  peeked = elim a.peeked [ inr e ↦ inr e | inl e ↦ elim b.peeked [ inl d ↦ inl (e ∙ d) | inr d ↦ inr (e ∙ d) ] ];
-}
 
 abbrev pub IsUnseen : Mode → Type 0
 IsUnseen Unlocked = ⊥

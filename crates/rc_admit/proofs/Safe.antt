@@ -42,7 +42,7 @@ safe_by P made S c events w r = no_fault P made S c.edge w (worlds_owned P S c e
 
 -- The labels of an accepted program are such a claim.
 pub labelled_claim : (P : Program) → IsProgram P → Accepts P → IsClaim P (Labelled P)
-labelled_claim P made a = record { edge = labelled_edge P made; start = labelled_start P a; within = headers_within P a }
+labelled_claim P made a = record { edge = labelled_edge P made; start = labelled_start P made a; within = headers_within P a }
 
 pub accepted_is_safe : AcceptedIsSafe
 accepted_is_safe P made a = safe_by P made (Labelled P) (labelled_claim P made a)

@@ -27,7 +27,7 @@ use Rattle.rc_world.specs.Machine.{World, front_of, in_rings, slot_len, stmt_ans
 use Rattle.rc_admit.proofs.Lists.{sum_to, sum_over, sum_to_one, nat_eq_cases, get_within}
 use Rattle.rc_admit.proofs.Moves.{Moved, moves, put, rung_moved, fits_parts, fits_made, holder_one, with_lock}
 use Rattle.rc_admit.proofs.Ops.{Keeps, slot_closed, op_keeps, quiet, has, agree_head}
-use Rattle.rc_admit.proofs.Owned.{Stand, Leads, MayPass, EdgeAt, HasEdge, slot_bag, owns, in_flight, SlotFits, StartsWith, IsNonempty, FrontFits, Fits, held, data_in, Owned, WellOwned, locked_of}
+use Rattle.rc_admit.proofs.Owned.{Stand, Leads, MayPass, EdgeAt, HasEdge, slot_bag, owns, unheld, SlotFits, StartsWith, IsNonempty, FrontFits, Fits, held, data_in, Owned, WellOwned, locked_of}
 use Rattle.rc_admit.proofs.Rule.{TestRule, BreakRule}
 
 pub outside_any : (w w1 : World) (h : Bool) (m : Mode) → h ≡ false → Fits w h m → Fits w1 false m
@@ -107,7 +107,7 @@ twice P S w bags modes i t d ds o get e h =
     let fl : sum_over (owns P p) w.completed ≡ owned P a.0.user_data p + sum_over (owns P p) a.1 = ap (sum_over (owns P p)) a.2 in
     let one : 1 ≤ owned P a.0.user_data p = subst (λ u. 1 ≤ owned P u p) (sym a.3) (token_owned P d.user_data) in
     let mine : held P (bags i) (modes i) p ≤ sum_to (λ i. held P (bags i) (modes i) p) (length w.controls.threads) = sum_to_one (λ i. held P (bags i) (modes i) p) (length w.controls.threads) i (get_within w.controls.threads i t get) in
-    let tot : sum_to (λ i. held P (bags i) (modes i) p) (length w.controls.threads) + in_flight P w p ≤ 1 = o.total p in
+    let tot : sum_to (λ i. held P (bags i) (modes i) p) (length w.controls.threads) + unheld P w p ≤ 1 = o.total p in
     omega arith
 
 module _ (P : Program) (S : Stand) (edge : HasEdge P S) (w : World) (bags : ℕ → Part → ℕ) (modes : ℕ → Mode) (i : ℕ) (t : Standing) (r : ℤ) (o : Owned P S w bags modes) (get : slice_get w.controls.threads i ≡ Some t) where

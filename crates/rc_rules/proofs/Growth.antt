@@ -1,6 +1,6 @@
 -- Stronger states are asked for less and give stronger states.
-use Rattle.std.proofs.Common.{◌≡◌, ℕ, suc, ◌+◌, ◌<◌, ◌≤◌, ◌⊎◌, inl, inr, Bool, true, false, cond, ◌&&◌, nat_eq, nat_lt, nat_le, List, [], ◌∷◌, ◌++◌, length, drop, refl, sym, ap, subst, ◌∙◌, arith}
-use Rattle.std.proofs.lemmas.Bool.{leb-true, le-leb, ltb-true}
+use Rattle.std.proofs.Common.{◌≡◌, ℕ, suc, ◌+◌, ◌<◌, ◌≤◌, ◌⊎◌, inl, inr, Bool, true, false, cond, nat_eq, nat_lt, nat_le, List, [], ◌∷◌, ◌++◌, length, drop, refl, sym, ap, subst, arith}
+use Rattle.std.proofs.lemmas.Bool.{and_from, and_parts, leb-true, le-leb, ltb-true}
 use Rattle.rc_lang.specs.declared.lines.Line.{Line}
 use Rattle.rc_lang.specs.declared.lines.Op.{Op}
 use Rattle.rc_lang.specs.declared.lines.Op.TheVariants as ops
@@ -8,7 +8,7 @@ use Rattle.rc_lang.specs.declared.lines.Stmt.{Stmt}
 use Rattle.rc_lang.specs.declared.lines.Stmt.TheVariants.{Do, Lock, EndLock, If, Else, EndIf, Peek, Case, Other, Nothing, EndArm, EndPeek, Loop, EndLoop, Break}
 use Rattle.rc_lang.specs.declared.lines.Test.{Test}
 use Rattle.rc_lang.specs.declared.lines.Test.TheVariants.{Compare, ReadyZero, SpaceAtLeast}
-use Rattle.rc_lang.specs.Program.{Program, Items, items_at}
+use Rattle.rc_lang.specs.Program.{Program, Thread, Items, items_at}
 use Rattle.rc_split.specs.Bags.{Part, ShareOf, TokenOf, Credit, IsWithin}
 use Rattle.rc_rules.specs.declared.mode.Inside.{Inside}
 use Rattle.rc_rules.specs.declared.mode.Mode.{Mode}
@@ -19,31 +19,10 @@ use Rattle.rc_rules.specs.declared.mode.Slot.{Slot}
 use Rattle.rc_rules.specs.declared.mode.Slot.TheVariants.{Closed, Vacant}
 use Rattle.rc_rules.specs.Labels.{Label, Dead, Live, Weaker, WeakerMode, WeakerInside}
 use Rattle.rc_rules.specs.Premises.{Premise, IsMet, Meets, MeetsBelow}
-use Rattle.rc_rules.specs.Rules.{kind_of, same_slot, has_kind, is_prepared_as, is_seen, op_premises, op_effect, reaped, asks, goes, entered, may_release, released, test_premises, test_mode, peek_premises, with_peeked, peek_at, case_at, agree_modes, agree, agree_each, agree_all, may_join, queue_on, keeps_queue, may_loop, top_mode, top, may_break, broken}
+use Rattle.rc_rules.specs.Rules.{kind_of, same_slot, has_kind, is_prepared_as, is_seen, op_premises, op_effect, reaped, asks, goes, entered, may_release, released, test_premises, test_effect, peek_premises, with_peeked, peek_at, case_at, agree_modes, agree, agree_each, agree_all, may_join, queue_on, keeps_queue, may_loop, top_mode, top, may_break, broken}
 use Rattle.rc_rules.specs.Labellings.{label_at, here, skipped, arm_end, arm_ends, break_end, break_ends, befores, premises}
 use Rattle.rc_rules.specs.Laws.{EachWeaker, IsStronger, GrowsAt}
-use Rattle.rc_rules.proofs.Moves.{mode_refl}
-
--- ---- the order
-
-peeked_trans : (p q r : Peeked) → (p ≡ q) ⊎ (p ≡ Unseen) → (q ≡ r) ⊎ (q ≡ Unseen) → (p ≡ r) ⊎ (p ≡ Unseen)
-peeked_trans p q r (inr e) f = inr e
-peeked_trans p q r (inl e) (inl f) = inl (e ∙ f)
-peeked_trans p q r (inl e) (inr f) = inr (e ∙ f)
-
-mode_trans : (m n o : Mode) → WeakerMode m n → WeakerMode n o → WeakerMode m o
-mode_trans Unlocked Unlocked Unlocked v w = tt
-mode_trans Unlocked Unlocked (Locked k) v w = absurd w
-mode_trans Unlocked (Locked j) o v w = absurd v
-mode_trans (Locked i) Unlocked o v w = absurd v
-mode_trans (Locked i) (Locked j) Unlocked v w = absurd w
-mode_trans (Locked i) (Locked j) (Locked k) v w = record { queued = omega (arith, v.queued, w.queued); slot = v.slot ∙ w.slot; peeked = peeked_trans i.peeked j.peeked k.peeked v.peeked w.peeked }
-
-pub weaker_trans : (s t u : Label) → Weaker s t → Weaker t u → Weaker s u
-weaker_trans s t Dead v w = tt
-weaker_trans s Dead (Live c o) v w = absurd w
-weaker_trans Dead (Live b n) (Live c o) v w = absurd v
-weaker_trans (Live a m) (Live b n) (Live c o) v w = (λ p. omega (arith, v.0 p, w.0 p), mode_trans m n o v.1 w.1)
+use Rattle.rc_rules.proofs.Weaker.{mode_refl, peeked_grows, label_drop}
 
 -- ---- lists of premises
 
@@ -175,7 +154,7 @@ test_less (Compare x k n) b d m o w v = tt
 test_less ReadyZero b d m o w v = peek_less b d m o w v
 test_less (SpaceAtLeast n) b d m o w v = peek_less b d m o w v
 
-test_grows : (P : Program) (test : Test) → Grows (λ b m. []) (λ b m. Live b (test_mode P test m))
+test_grows : (P : Program) (test : Test) → Grows (λ b m. []) (λ b m. test_effect P b m test)
 test_grows P (Compare x k n) b d m o w v h = (w, v)
 test_grows P ReadyZero b d Unlocked Unlocked w v h = (w, tt)
 test_grows P ReadyZero b d (Locked i) (Locked j) w v h = (w, record { queued = omega arith; slot = v.slot; peeked = v.peeked })
@@ -199,20 +178,9 @@ break_less P false b c (Locked i) (Locked j) w v = (refl, slot_of i j Closed v, 
 break_less P r b c Unlocked (Locked j) w v = absurd v
 break_less P r b c (Locked i) Unlocked w v = absurd v
 
-and_left : (x y : Bool) → (x && y) ≡ true → x ≡ true
-and_left true y e = refl
-and_left false y e = e
-
-and_right : (x y : Bool) → (x && y) ≡ true → y ≡ true
-and_right true y e = e
-and_right false y e = absurd cc
-
-and_both : (x y : Bool) → x ≡ true → y ≡ true → (x && y) ≡ true
-and_both x y e f = rw (e, f) refl
-
 queue_grows : (P : Program) (items : Items) (m n : Mode) → WeakerMode m n → keeps_queue P items m ≡ true → keeps_queue P items n ≡ true
 queue_grows P items Unlocked Unlocked v h = refl
-queue_grows P items (Locked i) (Locked j) v h = and_both _ _ (slot_of i j Closed v (and_left _ _ h)) (below j.queued i.queued (queue_on P items) v.queued (and_right _ _ h))
+queue_grows P items (Locked i) (Locked j) v h = let g = and_parts _ _ h in and_from _ _ (slot_of i j Closed v g.0) (below j.queued i.queued (queue_on P items) v.queued g.1)
 queue_grows P items Unlocked (Locked j) v h = absurd v
 queue_grows P items (Locked i) Unlocked v h = absurd v
 
@@ -229,12 +197,6 @@ top_grows P items (Live b m) (Live c n) w = (λ p. omega arith, modes m n w.1)
     modes (Locked i) (Locked j) v = mode_refl (top_mode P items (Locked j))
     modes Unlocked (Locked j) v = absurd v
     modes (Locked i) Unlocked v = absurd v
-
-peeked_grows : (p : Peeked) (m n : Mode) → WeakerMode m n → WeakerMode (with_peeked p m) (with_peeked p n)
-peeked_grows p Unlocked Unlocked v = tt
-peeked_grows p (Locked i) (Locked j) v = record { queued = v.queued; slot = v.slot; peeked = inl refl }
-peeked_grows p Unlocked (Locked j) v = absurd v
-peeked_grows p (Locked i) Unlocked v = absurd v
 
 peek_grows : (p : Peeked) (s t : Label) → Weaker s t → Weaker (peek_at p s) (peek_at p t)
 peek_grows p = plain_grow (λ b m. Live b (with_peeked p m)) (λ b c m n w v h. (w, peeked_grows p m n v))
@@ -290,22 +252,18 @@ agree_each_grows : (s t : Label) (ss ts : List Label) → Weaker s t → EachWea
 agree_each_grows s t [] [] w g e = refl
 agree_each_grows s t [] (y ∷ ts) w g e = absurd g
 agree_each_grows s t (x ∷ ss) [] w g e = absurd g
-agree_each_grows s t (x ∷ ss) (y ∷ ts) w g e = and_both _ _ (agree_grows s x t y w g.0 (and_left _ _ e)) (agree_each_grows s t ss ts w g.1 (and_right (agree s x) _ e))
+agree_each_grows s t (x ∷ ss) (y ∷ ts) w g e = let h = and_parts (agree s x) (agree_each s ss) e in and_from _ _ (agree_grows s x t y w g.0 h.0) (agree_each_grows s t ss ts w g.1 h.1)
 
 agree_all_grows : (ss ts : List Label) → EachWeaker ss ts → agree_all ss ≡ true → agree_all ts ≡ true
 agree_all_grows [] [] g e = refl
 agree_all_grows [] (t ∷ ts) g e = absurd g
 agree_all_grows (s ∷ ss) [] g e = absurd g
-agree_all_grows (s ∷ ss) (t ∷ ts) g e = and_both _ _ (agree_each_grows s t ss ts g.0 g.1 (and_left _ _ e)) (agree_all_grows ss ts g.1 (and_right (agree_each s ss) _ e))
+agree_all_grows (s ∷ ss) (t ∷ ts) g e = let h = and_parts (agree_each s ss) (agree_all ss) e in and_from _ _ (agree_each_grows s t ss ts g.0 g.1 h.0) (agree_all_grows ss ts g.1 h.1)
 
 join_less : (ss ts : List Label) → EachWeaker ss ts → Less (may_join ss) (may_join ts)
 join_less ss ts g = (refl, agree_all_grows ss ts g, tt)
 
 -- ---- labellings
-
-label_drop : (labels : List Label) (k : ℕ) → label_at (drop 1 labels) k ≡ label_at labels (suc k)
-label_drop [] k = refl
-label_drop (s ∷ labels) k = refl
 
 drop_grows : (known more : List Label) → IsStronger known more → IsStronger (drop 1 known) (drop 1 more)
 drop_grows known more g k = subst (λ s. Weaker s (label_at (drop 1 more) k)) (sym (label_drop known k)) (subst (λ t. Weaker (label_at known (suc k)) t) (sym (label_drop more k)) (g (suc k)))
@@ -334,12 +292,12 @@ breaks_grow : (lines : List Line) (known more : List Label) (o : ℕ) → IsStro
 breaks_grow [] known more o g = tt
 breaks_grow (l ∷ lines) known more o g = each_append (break_end l.stmt o (label_at known 0)) (break_end l.stmt o (label_at more 0)) (break_ends lines (drop 1 known) o) (break_ends lines (drop 1 more) o) (break_grows l.stmt o _ _ (g 0)) (breaks_grow lines (drop 1 known) (drop 1 more) o (drop_grows known more g))
 
-module _ (P : Program) (loops : List Items) (lines : List Line) (known more : List Label) (g : IsStronger known more) where
+module _ (P : Program) (thread : Thread) (lines : List Line) (known more : List Label) (g : IsStronger known more) where
   here_grows : (F : (Part → ℕ) → Mode → List (ℕ × Premise)) → AsksLess F → Less (asks (here lines known) F) (asks (here lines more) F)
   here_grows F l = asks_grow F l (here lines known) (here lines more) (g (length lines))
 
   -- a stronger labelling asks for less
-  pub premises_grow : (s : Stmt) → Less (premises P loops lines known s) (premises P loops lines more s)
+  pub premises_grow : (s : Stmt) → Less (premises P thread lines known s) (premises P thread lines more s)
   premises_grow (Do op) = here_grows (λ b m. op_premises P b m op) (asks_less P op)
   premises_grow Lock = tt
   premises_grow (EndLock o) = here_grows (λ b m. may_release P m) (release_less P)
@@ -352,16 +310,16 @@ module _ (P : Program) (loops : List Items) (lines : List Line) (known more : Li
   premises_grow (Nothing o) = tt
   premises_grow (EndArm o) = tt
   premises_grow (EndPeek o) = join_less _ _ (arms_grow lines known more o g)
-  premises_grow (Loop k) = here_grows (λ b m. may_loop P 13 (items_at loops k) b m) (loop_less P 13 (items_at loops k))
-  premises_grow (EndLoop o k) = here_grows (λ b m. may_loop P 14 (items_at loops k) b m) (loop_less P 14 (items_at loops k))
+  premises_grow (Loop k) = here_grows (λ b m. may_loop P 13 (items_at thread.loops k) b m) (loop_less P 13 (items_at thread.loops k))
+  premises_grow (EndLoop o k) = here_grows (λ b m. may_loop P 14 (items_at thread.loops k) b m) (loop_less P 14 (items_at thread.loops k))
   premises_grow (Break o r l) = here_grows (λ b m. may_break P r m) (break_less P r)
 
   -- and gives stronger states
-  pub befores_grow : (s : Stmt) → Meets (premises P loops lines known s) → EachWeaker (befores P loops lines known s) (befores P loops lines more s)
+  pub befores_grow : (s : Stmt) → Meets (premises P thread lines known s) → EachWeaker (befores P thread lines known s) (befores P thread lines more s)
   befores_grow (Do op) h = (goes_grow (λ b m. op_premises P b m op) (λ b m. op_effect P b m op) (grows P op) _ _ (g (length lines)) h, tt)
   befores_grow Lock h = (entered_grows P _ _ (g (length lines)), tt)
   befores_grow (EndLock o) h = (released_grows _ _ (g (length lines)), tt)
-  befores_grow (If test) h = (plain_grow (λ b m. Live b (test_mode P test m)) (test_grows P test) _ _ (g (length lines)), tt)
+  befores_grow (If test) h = (plain_grow (λ b m. test_effect P b m test) (test_grows P test) _ _ (g (length lines)), tt)
   befores_grow (Else o) h = (g o, tt)
   befores_grow (EndIf o) h = (g (length lines), (g o, tt))
   befores_grow (Peek x) h = (g (length lines), tt)
@@ -370,13 +328,13 @@ module _ (P : Program) (loops : List Items) (lines : List Line) (known more : Li
   befores_grow (Nothing o) h = (peek_grows Unseen _ _ (g (o + 1)), tt)
   befores_grow (EndArm o) h = tt
   befores_grow (EndPeek o) h = arms_grow lines known more o g
-  befores_grow (Loop k) h = (top_grows P (items_at loops k) _ _ (g (length lines)), tt)
+  befores_grow (Loop k) h = (top_grows P (items_at thread.loops k) _ _ (g (length lines)), tt)
   befores_grow (EndLoop o k) h = breaks_grow lines known more o g
   befores_grow (Break o r l) h = tt
 
-pub rules_grow : (P : Program) (loops : List Items) (lines : List Line) (known more : List Label) (stmt : Stmt) → IsStronger known more → GrowsAt P loops lines known more stmt
-rules_grow P loops lines known more stmt g = record {
-  asks_less = λ v h. less_below v _ _ (premises_grow P loops lines known more g stmt) h;
-  meets_too = λ h. less_meets _ _ (premises_grow P loops lines known more g stmt) h;
-  gives_more = λ h. befores_grow P loops lines known more g stmt h;
+pub rules_grow : (P : Program) (thread : Thread) (lines : List Line) (known more : List Label) (stmt : Stmt) → IsStronger known more → GrowsAt P thread lines known more stmt
+rules_grow P thread lines known more stmt g = record {
+  asks_less = λ v h. less_below v _ _ (premises_grow P thread lines known more g stmt) h;
+  meets_too = λ h. less_meets _ _ (premises_grow P thread lines known more g stmt) h;
+  gives_more = λ h. befores_grow P thread lines known more g stmt h;
 }

@@ -1,4 +1,5 @@
 mod Passing
+pub mod Weaker
 pub mod Lines
 pub mod Moves
 pub mod Headers

@@ -1,8 +1,6 @@
 -- Two states that join.
-use Rattle.std.proofs.Common.{◌≡◌, ℕ, ◌⊎◌, inl, inr, Bool, true, false, cond, ◌&&◌, [], ◌∷◌, Option, Some, None, Ok, refl, sym, ap, subst, arith}
+use Rattle.std.proofs.Common.{◌≡◌, ℕ, ◌⊎◌, inl, inr, Bool, true, false, cond, [], ◌∷◌, Option, Some, None, Ok, refl, sym, ap, subst, arith}
 use Rattle.std.proofs.lemmas.Bool.{eqb-true, eq-eqb}
-use Rattle.rc_lang.specs.declared.program.TokenKind.{TokenKind}
-use Rattle.rc_lang.specs.declared.program.TokenKind.TheVariants.{Read, Write, Fsync, Nop}
 use Rattle.rc_lang.specs.Program.{Program}
 use Rattle.rc_split.specs.Bags.{Part, TokenOf, least}
 use Rattle.rc_split.specs.Holdings.{Holding, bag}
@@ -11,61 +9,18 @@ use Rattle.rc_rules.specs.declared.mode.Mode.{Mode}
 use Rattle.rc_rules.specs.declared.mode.Mode.TheVariants.{Unlocked, Locked}
 use Rattle.rc_rules.specs.declared.mode.Peeked.{Peeked}
 use Rattle.rc_rules.specs.declared.mode.Peeked.TheVariants.{Unseen, Sees, SeesOther}
-use Rattle.rc_rules.specs.declared.mode.Slot.{Slot}
-use Rattle.rc_rules.specs.declared.mode.Slot.TheVariants.{Closed, Vacant, Prepared}
 use Rattle.rc_rules.specs.Labels.{Label, Dead, Live, Weaker, WeakerMode, WeakerInside, IsStrongest}
-use Rattle.rc_rules.specs.Rules.{same_kind, same_slot, agree_modes, may_join}
+use Rattle.rc_rules.specs.Rules.{same_slot, agree_modes, may_join}
 use Rattle.rc_rules.specs.Premises.{Meets}
 use Rattle.rc_rules.specs.States.{State, label_of, label_in, same_peeked, both_inside, both, IsFreeIn, IsFreeFor, AgreeOnLock, Gives}
 use Rattle.rc_rules.proofs.Moves.{fewer_free}
-
-and_left : (x y : Bool) → (x && y) ≡ true → x ≡ true
-and_left true y e = refl
-and_left false y e = e
-
-and_right : (x y : Bool) → (x && y) ≡ true → y ≡ true
-and_right true y e = e
-and_right false y e = absurd cc
-
-pub same_kind_is : (k l : TokenKind) → same_kind k l ≡ true → k ≡ l
-same_kind_is (Read b) (Read c) e = ap Read (eqb-true b c e)
-same_kind_is (Write b k) (Write c l) e = let p : b ≡ c = eqb-true b c (and_left _ _ e) in let q : k ≡ l = eqb-true k l (and_right _ _ e) in cc
-same_kind_is Fsync Fsync e = refl
-same_kind_is Nop Nop e = refl
-same_kind_is (Read b) (Write c l) e = absurd cc
-same_kind_is (Read b) Fsync e = absurd cc
-same_kind_is (Read b) Nop e = absurd cc
-same_kind_is (Write b k) (Read c) e = absurd cc
-same_kind_is (Write b k) Fsync e = absurd cc
-same_kind_is (Write b k) Nop e = absurd cc
-same_kind_is Fsync (Read c) e = absurd cc
-same_kind_is Fsync (Write c l) e = absurd cc
-same_kind_is Fsync Nop e = absurd cc
-same_kind_is Nop (Read c) e = absurd cc
-same_kind_is Nop (Write c l) e = absurd cc
-same_kind_is Nop Fsync e = absurd cc
-
-pub same_slot_is : (s t : Slot) → same_slot s t ≡ true → s ≡ t
-same_slot_is Closed Closed e = refl
-same_slot_is Vacant Vacant e = refl
-same_slot_is (Prepared k) (Prepared l) e = ap Prepared (same_kind_is k l e)
-same_slot_is Closed Vacant e = absurd cc
-same_slot_is Closed (Prepared l) e = absurd cc
-same_slot_is Vacant Closed e = absurd cc
-same_slot_is Vacant (Prepared l) e = absurd cc
-same_slot_is (Prepared k) Closed e = absurd cc
-same_slot_is (Prepared k) Vacant e = absurd cc
+use Rattle.rc_rules.proofs.Weaker.{same_slot_is}
 
 same_peeked_is : (p q : Peeked) → same_peeked p q ≡ true → p ≡ q
 same_peeked_is Unseen Unseen e = refl
 same_peeked_is (Sees u) (Sees v) e = ap Sees (eqb-true u v e)
 same_peeked_is SeesOther SeesOther e = refl
-same_peeked_is Unseen (Sees v) e = absurd cc
-same_peeked_is Unseen SeesOther e = absurd cc
-same_peeked_is (Sees u) Unseen e = absurd cc
-same_peeked_is (Sees u) SeesOther e = absurd cc
-same_peeked_is SeesOther Unseen e = absurd cc
-same_peeked_is SeesOther (Sees v) e = absurd cc
+same_peeked_is _ _ e = absurd (cc)
 
 same_refl : (p : Peeked) → same_peeked p p ≡ true
 same_refl Unseen = refl

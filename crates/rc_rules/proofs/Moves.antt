@@ -1,5 +1,5 @@
 -- One rule's effect on a state.
-use Rattle.std.proofs.Common.{◌≡◌, ℕ, ◌≤◌, ◌^◌, inl, [], ◌∷◌, Option, Some, Ok, refl, sym, subst, ◌∙◌, arith}
+use Rattle.std.proofs.Common.{◌≡◌, ℕ, ◌≤◌, ◌^◌, [], ◌∷◌, Option, Some, Ok, refl, sym, subst, ◌∙◌, arith}
 use Rattle.rc_lang.specs.declared.lines.Op.{Op}
 use Rattle.rc_lang.specs.declared.lines.Op.TheVariants as ops
 use Rattle.rc_lang.specs.declared.program.TokenKind.TheVariants.{Read, Write}
@@ -11,36 +11,11 @@ use Rattle.rc_rules.specs.declared.mode.Mode.{Mode}
 use Rattle.rc_rules.specs.declared.mode.Mode.TheVariants.{Unlocked, Locked}
 use Rattle.rc_rules.specs.declared.mode.Peeked.{Peeked}
 use Rattle.rc_rules.specs.declared.mode.Peeked.TheVariants.{Unseen, Sees, SeesOther}
-use Rattle.rc_rules.specs.Labels.{Label, Dead, Live, Weaker, WeakerMode, IsStrongest, IsSame}
+use Rattle.rc_rules.specs.Labels.{Label, Dead, Live, IsStrongest, IsSame}
 use Rattle.rc_rules.specs.Premises.{Meets}
 use Rattle.rc_rules.specs.Rules.{kind_bag, op_premises, op_effect, asks, goes}
+use Rattle.rc_rules.proofs.Weaker.{strongest}
 use Rattle.rc_rules.specs.States.{State, label_of, label_in, program_of, IsFree, IsFreeIn, IsFreeFor, IsSmall, Gives}
-
--- ---- the same labels
-
-pub mode_refl : (m : Mode) → WeakerMode m m
-mode_refl Unlocked = tt
-mode_refl (Locked i) = record { queued = omega arith; slot = refl; peeked = inl refl }
-
-pub weaker_refl : (s : Label) → Weaker s s
-weaker_refl Dead = tt
-weaker_refl (Live bag m) = (λ p. omega arith, mode_refl m)
-
-below : (s t : Label) → IsSame s t → Weaker s t
-below Dead Dead e = tt
-below Dead (Live b n) e = absurd e
-below (Live a m) Dead e = tt
-below (Live a m) (Live b n) e = (λ p. omega (arith, e.0 p), subst (WeakerMode m) e.1 (mode_refl m))
-
-above : (s t u : Label) → IsSame s t → Weaker u t → Weaker u s
-above Dead Dead u e w = tt
-above Dead (Live b n) u e w = absurd e
-above (Live a m) Dead u e w = absurd e
-above (Live a m) (Live b n) Dead e w = absurd w
-above (Live a m) (Live b n) (Live c k) e w = (λ p. omega (arith, e.0 p, w.0 p), subst (WeakerMode k) (sym e.1) w.1)
-
-pub strongest : (s t : Label) → IsSame s t → IsStrongest s (t ∷ [])
-strongest s t e = record { weaker = (below s t e, tt); strongest = λ u w. above s t u e w.0 }
 
 -- ---- what is peeked isn't held
 

@@ -4,14 +4,14 @@ use Rattle.std.specs.Prelude.{ℕ, ◌≡◌, ◌⊎◌, ◌+◌, ◌<◌, cond,
 use Rattle.rc_lang.specs.declared.lines.Line.{Line}
 use Rattle.rc_lang.specs.declared.lines.Stmt.{Stmt}
 use Rattle.rc_lang.specs.declared.lines.Stmt.TheVariants.{Do, Lock, EndLock, If, Else, EndIf, Peek, Case, Other, Nothing, EndArm, EndPeek, Loop, EndLoop, Break}
-use Rattle.rc_lang.specs.Program.{Program, Thread, Items, items_at}
+use Rattle.rc_lang.specs.Program.{Program, Thread, items_at}
 use Rattle.rc_rules.specs.declared.mode.Mode.{Mode}
 use Rattle.rc_rules.specs.declared.mode.Mode.TheVariants.{Unlocked}
 use Rattle.rc_rules.specs.declared.mode.Peeked.TheVariants.{Unseen, SeesOther}
 use Rattle.rc_split.specs.Bags.{Part, ShareOf, TokenOf, Credit, bag_of}
-use Rattle.rc_rules.specs.Labels.{Label, Dead, Live, WeakerThanEach}
+use Rattle.rc_rules.specs.Labels.{Label, Dead, Live, WeakerThanEach, IsSame}
 use Rattle.rc_rules.specs.Premises.{Premise, Covers, Meets, MeetsBelow}
-use Rattle.rc_rules.specs.Rules.{limit, op_premises, op_effect, asks, goes, entered, may_release, released, test_premises, test_mode, peek_premises, peek_at, case_at, may_join, may_loop, top, may_break, broken}
+use Rattle.rc_rules.specs.Rules.{limit, op_premises, op_effect, asks, goes, entered, may_release, released, test_premises, test_effect, peek_premises, peek_at, case_at, may_join, may_loop, top, may_break, broken}
 
 -- ---- the labels that a line sees
 
@@ -49,65 +49,65 @@ abbrev pub break_ends : List Line → List Label → ℕ → List Label
 break_ends [] labels o = []
 break_ends (l ∷ lines) labels o = break_end l.stmt o (label_at labels 0) ++ break_ends lines (drop 1 labels) o
 
--- The labels that lead to the place behind this line, from the lines before it, the labels so far and the items of the
--- thread's loops. Behind a peek, before its arms, stands what was known before it. Behind an arm, and behind a break,
+-- The labels that lead to the place behind this line of a thread, from the lines before it and the labels so far. Behind a peek, before its arms, stands what was known before it. Behind an arm, and behind a break,
 -- nothing comes from above.
-abbrev pub befores : Program → List Items → List Line → List Label → Stmt → List Label
-befores P loops lines known (Do op) = brings (λ s. goes s (λ bag m. op_effect P bag m op)) lines known
-befores P loops lines known Lock = entered P (here lines known) ∷ []
-befores P loops lines known (EndLock o) = released (here lines known) ∷ []
-befores P loops lines known (If test) = goes (here lines known) (λ bag m. Live bag (test_mode P test m)) ∷ []
-befores P loops lines known (Else o) = skipped lines known o ∷ []
-befores P loops lines known (EndIf o) = here lines known ∷ skipped lines known o ∷ []
-befores P loops lines known (Peek x) = brings (λ s. s) lines known
-befores P loops lines known (Case o u) = case_at u (label_at known (o + 1)) ∷ []
-befores P loops lines known (Other o) = peek_at SeesOther (label_at known (o + 1)) ∷ []
-befores P loops lines known (Nothing o) = peek_at Unseen (label_at known (o + 1)) ∷ []
-befores P loops lines known (EndArm o) = []
-befores P loops lines known (EndPeek o) = arm_ends lines known o
-befores P loops lines known (Loop k) = brings (λ s. top P (items_at loops k) s) lines known
-befores P loops lines known (EndLoop o k) = break_ends lines known o
-befores P loops lines known (Break o releases leaves) = []
+abbrev pub befores : Program → Thread → List Line → List Label → Stmt → List Label
+befores P thread lines known (Do op) = brings (λ s. goes s (λ bag m. op_effect P bag m op)) lines known
+befores P thread lines known Lock = entered P (here lines known) ∷ []
+befores P thread lines known (EndLock o) = released (here lines known) ∷ []
+befores P thread lines known (If test) = goes (here lines known) (λ bag m. test_effect P bag m test) ∷ []
+befores P thread lines known (Else o) = skipped lines known o ∷ []
+befores P thread lines known (EndIf o) = here lines known ∷ skipped lines known o ∷ []
+befores P thread lines known (Peek x) = brings (λ s. s) lines known
+befores P thread lines known (Case o u) = case_at u (label_at known (o + 1)) ∷ []
+befores P thread lines known (Other o) = peek_at SeesOther (label_at known (o + 1)) ∷ []
+befores P thread lines known (Nothing o) = peek_at Unseen (label_at known (o + 1)) ∷ []
+befores P thread lines known (EndArm o) = []
+befores P thread lines known (EndPeek o) = arm_ends lines known o
+befores P thread lines known (Loop k) = brings (λ s. top P (items_at thread.loops k) s) lines known
+befores P thread lines known (EndLoop o k) = break_ends lines known o
+befores P thread lines known (Break o releases leaves) = []
 
 -- what the label before a line is asked, where it is live
 abbrev pub on_here : List Line → List Label → ((Part → ℕ) → Mode → List (ℕ × Premise)) → List (ℕ × Premise)
 on_here lines known F = asks (here lines known) F
 
-abbrev pub premises : Program → List Items → List Line → List Label → Stmt → List (ℕ × Premise)
-premises P loops lines known (Do op) = on_here lines known (λ bag m. op_premises P bag m op)
-premises P loops lines known Lock = []
-premises P loops lines known (EndLock o) = on_here lines known (λ bag m. may_release P m)
-premises P loops lines known (If test) = on_here lines known (λ bag m. test_premises m test)
-premises P loops lines known (Else o) = []
-premises P loops lines known (EndIf o) = may_join (befores P loops lines known (EndIf o))
-premises P loops lines known (Peek x) = on_here lines known (λ bag m. peek_premises m)
-premises P loops lines known (Case o u) = []
-premises P loops lines known (Other o) = []
-premises P loops lines known (Nothing o) = []
-premises P loops lines known (EndArm o) = []
-premises P loops lines known (EndPeek o) = may_join (befores P loops lines known (EndPeek o))
-premises P loops lines known (Loop k) = on_here lines known (λ bag m. may_loop P 13 (items_at loops k) bag m)
-premises P loops lines known (EndLoop o k) = on_here lines known (λ bag m. may_loop P 14 (items_at loops k) bag m)
-premises P loops lines known (Break o releases leaves) = on_here lines known (λ bag m. may_break P releases m)
+abbrev pub premises : Program → Thread → List Line → List Label → Stmt → List (ℕ × Premise)
+premises P thread lines known (Do op) = on_here lines known (λ bag m. op_premises P bag m op)
+premises P thread lines known Lock = []
+premises P thread lines known (EndLock o) = on_here lines known (λ bag m. may_release P m)
+premises P thread lines known (If test) = on_here lines known (λ bag m. test_premises m test)
+premises P thread lines known (Else o) = []
+premises P thread lines known (EndIf o) = may_join (befores P thread lines known (EndIf o))
+premises P thread lines known (Peek x) = on_here lines known (λ bag m. peek_premises m)
+premises P thread lines known (Case o u) = []
+premises P thread lines known (Other o) = []
+premises P thread lines known (Nothing o) = []
+premises P thread lines known (EndArm o) = []
+premises P thread lines known (EndPeek o) = may_join (befores P thread lines known (EndPeek o))
+premises P thread lines known (Loop k) = on_here lines known (λ bag m. may_loop P 13 (items_at thread.loops k) bag m)
+premises P thread lines known (EndLoop o k) = on_here lines known (λ bag m. may_loop P 14 (items_at thread.loops k) bag m)
+premises P thread lines known (Break o releases leaves) = on_here lines known (λ bag m. may_break P releases m)
 
 -- ---- labellings
-
--- The labelling obeys the rule of the line at j: the labels up to it meet the premises, and the label behind it is
--- weaker than each that leads there.
-pub record IsGoodAt (P : Program) (loops : List Items) (lines : List Line) (labels : List Label) (j : ℕ) (stmt : Stmt) : Type 0 where
-  pub meets : Meets (premises P loops (take j lines) (take (j + 1) labels) stmt)
-  pub after : WeakerThanEach (label_at labels (j + 1)) (befores P loops (take j lines) (take (j + 1) labels) stmt)
-
-pub record IsGood (P : Program) (loops : List Items) (start : Label) (lines : List Line) (labels : List Label) : Type 0 where
-  pub begins : label_at labels 0 ≡ start
-  pub each : (j : ℕ) (l : Line) → slice_get lines j ≡ Some l → IsGoodAt P loops lines labels j l.stmt
-
-abbrev pub HasLabels : Program → List Items → Label → List Line → Type 0
-HasLabels P loops start lines = (labels : List Label) × IsGood P loops start lines labels
 
 -- A thread begins with its items, without the lock.
 abbrev pub start_of : Thread → Label
 start_of thread = Live (bag_of thread.items) Unlocked
+
+-- The labelling obeys the rule of the line at j: the labels up to it meet the premises, and the label behind it is
+-- weaker than each that leads there.
+pub record IsGoodAt (P : Program) (thread : Thread) (lines : List Line) (labels : List Label) (j : ℕ) (stmt : Stmt) : Type 0 where
+  pub meets : Meets (premises P thread (take j lines) (take (j + 1) labels) stmt)
+  pub after : WeakerThanEach (label_at labels (j + 1)) (befores P thread (take j lines) (take (j + 1) labels) stmt)
+
+-- It does so at each of these lines of the thread, and begins as the thread does.
+pub record IsGood (P : Program) (thread : Thread) (lines : List Line) (labels : List Label) : Type 0 where
+  pub begins : IsSame (label_at labels 0) (start_of thread)
+  pub each : (j : ℕ) (l : Line) → slice_get lines j ≡ Some l → IsGoodAt P thread lines labels j l.stmt
+
+abbrev pub HasLabels : Program → Thread → List Line → Type 0
+HasLabels P thread lines = (labels : List Label) × IsGood P thread lines labels
 
 -- ---- headers
 
@@ -141,7 +141,7 @@ header_premises P threads = (16, Covers (limit P) (shares_of (headers_bag thread
 -- The thread's header meets its premises, and its lines have a labelling.
 pub record Passes (P : Program) (i : ℕ) (thread : Thread) : Type 0 where
   pub header : Meets (header_premises P (take (i + 1) P.threads))
-  pub labels : HasLabels P thread.loops (start_of thread) thread.lines
+  pub labels : HasLabels P thread thread.lines
 
 abbrev pub Accepts : Program → Type 0
 Accepts P = (i : ℕ) (thread : Thread) → slice_get P.threads i ≡ Some thread → Passes P i thread
@@ -152,10 +152,10 @@ Accepts P = (i : ℕ) (thread : Thread) → slice_get P.threads i ≡ Some threa
 -- number such that no labelling that is good before that line also meets its premises up to v.
 pub record IsRefusedAt (P : Program) (thread : Thread) (j : ℕ) (line : Line) (v : ℕ) : Type 0 where
   pub line_is : slice_get thread.lines j ≡ Some line
-  pub good_before : HasLabels P thread.loops (start_of thread) (take j thread.lines)
-  pub none_up_to : HasLabels P thread.loops (start_of thread) (take (j + 1) thread.lines) → ⊥
-  pub met_below : (labels : List Label) × IsGood P thread.loops (start_of thread) (take j thread.lines) labels × MeetsBelow v (premises P thread.loops (take j thread.lines) (take (j + 1) labels) line.stmt)
-  pub never_met : (labels : List Label) → IsGood P thread.loops (start_of thread) (take j thread.lines) labels → MeetsBelow (v + 1) (premises P thread.loops (take j thread.lines) (take (j + 1) labels) line.stmt) → ⊥
+  pub good_before : HasLabels P thread (take j thread.lines)
+  pub none_up_to : HasLabels P thread (take (j + 1) thread.lines) → ⊥
+  pub met_below : (labels : List Label) × IsGood P thread (take j thread.lines) labels × MeetsBelow v (premises P thread (take j thread.lines) (take (j + 1) labels) line.stmt)
+  pub never_met : (labels : List Label) → IsGood P thread (take j thread.lines) labels → MeetsBelow (v + 1) (premises P thread (take j thread.lines) (take (j + 1) labels) line.stmt) → ⊥
 
 -- A header line is refused by its own premises alone.
 pub record IsHeaderRefused (P : Program) (i v : ℕ) : Type 0 where

@@ -2,7 +2,7 @@
 use Rattle.std.specs.Prelude.{ℕ, List, [], ◌∷◌}
 use Rattle.rc_lang.specs.declared.lines.Line.{Line}
 use Rattle.rc_lang.specs.declared.lines.Stmt.{Stmt}
-use Rattle.rc_lang.specs.Program.{Program, Items}
+use Rattle.rc_lang.specs.Program.{Program, Thread}
 use Rattle.rc_rules.specs.Labels.{Label, Weaker}
 use Rattle.rc_rules.specs.Premises.{Meets, MeetsBelow}
 use Rattle.rc_rules.specs.Labellings.{label_at, befores, premises}
@@ -25,10 +25,10 @@ abbrev pub IsStronger : List Label → List Label → Type 0
 IsStronger known more = (k : ℕ) → Weaker (label_at known k) (label_at more k)
 
 -- Where the labels so far say more, a line asks for less, up to each number, and gives labels that say more.
-pub record GrowsAt (P : Program) (loops : List Items) (lines : List Line) (known more : List Label) (stmt : Stmt) : Type 0 where
-  pub asks_less : (v : ℕ) → MeetsBelow v (premises P loops lines known stmt) → MeetsBelow v (premises P loops lines more stmt)
-  pub meets_too : Meets (premises P loops lines known stmt) → Meets (premises P loops lines more stmt)
-  pub gives_more : Meets (premises P loops lines known stmt) → EachWeaker (befores P loops lines known stmt) (befores P loops lines more stmt)
+pub record GrowsAt (P : Program) (thread : Thread) (lines : List Line) (known more : List Label) (stmt : Stmt) : Type 0 where
+  pub asks_less : (v : ℕ) → MeetsBelow v (premises P thread lines known stmt) → MeetsBelow v (premises P thread lines more stmt)
+  pub meets_too : Meets (premises P thread lines known stmt) → Meets (premises P thread lines more stmt)
+  pub gives_more : Meets (premises P thread lines known stmt) → EachWeaker (befores P thread lines known stmt) (befores P thread lines more stmt)
 
 abbrev pub RulesGrow : Type 0
-RulesGrow = (P : Program) (loops : List Items) (lines : List Line) (known more : List Label) (stmt : Stmt) → IsStronger known more → GrowsAt P loops lines known more stmt
+RulesGrow = (P : Program) (thread : Thread) (lines : List Line) (known more : List Label) (stmt : Stmt) → IsStronger known more → GrowsAt P thread lines known more stmt

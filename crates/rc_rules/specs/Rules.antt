@@ -181,6 +181,9 @@ test_mode P ReadyZero (Locked i) = Locked (record i { queued = 0 })
 test_mode P (SpaceAtLeast n) Unlocked = Unlocked
 test_mode P (SpaceAtLeast n) (Locked i) = Locked (record i { queued = min i.queued (P.entries - n) })
 
+abbrev pub test_effect : Program → (Part → ℕ) → Mode → Test → Label
+test_effect P bag m test = Live bag (test_mode P test m)
+
 -- ---- peeks
 
 abbrev pub peek_premises : Mode → List (ℕ × Premise)

@@ -50,6 +50,10 @@ abbrev pub is_live : Label → Bool
 is_live Dead = false
 is_live (Live bag m) = true
 
+abbrev pub is_locked : Mode → Bool
+is_locked Unlocked = false
+is_locked (Locked i) = true
+
 abbrev pub IsLocked : Label → Type 0
 IsLocked Dead = Unit {0}
 IsLocked (Live bag Unlocked) = ⊥

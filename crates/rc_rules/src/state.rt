@@ -6,7 +6,7 @@ ghost use Rattle.rc_lang.specs.Program.{DeclaresToken, IsItems, Thread};
 ghost use Rattle.rc_lang.specs.declared.lines.Op.{Op};
 ghost use Rattle.rc_lang.specs.declared.lines.Stmt.TheVariants as stmts;
 ghost use Rattle.rc_lang.specs.declared.lines.Test.TheVariants as tests;
-ghost use Rattle.rc_rules.specs.Labels.{Dead, Live};
+ghost use Rattle.rc_rules.specs.Labels.{Dead};
 ghost use Rattle.rc_rules.specs.Rules as rules;
 ghost use Rattle.rc_rules.specs.States as spec;
 ghost use Rattle.rc_rules.specs.declared.mode.Peeked.TheVariants as peeks;
@@ -210,7 +210,7 @@ impl<'a> State<'a> {
 
     /// The first branch of `if sq_ready == 0`.
     pub fn ready_zero(&mut self) -> Result<(), Cause>
-        ensures { spec.Gives self.old self.new result (rules.asks (spec.label_of self.old) (λ bag m. rules.test_premises m tests.ReadyZero)) (rules.goes (spec.label_of self.old) (λ bag m. Live bag (rules.test_mode (spec.program_of self.old) tests.ReadyZero m)) ∷ []) }
+        ensures { spec.Gives self.old self.new result (rules.asks (spec.label_of self.old) (λ bag m. rules.test_premises m tests.ReadyZero)) (rules.goes (spec.label_of self.old) (λ bag m. rules.test_effect (spec.program_of self.old) bag m tests.ReadyZero) ∷ []) }
     {
         let Some(mode) = self.mode else {
             return Ok(());
@@ -222,7 +222,7 @@ impl<'a> State<'a> {
 
     /// The first branch of `if sq_space_left >= n`; n is at most the entries.
     pub fn space_at_least(&mut self, n: u32) -> Result<(), Cause>
-        ensures { spec.Gives self.old self.new result (rules.asks (spec.label_of self.old) (λ bag m. rules.test_premises m (tests.SpaceAtLeast n))) (rules.goes (spec.label_of self.old) (λ bag m. Live bag (rules.test_mode (spec.program_of self.old) (tests.SpaceAtLeast n) m)) ∷ []) }
+        ensures { spec.Gives self.old self.new result (rules.asks (spec.label_of self.old) (λ bag m. rules.test_premises m (tests.SpaceAtLeast n))) (rules.goes (spec.label_of self.old) (λ bag m. rules.test_effect (spec.program_of self.old) bag m (tests.SpaceAtLeast n)) ∷ []) }
     {
         let Some(mode) = self.mode else {
             return Ok(());

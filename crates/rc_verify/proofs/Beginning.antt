@@ -7,15 +7,14 @@ use Rattle.rc_lang.specs.Parts.{view_thread}
 use Rattle.rc_lang.specs.Nesting.{blocks_at, in_lock}
 use Rattle.rc_lang.specs.Program.{IsProgram, Program, Thread}
 use Rattle.rc_rules.specs.Labels.{Label}
-use Rattle.rc_rules.specs.Labellings.{HasLabels, IsRefusedAt, start_of}
+use Rattle.rc_rules.specs.Labellings.{HasLabels, IsGood, IsRefusedAt}
 use Rattle.rc_rules.specs.States.{State, IsStart, label_of}
 use Rattle.rc_rules.proofs.Headers.{thread_at}
 use Rattle.arrayvec.specs.ArrayVec.{ArrayVec}
 use Rattle.rc_verify.specs.declared.walk.Walk.{Walk}
-use Rattle.rc_verify.specs.Strongest.{AreStrongest}
 use Rattle.rc_verify.specs.Walk.{AreKept, Fits, IsLoop, IsSaved, OnKept, Reaches, most_at}
 use Rattle.rc_verify.proofs.Fit.{start_fits}
-use Rattle.rc_verify.proofs.Strongest.{accepts, begins}
+use Rattle.rc_verify.proofs.Strongest.{begins}
 
 -- ---- the thread
 
@@ -28,13 +27,11 @@ pub starts : (P : Program) (i : ℕ) (t : Thread) (s : State) (branches loops : 
 starts P i t s branches loops made is h e f = record {
   made = made;
   thread = made.each i t is;
-  start = label_of s;
-  same = h.1 t is;
   labels = label_of s ∷ [];
   at = record {
     within = omega arith;
     size = refl;
-    strongest = begins P t.loops (label_of s);
+    strongest = begins P t (label_of s) (h.1 t is);
     here = record { of = h.0; at = refl };
     fits = fits;
     keeps = record {
@@ -54,10 +51,10 @@ starts P i t s branches loops made is h e f = record {
 same_thread : (ts : List Thread) (i : ℕ) (t u : Thread) → slice_get ts i ≡ Some t → slice_get ts i ≡ Some u → t ≡ u
 same_thread ts i t u e f = cc
 
-pub ends : (P : Program) (i j : ℕ) (t u : Thread) (w : Walk) → slice_get P.threads i ≡ Some t → slice_get P.threads i ≡ Some u → Reaches P t j w → length t.lines ≤ j → HasLabels P u.loops (start_of u) u.lines
+pub ends : (P : Program) (i j : ℕ) (t u : Thread) (w : Walk) → slice_get P.threads i ≡ Some t → slice_get P.threads i ≡ Some u → Reaches P t j w → length t.lines ≤ j → HasLabels P u u.lines
 ends P i j t u w is that r le =
-    let h = accepts P t r.start r.labels r.same (subst (λ ls. AreStrongest P t.loops r.start ls r.labels) (take_all j t.lines le) r.at.strongest) in
-    subst (λ (x : Thread). HasLabels P x.loops (start_of x) x.lines) (same_thread P.threads i t u is that) h
+    let good : IsGood P t t.lines r.labels = subst (λ ls. IsGood P t ls r.labels) (take_all j t.lines le) r.at.strongest.good in
+    subst (λ (x : Thread). HasLabels P x x.lines) (same_thread P.threads i t u is that) (r.labels, good)
 
 -- The line at j is refused, which has this number.
 pub refuses_line : (P Q : Program) (i j v : ℕ) (t u : Thread) (d : Line) → slice_get P.threads i ≡ Some t → slice_get P.threads i ≡ Some u → Q ≡ P → j < length t.lines → d ≡ get_or t.lines j d → (l : Line) × IsRefusedAt Q t j l v → (k : ℕ) × (l : Line) × (l.number ≡ d.number) × IsRefusedAt P u k l v

@@ -1,15 +1,15 @@
 -- Where some labels are good, there are strongest ones, and refusals can be read off them.
 use Rattle.std.proofs.Common.{◌≡◌, ℕ, zero, suc, ◌+◌, ◌≤◌, ◌↔◌, true, List, [], ◌∷◌, ◌++◌, length, take, Some, refl, sym, ap, subst, inl, inr, arith, length-append}
 use Rattle.std.specs.Prelude.{slice_get}
-use Rattle.std.proofs.lemmas.Bool.{cases_lt, eq-eqb}
-use Rattle.std.proofs.lemmas.List.{length-take, get_or-take, get_or_past}
+use Rattle.std.proofs.lemmas.Bool.{eq-eqb}
+use Rattle.std.proofs.lemmas.List.{length-take}
 use Rattle.std.proofs.lemmas.Option.{slice_get_within, slice_get_cases}
 use Rattle.std.proofs.Math.Seq.{take-length}
 use Rattle.std.proofs.Math.Numerals.{add-one}
 use Rattle.rc_lang.specs.declared.lines.Line.{Line}
 use Rattle.rc_lang.specs.declared.program.TokenKind.{TokenKind}
 use Rattle.rc_lang.specs.declared.program.TokenKind.TheVariants.{Read, Write, Fsync, Nop}
-use Rattle.rc_lang.specs.Program.{Program, Thread, Items}
+use Rattle.rc_lang.specs.Program.{Program, Thread}
 use Rattle.rc_split.specs.Bags.{Part, least}
 use Rattle.rc_rules.specs.declared.mode.Mode.{Mode}
 use Rattle.rc_rules.specs.declared.mode.Mode.TheVariants.{Unlocked, Locked}
@@ -17,14 +17,13 @@ use Rattle.rc_rules.specs.declared.mode.Slot.{Slot}
 use Rattle.rc_rules.specs.declared.mode.Slot.TheVariants.{Closed, Vacant, Prepared}
 use Rattle.rc_rules.specs.Labels.{Label, Dead, Live, Weaker, WeakerMode, WeakerThanEach, IsStrongest}
 use Rattle.rc_rules.specs.Labellings.{label_at, befores, premises, IsGood, HasLabels, IsRefusedAt, start_of}
-use Rattle.rc_rules.specs.Laws.{IsStronger}
 use Rattle.rc_rules.specs.Premises.{MeetsBelow, FailsFirst}
 use Rattle.rc_rules.specs.Rules.{same_kind, same_slot, agree_modes}
 use Rattle.rc_rules.specs.States.{both, AgreeOnLock}
-use Rattle.rc_rules.proofs.Growth.{weaker_trans, rules_grow}
+use Rattle.rc_rules.proofs.Growth.{rules_grow}
 use Rattle.rc_rules.proofs.Meets.{both_strongest}
-use Rattle.rc_rules.proofs.Moves.{weaker_refl}
-use Rattle.rc_verify.proofs.Strongest.{take_suc_at, front_good, last_good, weaker_than_more, begins, goes_on, below_strongest, meets_below}
+use Rattle.rc_rules.proofs.Weaker.{meets_below, weaker_refl, weaker_trans}
+use Rattle.rc_verify.proofs.Strongest.{take_suc_at, front_good, last_good, weaker_than_more, begins, goes_on, below_strongest, known_below}
 use Rattle.rc_verify.specs.Strongest.{AreStrongest}
 
 -- ---- labels that have a common bound have a meet
@@ -84,18 +83,18 @@ bounded_meet t (x ∷ ss) h = more (bounded_meet t ss h.1)
 -- ---- line by line
 
 -- strongest labels, as many as there are places
-abbrev pub Found : Program → List Items → Label → List Line → Type 0
-Found P loops start lines = (labels : List Label) × (length labels ≡ length lines + 1) × AreStrongest P loops start lines labels
+abbrev pub Found : Program → Thread → List Line → Type 0
+Found P thread lines = (labels : List Label) × (length labels ≡ length lines + 1) × AreStrongest P thread lines labels
 
-found_more : (P : Program) (loops : List Items) (start : Label) (lines : List Line) (l : Line) → Found P loops start lines → HasLabels P loops start (lines ++ l ∷ []) → Found P loops start (lines ++ l ∷ [])
-found_more P loops start lines l f h =
-    let front = front_good P loops start lines l h.0 h.1 in
-    let last = last_good P loops start lines l h.0 h.1 in
-    let below = below_strongest P loops start lines f.0 h.0 f.1 f.2 front in
-    let grows = rules_grow P loops lines (take (length lines + 1) h.0) f.0 l.stmt below in
-    let bound = weaker_than_more (label_at h.0 (length lines + 1)) _ (befores P loops lines f.0 l.stmt) last.1 (grows.gives_more last.0) in
-    let m : (s : Label) × IsStrongest s (befores P loops lines f.0 l.stmt) = bounded_meet (label_at h.0 (length lines + 1)) (befores P loops lines f.0 l.stmt) bound in
-    (f.0 ++ m.0 ∷ [], omega (arith, length-append f.0 (m.0 ∷ []), length-append lines (l ∷ []), f.1), goes_on P loops start lines f.0 l m.0 f.1 f.2 (grows.meets_too last.0) m.1)
+found_more : (P : Program) (thread : Thread) (lines : List Line) (l : Line) → Found P thread lines → HasLabels P thread (lines ++ l ∷ []) → Found P thread (lines ++ l ∷ [])
+found_more P thread lines l f h =
+    let front = front_good P thread lines l h.0 h.1 in
+    let last = last_good P thread lines l h.0 h.1 in
+    let below = below_strongest P thread lines f.0 h.0 f.1 f.2 front in
+    let grows = rules_grow P thread lines (take (length lines + 1) h.0) f.0 l.stmt below in
+    let bound = weaker_than_more (label_at h.0 (length lines + 1)) _ (befores P thread lines f.0 l.stmt) last.1 (grows.gives_more last.0) in
+    let m : (s : Label) × IsStrongest s (befores P thread lines f.0 l.stmt) = bounded_meet (label_at h.0 (length lines + 1)) (befores P thread lines f.0 l.stmt) bound in
+    (f.0 ++ m.0 ∷ [], omega (arith, length-append f.0 (m.0 ∷ []), length-append lines (l ∷ []), f.1), goes_on P thread lines f.0 l m.0 f.1 f.2 (grows.meets_too last.0) m.1)
 
 take_past : {X : Type 0} (n : ℕ) (xs : List X) → length xs ≤ n → take (suc n) xs ≡ take n xs
 take_past n [] le = sym (take_nothing n)
@@ -106,59 +105,52 @@ take_past n [] le = sym (take_nothing n)
 take_past zero (x ∷ xs) le = absurd (omega (arith, le))
 take_past (suc n) (x ∷ xs) le = ap (λ ys. x ∷ ys) (take_past n xs (omega (arith, le)))
 
-found_to : (P : Program) (loops : List Items) (start : Label) (lines : List Line) (n : ℕ) → HasLabels P loops start (take n lines) → Found P loops start (take n lines)
-found_to P loops start lines zero h = (start ∷ [], refl, begins P loops start)
-found_to P loops start lines (suc n) h = elim (slice_get_cases lines n).1 [
+found_to : (P : Program) (thread : Thread) (lines : List Line) (n : ℕ) → HasLabels P thread (take n lines) → Found P thread (take n lines)
+found_to P thread lines zero h = (start_of thread ∷ [], refl, begins P thread (start_of thread) (λ p. refl, refl))
+found_to P thread lines (suc n) h = elim (slice_get_cases lines n).1 [
   | inl f ↦
       let more : take (suc n) lines ≡ take n lines ++ f.0 ∷ [] = take_suc_at lines n f.0 f.2 in
       let h' = rw more at h in
-      rw more (found_more P loops start (take n lines) f.0 (found_to P loops start lines n (h'.0, front_good P loops start (take n lines) f.0 h'.0 h'.1)) h')
+      rw more (found_more P thread (take n lines) f.0 (found_to P thread lines n (h'.0, front_good P thread (take n lines) f.0 h'.0 h'.1)) h')
   | inr f ↦
       let more : take (suc n) lines ≡ take n lines = take_past n lines f.0 in
-      rw more (found_to P loops start lines n (rw more at h))
+      rw more (found_to P thread lines n (rw more at h))
 ]
 
-pub one_is_strongest : (P : Program) (loops : List Items) (start : Label) (lines : List Line) → HasLabels P loops start lines → (labels : List Label) × AreStrongest P loops start lines labels
-one_is_strongest P loops start lines h =
+pub one_is_strongest : (P : Program) (thread : Thread) (lines : List Line) → HasLabels P thread lines → (labels : List Label) × AreStrongest P thread lines labels
+one_is_strongest P thread lines h =
     let all : take (length lines) lines ≡ lines = take-length lines in
-    let f = found_to P loops start lines (length lines) (rw all h) in
+    let f = found_to P thread lines (length lines) (rw all h) in
     (f.0, rw all at f.2)
 
 -- ---- refusals
 
--- good labels up to a place say no more than the strongest
-known_below : (P : Program) (loops : List Items) (start : Label) (lines : List Line) (ls ks : List Label) → AreStrongest P loops start lines ls → IsGood P loops start lines ks → IsStronger (take (length lines + 1) ks) (take (length lines + 1) ls)
-known_below P loops start lines ls ks s g k = elim (cases_lt k (length lines + 1)) [
-  | inl lt ↦ rw (get_or-take (length lines + 1) ks k Dead lt, get_or-take (length lines + 1) ls k Dead lt) (s.strongest ks g k (omega arith))
-  | inr le ↦ let z : label_at (take (length lines + 1) ls) k ≡ Dead = get_or_past (take (length lines + 1) ls) k Dead (omega (arith, le, length-take (length lines + 1) ls)) in rw z tt
-]
-
-module _ (P : Program) (thread : Thread) (j : ℕ) (line : Line) (labels : List Label) (v : ℕ) (at : slice_get thread.lines j ≡ Some line) (s : AreStrongest P thread.loops (start_of thread) (take j thread.lines) labels) where
+module _ (P : Program) (thread : Thread) (j : ℕ) (line : Line) (labels : List Label) (v : ℕ) (at : slice_get thread.lines j ≡ Some line) (s : AreStrongest P thread (take j thread.lines) labels) where
   front_is : length (take j thread.lines) ≡ j
   front_is = let lt = slice_get_within thread.lines j line at in omega (arith, length-take j thread.lines)
 
   -- what good labels meet, the strongest do
-  meets_too : (w : ℕ) (ks : List Label) → IsGood P thread.loops (start_of thread) (take j thread.lines) ks → MeetsBelow w (premises P thread.loops (take j thread.lines) (take (j + 1) ks) line.stmt) → MeetsBelow w (premises P thread.loops (take j thread.lines) (take (j + 1) labels) line.stmt)
-  meets_too w ks g = (rules_grow P thread.loops (take j thread.lines) (take (j + 1) ks) (take (j + 1) labels) line.stmt (rw front_is at (known_below P thread.loops (start_of thread) (take j thread.lines) labels ks s g))).asks_less w
+  meets_too : (w : ℕ) (ks : List Label) → IsGood P thread (take j thread.lines) ks → MeetsBelow w (premises P thread (take j thread.lines) (take (j + 1) ks) line.stmt) → MeetsBelow w (premises P thread (take j thread.lines) (take (j + 1) labels) line.stmt)
+  meets_too w ks g = (rules_grow P thread (take j thread.lines) (take (j + 1) ks) (take (j + 1) labels) line.stmt (rw front_is at (known_below P thread (take j thread.lines) labels ks s g))).asks_less w
 
-  fails_first : IsRefusedAt P thread j line v → FailsFirst v (premises P thread.loops (take j thread.lines) (take (j + 1) labels) line.stmt)
+  fails_first : IsRefusedAt P thread j line v → FailsFirst v (premises P thread (take j thread.lines) (take (j + 1) labels) line.stmt)
   fails_first r = record {
     below = meets_too v r.met_below.0 r.met_below.1 r.met_below.2;
     fails = λ m. r.never_met labels s.good m;
   }
 
-  refused : FailsFirst v (premises P thread.loops (take j thread.lines) (take (j + 1) labels) line.stmt) → IsRefusedAt P thread j line v
+  pub refused : FailsFirst v (premises P thread (take j thread.lines) (take (j + 1) labels) line.stmt) → IsRefusedAt P thread j line v
   refused f = record {
     line_is = at;
     good_before = (labels, s.good);
     none_up_to = λ g.
         let more : take (j + 1) thread.lines ≡ take j thread.lines ++ line ∷ [] = rw add-one (take_suc_at thread.lines j line at) in
         let h = rw more at g.1 in
-        let last = last_good P thread.loops (start_of thread) (take j thread.lines) line g.0 h in
-        f.fails (meets_too (v + 1) g.0 (front_good P thread.loops (start_of thread) (take j thread.lines) line g.0 h) (meets_below (v + 1) _ (rw front_is at last.0)));
+        let last = last_good P thread (take j thread.lines) line g.0 h in
+        f.fails (meets_too (v + 1) g.0 (front_good P thread (take j thread.lines) line g.0 h) (meets_below (v + 1) _ (rw front_is at last.0)));
     met_below = (labels, s.good, f.below);
     never_met = λ ks g m. f.fails (meets_too (v + 1) ks g m);
   }
 
-  pub read_off : IsRefusedAt P thread j line v ↔ FailsFirst v (premises P thread.loops (take j thread.lines) (take (j + 1) labels) line.stmt)
+  pub read_off : IsRefusedAt P thread j line v ↔ FailsFirst v (premises P thread (take j thread.lines) (take (j + 1) labels) line.stmt)
   read_off = (fails_first, refused)

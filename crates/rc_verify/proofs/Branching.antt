@@ -15,14 +15,14 @@ use Rattle.rc_rules.specs.declared.cause.Cause.{Cause}
 use Rattle.rc_rules.specs.Labels.{Label, Dead, Live, IsStrongest}
 use Rattle.rc_rules.specs.Labellings.{here, label_at}
 use Rattle.rc_rules.specs.Premises.{Premise}
-use Rattle.rc_rules.specs.Rules.{asks, goes, may_join, test_mode, test_premises}
+use Rattle.rc_rules.specs.Rules.{asks, goes, may_join, test_effect, test_premises}
 use Rattle.rc_rules.specs.States.{State, AgreeOnLock, Gives, label_of, program_of}
 use Rattle.arrayvec.specs.ArrayVec.{ArrayVec}
 use Rattle.rc_verify.specs.declared.walk.Walk.{Walk}
 use Rattle.rc_verify.specs.Kept.{last_of, rest_of}
 use Rattle.rc_verify.specs.Walk.{Fits, Reaches, Turns, branch_place, loop_place, most_at, peek_place, places, AreKept, OnKept, IsSaved}
 use Rattle.rc_verify.proofs.Fit.{fits_alike, fits_more, strongest_fits, test_fits}
-use Rattle.rc_verify.proofs.Joining.{only_itself}
+use Rattle.rc_rules.proofs.Weaker.{only_itself}
 use Rattle.rc_verify.proofs.Keeping.{KeepsLast, few_branches, few_places, keep_more, kept_length, last_kept, places_pushed, pushed_none, same_last, some_last}
 use Rattle.rc_verify.proofs.Plainly.{fits_behind, fits_known, loops_same, opens_none, peek_same}
 use Rattle.rc_verify.proofs.Standing.{Gave, branches_stay, fits_here, here_is, lead_at, onward, took, turns}
@@ -42,16 +42,16 @@ module _ (P : Program) (t : Thread) (j : ℕ) (w : Walk) (r : Reaches P t j w) w
       let n : length (blocks_at t.lines (j + 1)) ≡ length (blocks_at t.lines j ++ InIf j ∷ []) = ap length (blocks_next t.lines j (If test) e) in
       omega (arith, n, length-append (blocks_at t.lines j) (InIf j ∷ []), few_kept, r.thread.nested.depth (j + 1))
 
-  pub if_turns : {X : Type 0} (test : Test) (new : State) (kept : ArrayVec (Option State)) (x : Result X Cause) → stmt_at t.lines j ≡ Some (If test) → Gives w.state new x (asks (label_of w.state) (λ bag m. test_premises m test)) (goes (label_of w.state) (λ bag m. Live bag (test_mode (program_of w.state) test m)) ∷ []) → OnOk x (kept.items ≡ w.branches.items ++ Some w.state ∷ []) → Turns P t j (record { state = new; branches = kept; peek = w.peek; loops = w.loops }) x
+  pub if_turns : {X : Type 0} (test : Test) (new : State) (kept : ArrayVec (Option State)) (x : Result X Cause) → stmt_at t.lines j ≡ Some (If test) → Gives w.state new x (asks (label_of w.state) (λ bag m. test_premises m test)) (goes (label_of w.state) (λ bag m. test_effect (program_of w.state) bag m test) ∷ []) → OnOk x (kept.items ≡ w.branches.items ++ Some w.state ∷ []) → Turns P t j (record { state = new; branches = kept; peek = w.peek; loops = w.loops }) x
   if_turns test new kept x e g k =
       let w' : Walk = record { state = new; branches = kept; peek = w.peek; loops = w.loops } in
       let F : Program → Label → List (ℕ × Premise) = λ p l. asks l (λ bag m. test_premises m test) in
-      let B : Program → Label → List Label = λ p l. goes l (λ bag m. Live bag (test_mode p test m)) ∷ [] in
+      let B : Program → Label → List Label = λ p l. goes l (λ bag m. test_effect p bag m test) ∷ [] in
       let gave = took P w.state new (here (take j t.lines) r.labels) x F B r.at.here.of (here_is P t j w r (If test) e) g in
       let bs = blocks_at t.lines j in
       let n : blocks_at t.lines (j + 1) ≡ bs ++ InIf j ∷ [] = blocks_next t.lines j (If test) e in
       let same = opens_none t j bs (InIf j) refl n in
-      let f : Fits (in_lock bs) (most_at j + 18) (goes (here (take j t.lines) r.labels) (λ bag m. Live bag (test_mode P test m))) = fits_more (in_lock bs) (most_at j) (most_at j + 18) _ (omega arith) (test_fits P test (in_lock bs) (most_at j) _ (fits_known P t j w r (If test) e)) in
+      let f : Fits (in_lock bs) (most_at j + 18) (goes (here (take j t.lines) r.labels) (λ bag m. test_effect P bag m test)) = fits_more (in_lock bs) (most_at j) (most_at j + 18) _ (omega arith) (test_fits P test (in_lock bs) (most_at j) _ (fits_known P t j w r (If test) e)) in
       turns P t j w r (If test) e w' x gave
       (λ b. fits_behind P t j w r (If test) e (label_of new) (strongest_fits (in_lock bs) (most_at j + 18) (label_of new) _ (f, tt) b))
       (λ y q. record {

@@ -7,7 +7,7 @@ use Rattle.rc_rules.specs.declared.mode.Peeked.TheVariants.{Unseen}
 use Rattle.rc_rules.specs.Labels.{Label, Weaker, WeakerThanEach, IsStrongest}
 use Rattle.rc_rules.specs.Labellings.{label_at, arm_end, arm_ends, break_end, break_ends}
 use Rattle.rc_rules.specs.Rules.{broken, peek_at}
-use Rattle.rc_rules.proofs.Growth.{weaker_trans}
+use Rattle.rc_rules.proofs.Weaker.{weaker_trans}
 use Rattle.rc_verify.proofs.Keeping.{nothing_more}
 
 pub arms_more : (lines : List Line) (l : Line) (labels : List Label) (new : Label) (o : ℕ) → length labels ≡ length lines + 1 → arm_ends (lines ++ l ∷ []) (labels ++ new ∷ []) o ≡ arm_ends lines labels o ++ arm_end l.stmt o (label_at labels (length lines))

@@ -10,16 +10,16 @@ use Rattle.rc_rules.specs.declared.mode.Mode.{Mode}
 use Rattle.rc_rules.specs.declared.mode.Mode.TheVariants.{Unlocked, Locked}
 use Rattle.rc_rules.specs.declared.mode.Peeked.{Peeked}
 use Rattle.rc_rules.specs.declared.mode.Peeked.TheVariants.{Unseen, Sees, SeesOther}
-use Rattle.rc_rules.specs.declared.mode.Slot.{Slot}
-use Rattle.rc_rules.specs.declared.mode.Slot.TheVariants.{Closed, Vacant, Prepared}
+use Rattle.rc_rules.specs.declared.mode.Slot.TheVariants.{Closed}
 use Rattle.rc_rules.specs.Labels.{Label, Dead, Live, Weaker, WeakerMode, WeakerThanEach, IsStrongest, IsSame}
 use Rattle.rc_rules.specs.Labellings.{start_of}
-use Rattle.rc_rules.specs.Rules.{kind_of, same_slot, op_effect, reaped, goes, entered, released, test_mode, with_peeked, peek_at, case_at, top, broken, asks, may_break, agree}
+use Rattle.rc_rules.specs.Rules.{kind_of, same_slot, op_effect, reaped, goes, entered, released, test_effect, with_peeked, peek_at, case_at, top, broken, asks, may_break, agree}
 use Rattle.rc_rules.specs.Premises.{Meets}
-use Rattle.rc_rules.specs.States.{IsLocked, IsUnlocked, AgreeOnLock, IsSmall}
+use Rattle.rc_rules.specs.States.{is_locked, IsLocked, IsUnlocked, AgreeOnLock, IsSmall}
 use Rattle.rc_rules.proofs.Headers.{few_of, once}
+use Rattle.rc_rules.proofs.Weaker.{locked_same, same_slot_is}
 use Rattle.rc_rules.proofs.Lines.{line_few, line_of, one_at_most, one_credit}
-use Rattle.rc_verify.specs.Walk.{Fits, is_locked, IsClosed}
+use Rattle.rc_verify.specs.Walk.{Fits, IsClosed}
 
 -- ---- the strongest label is like those that lead to it
 
@@ -40,16 +40,10 @@ module _ (Q : Label → Type 0) (dead : Q Dead) (keeps : (s t : Label) → Weake
   pub kept_by : (s : Label) (ts : List Label) → AreAll Q ts → IsStrongest s ts → Q s
   kept_by s ts q h = elim (some_live s ts h.weaker q) [ inl k ↦ k | inr k ↦ dead_below s (h.strongest Dead k) ]
 
-same_lock : (m n : Mode) → WeakerMode m n → is_locked m ≡ is_locked n
-same_lock Unlocked Unlocked w = refl
-same_lock Unlocked (Locked j) w = absurd w
-same_lock (Locked i) Unlocked w = absurd w
-same_lock (Locked i) (Locked j) w = refl
-
 weaker_fits : (b : Bool) (n : ℕ) (s t : Label) → Weaker s t → (t ≡ Dead → ⊥) → Fits b n t → Fits b n s
 weaker_fits b n s Dead w d h = absurd (d refl)
 weaker_fits b n Dead (Live c k) w d h = tt
-weaker_fits b n (Live a m) (Live c k) w d h = (same_lock m k w.1 ∙ h.0, λ p. omega (arith, w.0 p, h.1 p))
+weaker_fits b n (Live a m) (Live c k) w d h = (locked_same m k w.1 ∙ h.0, λ p. omega (arith, w.0 p, h.1 p))
 
 pub strongest_fits : (b : Bool) (n : ℕ) (s : Label) (ts : List Label) → AreAll (Fits b n) ts → IsStrongest s ts → Fits b n s
 strongest_fits b n = kept_by (Fits b n) tt (weaker_fits b n)
@@ -131,7 +125,7 @@ pub released_fits : (b : Bool) (n : ℕ) (s : Label) → Fits b n s → Fits fal
 released_fits b n Dead f = tt
 released_fits b n (Live a m) f = (refl, f.1)
 
-pub test_fits : (P : Program) (test : Test) (b : Bool) (n : ℕ) (s : Label) → Fits b n s → Fits b n (goes s (λ bag m. Live bag (test_mode P test m)))
+pub test_fits : (P : Program) (test : Test) (b : Bool) (n : ℕ) (s : Label) → Fits b n s → Fits b n (goes s (λ bag m. test_effect P bag m test))
 test_fits P test b n Dead f = tt
 test_fits P (Compare x c k) b n (Live a m) f = f
 test_fits P ReadyZero b n (Live a Unlocked) f = f
@@ -175,17 +169,12 @@ broken_closed P false Dead h = tt
 broken_closed P false (Live a Unlocked) h = refl
 broken_closed P false (Live a (Locked i)) h = h.0
 
-closed_is : (x : Slot) → same_slot x Closed ≡ true → x ≡ Closed
-closed_is Closed e = refl
-closed_is Vacant e = absurd (cc)
-closed_is (Prepared k) e = absurd (cc)
-
 pub closed_agree : (s t : Label) → IsClosed s → IsClosed t → agree s t ≡ true
 closed_agree Dead t h g = refl
 closed_agree (Live a m) Dead h g = refl
 closed_agree (Live a Unlocked) (Live c n) h g = refl
 closed_agree (Live a (Locked i)) (Live c Unlocked) h g = refl
-closed_agree (Live a (Locked i)) (Live c (Locked j)) h g = subst (λ x. same_slot i.slot x ≡ true) (sym (closed_is j.slot g)) h
+closed_agree (Live a (Locked i)) (Live c (Locked j)) h g = subst (λ x. same_slot i.slot x ≡ true) (sym (same_slot_is j.slot Closed g)) h
 
 -- ---- the start
 

@@ -7,29 +7,16 @@ use Rattle.rc_rules.specs.declared.mode.Mode.TheVariants.{Unlocked, Locked}
 use Rattle.rc_rules.specs.declared.mode.Peeked.TheVariants.{Unseen}
 use Rattle.rc_rules.specs.Causes.{premise_number}
 use Rattle.rc_rules.specs.Labels.{Label, Dead, Live, Weaker, IsStrongest}
-use Rattle.rc_rules.specs.Premises.{Premise, Meets, MeetsBelow, FailsFirst}
+use Rattle.rc_rules.specs.Premises.{Meets, FailsFirst}
 use Rattle.rc_rules.specs.Rules.{same_slot, agree, asks, broken, may_break, may_join, may_release, peek_at, peek_premises, released}
 use Rattle.rc_rules.specs.States.{State, label_of, program_of, AgreeOnLock, Gives}
-use Rattle.rc_rules.proofs.Moves.{weaker_refl}
+use Rattle.rc_rules.proofs.Weaker.{not_both, only_itself, weaker_refl}
 use Rattle.rc_verify.specs.declared.arms.Arms.{Arms}
 use Rattle.rc_verify.specs.Arms.{Joins, JoinsOn}
 use Rattle.rc_verify.specs.Kept.{last_of, rest_of}
 use Rattle.rc_verify.specs.Loops.{Breaks, FitsWith, KeepsMeet, MayBreak}
 
--- ---- premises
-
-pub meets_below : (n : ℕ) (ps : List (ℕ × Premise)) → Meets ps → MeetsBelow n ps
-meets_below n [] h = tt
-meets_below n (p ∷ ps) h = (λ lt. h.0, meets_below n ps h.1)
-
--- What is met fails nowhere.
-not_both : (n : ℕ) (ps : List (ℕ × Premise)) → Meets ps → FailsFirst n ps → ⊥
-not_both n ps h f = f.fails (meets_below (n + 1) ps h)
-
 -- ---- labels that say the same
-
-pub only_itself : (s : Label) → IsStrongest s (s ∷ [])
-only_itself s = record { weaker = (weaker_refl s, tt); strongest = λ t w. w.0 }
 
 pub below : (s t : Label) → IsStrongest s (t ∷ []) → Weaker s t
 below s t h = h.weaker.0

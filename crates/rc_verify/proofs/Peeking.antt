@@ -24,7 +24,7 @@ use Rattle.rc_verify.specs.declared.arms.Arms.{Arms}
 use Rattle.rc_verify.specs.declared.walk.Walk.{Walk}
 use Rattle.rc_verify.specs.Walk.{AreKept, Fits, IsPeeked, IsSaved, Reaches, Turns, branch_place, listed, loop_place, most_at, peek_place, places}
 use Rattle.rc_verify.proofs.Fit.{fits_more}
-use Rattle.rc_verify.proofs.Joining.{only_itself}
+use Rattle.rc_rules.proofs.Weaker.{only_itself}
 use Rattle.rc_verify.proofs.Keeping.{nothing_more, places_pushed}
 use Rattle.rc_verify.proofs.Plainly.{branches_same, fits_behind, loops_same, opens_none}
 use Rattle.rc_verify.proofs.Standing.{arms_next, fits_here, here_is, onward, refused}

@@ -3,11 +3,12 @@ use Rattle.std.proofs.Common.{◌≡◌, ℕ, zero, suc, ◌+◌, ◌<◌, ◌�
 use Rattle.std.specs.Prelude.{slice_get}
 use Rattle.std.proofs.lemmas.Bool.{cases_lt}
 use Rattle.rc_lang.specs.declared.lines.Line.{Line}
-use Rattle.rc_lang.specs.Program.{Program, Thread, Items}
+use Rattle.rc_lang.specs.Program.{Program, Thread}
 use Rattle.rc_rules.specs.Labels.{Label}
-use Rattle.rc_rules.specs.Labellings.{IsGood, HasLabels, Passes, Accepts, IsRefused, IsRefusedAt, IsHeaderRefused, IsBodyRefused, header_premises, start_of}
+use Rattle.rc_rules.specs.Labellings.{IsGood, HasLabels, Passes, Accepts, IsRefused, IsRefusedAt, IsHeaderRefused, IsBodyRefused, header_premises}
 use Rattle.rc_rules.specs.Premises.{Premise, Meets, MeetsBelow}
-use Rattle.rc_verify.proofs.Strongest.{good_at, meets_below}
+use Rattle.rc_rules.proofs.Weaker.{meets_below}
+use Rattle.rc_verify.proofs.Strongest.{good_at}
 
 -- ---- a beginning of the lines
 
@@ -23,17 +24,17 @@ take_front zero (suc j) xs le = absurd (omega (arith, le))
 take_front (suc n) (suc j) [] le = refl
 take_front (suc n) (suc j) (x ∷ xs) le = ap (λ ys. x ∷ ys) (take_front n j xs (omega (arith, le)))
 
-good_front : (P : Program) (loops : List Items) (start : Label) (lines : List Line) (n : ℕ) (ls : List Label) → IsGood P loops start lines ls → IsGood P loops start (take n lines) ls
-good_front P loops start lines n ls g = record {
+good_front : (P : Program) (thread : Thread) (lines : List Line) (n : ℕ) (ls : List Label) → IsGood P thread lines ls → IsGood P thread (take n lines) ls
+good_front P thread lines n ls g = record {
   begins = g.begins;
   each = λ j l is.
       let r = get_take n j lines l is in
       let a = g.each j l r.1 in
-      good_at P loops (take n lines) (take j lines) ls (take (j + 1) ls) j _ l.stmt (take_front n j lines (omega (arith, r.0))) refl refl a.meets a.after;
+      good_at P thread (take n lines) (take j lines) ls (take (j + 1) ls) j _ l.stmt (take_front n j lines (omega (arith, r.0))) refl refl a.meets a.after;
 }
 
-has_front : (P : Program) (loops : List Items) (start : Label) (lines : List Line) (m n : ℕ) → m ≤ n → HasLabels P loops start (take n lines) → HasLabels P loops start (take m lines)
-has_front P loops start lines m n le h = let g = good_front P loops start (take n lines) m h.0 h.1 in (h.0, rw (take_front n m lines le) at g)
+has_front : (P : Program) (thread : Thread) (lines : List Line) (m n : ℕ) → m ≤ n → HasLabels P thread (take n lines) → HasLabels P thread (take m lines)
+has_front P thread lines m n le h = let g = good_front P thread (take n lines) m h.0 h.1 in (h.0, rw (take_front n m lines le) at g)
 
 -- ---- lists of premises
 
@@ -53,7 +54,7 @@ one_cause P thread j k l v w a b = elim (cases_lt w v) [
 
 least_place : (P : Program) (thread : Thread) (i j : ℕ) (k l : Line) (v w : ℕ) → IsRefusedAt P thread i k v → IsRefusedAt P thread j l w → j ≤ i
 least_place P thread i j k l v w a b = elim (cases_lt i j) [
-  | inl lt ↦ absurd (a.none_up_to (has_front P thread.loops (start_of thread) thread.lines (i + 1) j (omega (arith, lt)) b.good_before))
+  | inl lt ↦ absurd (a.none_up_to (has_front P thread thread.lines (i + 1) j (omega (arith, lt)) b.good_before))
   | inr le ↦ le
 ]
 
@@ -89,7 +90,7 @@ one_at P i m n v w t (inr a) (inr b) = one_body P i m n v w t a b
 
 passes_not : (P : Program) (i number v : ℕ) (t : Thread) → Passes P i t → (((t.line ≡ number) × IsHeaderRefused P i v) ⊎ IsBodyRefused P i t number v) → ⊥
 passes_not P i number v t p (inl a) = header_stands P i v p.header a.1
-passes_not P i number v t p (inr b) = b.refused.none_up_to (p.labels.0, good_front P t.loops (start_of t) t.lines (b.place + 1) p.labels.0 p.labels.1)
+passes_not P i number v t p (inr b) = b.refused.none_up_to (p.labels.0, good_front P t t.lines (b.place + 1) p.labels.0 p.labels.1)
 
 first_index : (P : Program) (m n v w : ℕ) → (a : IsRefused P m v) → (b : IsRefused P n w) → b.index ≤ a.index
 first_index P m n v w a b = elim (cases_lt a.index b.index) [

@@ -1,5 +1,6 @@
 -- Where a walk stands, and how it goes on behind a line.
 use Rattle.std.proofs.Common.{◌≡◌, ℕ, ◌+◌, ◌<◌, ◌≤◌, Bool, List, [], ◌∷◌, ◌++◌, length, length-append, length-take, take, Option, Some, None, Result, Ok, Err, refl, sym, ap, subst, ◌∙◌, inl, inr, arith, slice_get, add-one}
+use Rattle.std.proofs.Math.Seq.{take-length}
 use Rattle.std.proofs.lemmas.Option.{get_or_from_slice_get}
 use Rattle.rc_lang.specs.declared.lines.Line.{Line}
 use Rattle.rc_lang.specs.declared.lines.Stmt.{Stmt}
@@ -17,17 +18,18 @@ use Rattle.rc_verify.specs.declared.arms.Arms.{Arms}
 use Rattle.rc_verify.specs.declared.walk.Walk.{Walk}
 use Rattle.rc_verify.specs.Strongest.{AreStrongest}
 use Rattle.rc_verify.specs.Walk.{AreKept, Fits, IsLoop, IsMeet, IsPeeked, IsSaved, Keeps, OnKept, Reaches, Turns, most_at}
+use Rattle.rc_verify.proofs.Best.{refused as refused_at}
 use Rattle.rc_verify.proofs.Ends.{arms_more, breaks_more}
 use Rattle.rc_verify.proofs.Fit.{fits_more}
 use Rattle.rc_verify.proofs.Keeping.{kept_too, nothing_more}
-use Rattle.rc_verify.proofs.Strongest.{goes_on, refuses, take_suc_at}
+use Rattle.rc_verify.proofs.Strongest.{goes_on, take_suc_at}
 
 -- what a line at place j is asked, and what leads behind it
 abbrev pub asked_at : Program → Thread → ℕ → List Label → Stmt → List (ℕ × Premise)
-asked_at P t j labels s = premises P t.loops (take j t.lines) labels s
+asked_at P t j labels s = premises P t (take j t.lines) labels s
 
 abbrev pub lead_at : Program → Thread → ℕ → List Label → Stmt → List Label
-lead_at P t j labels s = befores P t.loops (take j t.lines) labels s
+lead_at P t j labels s = befores P t (take j t.lines) labels s
 
 -- What a rule of one line answers, whatever it began with.
 abbrev pub Gave : {X : Type 0} → Program → State → Result X Cause → List (ℕ × Premise) → List Label → Type 0
@@ -101,7 +103,9 @@ module _ (P : Program) (t : Thread) (j : ℕ) (w : Walk) (r : Reaches P t j w) (
   refused v f = go line_here
     where
       go : (l : Line) × (slice_get t.lines j ≡ Some l) × (l.stmt ≡ s) → (l : Line) × IsRefusedAt P t j l v
-      go l = (l.0, refuses P t r.start r.labels j l.0 v r.same l.1 r.at.size r.at.strongest (subst (λ x. FailsFirst v (asked_at P t j r.labels x)) (sym l.2) f))
+      go l =
+          let all : take (j + 1) r.labels ≡ r.labels = rw (← r.at.size, take-length) refl in
+          (l.0, refused_at P t j l.0 r.labels v l.1 r.at.strongest (subst (λ x. FailsFirst v (asked_at P t j (take (j + 1) r.labels) x)) (sym l.2) (subst (λ ls. FailsFirst v (asked_at P t j ls s)) (sym all) f)))
 
   -- one line more
   behind : (l : Line) → slice_get t.lines j ≡ Some l → take (j + 1) t.lines ≡ take j t.lines ++ l ∷ []
@@ -145,18 +149,16 @@ module _ (P : Program) (t : Thread) (j : ℕ) (w : Walk) (r : Reaches P t j w) (
       go l =
           let m' : Meets (asked_at P t j r.labels l.0.stmt) = subst (λ x. Meets (asked_at P t j r.labels x)) (sym l.2) m in
           let b' : IsStrongest (label_of w'.state) (lead_at P t j r.labels l.0.stmt) = subst (λ x. IsStrongest (label_of w'.state) (lead_at P t j r.labels x)) (sym l.2) b in
-          let strong = goes_on P t.loops r.start (take j t.lines) r.labels l.0 (label_of w'.state) sized r.at.strongest m' b' in
+          let strong = goes_on P t (take j t.lines) r.labels l.0 (label_of w'.state) sized r.at.strongest m' b' in
           let lt : j < length t.lines = stands_within t.lines j s e in
           record {
             made = r.made;
             thread = r.thread;
-            start = r.start;
-            same = r.same;
             labels = r.labels ++ label_of w'.state ∷ [];
             at = record {
               within = omega arith;
               size = omega (arith, length-append r.labels (label_of w'.state ∷ []), r.at.size);
-              strongest = subst (λ ls. AreStrongest P t.loops r.start ls (r.labels ++ label_of w'.state ∷ [])) (sym (behind l.0 l.1)) strong;
+              strongest = subst (λ ls. AreStrongest P t ls (r.labels ++ label_of w'.state ∷ [])) (sym (behind l.0 l.1)) strong;
               here = record { of = p; at = there };
               fits = fits_all;
               keeps = k;

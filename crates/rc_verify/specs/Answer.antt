@@ -10,7 +10,7 @@ use Rattle.rc_verify.specs.declared.refusal.VerifyFault.TheVariants.{Refused, Ou
 
 -- The lines of a thread have a labelling, or this one is refused.
 abbrev pub IsWalked : {X : Type 0} → Program → Thread → Result X Refusal → Type 0
-IsWalked P t (Ok x) = HasLabels P t.loops (start_of t) t.lines
+IsWalked P t (Ok x) = HasLabels P t t.lines
 IsWalked P t (Err r) = (j : ℕ) × (l : Line) × (l.number ≡ r.line) × IsRefusedAt P t j l (premise_number r.cause)
 
 -- The thread passes, or its header or its body is refused at this line.

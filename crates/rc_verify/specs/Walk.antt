@@ -12,19 +12,15 @@ use Rattle.rc_rules.specs.declared.mode.Mode.TheVariants.{Unlocked, Locked}
 use Rattle.rc_rules.specs.declared.mode.Slot.TheVariants.{Closed}
 use Rattle.rc_split.specs.Bags.{Part}
 use Rattle.rc_rules.specs.Causes.{premise_number}
-use Rattle.rc_rules.specs.Labels.{Label, Dead, Live, IsSame, IsStrongest}
-use Rattle.rc_rules.specs.Labellings.{arm_ends, break_ends, start_of, IsRefusedAt}
+use Rattle.rc_rules.specs.Labels.{Label, Dead, Live, IsStrongest}
+use Rattle.rc_rules.specs.Labellings.{arm_ends, break_ends, IsRefusedAt}
 use Rattle.rc_rules.specs.Rules.{same_slot, agree_all}
-use Rattle.rc_rules.specs.States.{State, label_of, program_of, IsLocked}
+use Rattle.rc_rules.specs.States.{State, label_of, program_of, is_locked, IsLocked}
 use Rattle.rc_verify.specs.declared.walk.Walk.{Walk}
 use Rattle.rc_verify.specs.declared.arms.Arms.{Arms}
 use Rattle.rc_verify.specs.Strongest.{AreStrongest}
 
 -- ---- labels at a place
-
-abbrev pub is_locked : Mode → Bool
-is_locked Unlocked = false
-is_locked (Locked i) = true
 
 -- Where it is live, the lock is held or not, as that is said, and no count is above n.
 abbrev pub Fits : Bool → ℕ → Label → Type 0
@@ -124,10 +120,10 @@ pub record Keeps (P : Program) (t : Thread) (j : ℕ) (labels : List Label) (w :
   pub loops : AreKept (OnKept (IsLoop P t j labels)) (places loop_place (blocks_at t.lines j)) w.loops.items
 
 -- With these labels, the strongest for the lines so far, the walk stands at place j.
-pub record IsAt (P : Program) (t : Thread) (start : Label) (j : ℕ) (labels : List Label) (w : Walk) : Type 0 where
+pub record IsAt (P : Program) (t : Thread) (j : ℕ) (labels : List Label) (w : Walk) : Type 0 where
   pub within : j ≤ length t.lines
   pub size : length labels ≡ j + 1
-  pub strongest : AreStrongest P t.loops start (take j t.lines) labels
+  pub strongest : AreStrongest P t (take j t.lines) labels
   pub here : IsSaved P labels j w.state
   pub fits : (k : ℕ) (s : Label) → slice_get labels k ≡ Some s → Fits (in_lock (blocks_at t.lines k)) (most_at j) s
   pub keeps : Keeps P t j labels w
@@ -135,10 +131,8 @@ pub record IsAt (P : Program) (t : Thread) (start : Label) (j : ℕ) (labels : L
 pub record Reaches (P : Program) (t : Thread) (j : ℕ) (w : Walk) : Type 0 where
   pub made : IsProgram P
   pub thread : IsThread P t
-  pub start : Label
-  pub same : IsSame start (start_of t)
   pub labels : List Label
-  pub at : IsAt P t start j labels w
+  pub at : IsAt P t j labels w
 
 -- The walk goes on behind the line at j, or that line is refused.
 abbrev pub Turns : {X : Type 0} → Program → Thread → ℕ → Walk → Result X Cause → Type 0

@@ -1,7 +1,6 @@
 //! The branches of ifs.
 
 ghost use Rattle.std.specs.Prelude.{◌≡◌, ◌<◌, ◌∷◌, ◌++◌, [], length, IsSome, Some, OnOk};
-ghost use Rattle.rc_rules.specs.Labels.{Live};
 ghost use Rattle.rc_rules.specs.Rules as rules;
 ghost use Rattle.rc_rules.specs.States as states;
 ghost use Rattle.rc_verify.specs.Kept.{last_of, rest_of};
@@ -13,7 +12,7 @@ use rc_rules::state::State;
 use std::mem;
 
 fn test_state(state: &mut State, test: Test) -> Result<(), Cause>
-    ensures { states.Gives state.old state.new result (rules.asks (states.label_of state.old) (λ bag m. rules.test_premises m test)) (rules.goes (states.label_of state.old) (λ bag m. Live bag (rules.test_mode (states.program_of state.old) test m)) ∷ []) }
+    ensures { states.Gives state.old state.new result (rules.asks (states.label_of state.old) (λ bag m. rules.test_premises m test)) (rules.goes (states.label_of state.old) (λ bag m. rules.test_effect (states.program_of state.old) bag m test) ∷ []) }
 {
     match test {
         Test::Compare(_, _, _) => Ok(()),
@@ -25,7 +24,7 @@ fn test_state(state: &mut State, test: Test) -> Result<(), Cause>
 /// `if .. {`. At most 30 branches are open.
 pub fn enter_if<'a>(state: &mut State<'a>, branches: &mut Kept<'a>, test: Test) -> Result<(), Cause>
     requires { length branches.old.items < 31 }
-    ensures gives { states.Gives state.old state.new result (rules.asks (states.label_of state.old) (λ bag m. rules.test_premises m test)) (rules.goes (states.label_of state.old) (λ bag m. Live bag (rules.test_mode (states.program_of state.old) test m)) ∷ []) }
+    ensures gives { states.Gives state.old state.new result (rules.asks (states.label_of state.old) (λ bag m. rules.test_premises m test)) (rules.goes (states.label_of state.old) (λ bag m. rules.test_effect (states.program_of state.old) bag m test) ∷ []) }
     ensures kept { OnOk result (branches.new.items ≡ branches.old.items ++ Some state.old ∷ []) }
 {
     let before = state.again();

@@ -1,4 +1,4 @@
-use Rattle.rc_rules.proofs.Moves.{weaker_refl}
+use Rattle.rc_rules.proofs.Weaker.{weaker_refl}
 use Rattle.rc_rules.proofs.laws.weaker_is_reflexive.Goals as goal
 
 pub returns : goal.returns

@@ -1,4 +1,4 @@
-use Rattle.rc_rules.proofs.Growth.{weaker_trans}
+use Rattle.rc_rules.proofs.Weaker.{weaker_trans}
 use Rattle.rc_rules.proofs.laws.weaker_is_transitive.Goals as goal
 
 pub returns : goal.returns
