@@ -1,6 +1,6 @@
 -- A world of which those facts are true has no fault.
 use Rattle.std.proofs.Common.{◌≡◌, ℕ, ◌+◌, ◌<◌, ◌≤◌, Bool, true, false, ◌&&◌, ◌||◌, List, [], ◌∷◌, ◌++◌, length, drop, Option, Some, None, refl, sym, ap, ◌∙◌, subst, inl, inr, arith}
-use Rattle.std.proofs.lemmas.Bool.{and_from, and_parts, and_right, eq-eqb, eqb-true, false_from_ne_true, le-leb, lt-leb, not_from_true, not-true, or_cases, or_from}
+use Rattle.std.proofs.lemmas.Bool.{and_from, and_parts, and_right, eq-eqb, eqb-true, false_from_ne_true, leb-true, lt-leb, ltb-true, not_from_true, not-true, or_cases, or_from}
 use Rattle.std.proofs.lemmas.List.{length-map}
 use Rattle.std.specs.List.{list_any}
 use Rattle.std.specs.Prelude.{nat_eq, nat_le, not, slice_get, ℤ, if◌then◌else◌}
@@ -18,7 +18,10 @@ use Rattle.rc_rules.specs.declared.mode.Mode.TheVariants.{Unlocked, Locked}
 use Rattle.rc_rules.specs.declared.mode.Peeked.{Peeked}
 use Rattle.rc_rules.specs.declared.mode.Peeked.TheVariants.{Unseen, Sees, SeesOther}
 use Rattle.rc_rules.specs.declared.mode.Slot.TheVariants.{Closed, Vacant}
-use Rattle.rc_rules.specs.Rules.{limit, owned}
+use Rattle.rc_rules.specs.Premises.{Meets}
+use Rattle.rc_rules.specs.Rules.{is_seen, kind_of, limit, may_release, op_premises, owned, same_slot}
+use Rattle.rc_rules.specs.States.{is_locked}
+use Rattle.rc_rules.proofs.Weaker.{same_slot_is}
 use Rattle.rc_split.specs.Bags.{Part, ShareOf, TokenOf, Credit}
 use Rattle.rc_world.specs.declared.event.Completion.{Completion}
 use Rattle.rc_world.specs.declared.fault.FaultKind.{FaultKind}
@@ -30,10 +33,10 @@ use Rattle.rc_world.specs.Machine.{Pending, World, is_read, slot_len, used_entri
 use Rattle.rc_admit.proofs.Lists.{sum_to, sum_to_one, sum_to_two, sum_over, sum_over_one, Each-get, get_within}
 use Rattle.rc_admit.proofs.Moves.{fits_parts}
 use Rattle.rc_admit.proofs.Ops.{slot_closed, slot_vacant, slot_prepared, agree_head}
-use Rattle.rc_admit.proofs.Owned.{Stand, EdgeAt, HasEdge, owns, owns_pending, unheld, SlotFits, StartsWith, IsNonempty, FrontFits, Fits, held, HasKind, HasKindPending, data_in, Owned, WellOwned, locked_of}
-use Rattle.rc_admit.proofs.Rule.{Claim, BreakRule, Rule, Reaps}
+use Rattle.rc_admit.proofs.Owned.{Stand, EdgeAt, HasEdge, owns, owns_pending, unheld, SlotFits, StartsWith, IsNonempty, FrontFits, Fits, held, HasKind, HasKindPending, data_in, Owned, WellOwned}
+use Rattle.rc_admit.proofs.Rule.{InRing, asks_lock, in_ring, inside_of, met, prepared_as}
 use Rattle.rc_admit.proofs.Shares.{any_is, buffer_shared, credits_owned, data_owned, data_pending, fills_all, names_one, no_clash}
-use Rattle.rc_admit.proofs.Steps.{token_owned}
+use Rattle.rc_admit.proofs.Steps.{breaks_as_released, token_owned}
 
 -- ---- a world without a fault
 
@@ -61,22 +64,24 @@ some_is : {A : Type 0} (x y : A) → Some x ≡ Some y → x ≡ y
 some_is x y e = cc
 
 -- A statement that writes a buffer has all its shares.
-all_by : (P : Program) (b : Part → ℕ) (m : Mode) (K : Claim) (op : Op) → Rule P b m op K → (a : Access) → access_by op ≡ Some a → a.writes ≡ true → shares_at P.buffers a.buffer ≤ b (ShareOf a.buffer)
-all_by P b m K (Load x c j) h a e y = let z : false ≡ a.writes = ap (λ (x : Access). x.writes) (some_is (record { buffer = c; writes = false }) a e) in absurd (cc)
-all_by P b m K (Store c j x) h a e y = subst (λ (x : Access). shares_at P.buffers x.buffer ≤ b (ShareOf x.buffer)) (some_is (record { buffer = c; writes = true }) a e) h.0
-all_by P b m K (Fill c x) h a e y = subst (λ (x : Access). shares_at P.buffers x.buffer ≤ b (ShareOf x.buffer)) (some_is (record { buffer = c; writes = true }) a e) h.0
-all_by P b m K _ h a e y = absurd (cc)
+all_by : (P : Program) (b : Part → ℕ) (m : Mode) (op : Op) → Meets (op_premises P b m op) → (a : Access) → access_by op ≡ Some a → a.writes ≡ true → shares_at P.buffers a.buffer ≤ b (ShareOf a.buffer)
+all_by P b m (Load x c j) h a e y = let z : false ≡ a.writes = ap (λ (x : Access). x.writes) (some_is (record { buffer = c; writes = false }) a e) in absurd (cc)
+all_by P b m (Store c j x) h a e y = subst (λ (x : Access). shares_at P.buffers x.buffer ≤ b (ShareOf x.buffer)) (some_is (record { buffer = c; writes = true }) a e) (leb-true _ _ (met 7 (op_premises P b m (Store c j x)) h))
+all_by P b m (Fill c x) h a e y = subst (λ (x : Access). shares_at P.buffers x.buffer ≤ b (ShareOf x.buffer)) (some_is (record { buffer = c; writes = true }) a e) (leb-true _ _ (met 7 (op_premises P b m (Fill c x)) h))
+all_by P b m _ h a e y = absurd (cc)
 
 -- One that reads or writes it has a share.
-one_by : (P : Program) → IsProgram P → (b : Part → ℕ) (m : Mode) (K : Claim) (n k : ℕ) (op : Op) → Rule P b m op K → IsResolved P n k (Do op) → (a : Access) → access_by op ≡ Some a → 1 ≤ b (ShareOf a.buffer)
-one_by P made b m K n k (Load x c j) h r a e = subst (λ (x : Access). 1 ≤ b (ShareOf x.buffer)) (some_is (record { buffer = c; writes = false }) a e) h.0
-one_by P made b m K n k (Store c j x) h r a e =
+one_by : (P : Program) → IsProgram P → (b : Part → ℕ) (m : Mode) (n k : ℕ) (op : Op) → Meets (op_premises P b m op) → IsResolved P n k (Do op) → (a : Access) → access_by op ≡ Some a → 1 ≤ b (ShareOf a.buffer)
+one_by P made b m n k (Load x c j) h r a e = subst (λ (x : Access). 1 ≤ b (ShareOf x.buffer)) (some_is (record { buffer = c; writes = false }) a e) (leb-true 1 _ (met 8 (op_premises P b m (Load x c j)) h))
+one_by P made b m n k (Store c j x) h r a e =
     let s : 1 ≤ shares_at P.buffers c = buffer_shared P made c r.0 in
-    subst (λ (x : Access). 1 ≤ b (ShareOf x.buffer)) (some_is (record { buffer = c; writes = true }) a e) (omega (arith, h.0))
-one_by P made b m K n k (Fill c x) h r a e =
+    let g : shares_at P.buffers c ≤ b (ShareOf c) = leb-true _ _ (met 7 (op_premises P b m (Store c j x)) h) in
+    subst (λ (x : Access). 1 ≤ b (ShareOf x.buffer)) (some_is (record { buffer = c; writes = true }) a e) (omega arith)
+one_by P made b m n k (Fill c x) h r a e =
     let s : 1 ≤ shares_at P.buffers c = buffer_shared P made c r.0 in
-    subst (λ (x : Access). 1 ≤ b (ShareOf x.buffer)) (some_is (record { buffer = c; writes = true }) a e) (omega (arith, h.0))
-one_by P made b m K n k _ h r a e = absurd (cc)
+    let g : shares_at P.buffers c ≤ b (ShareOf c) = leb-true _ _ (met 7 (op_premises P b m (Fill c x)) h) in
+    subst (λ (x : Access). 1 ≤ b (ShareOf x.buffer)) (some_is (record { buffer = c; writes = true }) a e) (omega arith)
+one_by P made b m n k _ h r a e = absurd (cc)
 
 -- ---- where a thread stands
 
@@ -142,14 +147,14 @@ module _ (w : World) (made : IsProgram w.program) (S : Stand) (edge : HasEdge w.
   all_shares i s n = go s (edge_at i s n)
     where
       go : (s : Stmt) → EdgeAt P S i (bags i) (modes i) n.thread.variables n.thread.place (Some s) → (a : Access) → access_of s ≡ Some a → a.writes ≡ true → shares_at P.buffers a.buffer ≤ bags i (ShareOf a.buffer)
-      go (Do op) h a e y = all_by P (bags i) (modes i) _ op h a e y
+      go (Do op) h a e y = all_by P (bags i) (modes i) op h.0 a e y
       go _ h a e y = absurd (cc)
 
   one_share : (i : ℕ) (s : Stmt) → Next w i s → (a : Access) → access_of s ≡ Some a → 1 ≤ bags i (ShareOf a.buffer)
   one_share i s n = let r = resolved_at P made i n.thread.place s n.line in go s (edge_at i s n) r.0 r.1 r.2
     where
       go : (s : Stmt) → EdgeAt P S i (bags i) (modes i) n.thread.variables n.thread.place (Some s) → (v k : ℕ) → IsResolved P v k s → (a : Access) → access_of s ≡ Some a → 1 ≤ bags i (ShareOf a.buffer)
-      go (Do op) h v k r a e = one_by P made (bags i) (modes i) _ v k op h r a e
+      go (Do op) h v k r a e = one_by P made (bags i) (modes i) v k op h.0 r a e
       go _ h v k r a e = absurd (cc)
 
   no_write_of_pending : (i : ℕ) (s : Stmt) → Next w i s → (x : Option Access) → access_of s ≡ x → writes_pending w.pending x ≡ false
@@ -225,47 +230,52 @@ module _ (w : World) (made : IsProgram w.program) (S : Stand) (edge : HasEdge w.
   vacant_at : (i : ℕ) (s : Inside) → modes i ≡ Locked s → s.slot ≡ Vacant → w.slot ≡ entries.Vacant
   vacant_at i s e f = slot_vacant w.slot (subst (λ x. SlotFits w.slot x) f (ring_at i s e).2)
 
-  is_not_raw : (i : ℕ) (K : Claim) (op : Op) → Rule P (bags i) (modes i) op K → op_is_raw w.slot op ≡ false
-  is_not_raw i K GetSqe h = let s = locked_of (modes i) _ h in ap (λ x. not (is_closed x)) (closed_at i s.0 s.1 s.2.2)
-  is_not_raw i K (PrepRead fd b len off) h = let s = locked_of (modes i) _ h in ap (λ x. not (is_vacant x)) (vacant_at i s.0 s.1 s.2.0)
-  is_not_raw i K (PrepWrite fd b len off k) h = let s = locked_of (modes i) _ h in ap (λ x. not (is_vacant x)) (vacant_at i s.0 s.1 s.2.0)
-  is_not_raw i K (PrepFsync fd datasync) h = let s = locked_of (modes i) _ h in ap (λ x. not (is_vacant x)) (vacant_at i s.0 s.1 s.2.0)
-  is_not_raw i K PrepNop h = let s = locked_of (modes i) _ h in ap (λ x. not (is_vacant x)) (vacant_at i s.0 s.1 s.2.0)
-  is_not_raw i K (SetData64 u) h =
-      let s = locked_of (modes i) _ h in
-      let f = slot_prepared w.slot s.2.0 (subst (λ x. SlotFits w.slot x) s.2.2 (ring_at i s.0 s.1).2) in
-      ap (λ x. not (is_prepared x)) f.1
-  is_not_raw i K (Submit x) h = let s = locked_of (modes i) _ h in ap (λ x. not (is_closed x)) (closed_at i s.0 s.1 s.2.0)
-  is_not_raw i K (SubmitAndWait x n) h = let s = locked_of (modes i) _ h in ap (λ x. not (is_closed x)) (closed_at i s.0 s.1 s.2.0)
-  is_not_raw i K _ h = refl
+  asked : (i : ℕ) (op : Op) → is_ring_op op ≡ true → Meets (op_premises P (bags i) (modes i) op) → InRing P (bags i) (modes i) op
+  asked i op r h = in_ring P (bags i) (modes i) op r h
 
-  break_not_raw : (i : ℕ) (releases leaves : Bool) (K : Claim) (m : Mode) → modes i ≡ m → BreakRule P (bags i) m releases leaves K → (releases && not (is_closed w.slot)) ≡ false
-  break_not_raw i false l K m e h = refl
-  break_not_raw i true l K Unlocked e h = absurd h
-  break_not_raw i true l K (Locked s) e h = ap (λ x. not (is_closed x)) (closed_at i s e h.0)
+  -- a call that wants no open entry, and one that wants a vacant one
+  wants_closed : (i : ℕ) (op : Op) (x : InRing P (bags i) (modes i) op) → same_slot x.inside.slot Closed ≡ true → not (is_closed w.slot) ≡ false
+  wants_closed i op x h = ap (λ y. not (is_closed y)) (closed_at i x.inside x.is (same_slot_is x.inside.slot Closed h))
+
+  wants_vacant : (i : ℕ) (op : Op) (x : InRing P (bags i) (modes i) op) → same_slot x.inside.slot Vacant ≡ true → not (is_vacant w.slot) ≡ false
+  wants_vacant i op x h = ap (λ y. not (is_vacant y)) (vacant_at i x.inside x.is (same_slot_is x.inside.slot Vacant h))
+
+  is_not_raw : (i : ℕ) (op : Op) → Meets (op_premises P (bags i) (modes i) op) → op_is_raw w.slot op ≡ false
+  is_not_raw i GetSqe h = let x = asked i GetSqe refl h in wants_closed i _ x (x.asked 4)
+  is_not_raw i (PrepRead fd b len off) h = let x = asked i (PrepRead fd b len off) refl h in wants_vacant i _ x (x.asked 5)
+  is_not_raw i (PrepWrite fd b len off k) h = let x = asked i (PrepWrite fd b len off k) refl h in wants_vacant i _ x (x.asked 5)
+  is_not_raw i (PrepFsync fd datasync) h = let x = asked i (PrepFsync fd datasync) refl h in wants_vacant i _ x (x.asked 5)
+  is_not_raw i PrepNop h = let x = asked i PrepNop refl h in wants_vacant i _ x (x.asked 5)
+  is_not_raw i (SetData64 u) h =
+      let x = asked i (SetData64 u) refl h in
+      let k = prepared_as (kind_of P u) x.inside.slot (x.asked 6) in
+      let f = slot_prepared w.slot k.0 (subst (λ y. SlotFits w.slot y) k.2 (ring_at i x.inside x.is).2) in
+      ap (λ y. not (is_prepared y)) f.1
+  is_not_raw i (Submit y) h = let x = asked i (Submit y) refl h in wants_closed i _ x (x.asked 4)
+  is_not_raw i (SubmitAndWait y n) h = let x = asked i (SubmitAndWait y n) refl h in wants_closed i _ x (x.asked 4)
+  is_not_raw i _ h = refl
+
+  -- what releases the lock
+  released_closed : (i : ℕ) → is_locked (modes i) ≡ true → Meets (may_release P (modes i)) → not (is_closed w.slot) ≡ false
+  released_closed i l h =
+      let s = inside_of (modes i) l in
+      let m = met 4 (may_release P (Locked s.0)) (subst (λ n. Meets (may_release P n)) s.1 h) in
+      ap (λ y. not (is_closed y)) (closed_at i s.0 s.1 (same_slot_is s.0.slot Closed m))
 
   no_raw_entry : (i : ℕ) (s : Stmt) (vars : List ℤ) (k : ℕ) → EdgeAt P S i (bags i) (modes i) vars k (Some s) → is_raw_at w.slot s ≡ false
-  no_raw_entry i (Do op) vars k h = is_not_raw i _ op h
-  no_raw_entry i (EndLock p) vars k h = let s = locked_of (modes i) _ h in ap (λ x. not (is_closed x)) (closed_at i s.0 s.1 s.2.0)
-  no_raw_entry i (Break p releases leaves) vars k h = break_not_raw i releases leaves _ (modes i) refl h
+  no_raw_entry i (Do op) vars k h = is_not_raw i op h.0
+  no_raw_entry i (EndLock p) vars k h = released_closed i h.0 h.1
+  no_raw_entry i (Break p true leaves) vars k h = released_closed i (h.0 refl) (breaks_as_released P (modes i) h.1)
   no_raw_entry i _ vars k h = refl
 
-  op_locked : (i : ℕ) (K : Claim) (op : Op) → Rule P (bags i) (modes i) op K → is_ring_op op ≡ true → is_holder w.controls.holder i ≡ true
-  op_locked i K (Set x n) h r = absurd (cc)
-  op_locked i K (Assign x y) h r = absurd (cc)
-  op_locked i K (Add x y z) h r = absurd (cc)
-  op_locked i K (Subtract x y z) h r = absurd (cc)
-  op_locked i K (Load x b j) h r = absurd (cc)
-  op_locked i K (Store b j x) h r = absurd (cc)
-  op_locked i K (Fill b x) h r = absurd (cc)
-  op_locked i K (Print x) h r = absurd (cc)
-  op_locked i K _ h r = let s = locked_of (modes i) _ h in (ring_at i s.0 s.1).0
+  lock_held : (i : ℕ) → is_locked (modes i) ≡ true → is_holder w.controls.holder i ≡ true
+  lock_held i l = let s = inside_of (modes i) l in (ring_at i s.0 s.1).0
 
   call_locked : (i : ℕ) (s : Stmt) (vars : List ℤ) (k : ℕ) → EdgeAt P S i (bags i) (modes i) vars k (Some s) → is_ring_call s ≡ true → is_holder w.controls.holder i ≡ true
-  call_locked i (Do op) vars k h r = op_locked i _ op h r
-  call_locked i (Peek x) vars k h r = let s = locked_of (modes i) _ h in (ring_at i s.0 s.1).0
-  call_locked i (If ReadyZero) vars k h r = let s = locked_of (modes i) _ h.0 in (ring_at i s.0 s.1).0
-  call_locked i (If (SpaceAtLeast n)) vars k h r = let s = locked_of (modes i) _ h.0 in (ring_at i s.0 s.1).0
+  call_locked i (Do op) vars k h r = let x = asked i op r h.0 in (ring_at i x.inside x.is).0
+  call_locked i (Peek x) vars k h r = lock_held i (asks_lock (modes i) _ h.0)
+  call_locked i (If ReadyZero) vars k h r = lock_held i (asks_lock (modes i) _ h.0)
+  call_locked i (If (SpaceAtLeast n)) vars k h r = lock_held i (asks_lock (modes i) _ h.0)
   call_locked i (If (Compare x c n)) vars k h r = absurd (cc)
   call_locked i _ vars k h r = absurd (cc)
 
@@ -281,9 +291,9 @@ module _ (w : World) (made : IsProgram w.program) (S : Stand) (edge : HasEdge w.
 
   no_ring_full : (i : ℕ) (s : Stmt) (vars : List ℤ) (k : ℕ) → EdgeAt P S i (bags i) (modes i) vars k (Some s) → is_full_at w s ≡ false
   no_ring_full i (Do GetSqe) vars k h =
-      let s = locked_of (modes i) _ h in
-      let x : length w.queued + slot_len w.slot ≤ s.0.queued = (ring_at i s.0 s.1).1 in
-      let y : s.0.queued < P.entries = s.2.1 in
+      let s = asked i GetSqe refl h.0 in
+      let x : length w.queued + slot_len w.slot ≤ s.inside.queued = (ring_at i s.inside s.is).1 in
+      let y : s.inside.queued < P.entries = ltb-true _ _ (s.asked 3) in
       lt-leb P.entries (used_entries w) (omega arith)
   no_ring_full i (Do _) vars k h = refl
   no_ring_full i _ vars k h = refl
@@ -309,9 +319,7 @@ module _ (w : World) (made : IsProgram w.program) (S : Stand) (edge : HasEdge w.
       (false_from_ne_true (list_any (has_data u) w.completed) (λ e. let x : 1 ≤ sum_over (owns P (TokenOf u)) w.completed = data_owned P u w.completed e in omega arith))
 
   no_ambiguous_data : (i : ℕ) (s : Stmt) (vars : List ℤ) (k : ℕ) → i < length w.controls.threads → EdgeAt P S i (bags i) (modes i) vars k (Some s) → is_ambiguous_at w s ≡ false
-  no_ambiguous_data i (Do (SetData64 u)) vars k lt h =
-      let s = locked_of (modes i) _ h in
-      and_right (is_prepared w.slot) (is_in_flight w u) (no_data_twice i u lt s.2.3)
+  no_ambiguous_data i (Do (SetData64 u)) vars k lt h = let s = asked i (SetData64 u) refl h.0 in and_right (is_prepared w.slot) (is_in_flight w u) (no_data_twice i u lt (leb-true 1 _ (s.asked 10)))
   no_ambiguous_data i (Do _) vars k lt h = refl
   no_ambiguous_data i _ vars k lt h = refl
 
@@ -334,32 +342,32 @@ module _ (w : World) (made : IsProgram w.program) (S : Stand) (edge : HasEdge w.
       let all : count_of u w.completed ≡ count_of u (a.0 ∷ a.1) = ap (count_of u) a.2 in
       eq-eqb (count_of u w.completed) 1 (omega arith)
 
-  front_fits : (s : Inside) (x : Peeked) (K : Claim) (i : ℕ) → Reaps P (bags i) s x K → FrontFits w.controls.peeked w.completions x → (w.controls.peeked ≡ true) × IsNonempty w.completions
-  front_fits s Unseen K i h f = absurd h
-  front_fits s (Sees u) K i h f = (f.0, some w.completions f.1)
+  front_fits : (x : Peeked) → is_seen x ≡ true → FrontFits w.controls.peeked w.completions x → (w.controls.peeked ≡ true) × IsNonempty w.completions
+  front_fits Unseen h f = absurd (cc)
+  front_fits (Sees u) h f = (f.0, some w.completions f.1)
     where
       some : (cs : List Completion) → StartsWith u cs → IsNonempty cs
       some [] h = h
       some (c ∷ cs) h = tt
-  front_fits s SeesOther K i h f = f
+  front_fits SeesOther h f = f
 
   no_unknown_reap : (i : ℕ) (s : Stmt) (vars : List ℤ) (k : ℕ) → EdgeAt P S i (bags i) (modes i) vars k (Some s) → is_unknown_at w s ≡ false
   no_unknown_reap i (Do CqeSeen) vars k h =
-      let s = locked_of (modes i) _ h in
-      let f = front_fits s.0 s.0.peeked _ i s.2 (ring_at i s.0 s.1).3 in
+      let s = asked i CqeSeen refl h.0 in
+      let f = front_fits s.inside.peeked (s.asked 11) (ring_at i s.inside s.is).3 in
       not_from_true (w.controls.peeked && front_is_one w w.completions) (and_from w.controls.peeked (front_is_one w w.completions) f.0 (front_one w.completions refl f.1))
   no_unknown_reap i (Do _) vars k h = refl
   no_unknown_reap i _ vars k h = refl
 
-  op_within : (i : ℕ) (K : Claim) (op : Op) → Rule P (bags i) (modes i) op K → op_is_out P op ≡ false
-  op_within i K (Load x b j) h = lt-leb (bytes_at P.buffers b) j h.1
-  op_within i K (Store b j x) h = lt-leb (bytes_at P.buffers b) j h.1
-  op_within i K (PrepRead fd b len off) h = let s = locked_of (modes i) _ h in not_from_true (nat_le len (bytes_at P.buffers b)) (le-leb len (bytes_at P.buffers b) s.2.2)
-  op_within i K (PrepWrite fd b len off k) h = let s = locked_of (modes i) _ h in not_from_true (nat_le len (bytes_at P.buffers b)) (le-leb len (bytes_at P.buffers b) s.2.2)
-  op_within i K _ h = refl
+  op_within : (i : ℕ) (op : Op) → Meets (op_premises P (bags i) (modes i) op) → op_is_out P op ≡ false
+  op_within i (Load x b j) h = lt-leb (bytes_at P.buffers b) j (ltb-true _ _ (met 9 (op_premises P (bags i) (modes i) (Load x b j)) h))
+  op_within i (Store b j x) h = lt-leb (bytes_at P.buffers b) j (ltb-true _ _ (met 9 (op_premises P (bags i) (modes i) (Store b j x)) h))
+  op_within i (PrepRead fd b len off) h = let s = asked i (PrepRead fd b len off) refl h in not_from_true (nat_le len (bytes_at P.buffers b)) (s.asked 9)
+  op_within i (PrepWrite fd b len off k) h = let s = asked i (PrepWrite fd b len off k) refl h in not_from_true (nat_le len (bytes_at P.buffers b)) (s.asked 9)
+  op_within i _ h = refl
 
   no_out_of_buffer : (i : ℕ) (s : Stmt) (vars : List ℤ) (k : ℕ) → EdgeAt P S i (bags i) (modes i) vars k (Some s) → is_out_at P s ≡ false
-  no_out_of_buffer i (Do op) vars k h = op_within i _ op h
+  no_out_of_buffer i (Do op) vars k h = op_within i op h.0
   no_out_of_buffer i _ vars k h = refl
 
   -- ---- all of them

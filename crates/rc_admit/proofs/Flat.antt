@@ -1,7 +1,7 @@
 -- A labelling that obeys the rules gives the edge law: a claim of how each thread of an accepted program may stand.
 use Rattle.std.proofs.Common.{◌≡◌, ℕ, ◌+◌, ◌<◌, ◌≤◌, Bool, true, false, ◌||◌, cond, List, [], ◌∷◌, ◌++◌, take, Option, Some, refl, sym, ap, ◌∙◌, subst, ◌⊎◌, inl, inr, arith}
 use Rattle.std.specs.Prelude.{nat_lt, slice_get, slice_set, ℤ}
-use Rattle.std.proofs.lemmas.Bool.{ltb-true}
+use Rattle.std.proofs.lemmas.Bool.{ltb-true, or_cases}
 use Rattle.std.proofs.lemmas.List.{get_or-take}
 use Rattle.rc_lang.specs.declared.lines.Block.{Block}
 use Rattle.rc_lang.specs.declared.lines.Block.TheVariants.{InLock, InIf, InElse, InPeek, InArm, InLoop}
@@ -29,14 +29,14 @@ use Rattle.rc_rules.specs.Labellings.{IsGood, IsGoodAt, here, label_at}
 use Rattle.rc_rules.specs.Premises.{Meets, Premise}
 use Rattle.rc_rules.specs.Rules.{asks, bag_on, broken, case_at, goes, may_break, may_loop, may_release, op_effect, op_premises, peek_at, peek_premises, test_effect, test_mode, test_premises, top_mode, with_peeked}
 use Rattle.rc_rules.specs.States.{is_locked}
-use Rattle.rc_rules.proofs.Weaker.{locked_same, peeked_grows, weaker_trans}
+use Rattle.rc_rules.proofs.Weaker.{locked_same, peeked_grows, peeked_locked, test_locked, weaker_trans}
 use Rattle.rc_split.specs.Bags.{Part, TokenOf}
 use Rattle.rc_world.specs.Controls.{arm_for, none_arm}
 use Rattle.rc_admit.proofs.FlatLooks.{arm_in, arm_is, break_in, get_take, len_take, none_is_at}
-use Rattle.rc_admit.proofs.FlatRules.{IsBelow, arm_of, below, break_of, close_of, covered, front_locked, peek_locked, rule_of, test_of, top_same, unlocked_of}
+use Rattle.rc_admit.proofs.FlatRules.{IsBelow, behind_break, behind_op, below, covered, top_same, unlocked_of}
 use Rattle.rc_admit.proofs.Lists.{Each, Each-append}
 use Rattle.rc_admit.proofs.Owned.{EdgeAt, HasEdge, Leads, MayPass, Stand}
-use Rattle.rc_admit.proofs.Rule.{Claim}
+use Rattle.rc_admit.proofs.Rule.{asks_lock}
 
 -- ---- how a thread stands
 
@@ -136,9 +136,6 @@ module _ (P : Program) (wf : IsProgram P) (i : ℕ) (thread : Thread) (labels : 
     entered : Entered lines labels k
     entered = record { variables = vars; bag = b; mode = m; label = a.label; locked = a.locked }
 
-    abbrev Reach : ℕ → Claim
-    Reach j c n = Leads (Labelled P) i c n vars j
-
     -- to a place that stands in the same blocks
     same : (c : Part → ℕ) (n : Mode) (new : List ℤ) (j : ℕ) → blocks_at lines j ≡ blocks_at lines k → is_locked n ≡ is_locked m → Weaker (label_at labels j) (Live c n) → Leads (Labelled P) i c n new j
     same c n new j e l w = lead c n new j (blocks_at lines k) e (l ∙ a.locked) a.openers w
@@ -181,7 +178,7 @@ module _ (P : Program) (wf : IsProgram P) (i : ℕ) (thread : Thread) (labels : 
     do_edge op e =
         let g = good_at k (Do op) e in
         let w = comes (Do op) (λ bag m. op_effect P bag m op) (label_at labels (k + 1)) e g.after.0 in
-        rule_of P b m op _ (label_at labels (k + 1)) (asked (Do op) (λ bag m. op_premises P bag m op) e g.meets) w (λ c n l w new may. same c n new (k + 1) (blocks_next lines k (Do op) e) l w)
+        (asked (Do op) (λ bag m. op_premises P bag m op) e g.meets, behind_op P wf b m op _ (label_at labels (k + 1)) w (λ c n l w new may. same c n new (k + 1) (blocks_next lines k (Do op) e) l w))
 
     lock_edge : stmt_at lines k ≡ Some Lock → EdgeAt P (Labelled P) i b m vars k (Some Lock)
     lock_edge e =
@@ -197,7 +194,7 @@ module _ (P : Program) (wf : IsProgram P) (i : ℕ) (thread : Thread) (labels : 
         let c = closes_lock lines laid.each k o e in
         let l : in_lock (blocks_at lines k) ≡ true = ap in_lock c.within ∙ in_lock_pushed (blocks_at lines o) (InLock o) ∙ or_true (in_lock (blocks_at lines o)) in
         let f : in_lock (blocks_at lines o) ≡ false = (nested_here lines laid.each o Lock c.stands).0 in
-        close_of P b m (Reach (k + 1)) (a.locked ∙ l) (asked (EndLock o) (λ bag m. may_release P m) e g.meets) (out b Unlocked vars (k + 1) (blocks_at lines o) (InLock o ∷ []) c.within c.behind (sym f) (comes (EndLock o) (λ bag m. Live bag Unlocked) (label_at labels (k + 1)) e g.after.0))
+        (a.locked ∙ l, asked (EndLock o) (λ bag m. may_release P m) e g.meets, out b Unlocked vars (k + 1) (blocks_at lines o) (InLock o ∷ []) c.within c.behind (sym f) (comes (EndLock o) (λ bag m. Live bag Unlocked) (label_at labels (k + 1)) e g.after.0))
 
     -- a false if
     false_edge : (test : Test) → stmt_at lines k ≡ Some (If test) → Leads (Labelled P) i b m vars (end_at P i k + 1)
@@ -214,7 +211,8 @@ module _ (P : Program) (wf : IsProgram P) (i : ℕ) (thread : Thread) (labels : 
     if_edge test e =
         let g = good_at k (If test) e in
         let w = comes (If test) (λ bag n. test_effect P bag n test) (label_at labels (k + 1)) e g.after.0 in (
-          test_of P m test (λ n. MayPass test vars true → Leads (Labelled P) i b n vars (k + 1)) (asked (If test) (λ bag n. test_premises n test) e g.meets) (λ l may. into b (test_mode P test m) vars (k + 1) (InIf k ∷ []) (blocks_next lines k (If test) e) refl (tt, tt) l w),
+          asked (If test) (λ bag n. test_premises n test) e g.meets,
+          λ may. into b (test_mode P test m) vars (k + 1) (InIf k ∷ []) (blocks_next lines k (If test) e) refl (tt, tt) (test_locked P test m) w,
           λ may. false_edge test e,
         )
 
@@ -235,7 +233,7 @@ module _ (P : Program) (wf : IsProgram P) (i : ℕ) (thread : Thread) (labels : 
 
     -- into an arm of the peek that stands here
     peek_edge : (x : ℕ) → stmt_at lines k ≡ Some (Peek x) → EdgeAt P (Labelled P) i b m vars k (Some (Peek x))
-    peek_edge x e = go m (asked (Peek x) (λ bag n. peek_premises n) e g.meets) to_arm to_none
+    peek_edge x e = (asked (Peek x) (λ bag n. peek_premises n) e g.meets, λ u v. to_arm u (slice_set vars x v), λ v. to_none (slice_set vars x v))
       where
         g : IsGoodAt P thread lines labels k (Peek x)
         g = good_at k (Peek x) e
@@ -252,7 +250,7 @@ module _ (P : Program) (wf : IsProgram P) (i : ℕ) (thread : Thread) (labels : 
         -- what leads into an arm is no stronger than what stands here
         lands : (c : ℕ) (f : Peeked) (new : List ℤ) → blocks_at lines (c + 1) ≡ blocks_at lines k ++ InPeek k ∷ InArm k ∷ [] → Weaker (label_at labels (c + 1)) (Live s.bag (with_peeked f s.mode)) → Leads (Labelled P) i b (with_peeked f m) new (c + 1)
         lands c f new n w =
-            into b (with_peeked f m) new (c + 1) (InPeek k ∷ InArm k ∷ []) n refl (entered, (tt, tt)) (front_locked f m) (weaker_trans (label_at labels (c + 1)) (Live s.bag (with_peeked f s.mode)) (Live b (with_peeked f m)) w (s.less, peeked_grows f s.mode m s.weaker))
+            into b (with_peeked f m) new (c + 1) (InPeek k ∷ InArm k ∷ []) n refl (entered, (tt, tt)) (peeked_locked f m) (weaker_trans (label_at labels (c + 1)) (Live s.bag (with_peeked f s.mode)) (Live b (with_peeked f m)) w (s.less, peeked_grows f s.mode m s.weaker))
 
         to_case : (u : ℕ) (new : List ℤ) (c : ℕ) → stmt_at lines c ≡ Some (Case k u) → (1 ≤ b (TokenOf u)) ⊎ Leads (Labelled P) i b (with_peeked (Sees u) m) new (c + 1)
         to_case u new c d =
@@ -277,13 +275,9 @@ module _ (P : Program) (wf : IsProgram P) (i : ℕ) (thread : Thread) (labels : 
           | inr d ↦ inr (inr (to_other new (arm_for P i k u) d))
         ]
 
-        go : (n : Mode) → Meets (peek_premises n) → ((u : ℕ) (new : List ℤ) → (1 ≤ b (TokenOf u)) ⊎ (Leads (Labelled P) i b (with_peeked (Sees u) n) new (arm_for P i k u + 1) ⊎ Leads (Labelled P) i b (with_peeked SeesOther n) new (arm_for P i k u + 1))) → ((new : List ℤ) → Leads (Labelled P) i b (with_peeked Unseen n) new (none_arm P i k + 1)) → EdgeAt P (Labelled P) i b n vars k (Some (Peek x))
-        go Unlocked h one none = absurd (let f : false ≡ true = h.0 in cc)
-        go (Locked t) h one none = (λ u v. one u (slice_set vars x v), λ v. none (slice_set vars x v))
-
     -- a peek that was entered was entered in a lock
     peek_inside : (o x : ℕ) → stmt_at lines o ≡ Some (Peek x) → Entered lines labels o → in_lock (blocks_at lines o) ≡ true
-    peek_inside o x e h = sym h.locked ∙ peek_locked h.mode (subst (λ s. Meets (asks s (λ bag n. peek_premises n))) (here_is o (Peek x) e ∙ h.label) (good_at o (Peek x) e).meets)
+    peek_inside o x e h = sym h.locked ∙ asks_lock h.mode _ (subst (λ s. Meets (asks s (λ bag n. peek_premises n))) (here_is o (Peek x) e ∙ h.label) (good_at o (Peek x) e).meets)
 
     arm_edge : (o : ℕ) → stmt_at lines k ≡ Some (EndArm o) → EdgeAt P (Labelled P) i b m vars k (Some (EndArm o))
     arm_edge o e =
@@ -294,7 +288,7 @@ module _ (P : Program) (wf : IsProgram P) (i : ℕ) (thread : Thread) (labels : 
         let inside : in_lock (blocks_at lines o) ≡ true = peek_inside o c.variable c.stands (opener (blocks_at lines o) (InPeek o) (InArm o ∷ []) c.within) in
         let here_inside : in_lock (blocks_at lines k) ≡ true = ap in_lock c.within ∙ in_lock_more (blocks_at lines o) (InPeek o ∷ InArm o ∷ []) ∙ or_first (in_lock (blocks_at lines o)) false inside in
         let w = arm_in (take (end_at P i o) lines) (take (end_at P i o + 1) labels) (label_at labels (end_at P i o + 1)) k o l.0 (get_take (end_at P i o) k lines l.0 lt l.1) l.2 (good_at (end_at P i o) (EndPeek o) h.stands).after in
-        arm_of b m (Reach (end_at P i o + 1)) (label_at labels (end_at P i o + 1)) (a.locked ∙ here_inside) (subst (λ s. Weaker (label_at labels (end_at P i o + 1)) (peek_at Unseen s)) (known_at (end_at P i o) (omega arith)) w) (λ n s v. out_same b n vars (end_at P i o + 1) (blocks_at lines o) (InPeek o ∷ InArm o ∷ []) c.within h.lands.blocks refl s v)
+        (a.locked ∙ here_inside, out_same b (with_peeked Unseen m) vars (end_at P i o + 1) (blocks_at lines o) (InPeek o ∷ InArm o ∷ []) c.within h.lands.blocks refl (peeked_locked Unseen m) (subst (λ s. Weaker (label_at labels (end_at P i o + 1)) (peek_at Unseen s)) (known_at (end_at P i o) (omega arith)) w))
 
     loop_edge : (n : ℕ) → stmt_at lines k ≡ Some (Loop n) → EdgeAt P (Labelled P) i b m vars k (Some (Loop n))
     loop_edge n e =
@@ -320,10 +314,12 @@ module _ (P : Program) (wf : IsProgram P) (i : ℕ) (thread : Thread) (labels : 
         let h = break_leads lines ends laid k o releases leaves e in
         let lt : k < end_at P i o = laid.linked k (Break o releases leaves) e in
         let l = line_with lines k (Break o releases leaves) e in
-        let w = break_in (take (end_at P i o) lines) (take (end_at P i o + 1) labels) (label_at labels (end_at P i o + 1)) k o releases leaves l.0 (get_take (end_at P i o) k lines l.0 lt l.1) l.2 (good_at (end_at P i o) (EndLoop o h.0) h.1.stands).after in
-        break_of P b m releases leaves (Reach (end_at P i o + 1)) (label_at labels (end_at P i o + 1)) (λ r. a.locked ∙ c.locked r) (λ r. a.locked ∙ in_peek_locked (c.peeked ∙ r)) (asked (Break o releases leaves) (λ bag n. may_break P releases n) e (good_at k (Break o releases leaves) e).meets)
-        (subst (λ s. Weaker (label_at labels (end_at P i o + 1)) (broken releases s)) (known_at (end_at P i o) (omega arith)) w)
-        (λ n s v. out b n vars (end_at P i o + 1) (blocks_at lines o) (InLoop o c.number ∷ c.inner) c.within h.1.lands.blocks (s ∙ ap (λ x. cond releases false x) a.locked ∙ sym c.lock_outside) v)
+        let w = break_in (take (end_at P i o) lines) (take (end_at P i o + 1) labels) (label_at labels (end_at P i o + 1)) k o releases leaves l.0 (get_take (end_at P i o) k lines l.0 lt l.1) l.2 (good_at (end_at P i o) (EndLoop o h.0) h.1.stands).after in (
+          λ t. elim (or_cases releases leaves t) [ inl r ↦ a.locked ∙ c.locked r | inr r ↦ a.locked ∙ in_peek_locked (c.peeked ∙ r) ],
+          asked (Break o releases leaves) (λ bag n. may_break P releases n) e (good_at k (Break o releases leaves) e).meets,
+          behind_break b m releases (λ d n. Leads (Labelled P) i d n vars (end_at P i o + 1)) (label_at labels (end_at P i o + 1)) (subst (λ s. Weaker (label_at labels (end_at P i o + 1)) (broken releases s)) (known_at (end_at P i o) (omega arith)) w)
+              (λ n s v. out b n vars (end_at P i o + 1) (blocks_at lines o) (InLoop o c.number ∷ c.inner) c.within h.1.lands.blocks (s ∙ ap (λ x. cond releases false x) a.locked ∙ sym c.lock_outside) v),
+        )
       where
         in_peek_locked : in_peek (blocks_at lines k) ≡ true → in_lock (blocks_at lines k) ≡ true
         in_peek_locked t =

@@ -1,5 +1,6 @@
 -- Statements without a block keep what is true of each world.
 use Rattle.std.proofs.Common.{◌≡◌, ℕ, ◌+◌, ◌-◌, ◌≤◌, ◌<◌, Bool, true, false, cond, List, [], ◌∷◌, ◌++◌, length, take, drop, map, Option, Some, None, refl, sym, ap, ◌∙◌, subst, inl, inr, arith, length-append, length-drop}
+use Rattle.std.proofs.lemmas.Bool.{leb-true, ltb-true}
 use Rattle.std.proofs.lemmas.List.{append-nil, append_assoc}
 use Rattle.std.specs.Prelude.{slice_get, slice_set, nat_eq, nat_lt, ℤ, if◌then◌else◌}
 use Rattle.rc_lang.specs.declared.lines.Op.{Op}
@@ -15,7 +16,9 @@ use Rattle.rc_rules.specs.declared.mode.Peeked.{Peeked}
 use Rattle.rc_rules.specs.declared.mode.Peeked.TheVariants.{Unseen, Sees, SeesOther}
 use Rattle.rc_rules.specs.declared.mode.Slot.{Slot}
 use Rattle.rc_rules.specs.declared.mode.Slot.TheVariants.{Closed, Vacant, Prepared}
-use Rattle.rc_rules.specs.Rules.{kind_bag, kind_of, line_bag, owned}
+use Rattle.rc_rules.specs.Rules.{is_seen, kind_bag, kind_of, line_bag, op_effect, op_premises, owned, reaped}
+use Rattle.rc_rules.specs.Premises.{Meets}
+use Rattle.rc_rules.proofs.Weaker.{same_slot_is}
 use Rattle.rc_split.specs.Bags.{Part, ShareOf, TokenOf, Credit, shares_bag, token_bag, credits_bag, minus, plus}
 use Rattle.rc_world.specs.declared.controls.Answer.{Answer}
 use Rattle.rc_world.specs.declared.controls.Answer.TheVariants.{Plain, Number, Byte, Front}
@@ -24,12 +27,12 @@ use Rattle.rc_world.specs.declared.event.Completion.{Completion}
 use Rattle.rc_world.specs.declared.world.Slot.{Slot as Entry}
 use Rattle.rc_world.specs.declared.world.Slot.TheVariants as entries
 use Rattle.rc_world.specs.Controls.{Controls, Move, Standing, does, goes_on, loads, low_byte, moved, reaps, variable}
-use Rattle.rc_world.specs.Faults.{is_holder}
+use Rattle.rc_world.specs.Faults.{is_holder, is_ring_op}
 use Rattle.rc_world.specs.Machine.{Pending, World, all_begin, begins, bytes_of, byte_of, count_in, fills, fits_buffer, front_of, hands_over, is_take, op_answer, op_in_rings, opens_entry, prepares, queues, reaps_front, slot_len, stores, submits_by, taken_bytes, with_bytes, without_data}
 use Rattle.rc_admit.proofs.Lists.{sum_over, sum_over-append, sum_over-cut, sum_over-map, nat_eq_cases, Each, Each-append, Each-take, Each-drop, Each-map}
 use Rattle.rc_admit.proofs.Moves.{Moved, moves, put, rung_moved, fits_parts}
-use Rattle.rc_admit.proofs.Owned.{Stand, Leads, MayBecome, HasEdge, slot_bag, owns, owns_pending, FitsKind, SlotFits, StartsWith, IsNonempty, FrontFits, Fits, HasKind, HasKindPending, data_of, data_in, Owned, WellOwned, locked_of}
-use Rattle.rc_admit.proofs.Rule.{Rule, Reaps}
+use Rattle.rc_admit.proofs.Owned.{Stand, Leads, MayBecome, HasEdge, slot_bag, owns, owns_pending, FitsKind, SlotFits, StartsWith, IsNonempty, FrontFits, Fits, HasKind, HasKindPending, data_of, data_in, Owned, WellOwned}
+use Rattle.rc_admit.proofs.Rule.{AtLive, Claim, InRing, in_ring, prepared_as}
 
 pub credit_covered : (b : Part → ℕ) → 1 ≤ b Credit → (p : Part) → credits_bag 1 p ≤ b p
 credit_covered b h (ShareOf c) = omega arith
@@ -250,10 +253,6 @@ Keeps P S c i None m = Unit {0}
 Keeps P S c i (Some v) None = Unit {0}
 Keeps P S c i (Some v) (Some m) = WellOwned P S (record v { controls = moved P c i m })
 
-keeps_no_move : (P : Program) (S : Stand) (c : Controls) (i : ℕ) (v : Option World) → Keeps P S c i v None
-keeps_no_move P S c i None = tt
-keeps_no_move P S c i (Some v) = tt
-
 module _ (P : Program) (S : Stand) (edge : HasEdge P S) (w : World) (bags : ℕ → Part → ℕ) (modes : ℕ → Mode) (i : ℕ) (t : Standing) (r : ℤ) (o : Owned P S w bags modes) (get : slice_get w.controls.threads i ≡ Some t) where
   goes : (w1 : World) (vars : List ℤ) (b : Part → ℕ) (m : Mode) → Moved P w w1 bags modes i b m → Leads S i b m vars (t.place + 1) → WellOwned P S (put P w1 i (t.place + 1) vars)
   goes w1 vars b m v l = moves P S edge w w1 bags modes i t (t.place + 1) vars b m o get v l
@@ -332,50 +331,54 @@ module _ (P : Program) (S : Stand) (edge : HasEdge P S) (w : World) (bags : ℕ 
       subst (λ cs. Keeps P S w.controls i (reaps_front w cs) (reaps w.controls t (front_of cs))) (sym ec)
       (goes _ t.variables b (Locked (record s { peeked = Unseen })) (seen P S w bags modes i o s e b d ds a.0 a.1 ec a.2 a.3 a.4 le) l)
 
-  reap_keeps : (s : Inside) (x : Peeked) → s.peeked ≡ x → modes i ≡ Locked s → Reaps P (bags i) s x (λ b m. (new : List ℤ) → new ≡ t.variables → Leads S i b m new (t.place + 1)) → Keeps P S w.controls i (reaps_front w w.completions) (reaps w.controls t (front_of w.completions))
-  reap_keeps s Unseen q e h = absurd h
-  reap_keeps s (Sees u) q e h =
+  reap_keeps : (s : Inside) (x : Peeked) → s.peeked ≡ x → modes i ≡ Locked s → is_seen x ≡ true → Leads S i (plus (bags i) (reaped P x)) (Locked (record s { peeked = Unseen })) t.variables (t.place + 1) → Keeps P S w.controls i (reaps_front w w.completions) (reaps w.controls t (front_of w.completions))
+  reap_keeps s Unseen q e h l = absurd (cc)
+  reap_keeps s (Sees u) q e h l =
       let f = subst (λ y. FrontFits w.controls.peeked w.completions y) q (has P S w bags modes i o s e).2 in
       let a = starts_head u w.completions f.1 in
-      seen_keeps s (plus (bags i) (owned P u)) a.0 a.1 e a.2 (λ p. subst (λ v. bags i p + owned P u p ≤ bags i p + owned P v p) (sym a.3) (omega arith)) (h t.variables refl)
-  reap_keeps s SeesOther q e h =
+      seen_keeps s (plus (bags i) (owned P u)) a.0 a.1 e a.2 (λ p. subst (λ v. bags i p + owned P u p ≤ bags i p + owned P v p) (sym a.3) (omega arith)) l
+  reap_keeps s SeesOther q e h l =
       let f = subst (λ y. FrontFits w.controls.peeked w.completions y) q (has P S w bags modes i o s e).2 in
       let a = nonempty_head w.completions f.1 in
-      seen_keeps s (plus (bags i) (credits_bag 1)) a.0 a.1 e a.2 (λ p. omega arith) (h t.variables refl)
+      seen_keeps s (plus (bags i) (credits_bag 1)) a.0 a.1 e a.2 (λ p. omega arith) l
 
-  pub op_keeps : (op : Op) → Rule P (bags i) (modes i) op (λ b m. (new : List ℤ) → MayBecome op t.variables new → Leads S i b m new (t.place + 1)) → Keeps P S w.controls i (op_in_rings w t r op) (does w.controls t op (op_answer w r op))
-  op_keeps (Set x n) h = quietly w.buffers _ (h _ refl)
-  op_keeps (Assign x y) h = quietly w.buffers _ (h _ (_, refl))
-  op_keeps (Add x y z) h = quietly w.buffers _ (h _ (_, refl))
-  op_keeps (Subtract x y z) h = quietly w.buffers _ (h _ (_, refl))
-  op_keeps (Load x b j) h = load_keeps x (byte_of j (bytes_of w b)) (λ v. h.2 _ (v, refl))
-  op_keeps (Store b j x) h = store_keeps b j (low_byte (variable t x)) _ (bytes_of w b) (h.2 t.variables refl)
+  -- what the rule of a statement says behind it
+  abbrev Behind : Op → Claim
+  Behind op b m = (new : List ℤ) → MayBecome op t.variables new → Leads S i b m new (t.place + 1)
+
+  -- of one that calls the ring, inside the lock
+  ring : (op : Op) → is_ring_op op ≡ true → Meets (op_premises P (bags i) (modes i) op) × AtLive (op_effect P (bags i) (modes i) op) (Behind op) → (x : InRing P (bags i) (modes i) op) × AtLive (op_effect P (bags i) (Locked x.inside) op) (Behind op)
+  ring op r h = let x = in_ring P (bags i) (modes i) op r h.0 in (x, subst (λ m. AtLive (op_effect P (bags i) m op) (Behind op)) x.is h.1)
+
+  pub op_keeps : (op : Op) → Meets (op_premises P (bags i) (modes i) op) × AtLive (op_effect P (bags i) (modes i) op) (λ b m. (new : List ℤ) → MayBecome op t.variables new → Leads S i b m new (t.place + 1)) → Keeps P S w.controls i (op_in_rings w t r op) (does w.controls t op (op_answer w r op))
+  op_keeps (Set x n) h = quietly w.buffers _ (h.1 _ refl)
+  op_keeps (Assign x y) h = quietly w.buffers _ (h.1 _ (_, refl))
+  op_keeps (Add x y z) h = quietly w.buffers _ (h.1 _ (_, refl))
+  op_keeps (Subtract x y z) h = quietly w.buffers _ (h.1 _ (_, refl))
+  op_keeps (Load x b j) h = load_keeps x (byte_of j (bytes_of w b)) (λ v. h.1 _ (v, refl))
+  op_keeps (Store b j x) h = store_keeps b j (low_byte (variable t x)) _ (bytes_of w b) (h.1 t.variables refl)
   op_keeps (Fill b x) h = fill_keeps b (low_byte (variable t x)) _ (bytes_of w b) (h.1 t.variables refl)
-  op_keeps (Print x) h = quietly w.buffers t.variables (h t.variables refl)
+  op_keeps (Print x) h = quietly w.buffers t.variables (h.1 t.variables refl)
   op_keeps GetSqe h =
-      let s = locked_of (modes i) _ h in
-      open_keeps s.0 _ w.slot s.1 s.2.0 s.2.1 s.2.2 (s.2.3 t.variables refl)
+      let s = ring GetSqe refl h in
+      let x = s.0.inside in
+      open_keeps x _ w.slot s.0.is (leb-true 1 _ (s.0.asked 2)) (ltb-true _ _ (s.0.asked 3)) (same_slot_is x.slot Closed (s.0.asked 4)) (s.1 t.variables refl)
   op_keeps (PrepRead fd b len off) h =
-      let s = locked_of (modes i) _ h in
-      prep_keeps s.0 _ (tokens.Read b) _ w.slot s.1 (refl, refl) (shares_covered (bags i) b (shares_at P.buffers b) s.2.1) s.2.0 (s.2.3 t.variables refl)
+      let s = ring (PrepRead fd b len off) refl h in
+      prep_keeps s.0.inside _ (tokens.Read b) _ w.slot s.0.is (refl, refl) (shares_covered (bags i) b (shares_at P.buffers b) (leb-true _ _ (s.0.asked 7))) (same_slot_is s.0.inside.slot Vacant (s.0.asked 5)) (s.1 t.variables refl)
   op_keeps (PrepWrite fd b len off k) h =
-      let s = locked_of (modes i) _ h in
-      prep_keeps s.0 _ (tokens.Write b k) _ w.slot s.1 (refl, refl) (shares_covered (bags i) b k s.2.1) s.2.0 (s.2.3 t.variables refl)
+      let s = ring (PrepWrite fd b len off k) refl h in
+      prep_keeps s.0.inside _ (tokens.Write b k) _ w.slot s.0.is (refl, refl) (shares_covered (bags i) b k (leb-true _ _ (s.0.asked 8))) (same_slot_is s.0.inside.slot Vacant (s.0.asked 5)) (s.1 t.variables refl)
   op_keeps (PrepFsync fd datasync) h =
-      let s = locked_of (modes i) _ h in
-      prep_keeps s.0 _ tokens.Fsync _ w.slot s.1 refl (λ p. omega arith) s.2.0 (same_bag (bags i) (Locked (record s.0 { slot = Prepared tokens.Fsync })) t.variables (minus (bags i) (kind_bag P tokens.Fsync)) (λ p. omega arith) (s.2.1 t.variables refl))
+      let s = ring (PrepFsync fd datasync) refl h in
+      prep_keeps s.0.inside _ tokens.Fsync _ w.slot s.0.is refl (λ p. omega arith) (same_slot_is s.0.inside.slot Vacant (s.0.asked 5)) (same_bag (bags i) (Locked (record s.0.inside { slot = Prepared tokens.Fsync })) t.variables (minus (bags i) (kind_bag P tokens.Fsync)) (λ p. omega arith) (s.1 t.variables refl))
   op_keeps PrepNop h =
-      let s = locked_of (modes i) _ h in
-      prep_keeps s.0 _ tokens.Nop _ w.slot s.1 refl (λ p. omega arith) s.2.0 (same_bag (bags i) (Locked (record s.0 { slot = Prepared tokens.Nop })) t.variables (minus (bags i) (kind_bag P tokens.Nop)) (λ p. omega arith) (s.2.1 t.variables refl))
+      let s = ring PrepNop refl h in
+      prep_keeps s.0.inside _ tokens.Nop _ w.slot s.0.is refl (λ p. omega arith) (same_slot_is s.0.inside.slot Vacant (s.0.asked 5)) (same_bag (bags i) (Locked (record s.0.inside { slot = Prepared tokens.Nop })) t.variables (minus (bags i) (kind_bag P tokens.Nop)) (λ p. omega arith) (s.1 t.variables refl))
   op_keeps (SetData64 u) h =
-      let s = locked_of (modes i) _ h in
-      queue_keeps s.0 _ u s.2.0 w.slot refl s.1 s.2.1 s.2.2 s.2.3 (s.2.4 t.variables refl)
-  op_keeps (Submit x) h =
-      let s = locked_of (modes i) _ h in
-      submit_keeps s.0 x _ s.1 (s.2.1 _ (_, refl))
-  op_keeps (SubmitAndWait x n) h =
-      let s = locked_of (modes i) _ h in
-      submit_keeps s.0 x _ s.1 (s.2.1 _ (_, refl))
-  op_keeps CqeSeen h =
-      let s = locked_of (modes i) _ h in
-      reap_keeps s.0 s.0.peeked refl s.1 s.2
+      let s = ring (SetData64 u) refl h in
+      let k = prepared_as (kind_of P u) s.0.inside.slot (s.0.asked 6) in
+      queue_keeps s.0.inside _ u k.0 w.slot refl s.0.is k.1 k.2 (leb-true 1 _ (s.0.asked 10)) (s.1 t.variables refl)
+  op_keeps (Submit x) h = let s = ring (Submit x) refl h in submit_keeps s.0.inside x _ s.0.is (s.1 _ (_, refl))
+  op_keeps (SubmitAndWait x n) h = let s = ring (SubmitAndWait x n) refl h in submit_keeps s.0.inside x _ s.0.is (s.1 _ (_, refl))
+  op_keeps CqeSeen h = let s = ring CqeSeen refl h in reap_keeps s.0.inside s.0.inside.peeked refl s.0.is (s.0.asked 11) (s.1 t.variables refl)

@@ -20,9 +20,11 @@ use Rattle.rc_rules.specs.declared.mode.Peeked.{Peeked}
 use Rattle.rc_rules.specs.declared.mode.Peeked.TheVariants.{Unseen, Sees, SeesOther}
 use Rattle.rc_rules.specs.declared.mode.Slot.{Slot}
 use Rattle.rc_rules.specs.declared.mode.Slot.TheVariants.{Closed, Vacant, Prepared}
-use Rattle.rc_rules.specs.Labels.{WeakerMode}
+use Rattle.rc_rules.specs.Labels.{Live, WeakerMode}
+use Rattle.rc_rules.specs.Premises.{Meets}
 use Rattle.rc_rules.proofs.Weaker.{mode_trans}
-use Rattle.rc_rules.specs.Rules.{kind_bag, kind_of, limit, owned}
+use Rattle.rc_rules.specs.Rules.{broken, kind_bag, kind_of, limit, may_break, may_release, op_effect, op_premises, owned, peek_premises, test_effect, test_premises, with_peeked}
+use Rattle.rc_rules.specs.States.{is_locked}
 use Rattle.rc_split.specs.Bags.{Part, TokenOf, bag_of, credits_bag}
 use Rattle.rc_world.specs.declared.event.Completion.{Completion}
 use Rattle.rc_world.specs.declared.world.Slot.{Slot as Entry}
@@ -31,7 +33,7 @@ use Rattle.rc_world.specs.Controls.{Standing, arm_for, ends_arm, hop_of, is_arm_
 use Rattle.rc_world.specs.Faults.{is_holder}
 use Rattle.rc_world.specs.Machine.{Pending, World, slot_len}
 use Rattle.rc_admit.proofs.Lists.{sum_to, sum_over, Each}
-use Rattle.rc_admit.proofs.Rule.{WhereLocked, Rule, TestRule, CloseRule, ArmRule, BreakRule}
+use Rattle.rc_admit.proofs.Rule.{AtLive}
 
 -- ---- claims of how a thread may stand
 
@@ -64,23 +66,25 @@ MayPass (Compare x c n) vars b = compares c (slice_index_or vars x (pos 0)) n �
 MayPass ReadyZero vars b = Unit {0}
 MayPass (SpaceAtLeast n) vars b = Unit {0}
 
--- The edge law at the line k of thread i: the state before it meets the premises of the line, and the table's state
+-- The edge law at the line k of thread i: the state before it meets the premises of the line, and the rule's state
 -- behind it leads to one in which the thread may stand.
 abbrev pub EdgeAt : Program → Stand → ℕ → (Part → ℕ) → Mode → List ℤ → ℕ → Option Stmt → Type 0
-EdgeAt P S i b m vars k (Some (Do op)) = Rule P b m op (λ b' m'. (new : List ℤ) → MayBecome op vars new → Leads S i b' m' new (k + 1))
+EdgeAt P S i b m vars k (Some (Do op)) = Meets (op_premises P b m op) × AtLive (op_effect P b m op) (λ c n. (new : List ℤ) → MayBecome op vars new → Leads S i c n new (k + 1))
 EdgeAt P S i b m vars k (Some Lock) = (m ≡ Unlocked) × Leads S i b (Locked (record { queued = P.left; slot = Closed; peeked = Unseen })) vars (k + 1)
-EdgeAt P S i b m vars k (Some (EndLock o)) = CloseRule P b m (λ b' m'. Leads S i b' m' vars (k + 1))
-EdgeAt P S i b m vars k (Some (If test)) = TestRule P m test (λ n. MayPass test vars true → Leads S i b n vars (k + 1)) × (MayPass test vars false → Leads S i b m vars (end_at P i k + 1))
+EdgeAt P S i b m vars k (Some (EndLock o)) = (is_locked m ≡ true) × Meets (may_release P m) × Leads S i b Unlocked vars (k + 1)
+EdgeAt P S i b m vars k (Some (If test)) = Meets (test_premises m test)
+    × AtLive (test_effect P b m test) (λ c n. MayPass test vars true → Leads S i c n vars (k + 1))
+    × (MayPass test vars false → Leads S i b m vars (end_at P i k + 1))
 EdgeAt P S i b m vars k (Some (Else o)) = Leads S i b m vars (end_at P i k + 1)
 EdgeAt P S i b m vars k (Some (EndIf o)) = Leads S i b m vars (k + 1)
-EdgeAt P S i b m vars k (Some (Peek x)) = WhereLocked m (λ s.
-    ((u : ℕ) (v : ℤ) → (1 ≤ b (TokenOf u)) ⊎ (Leads S i b (Locked (record s { peeked = Sees u })) (slice_set vars x v) (arm_for P i k u + 1)
-    ⊎ Leads S i b (Locked (record s { peeked = SeesOther })) (slice_set vars x v) (arm_for P i k u + 1)))
-    × ((v : ℤ) → Leads S i b (Locked (record s { peeked = Unseen })) (slice_set vars x v) (none_arm P i k + 1)))
-EdgeAt P S i b m vars k (Some (EndArm o)) = ArmRule b m (λ b' m'. Leads S i b' m' vars (end_at P i o + 1))
+EdgeAt P S i b m vars k (Some (Peek x)) = Meets (peek_premises m)
+    × ((u : ℕ) (v : ℤ) → (1 ≤ b (TokenOf u)) ⊎ (Leads S i b (with_peeked (Sees u) m) (slice_set vars x v) (arm_for P i k u + 1) ⊎ Leads S i b (with_peeked SeesOther m) (slice_set vars x v) (arm_for P i k u + 1)))
+    × ((v : ℤ) → Leads S i b (with_peeked Unseen m) (slice_set vars x v) (none_arm P i k + 1))
+EdgeAt P S i b m vars k (Some (EndArm o)) = (is_locked m ≡ true) × Leads S i b (with_peeked Unseen m) vars (end_at P i o + 1)
 EdgeAt P S i b m vars k (Some (Loop n)) = Leads S i b m vars (k + 1)
 EdgeAt P S i b m vars k (Some (EndLoop o n)) = Leads S i b m vars (o + 1)
-EdgeAt P S i b m vars k (Some (Break o releases leaves)) = BreakRule P b m releases leaves (λ b' m'. Leads S i b' m' vars (end_at P i o + 1))
+EdgeAt P S i b m vars k (Some (Break o releases leaves)) = ((releases || leaves) ≡ true → is_locked m ≡ true) × Meets (may_break P releases m)
+    × AtLive (broken releases (Live b m)) (λ c n. Leads S i c n vars (end_at P i o + 1))
 EdgeAt P S i b m vars k _ = Unit {0}
 
 abbrev pub Edge : Program → Stand → ℕ → (Part → ℕ) → Mode → List ℤ → ℕ → Type 0
@@ -185,6 +189,14 @@ abbrev pub IsUnseen : Mode → Type 0
 IsUnseen Unlocked = ⊥
 IsUnseen (Locked s) = s.peeked ≡ Unseen
 
+unseen_in : (m : Mode) → is_locked m ≡ true → IsUnseen (with_peeked Unseen m)
+unseen_in Unlocked e = absurd (cc)
+unseen_in (Locked s) e = refl
+
+unseen_below : (m : Mode) → WeakerMode (with_peeked Unseen m) m
+unseen_below Unlocked = tt
+unseen_below (Locked s) = record { queued = omega arith; slot = refl; peeked = inr refl }
+
 unseen_weaker : (n m : Mode) → WeakerMode n m → IsUnseen m → IsUnseen n
 unseen_weaker Unlocked Unlocked w u = u
 unseen_weaker Unlocked (Locked s) w u = absurd w
@@ -203,10 +215,6 @@ fits_weaker w false (Locked s) n x f = absurd f
 fits_weaker w true (Locked s) Unlocked x f = absurd x
 fits_weaker w true (Locked s) (Locked t) x f =
     (omega (arith, x.queued, f.0), subst (λ y. SlotFits w.slot y) (sym x.slot) f.1, front_weaker w.controls.peeked w.completions s.peeked t.peeked x.peeked f.2)
-
-pub locked_of : (m : Mode) (F : Inside → Type 0) → WhereLocked m F → (s : Inside) × (m ≡ Locked s) × F s
-locked_of Unlocked F h = absurd h
-locked_of (Locked s) F h = (s, refl, h)
 
 -- ---- lines that are no event
 
@@ -229,13 +237,12 @@ module _ (P : Program) (S : Stand) (i : ℕ) (vars : List ℤ) (n k : ℕ) (b : 
   settle_at (Some (Else o)) h = hops (end_at P i k + 1) h
   settle_at (Some (EndIf o)) h = hops (k + 1) h
   settle_at (Some (EndArm o)) h =
-      let x = locked_of l.mode _ h in
-      let past : Mode = Locked (record x.0 { peeked = Unseen }) in
-      let s = rest (end_at P i o + 1) l.bag past x.2 in
-      let w : WeakerMode s.leads.mode l.mode = subst (λ n. WeakerMode s.leads.mode n) (sym x.1) (mode_trans s.leads.mode past (Locked x.0) s.leads.weaker (record { queued = omega arith; slot = refl; peeked = inr refl })) in
+      let past : Mode = with_peeked Unseen l.mode in
+      let s = rest (end_at P i o + 1) l.bag past h.1 in
+      let w : WeakerMode s.leads.mode l.mode = mode_trans s.leads.mode past l.mode s.leads.weaker (unseen_below l.mode) in
       record {
         leads = record { bag = s.leads.bag; mode = s.leads.mode; less = λ p. omega (arith, s.leads.less p, l.less p); weaker = mode_trans s.leads.mode l.mode m w l.weaker; stands = s.leads.stands };
-        unseen = λ e. unseen_weaker s.leads.mode past s.leads.weaker refl;
+        unseen = λ e. unseen_weaker s.leads.mode past s.leads.weaker (unseen_in l.mode h.0);
       }
   settle_at (Some (Do op)) h = stays false refl
   settle_at (Some Lock) h = stays false refl

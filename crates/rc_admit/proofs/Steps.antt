@@ -1,5 +1,5 @@
 -- Each step of a thread keeps what is true of each world.
-use Rattle.std.proofs.Common.{◌≡◌, ℕ, ◌+◌, ◌-◌, ◌≤◌, Bool, true, false, cond, List, [], ◌∷◌, length, Option, Some, None, refl, sym, ap, ◌∙◌, subst, ◌⊎◌, inl, inr, arith}
+use Rattle.std.proofs.Common.{◌≡◌, ℕ, ◌+◌, ◌-◌, ◌≤◌, Bool, true, false, ◌||◌, cond, List, [], ◌∷◌, length, Option, Some, None, refl, sym, ap, ◌∙◌, subst, ◌⊎◌, inl, inr, arith}
 use Rattle.std.specs.Prelude.{slice_set, slice_get, slice_index_or, nat_eq, min, ℤ, pos, int_le, if◌then◌else◌}
 use Rattle.std.specs.Ordering.{int_eq}
 use Rattle.std.proofs.lemmas.Bool.{leb-true}
@@ -16,7 +16,11 @@ use Rattle.rc_rules.specs.declared.mode.Mode.TheVariants.{Unlocked, Locked}
 use Rattle.rc_rules.specs.declared.mode.Peeked.{Peeked}
 use Rattle.rc_rules.specs.declared.mode.Peeked.TheVariants.{Unseen, Sees, SeesOther}
 use Rattle.rc_rules.specs.declared.mode.Slot.TheVariants.{Closed}
-use Rattle.rc_rules.specs.Rules.{owned}
+use Rattle.rc_rules.specs.Labels.{Live}
+use Rattle.rc_rules.specs.Premises.{Meets}
+use Rattle.rc_rules.specs.Rules.{broken, may_break, may_release, owned, test_mode, test_premises, with_peeked}
+use Rattle.rc_rules.specs.States.{is_locked}
+use Rattle.rc_rules.proofs.Weaker.{same_slot_is}
 use Rattle.rc_split.specs.Bags.{Part, TokenOf, token_bag}
 use Rattle.rc_world.specs.declared.controls.Answer.TheVariants.{Plain}
 use Rattle.rc_world.specs.declared.event.Completion.{Completion}
@@ -27,8 +31,8 @@ use Rattle.rc_world.specs.Machine.{World, front_of, in_rings, slot_len, stmt_ans
 use Rattle.rc_admit.proofs.Lists.{sum_to, sum_over, sum_to_one, nat_eq_cases, get_within}
 use Rattle.rc_admit.proofs.Moves.{Moved, moves, put, rung_moved, fits_parts, fits_made, holder_one, with_lock}
 use Rattle.rc_admit.proofs.Ops.{Keeps, slot_closed, op_keeps, quiet, has, agree_head}
-use Rattle.rc_admit.proofs.Owned.{Stand, Leads, MayPass, EdgeAt, HasEdge, slot_bag, owns, unheld, SlotFits, StartsWith, IsNonempty, FrontFits, Fits, held, data_in, Owned, WellOwned, locked_of}
-use Rattle.rc_admit.proofs.Rule.{TestRule, BreakRule}
+use Rattle.rc_admit.proofs.Owned.{Stand, Leads, MayPass, EdgeAt, HasEdge, slot_bag, owns, unheld, SlotFits, StartsWith, IsNonempty, FrontFits, Fits, held, data_in, Owned, WellOwned}
+use Rattle.rc_admit.proofs.Rule.{AtLive, asks_lock, inside_of, met}
 
 pub outside_any : (w w1 : World) (h : Bool) (m : Mode) → h ≡ false → Fits w h m → Fits w1 false m
 outside_any w w1 false Unlocked e f = tt
@@ -99,6 +103,11 @@ module _ (P : Program) (S : Stand) (w : World) (bags : ℕ → Part → ℕ) (mo
         agree = o.agree;
       }
 
+-- A break that releases the lock asks for what the lock's end does.
+pub breaks_as_released : (P : Program) (m : Mode) → Meets (may_break P true m) → Meets (may_release P m)
+breaks_as_released P Unlocked h = tt
+breaks_as_released P (Locked s) h = h
+
 -- A held token and a completed request under it would be two of one.
 twice : (P : Program) (S : Stand) (w : World) (bags : ℕ → Part → ℕ) (modes : ℕ → Mode) (i : ℕ) (t : Standing) (d : Completion) (ds : List Completion) → Owned P S w bags modes → slice_get w.controls.threads i ≡ Some t → w.completions ≡ d ∷ ds → 1 ≤ bags i (TokenOf d.user_data) → ⊥
 twice P S w bags modes i t d ds o get e h =
@@ -125,41 +134,41 @@ module _ (P : Program) (S : Stand) (edge : HasEdge P S) (w : World) (bags : ℕ 
   abbrev branched : Bool → World
   branched holds = put P w i ((if holds then t.place else end_at P i t.place) + 1) t.variables
 
-  ready_keeps : (holds : Bool) → int_eq (pos (used_entries w)) (pos 0) ≡ holds → TestRule P (modes i) ReadyZero (λ m. Unit {0} → Leads S i (bags i) m t.variables (t.place + 1)) → Leads S i (bags i) (modes i) t.variables (end_at P i t.place + 1) → WellOwned P S (branched holds)
-  ready_keeps false e a b = goes _ _ _ _ _ still b
-  ready_keeps true e a b =
-      let s = locked_of (modes i) _ a in
+  ready_keeps : (holds : Bool) → int_eq (pos (used_entries w)) (pos 0) ≡ holds → Meets (test_premises (modes i) ReadyZero) → Leads S i (bags i) (test_mode P ReadyZero (modes i)) t.variables (t.place + 1) → Leads S i (bags i) (modes i) t.variables (end_at P i t.place + 1) → WellOwned P S (branched holds)
+  ready_keeps false e q a b = goes _ _ _ _ _ still b
+  ready_keeps true e q a b =
+      let s = inside_of (modes i) (asks_lock (modes i) _ q) in
       let h = has P S w bags modes i o s.0 s.1 in
       let z : pos (used_entries w) ≡ pos 0 = (Decides-int_eq (pos (used_entries w)) (pos 0)).0 e in
       let q : length w.queued + slot_len w.slot ≡ 0 = cc in
-      goes _ _ _ _ _ (knows P S w bags modes i o w.controls.peeked s.0 (record s.0 { queued = 0 }) s.1 refl (omega arith) h.2) (s.2 tt)
+      goes _ _ _ _ _ (knows P S w bags modes i o w.controls.peeked s.0 (record s.0 { queued = 0 }) s.1 refl (omega arith) h.2) (subst (λ m. Leads S i (bags i) (test_mode P ReadyZero m) t.variables (t.place + 1)) s.1 a)
 
-  space_keeps : (n : ℕ) (holds : Bool) → int_le (pos n) (pos (w.program.entries - used_entries w)) ≡ holds → TestRule P (modes i) (SpaceAtLeast n) (λ m. Unit {0} → Leads S i (bags i) m t.variables (t.place + 1)) → Leads S i (bags i) (modes i) t.variables (end_at P i t.place + 1) → WellOwned P S (branched holds)
-  space_keeps n false e a b = goes _ _ _ _ _ still b
-  space_keeps n true e a b =
-      let s = locked_of (modes i) _ a in
+  space_keeps : (n : ℕ) (holds : Bool) → int_le (pos n) (pos (w.program.entries - used_entries w)) ≡ holds → Meets (test_premises (modes i) (SpaceAtLeast n)) → Leads S i (bags i) (test_mode P (SpaceAtLeast n) (modes i)) t.variables (t.place + 1) → Leads S i (bags i) (modes i) t.variables (end_at P i t.place + 1) → WellOwned P S (branched holds)
+  space_keeps n false e q a b = goes _ _ _ _ _ still b
+  space_keeps n true e q a b =
+      let s = inside_of (modes i) (asks_lock (modes i) _ q) in
       let h = has P S w bags modes i o s.0 s.1 in
       let same : w.program.entries ≡ P.entries = ap (λ (Q : Program). Q.entries) o.of in
       let room : length w.queued + slot_len w.slot ≤ P.entries = o.room in
       let q : n ≤ w.program.entries - (length w.queued + slot_len w.slot) = leb-true n (w.program.entries - used_entries w) e in
-      goes _ _ _ _ _ (knows P S w bags modes i o w.controls.peeked s.0 (record s.0 { queued = min s.0.queued (P.entries - n) }) s.1 refl (omega (arith, h.0)) h.2) (s.2 tt)
+      goes _ _ _ _ _ (knows P S w bags modes i o w.controls.peeked s.0 (record s.0 { queued = min s.0.queued (P.entries - n) }) s.1 refl (omega (arith, h.0)) h.2) (subst (λ m. Leads S i (bags i) (test_mode P (SpaceAtLeast n) m) t.variables (t.place + 1)) s.1 a)
 
   compare_keeps : (holds : Bool) → (holds ≡ true → Leads S i (bags i) (modes i) t.variables (t.place + 1)) → (holds ≡ false → Leads S i (bags i) (modes i) t.variables (end_at P i t.place + 1)) → WellOwned P S (branched holds)
   compare_keeps true a b = goes _ _ _ _ _ still (a refl)
   compare_keeps false a b = goes _ _ _ _ _ still (b refl)
 
-  if_keeps : (test : Test) → TestRule P (modes i) test (λ m. MayPass test t.variables true → Leads S i (bags i) m t.variables (t.place + 1)) → (MayPass test t.variables false → Leads S i (bags i) (modes i) t.variables (end_at P i t.place + 1)) → Keeps P S w.controls i (Some w) (decides P w.controls i t test (test_answer w test))
-  if_keeps (Compare x c n) a b = compare_keeps (compares c (slice_index_or t.variables x (pos 0)) n) a b
-  if_keeps ReadyZero a b = ready_keeps (int_eq (pos (used_entries w)) (pos 0)) refl a (b tt)
-  if_keeps (SpaceAtLeast n) a b = space_keeps n (int_le (pos n) (pos (w.program.entries - used_entries w))) refl a (b tt)
+  if_keeps : (test : Test) → Meets (test_premises (modes i) test) → (MayPass test t.variables true → Leads S i (bags i) (test_mode P test (modes i)) t.variables (t.place + 1)) → (MayPass test t.variables false → Leads S i (bags i) (modes i) t.variables (end_at P i t.place + 1)) → Keeps P S w.controls i (Some w) (decides P w.controls i t test (test_answer w test))
+  if_keeps (Compare x c n) q a b = compare_keeps (compares c (slice_index_or t.variables x (pos 0)) n) a b
+  if_keeps ReadyZero q a b = ready_keeps (int_eq (pos (used_entries w)) (pos 0)) refl q (a tt) (b tt)
+  if_keeps (SpaceAtLeast n) q a b = space_keeps n (int_le (pos n) (pos (w.program.entries - used_entries w))) refl q (a tt) (b tt)
 
   -- an arm of a peek
-  arm_keeps : (pe : Bool) (s : Inside) (x : Peeked) (k : ℕ) (vars : List ℤ) → modes i ≡ Locked s → FrontFits pe w.completions x → Leads S i (bags i) (Locked (record s { peeked = x })) vars k → WellOwned P S (put P (with_lock w w.controls.holder pe) i k vars)
-  arm_keeps pe s x k vars e f l = goes _ _ _ _ _ (knows P S w bags modes i o pe s (record s { peeked = x }) e refl (has P S w bags modes i o s e).0 f) l
+  arm_keeps : (pe : Bool) (s : Inside) (x : Peeked) (k : ℕ) (vars : List ℤ) → modes i ≡ Locked s → FrontFits pe w.completions x → Leads S i (bags i) (with_peeked x (modes i)) vars k → WellOwned P S (put P (with_lock w w.controls.holder pe) i k vars)
+  arm_keeps pe s x k vars e f l = goes _ _ _ _ _ (knows P S w bags modes i o pe s (record s { peeked = x }) e refl (has P S w bags modes i o s e).0 f) (subst (λ m. Leads S i (bags i) (with_peeked x m) vars k) e l)
 
   peek_keeps : (cs : List Completion) (s : Inside) (x : ℕ) → w.completions ≡ cs → modes i ≡ Locked s
-      → ((u : ℕ) (v : ℤ) → (1 ≤ bags i (TokenOf u)) ⊎ (Leads S i (bags i) (Locked (record s { peeked = Sees u })) (slice_set t.variables x v) (arm_for P i t.place u + 1) ⊎ Leads S i (bags i) (Locked (record s { peeked = SeesOther })) (slice_set t.variables x v) (arm_for P i t.place u + 1)))
-      → ((v : ℤ) → Leads S i (bags i) (Locked (record s { peeked = Unseen })) (slice_set t.variables x v) (none_arm P i t.place + 1)) → Keeps P S w.controls i (Some w) (peeks P w.controls i t x (front_of cs))
+      → ((u : ℕ) (v : ℤ) → (1 ≤ bags i (TokenOf u)) ⊎ (Leads S i (bags i) (with_peeked (Sees u) (modes i)) (slice_set t.variables x v) (arm_for P i t.place u + 1) ⊎ Leads S i (bags i) (with_peeked SeesOther (modes i)) (slice_set t.variables x v) (arm_for P i t.place u + 1)))
+      → ((v : ℤ) → Leads S i (bags i) (with_peeked Unseen (modes i)) (slice_set t.variables x v) (none_arm P i t.place + 1)) → Keeps P S w.controls i (Some w) (peeks P w.controls i t x (front_of cs))
   peek_keeps [] s x ec e g h = arm_keeps w.controls.peeked s Unseen _ _ e tt (h _)
   peek_keeps (d ∷ ds) s x ec e g h = elim (g d.user_data d.res) [
     | inl k ↦ absurd (twice P S w bags modes i t d ds o get ec k)
@@ -169,12 +178,20 @@ module _ (P : Program) (S : Stand) (edge : HasEdge P S) (w : World) (bags : ℕ 
     ]
   ]
 
-  break_keeps : (m : Mode) (releases leaves : Bool) (o' : ℕ) → modes i ≡ m → BreakRule P (bags i) m releases leaves (λ b n. Leads S i b n t.variables (end_at P i o' + 1)) → Keeps P S w.controls i (Some w) (Some (breaks P w.controls i t o' releases leaves))
-  break_keeps Unlocked false false p e h = goes w _ t.variables (bags i) (modes i) still (subst (λ m. Leads S i (bags i) m t.variables (end_at P i p + 1)) (sym e) h)
-  break_keeps Unlocked false true p e h = absurd h
-  break_keeps Unlocked true l p e h = absurd h
-  break_keeps (Locked s) false l p e h = goes _ _ _ _ _ (knows P S w bags modes i o (if l then false else w.controls.peeked) s (record s { peeked = Unseen }) e refl (has P S w bags modes i o s e).0 tt) h.1
-  break_keeps (Locked s) true l p e h = goes _ _ _ _ _ (frees P S w bags modes i o (if l then false else w.controls.peeked) s e h.0 h.1) h.2
+  release_keeps : (pe : Bool) (k : ℕ) → is_locked (modes i) ≡ true → Meets (may_release P (modes i)) → Leads S i (bags i) Unlocked t.variables k → WellOwned P S (put P (with_lock w None pe) i k t.variables)
+  release_keeps pe k l h a =
+      let s = inside_of (modes i) l in
+      let m = λ (v : ℕ). met v (may_release P (Locked s.0)) (subst (λ n. Meets (may_release P n)) s.1 h) in
+      goes _ _ _ _ _ (frees P S w bags modes i o pe s.0 s.1 (same_slot_is s.0.slot Closed (m 4)) (leb-true _ _ (m 12))) a
+
+  break_keeps : (releases leaves : Bool) (p : ℕ) → ((releases || leaves) ≡ true → is_locked (modes i) ≡ true) → Meets (may_break P releases (modes i)) → AtLive (broken releases (Live (bags i) (modes i))) (λ b n. Leads S i b n t.variables (end_at P i p + 1)) → Keeps P S w.controls i (Some w) (Some (breaks P w.controls i t p releases leaves))
+  break_keeps true leaves p l h a = release_keeps (if leaves then false else w.controls.peeked) (end_at P i p + 1) (l refl) (breaks_as_released P (modes i) h) a
+  break_keeps false leaves p l h a = go (modes i) refl leaves l
+    where
+      go : (m : Mode) → modes i ≡ m → (leaves : Bool) → (leaves ≡ true → is_locked (modes i) ≡ true) → Keeps P S w.controls i (Some w) (Some (breaks P w.controls i t p false leaves))
+      go Unlocked e false l = goes w _ t.variables (bags i) (modes i) still (subst (λ m. Leads S i (bags i) m t.variables (end_at P i p + 1)) (sym e) (subst (λ m. Leads S i (bags i) (with_peeked Unseen m) t.variables (end_at P i p + 1)) e a))
+      go Unlocked e true l = absurd (let f = l refl in let g : is_locked (modes i) ≡ false = ap is_locked e in cc)
+      go (Locked s) e v l = arm_keeps (if v then false else w.controls.peeked) s Unseen _ _ e tt a
 
   pub line_keeps : (s : Stmt) → EdgeAt P S i (bags i) (modes i) t.variables t.place (Some s) → Keeps P S w.controls i (in_rings w t r s) (acts P w.controls i t s (stmt_answer w r s))
   line_keeps (Else p) h = tt
@@ -184,11 +201,11 @@ module _ (P : Program) (S : Stand) (edge : HasEdge P S) (w : World) (bags : ℕ 
   line_keeps (Nothing p) h = tt
   line_keeps (EndArm p) h = tt
   line_keeps (EndPeek p) h = tt
-  line_keeps (EndLock p) h = let s = locked_of (modes i) _ h in goes _ _ _ _ _ (frees P S w bags modes i o w.controls.peeked s.0 s.1 s.2.0 s.2.1) s.2.2
+  line_keeps (EndLock p) h = release_keeps w.controls.peeked (t.place + 1) h.0 h.1 h.2
   line_keeps (EndLoop p k) h = goes _ _ _ _ _ still h
   line_keeps (Do op) h = op_keeps P S edge w bags modes i t r o get op h
   line_keeps Lock h = lock_keeps w.controls.holder refl h.0 h.1
-  line_keeps (If test) h = if_keeps test h.0 h.1
-  line_keeps (Peek x) h = let s = locked_of (modes i) _ h in peek_keeps w.completions s.0 x refl s.1 s.2.0 s.2.1
+  line_keeps (If test) h = if_keeps test h.0 h.1 h.2
+  line_keeps (Peek x) h = let s = inside_of (modes i) (asks_lock (modes i) _ h.0) in peek_keeps w.completions s.0 x refl s.1 h.1 h.2
   line_keeps (Loop k) h = goes _ _ _ _ _ still h
-  line_keeps (Break p releases leaves) h = break_keeps (modes i) releases leaves p refl h
+  line_keeps (Break p releases leaves) h = break_keeps releases leaves p h.0 h.1 h.2

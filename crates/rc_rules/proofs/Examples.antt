@@ -2,7 +2,6 @@
 use Rattle.std.proofs.Common.{◌≡◌, ℕ, zero, suc, ◌+◌, ◌≤◌, ◌<◌, List, [], ◌∷◌, ◌++◌, map, length, Some, Result, Ok, Err, refl, sym, ap, subst, ◌∙◌, arith, lit≤, cond, nat_lt, Bool, true, false}
 use Rattle.std.specs.Prelude.{All, slice_get}
 use Rattle.rc_lang.specs.declared.lines.Op.{Op}
-use Rattle.rc_lang.specs.declared.lines.Op.TheVariants as ops
 use Rattle.rc_lang.specs.Nesting.{blocks_at}
 use Rattle.rc_lang.specs.Parts.{view_buffer, view_program, view_thread}
 use Rattle.rc_lang.specs.declared.program.Declarations.{Declarations}
@@ -12,15 +11,14 @@ use Rattle.rc_split.specs.Bags.{Part, ShareOf, TokenOf, Credit, bag_of}
 use Rattle.rc_rules.specs.declared.cause.Cause.{Cause}
 use Rattle.rc_rules.specs.declared.mode.Mode.{Mode}
 use Rattle.rc_rules.specs.declared.mode.Mode.TheVariants.{Unlocked, Locked}
-use Rattle.rc_rules.specs.declared.mode.Peeked.{Peeked}
-use Rattle.rc_rules.specs.declared.mode.Peeked.TheVariants.{Unseen, Sees, SeesOther}
+use Rattle.rc_rules.specs.declared.mode.Peeked.TheVariants.{Sees}
 use Rattle.rc_rules.specs.Labels.{Label, Dead, Live, IsStrongest, IsSame}
 use Rattle.rc_rules.specs.Premises.{Premise}
-use Rattle.rc_rules.specs.Rules.{kind_of, reaped, op_effect, goes, case_at, with_peeked, entered}
+use Rattle.rc_rules.specs.Rules.{op_effect, goes, case_at, with_peeked, entered}
 use Rattle.rc_rules.specs.States.{State, label_of, program_of, Gives, IsStart, IsUnlocked, IsLocked}
 use Rattle.rc_rules.specs.Labellings.{start_of}
 use Rattle.rc_rules.specs.Example.{share, share_thread, IsAtMost}
-use Rattle.rc_rules.proofs.Lines.{line_few, line_of, one_at_most, one_credit}
+use Rattle.rc_rules.proofs.Lines.{effect_by}
 use Rattle.rc_rules.proofs.Headers.{few_of, count_once}
 use Rattle.std.specs.List.{IsDistinct}
 use Rattle.std.specs.Str.{bytes_eq}
@@ -112,34 +110,9 @@ strongest_few n Dead t w h = tt
 strongest_few n (Live a m) Dead w h = absurd (w.strongest Dead (tt, tt))
 strongest_few n (Live a m) (Live b k) w h = λ p. omega (arith, w.weaker.0.0 p, h p)
 
-reaped_few : (P : Program) (pk : Peeked) (p : Part) → IsProgram P → reaped P pk p ≤ 18
-reaped_few P Unseen p h = omega arith
-reaped_few P (Sees u) p h = omega (arith, line_few P (kind_of P u) p h (line_of P u h), one_at_most u p, one_credit p)
-reaped_few P SeesOther p h = omega (arith, one_credit p)
-
-effect_few : (P : Program) (n : ℕ) (a : Part → ℕ) (m : Mode) (op : Op) → IsProgram P → ((p : Part) → a p ≤ n) → IsAtMost (n + 18) (op_effect P a m op)
-effect_few P n a m (ops.Load x b i) h l = λ p. omega (arith, l p)
-effect_few P n a m (ops.Store b i x) h l = λ p. omega (arith, l p)
-effect_few P n a m (ops.Fill b x) h l = λ p. omega (arith, l p)
-effect_few P n a m (ops.Set x k) h l = λ p. omega (arith, l p)
-effect_few P n a m (ops.Assign x y) h l = λ p. omega (arith, l p)
-effect_few P n a m (ops.Add x y z) h l = λ p. omega (arith, l p)
-effect_few P n a m (ops.Subtract x y z) h l = λ p. omega (arith, l p)
-effect_few P n a m (ops.Print x) h l = λ p. omega (arith, l p)
-effect_few P n a m (ops.Submit x) h l = λ p. omega (arith, l p)
-effect_few P n a m (ops.SubmitAndWait x k) h l = λ p. omega (arith, l p)
-effect_few P n a (Locked i) ops.GetSqe h l = λ p. omega (arith, l p)
-effect_few P n a (Locked i) (ops.PrepRead f b c o) h l = λ p. omega (arith, l p)
-effect_few P n a (Locked i) (ops.PrepWrite f b c o k) h l = λ p. omega (arith, l p)
-effect_few P n a (Locked i) (ops.PrepFsync f d) h l = λ p. omega (arith, l p)
-effect_few P n a (Locked i) ops.PrepNop h l = λ p. omega (arith, l p)
-effect_few P n a (Locked i) (ops.SetData64 u) h l = λ p. omega (arith, l p)
-effect_few P n a (Locked i) ops.CqeSeen h l = λ p. omega (arith, l p, reaped_few P i.peeked p h)
-effect_few P n a Unlocked _ h l = tt
-
 goes_few : (P : Program) (n : ℕ) (s : Label) (op : Op) → IsProgram P → IsAtMost n s → IsAtMost (n + 18) (goes s (λ b m. op_effect P b m op))
 goes_few P n Dead op h l = tt
-goes_few P n (Live a m) op h l = effect_few P n a m op h l
+goes_few P n (Live a m) op h l = effect_by P a m op h (IsAtMost (n + 18)) tt (λ b k e le p. omega (arith, l p, le p))
 
 -- ---- calls
 

@@ -1,16 +1,24 @@
--- What the lines of tokens name.
-use Rattle.std.proofs.Common.{◌≡◌, ℕ, ◌≤◌, Bool, true, false, cond, nat_eq, length, Option, Some, None, get_or, ltb, arith, refl, ap, subst, sym, ◌∙◌}
+-- What the lines of tokens name, and what statements leave.
+use Rattle.std.proofs.Common.{◌≡◌, ℕ, ◌+◌, ◌≤◌, Bool, true, false, cond, nat_eq, length, Option, Some, None, get_or, ltb, arith, refl, ap, subst, sym, ◌∙◌}
 use Rattle.std.specs.Prelude.{slice_get}
 use Rattle.std.proofs.lemmas.Bool.{ltb-true, ltb-false}
 use Rattle.std.proofs.lemmas.List.{get_or_past}
 use Rattle.std.proofs.lemmas.Option.{get_or_from_slice_get, slice_get_within}
+use Rattle.rc_lang.specs.declared.lines.Op.{Op}
+use Rattle.rc_lang.specs.declared.lines.Op.TheVariants as ops
 use Rattle.rc_lang.specs.declared.program.Token.{Token}
 use Rattle.rc_lang.specs.declared.program.TokenKind.{TokenKind}
 use Rattle.rc_lang.specs.declared.program.TokenKind.TheVariants.{Read, Write, Fsync, Nop}
 use Rattle.rc_lang.specs.Program.{Buffer, Program, IsProgram, IsTokenKind, no_buffer, shares_at, token_place}
 use Rattle.rc_split.specs.Bags.{Part, ShareOf, TokenOf, Credit, token_bag, credits_bag}
-use Rattle.rc_rules.specs.Rules.{kind_in, kind_at, kind_of, kind_bag, line_bag}
-use Rattle.rc_rules.specs.States.{IsLine}
+use Rattle.rc_rules.specs.declared.mode.Inside.{Inside}
+use Rattle.rc_rules.specs.declared.mode.Mode.{Mode}
+use Rattle.rc_rules.specs.declared.mode.Mode.TheVariants.{Unlocked, Locked}
+use Rattle.rc_rules.specs.declared.mode.Peeked.{Peeked}
+use Rattle.rc_rules.specs.declared.mode.Peeked.TheVariants.{Unseen, Sees, SeesOther}
+use Rattle.rc_rules.specs.Labels.{Label, Dead, Live}
+use Rattle.rc_rules.specs.Rules.{kind_in, kind_at, kind_of, kind_bag, line_bag, reaped, if_locked, op_effect}
+use Rattle.rc_rules.specs.States.{IsLine, is_locked}
 
 pub few_shares : (P : Program) (b : ℕ) → IsProgram P → shares_at P.buffers b ≤ 16
 few_shares P b h = go (ltb b (length P.buffers)) refl
@@ -74,3 +82,26 @@ one_credit Credit = omega arith
 
 pub line_is : (P Q : Program) (u : ℕ) (o : Option TokenKind) → o ≡ kind_of Q u → Q ≡ P → IsProgram P → IsLine P o
 line_is P Q u o e q h = subst (IsLine P) (sym (e ∙ ap (λ (R : Program). kind_of R u) q)) (line_of P u h)
+
+-- ---- effects
+
+pub reaped_few : (P : Program) (pk : Peeked) (p : Part) → IsProgram P → reaped P pk p ≤ 18
+reaped_few P Unseen p h = omega arith
+reaped_few P (Sees u) p h = omega (arith, line_few P (kind_of P u) p h (line_of P u h), one_at_most u p, one_credit p)
+reaped_few P SeesOther p h = omega (arith, one_credit p)
+
+by_lock : (m : Mode) (F : Inside → Label) (Q : Label → Type 0) → Q Dead → ((i : Inside) → m ≡ Locked i → Q (F i)) → Q (if_locked m F)
+by_lock Unlocked F Q d f = d
+by_lock (Locked i) F Q d f = f i refl
+
+-- What is true of a dead state, and of each with the lock held or not as before and at most 18 of a part more, is true
+-- behind a statement.
+pub effect_by : (P : Program) (a : Part → ℕ) (m : Mode) (op : Op) → IsProgram P → (Q : Label → Type 0) → Q Dead → ((b : Part → ℕ) (n : Mode) → is_locked n ≡ is_locked m → ((p : Part) → b p ≤ a p + 18) → Q (Live b n)) → Q (op_effect P a m op)
+effect_by P a m ops.GetSqe h Q d f = by_lock m _ Q d (λ i e. f _ _ (sym (ap is_locked e)) (λ p. omega arith))
+effect_by P a m (ops.PrepRead fd b len off) h Q d f = by_lock m _ Q d (λ i e. f _ _ (sym (ap is_locked e)) (λ p. omega arith))
+effect_by P a m (ops.PrepWrite fd b len off k) h Q d f = by_lock m _ Q d (λ i e. f _ _ (sym (ap is_locked e)) (λ p. omega arith))
+effect_by P a m (ops.PrepFsync fd datasync) h Q d f = by_lock m _ Q d (λ i e. f _ _ (sym (ap is_locked e)) (λ p. omega arith))
+effect_by P a m ops.PrepNop h Q d f = by_lock m _ Q d (λ i e. f _ _ (sym (ap is_locked e)) (λ p. omega arith))
+effect_by P a m (ops.SetData64 u) h Q d f = by_lock m _ Q d (λ i e. f _ _ (sym (ap is_locked e)) (λ p. omega arith))
+effect_by P a m ops.CqeSeen h Q d f = by_lock m _ Q d (λ i e. f _ _ (sym (ap is_locked e)) (λ p. omega (arith, reaped_few P i.peeked p h)))
+effect_by P a m _ h Q d f = f a m refl (λ p. omega arith)

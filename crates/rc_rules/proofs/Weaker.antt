@@ -1,8 +1,11 @@
 -- Labels that say less than others or the same, and what tests of slots tell.
 use Rattle.std.proofs.Common.{◌≡◌, ℕ, ◌+◌, ◌⊎◌, inl, inr, Bool, true, false, List, [], ◌∷◌, drop, nat_eq, suc, refl, sym, ap, subst, ◌∙◌, arith}
 use Rattle.std.proofs.lemmas.Bool.{and_parts, eqb-true}
+use Rattle.rc_lang.specs.declared.lines.Test.{Test}
+use Rattle.rc_lang.specs.declared.lines.Test.TheVariants.{Compare, ReadyZero, SpaceAtLeast}
 use Rattle.rc_lang.specs.declared.program.TokenKind.{TokenKind}
 use Rattle.rc_lang.specs.declared.program.TokenKind.TheVariants.{Read, Write, Fsync, Nop}
+use Rattle.rc_lang.specs.Program.{Program}
 use Rattle.rc_rules.specs.declared.mode.Mode.{Mode}
 use Rattle.rc_rules.specs.declared.mode.Mode.TheVariants.{Unlocked, Locked}
 use Rattle.rc_rules.specs.declared.mode.Peeked.{Peeked}
@@ -12,7 +15,7 @@ use Rattle.rc_rules.specs.declared.mode.Slot.TheVariants.{Closed, Vacant, Prepar
 use Rattle.rc_rules.specs.Labels.{Label, Dead, Live, Weaker, WeakerMode, IsStrongest, IsSame}
 use Rattle.rc_rules.specs.Labellings.{label_at}
 use Rattle.rc_rules.specs.Premises.{Premise, Meets, MeetsBelow, FailsFirst}
-use Rattle.rc_rules.specs.Rules.{same_kind, same_slot, with_peeked}
+use Rattle.rc_rules.specs.Rules.{same_kind, same_slot, test_mode, with_peeked}
 use Rattle.rc_rules.specs.States.{is_locked}
 
 -- ---- modes
@@ -38,6 +41,17 @@ locked_same Unlocked Unlocked w = refl
 locked_same Unlocked (Locked j) w = absurd w
 locked_same (Locked i) Unlocked w = absurd w
 locked_same (Locked i) (Locked j) w = refl
+
+pub peeked_locked : (p : Peeked) (m : Mode) → is_locked (with_peeked p m) ≡ is_locked m
+peeked_locked p Unlocked = refl
+peeked_locked p (Locked i) = refl
+
+pub test_locked : (P : Program) (test : Test) (m : Mode) → is_locked (test_mode P test m) ≡ is_locked m
+test_locked P (Compare x c n) m = refl
+test_locked P ReadyZero Unlocked = refl
+test_locked P ReadyZero (Locked i) = refl
+test_locked P (SpaceAtLeast n) Unlocked = refl
+test_locked P (SpaceAtLeast n) (Locked i) = refl
 
 -- ---- labels
 

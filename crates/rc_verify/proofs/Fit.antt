@@ -1,24 +1,22 @@
 -- Which labels fit a place in a lock or not, and how many of each part are held there.
 use Rattle.std.proofs.Common.{◌≡◌, ℕ, ◌+◌, ◌^◌, ◌≤◌, Bool, true, false, cond, nat_lt, List, [], ◌∷◌, refl, sym, ap, subst, ◌∙◌, ◌⊎◌, inl, inr, arith}
 use Rattle.rc_lang.specs.declared.lines.Op.{Op}
-use Rattle.rc_lang.specs.declared.lines.Op.TheVariants as ops
 use Rattle.rc_lang.specs.declared.lines.Test.{Test}
-use Rattle.rc_lang.specs.declared.lines.Test.TheVariants.{Compare, ReadyZero, SpaceAtLeast}
 use Rattle.rc_lang.specs.Program.{Program, Items, Thread, IsProgram, IsItems}
 use Rattle.rc_split.specs.Bags.{Part, ShareOf, TokenOf, Credit, bag_of}
 use Rattle.rc_rules.specs.declared.mode.Mode.{Mode}
 use Rattle.rc_rules.specs.declared.mode.Mode.TheVariants.{Unlocked, Locked}
 use Rattle.rc_rules.specs.declared.mode.Peeked.{Peeked}
-use Rattle.rc_rules.specs.declared.mode.Peeked.TheVariants.{Unseen, Sees, SeesOther}
+use Rattle.rc_rules.specs.declared.mode.Peeked.TheVariants.{Unseen, Sees}
 use Rattle.rc_rules.specs.declared.mode.Slot.TheVariants.{Closed}
 use Rattle.rc_rules.specs.Labels.{Label, Dead, Live, Weaker, WeakerMode, WeakerThanEach, IsStrongest, IsSame}
 use Rattle.rc_rules.specs.Labellings.{start_of}
-use Rattle.rc_rules.specs.Rules.{kind_of, same_slot, op_effect, reaped, goes, entered, released, test_effect, with_peeked, peek_at, case_at, top, broken, asks, may_break, agree}
+use Rattle.rc_rules.specs.Rules.{same_slot, op_effect, goes, entered, released, test_effect, with_peeked, peek_at, case_at, top, broken, asks, may_break, agree}
 use Rattle.rc_rules.specs.Premises.{Meets}
 use Rattle.rc_rules.specs.States.{is_locked, IsLocked, IsUnlocked, AgreeOnLock, IsSmall}
 use Rattle.rc_rules.proofs.Headers.{few_of, once}
-use Rattle.rc_rules.proofs.Weaker.{locked_same, same_slot_is}
-use Rattle.rc_rules.proofs.Lines.{line_few, line_of, one_at_most, one_credit}
+use Rattle.rc_rules.proofs.Weaker.{locked_same, peeked_locked, same_slot_is, test_locked}
+use Rattle.rc_rules.proofs.Lines.{effect_by}
 use Rattle.rc_verify.specs.Walk.{Fits, IsClosed}
 
 -- ---- the strongest label is like those that lead to it
@@ -88,34 +86,9 @@ fits_small b n (Live a m) l h = λ p. omega (arith, l, h.1 p)
 
 -- ---- effects
 
-reaped_few : (P : Program) (pk : Peeked) (p : Part) → IsProgram P → reaped P pk p ≤ 18
-reaped_few P Unseen p h = omega arith
-reaped_few P (Sees u) p h = omega (arith, line_few P (kind_of P u) p h (line_of P u h), one_at_most u p, one_credit p)
-reaped_few P SeesOther p h = omega (arith, one_credit p)
-
-effect_fits : (P : Program) (b : Bool) (n : ℕ) (a : Part → ℕ) (m : Mode) (op : Op) → IsProgram P → is_locked m ≡ b → ((p : Part) → a p ≤ n) → Fits b (n + 18) (op_effect P a m op)
-effect_fits P b n a m (ops.Load x d i) h e l = (e, λ p. omega (arith, l p))
-effect_fits P b n a m (ops.Store d i x) h e l = (e, λ p. omega (arith, l p))
-effect_fits P b n a m (ops.Fill d x) h e l = (e, λ p. omega (arith, l p))
-effect_fits P b n a m (ops.Set x k) h e l = (e, λ p. omega (arith, l p))
-effect_fits P b n a m (ops.Assign x y) h e l = (e, λ p. omega (arith, l p))
-effect_fits P b n a m (ops.Add x y z) h e l = (e, λ p. omega (arith, l p))
-effect_fits P b n a m (ops.Subtract x y z) h e l = (e, λ p. omega (arith, l p))
-effect_fits P b n a m (ops.Print x) h e l = (e, λ p. omega (arith, l p))
-effect_fits P b n a m (ops.Submit x) h e l = (e, λ p. omega (arith, l p))
-effect_fits P b n a m (ops.SubmitAndWait x k) h e l = (e, λ p. omega (arith, l p))
-effect_fits P b n a (Locked i) ops.GetSqe h e l = (e, λ p. omega (arith, l p))
-effect_fits P b n a (Locked i) (ops.PrepRead f d c o) h e l = (e, λ p. omega (arith, l p))
-effect_fits P b n a (Locked i) (ops.PrepWrite f d c o k) h e l = (e, λ p. omega (arith, l p))
-effect_fits P b n a (Locked i) (ops.PrepFsync f d) h e l = (e, λ p. omega (arith, l p))
-effect_fits P b n a (Locked i) ops.PrepNop h e l = (e, λ p. omega (arith, l p))
-effect_fits P b n a (Locked i) (ops.SetData64 u) h e l = (e, λ p. omega (arith, l p))
-effect_fits P b n a (Locked i) ops.CqeSeen h e l = (e, λ p. omega (arith, l p, reaped_few P i.peeked p h))
-effect_fits P b n a Unlocked _ h e l = tt
-
 pub op_fits : (P : Program) (b : Bool) (n : ℕ) (s : Label) (op : Op) → IsProgram P → Fits b n s → Fits b (n + 18) (goes s (λ bag m. op_effect P bag m op))
 op_fits P b n Dead op h f = tt
-op_fits P b n (Live a m) op h f = effect_fits P b n a m op h f.0 f.1
+op_fits P b n (Live a m) op h f = effect_by P a m op h (Fits b (n + 18)) tt (λ c k e l. (e ∙ f.0, λ p. omega (arith, f.1 p, l p)))
 
 pub entered_fits : (P : Program) (b : Bool) (n : ℕ) (s : Label) → Fits b n s → Fits true n (entered P s)
 entered_fits P b n Dead f = tt
@@ -127,16 +100,11 @@ released_fits b n (Live a m) f = (refl, f.1)
 
 pub test_fits : (P : Program) (test : Test) (b : Bool) (n : ℕ) (s : Label) → Fits b n s → Fits b n (goes s (λ bag m. test_effect P bag m test))
 test_fits P test b n Dead f = tt
-test_fits P (Compare x c k) b n (Live a m) f = f
-test_fits P ReadyZero b n (Live a Unlocked) f = f
-test_fits P ReadyZero b n (Live a (Locked i)) f = f
-test_fits P (SpaceAtLeast k) b n (Live a Unlocked) f = f
-test_fits P (SpaceAtLeast k) b n (Live a (Locked i)) f = f
+test_fits P test b n (Live a m) f = (test_locked P test m ∙ f.0, f.1)
 
 pub peek_fits : (pk : Peeked) (b : Bool) (n : ℕ) (s : Label) → Fits b n s → Fits b n (peek_at pk s)
 peek_fits pk b n Dead f = tt
-peek_fits pk b n (Live a Unlocked) f = f
-peek_fits pk b n (Live a (Locked i)) f = f
+peek_fits pk b n (Live a m) f = (peeked_locked pk m ∙ f.0, f.1)
 
 pub case_fits : (u : ℕ) (b : Bool) (n : ℕ) (s : Label) → Fits b n s → Fits b n (case_at u s)
 case_fits u b n Dead f = tt
