@@ -99,13 +99,6 @@ sum_over-without f k xs r e =
 pub sum_over_one : {A : Type 0} (f : A → ℕ) (k : ℕ) (xs : List A) (r : A) → slice_get xs k ≡ Some r → f r ≤ sum_over f xs
 sum_over_one f k xs r e = let h : sum_over f (without k xs) + f r ≡ sum_over f xs = sum_over-without f k xs r e in omega arith
 
-pub sum_over_two : {A : Type 0} (f : A → ℕ) (j k : ℕ) (xs : List A) (r s : A) → (j ≡ k → ⊥) → slice_get xs j ≡ Some r → slice_get xs k ≡ Some s → f r + f s ≤ sum_over f xs
-sum_over_two f j k [] r s ne d e = absurd (cc)
-sum_over_two f zero zero (x ∷ xs) r s ne d e = absurd (ne refl)
-sum_over_two f zero (suc k) (x ∷ xs) r s ne d e = let h : f x ≡ f r = cc in let i : f s ≤ sum_over f xs = sum_over_one f k xs s e in omega arith
-sum_over_two f (suc j) zero (x ∷ xs) r s ne d e = let h : f x ≡ f s = cc in let i : f r ≤ sum_over f xs = sum_over_one f j xs r d in omega arith
-sum_over_two f (suc j) (suc k) (x ∷ xs) r s ne d e = let h : f r + f s ≤ sum_over f xs = sum_over_two f j k xs r s (λ q. ne (ap suc q)) d e in omega arith
-
 -- P of each
 abbrev pub Each : {A : Type 0} → (A → Type 0) → List A → Type 0
 Each P [] = Unit {0}

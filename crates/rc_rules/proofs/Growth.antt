@@ -19,7 +19,7 @@ use Rattle.rc_rules.specs.declared.mode.Slot.{Slot}
 use Rattle.rc_rules.specs.declared.mode.Slot.TheVariants.{Closed, Vacant}
 use Rattle.rc_rules.specs.Labels.{Label, Dead, Live, Weaker, WeakerMode, WeakerInside}
 use Rattle.rc_rules.specs.Premises.{Premise, IsMet, Meets, MeetsBelow}
-use Rattle.rc_rules.specs.Rules.{kind_of, same_slot, has_kind, is_prepared_as, is_seen, op_premises, op_effect, reaped, asks, goes, entered, may_release, released, test_premises, test_effect, peek_premises, with_peeked, peek_at, case_at, agree_modes, agree, agree_each, agree_all, may_join, queue_on, keeps_queue, may_loop, top_mode, top, may_break, broken}
+use Rattle.rc_rules.specs.Rules.{kind_of, same_slot, has_kind, is_prepared_as, is_seen, locked, if_locked, op_premises, op_effect, reaped, asks, goes, entered, may_release, released, test_premises, test_effect, peek_premises, with_peeked, peek_at, case_at, agree_modes, agree, agree_each, agree_all, may_join, queue_on, keeps_queue, may_loop, top_mode, top, may_break, broken}
 use Rattle.rc_rules.specs.Labellings.{label_at, here, skipped, arm_end, arm_ends, break_end, break_ends, befores, premises}
 use Rattle.rc_rules.specs.Laws.{EachWeaker, IsStronger, GrowsAt}
 use Rattle.rc_rules.proofs.Weaker.{mode_refl, peeked_grows, label_drop}
@@ -31,10 +31,6 @@ abbrev Less : List (ℕ × Premise) → List (ℕ × Premise) → Type 0
 Less ps [] = Unit {0}
 Less [] (q ∷ qs) = ⊥
 Less (p ∷ ps) (q ∷ qs) = (p.0 ≡ q.0) × (IsMet p.1 → IsMet q.1) × Less ps qs
-
-less_refl : (ps : List (ℕ × Premise)) → Less ps ps
-less_refl [] = tt
-less_refl (p ∷ ps) = (refl, λ h. h, less_refl ps)
 
 less_meets : (ps qs : List (ℕ × Premise)) → Less ps qs → Meets ps → Meets qs
 less_meets ps [] l h = tt
@@ -80,27 +76,33 @@ slot_of i j x v e = subst (λ y. same_slot y x ≡ true) v.slot e
 seen : (p q : Peeked) → (p ≡ q) ⊎ (p ≡ Unseen) → is_seen p ≡ true → is_seen q ≡ true
 seen p q d e = elim d [ inl h ↦ subst (λ y. is_seen y ≡ true) h e | inr h ↦ absurd (let x : is_seen p ≡ false = ap is_seen h in cc) ]
 
+-- what is asked of the lock first, and what is left in it
+locked_less : (F G : Inside → List (ℕ × Premise)) (m n : Mode) → ((i j : Inside) → WeakerInside i j → Less (F i) (G j)) → WeakerMode m n → Less (locked m F) (locked n G)
+locked_less F G Unlocked Unlocked h v = (refl, λ e. e, tt)
+locked_less F G (Locked i) (Locked j) h v = h i j v
+locked_less F G Unlocked (Locked j) h v = absurd v
+locked_less F G (Locked i) Unlocked h v = absurd v
+
+locked_grows : (A : Inside → List (ℕ × Premise)) (F G : Inside → Label) (m n : Mode) → Meets (locked m A) → ((i j : Inside) → Meets (A i) → WeakerInside i j → Weaker (F i) (G j)) → WeakerMode m n → Weaker (if_locked m F) (if_locked n G)
+locked_grows A F G Unlocked Unlocked h g v = tt
+locked_grows A F G (Locked i) (Locked j) h g v = g i j h v
+locked_grows A F G Unlocked (Locked j) h g v = absurd v
+locked_grows A F G (Locked i) Unlocked h g v = absurd v
+
 asks_less : (P : Program) (op : Op) → AsksLess (λ b m. op_premises P b m op)
 asks_less P (ops.Load x d i) b c m n w v = (refl, more 1 (b (ShareOf d)) (c (ShareOf d)) (w (ShareOf d)), (refl, λ h. h, tt))
 asks_less P (ops.Store d i x) b c m n w v = (refl, more _ (b (ShareOf d)) (c (ShareOf d)) (w (ShareOf d)), (refl, λ h. h, tt))
 asks_less P (ops.Fill d x) b c m n w v = (refl, more _ (b (ShareOf d)) (c (ShareOf d)) (w (ShareOf d)), tt)
-asks_less P (ops.Set x k) b c m n w v = tt
-asks_less P (ops.Assign x y) b c m n w v = tt
-asks_less P (ops.Add x y z) b c m n w v = tt
-asks_less P (ops.Subtract x y z) b c m n w v = tt
-asks_less P (ops.Print x) b c m n w v = tt
-asks_less P ops.GetSqe b c (Locked i) (Locked j) w v = (refl, more 1 (b Credit) (c Credit) (w Credit), (refl, fewer j.queued i.queued P.entries v.queued, (refl, slot_of i j Closed v, tt)))
-asks_less P (ops.PrepRead f d l o) b c (Locked i) (Locked j) w v = (refl, slot_of i j Vacant v, (refl, more _ (b (ShareOf d)) (c (ShareOf d)) (w (ShareOf d)), (refl, λ h. h, tt)))
-asks_less P (ops.PrepWrite f d l o k) b c (Locked i) (Locked j) w v = (refl, slot_of i j Vacant v, (refl, more k (b (ShareOf d)) (c (ShareOf d)) (w (ShareOf d)), (refl, λ h. h, tt)))
-asks_less P (ops.PrepFsync f d) b c (Locked i) (Locked j) w v = (refl, slot_of i j Vacant v, tt)
-asks_less P ops.PrepNop b c (Locked i) (Locked j) w v = (refl, slot_of i j Vacant v, tt)
-asks_less P (ops.SetData64 u) b c (Locked i) (Locked j) w v = (refl, subst (λ y. has_kind y ≡ true) v.slot, (refl, subst (λ y. is_prepared_as (kind_of P u) y ≡ true) v.slot, (refl, more 1 (b (TokenOf u)) (c (TokenOf u)) (w (TokenOf u)), tt)))
-asks_less P (ops.Submit x) b c (Locked i) (Locked j) w v = (refl, slot_of i j Closed v, tt)
-asks_less P (ops.SubmitAndWait x k) b c (Locked i) (Locked j) w v = (refl, slot_of i j Closed v, tt)
-asks_less P ops.CqeSeen b c (Locked i) (Locked j) w v = (refl, seen i.peeked j.peeked v.peeked, tt)
-asks_less P _ b c Unlocked Unlocked w v = (refl, λ h. h, tt)
-asks_less P _ b c Unlocked (Locked j) w v = absurd v
-asks_less P _ b c (Locked i) Unlocked w v = absurd v
+asks_less P ops.GetSqe b c m n w v = locked_less _ _ m n (λ i j v. (refl, more 1 (b Credit) (c Credit) (w Credit), (refl, fewer j.queued i.queued P.entries v.queued, (refl, slot_of i j Closed v, tt)))) v
+asks_less P (ops.PrepRead f d l o) b c m n w v = locked_less _ _ m n (λ i j v. (refl, slot_of i j Vacant v, (refl, more _ (b (ShareOf d)) (c (ShareOf d)) (w (ShareOf d)), (refl, λ h. h, tt)))) v
+asks_less P (ops.PrepWrite f d l o k) b c m n w v = locked_less _ _ m n (λ i j v. (refl, slot_of i j Vacant v, (refl, more k (b (ShareOf d)) (c (ShareOf d)) (w (ShareOf d)), (refl, λ h. h, tt)))) v
+asks_less P (ops.PrepFsync f d) b c m n w v = locked_less _ _ m n (λ i j v. (refl, slot_of i j Vacant v, tt)) v
+asks_less P ops.PrepNop b c m n w v = locked_less _ _ m n (λ i j v. (refl, slot_of i j Vacant v, tt)) v
+asks_less P (ops.SetData64 u) b c m n w v = locked_less _ _ m n (λ i j v. (refl, subst (λ y. has_kind y ≡ true) v.slot, (refl, subst (λ y. is_prepared_as (kind_of P u) y ≡ true) v.slot, (refl, more 1 (b (TokenOf u)) (c (TokenOf u)) (w (TokenOf u)), tt)))) v
+asks_less P (ops.Submit x) b c m n w v = locked_less _ _ m n (λ i j v. (refl, slot_of i j Closed v, tt)) v
+asks_less P (ops.SubmitAndWait x k) b c m n w v = locked_less _ _ m n (λ i j v. (refl, slot_of i j Closed v, tt)) v
+asks_less P ops.CqeSeen b c m n w v = locked_less _ _ m n (λ i j v. (refl, seen i.peeked j.peeked v.peeked, tt)) v
+asks_less P _ b c m n w v = tt
 
 unchanged : (b c : Part → ℕ) (i j : Inside) (s : Slot) → IsWithin b c → WeakerInside i j → Weaker (Live b (Locked (record i { slot = s }))) (Live c (Locked (record j { slot = s })))
 unchanged b c i j s w v = (w, record { queued = v.queued; slot = refl; peeked = v.peeked })
@@ -109,31 +111,16 @@ reaps_more : (P : Program) (p q : Peeked) → (p ≡ q) ⊎ (p ≡ Unseen) → i
 reaps_more P p q d e x = elim d [ inl h ↦ subst (λ y. reaped P p x ≤ reaped P y x) h (omega arith) | inr h ↦ absurd (let g : is_seen p ≡ false = ap is_seen h in cc) ]
 
 grows : (P : Program) (op : Op) → Grows (λ b m. op_premises P b m op) (λ b m. op_effect P b m op)
-grows P ops.GetSqe b c (Locked i) (Locked j) w v h = (λ p. omega (arith, w p), record { queued = omega (arith, v.queued); slot = refl; peeked = v.peeked })
-grows P (ops.PrepRead f d l o) b c (Locked i) (Locked j) w v h = unchanged _ _ i j _ (λ p. omega (arith, w p)) v
-grows P (ops.PrepWrite f d l o k) b c (Locked i) (Locked j) w v h = unchanged _ _ i j _ (λ p. omega (arith, w p)) v
-grows P (ops.PrepFsync f d) b c (Locked i) (Locked j) w v h = unchanged b c i j _ w v
-grows P ops.PrepNop b c (Locked i) (Locked j) w v h = unchanged b c i j _ w v
-grows P (ops.SetData64 u) b c (Locked i) (Locked j) w v h = unchanged _ _ i j _ (λ p. omega (arith, w p)) v
-grows P ops.CqeSeen b c (Locked i) (Locked j) w v h = (λ p. omega (arith, w p, reaps_more P i.peeked j.peeked v.peeked h.0 p), record { queued = v.queued; slot = v.slot; peeked = inl refl })
-grows P (ops.Submit x) b c m n w v h = (w, v)
-grows P (ops.SubmitAndWait x k) b c m n w v h = (w, v)
-grows P (ops.Load x d i) b c m n w v h = (w, v)
-grows P (ops.Store d i x) b c m n w v h = (w, v)
-grows P (ops.Fill d x) b c m n w v h = (w, v)
-grows P (ops.Set x k) b c m n w v h = (w, v)
-grows P (ops.Assign x y) b c m n w v h = (w, v)
-grows P (ops.Add x y z) b c m n w v h = (w, v)
-grows P (ops.Subtract x y z) b c m n w v h = (w, v)
-grows P (ops.Print x) b c m n w v h = (w, v)
-grows P _ b c Unlocked Unlocked w v h = tt
-grows P _ b c Unlocked (Locked j) w v h = absurd v
-grows P _ b c (Locked i) Unlocked w v h = absurd v
+grows P ops.GetSqe b c m n w v h = locked_grows _ _ _ m n h (λ i j a v. (λ p. omega (arith, w p), record { queued = omega (arith, v.queued); slot = refl; peeked = v.peeked })) v
+grows P (ops.PrepRead f d l o) b c m n w v h = locked_grows _ _ _ m n h (λ i j a v. unchanged _ _ i j _ (λ p. omega (arith, w p)) v) v
+grows P (ops.PrepWrite f d l o k) b c m n w v h = locked_grows _ _ _ m n h (λ i j a v. unchanged _ _ i j _ (λ p. omega (arith, w p)) v) v
+grows P (ops.PrepFsync f d) b c m n w v h = locked_grows _ _ _ m n h (λ i j a v. unchanged b c i j _ w v) v
+grows P ops.PrepNop b c m n w v h = locked_grows _ _ _ m n h (λ i j a v. unchanged b c i j _ w v) v
+grows P (ops.SetData64 u) b c m n w v h = locked_grows _ _ _ m n h (λ i j a v. unchanged _ _ i j _ (λ p. omega (arith, w p)) v) v
+grows P ops.CqeSeen b c m n w v h = locked_grows _ _ _ m n h (λ i j a v. (λ p. omega (arith, w p, reaps_more P i.peeked j.peeked v.peeked a.0 p), record { queued = v.queued; slot = v.slot; peeked = inl refl })) v
+grows P _ b c m n w v h = (w, v)
 
 -- ---- blocks
-
-nothing_asked : AsksLess (λ b m. [])
-nothing_asked b c m n w v = tt
 
 no_asks : (s : Label) → Meets (asks s (λ b m. []))
 no_asks Dead = tt
@@ -144,10 +131,7 @@ plain_grow : (E : (Part → ℕ) → Mode → Label) → Grows (λ b m. []) E �
 plain_grow E g s t w = goes_grow (λ b m. []) E g s t w (no_asks s)
 
 peek_less : AsksLess (λ b m. peek_premises m)
-peek_less b c Unlocked Unlocked w v = (refl, λ h. h, tt)
-peek_less b c (Locked i) (Locked j) w v = tt
-peek_less b c Unlocked (Locked j) w v = absurd v
-peek_less b c (Locked i) Unlocked w v = absurd v
+peek_less b c m n w v = locked_less _ _ m n (λ i j v. tt) v
 
 test_less : (test : Test) → AsksLess (λ b m. test_premises m test)
 test_less (Compare x k n) b d m o w v = tt

@@ -13,7 +13,7 @@ use Rattle.rc_rules.specs.declared.mode.Peeked.{Peeked}
 use Rattle.rc_rules.specs.declared.mode.Peeked.TheVariants.{Unseen, Sees, SeesOther}
 use Rattle.rc_rules.specs.Labels.{Label, Dead, Live, IsStrongest, IsSame}
 use Rattle.rc_rules.specs.Premises.{Meets}
-use Rattle.rc_rules.specs.Rules.{kind_bag, op_premises, op_effect, asks, goes}
+use Rattle.rc_rules.specs.Rules.{kind_bag, if_locked, op_premises, op_effect, asks, goes}
 use Rattle.rc_rules.proofs.Weaker.{strongest}
 use Rattle.rc_rules.specs.States.{State, label_of, label_in, program_of, IsFree, IsFreeIn, IsFreeFor, IsSmall, Gives}
 
@@ -24,31 +24,19 @@ fewer_free P a b Unseen l f = tt
 fewer_free P a b (Sees u) l f = (f.0, omega (arith, l u, f.1))
 fewer_free P a b SeesOther l f = tt
 
+free_in : (P : Program) (a : Part → ℕ) (m : Mode) (F : Inside → Label) → IsFreeIn P a m → ((i : Inside) → IsFreeFor P a i.peeked → IsFree P (F i)) → IsFree P (if_locked m F)
+free_in P a Unlocked F f h = tt
+free_in P a (Locked i) F f h = h i f
+
 pub effect_free : (P : Program) (a : Part → ℕ) (m : Mode) (op : Op) → IsFreeIn P a m → IsFree P (op_effect P a m op)
-effect_free P a m (ops.Load x b i) f = f
-effect_free P a m (ops.Store b i x) f = f
-effect_free P a m (ops.Fill b x) f = f
-effect_free P a m (ops.Set x n) f = f
-effect_free P a m (ops.Assign x y) f = f
-effect_free P a m (ops.Add x y z) f = f
-effect_free P a m (ops.Subtract x y z) f = f
-effect_free P a m (ops.Print x) f = f
-effect_free P a m (ops.Submit x) f = f
-effect_free P a m (ops.SubmitAndWait x n) f = f
-effect_free P a Unlocked ops.GetSqe f = tt
-effect_free P a Unlocked (ops.PrepRead fd b len off) f = tt
-effect_free P a Unlocked (ops.PrepWrite fd b len off k) f = tt
-effect_free P a Unlocked (ops.PrepFsync fd d) f = tt
-effect_free P a Unlocked ops.PrepNop f = tt
-effect_free P a Unlocked (ops.SetData64 u) f = tt
-effect_free P a Unlocked ops.CqeSeen f = tt
-effect_free P a (Locked i) ops.GetSqe f = fewer_free P a (minus a (credits_bag 1)) i.peeked (λ u. omega arith) f
-effect_free P a (Locked i) (ops.PrepRead fd b len off) f = fewer_free P a (minus a (kind_bag P (Read b))) i.peeked (λ u. omega arith) f
-effect_free P a (Locked i) (ops.PrepWrite fd b len off k) f = fewer_free P a (minus a (kind_bag P (Write b k))) i.peeked (λ u. omega arith) f
-effect_free P a (Locked i) (ops.PrepFsync fd d) f = f
-effect_free P a (Locked i) ops.PrepNop f = f
-effect_free P a (Locked i) (ops.SetData64 u) f = fewer_free P a (minus a (token_bag u)) i.peeked (λ v. omega arith) f
-effect_free P a (Locked i) ops.CqeSeen f = tt
+effect_free P a m ops.GetSqe f = free_in P a m _ f (λ i f. fewer_free P a (minus a (credits_bag 1)) i.peeked (λ u. omega arith) f)
+effect_free P a m (ops.PrepRead fd b len off) f = free_in P a m _ f (λ i f. fewer_free P a (minus a (kind_bag P (Read b))) i.peeked (λ u. omega arith) f)
+effect_free P a m (ops.PrepWrite fd b len off k) f = free_in P a m _ f (λ i f. fewer_free P a (minus a (kind_bag P (Write b k))) i.peeked (λ u. omega arith) f)
+effect_free P a m (ops.PrepFsync fd d) f = free_in P a m _ f (λ i f. f)
+effect_free P a m ops.PrepNop f = free_in P a m _ f (λ i f. f)
+effect_free P a m (ops.SetData64 u) f = free_in P a m _ f (λ i f. fewer_free P a (minus a (token_bag u)) i.peeked (λ v. omega arith) f)
+effect_free P a m ops.CqeSeen f = free_in P a m _ f (λ i f. tt)
+effect_free P a m _ f = f
 
 same_free : (P : Program) (a b : Part → ℕ) (pk : Peeked) → ((p : Part) → a p ≡ b p) → IsFreeFor P b pk → IsFreeFor P a pk
 same_free P a b Unseen e f = tt

@@ -11,9 +11,6 @@ none_below n (p ∷ ps) h = (λ lt. absurd (omega (arith, h.0, lt)), none_below 
 pub stops : (n : ℕ) (x : Premise) (ps : List (ℕ × Premise)) → (IsMet x → ⊥) → IsFrom n ps → FailsFirst n ((n, x) ∷ ps)
 stops n x ps h f = record { below = (λ lt. absurd (omega (arith, lt)), none_below n ps f); fails = λ m. h (m.0 (omega arith)) }
 
-pub passes : (n m : ℕ) (x : Premise) (ps : List (ℕ × Premise)) → IsMet x → FailsFirst n ps → FailsFirst n ((m, x) ∷ ps)
-passes n m x ps h f = record { below = (λ lt. h, f.below); fails = λ b. f.fails b.1 }
-
 pub fails : (n : ℕ) (b : Bool) (ps : List (ℕ × Premise)) → b ≡ false → IsFrom n ps → FailsFirst n ((n, Is b) ∷ ps)
 fails n b ps e f = stops n (Is b) ps (λ h. absurd (cc)) f
 

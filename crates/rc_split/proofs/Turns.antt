@@ -1,7 +1,7 @@
 -- Items that are taken one by one.
 use Rattle.std.proofs.Common.{◌≡◌, ℕ, ◌+◌, ◌-◌, ◌<◌, ◌≤◌, Bool, true, false, cond, not, Option, Some, None, List, length, take, refl, sym, subst, ◌∙◌, IsTrue, get_or, arith, nat_eq, nat_le}
-use Rattle.std.proofs.lemmas.Bool.{eqb-true, eq-eqb, leb-true, leb-false, le-leb}
-use Rattle.std.proofs.lemmas.List.Sums.{sum_by_more, sum_by_more_le}
+use Rattle.std.proofs.lemmas.Bool.{eq-eqb, leb-true, leb-false, le-leb}
+use Rattle.std.proofs.lemmas.List.Sums.{sum_by_more_le}
 use Rattle.rc_lang.specs.declared.program.Share.{Share}
 use Rattle.rc_lang.specs.Program.{Items}
 use Rattle.rc_split.specs.declared.part.Part.{Part as Given}
@@ -9,24 +9,6 @@ use Rattle.rc_split.specs.declared.part.Part.TheVariants.{Shares, Token, Credits
 use Rattle.rc_split.specs.Bags.{Part, ShareOf, TokenOf, Credit, shares_bag, token_bag, bag_of, shares_alone, tokens_alone, IsWithin}
 use Rattle.rc_split.specs.Holdings.{Holding, bag, Takes, TakesAll, given_bag, covers_part}
 use Rattle.std.specs.Option.{is_some}
-
-when : (b c k n : ℕ) → (b ≡ c → k ≤ n) → cond (nat_eq b c) k 0 ≤ n
-when b c k n h = go (nat_eq b c) refl
-  where
-    go : (x : Bool) → nat_eq b c ≡ x → cond x k 0 ≤ n
-    go true e = h (eqb-true b c e)
-    go false e = omega arith
-
-pub part_within : (b : Part → ℕ) (part : Given) → covers_part b part ≡ true → IsWithin (given_bag part) b
-part_within b (Shares c k) e (ShareOf d) = when c d k (b (ShareOf d)) (λ q. let h : k ≤ b (ShareOf c) = leb-true _ _ e in rw (← q) h)
-part_within b (Shares c k) e (TokenOf u) = omega arith
-part_within b (Shares c k) e Credit = omega arith
-part_within b (Token u) e (ShareOf d) = omega arith
-part_within b (Token u) e (TokenOf v) = when u v 1 (b (TokenOf v)) (λ q. let h : 1 ≤ b (TokenOf u) = leb-true _ _ e in rw (← q) h)
-part_within b (Token u) e Credit = omega arith
-part_within b (Credits n) e (ShareOf d) = omega arith
-part_within b (Credits n) e (TokenOf v) = omega arith
-part_within b (Credits n) e Credit = leb-true _ _ e
 
 pub itself : (b k : ℕ) → cond (nat_eq b b) k 0 ≡ k
 itself b k = rw (eq-eqb b b refl) refl
@@ -38,20 +20,10 @@ not_within b (Credits n) e h = let x : b Credit < n = leb-false _ _ e in let y :
 
 -- ---- one item more
 
-pub shares_more : (xs : List Share) (i : ℕ) (d : Share) (p : Part) → i < length xs → bag_of (shares_alone (take (i + 1) xs)) p ≡ bag_of (shares_alone (take i xs)) p + shares_bag (get_or xs i d).buffer (get_or xs i d).count p
-shares_more xs i d (ShareOf b) lt = sum_by_more (λ (s : Share). cond (nat_eq s.buffer b) s.count 0) xs i d lt
-shares_more xs i d (TokenOf u) lt = refl
-shares_more xs i d Credit lt = refl
-
 pub shares_more_le : (xs : List Share) (i : ℕ) (d : Share) (p : Part) → i < length xs → bag_of (shares_alone (take i xs)) p + shares_bag (get_or xs i d).buffer (get_or xs i d).count p ≤ bag_of (shares_alone xs) p
 shares_more_le xs i d (ShareOf b) lt = sum_by_more_le (λ (s : Share). cond (nat_eq s.buffer b) s.count 0) xs i d lt
 shares_more_le xs i d (TokenOf u) lt = omega arith
 shares_more_le xs i d Credit lt = omega arith
-
-pub tokens_more : (xs : List ℕ) (i : ℕ) (p : Part) → i < length xs → bag_of (tokens_alone (take (i + 1) xs)) p ≡ bag_of (tokens_alone (take i xs)) p + token_bag (get_or xs i 0) p
-tokens_more xs i (ShareOf b) lt = refl
-tokens_more xs i (TokenOf u) lt = sum_by_more (λ v. cond (nat_eq v u) 1 0) xs i 0 lt
-tokens_more xs i Credit lt = refl
 
 pub tokens_more_le : (xs : List ℕ) (i : ℕ) (p : Part) → i < length xs → bag_of (tokens_alone (take i xs)) p + token_bag (get_or xs i 0) p ≤ bag_of (tokens_alone xs) p
 tokens_more_le xs i (ShareOf b) lt = omega arith
@@ -60,23 +32,10 @@ tokens_more_le xs i Credit lt = omega arith
 
 -- ---- all items
 
-pub taken_more : (held left taken more x all : Part → ℕ) → ((p : Part) → held p + taken p ≡ all p) → ((p : Part) → left p ≡ held p - x p) → IsWithin x held → ((p : Part) → more p ≡ taken p + x p) → (p : Part) → left p + more p ≡ all p
-taken_more held left taken more x all h l w m p = omega (arith, h p, l p, w p, m p)
-
 pub not_all : (part : Given) (held taken all whole : Part → ℕ) → ((p : Part) → held p + taken p ≡ all p) → covers_part held part ≡ false → ((p : Part) → taken p + given_bag part p ≤ whole p) → IsWithin whole all → ⊥
 not_all part held taken all whole h e m w = not_within held part e (λ p. omega (arith, h p, m p, w p))
 
 -- ---- shares, then tokens, then credits
-
-pub shares_part : (items : Items) (b : Part → ℕ) → IsWithin (bag_of items) b → IsWithin (bag_of (shares_alone items.shares)) b
-shares_part items b h (ShareOf c) = h (ShareOf c)
-shares_part items b h (TokenOf u) = omega arith
-shares_part items b h Credit = omega arith
-
-pub tokens_part : (items : Items) (b c : Part → ℕ) → IsWithin (bag_of items) b → ((p : Part) → c p ≡ b p - bag_of (shares_alone items.shares) p) → IsWithin (bag_of (tokens_alone items.tokens)) c
-tokens_part items b c h e (ShareOf d) = omega arith
-tokens_part items b c h e (TokenOf u) = omega (arith, h (TokenOf u), e (TokenOf u))
-tokens_part items b c h e Credit = omega arith
 
 pub credits_part : (items : Items) (b c d : Part → ℕ) → ((p : Part) → c p ≡ b p - bag_of (shares_alone items.shares) p) → ((p : Part) → d p ≡ c p - bag_of (tokens_alone items.tokens) p) → d Credit ≡ b Credit
 credits_part items b c d e f = omega (arith, e Credit, f Credit)
