@@ -6,7 +6,8 @@ use Rattle.std.specs.Prelude.{nat_eq, nat_le, not, slice_get, ℤ, if◌then◌e
 use Rattle.rc_lang.specs.declared.lines.Op.{Op}
 use Rattle.rc_lang.specs.declared.lines.Op.TheVariants.{Load, Store, Fill, GetSqe, PrepRead, PrepWrite, PrepFsync, PrepNop, SetData64, Submit, SubmitAndWait, CqeSeen}
 use Rattle.rc_lang.specs.declared.lines.Stmt.{Stmt}
-use Rattle.rc_lang.specs.declared.lines.Stmt.TheVariants.{Do, EndLock, Break}
+use Rattle.rc_lang.specs.declared.lines.Stmt.TheVariants.{Do, EndLock, If, Peek, Break}
+use Rattle.rc_lang.specs.declared.lines.Test.TheVariants.{ReadyZero, SpaceAtLeast}
 use Rattle.rc_lang.specs.declared.request.Request.{Request}
 use Rattle.rc_lang.specs.Program.{bytes_at}
 use Rattle.rc_world.specs.declared.event.Completion.{Completion}
@@ -19,7 +20,7 @@ use Rattle.rc_world.specs.Controls.{Controls, Standing, controls_step, next_line
 use Rattle.rc_world.specs.Faults.{Access, access_at, access_by, access_of, clash, clashes, clashes_with, conflicts, count_of, fault_of, front_is_one, has_buffer, has_data, has_fault, in_kernel, is_closed, is_holder, is_in_flight, is_prepared, is_raw_at, is_ring_call, is_vacant, names, overflows, races_from, reads_into}
 use Rattle.rc_world.specs.Machine.{Pending, World, in_rings, is_read, reaps_front, stmt_answer, thread_step, thread_step_at, used_entries, with_controls, without_data}
 use Rattle.rc_world.proofs.LawFaultless.{none_at, none_in_kernel, none_of_kind}
-use Rattle.rc_admit.specs.Worlds.{DataIsFresh, CallsUnderLock, EachReapsOne, EntrySuits, Fills, FindsEntry, HasRoom, IsNext, IsPending, Names, NoKernelClash, NoReadOfFilling, NoThreadRace, NoWriteOfPending, OfSafeWorlds, ReadsBuffer, StaysWithinBuffers, Suits, WritesBuffer}
+use Rattle.rc_admit.specs.Worlds.{DataIsFresh, CallsUnderLock, EachReapsOne, EntrySuits, Fills, FindsEntry, HasRoom, IsNext, IsPending, IsRingCall, Names, NoKernelClash, NoReadOfFilling, NoThreadRace, NoWriteOfPending, OfSafeWorlds, ReadsBuffer, StaysWithinBuffers, Suits, WritesBuffer}
 use Rattle.rc_admit.proofs.Excludes.{next_is}
 use Rattle.rc_admit.proofs.Lists.{get_within}
 
@@ -64,6 +65,21 @@ prepared_is : (x : Slot) → not (is_prepared x) ≡ false → (r : Request) × 
 prepared_is Closed e = absurd (cc)
 prepared_is Vacant e = absurd (cc)
 prepared_is (Prepared r) e = (r, refl)
+
+is_called : (s : Stmt) → IsRingCall s → is_ring_call s ≡ true
+is_called (Do GetSqe) c = refl
+is_called (Do (PrepRead fd b len off)) c = refl
+is_called (Do (PrepWrite fd b len off k)) c = refl
+is_called (Do (PrepFsync fd datasync)) c = refl
+is_called (Do PrepNop) c = refl
+is_called (Do (SetData64 u)) c = refl
+is_called (Do (Submit x)) c = refl
+is_called (Do (SubmitAndWait x n)) c = refl
+is_called (Peek x) c = refl
+is_called (Do CqeSeen) c = refl
+is_called (If ReadyZero) c = refl
+is_called (If (SpaceAtLeast n)) c = refl
+is_called _ c = absurd c
 
 -- two of the pending requests
 clash_there : (ps : List Pending) (j k : ℕ) (p q : Pending) → j < k → slice_get ps j ≡ Some p → slice_get ps k ≡ Some q → clash p.request q.request ≡ true → clashes ps ≡ true
@@ -213,8 +229,8 @@ module _ (w : World) (none : fault_of w ≡ None) where
 
   -- ---- the rings
 
-  under_lock : (i : ℕ) (s : Stmt) → IsNext w i s → is_ring_call s ≡ true → is_holder w.controls.holder i ≡ true
-  under_lock i s n c = not-false (is_holder w.controls.holder i) (second_fails (is_ring_call s) (not (is_holder w.controls.holder i)) (at NoLock i s n) c)
+  under_lock : (i : ℕ) (s : Stmt) → IsNext w i s → IsRingCall s → is_holder w.controls.holder i ≡ true
+  under_lock i s n c = not-false (is_holder w.controls.holder i) (second_fails (is_ring_call s) (not (is_holder w.controls.holder i)) (at NoLock i s n) (is_called s c))
 
   pub calls_under_lock : CallsUnderLock w
   calls_under_lock i s n c = holder_is w.controls.holder i (under_lock i s n c)
@@ -225,7 +241,7 @@ module _ (w : World) (none : fault_of w ≡ None) where
 
   pub finds_entry : FindsEntry w
   finds_entry i n =
-      let h = under_lock i (Do GetSqe) n refl in
+      let h = under_lock i (Do GetSqe) n tt in
       let closed : w.slot ≡ Closed = closed_is w.slot (of_holder i (not (is_closed w.slot)) h (at RawEntry i (Do GetSqe) n)) in
       let room : used_entries w < w.program.entries = leb-false w.program.entries (used_entries w) (of_holder i (nat_le w.program.entries (used_entries w)) h (at RingFull i (Do GetSqe) n)) in
       (closed, omega arith)
@@ -257,7 +273,7 @@ module _ (w : World) (none : fault_of w ≡ None) where
 
   pub none_in_flight : (i u : ℕ) → IsNext w i (Do (SetData64 u)) → is_in_flight w u ≡ false
   none_in_flight i u n =
-      let h = under_lock i (Do (SetData64 u)) n refl in
+      let h = under_lock i (Do (SetData64 u)) n tt in
       let prepared : is_prepared w.slot ≡ true = not-false (is_prepared w.slot) (of_holder i (not (is_prepared w.slot)) h (at RawEntry i (Do (SetData64 u)) n)) in
       second_fails (is_prepared w.slot) (is_in_flight w u) (of_holder i (is_prepared w.slot && is_in_flight w u) h (at AmbiguousData i (Do (SetData64 u)) n)) prepared
 
@@ -300,7 +316,7 @@ module _ (w : World) (none : fault_of w ≡ None) where
 
   pub each_reaps_one : EachReapsOne w
   each_reaps_one i n =
-      let h = under_lock i (Do CqeSeen) n refl in
+      let h = under_lock i (Do CqeSeen) n tt in
       let both = and_parts w.controls.peeked (front_is_one w w.completions) (not-false (w.controls.peeked && front_is_one w w.completions) (of_holder i (not (w.controls.peeked && front_is_one w w.completions)) h (at UnknownReap i (Do CqeSeen) n))) in
       let f = front_of_one w.completions both.1 in
       record {

@@ -4,7 +4,8 @@ use Rattle.rc_lang.specs.declared.lines.Line.{Line}
 use Rattle.rc_lang.specs.declared.lines.Op.{Op}
 use Rattle.rc_lang.specs.declared.lines.Op.TheVariants.{Load, Store, Fill, GetSqe, PrepRead, PrepWrite, PrepFsync, PrepNop, SetData64, Submit, SubmitAndWait, CqeSeen}
 use Rattle.rc_lang.specs.declared.lines.Stmt.{Stmt}
-use Rattle.rc_lang.specs.declared.lines.Stmt.TheVariants.{Do, EndLock, Break}
+use Rattle.rc_lang.specs.declared.lines.Stmt.TheVariants.{Do, EndLock, If, Peek, Break}
+use Rattle.rc_lang.specs.declared.lines.Test.TheVariants.{ReadyZero, SpaceAtLeast}
 use Rattle.rc_lang.specs.declared.request.Kind.TheVariants.{Read, Write}
 use Rattle.rc_lang.specs.declared.request.Request.{Request}
 use Rattle.rc_lang.specs.Program.{Program, bytes_at}
@@ -13,7 +14,7 @@ use Rattle.rc_world.specs.declared.event.Event.{Event}
 use Rattle.rc_world.specs.declared.world.Slot.{Slot}
 use Rattle.rc_world.specs.declared.world.Slot.TheVariants.{Closed, Vacant, Prepared}
 use Rattle.rc_world.specs.Controls.{next_line}
-use Rattle.rc_world.specs.Faults.{count_of, is_ring_call}
+use Rattle.rc_world.specs.Faults.{count_of}
 use Rattle.rc_world.specs.Machine.{Pending, World, start_world, thread_step}
 use Rattle.rc_world.specs.Runs.{IsRun, IsSafe}
 
@@ -77,9 +78,27 @@ StaysWithinBuffers w = (i : ℕ) (op : Op) → IsNext w i (Do op) → IsInBuffer
 
 -- ---- the rings
 
--- No call on the ring is made without the lock.
+-- The calls on the ring: io_uring_get_sqe(3), io_uring_prep_read(3), io_uring_prep_write(3), io_uring_prep_fsync(3),
+-- io_uring_prep_nop(3), io_uring_sqe_set_data64(3), io_uring_submit(3), io_uring_submit_and_wait(3),
+-- io_uring_peek_cqe(3), io_uring_cqe_seen(3), io_uring_sq_ready(3) and io_uring_sq_space_left(3).
+abbrev pub IsRingCall : Stmt → Type 0
+IsRingCall (Do GetSqe) = Unit {0}
+IsRingCall (Do (PrepRead fd b len off)) = Unit {0}
+IsRingCall (Do (PrepWrite fd b len off k)) = Unit {0}
+IsRingCall (Do (PrepFsync fd datasync)) = Unit {0}
+IsRingCall (Do PrepNop) = Unit {0}
+IsRingCall (Do (SetData64 u)) = Unit {0}
+IsRingCall (Do (Submit x)) = Unit {0}
+IsRingCall (Do (SubmitAndWait x n)) = Unit {0}
+IsRingCall (Peek x) = Unit {0}
+IsRingCall (Do CqeSeen) = Unit {0}
+IsRingCall (If ReadyZero) = Unit {0}
+IsRingCall (If (SpaceAtLeast n)) = Unit {0}
+IsRingCall _ = ⊥
+
+-- None of them is made without the lock.
 abbrev pub CallsUnderLock : World → Type 0
-CallsUnderLock w = (i : ℕ) (s : Stmt) → IsNext w i s → is_ring_call s ≡ true → w.controls.holder ≡ Some i
+CallsUnderLock w = (i : ℕ) (s : Stmt) → IsNext w i s → IsRingCall s → w.controls.holder ≡ Some i
 
 -- Each io_uring_get_sqe(3) finds a free entry.
 abbrev pub FindsEntry : World → Type 0

@@ -1,5 +1,7 @@
 //! Texts that are admitted, refused or no programs.
 
+mod ring_calls;
+
 use crate::admitted::{Admitted, admit};
 use crate::fault::AdmitFault;
 use rc_read::{ReadFault, read_program};

@@ -7,6 +7,7 @@ mod checks;
 mod devices;
 mod long;
 mod programs;
+mod refused;
 mod runs;
 mod steps;
 mod walks;

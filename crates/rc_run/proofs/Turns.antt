@@ -87,8 +87,8 @@ pub closed_at : (w : World) → IsCalm w → (i : ℕ) (l : Line) → next_line 
 closed_at w c i l next = go l.stmt refl
   where
     go : (s : Stmt) → l.stmt ≡ s → IsClosedAt w.slot s
-    go (Do (Submit x)) is = c.entry_suits i (Do (Submit x)) (c.under_lock i (Do (Submit x)) (l, next, is) refl) (l, next, is)
-    go (Do (SubmitAndWait x n)) is = c.entry_suits i (Do (SubmitAndWait x n)) (c.under_lock i (Do (SubmitAndWait x n)) (l, next, is) refl) (l, next, is)
+    go (Do (Submit x)) is = c.entry_suits i (Do (Submit x)) (c.under_lock i (Do (Submit x)) (l, next, is) tt) (l, next, is)
+    go (Do (SubmitAndWait x n)) is = c.entry_suits i (Do (SubmitAndWait x n)) (c.under_lock i (Do (SubmitAndWait x n)) (l, next, is) tt) (l, next, is)
     go _ is = tt
 
 -- ---- user data
