@@ -18,6 +18,7 @@ pub mod May
 pub mod Numbered
 pub mod Places
 pub mod Rows
+pub mod Seen
 pub mod Sizes
 pub mod Streams
 pub mod Tokens

@@ -8,6 +8,7 @@ ghost use Rattle.rc_read.specs.Quick.{second_last};
 ghost use Rattle.rc_read.specs.Sheets as spec;
 ghost use Rattle.rc_read.specs.View.{view_names};
 
+use indexmap::IndexSet;
 use rc_lang::program::{Buffer, File, Thread, Token};
 use std::alloc::{AllocError, Global};
 
@@ -29,18 +30,6 @@ fn is_same(name: &[u8], word: &[u8]) -> bool
         && name.last() == word.last()
         && second_last(name) == second_last(word)
         && name == word
-}
-
-// The number of a name, which for a new one is that of the next.
-fn number_in(names: &[Vec<u8>], word: &[u8]) -> usize
-    ensures { result ≡ spec.number_in (view_names names.now) word.now }
-{
-    for (i, name) in names.iter().enumerate() {
-        if is_same(name, word) {
-            return i;
-        }
-    }
-    names.len()
 }
 
 /// The number of a buffer, which where it isn't declared is that of the next, and its shares if it is declared.
@@ -120,13 +109,17 @@ pub fn has_token(tokens: &[Token], user_data: u64) -> bool
 }
 
 /// The number of a name, which is added where it is new.
-pub fn add_name(alloc: Global, names: &mut Vec<Vec<u8>>, word: &[u8]) -> Result<usize, AllocError>
-    ensures number { IfOk result (λ n. n ≡ spec.number_in (view_names names.old.items) word.now) }
-    ensures names { OnOk result (view_names names.new.items ≡ spec.with_name (view_names names.old.items) word.now) }
+pub fn add_name(
+    alloc: Global,
+    names: &mut IndexSet<Vec<u8>>,
+    word: &[u8],
+) -> Result<usize, AllocError>
+    ensures number { IfOk result (λ n. n ≡ spec.number_in (view_names names.old.keys) word.now) }
+    ensures names { OnOk result (view_names names.new.keys ≡ spec.with_name (view_names names.old.keys) word.now) }
 {
-    let number = number_in(names, word);
-    if number == names.len() {
-        names.push(word.to_vec(alloc)?)?;
+    if let Some(number) = names.get_index_of(word) {
+        return Ok(number);
     }
+    let (number, _) = names.insert_full(Vec::from_slice(alloc, word)?)?;
     Ok(number)
 }

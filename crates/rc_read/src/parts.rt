@@ -8,6 +8,7 @@ ghost use Rattle.rc_lang.specs.Parts.{view_buffer};
 ghost use Rattle.rc_lang.specs.declared.program.Token.{Token};
 ghost use Rattle.rc_read.specs.Sheets.{buffer_names};
 
+use indexmap::IndexSet;
 use rc_lang::lines::{Block, Line};
 use rc_lang::program::{Buffer, File, Head, Items, Thread, Token};
 use std::alloc::Global;
@@ -42,7 +43,7 @@ pub struct Draft {
     pub line: u32,
     pub items: Items,
     pub loops: Vec<Items>,
-    pub names: Vec<Vec<u8>>,
+    pub names: IndexSet<Vec<u8>>,
     pub blocks: Vec<Block>,
     pub lines: Vec<Line>,
     pub ends: Vec<usize>,
@@ -107,7 +108,7 @@ impl Draft {
                 queue: None,
             },
             loops: Vec::new(alloc),
-            names: Vec::new(alloc),
+            names: IndexSet::new(alloc),
             blocks: Vec::new(alloc),
             lines: Vec::new(alloc),
             ends: Vec::new(alloc),

@@ -631,6 +631,21 @@ fn limits_are_kept(rt: HostRuntime) -> Result<(), Fail> {
     Ok(())
 }
 
+// A line of 1,000 bytes is kept whole, whatever the pieces are, and judged where it ends.
+#[test]
+fn a_long_line_is_read_in_any_pieces(rt: HostRuntime) -> Result<(), Fail> {
+    let text = repeated(&rt, "ringcheck 1\nring 1\n", "#", 1000, "")?;
+    for size in [1, 7, 64, 256, 299, 300, 301, 1000] {
+        let mut reader = Reader::new(rt.alloc());
+        for piece in text.chunks(size) {
+            reader.feed(piece)?;
+        }
+        assert_eq!(rt; reader.pending().len(), 1000, "pieces of {size}");
+        assert_eq!(rt; place_of(reader.finish()), (3, 8), "pieces of {size}");
+    }
+    Ok(())
+}
+
 #[test]
 fn no_more_than_so_many_are_declared(rt: HostRuntime) -> Result<(), Fail> {
     for (kind, most) in [

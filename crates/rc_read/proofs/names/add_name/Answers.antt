@@ -1,23 +1,27 @@
-use Rattle.std.proofs.Common.{◌≡◌, ◌∙◌, ℕ, List, false, true, refl, ap, rules, arith, sym}
-use Rattle.std.proofs.lemmas.Grind.{common_steps}
+use Rattle.std.proofs.Common.{◌≡◌, ℕ, List, nat_eq, refl, ap, ◌∙◌, rules, arith}
+use Rattle.std.specs.Cmp.Lexicographic.{pointwise}
 use Rattle.std.specs.Global.{Vec}
-use Rattle.rc_read.specs.Sheets.{is_among, number_in}
+use Rattle.std.specs.List.{position_or_len}
+use Rattle.rc_read.specs.Sheets.{number_in}
 use Rattle.rc_read.specs.View.{view_names}
-use Rattle.rc_read.proofs.Numbered.{is_new, is_old}
+use Rattle.rc_read.proofs.Numbered.{is_old}
+use Rattle.rc_read.proofs.Seen.{numbered, found, with_one}
 use Rattle.rc_read.proofs.names.add_name.Goals as goal
 
-pub returns-in_ok-push-clause-names : goal.returns-in_ok-push-clause-names
-returns-in_ok-push-clause-names c =
-    let names = c.args.names.now.items in
-    let w = c.args.word.now in
-    let seen : c.number_in-number.result ≡ number_in (view_names names) w = c.number_in-number.ensures ∙ ap (λ (x : List (Vec ℕ)). number_in (view_names x) w) c.deref.ensures.value in
-    let new : is_among (view_names names) w ≡ false = is_new names w (sym seen ∙ c.if-number-len.true ∙ search rules) in
-    grind (arith, common_steps)
+place : (c : goal.In-Some) → c.in-Some.number ≡ number_in (view_names c.args.names.now.keys) c.args.word.now
+place c = found _ _ _ c.in-Some.ensures.index ∙ numbered c.args.names.now.keys c.args.word.now
 
-pub returns-else-number-len-clause-names : goal.returns-else-number-len-clause-names
-returns-else-number-len-clause-names c =
-    let names = c.args.names.now.items in
-    let w = c.args.word.now in
-    let seen : c.number_in-number.result ≡ number_in (view_names names) w = c.number_in-number.ensures ∙ ap (λ (x : List (Vec ℕ)). number_in (view_names x) w) c.deref.ensures.value in
-    let old : is_among (view_names names) w ≡ true = is_old names w (λ e. c.if-number-len.false (seen ∙ e ∙ search rules)) in
-    rw old refl
+pub returns-in-Some-clause-number : goal.returns-in-Some-clause-number
+returns-in-Some-clause-number c = place c
+
+pub returns-in-Some-clause-names : goal.returns-in-Some-clause-names
+returns-in-Some-clause-names c = rw (is_old c.args.names.now.keys c.args.word.now (λ e. omega (arith, place c, e, c.in-Some.ensures.within))) refl
+
+pub returns-clause-number : goal.returns-clause-number
+returns-clause-number c =
+    c.in_ok-number.ensures.index
+    ∙ ap (λ (v : List ℕ). position_or_len (λ (k : Vec ℕ). pointwise nat_eq v k.items) c.args.names.now.keys) (search rules)
+    ∙ numbered c.args.names.now.keys c.args.word.now
+
+pub returns-clause-names : goal.returns-clause-names
+returns-clause-names c = ap view_names c.in_ok-number.ensures.keys ∙ with_one c.args.names.now.keys _ c.args.word.now (search rules)
