@@ -30,10 +30,11 @@ use Rattle.rc_world.specs.declared.world.Slot.TheVariants as entries
 use Rattle.rc_world.specs.Controls.{Standing, next_at, next_line}
 use Rattle.rc_world.specs.Faults.{Access, access_at, access_by, access_of, all_kinds, clashes, conflicts, count_of, fault_at, fault_of, faults_by, faults_from, faults_of, front_is_one, has_data, has_fault, in_kernel, is_closed, is_filling, is_full_at, is_holder, is_in_flight, is_named, is_ambiguous_at, is_out_at, is_prepared, is_raw_at, is_ring_call, is_ring_op, is_unknown_at, is_vacant, names, op_is_out, op_is_raw, overflows, races_from, reads_filling, reads_into, writes_pending}
 use Rattle.rc_world.specs.Machine.{Pending, World, is_read, slot_len, used_entries}
+use Rattle.rc_admit.proofs.Flight.{data_in, front_is}
 use Rattle.rc_admit.proofs.Lists.{sum_to, sum_to_one, sum_to_two, sum_over, sum_over_one, Each-get, get_within}
 use Rattle.rc_admit.proofs.Moves.{fits_parts}
-use Rattle.rc_admit.proofs.Ops.{slot_closed, slot_vacant, slot_prepared, agree_head}
-use Rattle.rc_admit.proofs.Owned.{Stand, EdgeAt, HasEdge, owns, owns_pending, unheld, SlotFits, StartsWith, IsNonempty, FrontFits, Fits, held, HasKind, HasKindPending, data_in, Owned, WellOwned}
+use Rattle.rc_admit.proofs.Ops.{slot_closed, slot_vacant, slot_prepared}
+use Rattle.rc_admit.proofs.Owned.{Stand, EdgeAt, HasEdge, owns, owns_pending, unheld, SlotFits, StartsWith, IsNonempty, FrontFits, Fits, held, HasKind, HasKindPending, Owned, WellOwned}
 use Rattle.rc_admit.proofs.Rule.{InRing, asks_lock, in_ring, inside_of, met, prepared_as}
 use Rattle.rc_admit.proofs.Shares.{any_is, buffer_shared, credits_owned, data_owned, data_pending, fills_all, names_one, no_clash}
 use Rattle.rc_admit.proofs.Steps.{breaks_as_released, token_owned}
@@ -333,13 +334,13 @@ module _ (w : World) (made : IsProgram w.program) (S : Stand) (edge : HasEdge w.
   front_one (d ∷ ds) e n =
       let u : ℕ = d.user_data in
       let p : Part = TokenOf u in
-      let a = agree_head w.completed d ds (o.agree ∙ ap data_in e) in
-      let fl : sum_over (owns P p) w.completed ≡ owned P a.0.user_data p + sum_over (owns P p) a.1 = ap (sum_over (owns P p)) a.2 in
-      let one : 1 ≤ owned P a.0.user_data p = subst (λ u. 1 ≤ owned P u p) (sym a.3) (token_owned P u) in
+      let f = front_is w.completed d ds (o.agree ∙ ap data_in e) in
+      let fl : sum_over (owns P p) w.completed ≡ owned P f.request.user_data p + sum_over (owns P p) f.others = ap (sum_over (owns P p)) f.is in
+      let one : 1 ≤ owned P f.request.user_data p = subst (λ u. 1 ≤ owned P u p) (sym f.same) (token_owned P u) in
       let tot : unheld P w p ≤ 1 = flight_most p in
-      let few : count_of u a.1 ≤ sum_over (owns P p) a.1 = count_most u a.1 in
-      let first : count_of u (a.0 ∷ a.1) ≡ 1 + count_of u a.1 = ap (λ (t : Bool). (if t then 1 else 0) + count_of u a.1) (eq-eqb a.0.user_data u a.3) in
-      let all : count_of u w.completed ≡ count_of u (a.0 ∷ a.1) = ap (count_of u) a.2 in
+      let few : count_of u f.others ≤ sum_over (owns P p) f.others = count_most u f.others in
+      let first : count_of u (f.request ∷ f.others) ≡ 1 + count_of u f.others = ap (λ (t : Bool). (if t then 1 else 0) + count_of u f.others) (eq-eqb f.request.user_data u f.same) in
+      let all : count_of u w.completed ≡ count_of u (f.request ∷ f.others) = ap (count_of u) f.is in
       eq-eqb (count_of u w.completed) 1 (omega arith)
 
   front_fits : (x : Peeked) → is_seen x ≡ true → FrontFits w.controls.peeked w.completions x → (w.controls.peeked ≡ true) × IsNonempty w.completions

@@ -13,8 +13,9 @@ use Rattle.rc_world.specs.declared.world.Slot.TheVariants as entries
 use Rattle.rc_world.specs.Controls.{Standing, passes_arm, rest_at}
 use Rattle.rc_world.specs.Faults.{is_holder}
 use Rattle.rc_world.specs.Machine.{World, slot_len}
+use Rattle.rc_admit.proofs.Flight.{data_in, data_of}
 use Rattle.rc_admit.proofs.Lists.{sum_to, sum_to_changed, nat_eq_cases, Each, get_set, get_within}
-use Rattle.rc_admit.proofs.Owned.{Stand, Leads, HasEdge, slot_bag, mode_bag, unheld, SlotFits, FrontFits, Fits, held, HasKind, HasKindPending, data_of, data_in, Owned, WellOwned, IsUnseen, settle, fits_weaker}
+use Rattle.rc_admit.proofs.Owned.{Stand, Leads, HasEdge, slot_bag, mode_bag, unheld, SlotFits, FrontFits, Fits, held, HasKind, HasKindPending, Owned, WellOwned, IsUnseen, settle, fits_weaker}
 
 -- The world in which thread i went to this place, with these variables: it comes to rest, and at the end of an arm
 -- nothing is peeked any more.
