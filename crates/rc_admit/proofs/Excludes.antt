@@ -1,5 +1,6 @@
 -- A world of which those facts are true has no fault.
 use Rattle.std.proofs.Common.{◌≡◌, ℕ, ◌+◌, ◌<◌, ◌≤◌, Bool, true, false, ◌&&◌, ◌||◌, List, [], ◌∷◌, ◌++◌, length, drop, Option, Some, None, refl, sym, ap, ◌∙◌, subst, inl, inr, arith}
+use Rattle.std.proofs.lemmas.Option.{slice_get_within}
 use Rattle.std.proofs.lemmas.Bool.{and_from, and_parts, and_right, eq-eqb, eqb-true, false_from_ne_true, leb-true, lt-leb, ltb-true, not_from_true, not-true, or_cases, or_from}
 use Rattle.std.proofs.lemmas.List.{length-map}
 use Rattle.std.specs.List.{list_any}
@@ -31,7 +32,7 @@ use Rattle.rc_world.specs.Controls.{Standing, next_at, next_line}
 use Rattle.rc_world.specs.Faults.{Access, access_at, access_by, access_of, all_kinds, clashes, conflicts, count_of, fault_at, fault_of, faults_by, faults_from, faults_of, front_is_one, has_data, has_fault, in_kernel, is_closed, is_filling, is_full_at, is_holder, is_in_flight, is_named, is_ambiguous_at, is_out_at, is_prepared, is_raw_at, is_ring_call, is_ring_op, is_unknown_at, is_vacant, names, op_is_out, op_is_raw, overflows, races_from, reads_filling, reads_into, writes_pending}
 use Rattle.rc_world.specs.Machine.{Pending, World, is_read, slot_len, used_entries}
 use Rattle.rc_admit.proofs.Flight.{data_in, front_is}
-use Rattle.rc_admit.proofs.Lists.{sum_to, sum_to_one, sum_to_two, sum_over, sum_over_one, Each-get, get_within}
+use Rattle.rc_admit.proofs.Lists.{sum_to, sum_to_one, sum_to_two, sum_over, sum_over_one, Each-get}
 use Rattle.rc_admit.proofs.Moves.{fits_parts}
 use Rattle.rc_admit.proofs.Ops.{slot_closed, slot_vacant, slot_prepared}
 use Rattle.rc_admit.proofs.Owned.{Stand, EdgeAt, HasEdge, owns, owns_pending, unheld, SlotFits, StartsWith, IsNonempty, FrontFits, Fits, held, HasKind, HasKindPending, Owned, WellOwned}
@@ -116,7 +117,7 @@ module _ (w : World) (made : IsProgram w.program) (S : Stand) (edge : HasEdge w.
   edge_at i s n = subst (λ y. EdgeAt P S i (bags i) (modes i) n.thread.variables n.thread.place y) n.line (edge i (bags i) (modes i) n.thread.variables n.thread.place (o.stands i n.thread n.stands))
 
   within : (i : ℕ) (s : Stmt) → Next w i s → i < length w.controls.threads
-  within i s n = get_within w.controls.threads i n.thread n.stands
+  within i s n = slice_get_within w.controls.threads i n.thread n.stands
 
   -- one thread and the requests in flight
   one_and_flight : (p : Part) (i : ℕ) → i < length w.controls.threads → bags i p + unheld P w p ≤ limit P p

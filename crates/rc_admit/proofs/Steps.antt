@@ -2,6 +2,7 @@
 use Rattle.std.proofs.Common.{◌≡◌, ℕ, ◌+◌, ◌-◌, ◌≤◌, Bool, true, false, ◌||◌, cond, List, [], ◌∷◌, length, Option, Some, None, refl, sym, ap, ◌∙◌, subst, ◌⊎◌, inl, inr, arith}
 use Rattle.std.specs.Prelude.{slice_set, slice_get, slice_index_or, nat_eq, min, ℤ, pos, int_le, if◌then◌else◌}
 use Rattle.std.specs.Ordering.{int_eq}
+use Rattle.std.proofs.lemmas.Option.{slice_get_within}
 use Rattle.std.proofs.lemmas.Bool.{leb-true}
 use Rattle.std.proofs.lemmas.Bool.Decides.{Decides-int_eq}
 use Rattle.rc_lang.specs.Comparisons.{compares}
@@ -29,7 +30,7 @@ use Rattle.rc_world.specs.Controls.{Standing, acts, arm_for, breaks, decides, lo
 use Rattle.rc_world.specs.Faults.{is_holder}
 use Rattle.rc_world.specs.Machine.{World, front_of, in_rings, slot_len, stmt_answer, test_answer, used_entries}
 use Rattle.rc_admit.proofs.Flight.{data_in, front_is}
-use Rattle.rc_admit.proofs.Lists.{sum_to, sum_over, sum_to_one, nat_eq_cases, get_within}
+use Rattle.rc_admit.proofs.Lists.{sum_to, sum_over, sum_to_one, nat_eq_cases}
 use Rattle.rc_admit.proofs.Moves.{Moved, moves, put, rung_moved, fits_parts, fits_made, holder_one, with_lock}
 use Rattle.rc_admit.proofs.Ops.{Keeps, slot_closed, op_keeps, quiet, has}
 use Rattle.rc_admit.proofs.Owned.{Stand, Leads, MayPass, EdgeAt, HasEdge, slot_bag, owns, unheld, SlotFits, StartsWith, IsNonempty, FrontFits, Fits, held, Owned, WellOwned}
@@ -116,7 +117,7 @@ twice P S w bags modes i t d ds o get e h =
     let f = front_is w.completed d ds (o.agree ∙ ap data_in e) in
     let fl : sum_over (owns P p) w.completed ≡ owned P f.request.user_data p + sum_over (owns P p) f.others = ap (sum_over (owns P p)) f.is in
     let one : 1 ≤ owned P f.request.user_data p = subst (λ u. 1 ≤ owned P u p) (sym f.same) (token_owned P d.user_data) in
-    let mine : held P (bags i) (modes i) p ≤ sum_to (λ i. held P (bags i) (modes i) p) (length w.controls.threads) = sum_to_one (λ i. held P (bags i) (modes i) p) (length w.controls.threads) i (get_within w.controls.threads i t get) in
+    let mine : held P (bags i) (modes i) p ≤ sum_to (λ i. held P (bags i) (modes i) p) (length w.controls.threads) = sum_to_one (λ i. held P (bags i) (modes i) p) (length w.controls.threads) i (slice_get_within w.controls.threads i t get) in
     let tot : sum_to (λ i. held P (bags i) (modes i) p) (length w.controls.threads) + unheld P w p ≤ 1 = o.total p in
     omega arith
 

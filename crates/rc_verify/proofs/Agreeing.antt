@@ -5,6 +5,8 @@ use Rattle.rc_rules.specs.declared.mode.Mode.{Mode}
 use Rattle.rc_rules.specs.declared.mode.Mode.TheVariants.{Unlocked, Locked}
 use Rattle.rc_rules.specs.Labels.{Label, Dead, Live, Weaker, WeakerMode, WeakerThanEach, IsStrongest}
 use Rattle.rc_rules.specs.Rules.{agree, agree_all, agree_each, agree_modes, same_slot}
+use Rattle.rc_rules.proofs.Growth.{agree_grows}
+use Rattle.rc_rules.proofs.Weaker.{weaker_refl}
 use Rattle.rc_verify.proofs.Fit.{AreAll, kept_by}
 
 abbrev pub each_agrees : List Label → Label → Bool
@@ -37,23 +39,11 @@ all_more (x ∷ xs) y =
 
 -- ---- the meet agrees as its ends do
 
-modes_down : (m n k : Mode) → WeakerMode m n → agree_modes m k ≡ true → agree_modes n k ≡ true
-modes_down m Unlocked k w e = refl
-modes_down Unlocked (Locked j) k w e = absurd w
-modes_down (Locked i) (Locked j) Unlocked w e = refl
-modes_down (Locked i) (Locked j) (Locked k) w e = subst (λ x. same_slot x k.slot ≡ true) w.slot e
-
 modes_up : (m n k : Mode) → WeakerMode m n → agree_modes n k ≡ true → agree_modes m k ≡ true
 modes_up Unlocked n k w e = refl
 modes_up (Locked i) Unlocked k w e = absurd w
 modes_up (Locked i) (Locked j) Unlocked w e = refl
 modes_up (Locked i) (Locked j) (Locked k) w e = subst (λ x. same_slot x k.slot ≡ true) (sym w.slot) e
-
-down : (m x y : Label) → Weaker m x → agree m y ≡ true → agree x y ≡ true
-down m Dead y w e = refl
-down Dead (Live b n) y w e = absurd w
-down (Live a m) (Live b n) Dead w e = refl
-down (Live a m) (Live b n) (Live c k) w e = modes_down m n k w.1 e
 
 up : (y s t : Label) → Weaker s t → (t ≡ Dead → ⊥) → agree t y ≡ true → agree s y ≡ true
 up y s Dead w d e = absurd (d refl)
@@ -63,7 +53,7 @@ up (Live c k) (Live a m) (Live b n) w d e = modes_up m n k w.1 e
 
 each_below : (m y : Label) (xs : List Label) → WeakerThanEach m xs → agree m y ≡ true → each_agrees xs y ≡ true
 each_below m y [] w e = refl
-each_below m y (x ∷ xs) w e = and_from (agree x y) (each_agrees xs y) (down m x y w.0 e) (each_below m y xs w.1 e)
+each_below m y (x ∷ xs) w e = and_from (agree x y) (each_agrees xs y) (agree_grows m y x y w.0 (weaker_refl y) e) (each_below m y xs w.1 e)
 
 all_of : (y : Label) (xs : List Label) → each_agrees xs y ≡ true → AreAll (λ x. agree x y ≡ true) xs
 all_of y [] e = tt
