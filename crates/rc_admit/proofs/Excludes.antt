@@ -1,5 +1,6 @@
 -- A world of which those facts are true has no fault.
 use Rattle.std.proofs.Common.{◌≡◌, ℕ, ◌+◌, ◌<◌, ◌≤◌, Bool, true, false, ◌&&◌, ◌||◌, List, [], ◌∷◌, ◌++◌, length, drop, Option, Some, None, refl, sym, ap, ◌∙◌, subst, inl, inr, arith}
+use Rattle.std.proofs.lemmas.Option.{slice_get_within}
 use Rattle.std.proofs.lemmas.Bool.{and_from, and_parts, and_right, eq-eqb, eqb-true, false_from_ne_true, leb-true, lt-leb, ltb-true, not_from_true, not-true, or_cases, or_from}
 use Rattle.std.proofs.lemmas.List.{length-map}
 use Rattle.std.specs.List.{list_any}
@@ -30,10 +31,11 @@ use Rattle.rc_world.specs.declared.world.Slot.TheVariants as entries
 use Rattle.rc_world.specs.Controls.{Standing, next_at, next_line}
 use Rattle.rc_world.specs.Faults.{Access, access_at, access_by, access_of, all_kinds, clashes, conflicts, count_of, fault_at, fault_of, faults_by, faults_from, faults_of, front_is_one, has_data, has_fault, in_kernel, is_closed, is_filling, is_full_at, is_holder, is_in_flight, is_named, is_ambiguous_at, is_out_at, is_prepared, is_raw_at, is_ring_call, is_ring_op, is_unknown_at, is_vacant, names, op_is_out, op_is_raw, overflows, races_from, reads_filling, reads_into, writes_pending}
 use Rattle.rc_world.specs.Machine.{Pending, World, is_read, slot_len, used_entries}
-use Rattle.rc_admit.proofs.Lists.{sum_to, sum_to_one, sum_to_two, sum_over, sum_over_one, Each-get, get_within}
+use Rattle.rc_admit.proofs.Flight.{data_in, front_is}
+use Rattle.rc_admit.proofs.Lists.{sum_to, sum_to_one, sum_to_two, sum_over, sum_over_one, Each-get}
 use Rattle.rc_admit.proofs.Moves.{fits_parts}
-use Rattle.rc_admit.proofs.Ops.{slot_closed, slot_vacant, slot_prepared, agree_head}
-use Rattle.rc_admit.proofs.Owned.{Stand, EdgeAt, HasEdge, owns, owns_pending, unheld, SlotFits, StartsWith, IsNonempty, FrontFits, Fits, held, HasKind, HasKindPending, data_in, Owned, WellOwned}
+use Rattle.rc_admit.proofs.Ops.{slot_closed, slot_vacant, slot_prepared}
+use Rattle.rc_admit.proofs.Owned.{Stand, EdgeAt, HasEdge, owns, owns_pending, unheld, SlotFits, StartsWith, IsNonempty, FrontFits, Fits, held, HasKind, HasKindPending, Owned, WellOwned}
 use Rattle.rc_admit.proofs.Rule.{InRing, asks_lock, in_ring, inside_of, met, prepared_as}
 use Rattle.rc_admit.proofs.Shares.{any_is, buffer_shared, credits_owned, data_owned, data_pending, fills_all, names_one, no_clash}
 use Rattle.rc_admit.proofs.Steps.{breaks_as_released, token_owned}
@@ -115,7 +117,7 @@ module _ (w : World) (made : IsProgram w.program) (S : Stand) (edge : HasEdge w.
   edge_at i s n = subst (λ y. EdgeAt P S i (bags i) (modes i) n.thread.variables n.thread.place y) n.line (edge i (bags i) (modes i) n.thread.variables n.thread.place (o.stands i n.thread n.stands))
 
   within : (i : ℕ) (s : Stmt) → Next w i s → i < length w.controls.threads
-  within i s n = get_within w.controls.threads i n.thread n.stands
+  within i s n = slice_get_within w.controls.threads i n.thread n.stands
 
   -- one thread and the requests in flight
   one_and_flight : (p : Part) (i : ℕ) → i < length w.controls.threads → bags i p + unheld P w p ≤ limit P p
@@ -333,13 +335,13 @@ module _ (w : World) (made : IsProgram w.program) (S : Stand) (edge : HasEdge w.
   front_one (d ∷ ds) e n =
       let u : ℕ = d.user_data in
       let p : Part = TokenOf u in
-      let a = agree_head w.completed d ds (o.agree ∙ ap data_in e) in
-      let fl : sum_over (owns P p) w.completed ≡ owned P a.0.user_data p + sum_over (owns P p) a.1 = ap (sum_over (owns P p)) a.2 in
-      let one : 1 ≤ owned P a.0.user_data p = subst (λ u. 1 ≤ owned P u p) (sym a.3) (token_owned P u) in
+      let f = front_is w.completed d ds (o.agree ∙ ap data_in e) in
+      let fl : sum_over (owns P p) w.completed ≡ owned P f.request.user_data p + sum_over (owns P p) f.others = ap (sum_over (owns P p)) f.is in
+      let one : 1 ≤ owned P f.request.user_data p = subst (λ u. 1 ≤ owned P u p) (sym f.same) (token_owned P u) in
       let tot : unheld P w p ≤ 1 = flight_most p in
-      let few : count_of u a.1 ≤ sum_over (owns P p) a.1 = count_most u a.1 in
-      let first : count_of u (a.0 ∷ a.1) ≡ 1 + count_of u a.1 = ap (λ (t : Bool). (if t then 1 else 0) + count_of u a.1) (eq-eqb a.0.user_data u a.3) in
-      let all : count_of u w.completed ≡ count_of u (a.0 ∷ a.1) = ap (count_of u) a.2 in
+      let few : count_of u f.others ≤ sum_over (owns P p) f.others = count_most u f.others in
+      let first : count_of u (f.request ∷ f.others) ≡ 1 + count_of u f.others = ap (λ (t : Bool). (if t then 1 else 0) + count_of u f.others) (eq-eqb f.request.user_data u f.same) in
+      let all : count_of u w.completed ≡ count_of u (f.request ∷ f.others) = ap (count_of u) f.is in
       eq-eqb (count_of u w.completed) 1 (omega arith)
 
   front_fits : (x : Peeked) → is_seen x ≡ true → FrontFits w.controls.peeked w.completions x → (w.controls.peeked ≡ true) × IsNonempty w.completions

@@ -17,6 +17,7 @@ use Rattle.rc_rules.specs.Labellings.{arm_end, arm_ends, break_end, break_ends, 
 use Rattle.rc_rules.specs.Rules.{broken, peek_at}
 use Rattle.rc_world.specs.Controls.{arm_for, arms_of, first_place, is_case, is_none_arm, is_other, none_arm}
 use Rattle.rc_rules.proofs.Weaker.{label_drop}
+use Rattle.rc_world.proofs.Lists.{get_take as get_taken}
 
 -- ---- lists
 
@@ -25,12 +26,6 @@ get_take zero k xs x lt e = absurd (omega arith)
 get_take (suc n) k [] x lt e = e
 get_take (suc n) zero (y ∷ xs) x lt e = e
 get_take (suc n) (suc k) (y ∷ xs) x lt e = get_take n k xs x (omega arith) e
-
-get_taken : {A : Type 0} (n k : ℕ) (xs : List A) (x : A) → slice_get (take n xs) k ≡ Some x → slice_get xs k ≡ Some x
-get_taken zero k xs x e = absurd (cc)
-get_taken (suc n) k [] x e = absurd (cc)
-get_taken (suc n) zero (y ∷ xs) x e = e
-get_taken (suc n) (suc k) (y ∷ xs) x e = get_taken n k xs x e
 
 get_drop : {A : Type 0} (o k : ℕ) (xs : List A) → slice_get (drop o xs) k ≡ slice_get xs (o + k)
 get_drop zero k xs = let n : 0 + k ≡ k = omega arith in ap (λ j. slice_get xs j) (sym n)
@@ -96,7 +91,7 @@ module _ (P : Program) (i o : ℕ) where
   found : (test : Stmt → Bool) (j : ℕ) (d : Line) → first_place test (arms_of P i o) ≡ Some j → (s : Stmt) × (stmt_at (lines_of P i) (o + j) ≡ Some s) × (test s ≡ true)
   found test j d e =
       let f = place_passes test (arms_of P i o) j d e in
-      (f.0.stmt, ap stmt_of (sym (get_drop o j (lines_of P i)) ∙ get_taken (end_at P i o - o) j (drop o (lines_of P i)) f.0 f.1), f.2)
+      (f.0.stmt, ap stmt_of (sym (get_drop o j (lines_of P i)) ∙ get_taken (end_at P i o - o) (drop o (lines_of P i)) j f.0 f.1), f.2)
 
   there : (test : Stmt → Bool) (p : ℕ) (s : Stmt) → IsBetween p s → test s ≡ true → (j : ℕ) × (t : Stmt) × (first_place test (arms_of P i o) ≡ Some j) × (stmt_at (lines_of P i) (o + j) ≡ Some t) × (test t ≡ true)
   there test p s b h =

@@ -1,11 +1,9 @@
 -- A step of a thread and a step of the kernel keep what is true of each world, and the start world has it.
 use Rattle.std.proofs.Common.{◌≡◌, ℕ, ◌+◌, ◌≤◌, Bool, true, false, ◌&&◌, List, [], ◌∷◌, ◌++◌, length, Option, Some, None, refl, sym, ap, ◌∙◌, subst, arith}
-use Rattle.std.proofs.lemmas.List.{map-append}
-use Rattle.std.specs.Prelude.{nat_eq, slice_get, ℤ, if◌then◌else◌}
+use Rattle.std.specs.Prelude.{slice_get, ℤ}
 use Rattle.rc_lang.specs.declared.lines.Line.{Line}
 use Rattle.rc_lang.specs.declared.request.Request.{Request}
 use Rattle.rc_lang.specs.Program.{Program, lines_of, stmt_of}
-use Rattle.rc_lang.specs.Requests.{may_complete}
 use Rattle.rc_rules.specs.declared.mode.Mode.{Mode}
 use Rattle.rc_rules.specs.declared.mode.Mode.TheVariants.{Unlocked, Locked}
 use Rattle.rc_rules.specs.declared.mode.Peeked.{Peeked}
@@ -15,16 +13,13 @@ use Rattle.rc_world.specs.declared.event.Completion.{Completion}
 use Rattle.rc_world.specs.declared.event.Event.{Event}
 use Rattle.rc_world.specs.Controls.{Controls, Move, Standing, acts, acts_on, as_event, made, next_at, next_line}
 use Rattle.rc_world.specs.Faults.{is_holder}
-use Rattle.rc_world.specs.Machine.{Pending, World, bytes_brought, completes, completion_of, given_back, in_rings, kernel_event, kernel_step, kernel_step_of, stmt_answer, thread_step, thread_step_at, with_controls, without}
-use Rattle.rc_admit.proofs.Lists.{sum_to, sum_over, sum_over-append, sum_over-without, Each-append, Each-without, Each-get}
+use Rattle.rc_world.specs.Machine.{Pending, World, completes, completion_of, in_rings, kernel_step, stmt_answer, thread_step, thread_step_at, with_controls, without}
+use Rattle.rc_world.proofs.RingCases.{AfterStep, kernel_after}
+use Rattle.rc_admit.proofs.Flight.{agree_more, completed_sum}
+use Rattle.rc_admit.proofs.Lists.{sum_to, sum_over, Each-append, Each-without, Each-get}
 use Rattle.rc_admit.proofs.Ops.{Keeps}
 use Rattle.rc_admit.proofs.Owned.{Stand, HasEdge, EdgeAt, owns, owns_pending, unheld, FrontFits, Fits, held, HasKind, HasKindPending, WellOwned}
 use Rattle.rc_admit.proofs.Steps.{line_keeps}
-
--- Where a step can be made, the world after it is well owned.
-abbrev pub KeepsStep : Program → Stand → Option (Event × World) → Type 0
-KeepsStep P S None = Unit {0}
-KeepsStep P S (Some x) = WellOwned P S x.1
 
 -- ---- the kernel
 
@@ -52,8 +47,7 @@ completes_keeps P S w k res x bs e h =
         room = o.room;
         stands = o.stands;
         total = λ p.
-            let a : sum_over (owns_pending P p) (without k w.pending) + owns P p r ≡ sum_over (owns_pending P p) w.pending = sum_over-without (owns_pending P p) k w.pending x e in
-            let b : sum_over (owns P p) (w.completed ++ r ∷ []) ≡ sum_over (owns P p) w.completed + (owns P p r + 0) = sum_over-append (owns P p) w.completed (r ∷ []) in
+            let a : sum_over (owns_pending P p) (without k w.pending) + sum_over (owns P p) (w.completed ++ r ∷ []) ≡ sum_over (owns_pending P p) w.pending + sum_over (owns P p) w.completed = completed_sum (owns P p) k w.pending w.completed x e in
             let t : sum_to (λ i. held P (h.0 i) (h.1 i) p) (length w.controls.threads) + unheld P w p ≤ limit P p = o.total p in
             omega arith;
         free = o.free;
@@ -61,44 +55,32 @@ completes_keeps P S w k res x bs e h =
         queued = o.queued;
         pending = Each-without (HasKindPending P) k w.pending o.pending;
         completed = Each-append (HasKind P) w.completed (r ∷ []) o.completed (Each-get (HasKindPending P) k w.pending x e o.pending, tt);
-        agree = map-append (λ (r : Request). r.user_data) w.completed (r ∷ []) ∙ (ap (λ xs. xs ++ r.user_data ∷ []) o.agree ∙ sym (map-append (λ (c : Completion). c.user_data) w.completions (completion_of r res ∷ [])));
+        agree = agree_more w.completed w.completions r res o.agree;
       },
     )
 
-pub kernel_keeps : (P : Program) (S : Stand) (w : World) (k : ℕ) (res : ℤ) (bytes : List ℕ) → WellOwned P S w → KeepsStep P S (kernel_step w k res bytes)
-kernel_keeps P S w k res bytes h = go (slice_get w.pending k) refl
-  where
-    event : (x : Pending) → slice_get w.pending k ≡ Some x → (bs : Option (List (Option (List ℕ)))) → KeepsStep P S (kernel_event w k res x.request bs)
-    event x e None = tt
-    event x e (Some bs) = completes_keeps P S w k res x bs e h
-
-    tested : (x : Pending) → slice_get w.pending k ≡ Some x → (b : Bool) → KeepsStep P S (if b then kernel_event w k res x.request (given_back w x.request bytes x.bytes) else None)
-    tested x e true = event x e (given_back w x.request bytes x.bytes)
-    tested x e false = tt
-
-    go : (x : Option Pending) → slice_get w.pending k ≡ x → KeepsStep P S (kernel_step_of w k res bytes x)
-    go None e = tt
-    go (Some x) e = tested x e (may_complete x.request res && nat_eq (length bytes) (bytes_brought x.request))
+pub kernel_keeps : (P : Program) (S : Stand) (w : World) (k : ℕ) (res : ℤ) (bytes : List ℕ) → WellOwned P S w → AfterStep (WellOwned P S) (kernel_step w k res bytes)
+kernel_keeps P S w k res bytes h = kernel_after w (WellOwned P S) k res bytes (λ x bs e. completes_keeps P S w k res x bs e h)
 
 -- ---- a thread
 
-event_keeps : (P : Program) (S : Stand) (c : Controls) (i : ℕ) (l : Line) (v : Option World) (m : Option Move) → Keeps P S c i v m → KeepsStep P S (with_controls v (as_event P i l (made P c i m)))
+event_keeps : (P : Program) (S : Stand) (c : Controls) (i : ℕ) (l : Line) (v : Option World) (m : Option Move) → Keeps P S c i v m → AfterStep (WellOwned P S) (with_controls v (as_event P i l (made P c i m)))
 event_keeps P S c i l None m h = tt
 event_keeps P S c i l (Some v) None h = tt
 event_keeps P S c i l (Some v) (Some m) h = h
 
-own_step : (S : Stand) (w : World) (i : ℕ) (r : ℤ) → HasEdge w.program S → WellOwned w.program S w → KeepsStep w.program S (thread_step w i r)
+own_step : (S : Stand) (w : World) (i : ℕ) (r : ℤ) → HasEdge w.program S → WellOwned w.program S w → AfterStep (WellOwned w.program S) (thread_step w i r)
 own_step S w i r edge h = go (slice_get w.controls.threads i) refl (next_line w.program w.controls i) refl
   where
-    go : (x : Option Standing) → slice_get w.controls.threads i ≡ x → (y : Option Line) → next_line w.program w.controls i ≡ y → KeepsStep w.program S (thread_step_at w i r x y)
+    go : (x : Option Standing) → slice_get w.controls.threads i ≡ x → (y : Option Line) → next_line w.program w.controls i ≡ y → AfterStep (WellOwned w.program S) (thread_step_at w i r x y)
     go None e y f = tt
     go (Some t) e None f = tt
     go (Some t) e (Some l) f =
         let at : stmt_of (slice_get (lines_of w.program i) t.place) ≡ Some l.stmt = ap stmt_of (ap (λ x. next_at w.program i x) (sym e) ∙ f) in
         let line = line_keeps w.program S edge w h.0 h.1 i t r h.2 e l.stmt (subst (λ x. EdgeAt w.program S i (h.0 i) (h.1 i) t.variables t.place x) at (edge i (h.0 i) (h.1 i) t.variables t.place (h.2.stands i t e))) in
-        subst (λ x. KeepsStep w.program S (with_controls (in_rings w t r l.stmt) (acts_on w.program w.controls i (stmt_answer w r l.stmt) x (next_line w.program w.controls i)))) (sym e)
-        (subst (λ y. KeepsStep w.program S (with_controls (in_rings w t r l.stmt) (acts_on w.program w.controls i (stmt_answer w r l.stmt) (Some t) y))) (sym f)
+        subst (λ x. AfterStep (WellOwned w.program S) (with_controls (in_rings w t r l.stmt) (acts_on w.program w.controls i (stmt_answer w r l.stmt) x (next_line w.program w.controls i)))) (sym e)
+        (subst (λ y. AfterStep (WellOwned w.program S) (with_controls (in_rings w t r l.stmt) (acts_on w.program w.controls i (stmt_answer w r l.stmt) (Some t) y))) (sym f)
         (event_keeps w.program S w.controls i l (in_rings w t r l.stmt) (acts w.program w.controls i t l.stmt (stmt_answer w r l.stmt)) line))
 
-pub thread_keeps : (P : Program) (S : Stand) → HasEdge P S → (w : World) (i : ℕ) (r : ℤ) → WellOwned P S w → KeepsStep P S (thread_step w i r)
-thread_keeps P S edge w i r h = subst (λ Q. KeepsStep Q S (thread_step w i r)) h.2.of (own_step S w i r (subst (λ Q. HasEdge Q S) (sym h.2.of) edge) (subst (λ Q. WellOwned Q S w) (sym h.2.of) h))
+pub thread_keeps : (P : Program) (S : Stand) → HasEdge P S → (w : World) (i : ℕ) (r : ℤ) → WellOwned P S w → AfterStep (WellOwned P S) (thread_step w i r)
+thread_keeps P S edge w i r h = subst (λ Q. AfterStep (WellOwned Q S) (thread_step w i r)) h.2.of (own_step S w i r (subst (λ Q. HasEdge Q S) (sym h.2.of) edge) (subst (λ Q. WellOwned Q S w) (sym h.2.of) h))

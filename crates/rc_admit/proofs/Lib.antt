@@ -1,5 +1,6 @@
 pub mod Rule
 pub mod Lists
+pub mod Flight
 pub mod Owned
 pub mod Moves
 pub mod Ops

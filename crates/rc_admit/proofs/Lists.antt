@@ -132,22 +132,6 @@ Each-get P k [] r e a = absurd (cc)
 Each-get P zero (x ∷ xs) r e a = let h : x ≡ r = cc in subst P h a.0
 Each-get P (suc k) (x ∷ xs) r e a = Each-get P k xs r e a.1
 
--- an element after a write
-pub get_set : {A : Type 0} (xs : List A) (i k : ℕ) (y z : A) → slice_get (slice_set xs i y) k ≡ Some z → ((k ≡ i) × (z ≡ y)) ⊎ ((k ≡ i → ⊥) × (slice_get xs k ≡ Some z))
-get_set [] i k y z e = absurd (cc)
-get_set (x ∷ xs) zero zero y z e = inl (refl, cc)
-get_set (x ∷ xs) zero (suc k) y z e = inr (λ q. omega arith, e)
-get_set (x ∷ xs) (suc i) zero y z e = inr (λ q. omega arith, e)
-get_set (x ∷ xs) (suc i) (suc k) y z e = elim (get_set xs i k y z e) [
-  | inl h ↦ inl (ap suc h.0, h.1)
-  | inr h ↦ inr (λ q. h.0 (omega arith), h.1)
-]
-
-pub get_within : {A : Type 0} (xs : List A) (k : ℕ) (x : A) → slice_get xs k ≡ Some x → k < length xs
-get_within [] k x e = absurd (cc)
-get_within (y ∷ xs) zero x e = omega arith
-get_within (y ∷ xs) (suc k) x e = let h : k < length xs = get_within xs k x e in omega arith
-
 -- a sum over what members carry
 pub sum_over-map : {A : Type 0} {B : Type 0} (f : B → ℕ) (g : A → B) (xs : List A) → sum_over (λ x. f (g x)) xs ≡ sum_over f (map g xs)
 sum_over-map f g [] = refl

@@ -2,6 +2,8 @@
 use Rattle.std.proofs.Common.{◌≡◌, ℕ, ◌+◌, ◌<◌, ◌≤◌, Bool, true, false, cond, List, length, Option, Some, None, refl, sym, ap, ◌∙◌, subst, inl, inr, arith}
 use Rattle.std.specs.Prelude.{slice_get, slice_set, nat_eq, ℤ}
 use Rattle.std.proofs.Math.ListN.{length-set}
+use Rattle.std.proofs.lemmas.Option.{slice_get_within}
+use Rattle.rc_world.proofs.Lists.{get_set}
 use Rattle.rc_lang.specs.Program.{Program, lines_of}
 use Rattle.rc_rules.specs.declared.mode.Inside.{Inside}
 use Rattle.rc_rules.specs.declared.mode.Mode.{Mode}
@@ -13,8 +15,9 @@ use Rattle.rc_world.specs.declared.world.Slot.TheVariants as entries
 use Rattle.rc_world.specs.Controls.{Standing, passes_arm, rest_at}
 use Rattle.rc_world.specs.Faults.{is_holder}
 use Rattle.rc_world.specs.Machine.{World, slot_len}
-use Rattle.rc_admit.proofs.Lists.{sum_to, sum_to_changed, nat_eq_cases, Each, get_set, get_within}
-use Rattle.rc_admit.proofs.Owned.{Stand, Leads, HasEdge, slot_bag, mode_bag, unheld, SlotFits, FrontFits, Fits, held, HasKind, HasKindPending, data_of, data_in, Owned, WellOwned, IsUnseen, settle, fits_weaker}
+use Rattle.rc_admit.proofs.Flight.{data_in, data_of}
+use Rattle.rc_admit.proofs.Lists.{sum_to, sum_to_changed, nat_eq_cases, Each}
+use Rattle.rc_admit.proofs.Owned.{Stand, Leads, HasEdge, slot_bag, mode_bag, unheld, SlotFits, FrontFits, Fits, held, HasKind, HasKindPending, Owned, WellOwned, IsUnseen, settle, fits_weaker}
 
 -- The world in which thread i went to this place, with these variables: it comes to rest, and at the end of an arm
 -- nothing is peeked any more.
@@ -105,7 +108,7 @@ module _ (P : Program) (S : Stand) (edge : HasEdge P S) (w w1 : World) (bags : �
           room = v.room;
           stands = λ k t g. elim (get_set w1.controls.threads i k new t g) [
             | inl h ↦
-                subst (λ (x : Standing). S k (bags' k) (modes' k) x.variables x.place) (sym h.1)
+                subst (λ (x : Standing). S k (bags' k) (modes' k) x.variables x.place) h.1
                 (subst (λ (x : Part → ℕ). S k x (modes' k) vars new.place) (sym (upd_at bags i s.bag k h.0))
                 (subst (λ x. S k s.bag x vars new.place) (sym (upd_at modes i s.mode k h.0)) (subst (λ j. S j s.bag s.mode vars new.place) (sym h.0) s.stands)))
             | inr h ↦
@@ -115,7 +118,7 @@ module _ (P : Program) (S : Stand) (edge : HasEdge P S) (w w1 : World) (bags : �
           total = λ p.
               let f : ℕ → ℕ = λ j. held P (bags j) (modes j) p in
               let g : ℕ → ℕ = λ j. held P (bags' j) (modes' j) p in
-              let within : i < length w.controls.threads = get_within w.controls.threads i th get in
+              let within : i < length w.controls.threads = slice_get_within w.controls.threads i th get in
               let off : (j : ℕ) → (j ≡ i → ⊥) → g j ≡ f j = λ j ne. ap (λ (x : Part → ℕ). x p + mode_bag P (modes' j) p) (upd_off bags i s.bag j ne) ∙ ap (λ x. bags j p + mode_bag P x p) (upd_off modes i s.mode j ne) in
               let at : g i ≡ held P s.bag s.mode p = ap (λ (x : Part → ℕ). x p + mode_bag P (modes' i) p) (upd_at bags i s.bag i refl) ∙ ap (λ x. s.bag p + mode_bag P x p) (upd_at modes i s.mode i refl) in
               let changed : sum_to g (length w.controls.threads) + f i ≡ sum_to f (length w.controls.threads) + g i = sum_to_changed f g (length w.controls.threads) i within off in

@@ -1,7 +1,6 @@
 -- Statements without a block keep what is true of each world.
 use Rattle.std.proofs.Common.{◌≡◌, ℕ, ◌+◌, ◌-◌, ◌≤◌, ◌<◌, Bool, true, false, cond, List, [], ◌∷◌, ◌++◌, length, take, drop, map, Option, Some, None, refl, sym, ap, ◌∙◌, subst, inl, inr, arith, length-append, length-drop}
 use Rattle.std.proofs.lemmas.Bool.{leb-true, ltb-true}
-use Rattle.std.proofs.lemmas.List.{append-nil, append_assoc}
 use Rattle.std.specs.Prelude.{slice_get, slice_set, nat_eq, nat_lt, ℤ, if◌then◌else◌}
 use Rattle.rc_lang.specs.declared.lines.Op.{Op}
 use Rattle.rc_lang.specs.declared.lines.Op.TheVariants.{Set, Assign, Add, Subtract, Load, Store, Fill, Print, GetSqe, PrepRead, PrepWrite, PrepFsync, PrepNop, SetData64, Submit, SubmitAndWait, CqeSeen}
@@ -28,10 +27,11 @@ use Rattle.rc_world.specs.declared.world.Slot.{Slot as Entry}
 use Rattle.rc_world.specs.declared.world.Slot.TheVariants as entries
 use Rattle.rc_world.specs.Controls.{Controls, Move, Standing, does, goes_on, loads, low_byte, moved, reaps, variable}
 use Rattle.rc_world.specs.Faults.{is_holder, is_ring_op}
-use Rattle.rc_world.specs.Machine.{Pending, World, all_begin, begins, bytes_of, byte_of, count_in, fills, fits_buffer, front_of, hands_over, is_take, op_answer, op_in_rings, opens_entry, prepares, queues, reaps_front, slot_len, stores, submits_by, taken_bytes, with_bytes, without_data}
+use Rattle.rc_world.specs.Machine.{Pending, World, bytes_of, byte_of, count_in, fills, fits_buffer, front_of, hands_over, is_take, op_answer, op_in_rings, opens_entry, prepares, queues, reaps_front, slot_len, stores, submits_by, with_bytes, without_data}
+use Rattle.rc_admit.proofs.Flight.{FrontOf, begun, data_in, data_of, front_is, taken_sum}
 use Rattle.rc_admit.proofs.Lists.{sum_over, sum_over-append, sum_over-cut, sum_over-map, nat_eq_cases, Each, Each-append, Each-take, Each-drop, Each-map}
 use Rattle.rc_admit.proofs.Moves.{Moved, moves, put, rung_moved, fits_parts}
-use Rattle.rc_admit.proofs.Owned.{Stand, Leads, MayBecome, HasEdge, slot_bag, owns, owns_pending, FitsKind, SlotFits, StartsWith, IsNonempty, FrontFits, Fits, HasKind, HasKindPending, data_of, data_in, Owned, WellOwned}
+use Rattle.rc_admit.proofs.Owned.{Stand, Leads, MayBecome, HasEdge, slot_bag, owns, owns_pending, FitsKind, SlotFits, StartsWith, IsNonempty, FrontFits, Fits, HasKind, HasKindPending, Owned, WellOwned}
 use Rattle.rc_admit.proofs.Rule.{AtLive, Claim, InRing, in_ring, prepared_as}
 
 pub credit_covered : (b : Part → ℕ) → 1 ≤ b Credit → (p : Part) → credits_bag 1 p ≤ b p
@@ -69,25 +69,6 @@ pub slot_prepared : (s : Entry) (kind : TokenKind) → SlotFits s (Prepared kind
 slot_prepared entries.Closed kind h = absurd h
 slot_prepared entries.Vacant kind h = absurd h
 slot_prepared (entries.Prepared r) kind h = (r, refl, h)
-
--- Requests that begin become pending, and nothing else changes but buffers.
-pub record Begun (w : World) (rs : List Request) : Type 0 where
-  pub pending : List Pending
-  pub buffers : List (Option (List ℕ))
-  pub are : map (λ (x : Pending). x.request) pending ≡ rs
-  pub is : all_begin w rs ≡ record w { pending = w.pending ++ pending; buffers = buffers }
-
-pub begun : (w : World) (rs : List Request) → Begun w rs
-begun w [] = record { pending = []; buffers = w.buffers; are = refl; is = ap (λ (ps : List Pending). record w { pending = ps }) (sym (append-nil w.pending)) }
-begun w (r ∷ rs) =
-    let x : Pending = record { request = r; bytes = taken_bytes w.buffers r } in
-    let n = begun (begins w r) rs in
-    record {
-      pending = x ∷ n.pending;
-      buffers = n.buffers;
-      are = ap (λ qs. r ∷ qs) n.are;
-      is = n.is ∙ ap (λ (ps : List Pending). record w { pending = ps; buffers = n.buffers }) (append_assoc w.pending (x ∷ []) n.pending);
-    }
 
 -- ---- what changes
 
@@ -195,10 +176,7 @@ module _ (P : Program) (S : Stand) (w : World) (bags : ℕ → Part → ℕ) (mo
         same = refl;
         lock = refl;
         local = λ p.
-            let a : sum_over (owns_pending P p) (w.pending ++ ps) ≡ sum_over (owns_pending P p) w.pending + sum_over (owns_pending P p) ps = sum_over-append (owns_pending P p) w.pending ps in
-            let b : sum_over (owns P p) (take n w.queued) + sum_over (owns P p) (drop n w.queued) ≡ sum_over (owns P p) w.queued = sum_over-cut (owns P p) n w.queued in
-            let c : sum_over (owns_pending P p) ps ≡ sum_over (owns P p) (map (λ (x : Pending). x.request) ps) = sum_over-map (owns P p) (λ (x : Pending). x.request) ps in
-            let d : sum_over (owns P p) (map (λ (x : Pending). x.request) ps) ≡ sum_over (owns P p) (take n w.queued) = ap (sum_over (owns P p)) are in
+            let a : sum_over (owns P p) (drop n w.queued) + sum_over (owns_pending P p) (w.pending ++ ps) ≡ sum_over (owns P p) w.queued + sum_over (owns_pending P p) w.pending = taken_sum (owns P p) n w.queued w.pending ps are in
             omega arith;
         bound = omega arith;
         slot = has.1;
@@ -210,34 +188,28 @@ module _ (P : Program) (S : Stand) (w : World) (bags : ℕ → Part → ℕ) (mo
       })
 
   -- The front completion and its request go away.
-  pub seen : (b : Part → ℕ) (c : Completion) (cs : List Completion) (r : Request) (rs : List Request) → w.completions ≡ c ∷ cs → w.completed ≡ r ∷ rs → r.user_data ≡ c.user_data → data_of rs ≡ data_in cs → ((p : Part) → b p ≤ bags i p + owned P r.user_data p) → Moved P w (record w { completions = cs; completed = without_data c.user_data w.completed; controls = record w.controls { peeked = false } }) bags modes i b (Locked (record s { peeked = Unseen }))
-  seen b c cs r rs ec er u ag local =
+  pub seen : (b : Part → ℕ) (c : Completion) (cs : List Completion) (f : FrontOf w.completed c cs) → w.completions ≡ c ∷ cs → ((p : Part) → b p ≤ bags i p + owned P f.request.user_data p) → Moved P w (record w { completions = cs; completed = without_data c.user_data w.completed; controls = record w.controls { peeked = false } }) bags modes i b (Locked (record s { peeked = Unseen }))
+  seen b c cs f ec local =
       let h : length w.queued + slot_len w.slot ≤ s.queued = has.0 in
       let w1 : World = record w { completions = cs; completed = without_data c.user_data w.completed; controls = record w.controls { peeked = false } } in
-      let y : nat_eq r.user_data c.user_data ≡ true = elim (nat_eq_cases r.user_data c.user_data) [ inl z ↦ z.1 | inr z ↦ absurd (z.0 u) ] in
-      let gone : without_data c.user_data w.completed ≡ rs = ap (without_data c.user_data) er ∙ ap (λ (t : Bool). if t then rs else r ∷ without_data c.user_data rs) y in
       rung_moved P S w w1 bags modes i b s (record s { peeked = Unseen }) o e (record {
         of = o.of;
         room = o.room;
         same = refl;
         lock = refl;
         local = λ p.
-            let x : b p ≤ bags i p + owned P r.user_data p = local p in
-            let a : sum_over (owns P p) (without_data c.user_data w.completed) ≡ sum_over (owns P p) rs = ap (sum_over (owns P p)) gone in
-            let d : sum_over (owns P p) w.completed ≡ owned P r.user_data p + sum_over (owns P p) rs = ap (sum_over (owns P p)) er in
+            let x : b p ≤ bags i p + owned P f.request.user_data p = local p in
+            let a : sum_over (owns P p) (without_data c.user_data w.completed) ≡ sum_over (owns P p) f.others = ap (sum_over (owns P p)) f.gone in
+            let d : sum_over (owns P p) w.completed ≡ owned P f.request.user_data p + sum_over (owns P p) f.others = ap (sum_over (owns P p)) f.is in
             omega (arith, x);
         bound = h;
         slot = has.1;
         front = tt;
         queued = o.queued;
         pending = o.pending;
-        completed = subst (λ xs. Each (HasKind P) xs) (sym gone) (subst (λ xs. Each (HasKind P) xs) er o.completed).1;
-        agree = ap data_of gone ∙ ag;
+        completed = subst (λ xs. Each (HasKind P) xs) (sym f.gone) (subst (λ xs. Each (HasKind P) xs) f.is o.completed).1;
+        agree = ap data_of f.gone ∙ f.agree;
       })
-
-pub agree_head : (xs : List Request) (c : Completion) (cs : List Completion) → data_of xs ≡ c.user_data ∷ data_in cs → (r : Request) × (rs : List Request) × (xs ≡ r ∷ rs) × (r.user_data ≡ c.user_data) × (data_of rs ≡ data_in cs)
-agree_head [] c cs e = absurd (cc)
-agree_head (r ∷ rs) c cs e = (r, rs, refl, cc, cc)
 
 nonempty_head : (cs : List Completion) → IsNonempty cs → (c : Completion) × (ds : List Completion) × (cs ≡ c ∷ ds)
 nonempty_head [] h = absurd h
@@ -326,10 +298,10 @@ module _ (P : Program) (S : Stand) (edge : HasEdge P S) (w : World) (bags : ℕ 
   -- A completion is there, and the state behind it has no more than its request gives back.
   seen_keeps : (s : Inside) (b : Part → ℕ) (d : Completion) (ds : List Completion) → modes i ≡ Locked s → w.completions ≡ d ∷ ds → ((p : Part) → b p ≤ bags i p + owned P d.user_data p) → Leads S i b (Locked (record s { peeked = Unseen })) t.variables (t.place + 1) → Keeps P S w.controls i (reaps_front w w.completions) (reaps w.controls t (front_of w.completions))
   seen_keeps s b d ds e ec local l =
-      let a = agree_head w.completed d ds (o.agree ∙ ap data_in ec) in
-      let le : (p : Part) → b p ≤ bags i p + owned P a.0.user_data p = λ p. subst (λ u. b p ≤ bags i p + owned P u p) (sym a.3) (local p) in
+      let f = front_is w.completed d ds (o.agree ∙ ap data_in ec) in
+      let le : (p : Part) → b p ≤ bags i p + owned P f.request.user_data p = λ p. subst (λ u. b p ≤ bags i p + owned P u p) (sym f.same) (local p) in
       subst (λ cs. Keeps P S w.controls i (reaps_front w cs) (reaps w.controls t (front_of cs))) (sym ec)
-      (goes _ t.variables b (Locked (record s { peeked = Unseen })) (seen P S w bags modes i o s e b d ds a.0 a.1 ec a.2 a.3 a.4 le) l)
+      (goes _ t.variables b (Locked (record s { peeked = Unseen })) (seen P S w bags modes i o s e b d ds f ec le) l)
 
   reap_keeps : (s : Inside) (x : Peeked) → s.peeked ≡ x → modes i ≡ Locked s → is_seen x ≡ true → Leads S i (plus (bags i) (reaped P x)) (Locked (record s { peeked = Unseen })) t.variables (t.place + 1) → Keeps P S w.controls i (reaps_front w w.completions) (reaps w.controls t (front_of w.completions))
   reap_keeps s Unseen q e h l = absurd (cc)

@@ -32,6 +32,7 @@ use Rattle.rc_world.specs.declared.world.Slot.TheVariants as entries
 use Rattle.rc_world.specs.Controls.{Standing, arm_for, ends_arm, hop_of, is_arm_end, none_arm, or_from, settled}
 use Rattle.rc_world.specs.Faults.{is_holder}
 use Rattle.rc_world.specs.Machine.{Pending, World, slot_len}
+use Rattle.rc_admit.proofs.Flight.{data_in, data_of, in_flight, of_pending}
 use Rattle.rc_admit.proofs.Lists.{sum_to, sum_over, Each}
 use Rattle.rc_admit.proofs.Rule.{AtLive}
 
@@ -114,10 +115,10 @@ abbrev pub owns : Program → Part → Request → ℕ
 owns P p r = owned P r.user_data p
 
 abbrev pub owns_pending : Program → Part → Pending → ℕ
-owns_pending P p x = owns P p x.request
+owns_pending P p = of_pending (owns P p)
 
 abbrev pub unheld : Program → World → Part → ℕ
-unheld P w p = sum_over (owns P p) w.queued + sum_over (owns_pending P p) w.pending + sum_over (owns P p) w.completed
+unheld P w p = in_flight (owns P p) w
 
 -- The request is one of this kind, of this buffer.
 abbrev pub FitsKind : Request → TokenKind → Type 0
@@ -161,12 +162,6 @@ HasKind P r = (kind : TokenKind) × (kind_of P r.user_data ≡ Some kind) × Fit
 
 abbrev pub HasKindPending : Program → Pending → Type 0
 HasKindPending P x = HasKind P x.request
-
-abbrev pub data_of : List Request → List ℕ
-data_of rs = map (λ (r : Request). r.user_data) rs
-
-abbrev pub data_in : List Completion → List ℕ
-data_in cs = map (λ (c : Completion). c.user_data) cs
 
 pub record Owned (P : Program) (S : ℕ → (Part → ℕ) → Mode → List ℤ → ℕ → Type 0) (w : World) (bags : ℕ → Part → ℕ) (modes : ℕ → Mode) : Type 0 where
   pub of : w.program ≡ P

@@ -10,10 +10,11 @@ use Rattle.rc_world.specs.declared.event.Event.{Event}
 use Rattle.rc_world.specs.Machine.{World, start_world}
 use Rattle.rc_world.specs.Runs.{IsRun, IsSafe, IsStep}
 use Rattle.rc_admit.specs.Laws.{AcceptedIsSafe}
+use Rattle.rc_world.proofs.RingCases.{AfterStep}
 use Rattle.rc_admit.proofs.Excludes.{no_fault}
 use Rattle.rc_admit.proofs.Flat.{Labelled, labelled_edge}
 use Rattle.rc_admit.proofs.FlatStart.{headers_within, labelled_start}
-use Rattle.rc_admit.proofs.Kernel.{KeepsStep, kernel_keeps, thread_keeps}
+use Rattle.rc_admit.proofs.Kernel.{kernel_keeps, thread_keeps}
 use Rattle.rc_admit.proofs.Owned.{Stand, HasEdge, HasStart, WellOwned}
 use Rattle.rc_admit.proofs.Start.{start_has}
 
@@ -25,8 +26,8 @@ pub record IsClaim (P : Program) (S : ℕ → (Part → ℕ) → Mode → List �
 
 step_keeps : (P : Program) (S : Stand) → HasEdge P S → (w after : World) (e : Event) → WellOwned P S w → IsStep w e after → WellOwned P S after
 step_keeps P S edge w after e h s = elim s.step [
-  | inl t ↦ subst (λ x. KeepsStep P S x) t.2 (thread_keeps P S edge w t.0 t.1 h)
-  | inr k ↦ subst (λ x. KeepsStep P S x) k.3 (kernel_keeps P S w k.0 k.1 k.2 h)
+  | inl t ↦ subst (λ x. AfterStep (WellOwned P S) x) t.2 (thread_keeps P S edge w t.0 t.1 h)
+  | inr k ↦ subst (λ x. AfterStep (WellOwned P S) x) k.3 (kernel_keeps P S w k.0 k.1 k.2 h)
 ]
 
 pub run_keeps : (P : Program) (S : Stand) → HasEdge P S → (events : List Event) (w after : World) → WellOwned P S w → IsRun w events after → WellOwned P S after

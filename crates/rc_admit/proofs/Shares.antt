@@ -1,7 +1,7 @@
 -- What requests own, by their kinds: of a buffer that they name a share, and of one that they fill all.
 use Rattle.std.proofs.Common.{◌≡◌, ℕ, suc, ◌+◌, ◌<◌, ◌≤◌, Bool, true, false, cond, ◌||◌, ◌&&◌, List, [], ◌∷◌, length, Option, Some, None, refl, sym, ap, ◌∙◌, subst, inl, inr, arith}
 use Rattle.std.proofs.lemmas.Bool.{and_from, and_parts, eq-eqb, eqb-true, false_from_ne_true, or_cases, or_from}
-use Rattle.std.proofs.lemmas.Option.{get_or_from_slice_get}
+use Rattle.std.proofs.lemmas.Option.{slice_get_within, get_or_from_slice_get}
 use Rattle.std.specs.List.{list_any}
 use Rattle.std.specs.Prelude.{nat_eq, slice_get, slice_index_or}
 use Rattle.rc_lang.specs.declared.program.Token.{Token}
@@ -13,7 +13,7 @@ use Rattle.rc_rules.specs.Rules.{kind_at, kind_bag, kind_in, kind_of, line_bag, 
 use Rattle.rc_split.specs.Bags.{ShareOf, TokenOf, Credit, shares_bag}
 use Rattle.rc_world.specs.Faults.{clash, clashes, clashes_with, has_buffer, has_data, names}
 use Rattle.rc_world.specs.Machine.{Pending, is_read}
-use Rattle.rc_admit.proofs.Lists.{sum_over, sum_over_one, nat_eq_cases, Each, Each-get, get_within}
+use Rattle.rc_admit.proofs.Lists.{sum_over, sum_over_one, nat_eq_cases, Each, Each-get}
 use Rattle.rc_admit.proofs.Owned.{FitsKind, HasKind, HasKindPending, owns, owns_pending}
 use Rattle.rc_admit.proofs.Steps.{token_owned}
 
@@ -43,7 +43,7 @@ token_kind P made u kind e = place (token_place P.tokens u) e
     token k (Some t) h f =
         let same : slice_index_or P.tokens k t ≡ t = get_or_from_slice_get P.tokens k t t h in
         let is : t.kind ≡ kind = cc in
-        subst (λ x. IsTokenKind P x) is (subst (λ (x : Token). IsTokenKind P x.kind) same (made.tokens k t (get_within P.tokens k t h)))
+        subst (λ x. IsTokenKind P x) is (subst (λ (x : Token). IsTokenKind P x.kind) same (made.tokens k t (slice_get_within P.tokens k t h)))
 
     place : (x : Option ℕ) → kind_at P.tokens x ≡ Some kind → IsTokenKind P kind
     place None f = absurd (cc)

@@ -2,6 +2,7 @@
 use Rattle.std.proofs.Common.{◌≡◌, ℕ, ◌+◌, ◌-◌, ◌≤◌, Bool, true, false, ◌||◌, cond, List, [], ◌∷◌, length, Option, Some, None, refl, sym, ap, ◌∙◌, subst, ◌⊎◌, inl, inr, arith}
 use Rattle.std.specs.Prelude.{slice_set, slice_get, slice_index_or, nat_eq, min, ℤ, pos, int_le, if◌then◌else◌}
 use Rattle.std.specs.Ordering.{int_eq}
+use Rattle.std.proofs.lemmas.Option.{slice_get_within}
 use Rattle.std.proofs.lemmas.Bool.{leb-true}
 use Rattle.std.proofs.lemmas.Bool.Decides.{Decides-int_eq}
 use Rattle.rc_lang.specs.Comparisons.{compares}
@@ -28,10 +29,11 @@ use Rattle.rc_world.specs.declared.world.Slot.TheVariants as entries
 use Rattle.rc_world.specs.Controls.{Standing, acts, arm_for, breaks, decides, locks, none_arm, peeks}
 use Rattle.rc_world.specs.Faults.{is_holder}
 use Rattle.rc_world.specs.Machine.{World, front_of, in_rings, slot_len, stmt_answer, test_answer, used_entries}
-use Rattle.rc_admit.proofs.Lists.{sum_to, sum_over, sum_to_one, nat_eq_cases, get_within}
+use Rattle.rc_admit.proofs.Flight.{data_in, front_is}
+use Rattle.rc_admit.proofs.Lists.{sum_to, sum_over, sum_to_one, nat_eq_cases}
 use Rattle.rc_admit.proofs.Moves.{Moved, moves, put, rung_moved, fits_parts, fits_made, holder_one, with_lock}
-use Rattle.rc_admit.proofs.Ops.{Keeps, slot_closed, op_keeps, quiet, has, agree_head}
-use Rattle.rc_admit.proofs.Owned.{Stand, Leads, MayPass, EdgeAt, HasEdge, slot_bag, owns, unheld, SlotFits, StartsWith, IsNonempty, FrontFits, Fits, held, data_in, Owned, WellOwned}
+use Rattle.rc_admit.proofs.Ops.{Keeps, slot_closed, op_keeps, quiet, has}
+use Rattle.rc_admit.proofs.Owned.{Stand, Leads, MayPass, EdgeAt, HasEdge, slot_bag, owns, unheld, SlotFits, StartsWith, IsNonempty, FrontFits, Fits, held, Owned, WellOwned}
 use Rattle.rc_admit.proofs.Rule.{AtLive, asks_lock, inside_of, met}
 
 pub outside_any : (w w1 : World) (h : Bool) (m : Mode) → h ≡ false → Fits w h m → Fits w1 false m
@@ -112,10 +114,10 @@ breaks_as_released P (Locked s) h = h
 twice : (P : Program) (S : Stand) (w : World) (bags : ℕ → Part → ℕ) (modes : ℕ → Mode) (i : ℕ) (t : Standing) (d : Completion) (ds : List Completion) → Owned P S w bags modes → slice_get w.controls.threads i ≡ Some t → w.completions ≡ d ∷ ds → 1 ≤ bags i (TokenOf d.user_data) → ⊥
 twice P S w bags modes i t d ds o get e h =
     let p : Part = TokenOf d.user_data in
-    let a = agree_head w.completed d ds (o.agree ∙ ap data_in e) in
-    let fl : sum_over (owns P p) w.completed ≡ owned P a.0.user_data p + sum_over (owns P p) a.1 = ap (sum_over (owns P p)) a.2 in
-    let one : 1 ≤ owned P a.0.user_data p = subst (λ u. 1 ≤ owned P u p) (sym a.3) (token_owned P d.user_data) in
-    let mine : held P (bags i) (modes i) p ≤ sum_to (λ i. held P (bags i) (modes i) p) (length w.controls.threads) = sum_to_one (λ i. held P (bags i) (modes i) p) (length w.controls.threads) i (get_within w.controls.threads i t get) in
+    let f = front_is w.completed d ds (o.agree ∙ ap data_in e) in
+    let fl : sum_over (owns P p) w.completed ≡ owned P f.request.user_data p + sum_over (owns P p) f.others = ap (sum_over (owns P p)) f.is in
+    let one : 1 ≤ owned P f.request.user_data p = subst (λ u. 1 ≤ owned P u p) (sym f.same) (token_owned P d.user_data) in
+    let mine : held P (bags i) (modes i) p ≤ sum_to (λ i. held P (bags i) (modes i) p) (length w.controls.threads) = sum_to_one (λ i. held P (bags i) (modes i) p) (length w.controls.threads) i (slice_get_within w.controls.threads i t get) in
     let tot : sum_to (λ i. held P (bags i) (modes i) p) (length w.controls.threads) + unheld P w p ≤ 1 = o.total p in
     omega arith
 

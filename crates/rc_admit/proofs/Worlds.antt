@@ -1,5 +1,6 @@
 -- What a world without a fault is like, and so each world of a run of a safe program.
 use Rattle.std.proofs.Common.{◌≡◌, ℕ, zero, suc, ◌+◌, ◌-◌, ◌<◌, ◌⊎◌, Bool, true, false, ◌&&◌, ◌||◌, List, [], ◌∷◌, length, drop, Option, Some, None, refl, sym, ap, ◌∙◌, subst, inl, inr, arith, length-drop}
+use Rattle.std.proofs.lemmas.Option.{slice_get_within}
 use Rattle.std.proofs.lemmas.Bool.{and_cases, and_from, and_parts, cases_order, eq-eqb, eqb-true, leb-false, leb-true, not-false, or_left, or_parts, or_right}
 use Rattle.std.specs.List.{list_any}
 use Rattle.std.specs.Prelude.{nat_eq, nat_le, not, slice_get, ℤ, if◌then◌else◌}
@@ -22,7 +23,6 @@ use Rattle.rc_world.specs.Machine.{Pending, World, in_rings, is_read, reaps_fron
 use Rattle.rc_world.proofs.LawFaultless.{none_at, none_in_kernel, none_of_kind}
 use Rattle.rc_admit.specs.Worlds.{DataIsFresh, CallsUnderLock, EachReapsOne, EntrySuits, Fills, FindsEntry, HasRoom, IsNext, IsPending, IsRingCall, Names, NoKernelClash, NoReadOfFilling, NoThreadRace, NoWriteOfPending, OfSafeWorlds, ReadsBuffer, StaysWithinBuffers, Suits, WritesBuffer}
 use Rattle.rc_admit.proofs.Excludes.{next_is}
-use Rattle.rc_admit.proofs.Lists.{get_within}
 
 -- ---- words of the definitions
 
@@ -194,7 +194,7 @@ module _ (w : World) (none : fault_of w ≡ None) where
   no_conflict i j x y lt n m =
       let races : races_from w (access_by x) (i + 1) (drop (i + 1) w.controls.threads) ≡ false = at ThreadRace i (Do x) n in
       let t = next_is w j m.0 m.1 in
-      let in_all : j < length w.controls.threads = get_within w.controls.threads j t.thread t.stands in
+      let in_all : j < length w.controls.threads = slice_get_within w.controls.threads j t.thread t.stands in
       let len : length (drop (i + 1) w.controls.threads) ≡ length w.controls.threads - (i + 1) = length-drop (i + 1) w.controls.threads in
       let le : j - (i + 1) < length (drop (i + 1) w.controls.threads) = omega arith in
       let is : (i + 1) + (j - (i + 1)) ≡ j = omega arith in

@@ -208,7 +208,7 @@ case_grows u (Live b m) (Live c n) w = go (nat_lt 0 (b (TokenOf u))) (nat_lt 0 (
         let g : nat_lt 0 (c (TokenOf u)) ≡ true = le-leb 1 (c (TokenOf u)) (omega (arith, d, w.0 (TokenOf u))) in
         absurd (cc (f, g))
 
-modes_agree : (m n m' n' : Mode) → WeakerMode m m' → WeakerMode n n' → agree_modes m n ≡ true → agree_modes m' n' ≡ true
+pub modes_agree : (m n m' n' : Mode) → WeakerMode m m' → WeakerMode n n' → agree_modes m n ≡ true → agree_modes m' n' ≡ true
 modes_agree Unlocked n Unlocked n' v w e = refl
 modes_agree (Locked i) Unlocked (Locked i') Unlocked v w e = refl
 modes_agree (Locked i) (Locked j) (Locked i') (Locked j') v w e = subst (λ x. same_slot x j'.slot ≡ true) v.slot (subst (λ y. same_slot i.slot y ≡ true) w.slot e)
@@ -217,7 +217,7 @@ modes_agree (Locked i) n Unlocked n' v w e = absurd v
 modes_agree (Locked i) Unlocked (Locked i') (Locked j') v w e = absurd w
 modes_agree (Locked i) (Locked j) (Locked i') Unlocked v w e = absurd w
 
-agree_grows : (s t s' t' : Label) → Weaker s s' → Weaker t t' → agree s t ≡ true → agree s' t' ≡ true
+pub agree_grows : (s t s' t' : Label) → Weaker s s' → Weaker t t' → agree s t ≡ true → agree s' t' ≡ true
 agree_grows s t Dead t' w v e = refl
 agree_grows s t (Live a m) Dead w v e = refl
 agree_grows Dead t (Live a m) (Live b n) w v e = absurd w

@@ -12,7 +12,7 @@ use Rattle.rc_rules.specs.declared.mode.Peeked.{Peeked}
 use Rattle.rc_rules.specs.declared.mode.Peeked.TheVariants.{Unseen}
 use Rattle.rc_rules.specs.declared.mode.Slot.{Slot}
 use Rattle.rc_rules.specs.declared.mode.Slot.TheVariants.{Closed, Vacant, Prepared}
-use Rattle.rc_rules.specs.Labels.{Label, Dead, Live, Weaker, WeakerMode, IsStrongest, IsSame}
+use Rattle.rc_rules.specs.Labels.{Label, Dead, Live, Weaker, WeakerMode, WeakerThanEach, IsStrongest, IsSame}
 use Rattle.rc_rules.specs.Labellings.{label_at}
 use Rattle.rc_rules.specs.Premises.{Premise, Meets, MeetsBelow, FailsFirst}
 use Rattle.rc_rules.specs.Rules.{same_kind, same_slot, test_mode, with_peeked}
@@ -64,6 +64,10 @@ weaker_trans s t Dead v w = tt
 weaker_trans s Dead (Live c o) v w = absurd w
 weaker_trans Dead (Live b n) (Live c o) v w = absurd v
 weaker_trans (Live a m) (Live b n) (Live c o) v w = (λ p. omega (arith, v.0 p, w.0 p), mode_trans m n o v.1 w.1)
+
+pub weaker_each : (s t : Label) (ts : List Label) → Weaker s t → WeakerThanEach t ts → WeakerThanEach s ts
+weaker_each s t [] w h = tt
+weaker_each s t (x ∷ ts) w h = (weaker_trans s t x w h.0, weaker_each s t ts w h.1)
 
 pub same_below : (s t : Label) → IsSame s t → Weaker s t
 same_below Dead Dead e = tt

@@ -92,7 +92,7 @@ abbrev pub locked : Mode → (Inside → List (ℕ × Premise)) → List (ℕ ×
 locked Unlocked F = (1, Is false) ∷ []
 locked (Locked i) F = F i
 
--- ---- statements without a block
+-- ---- statements without a block: what they ask, and the state behind them; the others ask nothing and leave it
 
 abbrev pub op_premises : Program → (Part → ℕ) → Mode → Op → List (ℕ × Premise)
 op_premises P bag m (ops.Load x b i) = (8, Is (nat_le 1 (bag (ShareOf b)))) ∷ (9, Is (nat_lt i (bytes_at P.buffers b))) ∷ []
@@ -107,11 +107,7 @@ op_premises P bag m (ops.SetData64 u) = locked m (λ i. (5, Is (has_kind i.slot)
 op_premises P bag m (ops.Submit x) = locked m (λ i. (4, Is (same_slot i.slot Closed)) ∷ [])
 op_premises P bag m (ops.SubmitAndWait x n) = locked m (λ i. (4, Is (same_slot i.slot Closed)) ∷ [])
 op_premises P bag m ops.CqeSeen = locked m (λ i. (11, Is (is_seen i.peeked)) ∷ [])
-op_premises P bag m (ops.Set x n) = []
-op_premises P bag m (ops.Assign x y) = []
-op_premises P bag m (ops.Add x a b) = []
-op_premises P bag m (ops.Subtract x a b) = []
-op_premises P bag m (ops.Print x) = []
+op_premises P bag m _ = []
 
 -- no premise of a call on the ring is met without the lock
 abbrev pub if_locked : Mode → (Inside → Label) → Label
@@ -132,16 +128,7 @@ op_effect P bag m (ops.PrepFsync fd datasync) = if_locked m (λ i. Live bag (Loc
 op_effect P bag m ops.PrepNop = if_locked m (λ i. Live bag (Locked (record i { slot = Prepared Nop })))
 op_effect P bag m (ops.SetData64 u) = if_locked m (λ i. Live (minus bag (token_bag u)) (Locked (record i { slot = Closed })))
 op_effect P bag m ops.CqeSeen = if_locked m (λ i. Live (plus bag (reaped P i.peeked)) (Locked (record i { peeked = Unseen })))
-op_effect P bag m (ops.Submit x) = Live bag m
-op_effect P bag m (ops.SubmitAndWait x n) = Live bag m
-op_effect P bag m (ops.Load x b i) = Live bag m
-op_effect P bag m (ops.Store b i x) = Live bag m
-op_effect P bag m (ops.Fill b x) = Live bag m
-op_effect P bag m (ops.Set x n) = Live bag m
-op_effect P bag m (ops.Assign x y) = Live bag m
-op_effect P bag m (ops.Add x a b) = Live bag m
-op_effect P bag m (ops.Subtract x a b) = Live bag m
-op_effect P bag m (ops.Print x) = Live bag m
+op_effect P bag m _ = Live bag m
 
 -- ---- states
 

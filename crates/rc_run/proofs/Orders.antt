@@ -20,7 +20,7 @@ use Rattle.rc_world.specs.declared.world.Slot.TheVariants.{Closed, Vacant, Prepa
 use Rattle.rc_world.specs.Controls.{Controls, Standing, controls_step, low_byte, next_line, variable}
 use Rattle.rc_world.specs.Machine.{Pending, World, bytes_brought, bytes_of, count_in, fills, fits_buffer, given_back, hands_over, in_rings, is_take, kernel_event, kernel_step, kernel_step_of, new_request, op_in_rings, opens_entry, prepared_nop, prepares, queues, reaps_front, start_world, stmt_answer, stores, submits_by, thread_step, thread_step_at, with_bytes, with_controls, without}
 use Rattle.rc_world.specs.Runs.{IsRun}
-use Rattle.rc_admit.proofs.Ops.{begun}
+use Rattle.rc_admit.proofs.Flight.{begun}
 use Rattle.rc_run.specs.Calm.{IsPlain}
 use Rattle.rc_run.specs.Lives.{IsInOrder}
 

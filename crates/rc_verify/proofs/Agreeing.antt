@@ -1,18 +1,13 @@
 -- Ends that agree on the slot, and one more.
 use Rattle.std.proofs.Common.{◌≡◌, Bool, true, false, ◌&&◌, List, [], ◌∷◌, ◌++◌, refl, sym, ap, subst, ◌∙◌}
+use Rattle.std.proofs.lemmas.Bool.{and_from, and_parts}
 use Rattle.rc_rules.specs.declared.mode.Mode.{Mode}
 use Rattle.rc_rules.specs.declared.mode.Mode.TheVariants.{Unlocked, Locked}
 use Rattle.rc_rules.specs.Labels.{Label, Dead, Live, Weaker, WeakerMode, WeakerThanEach, IsStrongest}
 use Rattle.rc_rules.specs.Rules.{agree, agree_all, agree_each, agree_modes, same_slot}
+use Rattle.rc_rules.proofs.Growth.{agree_grows}
+use Rattle.rc_rules.proofs.Weaker.{weaker_refl}
 use Rattle.rc_verify.proofs.Fit.{AreAll, kept_by}
-
-and_left : (a b : Bool) → (a && b) ≡ true → a ≡ true
-and_left true b e = refl
-and_left false b e = absurd (cc)
-
-and_right : (a b : Bool) → (a && b) ≡ true → b ≡ true
-and_right true b e = e
-and_right false b e = absurd (cc)
 
 abbrev pub each_agrees : List Label → Label → Bool
 each_agrees [] y = true
@@ -44,23 +39,11 @@ all_more (x ∷ xs) y =
 
 -- ---- the meet agrees as its ends do
 
-modes_down : (m n k : Mode) → WeakerMode m n → agree_modes m k ≡ true → agree_modes n k ≡ true
-modes_down m Unlocked k w e = refl
-modes_down Unlocked (Locked j) k w e = absurd w
-modes_down (Locked i) (Locked j) Unlocked w e = refl
-modes_down (Locked i) (Locked j) (Locked k) w e = subst (λ x. same_slot x k.slot ≡ true) w.slot e
-
 modes_up : (m n k : Mode) → WeakerMode m n → agree_modes n k ≡ true → agree_modes m k ≡ true
 modes_up Unlocked n k w e = refl
 modes_up (Locked i) Unlocked k w e = absurd w
 modes_up (Locked i) (Locked j) Unlocked w e = refl
 modes_up (Locked i) (Locked j) (Locked k) w e = subst (λ x. same_slot x k.slot ≡ true) (sym w.slot) e
-
-down : (m x y : Label) → Weaker m x → agree m y ≡ true → agree x y ≡ true
-down m Dead y w e = refl
-down Dead (Live b n) y w e = absurd w
-down (Live a m) (Live b n) Dead w e = refl
-down (Live a m) (Live b n) (Live c k) w e = modes_down m n k w.1 e
 
 up : (y s t : Label) → Weaker s t → (t ≡ Dead → ⊥) → agree t y ≡ true → agree s y ≡ true
 up y s Dead w d e = absurd (d refl)
@@ -68,29 +51,26 @@ up y Dead (Live b n) w d e = refl
 up Dead (Live a m) (Live b n) w d e = refl
 up (Live c k) (Live a m) (Live b n) w d e = modes_up m n k w.1 e
 
-both_true : (a b : Bool) → a ≡ true → b ≡ true → (a && b) ≡ true
-both_true a b e f = rw (e, f) refl
-
 each_below : (m y : Label) (xs : List Label) → WeakerThanEach m xs → agree m y ≡ true → each_agrees xs y ≡ true
 each_below m y [] w e = refl
-each_below m y (x ∷ xs) w e = both_true (agree x y) (each_agrees xs y) (down m x y w.0 e) (each_below m y xs w.1 e)
+each_below m y (x ∷ xs) w e = and_from (agree x y) (each_agrees xs y) (agree_grows m y x y w.0 (weaker_refl y) e) (each_below m y xs w.1 e)
 
 all_of : (y : Label) (xs : List Label) → each_agrees xs y ≡ true → AreAll (λ x. agree x y ≡ true) xs
 all_of y [] e = tt
-all_of y (x ∷ xs) e = (and_left (agree x y) (each_agrees xs y) e, all_of y xs (and_right (agree x y) (each_agrees xs y) e))
+all_of y (x ∷ xs) e = let h = and_parts (agree x y) (each_agrees xs y) e in (h.0, all_of y xs h.1)
 
 meet_agrees : (m y : Label) (xs : List Label) → IsStrongest m xs → each_agrees xs y ≡ true → agree m y ≡ true
 meet_agrees m y xs b e = kept_by (λ x. agree x y ≡ true) refl (up y) m xs (all_of y xs e) b
 
 -- One more end agrees with the ones before exactly where it agrees with their meet.
 pub all_agree : (m y : Label) (xs : List Label) → agree_all xs ≡ true → IsStrongest m xs → agree m y ≡ true → agree_all (xs ++ y ∷ []) ≡ true
-all_agree m y xs a b e = all_more xs y ∙ both_true (agree_all xs) (each_agrees xs y) a (each_below m y xs b.weaker e)
+all_agree m y xs a b e = all_more xs y ∙ and_from (agree_all xs) (each_agrees xs y) a (each_below m y xs b.weaker e)
 
 pub not_all : (m y : Label) (xs : List Label) → IsStrongest m xs → agree m y ≡ false → agree_all (xs ++ y ∷ []) ≡ false
 not_all m y xs b e = go (agree_all (xs ++ y ∷ [])) refl
   where
     go : (c : Bool) → agree_all (xs ++ y ∷ []) ≡ c → c ≡ false
-    go true f = let h : agree m y ≡ true = meet_agrees m y xs b (and_right (agree_all xs) (each_agrees xs y) (sym (all_more xs y) ∙ f)) in absurd (cc (h, e))
+    go true f = let h : agree m y ≡ true = meet_agrees m y xs b (and_parts (agree_all xs) (each_agrees xs y) (sym (all_more xs y) ∙ f)).1 in absurd (cc (h, e))
     go false f = refl
 
 pub never_all : (y : Label) (xs : List Label) → agree_all xs ≡ false → agree_all (xs ++ y ∷ []) ≡ false

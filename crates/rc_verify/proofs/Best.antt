@@ -20,9 +20,9 @@ use Rattle.rc_rules.specs.Labellings.{label_at, befores, premises, IsGood, HasLa
 use Rattle.rc_rules.specs.Premises.{MeetsBelow, FailsFirst}
 use Rattle.rc_rules.specs.Rules.{same_kind, same_slot, agree_modes}
 use Rattle.rc_rules.specs.States.{both, AgreeOnLock}
-use Rattle.rc_rules.proofs.Growth.{rules_grow}
+use Rattle.rc_rules.proofs.Growth.{modes_agree, rules_grow}
 use Rattle.rc_rules.proofs.Meets.{both_strongest}
-use Rattle.rc_rules.proofs.Weaker.{meets_below, weaker_refl, weaker_trans}
+use Rattle.rc_rules.proofs.Weaker.{meets_below, weaker_each, weaker_refl}
 use Rattle.rc_verify.proofs.Strongest.{take_suc_at, front_good, last_good, weaker_than_more, begins, goes_on, below_strongest, known_below}
 use Rattle.rc_verify.specs.Strongest.{AreStrongest}
 
@@ -39,15 +39,11 @@ slot_same Closed = refl
 slot_same Vacant = refl
 slot_same (Prepared k) = kind_same k
 
--- what two modes have, where both say more than a third
-modes_agree : (k m n : Mode) → WeakerMode k m → WeakerMode k n → agree_modes m n ≡ true
-modes_agree Unlocked Unlocked Unlocked v w = refl
-modes_agree (Locked i) (Locked j) (Locked h) v w = subst (λ s. same_slot s h.slot ≡ true) v.slot (subst (λ s. same_slot i.slot s ≡ true) w.slot (slot_same i.slot))
-modes_agree Unlocked (Locked j) n v w = absurd v
-modes_agree Unlocked Unlocked (Locked h) v w = absurd w
-modes_agree (Locked i) Unlocked n v w = absurd v
-modes_agree (Locked i) (Locked j) Unlocked v w = absurd w
+mode_agrees : (m : Mode) → agree_modes m m ≡ true
+mode_agrees Unlocked = refl
+mode_agrees (Locked i) = slot_same i.slot
 
+-- two modes, where both say more than a third
 modes_alike : (a b : Part → ℕ) (k m n : Mode) → WeakerMode k m → WeakerMode k n → AgreeOnLock (Live a m) (Live b n)
 modes_alike a b Unlocked Unlocked Unlocked v w = tt
 modes_alike a b (Locked i) (Locked j) (Locked h) v w = tt
@@ -60,11 +56,7 @@ meet_of : (t x y : Label) → Weaker t x → Weaker t y → (s : Label) × IsStr
 meet_of t Dead y v w = (y, record { weaker = (tt, (weaker_refl y, tt)); strongest = λ u l. l.1.0 })
 meet_of t (Live a m) Dead v w = (Live a m, record { weaker = (weaker_refl (Live a m), (tt, tt)); strongest = λ u l. l.0 })
 meet_of Dead (Live a m) (Live b n) v w = absurd v
-meet_of (Live c k) (Live a m) (Live b n) v w = (Live (least a b) (both m n), both_strongest a b (least a b) m n (both m n) (modes_agree k m n v.1 w.1) (modes_alike a b k m n v.1 w.1) (λ p. refl) refl)
-
-each_below : (s t : Label) (ts : List Label) → Weaker s t → WeakerThanEach t ts → WeakerThanEach s ts
-each_below s t [] w h = tt
-each_below s t (x ∷ ts) w h = (weaker_trans s t x w h.0, each_below s t ts w h.1)
+meet_of (Live c k) (Live a m) (Live b n) v w = (Live (least a b) (both m n), both_strongest a b (least a b) m n (both m n) (modes_agree k k m n v.1 w.1 (mode_agrees k)) (modes_alike a b k m n v.1 w.1) (λ p. refl) refl)
 
 pub bounded_meet : (t : Label) (ss : List Label) → WeakerThanEach t ss → (s : Label) × IsStrongest s ss
 bounded_meet t [] h = (Dead, record { weaker = tt; strongest = λ u l. tt })
@@ -75,7 +67,7 @@ bounded_meet t (x ∷ ss) h = more (bounded_meet t ss h.1)
         let m : (s : Label) × IsStrongest s (x ∷ r.0 ∷ []) = meet_of t x r.0 h.0 (r.1.strongest t h.1) in (
           m.0,
           record {
-            weaker = (m.1.weaker.0, each_below m.0 r.0 ss m.1.weaker.1.0 r.1.weaker);
+            weaker = (m.1.weaker.0, weaker_each m.0 r.0 ss m.1.weaker.1.0 r.1.weaker);
             strongest = λ u l. m.1.strongest u (l.0, (r.1.strongest u l.1, tt));
           },
         )

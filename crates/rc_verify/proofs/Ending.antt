@@ -38,11 +38,11 @@ module _ (old new : State) (end y : Label) (xs : List Label) (forgets : IsStrong
   differs e = go (agree (label_of old) y) refl
     where
       go : (b : Bool) → agree (label_of old) y ≡ b → b ≡ false
-      go true f = let h : agree (label_of old) end ≡ true = agree_same (label_of old) end y (below end y forgets) (above end y forgets) f in absurd (cc (h, e))
+      go true f = let h : agree (label_of old) end ≡ true = agree_same (label_of old) end y (above end y forgets) f in absurd (cc (h, e))
       go false f = refl
 
   next_agree : (b c : Bool) → agree_all xs ≡ b → (b ≡ true → IsStrongest (label_of old) xs) → JoinsOn old new end c b → agree_all (xs ++ y ∷ []) ≡ c
-  next_agree true true e h j = all_agree (label_of old) y xs e (h refl) (agree_same (label_of old) y end (above end y forgets) (below end y forgets) j.0)
+  next_agree true true e h j = all_agree (label_of old) y xs e (h refl) (agree_same (label_of old) y end (below end y forgets) j.0)
   next_agree true false e h j = not_all (label_of old) y xs (h refl) (differs j.0)
   next_agree false c e h j = never_all y xs e ∙ sym j
 

@@ -7,7 +7,7 @@ use Rattle.rc_rules.specs.declared.mode.Peeked.TheVariants.{Unseen}
 use Rattle.rc_rules.specs.Labels.{Label, Weaker, WeakerThanEach, IsStrongest}
 use Rattle.rc_rules.specs.Labellings.{label_at, arm_end, arm_ends, break_end, break_ends}
 use Rattle.rc_rules.specs.Rules.{broken, peek_at}
-use Rattle.rc_rules.proofs.Weaker.{weaker_trans}
+use Rattle.rc_rules.proofs.Weaker.{weaker_each, weaker_trans}
 use Rattle.rc_verify.proofs.Keeping.{nothing_more}
 
 pub arms_more : (lines : List Line) (l : Line) (labels : List Label) (new : Label) (o : ℕ) → length labels ≡ length lines + 1 → arm_ends (lines ++ l ∷ []) (labels ++ new ∷ []) o ≡ arm_ends lines labels o ++ arm_end l.stmt o (label_at labels (length lines))
@@ -49,12 +49,8 @@ each_front : (s : Label) (xs : List Label) (y : Label) → WeakerThanEach s (xs 
 each_front s [] y w = (tt, w.0)
 each_front s (x ∷ xs) y w = let r = each_front s xs y w.1 in ((w.0, r.0), r.1)
 
-each_below : (s m : Label) (xs : List Label) → Weaker s m → WeakerThanEach m xs → WeakerThanEach s xs
-each_below s m [] w h = tt
-each_below s m (x ∷ xs) w h = (weaker_trans s m x w h.0, each_below s m xs w h.1)
-
 pub strongest_more : (new m e y : Label) (xs : List Label) → IsStrongest m xs → IsStrongest e (y ∷ []) → IsStrongest new (m ∷ e ∷ []) → IsStrongest new (xs ++ y ∷ [])
 strongest_more new m e y xs h k b = record {
-  weaker = each_more new xs y (each_below new m xs b.weaker.0 h.weaker) (weaker_trans new e y b.weaker.1.0 k.weaker.0);
+  weaker = each_more new xs y (weaker_each new m xs b.weaker.0 h.weaker) (weaker_trans new e y b.weaker.1.0 k.weaker.0);
   strongest = λ t w. let r = each_front t xs y w in b.strongest t (h.strongest t r.0, (k.strongest t (r.1, tt), tt));
 }

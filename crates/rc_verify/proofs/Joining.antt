@@ -10,6 +10,7 @@ use Rattle.rc_rules.specs.Labels.{Label, Dead, Live, Weaker, IsStrongest}
 use Rattle.rc_rules.specs.Premises.{Meets, FailsFirst}
 use Rattle.rc_rules.specs.Rules.{same_slot, agree, asks, broken, may_break, may_join, may_release, peek_at, peek_premises, released}
 use Rattle.rc_rules.specs.States.{State, label_of, program_of, AgreeOnLock, Gives}
+use Rattle.rc_rules.proofs.Growth.{agree_grows}
 use Rattle.rc_rules.proofs.Weaker.{not_both, only_itself, weaker_refl}
 use Rattle.rc_verify.specs.declared.arms.Arms.{Arms}
 use Rattle.rc_verify.specs.Arms.{Joins, JoinsOn}
@@ -35,14 +36,8 @@ alike_same (Live a (Locked x)) (Live b (Locked i)) (Live c k) v w h = tt
 alike_same (Live a (Locked x)) (Live b Unlocked) (Live c Unlocked) v w h = absurd h
 alike_same (Live a (Locked x)) (Live b Unlocked) (Live c (Locked k)) v w h = absurd v.1
 
-pub agree_same : (a e t : Label) → Weaker e t → Weaker t e → agree a t ≡ true → agree a e ≡ true
-agree_same Dead e t v w h = refl
-agree_same (Live a m) Dead t v w h = refl
-agree_same (Live a m) (Live b n) Dead v w h = absurd w
-agree_same (Live a Unlocked) (Live b n) (Live c k) v w h = refl
-agree_same (Live a (Locked x)) (Live b Unlocked) (Live c k) v w h = refl
-agree_same (Live a (Locked x)) (Live b (Locked i)) (Live c Unlocked) v w h = absurd v.1
-agree_same (Live a (Locked x)) (Live b (Locked i)) (Live c (Locked k)) v w h = subst (λ y. same_slot x.slot y ≡ true) (sym v.1.slot) h
+pub agree_same : (a e t : Label) → Weaker t e → agree a t ≡ true → agree a e ≡ true
+agree_same a e t w h = agree_grows a t a e (weaker_refl a) w h
 
 -- ---- what is forgotten
 
@@ -119,7 +114,7 @@ fits_with s here moved end b q f h w p =
     record {
       of = p ∙ ap program_of q ∙ f.of;
       alike = alike_same (label_of s) (label_of end) (broken b (label_of here)) v u f.alike;
-      agree = agree_same (label_of s) (label_of end) (broken b (label_of here)) v u (f.agree h);
+      agree = agree_same (label_of s) (label_of end) (broken b (label_of here)) u (f.agree h);
     }
 
 pub breaks : (s here moved end : State) (b : Bool) (old new : List (Option State)) → moved ≡ here → IsStrongest (label_of end) (broken b (label_of moved) ∷ []) → KeepsMeet s (label_of end) old new → Breaks s (broken b (label_of here)) old new

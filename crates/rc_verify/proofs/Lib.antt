@@ -18,5 +18,4 @@ mod Looping
 mod Breaking
 mod Placing
 mod Beginning
-mod Highest
 mod Examples

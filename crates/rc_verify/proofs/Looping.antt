@@ -29,9 +29,10 @@ use Rattle.rc_verify.specs.Walk.{AreKept, Fits, IsClosed, IsLoop, OnKept, Reache
 use Rattle.rc_verify.proofs.Branching.{on_ok}
 use Rattle.rc_verify.proofs.Fit.{fits_more, strongest_fits, top_fits}
 use Rattle.rc_verify.proofs.Keeping.{KeepsLast, few_loops, few_places, keep_more, kept_length, last_kept, nothing_more, places_pushed, pushed_none, same_last, some_last}
-use Rattle.rc_verify.proofs.Peeking.{dead_fits, dead_strongest, get_front}
+use Rattle.rc_verify.proofs.Peeking.{dead_fits, dead_strongest}
 use Rattle.rc_verify.proofs.Plainly.{branches_same, fits_behind, fits_known, opens_none, peek_same}
 use Rattle.rc_verify.proofs.Standing.{asked_at, breaks_next, here_is, loops_stay, onward, refused, took, turns}
+use Rattle.rc_verify.proofs.Strongest.{get_front}
 
 -- ---- lists
 

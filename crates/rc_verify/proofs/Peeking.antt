@@ -1,6 +1,6 @@
 -- Peeks and their arms.
 use Rattle.std.proofs.Common.{◌≡◌, ℕ, zero, suc, ◌+◌, ◌<◌, Bool, true, false, cond, ◌||◌, nat_eq, List, [], ◌∷◌, ◌++◌, drop, take, Option, Some, Result, Ok, Err, refl, sym, ap, subst, ◌∙◌, arith, slice_get}
-use Rattle.std.proofs.lemmas.Bool.{eqb-true}
+use Rattle.std.proofs.lemmas.Bool.{eqb-true, or_parts}
 use Rattle.rc_lang.specs.declared.lines.Block.{Block}
 use Rattle.rc_lang.specs.declared.lines.Block.TheVariants.{InLock, InIf, InElse, InPeek, InArm, InLoop}
 use Rattle.rc_lang.specs.declared.lines.Line.{Line}
@@ -28,14 +28,9 @@ use Rattle.rc_rules.proofs.Weaker.{only_itself}
 use Rattle.rc_verify.proofs.Keeping.{nothing_more, places_pushed}
 use Rattle.rc_verify.proofs.Plainly.{branches_same, fits_behind, loops_same, opens_none}
 use Rattle.rc_verify.proofs.Standing.{arms_next, fits_here, here_is, onward, refused}
+use Rattle.rc_verify.proofs.Strongest.{get_front}
 
 -- ---- lists
-
-pub get_front : {A : Type 0} (xs : List A) (n k : ℕ) (x : A) → slice_get (take n xs) k ≡ Some x → (slice_get xs k ≡ Some x) × (k < n)
-get_front xs zero k x e = absurd (cc)
-get_front [] (suc n) k x e = absurd (cc)
-get_front (y ∷ xs) (suc n) zero x e = (e, omega arith)
-get_front (y ∷ xs) (suc n) (suc k) x e = let h = get_front xs n k x e in (h.0, omega (arith, h.1))
 
 no_arm : (s : Stmt) (o : ℕ) (x : Label) → (s ≡ EndArm o → ⊥) → arm_end s o x ≡ []
 no_arm (EndArm p) o x n = go (nat_eq p o) refl
@@ -49,14 +44,6 @@ no_arms : (lines : List Line) (labels : List Label) (o : ℕ) → ((k : ℕ) (l 
 no_arms [] labels o n = refl
 no_arms (l ∷ lines) labels o n = ap (λ xs. xs ++ arm_ends lines (drop 1 labels) o) (no_arm l.stmt o (label_at labels 0) (n 0 l refl)) ∙ no_arms lines (drop 1 labels) o (λ k m e. n (suc k) m e)
 
-or_left : (a b : Bool) → (a || b) ≡ false → a ≡ false
-or_left true b e = absurd (cc)
-or_left false b e = refl
-
-or_right : (a b : Bool) → (a || b) ≡ false → b ≡ false
-or_right true b e = absurd (cc)
-or_right false b e = e
-
 no_peek_place : (b : Block) → is_peek b ≡ false → peek_place b ≡ []
 no_peek_place (InLock o) e = refl
 no_peek_place (InIf o) e = refl
@@ -67,7 +54,7 @@ no_peek_place (InLoop o k) e = refl
 
 pub no_peeks : (bs : List Block) → in_peek bs ≡ false → places peek_place bs ≡ []
 no_peeks [] e = refl
-no_peeks (b ∷ bs) e = ap (λ os. os ++ places peek_place bs) (no_peek_place b (or_left (is_peek b) (in_peek bs) e)) ∙ no_peeks bs (or_right (is_peek b) (in_peek bs) e)
+no_peeks (b ∷ bs) e = let h = or_parts (is_peek b) (in_peek bs) e in ap (λ os. os ++ places peek_place bs) (no_peek_place b h.0) ∙ no_peeks bs h.1
 
 -- ---- labels
 

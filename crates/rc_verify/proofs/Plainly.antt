@@ -9,7 +9,7 @@ use Rattle.rc_lang.specs.Nesting.{blocks_at, in_lock, innermost, without_innermo
 use Rattle.rc_lang.specs.Program.{Program, Thread, stmt_at}
 use Rattle.rc_lang.proofs.Along.{lock_next, locked_behind}
 use Rattle.rc_lang.proofs.Closing.{closes_lock}
-use Rattle.rc_lang.proofs.Lookups.{blocks_next, in_lock_pushed, nested_here}
+use Rattle.rc_lang.proofs.Lookups.{blocks_next, in_lock_pushed, nested_here, stands_within}
 use Rattle.rc_rules.specs.declared.cause.Cause.{Cause}
 use Rattle.rc_rules.specs.Labels.{Label, IsStrongest}
 use Rattle.rc_rules.specs.Labellings.{here, arm_end, break_end}
@@ -75,8 +75,8 @@ few_held : (j n : ℕ) → j < n → n ≤ 4096 → most_at j ≤ 2 ^ 19
 few_held j n l m = omega arith
 
 module _ (P : Program) (t : Thread) (j : ℕ) (w : Walk) (r : Reaches P t j w) where
-  pub small_here : j < length t.lines → IsSmall (label_of w.state)
-  small_here l = fits_small (in_lock (blocks_at t.lines j)) (most_at j) (label_of w.state) (few_held j (length t.lines) l r.thread.few_lines) (r.at.fits j (label_of w.state) r.at.here.at)
+  pub small_here : (s : Stmt) → stmt_at t.lines j ≡ Some s → IsSmall (label_of w.state)
+  small_here s e = let l = stands_within t.lines j s e in fits_small (in_lock (blocks_at t.lines j)) (most_at j) (label_of w.state) (few_held j (length t.lines) l r.thread.few_lines) (r.at.fits j (label_of w.state) r.at.here.at)
 
   pub do_turns : {X : Type 0} (op : Op) (new : State) (x : Result X Cause) → stmt_at t.lines j ≡ Some (Do op) → Gives w.state new x (asks (label_of w.state) (λ bag m. op_premises (program_of w.state) bag m op)) (goes (label_of w.state) (λ bag m. op_effect (program_of w.state) bag m op) ∷ []) → Turns P t j (record { state = new; branches = w.branches; peek = w.peek; loops = w.loops }) x
   do_turns op new x e g =

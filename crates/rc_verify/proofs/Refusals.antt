@@ -2,39 +2,28 @@
 use Rattle.std.proofs.Common.{◌≡◌, ℕ, zero, suc, ◌+◌, ◌<◌, ◌≤◌, ◌⊎◌, inl, inr, List, [], ◌∷◌, take, Some, refl, sym, ap, ◌∙◌, arith}
 use Rattle.std.specs.Prelude.{slice_get}
 use Rattle.std.proofs.lemmas.Bool.{cases_lt}
+use Rattle.std.proofs.lemmas.List.{take-take}
 use Rattle.rc_lang.specs.declared.lines.Line.{Line}
 use Rattle.rc_lang.specs.Program.{Program, Thread}
 use Rattle.rc_rules.specs.Labels.{Label}
 use Rattle.rc_rules.specs.Labellings.{IsGood, HasLabels, Passes, Accepts, IsRefused, IsRefusedAt, IsHeaderRefused, IsBodyRefused, header_premises}
 use Rattle.rc_rules.specs.Premises.{Premise, Meets, MeetsBelow}
 use Rattle.rc_rules.proofs.Weaker.{meets_below}
-use Rattle.rc_verify.proofs.Strongest.{good_at}
+use Rattle.rc_verify.proofs.Strongest.{get_front, good_at}
 
 -- ---- a beginning of the lines
-
-get_take : {X : Type 0} (n j : ℕ) (xs : List X) (x : X) → slice_get (take n xs) j ≡ Some x → (j < n) × (slice_get xs j ≡ Some x)
-get_take zero j xs x e = absurd cc
-get_take (suc n) j [] x e = absurd cc
-get_take (suc n) zero (y ∷ xs) x e = (omega arith, e)
-get_take (suc n) (suc j) (y ∷ xs) x e = let r = get_take n j xs x e in (omega (arith, r.0), r.1)
-
-take_front : {X : Type 0} (n j : ℕ) (xs : List X) → j ≤ n → take j (take n xs) ≡ take j xs
-take_front n zero xs le = refl
-take_front zero (suc j) xs le = absurd (omega (arith, le))
-take_front (suc n) (suc j) [] le = refl
-take_front (suc n) (suc j) (x ∷ xs) le = ap (λ ys. x ∷ ys) (take_front n j xs (omega (arith, le)))
 
 good_front : (P : Program) (thread : Thread) (lines : List Line) (n : ℕ) (ls : List Label) → IsGood P thread lines ls → IsGood P thread (take n lines) ls
 good_front P thread lines n ls g = record {
   begins = g.begins;
   each = λ j l is.
-      let r = get_take n j lines l is in
-      let a = g.each j l r.1 in
-      good_at P thread (take n lines) (take j lines) ls (take (j + 1) ls) j _ l.stmt (take_front n j lines (omega (arith, r.0))) refl refl a.meets a.after;
+      let r = get_front lines n j l is in
+      let a = g.each j l r.0 in
+      good_at P thread (take n lines) (take j lines) ls (take (j + 1) ls) j _ l.stmt (take-take j n lines (omega (arith, r.1))) refl refl a.meets a.after;
 }
 
 has_front : (P : Program) (thread : Thread) (lines : List Line) (m n : ℕ) → m ≤ n → HasLabels P thread (take n lines) → HasLabels P thread (take m lines)
-has_front P thread lines m n le h = let g = good_front P thread (take n lines) m h.0 h.1 in (h.0, rw (take_front n m lines le) at g)
+has_front P thread lines m n le h = let g = good_front P thread (take n lines) m h.0 h.1 in (h.0, rw (take-take m n lines le) at g)
 
 -- ---- lists of premises
 

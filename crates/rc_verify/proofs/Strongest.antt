@@ -10,6 +10,7 @@ use Rattle.std.proofs.Math.Numerals.{add-one}
 use Rattle.rc_lang.specs.declared.lines.Line.{Line}
 use Rattle.rc_lang.specs.declared.lines.Stmt.{Stmt}
 use Rattle.rc_lang.specs.Program.{Program, Thread}
+use Rattle.rc_lang.proofs.Lookups.{get_new, get_old, get_push}
 use Rattle.rc_rules.specs.Labels.{Label, Dead, WeakerThanEach, IsStrongest, IsSame}
 use Rattle.rc_rules.specs.Premises.{Meets}
 use Rattle.rc_rules.specs.Labellings.{label_at, befores, premises, IsGoodAt, IsGood, start_of}
@@ -18,32 +19,18 @@ use Rattle.rc_rules.proofs.Growth.{rules_grow}
 use Rattle.rc_rules.proofs.Weaker.{same_above, same_below, weaker_trans}
 use Rattle.rc_verify.specs.Strongest.{AreStrongest}
 
--- ---- lists with one more element
-
-pub slice_get-push_within : {X : Type 0} (xs : List X) (x y : X) (j : ℕ) → slice_get (xs ++ y ∷ []) j ≡ Some x → j < length xs → slice_get xs j ≡ Some x
-slice_get-push_within [] x y j e lt = absurd (omega arith)
-slice_get-push_within (z ∷ xs) x y zero e lt = e
-slice_get-push_within (z ∷ xs) x y (suc j) e lt = slice_get-push_within xs x y j e (omega arith)
-
-pub slice_get-push_at : {X : Type 0} (xs : List X) (x y : X) (j : ℕ) → slice_get (xs ++ y ∷ []) j ≡ Some x → length xs ≤ j → (j ≡ length xs) × (x ≡ y)
-slice_get-push_at [] x y zero e le = (refl, cc)
-slice_get-push_at [] x y (suc j) e le = absurd cc
-slice_get-push_at (z ∷ xs) x y zero e le = absurd (omega arith)
-slice_get-push_at (z ∷ xs) x y (suc j) e le = let r = slice_get-push_at xs x y j e (omega arith) in (omega (arith, r.0), r.1)
-
-pub push_at_within : {X : Type 0} (xs : List X) (x y : X) (j : ℕ) → slice_get xs j ≡ Some x → slice_get (xs ++ y ∷ []) j ≡ Some x
-push_at_within [] x y j e = absurd cc
-push_at_within (z ∷ xs) x y zero e = e
-push_at_within (z ∷ xs) x y (suc j) e = push_at_within xs x y j e
-
-pub push_at_end : {X : Type 0} (xs : List X) (y : X) → slice_get (xs ++ y ∷ []) (length xs) ≡ Some y
-push_at_end [] y = refl
-push_at_end (x ∷ xs) y = push_at_end xs y
+-- ---- lists
 
 pub take_suc_at : {X : Type 0} (xs : List X) (j : ℕ) (x : X) → slice_get xs j ≡ Some x → take (suc j) xs ≡ take j xs ++ x ∷ []
 take_suc_at [] j x e = absurd cc
 take_suc_at (y ∷ xs) zero x e = let f : y ≡ x = cc in ap (λ z. z ∷ []) f
 take_suc_at (y ∷ xs) (suc j) x e = ap (λ zs. y ∷ zs) (take_suc_at xs j x e)
+
+pub get_front : {X : Type 0} (xs : List X) (n k : ℕ) (x : X) → slice_get (take n xs) k ≡ Some x → (slice_get xs k ≡ Some x) × (k < n)
+get_front xs zero k x e = absurd cc
+get_front [] (suc n) k x e = absurd cc
+get_front (y ∷ xs) (suc n) zero x e = (e, omega arith)
+get_front (y ∷ xs) (suc n) (suc k) x e = let h = get_front xs n k x e in (h.0, omega (arith, h.1))
 
 -- ---- a labelling that is good at a list of lines, and one more
 
@@ -56,7 +43,7 @@ front_good P thread lines l ls g = record {
   begins = g.begins;
   each = λ j m is.
       let lt = slice_get_within lines j m is in
-      let a = g.each j m (push_at_within lines m l j is) in
+      let a = g.each j m (get_old lines (l ∷ []) j m is) in
       let e : take j (lines ++ l ∷ []) ≡ take j lines = take-append-le j lines (l ∷ []) (omega arith) in
       good_at P thread lines (take j (lines ++ l ∷ [])) ls (take (j + 1) ls) j _ m.stmt (sym e) refl refl a.meets a.after;
 }
@@ -64,7 +51,7 @@ front_good P thread lines l ls g = record {
 -- the last line
 pub last_good : (P : Program) (thread : Thread) (lines : List Line) (l : Line) (ls : List Label) → IsGood P thread (lines ++ l ∷ []) ls → Meets (premises P thread lines (take (length lines + 1) ls) l.stmt) × WeakerThanEach (label_at ls (length lines + 1)) (befores P thread lines (take (length lines + 1) ls) l.stmt)
 last_good P thread lines l ls g =
-    let a = g.each (length lines) l (push_at_end lines l) in
+    let a = g.each (length lines) l (get_new lines l []) in
     let e : take (length lines) (lines ++ l ∷ []) ≡ lines = take-append_seam lines (l ∷ []) in
     (rw e at a.meets, rw e at a.after)
 
@@ -72,15 +59,15 @@ last_good P thread lines l ls g =
 pub good_more : (P : Program) (thread : Thread) (lines : List Line) (l : Line) (ls : List Label) (s : Label) → length ls ≡ length lines + 1 → IsGood P thread lines ls → Meets (premises P thread lines ls l.stmt) → WeakerThanEach s (befores P thread lines ls l.stmt) → IsGood P thread (lines ++ l ∷ []) (ls ++ s ∷ [])
 good_more P thread lines l ls s size good meets weaker = record {
   begins = rw (get_or-append ls (s ∷ []) Dead 0 (omega (arith, size))) good.begins;
-  each = λ j m is. elim (cases_lt j (length lines)) [
-    | inl lt ↦
-        let a = good.each j m (slice_get-push_within lines m l j is lt) in
+  each = λ j m is. elim (get_push lines l j m is) [
+    | inl at ↦
+        let lt = slice_get_within lines j m at in
+        let a = good.each j m at in
         good_at P thread (lines ++ l ∷ []) (take j lines) (ls ++ s ∷ []) (take (j + 1) ls) j (label_at ls (j + 1)) m.stmt (take-append-le j lines (l ∷ []) (omega arith)) (take-append-le (j + 1) ls (s ∷ []) (omega (arith, size))) (get_or-append ls (s ∷ []) Dead (j + 1) (omega (arith, size))) a.meets a.after
-    | inr le ↦
-        let e = slice_get-push_at lines m l j is le in
+    | inr e ↦
         let known : take (length lines + 1) (ls ++ s ∷ []) ≡ ls = rw (← size) (take-append_seam ls (s ∷ [])) in
         let after : label_at (ls ++ s ∷ []) (length lines + 1) ≡ s = rw (← size) (get_or-append_seam ls s [] Dead) in
-        rw (e.0, e.1) (good_at P thread (lines ++ l ∷ []) lines (ls ++ s ∷ []) ls (length lines) s l.stmt (take-append_seam lines (l ∷ [])) known after meets weaker)
+        rw (e.0, ← e.1) (good_at P thread (lines ++ l ∷ []) lines (ls ++ s ∷ []) ls (length lines) s l.stmt (take-append_seam lines (l ∷ [])) known after meets weaker)
   ];
 }
 

@@ -2,7 +2,7 @@
 use Rattle.std.proofs.Common.{◌≡◌, ℕ, ◌+◌, ◌<◌, ◌≤◌, Bool, true, false, cond, ◌&&◌, nat_eq, List, [], ◌∷◌, ◌++◌, length, map, take, Some, sum_by, count_by, refl, sym, ap, subst, ◌∙◌, arith}
 use Rattle.std.specs.Prelude.{slice_get, slice_index_or}
 use Rattle.std.specs.List.{IsDistinct, list_all}
-use Rattle.std.proofs.lemmas.Bool.{eqb-true, leb-true, le-leb, eq-eqb}
+use Rattle.std.proofs.lemmas.Bool.{and_from, and_parts, eq-eqb, eqb-true, le-leb, leb-true}
 use Rattle.std.proofs.lemmas.List.{take-map}
 use Rattle.std.proofs.lemmas.List.Sums.{sum_by-cons}
 use Rattle.std.proofs.lemmas.Map.Keys.{IsDistinct-head, IsDistinct-tail}
@@ -40,23 +40,12 @@ credits_left P ts m = m.1.1.0 Credit
 share_sum : (b : ℕ) (x : Share) (xs : List Share) → sum_by (λ (s : Share). cond (nat_eq s.buffer b) s.count 0) (x ∷ xs) ≡ cond (nat_eq x.buffer b) x.count 0 + sum_by (λ (s : Share). cond (nat_eq s.buffer b) s.count 0) xs
 share_sum b x xs = sum_by-cons (λ (s : Share). cond (nat_eq s.buffer b) s.count 0) x xs
 
-and_left : (x y : Bool) → (x && y) ≡ true → x ≡ true
-and_left true y e = refl
-and_left false y e = e
-
-and_right : (x y : Bool) → (x && y) ≡ true → y ≡ true
-and_right true y e = e
-and_right false y e = absurd cc
-
-and_both : (x y : Bool) → x ≡ true → y ≡ true → (x && y) ≡ true
-and_both x y e f = rw (e, f) refl
-
 shares_fit_in : (P : Program) (ts : List Thread) (b : ℕ) (xs : List Share) → IsDistinct nat_eq (map (λ (s : Share). s.buffer) xs) → list_all (share_fits P ts) xs ≡ true → headers_bag ts (ShareOf b) ≤ shares_at P.buffers b → headers_bag ts (ShareOf b) + sum_by (λ (s : Share). cond (nat_eq s.buffer b) s.count 0) xs ≤ shares_at P.buffers b
 shares_fit_in P ts b [] d f l = omega (arith, l)
-shares_fit_in P ts b (x ∷ xs) d f l = go (shares_fit_in P ts b xs (IsDistinct-tail nat_eq x.buffer (map (λ (s : Share). s.buffer) xs) d) (and_right (share_fits P ts x) (list_all (share_fits P ts) xs) f) l) (nat_eq x.buffer b) refl
+shares_fit_in P ts b (x ∷ xs) d f l = go (shares_fit_in P ts b xs (IsDistinct-tail nat_eq x.buffer (map (λ (s : Share). s.buffer) xs) d) (and_parts (share_fits P ts x) (list_all (share_fits P ts) xs) f).1 l) (nat_eq x.buffer b) refl
   where
     fits : headers_bag ts (ShareOf x.buffer) + x.count ≤ shares_at P.buffers x.buffer
-    fits = leb-true _ _ (and_left (share_fits P ts x) (list_all (share_fits P ts) xs) f)
+    fits = leb-true _ _ (and_parts (share_fits P ts x) (list_all (share_fits P ts) xs) f).0
 
     go : headers_bag ts (ShareOf b) + sum_by (λ (s : Share). cond (nat_eq s.buffer b) s.count 0) xs ≤ shares_at P.buffers b → (c : Bool) → nat_eq x.buffer b ≡ c → headers_bag ts (ShareOf b) + sum_by (λ (s : Share). cond (nat_eq s.buffer b) s.count 0) (x ∷ xs) ≤ shares_at P.buffers b
     go rest true e =
@@ -67,7 +56,7 @@ shares_fit_in P ts b (x ∷ xs) d f l = go (shares_fit_in P ts b xs (IsDistinct-
 
 shares_within_fit : (P : Program) (ts : List Thread) (xs : List Share) → ((b : ℕ) → headers_bag ts (ShareOf b) + sum_by (λ (s : Share). cond (nat_eq s.buffer b) s.count 0) xs ≤ shares_at P.buffers b) → list_all (share_fits P ts) xs ≡ true
 shares_within_fit P ts [] h = refl
-shares_within_fit P ts (x ∷ xs) h = and_both (share_fits P ts x) (list_all (share_fits P ts) xs) first (shares_within_fit P ts xs (λ b. omega (arith, h b, share_sum b x xs)))
+shares_within_fit P ts (x ∷ xs) h = and_from (share_fits P ts x) (list_all (share_fits P ts) xs) first (shares_within_fit P ts xs (λ b. omega (arith, h b, share_sum b x xs)))
   where
     same : nat_eq x.buffer x.buffer ≡ true
     same = eq-eqb x.buffer x.buffer refl
@@ -77,15 +66,15 @@ shares_within_fit P ts (x ∷ xs) h = and_both (share_fits P ts x) (list_all (sh
 
 -- ---- tokens
 
-pub token_sum : (u x : ℕ) (xs : List ℕ) → count_by (λ v. nat_eq v u) (x ∷ xs) ≡ cond (nat_eq x u) 1 0 + count_by (λ v. nat_eq v u) xs
+token_sum : (u x : ℕ) (xs : List ℕ) → count_by (λ v. nat_eq v u) (x ∷ xs) ≡ cond (nat_eq x u) 1 0 + count_by (λ v. nat_eq v u) xs
 token_sum u x xs = sum_by-cons (λ v. cond (nat_eq v u) 1 0) x xs
 
 tokens_fit_in : (ts : List Thread) (u : ℕ) (xs : List ℕ) → IsDistinct nat_eq xs → list_all (token_fits ts) xs ≡ true → headers_bag ts (TokenOf u) ≤ 1 → headers_bag ts (TokenOf u) + count_by (λ v. nat_eq v u) xs ≤ 1
 tokens_fit_in ts u [] d f l = omega (arith, l)
-tokens_fit_in ts u (x ∷ xs) d f l = go (tokens_fit_in ts u xs (IsDistinct-tail nat_eq x xs d) (and_right (token_fits ts x) (list_all (token_fits ts) xs) f) l) (nat_eq x u) refl
+tokens_fit_in ts u (x ∷ xs) d f l = go (tokens_fit_in ts u xs (IsDistinct-tail nat_eq x xs d) (and_parts (token_fits ts x) (list_all (token_fits ts) xs) f).1 l) (nat_eq x u) refl
   where
     fits : headers_bag ts (TokenOf x) ≡ 0
-    fits = eqb-true _ _ (and_left (token_fits ts x) (list_all (token_fits ts) xs) f)
+    fits = eqb-true _ _ (and_parts (token_fits ts x) (list_all (token_fits ts) xs) f).0
 
     go : headers_bag ts (TokenOf u) + count_by (λ v. nat_eq v u) xs ≤ 1 → (c : Bool) → nat_eq x u ≡ c → headers_bag ts (TokenOf u) + count_by (λ v. nat_eq v u) (x ∷ xs) ≤ 1
     go rest true e =
@@ -96,7 +85,7 @@ tokens_fit_in ts u (x ∷ xs) d f l = go (tokens_fit_in ts u xs (IsDistinct-tail
 
 tokens_within_fit : (ts : List Thread) (xs : List ℕ) → ((u : ℕ) → headers_bag ts (TokenOf u) + count_by (λ v. nat_eq v u) xs ≤ 1) → list_all (token_fits ts) xs ≡ true
 tokens_within_fit ts [] h = refl
-tokens_within_fit ts (x ∷ xs) h = and_both (token_fits ts x) (list_all (token_fits ts) xs) first (tokens_within_fit ts xs (λ u. omega (arith, h u, token_sum u x xs)))
+tokens_within_fit ts (x ∷ xs) h = and_from (token_fits ts x) (list_all (token_fits ts) xs) first (tokens_within_fit ts xs (λ u. omega (arith, h u, token_sum u x xs)))
   where
     same : nat_eq x x ≡ true
     same = eq-eqb x x refl

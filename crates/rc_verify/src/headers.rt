@@ -41,28 +41,6 @@ fn tokens_in(tokens: &[u64], user_data: u64) -> u32
     count
 }
 
-/// What a number and these tokens are at most.
-fn highest_of(tokens: &[u64], least: u64) -> u64
-    ensures least { least ≤ result }
-    ensures none { (u : ℕ) → result < u → bags.bag_of (bags.tokens_alone tokens.now) (bags.TokenOf u) ≡ 0 }
-{
-    match tokens {
-        [] => least,
-        [token, rest @ ..] => highest_of(rest, least.max(*token)),
-    }
-}
-
-/// What a number and the tokens that these threads begin with are at most.
-fn highest_held(threads: &[Thread], least: u64) -> u64
-    ensures least { least ≤ result }
-    ensures none { (u : ℕ) → result < u → headers_bag (map view_thread threads.now) (bags.TokenOf u) ≡ 0 }
-{
-    match threads {
-        [] => least,
-        [thread, rest @ ..] => highest_held(rest, highest_of(&thread.items.tokens, least)),
-    }
-}
-
 /// How many shares of a buffer these threads begin with.
 fn shares_held(threads: &[Thread], buffer: usize) -> u32
     requires { headers_bag (map view_thread threads.now) (bags.ShareOf buffer) < 2 ^ 32 }
@@ -119,10 +97,8 @@ fn tokens_fit(before: &[Thread], tokens: &[u64]) -> bool
     requires { (u : ℕ) → headers_bag (map view_thread before.now) (bags.TokenOf u) ≤ 1 }
     ensures { result ≡ list_all (spec.token_fits (map view_thread before.now)) tokens.now }
 {
-    // Most often the tokens of a header are above all before.
-    let highest = highest_held(before, 0);
     for token in tokens {
-        if *token <= highest && tokens_held(before, *token) > 0 {
+        if tokens_held(before, *token) > 0 {
             return false;
         }
     }

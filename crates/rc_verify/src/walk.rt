@@ -61,13 +61,12 @@ impl<'a> Walk<'a> {
     }
 }
 
-/// Goes over the line at a place: the least premise that fails, if one does.
-fn pass<'a>(walk: &mut Walk<'a>, thread: &Thread, place: usize) -> Result<(), Cause>
-    requires there { place < length thread.now.lines.items }
+/// Goes over the statement at a place: the least premise that fails, if one does.
+fn pass<'a>(walk: &mut Walk<'a>, thread: &Thread, place: usize, stmt: Stmt) -> Result<(), Cause>
+    requires stands { programs.stmt_at thread.now.lines.items place ≡ Some stmt }
     requires reaches { spec.Reaches (program_of walk.old.state) (view_thread thread.now) place walk.old }
     ensures { spec.Turns (program_of walk.old.state) (view_thread thread.now) place walk.new result }
 {
-    let stmt = thread.lines[place].stmt;
     match stmt {
         Stmt::Do(_) => transfer(&mut walk.state, &stmt),
         Stmt::Lock => walk.state.enter_lock(),
@@ -105,9 +104,10 @@ pub fn walk_thread<'a>(
     let part = &program.threads()[thread as usize];
     walk.begin(program, thread);
     for place in 0..part.lines.len() {
-        if let Err(cause) = pass(walk, part, place) {
+        let line = part.lines[place];
+        if let Err(cause) = pass(walk, part, place, line.stmt) {
             return Err(Refusal {
-                line: part.lines[place].number,
+                line: line.number,
                 cause,
             });
         }

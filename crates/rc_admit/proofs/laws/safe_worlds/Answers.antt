@@ -1,7 +1,7 @@
 use Rattle.std.proofs.Common.{sym}
 use Rattle.rc_world.specs.Machine.{start_world}
 use Rattle.rc_admit.specs.Worlds.{CallsUnderLock, DataIsFresh, EachReapsOne, EntrySuits, FindsEntry, HasRoom, NoKernelClash, NoReadOfFilling, NoThreadRace, NoWriteOfPending, StaysWithinBuffers}
-use Rattle.rc_admit.proofs.Flights.{run_tidy, start_tidy}
+use Rattle.rc_admit.proofs.Flights.{one_of_each, run_tidy, start_tidy}
 use Rattle.rc_admit.proofs.Worlds.{calls_under_lock, data_is_fresh, each_reaps_one, entry_suits, finds_entry, has_room, no_kernel_clash, no_read_of_filling, no_thread_race, no_write_of_pending, of_safe, stays_within_buffers}
 use Rattle.rc_admit.proofs.laws.safe_worlds.Goals as goal
 
@@ -39,7 +39,7 @@ pub returns-clause-reaps_one : goal.returns-clause-reaps_one
 returns-clause-reaps_one c = of_safe EachReapsOne (λ w none. each_reaps_one w none)
 
 pub returns-clause-data_is_one : goal.returns-clause-data_is_one
-returns-clause-data_is_one c P safe events w r = (run_tidy events (start_world P) w (start_tidy P) r).one_each
+returns-clause-data_is_one c P safe events w r = one_of_each w (run_tidy events (start_world P) w (start_tidy P) r)
 
 pub returns-clause-completions_agree : goal.returns-clause-completions_agree
 returns-clause-completions_agree c P safe events w r = sym (run_tidy events (start_world P) w (start_tidy P) r).agree

@@ -6,205 +6,129 @@ use Rattle.rc_verify.proofs.Breaking.{break_locked, break_some, break_turns, may
 use Rattle.rc_verify.proofs.Ending.{arm_alike, arm_end_turns, arm_of, arm_some, end_peek_some, end_peek_turns}
 use Rattle.rc_verify.proofs.Looping.{end_loop_some, end_loop_turns, few_loops_here, loop_names, loop_room, loop_turns}
 use Rattle.rc_verify.proofs.Peeking.{peek_turns}
-use Rattle.rc_verify.proofs.Placing.{items_here, loop_there, stands}
+use Rattle.rc_verify.proofs.Placing.{at, items_here, loop_there}
 use Rattle.rc_verify.proofs.Plainly.{do_turns, lock_turns, locked_here, release_turns, small_here, unlocked_here}
 use Rattle.rc_verify.proofs.walk.pass.Goals as goal
 
 pub transfer-requires-clause-small : goal.transfer-requires-clause-small
-transfer-requires-clause-small c = small_here _ _ _ _ c.requires.reaches c.requires.there
+transfer-requires-clause-small c = small_here _ _ _ _ c.requires.reaches _ c.requires.stands
 
 pub returns-in-Do : goal.returns-in-Do
-returns-in-Do c =
-    let e = stands c.args.thread.now.lines.items c.args.place c.index.result.now (Do c.in-Do.field-0) c.requires.there c.index.ensures c.in-Do.is in
-    do_turns _ _ _ _ c.requires.reaches c.in-Do.field-0 c.transfer.new.state c.transfer.result (e) (c.transfer.ensures c.in-Do.field-0 c.in-Do.is)
+returns-in-Do c = do_turns _ _ _ _ c.requires.reaches c.in-Do.field-0 c.transfer.new.state c.transfer.result (at c.requires.stands c.in-Do.is) (c.transfer.ensures c.in-Do.field-0 c.in-Do.is)
 
 pub enter_lock-requires : goal.enter_lock-requires
-enter_lock-requires c =
-    let e = stands c.args.thread.now.lines.items c.args.place c.index.result.now (Lock) c.requires.there c.index.ensures c.in-Lock.is in
-    unlocked_here _ _ _ _ c.requires.reaches (e)
+enter_lock-requires c = unlocked_here _ _ _ _ c.requires.reaches (at c.requires.stands c.in-Lock.is)
 
 pub returns-in-Lock : goal.returns-in-Lock
-returns-in-Lock c =
-    let e = stands c.args.thread.now.lines.items c.args.place c.index.result.now (Lock) c.requires.there c.index.ensures c.in-Lock.is in
-    lock_turns _ _ _ _ c.requires.reaches c.enter_lock.new.self c.enter_lock.result (e) c.enter_lock.ensures
+returns-in-Lock c = lock_turns _ _ _ _ c.requires.reaches c.enter_lock.new.self c.enter_lock.result (at c.requires.stands c.in-Lock.is) c.enter_lock.ensures
 
 pub release-requires : goal.release-requires
-release-requires c =
-    let e = stands c.args.thread.now.lines.items c.args.place c.index.result.now (EndLock c.in-EndLock.field-0) c.requires.there c.index.ensures c.in-EndLock.is in
-    locked_here _ _ _ _ c.requires.reaches c.in-EndLock.field-0 (e)
+release-requires c = locked_here _ _ _ _ c.requires.reaches c.in-EndLock.field-0 (at c.requires.stands c.in-EndLock.is)
 
 pub returns-in-EndLock : goal.returns-in-EndLock
-returns-in-EndLock c =
-    let e = stands c.args.thread.now.lines.items c.args.place c.index.result.now (EndLock c.in-EndLock.field-0) c.requires.there c.index.ensures c.in-EndLock.is in
-    release_turns _ _ _ _ c.requires.reaches c.in-EndLock.field-0 c.release.new.self c.release.result (e) c.release.ensures
+returns-in-EndLock c = release_turns _ _ _ _ c.requires.reaches c.in-EndLock.field-0 c.release.new.self c.release.result (at c.requires.stands c.in-EndLock.is) c.release.ensures
 
 pub enter_if-requires : goal.enter_if-requires
-enter_if-requires c =
-    let e = stands c.args.thread.now.lines.items c.args.place c.index.result.now (If c.in-If.test) c.requires.there c.index.ensures c.in-If.is in
-    room_here _ _ _ _ c.requires.reaches c.in-If.test (e)
+enter_if-requires c = room_here _ _ _ _ c.requires.reaches c.in-If.test (at c.requires.stands c.in-If.is)
 
 pub returns-in-If : goal.returns-in-If
-returns-in-If c =
-    let e = stands c.args.thread.now.lines.items c.args.place c.index.result.now (If c.in-If.test) c.requires.there c.index.ensures c.in-If.is in
-    if_turns _ _ _ _ c.requires.reaches c.in-If.test c.enter_if.new.state c.enter_if.new.branches c.enter_if.result (e) c.enter_if.ensures.gives c.enter_if.ensures.kept
+returns-in-If c = if_turns _ _ _ _ c.requires.reaches c.in-If.test c.enter_if.new.state c.enter_if.new.branches c.enter_if.result (at c.requires.stands c.in-If.is) c.enter_if.ensures.gives c.enter_if.ensures.kept
 
 pub turn-requires-clause-kept : goal.turn-requires-clause-kept
-turn-requires-clause-kept c =
-    let e = stands c.args.thread.now.lines.items c.args.place c.index.result.now (Else c.in-Else.field-0) c.requires.there c.index.ensures c.in-Else.is in
-    else_some _ _ _ _ c.requires.reaches c.in-Else.field-0 (e)
+turn-requires-clause-kept c = else_some _ _ _ _ c.requires.reaches c.in-Else.field-0 (at c.requires.stands c.in-Else.is)
 
 pub turn-requires-clause-few : goal.turn-requires-clause-few
 turn-requires-clause-few c = few_here _ _ _ _ c.requires.reaches
 
 pub returns-in-Else : goal.returns-in-Else
-returns-in-Else c =
-    let e = stands c.args.thread.now.lines.items c.args.place c.index.result.now (Else c.in-Else.field-0) c.requires.there c.index.ensures c.in-Else.is in
-    else_turns _ _ _ _ c.requires.reaches c.in-Else.field-0 c.turn.new.state c.turn.new.branches (e) c.turn.ensures.state c.turn.ensures.kept
+returns-in-Else c = else_turns _ _ _ _ c.requires.reaches c.in-Else.field-0 c.turn.new.state c.turn.new.branches (at c.requires.stands c.in-Else.is) c.turn.ensures.state c.turn.ensures.kept
 
 pub end_if-requires-clause-kept : goal.end_if-requires-clause-kept
-end_if-requires-clause-kept c =
-    let e = stands c.args.thread.now.lines.items c.args.place c.index.result.now (EndIf c.in-EndIf.field-0) c.requires.there c.index.ensures c.in-EndIf.is in
-    end_some _ _ _ _ c.requires.reaches c.in-EndIf.field-0 (e)
+end_if-requires-clause-kept c = end_some _ _ _ _ c.requires.reaches c.in-EndIf.field-0 (at c.requires.stands c.in-EndIf.is)
 
 pub end_if-requires-clause-of : goal.end_if-requires-clause-of
-end_if-requires-clause-of c =
-    let e = stands c.args.thread.now.lines.items c.args.place c.index.result.now (EndIf c.in-EndIf.field-0) c.requires.there c.index.ensures c.in-EndIf.is in
-    λ s q. end_of _ _ _ _ c.requires.reaches c.in-EndIf.field-0 s (e) q
+end_if-requires-clause-of c = λ s q. end_of _ _ _ _ c.requires.reaches c.in-EndIf.field-0 s (at c.requires.stands c.in-EndIf.is) q
 
 pub end_if-requires-clause-alike : goal.end_if-requires-clause-alike
-end_if-requires-clause-alike c =
-    let e = stands c.args.thread.now.lines.items c.args.place c.index.result.now (EndIf c.in-EndIf.field-0) c.requires.there c.index.ensures c.in-EndIf.is in
-    λ s q. end_alike _ _ _ _ c.requires.reaches c.in-EndIf.field-0 s (e) q
+end_if-requires-clause-alike c = λ s q. end_alike _ _ _ _ c.requires.reaches c.in-EndIf.field-0 s (at c.requires.stands c.in-EndIf.is) q
 
 pub returns-in-EndIf : goal.returns-in-EndIf
-returns-in-EndIf c =
-    let e = stands c.args.thread.now.lines.items c.args.place c.index.result.now (EndIf c.in-EndIf.field-0) c.requires.there c.index.ensures c.in-EndIf.is in
-    end_turns _ _ _ _ c.requires.reaches c.in-EndIf.field-0 c.end_if.new.state c.end_if.new.branches c.end_if.result (e) c.end_if.ensures.gives c.end_if.ensures.rest
+returns-in-EndIf c = end_turns _ _ _ _ c.requires.reaches c.in-EndIf.field-0 c.end_if.new.state c.end_if.new.branches c.end_if.result (at c.requires.stands c.in-EndIf.is) c.end_if.ensures.gives c.end_if.ensures.rest
 
 pub returns-in-Peek : goal.returns-in-Peek
-returns-in-Peek c =
-    let e = stands c.args.thread.now.lines.items c.args.place c.index.result.now (Peek c.in-Peek.field-0) c.requires.there c.index.ensures c.in-Peek.is in
-    peek_turns _ _ _ _ c.requires.reaches c.in-Peek.field-0 c.open_peek.new.peek c.open_peek.result (e) c.open_peek.ensures
+returns-in-Peek c = peek_turns _ _ _ _ c.requires.reaches c.in-Peek.field-0 c.open_peek.new.peek c.open_peek.result (at c.requires.stands c.in-Peek.is) c.open_peek.ensures
 
 pub arms_of-requires : goal.arms_of-requires
-arms_of-requires c =
-    let e = stands c.args.thread.now.lines.items c.args.place c.index.result.now (Case c.in-Case.field-0 c.in-Case.user_data) c.requires.there c.index.ensures c.in-Case.is in
-    case_some _ _ _ _ c.requires.reaches c.in-Case.field-0 c.in-Case.user_data (e)
+arms_of-requires c = case_some _ _ _ _ c.requires.reaches c.in-Case.field-0 c.in-Case.user_data (at c.requires.stands c.in-Case.is)
 
 pub enter_case-requires : goal.enter_case-requires
-enter_case-requires c =
-    let e = stands c.args.thread.now.lines.items c.args.place c.index.result.now (Case c.in-Case.field-0 c.in-Case.user_data) c.requires.there c.index.ensures c.in-Case.is in
-    case_declared _ _ _ _ c.requires.reaches c.in-Case.field-0 c.in-Case.user_data c.arms_of.result.now (e) c.arms_of.ensures
+enter_case-requires c = case_declared _ _ _ _ c.requires.reaches c.in-Case.field-0 c.in-Case.user_data c.arms_of.result.now (at c.requires.stands c.in-Case.is) c.arms_of.ensures
 
 pub returns-in-Case : goal.returns-in-Case
-returns-in-Case c =
-    let e = stands c.args.thread.now.lines.items c.args.place c.index.result.now (Case c.in-Case.field-0 c.in-Case.user_data) c.requires.there c.index.ensures c.in-Case.is in
-    case_turns _ _ _ _ c.requires.reaches c.in-Case.field-0 c.in-Case.user_data c.arms_of.result.now c.enter_case.new.state c.enter_case.result (e) c.arms_of.ensures c.enter_case.ensures
+returns-in-Case c = case_turns _ _ _ _ c.requires.reaches c.in-Case.field-0 c.in-Case.user_data c.arms_of.result.now c.enter_case.new.state c.enter_case.result (at c.requires.stands c.in-Case.is) c.arms_of.ensures c.enter_case.ensures
 
 pub arms_of-requires-in-Other : goal.arms_of-requires-in-Other
-arms_of-requires-in-Other c =
-    let e = stands c.args.thread.now.lines.items c.args.place c.index.result.now (Other c.in-Other.field-0) c.requires.there c.index.ensures c.in-Other.is in
-    other_some _ _ _ _ c.requires.reaches c.in-Other.field-0 (e)
+arms_of-requires-in-Other c = other_some _ _ _ _ c.requires.reaches c.in-Other.field-0 (at c.requires.stands c.in-Other.is)
 
 pub returns-in-Other : goal.returns-in-Other
-returns-in-Other c =
-    let e = stands c.args.thread.now.lines.items c.args.place c.index.result.now (Other c.in-Other.field-0) c.requires.there c.index.ensures c.in-Other.is in
-    other_turns _ _ _ _ c.requires.reaches c.in-Other.field-0 c.arms_of-in-Other.result.now c.enter_other.new.state c.enter_other.result (e) c.arms_of-in-Other.ensures c.enter_other.ensures
+returns-in-Other c = other_turns _ _ _ _ c.requires.reaches c.in-Other.field-0 c.arms_of-in-Other.result.now c.enter_other.new.state c.enter_other.result (at c.requires.stands c.in-Other.is) c.arms_of-in-Other.ensures c.enter_other.ensures
 
 pub arms_of-requires-in-Nothing : goal.arms_of-requires-in-Nothing
-arms_of-requires-in-Nothing c =
-    let e = stands c.args.thread.now.lines.items c.args.place c.index.result.now (Nothing c.in-Nothing.field-0) c.requires.there c.index.ensures c.in-Nothing.is in
-    none_some _ _ _ _ c.requires.reaches c.in-Nothing.field-0 (e)
+arms_of-requires-in-Nothing c = none_some _ _ _ _ c.requires.reaches c.in-Nothing.field-0 (at c.requires.stands c.in-Nothing.is)
 
 pub returns-in-Nothing : goal.returns-in-Nothing
-returns-in-Nothing c =
-    let e = stands c.args.thread.now.lines.items c.args.place c.index.result.now (Nothing c.in-Nothing.field-0) c.requires.there c.index.ensures c.in-Nothing.is in
-    none_turns _ _ _ _ c.requires.reaches c.in-Nothing.field-0 c.arms_of-in-Nothing.result.now c.enter_none.new.state c.enter_none.result (e) c.arms_of-in-Nothing.ensures c.enter_none.ensures
+returns-in-Nothing c = none_turns _ _ _ _ c.requires.reaches c.in-Nothing.field-0 c.arms_of-in-Nothing.result.now c.enter_none.new.state c.enter_none.result (at c.requires.stands c.in-Nothing.is) c.arms_of-in-Nothing.ensures c.enter_none.ensures
 
 pub end_arms-requires-clause-kept : goal.end_arms-requires-clause-kept
-end_arms-requires-clause-kept c =
-    let e = stands c.args.thread.now.lines.items c.args.place c.index.result.now (EndArm c.in-EndArm.field-0) c.requires.there c.index.ensures c.in-EndArm.is in
-    arm_some _ _ _ _ c.requires.reaches c.in-EndArm.field-0 (e)
+end_arms-requires-clause-kept c = arm_some _ _ _ _ c.requires.reaches c.in-EndArm.field-0 (at c.requires.stands c.in-EndArm.is)
 
 pub end_arms-requires-clause-of : goal.end_arms-requires-clause-of
-end_arms-requires-clause-of c =
-    let e = stands c.args.thread.now.lines.items c.args.place c.index.result.now (EndArm c.in-EndArm.field-0) c.requires.there c.index.ensures c.in-EndArm.is in
-    arm_of _ _ _ _ c.requires.reaches c.in-EndArm.field-0 (e)
+end_arms-requires-clause-of c = arm_of _ _ _ _ c.requires.reaches c.in-EndArm.field-0 (at c.requires.stands c.in-EndArm.is)
 
 pub end_arms-requires-clause-alike : goal.end_arms-requires-clause-alike
-end_arms-requires-clause-alike c =
-    let e = stands c.args.thread.now.lines.items c.args.place c.index.result.now (EndArm c.in-EndArm.field-0) c.requires.there c.index.ensures c.in-EndArm.is in
-    arm_alike _ _ _ _ c.requires.reaches c.in-EndArm.field-0 (e)
+end_arms-requires-clause-alike c = arm_alike _ _ _ _ c.requires.reaches c.in-EndArm.field-0 (at c.requires.stands c.in-EndArm.is)
 
 pub returns-in-EndArm : goal.returns-in-EndArm
-returns-in-EndArm c =
-    let e = stands c.args.thread.now.lines.items c.args.place c.index.result.now (EndArm c.in-EndArm.field-0) c.requires.there c.index.ensures c.in-EndArm.is in
-    arm_end_turns _ _ _ _ c.requires.reaches c.in-EndArm.field-0 c.end_arms.new.state c.end_arms.new.peek (e) c.end_arms.ensures.dead c.end_arms.ensures.same c.end_arms.ensures.ends
+returns-in-EndArm c = arm_end_turns _ _ _ _ c.requires.reaches c.in-EndArm.field-0 c.end_arms.new.state c.end_arms.new.peek (at c.requires.stands c.in-EndArm.is) c.end_arms.ensures.dead c.end_arms.ensures.same c.end_arms.ensures.ends
 
 pub close_peek-requires : goal.close_peek-requires
-close_peek-requires c =
-    let e = stands c.args.thread.now.lines.items c.args.place c.index.result.now (EndPeek c.in-EndPeek.field-0) c.requires.there c.index.ensures c.in-EndPeek.is in
-    end_peek_some _ _ _ _ c.requires.reaches c.in-EndPeek.field-0 (e)
+close_peek-requires c = end_peek_some _ _ _ _ c.requires.reaches c.in-EndPeek.field-0 (at c.requires.stands c.in-EndPeek.is)
 
 pub returns-in-EndPeek : goal.returns-in-EndPeek
-returns-in-EndPeek c =
-    let e = stands c.args.thread.now.lines.items c.args.place c.index.result.now (EndPeek c.in-EndPeek.field-0) c.requires.there c.index.ensures c.in-EndPeek.is in
-    end_peek_turns _ _ _ _ c.requires.reaches c.in-EndPeek.field-0 c.close_peek.new.state c.close_peek.new.peek c.close_peek.result (e) c.close_peek.ensures.closes c.close_peek.ensures.none
+returns-in-EndPeek c = end_peek_turns _ _ _ _ c.requires.reaches c.in-EndPeek.field-0 c.close_peek.new.state c.close_peek.new.peek c.close_peek.result (at c.requires.stands c.in-EndPeek.is) c.close_peek.ensures.closes c.close_peek.ensures.none
 
-pub index-requires-in-Loop : goal.index-requires-in-Loop
-index-requires-in-Loop c =
-    let e = stands c.args.thread.now.lines.items c.args.place c.index.result.now (Loop c.in-Loop.k) c.requires.there c.index.ensures c.in-Loop.is in
-    omega (arith, c.args.thread.now.loops.ok.0, loop_there c.args.thread.now.loops.items c.in-Loop.k (c.requires.reaches.thread.resolved c.args.place (Loop c.in-Loop.k) (e)))
+pub index-requires : goal.index-requires
+index-requires c = omega (arith, c.args.thread.now.loops.ok.0, loop_there c.args.thread.now.loops.items c.in-Loop.k (c.requires.reaches.thread.resolved c.args.place (Loop c.in-Loop.k) (at c.requires.stands c.in-Loop.is)))
 
 pub open_loop-requires-clause-few : goal.open_loop-requires-clause-few
-open_loop-requires-clause-few c =
-    let e = stands c.args.thread.now.lines.items c.args.place c.index.result.now (Loop c.in-Loop.k) c.requires.there c.index.ensures c.in-Loop.is in
-    loop_room _ _ _ _ c.requires.reaches c.in-Loop.k (e)
+open_loop-requires-clause-few c = loop_room _ _ _ _ c.requires.reaches c.in-Loop.k (at c.requires.stands c.in-Loop.is)
 
 pub open_loop-requires-clause-names : goal.open_loop-requires-clause-names
-open_loop-requires-clause-names c =
-    let e = stands c.args.thread.now.lines.items c.args.place c.index.result.now (Loop c.in-Loop.k) c.requires.there c.index.ensures c.in-Loop.is in
-    loop_names _ _ _ _ c.requires.reaches c.in-Loop.k _ (c.requires.reaches.thread.resolved c.args.place (Loop c.in-Loop.k) (e)) (items_here c.args.thread.now.loops.items c.in-Loop.k c.index-in-Loop.result.now (c.requires.reaches.thread.resolved c.args.place (Loop c.in-Loop.k) (e)) c.index-in-Loop.ensures)
+open_loop-requires-clause-names c = loop_names _ _ _ _ c.requires.reaches c.in-Loop.k _ (c.requires.reaches.thread.resolved c.args.place (Loop c.in-Loop.k) (at c.requires.stands c.in-Loop.is)) (items_here c.args.thread.now.loops.items c.in-Loop.k c.index.result.now (c.requires.reaches.thread.resolved c.args.place (Loop c.in-Loop.k) (at c.requires.stands c.in-Loop.is)) c.index.ensures)
 
 pub returns-in-Loop : goal.returns-in-Loop
-returns-in-Loop c =
-    let e = stands c.args.thread.now.lines.items c.args.place c.index.result.now (Loop c.in-Loop.k) c.requires.there c.index.ensures c.in-Loop.is in
-    loop_turns _ _ _ _ c.requires.reaches c.in-Loop.k _ c.open_loop.new.state c.open_loop.new.loops c.open_loop.result (e) (items_here c.args.thread.now.loops.items c.in-Loop.k c.index-in-Loop.result.now (c.requires.reaches.thread.resolved c.args.place (Loop c.in-Loop.k) (e)) c.index-in-Loop.ensures) c.open_loop.ensures.gives c.open_loop.ensures.kept
+returns-in-Loop c = loop_turns _ _ _ _ c.requires.reaches c.in-Loop.k _ c.open_loop.new.state c.open_loop.new.loops c.open_loop.result (at c.requires.stands c.in-Loop.is) (items_here c.args.thread.now.loops.items c.in-Loop.k c.index.result.now (c.requires.reaches.thread.resolved c.args.place (Loop c.in-Loop.k) (at c.requires.stands c.in-Loop.is)) c.index.ensures) c.open_loop.ensures.gives c.open_loop.ensures.kept
 
 pub index-requires-in-EndLoop : goal.index-requires-in-EndLoop
-index-requires-in-EndLoop c =
-    let e = stands c.args.thread.now.lines.items c.args.place c.index.result.now (EndLoop c.in-EndLoop.field-0 c.in-EndLoop.k) c.requires.there c.index.ensures c.in-EndLoop.is in
-    omega (arith, c.args.thread.now.loops.ok.0, loop_there c.args.thread.now.loops.items c.in-EndLoop.k (c.requires.reaches.thread.resolved c.args.place (EndLoop c.in-EndLoop.field-0 c.in-EndLoop.k) (e)))
+index-requires-in-EndLoop c = omega (arith, c.args.thread.now.loops.ok.0, loop_there c.args.thread.now.loops.items c.in-EndLoop.k (c.requires.reaches.thread.resolved c.args.place (EndLoop c.in-EndLoop.field-0 c.in-EndLoop.k) (at c.requires.stands c.in-EndLoop.is)))
 
 pub close_loop-requires : goal.close_loop-requires
-close_loop-requires c =
-    let e = stands c.args.thread.now.lines.items c.args.place c.index.result.now (EndLoop c.in-EndLoop.field-0 c.in-EndLoop.k) c.requires.there c.index.ensures c.in-EndLoop.is in
-    end_loop_some _ _ _ _ c.requires.reaches c.in-EndLoop.field-0 c.in-EndLoop.k (e)
+close_loop-requires c = end_loop_some _ _ _ _ c.requires.reaches c.in-EndLoop.field-0 c.in-EndLoop.k (at c.requires.stands c.in-EndLoop.is)
 
 pub returns-in-EndLoop : goal.returns-in-EndLoop
-returns-in-EndLoop c =
-    let e = stands c.args.thread.now.lines.items c.args.place c.index.result.now (EndLoop c.in-EndLoop.field-0 c.in-EndLoop.k) c.requires.there c.index.ensures c.in-EndLoop.is in
-    end_loop_turns _ _ _ _ c.requires.reaches c.in-EndLoop.field-0 c.in-EndLoop.k _ c.close_loop.new.state c.close_loop.new.loops c.close_loop.result (e) (items_here c.args.thread.now.loops.items c.in-EndLoop.k c.index-in-EndLoop.result.now (c.requires.reaches.thread.resolved c.args.place (EndLoop c.in-EndLoop.field-0 c.in-EndLoop.k) (e)) c.index-in-EndLoop.ensures) c.close_loop.ensures
+returns-in-EndLoop c = end_loop_turns _ _ _ _ c.requires.reaches c.in-EndLoop.field-0 c.in-EndLoop.k _ c.close_loop.new.state c.close_loop.new.loops c.close_loop.result (at c.requires.stands c.in-EndLoop.is) (items_here c.args.thread.now.loops.items c.in-EndLoop.k c.index-in-EndLoop.result.now (c.requires.reaches.thread.resolved c.args.place (EndLoop c.in-EndLoop.field-0 c.in-EndLoop.k) (at c.requires.stands c.in-EndLoop.is)) c.index-in-EndLoop.ensures) c.close_loop.ensures
 
 pub leave_loop-requires-clause-locked : goal.leave_loop-requires-clause-locked
-leave_loop-requires-clause-locked c =
-    let e = stands c.args.thread.now.lines.items c.args.place c.index.result.now (Break c.in-Break.field-0 c.in-Break.releases c.in-Break.field-2) c.requires.there c.index.ensures c.in-Break.is in
-    break_locked _ _ _ _ c.requires.reaches c.in-Break.field-0 c.in-Break.releases c.in-Break.field-2 (e)
+leave_loop-requires-clause-locked c = break_locked _ _ _ _ c.requires.reaches c.in-Break.field-0 c.in-Break.releases c.in-Break.field-2 (at c.requires.stands c.in-Break.is)
 
 pub leave_loop-requires-clause-few : goal.leave_loop-requires-clause-few
 leave_loop-requires-clause-few c = few_loops_here _ _ _ _ c.requires.reaches
 
 pub leave_loop-requires-clause-kept : goal.leave_loop-requires-clause-kept
-leave_loop-requires-clause-kept c =
-    let e = stands c.args.thread.now.lines.items c.args.place c.index.result.now (Break c.in-Break.field-0 c.in-Break.releases c.in-Break.field-2) c.requires.there c.index.ensures c.in-Break.is in
-    break_some _ _ _ _ c.requires.reaches c.in-Break.field-0 c.in-Break.releases c.in-Break.field-2 (e)
+leave_loop-requires-clause-kept c = break_some _ _ _ _ c.requires.reaches c.in-Break.field-0 c.in-Break.releases c.in-Break.field-2 (at c.requires.stands c.in-Break.is)
 
 pub leave_loop-requires-clause-fits : goal.leave_loop-requires-clause-fits
-leave_loop-requires-clause-fits c =
-    let e = stands c.args.thread.now.lines.items c.args.place c.index.result.now (Break c.in-Break.field-0 c.in-Break.releases c.in-Break.field-2) c.requires.there c.index.ensures c.in-Break.is in
-    may_leave _ _ _ _ c.requires.reaches c.in-Break.field-0 c.in-Break.releases c.in-Break.field-2 (e)
+leave_loop-requires-clause-fits c = may_leave _ _ _ _ c.requires.reaches c.in-Break.field-0 c.in-Break.releases c.in-Break.field-2 (at c.requires.stands c.in-Break.is)
 
 pub returns-in-Break : goal.returns-in-Break
-returns-in-Break c =
-    let e = stands c.args.thread.now.lines.items c.args.place c.index.result.now (Break c.in-Break.field-0 c.in-Break.releases c.in-Break.field-2) c.requires.there c.index.ensures c.in-Break.is in
-    break_turns _ _ _ _ c.requires.reaches c.in-Break.field-0 c.in-Break.releases c.in-Break.field-2 (e) c.leave_loop.new.state c.leave_loop.new.loops c.leave_loop.result c.leave_loop.ensures.gives c.leave_loop.ensures.kept
+returns-in-Break c = break_turns _ _ _ _ c.requires.reaches c.in-Break.field-0 c.in-Break.releases c.in-Break.field-2 (at c.requires.stands c.in-Break.is) c.leave_loop.new.state c.leave_loop.new.loops c.leave_loop.result c.leave_loop.ensures.gives c.leave_loop.ensures.kept
