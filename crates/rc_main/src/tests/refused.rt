@@ -1,6 +1,8 @@
 //! Growths that are refused. Each of these tests holds too where any one growth is refused: `audit/refused-growths` runs
 //! it with each refused in turn.
 
+ghost use Rattle.std.specs.Prelude.{◌<◌};
+
 use super::programs::{HANDOFF, SHARE};
 use rc_admit::admitted::{Admitted, admit};
 use rc_admit::fault::AdmitFault;
@@ -102,27 +104,24 @@ const STEPPED: [(&str, &str); 2] = [
     (SHARE, "t0,t0,t0,t0,t0,t0,t0,t0,t0,t0,k:9=16"),
 ];
 
-/// Steps a text, and writes the trace where there is room. Answers whether it was written whole.
-fn traces(
+/// What is written of a trace, where there is room for it, and whether that is the whole.
+fn traced(
     rt: &impl Abort,
     alloc: Global,
     text: &str,
     schedule: &str,
-    sink: &mut WriteSink<Vec<u8>>,
-) -> bool {
+) -> Result<(Vec<u8>, bool), AllocError> {
     let mut source = ReadSource::new(text.as_bytes());
-    match step_engine(alloc, &mut source, schedule, sink) {
+    let mut sink = WriteSink::new(Vec::with_capacity(alloc, 4096)?);
+    let is_whole = match step_engine(alloc, &mut source, schedule, &mut sink) {
         Ok(StepEnd::Trace(_)) => true,
         Ok(_) => panic!(rt; "no trace of {schedule}"),
         Err(fault) => {
             assert!(rt; matches!(fault, EngineFault::OutOfMemory), "{fault}");
             false
         }
-    }
-}
-
-fn sink_with_room(alloc: Global) -> Result<WriteSink<Vec<u8>>, AllocError> {
-    Ok(WriteSink::new(Vec::with_capacity(alloc, 4096)?))
+    };
+    Ok((sink.writer, is_whole))
 }
 
 fn traces_begin_alike(
@@ -131,22 +130,21 @@ fn traces_begin_alike(
     text: &str,
     schedule: &str,
 ) -> Result<(), AllocError> {
-    let mut first = sink_with_room(alloc)?;
-    let mut second = sink_with_room(alloc)?;
-    let first_whole = traces(rt, alloc, text, schedule, &mut first);
-    let second_whole = traces(rt, alloc, text, schedule, &mut second);
-    let (first, second) = (first.writer.as_slice(), second.writer.as_slice());
+    let (first, first_is_whole) = traced(rt, alloc, text, schedule)?;
+    let (second, second_is_whole) = traced(rt, alloc, text, schedule)?;
     assert!(rt;
-        first_whole || second_whole,
+        first_is_whole || second_is_whole,
         "one growth at most is refused"
     );
-    assert!(rt;
-        first_whole || second.starts_with(first),
-        "a beginning is written first"
-    );
-    assert!(rt;
-        second_whole || first.starts_with(second),
-        "a beginning is written second"
+    let (shorter, longer) = if first_is_whole {
+        (second, first)
+    } else {
+        (first, second)
+    };
+    assert!(rt; longer.starts_with(&shorter), "{schedule}");
+    assert_eq!(rt;
+        first_is_whole && second_is_whole,
+        longer.len() == shorter.len()
     );
     Ok(())
 }
