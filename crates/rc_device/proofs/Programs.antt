@@ -28,6 +28,7 @@ one_file_is len h = record {
   few_threads = omega arith;
   distinct_names = tt;
   each = λ i t e. absurd (cc);
+  numbers = λ k lt. absurd (omega arith);
 }
 
 pub one_file : (len : ℕ) (files : List File) (buffers : List BufferPart) (tokens : List Token) (threads : List ThreadPart)

@@ -1,6 +1,7 @@
 -- Programs, and what is kept by each that was made.
-use Rattle.std.specs.Prelude.{ℕ, ◌≡◌, ◌≢◌, ◌^◌, ◌<◌, ◌≤◌, ◌⊎◌, true, false, List, [], length, map, Option, Some, None, slice_get, slice_index, slice_index_or, nat_eq, position, All, Contains, IfSome}
+use Rattle.std.specs.Prelude.{ℕ, ◌≡◌, ◌≢◌, ◌^◌, ◌<◌, ◌≤◌, ◌⊎◌, true, false, List, [], ◌∷◌, length, map, flat_map, Option, Some, None, slice_get, slice_index, slice_index_or, nat_eq, position, All, Contains, IfSome}
 use Rattle.std.specs.List.{IsDistinct}
+use Rattle.std.specs.List.Sorted.{IsStrictlyIncreasing}
 use Rattle.std.specs.Str.{bytes_eq}
 use Rattle.rc_lang.specs.declared.lines.Line.{Line}
 use Rattle.rc_lang.specs.declared.lines.Op.{Op}
@@ -270,7 +271,15 @@ IsTokenKind program (Write b k) = (b < length program.buffers) × IsShare progra
 IsTokenKind program Fsync = Unit {0}
 IsTokenKind program Nop = Unit {0}
 
--- What each made program keeps: the limits, nesting, and resolved names.
+-- The numbers of a thread's lines, from its header's on, and those of all threads.
+abbrev pub numbers_from : ℕ → List Line → List ℕ
+numbers_from header lines = header ∷ map (λ (l : Line). l.number) lines
+
+abbrev pub line_numbers : List Thread → List ℕ
+line_numbers threads = flat_map (λ (t : Thread). numbers_from t.line t.lines) threads
+
+-- What each made program keeps: the limits, nesting, resolved names, and that from the first header on each line has a
+-- higher number than the one before.
 pub record IsProgram (program : Program) : Type 0 where
   pub entries : IsRingSize 1024 program.entries
   pub completion_entries : IsRingSize 2048 program.completion_entries
@@ -288,3 +297,4 @@ pub record IsProgram (program : Program) : Type 0 where
   pub few_threads : length program.threads ≤ 16
   pub distinct_names : IsDistinct bytes_eq (map (λ (t : Thread). t.name) program.threads)
   pub each : (i : ℕ) (t : Thread) → slice_get program.threads i ≡ Some t → IsThread program t
+  pub numbers : IsStrictlyIncreasing (line_numbers program.threads)

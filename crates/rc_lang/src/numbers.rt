@@ -10,7 +10,8 @@ fn all_digits(bytes: &[u8]) -> bool
     bytes.iter().all(|b| b.is_ascii_digit())
 }
 
-fn is_number(word: &[u8]) -> bool
+/// Whether a word is a number, of any size.
+pub fn is_number(word: &[u8]) -> bool
     ensures { result ≡ spec.is_number word.now }
 {
     match word {

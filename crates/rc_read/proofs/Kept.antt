@@ -7,7 +7,7 @@ use Rattle.rc_lang.specs.declared.lines.Block.TheVariants.{InIf, InPeek}
 use Rattle.rc_lang.specs.declared.program.TokenKind.{TokenKind}
 use Rattle.rc_lang.specs.declared.program.TokenKind.TheVariants as kind
 use Rattle.rc_lang.specs.Nesting.{Way, directly_in_peek, in_lock, in_peek, innermost, is_some_peek, way_out}
-use Rattle.rc_lang.specs.Program.{Buffer as BufferOf, IsProgram, IsTokenKind, Program, Thread as ThreadOf}
+use Rattle.rc_lang.specs.Program.{Buffer as BufferOf, IsProgram, IsTokenKind, Program, Thread as ThreadOf, line_numbers}
 use Rattle.rc_read.specs.declared.parts.Region.{Region}
 use Rattle.rc_read.specs.declared.parts.Region.TheVariants.{Start, Second, Declarations, InThread, Between}
 use Rattle.rc_read.specs.declared.says.Says.{Says}
@@ -29,7 +29,7 @@ use Rattle.rc_read.specs.Words.{words_of}
 use Rattle.rc_read.proofs.KeptDraft.{MayFollow, draft_start}
 use Rattle.rc_read.proofs.KeptForms.{AreFalse, IsRegion, are_false, few_lines, first_matches, inside, items_by, none_alone, none_else, region_is}
 use Rattle.rc_read.proofs.KeptItems.{no_queue}
-use Rattle.rc_read.proofs.KeptParts.{AreThreads, buffers_more, files_more, no_threads, tokens_more, tokens_on}
+use Rattle.rc_read.proofs.KeptParts.{AreThreads, RiseTo, buffers_more, files_more, no_threads, rise_more, rise_none, tokens_more, tokens_on}
 use Rattle.rc_read.proofs.KeptRows.{IsKind, IsTold, has_more, told}
 use Rattle.rc_read.proofs.KeptSheet.{IsKept, ThreadsAt, at, kept_brace, kept_counted, kept_named, kept_said, kept_start}
 use Rattle.rc_read.proofs.KeptSpots.{all_named, are_of}
@@ -70,9 +70,9 @@ module _ (ts : List ThreadOf) where
     longer : length s.draft.loops < length (s.draft.loops ++ held its ∷ [])
     longer = let a : length (s.draft.loops ++ held its ∷ []) ≡ length s.draft.loops + 1 = length-append s.draft.loops (held its ∷ []) in omega arith
 
-    header : (s.region ≡ Declarations) ⊎ (s.region ≡ Between) → AreThreads (made ts s) s.threads
+    header : (s.region ≡ Declarations) ⊎ (s.region ≡ Between) → AreThreads (made ts s) s.threads × RiseTo s.count (line_numbers s.threads)
     header h = elim h [
-      | inl e ↦ let none : s.threads ≡ [] = at ts (with_names s ps) lt k Declarations e in subst (λ xs. AreThreads (made ts s) xs) (sym none) (no_threads (made ts s))
+      | inl e ↦ let none : s.threads ≡ [] = at ts (with_names s ps) lt k Declarations e in subst (λ xs. AreThreads (made ts s) xs × RiseTo s.count (line_numbers xs)) (sym none) (no_threads (made ts s), rise_none s.count)
       | inr e ↦ at ts (with_names s ps) lt k Between e
     ]
 
@@ -104,10 +104,11 @@ module _ (ts : List ThreadOf) where
       few_lines = omega arith;
       declared = k.declared;
       threads = record {
-        finished = header (stands stand.Header t.0 b);
+        finished = (header (stands stand.Header t.0 b)).0;
         room = t.1;
         new = t.2.1;
         few_lines = omega arith;
+        numbers = rise_more s.count (line_numbers s.threads) (header (stands stand.Header t.0 b)).1;
         draft = draft_start (made ts s) (second_of ws) (s.count + 1) (held its) t.2.0 (omega arith) (omega arith) t.3 (no_queue its n);
       };
     }
@@ -171,7 +172,7 @@ token_kind p (kind.Write b n) h = (h.0, record { some = h.1; within = h.2 })
 token_kind p kind.Fsync h = tt
 token_kind p kind.Nop h = tt
 
-program_made : (s : Sheet) → IsKept s.threads s → AreThreads (program_in s) s.threads → IsProgram (program_in s)
+program_made : (s : Sheet) → IsKept s.threads s → AreThreads (program_in s) s.threads × RiseTo s.count (line_numbers s.threads) → IsProgram (program_in s)
 program_made s k threads = record {
   entries = k.declared.sizes.entries;
   completion_entries = k.declared.sizes.completion_entries;
@@ -186,9 +187,10 @@ program_made s k threads = record {
   few_tokens = k.declared.known_tokens.few;
   tokens = λ i d lt. token_kind (program_in s) _ (k.declared.known_tokens.each i d lt);
   distinct_tokens = k.declared.known_tokens.distinct;
-  few_threads = threads.few;
-  distinct_names = threads.distinct;
-  each = threads.each;
+  few_threads = threads.0.few;
+  distinct_names = threads.0.distinct;
+  each = threads.0.each;
+  numbers = threads.1.rise;
 }
 
 -- The answer of the text's end, by the part of the text.
@@ -202,9 +204,9 @@ reached_is_program s reached e = program_made s k (go s.region e k.threads)
     k : IsKept s.threads s
     k = kept_lines s.threads empty reached.0 s reached.1 (kept_start s.threads)
 
-    go : (r : Region) → ended_in r s.count (program_in s) ≡ Ok (program_in s) → ThreadsAt (program_in s) s.count s.draft s.threads r → AreThreads (program_in s) s.threads
+    go : (r : Region) → ended_in r s.count (program_in s) ≡ Ok (program_in s) → ThreadsAt (program_in s) s.count s.draft s.threads r → AreThreads (program_in s) s.threads × RiseTo s.count (line_numbers s.threads)
     go Start f h = absurd (cc)
     go Second f h = absurd (cc)
-    go Declarations f h = subst (λ xs. AreThreads (program_in s) xs) (sym h) (no_threads (program_in s))
+    go Declarations f h = subst (λ xs. AreThreads (program_in s) xs × RiseTo s.count (line_numbers xs)) (sym h) (no_threads (program_in s), rise_none s.count)
     go InThread f h = absurd (cc)
     go Between f h = h

@@ -1,19 +1,23 @@
 -- What is kept of files, buffers, tokens and threads, and what one more of them does to it.
-use Rattle.std.proofs.Common.{◌≡◌, ℕ, ◌+◌, ◌<◌, ◌≤◌, Bool, false, nat_eq, List, [], ◌∷◌, ◌++◌, length, length-append, map, Some, bytes_eq, slice_get, refl, sym, ap, ◌∙◌, subst, inl, inr, All, arith}
+use Rattle.std.proofs.Common.{◌≡◌, ℕ, ◌+◌, ◌<◌, ◌≤◌, Bool, false, nat_eq, List, [], ◌∷◌, ◌++◌, length, length-append, map, Some, bytes_eq, slice_get, refl, sym, ap, ◌∙◌, subst, append_assoc, inl, inr, All, arith}
 use Rattle.std.specs.List.{IsDistinct, list_any}
+use Rattle.std.specs.List.Sorted.{IsStrictlyIncreasing}
 use Rattle.std.specs.Cmp.{IsEquivalence}
 use Rattle.std.proofs.lemmas.Bool.{or_parts, or_from}
 use Rattle.std.proofs.lemmas.Cmp.{nat_eq_equiv, nat_list_eq_equiv}
-use Rattle.std.proofs.lemmas.List.{get_or_append_left, map_push}
-use Rattle.std.proofs.lemmas.List.Elements.{All-nil, All-push}
+use Rattle.std.proofs.lemmas.Grind.{flat_map-append}
+use Rattle.std.proofs.lemmas.List.{append-nil, get_or_append_left, map_push}
+use Rattle.std.proofs.lemmas.List.Elements.{All-nil, All-push, All-weaker}
 use Rattle.std.proofs.lemmas.Map.Keys.{IsDistinct-push}
+use Rattle.rc_lang.specs.declared.lines.Line.{Line}
 use Rattle.rc_lang.specs.declared.program.File.{File}
 use Rattle.rc_lang.specs.declared.program.Head.{Head}
 use Rattle.rc_lang.specs.declared.program.Token.{Token}
 use Rattle.rc_lang.specs.declared.program.TokenKind.{TokenKind}
 use Rattle.rc_lang.specs.declared.program.TokenKind.TheVariants.{Read, Write, Fsync, Nop}
-use Rattle.rc_lang.specs.Program.{Buffer, IsBuffer, IsFile, IsThread, Program, Thread, no_buffer, shares_at}
+use Rattle.rc_lang.specs.Program.{Buffer, IsBuffer, IsFile, IsThread, Program, Thread, line_numbers, no_buffer, numbers_from, shares_at}
 use Rattle.rc_lang.proofs.Lookups.{get_push}
+use Rattle.rc_lang.proofs.Rising.{rises_more}
 use Rattle.rc_read.specs.Sheets.{buffer_names, has_file, has_token, is_among, thread_names}
 use Rattle.rc_read.proofs.KeptItems.{none_distinct}
 use Rattle.rc_read.proofs.KeptRows.{IsHead, IsKind, head_start}
@@ -110,6 +114,33 @@ pub record AreDeclared (head : Head) (files : List File) (buffers : List Buffer)
 
 pub nothing_declared : AreDeclared (record { entries = 1; completion_entries = 2; left = 0 }) [] [] []
 nothing_declared = record { sizes = head_start; known_files = no_files; known_buffers = no_buffers; known_tokens = no_tokens [] }
+
+-- ---- the numbers of lines
+
+-- They rise, up to this one.
+pub record RiseTo (count : ℕ) (ns : List ℕ) : Type 0 where
+  pub rise : IsStrictlyIncreasing ns
+  pub within : All (λ n. n ≤ count) ns
+
+pub rise_none : (count : ℕ) → RiseTo count []
+rise_none count = record { rise = λ k lt. absurd (omega arith); within = All-nil (λ n. n ≤ count) }
+
+pub rise_on : (count : ℕ) (ns : List ℕ) → RiseTo count ns → RiseTo (count + 1) ns
+rise_on count ns h = record { rise = h.rise; within = All-weaker (λ n. n ≤ count) (λ n. n ≤ count + 1) (λ n le. omega arith) ns h.within }
+
+pub rise_more : (count : ℕ) (ns : List ℕ) → RiseTo count ns → RiseTo (count + 1) (ns ++ (count + 1) ∷ [])
+rise_more count ns h = record {
+  rise = rises_more ns (count + 1) h.rise (All-weaker (λ n. n ≤ count) (λ n. n < count + 1) (λ n le. omega arith) ns h.within);
+  within = All-push (λ n. n ≤ count + 1) ns (count + 1) (rise_on count ns h).within (omega arith);
+}
+
+pub numbers_more : (before : List ℕ) (header : ℕ) (lines : List Line) (l : Line) → before ++ numbers_from header (lines ++ l ∷ []) ≡ (before ++ numbers_from header lines) ++ l.number ∷ []
+numbers_more before header lines l =
+    ap (λ ns. before ++ header ∷ ns) (map_push (λ (m : Line). m.number) lines l) ∙ sym (append_assoc before (numbers_from header lines) (l.number ∷ []))
+
+pub numbers_whole : (threads : List Thread) (t : Thread) → line_numbers (threads ++ t ∷ []) ≡ line_numbers threads ++ numbers_from t.line t.lines
+numbers_whole threads t =
+    flat_map-append (λ (u : Thread). numbers_from u.line u.lines) threads (t ∷ []) ∙ ap (λ ns. line_numbers threads ++ ns) (append-nil (numbers_from t.line t.lines))
 
 -- ---- threads
 

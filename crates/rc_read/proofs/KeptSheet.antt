@@ -1,10 +1,10 @@
 -- What is kept of the sheet above each line, and what a line of the open thread does to it.
-use Rattle.std.proofs.Common.{◌≡◌, ℕ, ◌+◌, ◌<◌, ◌≤◌, false, not, ◌&&◌, List, [], length, Option, Some, None, refl, sym, subst, inl, inr, arith}
+use Rattle.std.proofs.Common.{◌≡◌, ℕ, ◌+◌, ◌<◌, ◌≤◌, false, not, ◌&&◌, List, [], ◌++◌, length, Option, Some, None, refl, sym, subst, inl, inr, arith}
 use Rattle.std.proofs.lemmas.Bool.{and_parts, not-false}
 use Rattle.rc_lang.specs.declared.lines.Block.{Block}
 use Rattle.rc_lang.specs.declared.lines.Block.TheVariants.{InLock, InIf, InElse, InPeek, InArm, InLoop}
 use Rattle.rc_lang.specs.Nesting.{innermost, is_some_peek}
-use Rattle.rc_lang.specs.Program.{Program, Thread as ThreadOf}
+use Rattle.rc_lang.specs.Program.{Program, Thread as ThreadOf, line_numbers, numbers_from}
 use Rattle.rc_lang.proofs.Lookups.{nothing_open}
 use Rattle.rc_read.specs.declared.parts.Region.{Region}
 use Rattle.rc_read.specs.declared.parts.Region.TheVariants.{Start, Second, Declarations, InThread, Between}
@@ -15,7 +15,7 @@ use Rattle.rc_read.specs.Adds.{closed, closing, closing_of, counted, said, stmt_
 use Rattle.rc_read.specs.Sheets.{Draft, Sheet, empty, is_among, names_behind, naming, thread_names, with_names}
 use Rattle.rc_read.specs.Spots.{Spot}
 use Rattle.rc_read.proofs.KeptDraft.{IsDraft, MayFollow, draft_more, draft_named, draft_whole, open_loop}
-use Rattle.rc_read.proofs.KeptParts.{AreDeclared, AreThreads, nothing_declared, one_more, threads_more}
+use Rattle.rc_read.proofs.KeptParts.{AreDeclared, AreThreads, RiseTo, nothing_declared, numbers_more, numbers_whole, one_more, rise_more, rise_on, threads_more}
 use Rattle.rc_read.proofs.KeptValues.{made}
 
 -- ---- what is kept
@@ -26,6 +26,7 @@ pub record IsOpen (p : Program) (count : ℕ) (d : Draft) (threads : List Thread
   pub room : length threads < 16
   pub new : is_among (thread_names threads) d.name ≡ false
   pub few_lines : length d.lines ≤ count
+  pub numbers : RiseTo count (line_numbers threads ++ numbers_from d.line d.lines)
   pub draft : IsDraft p d
 
 -- The threads, by the part of the text.
@@ -34,7 +35,7 @@ ThreadsAt p count d threads Start = threads ≡ []
 ThreadsAt p count d threads Second = threads ≡ []
 ThreadsAt p count d threads Declarations = threads ≡ []
 ThreadsAt p count d threads InThread = IsOpen p count d threads
-ThreadsAt p count d threads Between = AreThreads p threads
+ThreadsAt p count d threads Between = AreThreads p threads × RiseTo count (line_numbers threads)
 
 -- What is kept of the sheet above each line, where these will be the program's threads.
 pub record IsKept (ts : List ThreadOf) (s : Sheet) : Type 0 where
@@ -49,14 +50,15 @@ module _ (ts : List ThreadOf) where
   -- ---- lines without words, and the variables of a line
 
   threads_counted : (p : Program) (count : ℕ) (d : Draft) (threads : List ThreadOf) (r : Region) → ThreadsAt p count d threads r → ThreadsAt p (count + 1) d threads r
-  threads_counted p count d threads InThread h = record { finished = h.finished; room = h.room; new = h.new; few_lines = let le : length d.lines ≤ count = h.few_lines in omega arith; draft = h.draft }
+  threads_counted p count d threads InThread h = record { finished = h.finished; room = h.room; new = h.new; few_lines = let le : length d.lines ≤ count = h.few_lines in omega arith; numbers = rise_on count _ h.numbers; draft = h.draft }
+  threads_counted p count d threads Between h = (h.0, rise_on count (line_numbers threads) h.1)
   threads_counted p count d threads r h = h
 
   pub kept_counted : (s : Sheet) → s.count < 4096 → IsKept ts s → IsKept ts (counted s)
   kept_counted s lt k = record { few_lines = omega arith; declared = k.declared; threads = threads_counted (made ts s) s.count s.draft s.threads s.region k.threads }
 
   threads_named : (p : Program) (count : ℕ) (d : Draft) (ps : List Spot) (threads : List ThreadOf) → length (names_behind d.names ps) ≤ 64 → (r : Region) → ThreadsAt p count d threads r → ThreadsAt p count (naming d ps) threads r
-  threads_named p count d ps threads few InThread h = record { finished = h.finished; room = h.room; new = h.new; few_lines = h.few_lines; draft = draft_named p d ps few h.draft }
+  threads_named p count d ps threads few InThread h = record { finished = h.finished; room = h.room; new = h.new; few_lines = h.few_lines; numbers = h.numbers; draft = draft_named p d ps few h.draft }
   threads_named p count d ps threads few r h = h
 
   pub kept_named : (s : Sheet) (ps : List Spot) → length (names_behind s.draft.names ps) ≤ 64 → IsKept ts s → IsKept ts (with_names s ps)
@@ -82,6 +84,7 @@ module _ (ts : List ThreadOf) where
           room = thread.room;
           new = thread.new;
           few_lines = let le : length s.draft.lines ≤ s.count = thread.few_lines in one_more s.draft.lines (record { number = s.count + 1; stmt = stmt_in s.draft what }) (s.count + 1) (omega arith);
+          numbers = subst (λ ns. RiseTo (s.count + 1) ns) (sym (numbers_more (line_numbers s.threads) s.draft.line s.draft.lines (record { number = s.count + 1; stmt = stmt_in s.draft what }))) (rise_more s.count _ thread.numbers);
           draft = draft_more (made ts s) s.draft thread.draft (s.count + 1) its (stmt_in s.draft what) (omega arith) (omega arith) may;
         });
       }
@@ -90,7 +93,10 @@ module _ (ts : List ThreadOf) where
       kept_whole i = record {
         few_lines = omega arith;
         declared = k.declared;
-        threads = threads_more (made ts s) s.threads (whole_thread s.draft) thread.finished (draft_whole (made ts s) s.draft thread.draft (let le : length s.draft.lines ≤ s.count = thread.few_lines in let few : s.count ≤ 4096 = k.few_lines in omega arith) (nothing_open s.draft.blocks i)) thread.new thread.room;
+        threads = (
+          threads_more (made ts s) s.threads (whole_thread s.draft) thread.finished (draft_whole (made ts s) s.draft thread.draft (let le : length s.draft.lines ≤ s.count = thread.few_lines in let few : s.count ≤ 4096 = k.few_lines in omega arith) (nothing_open s.draft.blocks i)) thread.new thread.room,
+          subst (λ ns. RiseTo (s.count + 1) ns) (sym (numbers_whole s.threads (whole_thread s.draft))) (rise_on s.count _ thread.numbers),
+        );
       }
 
       closes : (b : Block) → innermost s.draft.blocks ≡ Some b → is_some_peek (Some b) && not (s.draft.arms.other && s.draft.arms.none) ≡ false → MayFollow (made ts s) s.draft [] (closing b)

@@ -1,6 +1,5 @@
 pub mod Cuts
 pub mod FirstFault
-pub mod FirstLines
 pub mod Judged
 pub mod Kept
 pub mod KeptArms
@@ -14,7 +13,6 @@ pub mod KeptRows
 pub mod KeptSheet
 pub mod KeptSpots
 pub mod KeptValues
-pub mod May
 pub mod Numbered
 pub mod Places
 pub mod Rows
@@ -24,4 +22,3 @@ pub mod Streams
 pub mod Tokens
 pub mod Twice
 pub mod Among
-pub mod Differ

@@ -1,5 +1,6 @@
 -- The forms that a line can have whose first word begins with a byte are enough.
-use Rattle.std.proofs.Common.{◌≡◌, ℕ, List, [], ◌∷◌, Bool, true, false, cond, eqb, ◌&&◌, Option, Some, None, refl, sym, ap, ◌∙◌}
+use Rattle.std.proofs.Common.{◌≡◌, ℕ, List, [], ◌∷◌, ◌++◌, Bool, true, false, cond, eqb, ◌&&◌, Option, Some, None, refl, sym, ap, ◌∙◌}
+use Rattle.std.specs.Option.{option_or}
 use Rattle.std.specs.Prelude.{option_map, unwrap_or}
 use Rattle.std.specs.Str.{bytes_eq}
 use Rattle.rc_read.specs.declared.table.Part.{Part}
@@ -7,7 +8,7 @@ use Rattle.rc_read.specs.declared.table.Part.TheVariants.{Fixed}
 use Rattle.rc_read.specs.declared.table.Row.{Row}
 use Rattle.rc_read.specs.Quick.{starts_with, may_begin, beginning, first_byte}
 use Rattle.rc_read.specs.Spots.{matches, first_row, row_of}
-use Rattle.rc_read.specs.Table.{text_of, parts_of, rows}
+use Rattle.rc_read.specs.Table.{assignments, fixed_rows, parts_of, text_of}
 
 -- ---- the first word of a line begins as its form does
 
@@ -45,5 +46,15 @@ rows_by [] ws = refl
 rows_by (row ∷ all) ws =
     one_row (may_begin (first_byte ws) (parts_of row)) row (beginning (first_byte ws) all) all ws (not_both (matches (parts_of row) ws) (may_begin (first_byte ws) (parts_of row)) (begins_so (parts_of row) ws)) (rows_by all ws)
 
-pub rows_found : (n : ℕ) (ws : List (List ℕ)) → n ≡ first_byte ws → first_row (beginning n rows) ws ≡ row_of ws
-rows_found n ws e = ap (λ (k : ℕ). first_row (beginning k rows) ws) e ∙ rows_by rows ws
+-- the rows of a first byte, and then the others
+rows_then : (all more : List Row) (ws : List (List ℕ)) (o : Option Row) → first_row all ws ≡ o → first_row (all ++ more) ws ≡ option_or o (first_row more ws)
+rows_then [] more ws o e = rw (← e) refl
+rows_then (row ∷ all) more ws o e = one (matches (parts_of row) ws) e (rows_then all more ws o)
+  where
+    one : (b : Bool) → cond b (Some row) (first_row all ws) ≡ o → (first_row all ws ≡ o → first_row (all ++ more) ws ≡ option_or o (first_row more ws)) → cond b (Some row) (first_row (all ++ more) ws) ≡ option_or o (first_row more ws)
+    one true f h = rw (← f) refl
+    one false f h = h f
+
+pub rows_found : (n : ℕ) (ws : List (List ℕ)) (o : Option Row) → n ≡ first_byte ws → o ≡ first_row (beginning n fixed_rows) ws → option_or o (first_row assignments ws) ≡ row_of ws
+rows_found n ws o e f =
+    sym (rows_then fixed_rows assignments ws o (sym (f ∙ ap (λ (k : ℕ). first_row (beginning k fixed_rows) ws) e ∙ rows_by fixed_rows ws)))

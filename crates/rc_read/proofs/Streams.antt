@@ -1,12 +1,12 @@
 -- Lines that come one after another, and pieces.
-use Rattle.std.proofs.Common.{◌≡◌, ℕ, zero, suc, ◌+◌, ◌<◌, ◌≤◌, List, [], ◌∷◌, ◌++◌, length, take, drop, get_or, Bool, true, false, cond, eqb, Option, Some, None, Result, Ok, Err, refl, sym, ap, subst, ◌∙◌, append_assoc, arith, length-drop}
+use Rattle.std.proofs.Common.{◌≡◌, ℕ, suc, ◌+◌, ◌-◌, ◌<◌, List, [], ◌∷◌, ◌++◌, length, take, drop, get_or, Bool, true, false, cond, eqb, Option, Some, None, Result, Ok, Err, refl, sym, ap, subst, ◌∙◌, append_assoc, arith, length-drop}
 use Rattle.std.proofs.lemmas.Bool.{eqb-true}
-use Rattle.std.proofs.lemmas.List.{take-append-drop, take-take, drop-take, take_more, get_or-drop, drop-drop}
+use Rattle.std.proofs.lemmas.List.{take-append-drop, take-take, drop-take, take_more, get_or-drop}
 use Rattle.memchr.specs.Find.{Nowhere, Passes, is_byte}
 use Rattle.rc_lang.specs.Program.{Program}
 use Rattle.rc_read.specs.Answer.{on_line, judged, ended, answer_of}
 use Rattle.rc_read.specs.Causes.{number_of_cause}
-use Rattle.rc_read.specs.Pieces.{fault_in, first_line, line_in, ReadsMore, IsSoundBy}
+use Rattle.rc_read.specs.Pieces.{fault_in, ReadsMore, IsSoundBy}
 use Rattle.rc_read.specs.Sentences.{sentences, first_true}
 use Rattle.rc_read.specs.Sheets.{Sheet, empty}
 use Rattle.rc_read.specs.Adds.{with_line}
@@ -14,7 +14,6 @@ use Rattle.rc_read.specs.Stream.{Reads, HasRead, Reading, IsAnswer, IsAnswerSoFa
 use Rattle.rc_read.specs.Words.{cut, before_line, last_line}
 use Rattle.rc_read.specs.declared.fault.ReadFault.{ReadFault}
 use Rattle.rc_read.specs.declared.fault.ReadFault.TheVariants.{Text, OutOfMemory}
-use Rattle.rc_read.proofs.FirstLines.{IsEnded, ended_line, first_is_last, is_ended, line_front, line_twice, no_lines, not_true, rest_is_line, rest_within}
 
 abbrev pub ok : Result (Unit {0}) ReadFault
 ok = Ok tt
@@ -64,51 +63,22 @@ cut-push_line (b ∷ bytes) =
     (rw e refl) (rw e (push_line_by b (cut bytes)))
 
 -- bytes of a line
-abbrev pub IsOpen : List ℕ → Type 0
-IsOpen front = cut front ≡ ([], front)
+abbrev pub NoFeed : List ℕ → Type 0
+NoFeed front = Nowhere (Passes (is_byte 10) front) 0 (length front)
+
+not_true : (c : Bool) → ¬ (c ≡ true) → c ≡ false
+not_true true h = absurd (h refl)
+not_true false h = refl
 
 grows : (c : Bool) (b : ℕ) (front : List ℕ) (p : List (List ℕ) × List ℕ) (q : List (List ℕ) × List ℕ) → c ≡ false → p ≡ ([], front) → cond c q (before_line b p) ≡ ([], b ∷ front)
 grows true b front p q e f = absurd cc
 grows false b front p q e f = rw f refl
 
-pub cut_front : (front : List ℕ) → Nowhere (Passes (is_byte 10) front) 0 (length front) → IsOpen front
+cut_front : (front : List ℕ) → NoFeed front → cut front ≡ ([], front)
 cut_front [] h = refl
 cut_front (b ∷ front) h =
     grows (eqb b 10) b front (cut front) ([] ∷ (cut front).0, (cut front).1) (not_true (eqb b 10) (h 0 (omega arith) (omega arith)))
     (cut_front front (λ k low high p. h (suc k) (omega arith) (omega (arith, high)) p))
-
-open_by : (c : Bool) (b : ℕ) (bytes : List ℕ) → eqb b 10 ≡ c → IsOpen (line_in bytes) → IsOpen (cond c [] (b ∷ line_in bytes))
-open_by true b bytes e h = refl
-open_by false b bytes e h = grows (eqb b 10) b (line_in bytes) (cut (line_in bytes)) ([] ∷ (cut (line_in bytes)).0, (cut (line_in bytes)).1) e h
-
-line_is_open : (bytes : List ℕ) → IsOpen (line_in bytes)
-line_is_open [] = refl
-line_is_open (b ∷ bytes) = open_by (eqb b 10) b bytes refl (line_is_open bytes)
-
-open_from : (bytes : List ℕ) (p : List (List ℕ) × List ℕ) → cut bytes ≡ p → p.0 ≡ [] → p.1 ≡ bytes → IsOpen bytes
-open_from bytes ([], rest) e h k = e ∙ ap (λ (xs : List ℕ). ([], xs)) k
-open_from bytes (l ∷ ls, rest) e h k = absurd cc
-
-behind_by : (c : Bool) (b : ℕ) (bytes : List ℕ) (p : List (List ℕ) × List ℕ) → (p.0 ≡ [] → p.1 ≡ bytes) → length p.1 < length bytes → (cond c ([] ∷ p.0, p.1) (before_line b p)).1 ≡ p.1
-behind_by true b bytes p h lt = refl
-behind_by false b bytes ([], rest) h lt = absurd (omega (arith, lt, ap length (h refl)))
-behind_by false b bytes (l ∷ ls, rest) h lt = refl
-
-first_goes : (c : Bool) (p q : List (List ℕ) × List ℕ) → c ≡ true → (cond c p q).1 ≡ p.1
-first_goes true p q e = refl
-first_goes false p q e = absurd cc
-
--- behind the last line feed
-pub rest_behind : (bytes : List ℕ) (last : ℕ) → last < length bytes → Nowhere (Passes (is_byte 10) bytes) (last + 1) (length bytes) → eqb (get_or bytes last 0) 10 ≡ true → last + 1 + length (cut bytes).1 ≡ length bytes
-rest_behind [] last lt h e = absurd (omega (arith, lt))
-rest_behind (b ∷ bytes) zero lt h e =
-    let whole = cut_front bytes (λ k low high p. h (suc k) (omega arith) (omega (arith, high)) p) in
-    let rest : (cut (b ∷ bytes)).1 ≡ bytes = first_goes (eqb b 10) ([] ∷ (cut bytes).0, (cut bytes).1) (before_line b (cut bytes)) e ∙ ap (λ (p : List (List ℕ) × List ℕ). p.1) whole in
-    omega (arith, ap length rest)
-rest_behind (b ∷ bytes) (suc last) lt h e =
-    let more = rest_behind bytes last (omega (arith, lt)) (λ k low high p. h (suc k) (omega (arith, low)) (omega (arith, high)) p) e in
-    let same = behind_by (eqb b 10) b bytes (cut bytes) (no_lines bytes) (omega (arith, more)) in
-    omega (arith, more, ap length same)
 
 -- more bytes of a line
 abbrev grown : List ℕ → List (List ℕ) × List ℕ → List (List ℕ) × List ℕ
@@ -118,8 +88,8 @@ front_by : (b : ℕ) (xs : List ℕ) (p : List (List ℕ) × List ℕ) → befor
 front_by b xs ([], rest) = refl
 front_by b xs (l ∷ ls, rest) = refl
 
-cut-append_front : (bytes front : List ℕ) → IsOpen front → cut (bytes ++ front) ≡ grown front (cut bytes)
-cut-append_front [] front h = h
+cut-append_front : (bytes front : List ℕ) → NoFeed front → cut (bytes ++ front) ≡ grown front (cut bytes)
+cut-append_front [] front h = cut_front front h
 cut-append_front (b ∷ bytes) front h =
     let e = cut-append_front bytes front h in
     cond_pair (grown front) (eqb b 10) ([] ∷ (cut bytes).0, (cut bytes).1) (before_line b (cut bytes)) _ _
@@ -171,35 +141,22 @@ reads_line (Ok u) s s' bytes h j = rw (cut-push_line bytes) (judged-append_ok em
 reads_line (Err (Text line cause)) s s' bytes h j = rw (cut-push_line bytes) (judged-append_ok empty s (cut bytes).0 ((cut bytes).1 ∷ []) h ∙ j)
 reads_line (Err OutOfMemory) s s' bytes h j = tt
 
-reads_front : (s : Sheet) (pending bytes front : List ℕ) → IsOpen front → Reads None s pending bytes → Reads None s (pending ++ front) (bytes ++ front)
+reads_front : (s : Sheet) (pending bytes front : List ℕ) → NoFeed front → Reads None s pending bytes → Reads None s (pending ++ front) (bytes ++ front)
 reads_front s pending bytes front n h = rw (cut-append_front bytes front n) (h.0, ap (λ (x : List ℕ). x ++ front) h.1)
 
 -- a line feed behind the bytes of a line
-pub ends : (r : Result (Unit {0}) ReadFault) (s s' : Sheet) (pending front line p : List ℕ) → IsOpen front → line ≡ line_in (pending ++ front) → p ≡ [] → Judges s line s' r → ReadsMore s pending (front ++ 10 ∷ []) s' p r
+pub ends : (r : Result (Unit {0}) ReadFault) (s s' : Sheet) (pending front line p : List ℕ) → NoFeed front → line ≡ pending ++ front → p ≡ [] → Judges s line s' r → ReadsMore s pending (front ++ 10 ∷ []) s' p r
 ends r s s' pending front line p n el ep t = λ bytes h.
     let g = reads_front s pending bytes front n h in
-    let e : line ≡ (cut (bytes ++ front)).1 = el ∙ ap line_in g.1 ∙ rest_is_line (bytes ++ front) in
+    let e : line ≡ (cut (bytes ++ front)).1 = el ∙ g.1 in
     let j : JudgesAll s ((cut (bytes ++ front)).1 ∷ []) s' r = subst (λ (x : List ℕ). JudgesAll s (x ∷ []) s' r) e (one_line r s s' line t) in
     let k = subst (λ (x : List ℕ). Reads (fault_in r) s' x ((bytes ++ front) ++ 10 ∷ [])) (sym ep) (reads_line r s s' (bytes ++ front) g.0 j) in
     subst (λ (x : List ℕ). Reads (fault_in r) s' p x) (append_assoc bytes front (10 ∷ [])) k
 
--- the same of a call that answers something else
-pub judges_ok : {X Y : Type 0} (r : Result X ReadFault) (x : X) (y : Y) (s s' : Sheet) (line whole : List ℕ) → r ≡ Ok x → line ≡ whole → Judges s line s' r → Judges s whole s' (Ok y)
-judges_ok r x y s s' line whole e w j = subst (λ (l : List ℕ). Judges {X = _} s l s' (Ok x)) w (subst (λ t. Judges s line s' t) e j)
-
-judges_fault : (X Y : Type 0) (f : ReadFault) (s s' : Sheet) (line : List ℕ) → Judges {X = X} s line s' (Err f) → Judges {X = Y} s line s' (Err f)
-judges_fault X Y (Text line cause) s s' l j = j
-judges_fault X Y OutOfMemory s s' l j = j
-
-pub judges_err : (X Y : Type 0) (r : Result X ReadFault) (f : ReadFault) (s s' : Sheet) (line whole : List ℕ) → r ≡ Err f → line ≡ whole → Judges s line s' r → Judges {X = Y} s whole s' (Err f)
-judges_err X Y r f s s' line whole e w j = judges_fault X Y f s s' whole (subst (λ (l : List ℕ). Judges {X = X} s l s' (Err f)) w (subst (λ t. Judges s line s' t) e j))
-
 -- ---- the end
 
-pub answer_is : (s : Sheet) (pending bytes : List ℕ) → Reads None s pending bytes → answer_of bytes ≡ ended (judged s (first_line pending))
-answer_is s pending bytes h =
-    ap ended (judged-append_ok empty s (cut bytes).0 (last_line (cut bytes).1) h.0)
-    ∙ ap (λ (ls : List (List ℕ)). ended (judged s ls)) (sym (first_is_last bytes) ∙ ap first_line (sym h.1))
+pub answer_is : (s : Sheet) (pending bytes : List ℕ) → Reads None s pending bytes → answer_of bytes ≡ ended (judged s (last_line pending))
+answer_is s pending bytes h = ap ended (judged-append_ok empty s (cut bytes).0 (last_line (cut bytes).1) h.0) ∙ ap (λ (p : List ℕ). ended (judged s (last_line p))) (sym h.1)
 
 pub fault_answer : (line number : ℕ) (bytes : List ℕ) → judged empty (cut bytes).0 ≡ Err (line, number) → answer_of bytes ≡ Err (line, number)
 fault_answer line number bytes h = ap ended (judged-append_err empty (line, number) (cut bytes).0 (last_line (cut bytes).1) h)
@@ -210,11 +167,11 @@ fault_answers : (f : ReadFault) (s : Sheet) (p bytes : List ℕ) (r : Result Pro
 fault_answers OutOfMemory s p bytes r e h = rw e tt
 fault_answers (Text line cause) s p bytes r e h = rw e (fault_answer line (number_of_cause cause) bytes h)
 
-rest_fails : (f : ReadFault) (s s' : Sheet) (pending bytes : List ℕ) (r : Result Program ReadFault) → r ≡ Err f → JudgesAll {X = Unit {0}} s (first_line pending) s' (Err f) → Reads None s pending bytes → IsAnswer bytes r
+rest_fails : (f : ReadFault) (s s' : Sheet) (pending bytes : List ℕ) (r : Result Program ReadFault) → r ≡ Err f → JudgesAll {X = Unit {0}} s (last_line pending) s' (Err f) → Reads None s pending bytes → IsAnswer bytes r
 rest_fails OutOfMemory s s' pending bytes r e j h = rw e tt
 rest_fails (Text line cause) s s' pending bytes r e j h = rw e (answer_is s pending bytes h ∙ ap ended j)
 
-end_answers : (r : Result Program ReadFault) (s s' : Sheet) (pending bytes : List ℕ) → judged s (first_line pending) ≡ Ok s' → Ends s' r → Reads None s pending bytes → IsAnswer bytes r
+end_answers : (r : Result Program ReadFault) (s s' : Sheet) (pending bytes : List ℕ) → judged s (last_line pending) ≡ Ok s' → Ends s' r → Reads None s pending bytes → IsAnswer bytes r
 end_answers (Ok p) s s' pending bytes j k h = answer_is s pending bytes h ∙ ap ended j ∙ k
 end_answers (Err (Text line cause)) s s' pending bytes j k h = answer_is s pending bytes h ∙ ap ended j ∙ k
 end_answers (Err OutOfMemory) s s' pending bytes j k h = tt
@@ -229,15 +186,15 @@ keeps_fault o f s p bytes piece e h =
 pub fault_finishes : (o : Option ReadFault) (f : ReadFault) (s : Sheet) (p bytes : List ℕ) → o ≡ Some f → Reads o s p bytes → IsAnswer bytes (Err f)
 fault_finishes o f s p bytes e h = fault_answers f s p bytes (Err f) refl (subst (λ (x : Option ReadFault). Reads x s p bytes) e h)
 
-pub rest_finishes : (o : Option ReadFault) (f : ReadFault) (s s' : Sheet) (pending rest bytes : List ℕ) (r : Result Program ReadFault) (j : Result (Unit {0}) ReadFault) → o ≡ None → rest ≡ pending → r ≡ Err f → j ≡ Err f → JudgesAll s (first_line rest) s' j → Reads o s pending bytes → IsAnswer bytes r
+pub rest_finishes : (o : Option ReadFault) (f : ReadFault) (s s' : Sheet) (pending rest bytes : List ℕ) (r : Result Program ReadFault) (j : Result (Unit {0}) ReadFault) → o ≡ None → rest ≡ pending → r ≡ Err f → j ≡ Err f → JudgesAll s (last_line rest) s' j → Reads o s pending bytes → IsAnswer bytes r
 rest_finishes o f s s' pending rest bytes r j eo ep er ej k h =
-    let k' = subst (λ (x : Result (Unit {0}) ReadFault). JudgesAll s (first_line rest) s' x) ej k in
-    let k'' = subst (λ (x : List ℕ). JudgesAll {X = Unit {0}} s (first_line x) s' (Err f)) ep k' in
+    let k' = subst (λ (x : Result (Unit {0}) ReadFault). JudgesAll s (last_line rest) s' x) ej k in
+    let k'' = subst (λ (x : List ℕ). JudgesAll {X = Unit {0}} s (last_line x) s' (Err f)) ep k' in
     rest_fails f s s' pending bytes r er k'' (reads_none o s pending bytes eo h)
 
-pub end_finishes : (o : Option ReadFault) (s s' : Sheet) (pending rest bytes : List ℕ) (r : Result Program ReadFault) → o ≡ None → rest ≡ pending → judged s (first_line rest) ≡ Ok s' → Ends s' r → Reads o s pending bytes → IsAnswer bytes r
+pub end_finishes : (o : Option ReadFault) (s s' : Sheet) (pending rest bytes : List ℕ) (r : Result Program ReadFault) → o ≡ None → rest ≡ pending → judged s (last_line rest) ≡ Ok s' → Ends s' r → Reads o s pending bytes → IsAnswer bytes r
 end_finishes o s s' pending rest bytes r eo ep j k h =
-    let j' = subst (λ (x : List ℕ). judged s (first_line x) ≡ Ok s') ep j in
+    let j' = subst (λ (x : List ℕ). judged s (last_line x) ≡ Ok s') ep j in
     end_answers r s s' pending bytes j' k (reads_none o s pending bytes eo h)
 
 -- ---- a reader whose fields are seen
@@ -247,10 +204,13 @@ sound_by s s' line (Ok u) j h =
     (h.0 ++ line ∷ [], judged-append_ok empty s h.0 (line ∷ []) h.1 ∙ none_goes s line j.0 ∙ ap as_ok (sym j.1))
 sound_by s s' line (Err f) j h = tt
 
-pub reached_end : (o : Option ReadFault) (s s' : Sheet) (pending rest : List ℕ) → o ≡ None → rest ≡ pending → judged s (first_line rest) ≡ Ok s' → IsReachedOrFaulty o s → IsReached s'
+pub sound_ok : (r : Result (Unit {0}) ReadFault) (s : Sheet) → r ≡ Ok tt → IsSoundBy r s → IsReached s
+sound_ok r s e h = subst (λ (x : Result (Unit {0}) ReadFault). IsSoundBy x s) e h
+
+pub reached_end : (o : Option ReadFault) (s s' : Sheet) (pending rest : List ℕ) → o ≡ None → rest ≡ pending → judged s (last_line rest) ≡ Ok s' → IsReachedOrFaulty o s → IsReached s'
 reached_end o s s' pending rest eo ep j h =
     let lines = subst (λ (x : Option ReadFault). IsReachedOrFaulty x s) eo h in
-    (lines.0 ++ first_line rest, judged-append_ok empty s lines.0 (first_line rest) lines.1 ∙ j)
+    (lines.0 ++ last_line rest, judged-append_ok empty s lines.0 (last_line rest) lines.1 ∙ j)
 
 pub fault_seen : (r v : Reading) (o : Option ReadFault) → r ≡ v → v.fault ≡ o → r.fault ≡ o
 fault_seen r v o e k = ap (λ (x : Reading). x.fault) e ∙ k
@@ -269,85 +229,43 @@ so_far_err o f s p bytes e h = so_far_by f s p bytes (subst (λ (x : Option Read
 
 -- ---- a piece
 
+pub fed_ok : (r : Result (Unit {0}) ReadFault) (s s' : Sheet) (p p' : List ℕ) (bytes more whole : List ℕ) → r ≡ Ok tt → bytes ++ more ≡ whole → ReadsMore s p more s' p' r → Reads None s p bytes → Reads None s' p' whole
+fed_ok r s s' p p' bytes more whole er e k h =
+    subst (λ (x : List ℕ). Reads None s' p' x) e (subst (λ (x : Result (Unit {0}) ReadFault). Reads (fault_in x) s' p' (bytes ++ more)) er (k bytes h))
+
 split_at : (piece : List ℕ) (at i : ℕ) → take (at + i) piece ≡ take at piece ++ take i (drop at piece)
 split_at piece at i =
     sym (take-append-drop at (take (at + i) piece)) ∙ ap (λ (x : List ℕ). x ++ drop at (take (at + i) piece)) (take-take at (at + i) piece (omega arith)) ∙ ap (λ (x : List ℕ). take at piece ++ x) (drop-take at i piece)
 
--- a line feed at place i of what is behind place at
-feed_at : (piece : List ℕ) (at i : ℕ) → i < length (drop at piece) → get_or (drop at piece) i 0 ≡ 10 → take (at + i + 1) piece ≡ (take at piece ++ take i (drop at piece)) ++ 10 ∷ []
-feed_at piece at i lt b =
-    let c : get_or piece (at + i) 0 ≡ 10 = sym (get_or-drop at piece i 0) ∙ b in
-    take_more piece (at + i) 0 (omega (arith, lt, length-drop at piece)) ∙ ap (λ (x : ℕ). take (at + i) piece ++ x ∷ []) c ∙ ap (λ (x : List ℕ). x ++ 10 ∷ []) (split_at piece at i)
+pub below_end : (piece hay : List ℕ) (at i : ℕ) → hay ≡ drop at piece → i < length hay → at + i < length piece
+below_end piece hay at i e lt = omega (arith, lt, ap length e, length-drop at piece)
 
--- a fault in the front of a piece is the piece's
-fault_more : (f : ReadFault) (s s' t : Sheet) (p p' q piece : List ℕ) (n : ℕ) → ReadsMore {X = Unit {0}} s p (take n piece) s' p' (Err f) → ReadsMore {X = Unit {0}} s p piece t q (Err f)
-fault_more f s s' t p p' q piece n k = λ bytes h.
+-- the line that ends at place at + i of the piece
+line_at : (bytes piece hay : List ℕ) (at i : ℕ) → hay ≡ drop at piece → i < length hay → eqb (get_or hay i 0) 10 ≡ true → (bytes ++ take at piece) ++ (take (at + i - at) (drop at piece) ++ 10 ∷ []) ≡ bytes ++ take (at + i + 1) piece
+line_at bytes piece hay at i e lt p =
+    let b : get_or piece (at + i) 0 ≡ 10 = sym (get_or-drop at piece i 0) ∙ ap (λ (x : List ℕ). get_or x i 0) (sym e) ∙ eqb-true (get_or hay i 0) 10 p in
+    let n : at + i - at ≡ i = omega arith in
+    let t : take (at + i + 1) piece ≡ (take at piece ++ take i (drop at piece)) ++ 10 ∷ [] =
+    take_more piece (at + i) 0 (below_end piece hay at i e lt) ∙ ap (λ (x : ℕ). take (at + i) piece ++ x ∷ []) b ∙ ap (λ (x : List ℕ). x ++ 10 ∷ []) (split_at piece at i) in
+    rw (n, t) (simp append_assoc)
+
+pub err_reads : (r e : Result (Unit {0}) ReadFault) (f : ReadFault) (s s' : Sheet) (p p' bytes line piece : List ℕ) (n : ℕ) → r ≡ Err f → e ≡ Err f → line ≡ bytes ++ take n piece → Reads (fault_in e) s p line → Reads (fault_in r) s' p' (bytes ++ piece)
+err_reads r e f s s' p p' bytes line piece n er ee el h =
+    let g : Reads (Some f) s p line = subst (λ (x : Result (Unit {0}) ReadFault). Reads (fault_in x) s p line) ee h in
+    let m : Reads (Some f) s' p' ((bytes ++ take n piece) ++ drop n piece) = fault_stays f s s' p p' (bytes ++ take n piece) (drop n piece) (subst (λ (x : List ℕ). Reads (Some f) s p x) el g) in
     let w : (bytes ++ take n piece) ++ drop n piece ≡ bytes ++ piece = append_assoc bytes (take n piece) (drop n piece) ∙ ap (λ (x : List ℕ). bytes ++ x) (take-append-drop n piece) in
-    subst (λ (x : List ℕ). Reads (Some f) t q x) w (fault_stays f s' t p' q (bytes ++ take n piece) (drop n piece) (k bytes h))
+    subst (λ (x : Result (Unit {0}) ReadFault). Reads (fault_in x) s' p' (bytes ++ piece)) (sym er) (subst (λ (x : List ℕ). Reads (Some f) s' p' x) w m)
 
--- ---- the line that is pending
+-- the lines before this one, and this one
+pub line_more : (r : Result (Unit {0}) ReadFault) (s0 s s' : Sheet) (p0 p p' piece hay : List ℕ) (at i : ℕ) → hay ≡ drop at piece → i < length hay → eqb (get_or hay i 0) 10 ≡ true → r ≡ Ok tt → ReadsMore s p (take (at + i - at) (drop at piece) ++ 10 ∷ []) s' p' r → ReadsMore s0 p0 (take at piece) s p ok → ReadsMore s0 p0 (take (at + i + 1) piece) s' p' ok
+line_more r s0 s s' p0 p p' piece hay at i e lt b er k g = λ bytes h.
+    fed_ok r s s' p p' (bytes ++ take at piece) (take (at + i - at) (drop at piece) ++ 10 ∷ []) (bytes ++ take (at + i + 1) piece) er (line_at bytes piece hay at i e lt b) k (g bytes h)
 
-front_line : (piece : List ℕ) (i : ℕ) → i < length piece → eqb (get_or piece i 0) 10 ≡ true → take (i + 1) piece ≡ take i piece ++ 10 ∷ []
-front_line piece i lt b = take_more piece i 0 lt ∙ ap (λ (x : ℕ). take i piece ++ x ∷ []) (eqb-true (get_or piece i 0) 10 b)
+pub line_fails : (r e : Result (Unit {0}) ReadFault) (f : ReadFault) (s0 s s' t : Sheet) (p0 p p' q piece hay : List ℕ) (at i : ℕ) → hay ≡ drop at piece → i < length hay → eqb (get_or hay i 0) 10 ≡ true → r ≡ Err f → e ≡ Err f → ReadsMore s p (take (at + i - at) (drop at piece) ++ 10 ∷ []) s' p' e → ReadsMore s0 p0 (take at piece) s p ok → ReadsMore s0 p0 piece t q r
+line_fails r e f s0 s s' t p0 p p' q piece hay at i eh lt b er ee k g = λ bytes h.
+    err_reads r e f s' t p' q bytes ((bytes ++ take at piece) ++ (take (at + i - at) (drop at piece) ++ 10 ∷ [])) piece (at + i + 1) er ee (line_at bytes piece hay at i eh lt b) (k (bytes ++ take at piece) (g bytes h))
 
-pub front_faulty : (r e : Result (Unit {0}) ReadFault) (f : ReadFault) (s s' t : Sheet) (p p' q piece : List ℕ) (i : ℕ) → i < length piece → eqb (get_or piece i 0) 10 ≡ true → r ≡ Err f → e ≡ Err f → ReadsMore s p (take i piece ++ 10 ∷ []) s' p' e → ReadsMore s p piece t q r
-front_faulty r e f s s' t p p' q piece i lt b er ee k =
-    let g : ReadsMore {X = Unit {0}} s p (take (i + 1) piece) s' p' (Err f) =
-    subst (λ (x : List ℕ). ReadsMore {X = Unit {0}} s p x s' p' (Err f)) (sym (front_line piece i lt b)) (subst (λ (x : Result (Unit {0}) ReadFault). ReadsMore s p (take i piece ++ 10 ∷ []) s' p' x) ee k) in
-    subst (λ (x : Result (Unit {0}) ReadFault). ReadsMore s p piece t q x) (sym er) (fault_more f s s' t p p' q piece (i + 1) g)
-
--- no line feed
-pub front_grows : (s : Sheet) (p q piece : List ℕ) → IsOpen piece → q ≡ p ++ piece → ReadsMore s p piece s q ok
-front_grows s p q piece n e = λ bytes h. subst (λ (x : List ℕ). Reads None s x (bytes ++ piece)) (sym e) (reads_front s p bytes piece n h)
-
--- ---- lines where they lie
-
--- what is known where the next line is read: the place, the rest of the piece from there, and how long the line is
-pub line_read : (r : Result (Unit {0}) ReadFault) (s0 s s' : Sheet) (p0 piece hay : List ℕ) (at n : ℕ) → hay ≡ drop at piece → n ≡ length (line_in hay) → IsEnded (drop at piece) → Judges s (line_in hay) s' r → ReadsMore s0 p0 (take at piece) s [] ok → ReadsMore s0 p0 (take (at + n + 1) piece) s' [] r
-line_read r s0 s s' p0 piece hay at n e en h j g = λ bytes k.
-    let rest = drop at piece in
-    let line = line_in rest in
-    let m : n ≡ length line = en ∙ ap (λ (x : List ℕ). length (line_in x)) e in
-    let feed : get_or rest n 0 ≡ 10 = ap (λ (i : ℕ). get_or rest i 0) m ∙ h.feed in
-    let whole : take (at + n + 1) piece ≡ take at piece ++ (line ++ 10 ∷ []) =
-    feed_at piece at n (omega (arith, m, h.within)) feed ∙ ap (λ (x : List ℕ). (take at piece ++ x) ++ 10 ∷ []) (line_front rest n m) ∙ append_assoc (take at piece) line (10 ∷ []) in
-    let l : line_in hay ≡ line_in ([] ++ line) = ap line_in e ∙ sym (line_twice rest) in
-    let c = ends r s s' [] line (line_in hay) [] (line_is_open rest) l refl j (bytes ++ take at piece) (g bytes k) in
-    subst (λ (x : List ℕ). Reads (fault_in r) s' [] x) (append_assoc bytes (take at piece) (line ++ 10 ∷ []) ∙ ap (λ (x : List ℕ). bytes ++ x) (sym whole)) c
-
-pub line_faulty : (f : ReadFault) (s0 s s' t : Sheet) (p0 q piece hay : List ℕ) (at : ℕ) → hay ≡ drop at piece → IsEnded (drop at piece) → Judges {X = Unit {0}} s (line_in hay) s' (Err f) → ReadsMore s0 p0 (take at piece) s [] ok → ReadsMore {X = Unit {0}} s0 p0 piece t q (Err f)
-line_faulty f s0 s s' t p0 q piece hay at e h j g =
-    let n = length (line_in hay) in
-    fault_more f s0 s' t p0 [] q piece (at + n + 1) (line_read (Err f) s0 s s' p0 piece hay at n e refl h j g)
-
--- where the next line ends
-pub next_ended : (piece : List ℕ) (at rest : ℕ) → at < rest → rest + length (cut (drop at piece)).1 ≡ length piece → IsEnded (drop at piece)
-next_ended piece at rest lt h = is_ended (drop at piece) (omega (arith, lt, h, length-drop at piece))
-
-pub left_behind : (piece hay : List ℕ) (at n rest : ℕ) → hay ≡ drop at piece → n ≡ length (line_in hay) → IsEnded (drop at piece) → rest + length (cut (drop at piece)).1 ≡ length piece → rest + length (cut (drop (at + n + 1) piece)).1 ≡ length piece
-left_behind piece hay at n rest e en h k =
-    let m : at + n + 1 ≡ at + suc (length (line_in (drop at piece))) = omega (arith, en, ap (λ (x : List ℕ). length (line_in x)) e) in
-    let d : drop (at + n + 1) piece ≡ drop (suc (length (line_in (drop at piece)))) (drop at piece) =
-    ap (λ (i : ℕ). drop i piece) m ∙ sym (drop-drop (suc (length (line_in (drop at piece)))) at piece) in
-    omega (arith, k, ap (λ (x : List ℕ). length (cut x).1) d, ap length h.rest)
-
-pub next_within : (piece : List ℕ) (at rest : ℕ) → at ≤ length piece → rest + length (cut (drop at piece)).1 ≡ length piece → at ≤ rest
-next_within piece at rest le h = omega (arith, le, h, rest_within (drop at piece), length-drop at piece)
-
-pub next_below : (piece hay : List ℕ) (at n : ℕ) → hay ≡ drop at piece → n ≡ length (line_in hay) → IsEnded (drop at piece) → at + n + 1 ≤ length piece
-next_below piece hay at n e en h = omega (arith, en, ap (λ (x : List ℕ). length (line_in x)) e, h.within, length-drop at piece)
-
--- ---- the rest of a piece
-
--- where no line is left
-pub no_line_left : (bytes : List ℕ) → length (cut bytes).1 ≡ length bytes → IsOpen bytes
-no_line_left bytes e = left_by bytes (cut bytes) refl e
-  where
-    left_by : (bytes : List ℕ) (p : List (List ℕ) × List ℕ) → cut bytes ≡ p → length (cut bytes).1 ≡ length bytes → IsOpen bytes
-    left_by bytes ([], rest) e n = open_from bytes ([], rest) e refl (sym (ap (λ (p : List (List ℕ) × List ℕ). p.1) e) ∙ no_lines bytes (ap (λ (p : List (List ℕ) × List ℕ). p.0) e))
-    left_by bytes (l ∷ ls, rest) e n = let m = ended_line bytes l ls (ap (λ (p : List (List ℕ) × List ℕ). p.0) e) in absurd (omega (arith, n, m))
-
-pub rest_more : (s0 s : Sheet) (p0 p q piece hay : List ℕ) (at : ℕ) → hay ≡ drop at piece → IsOpen hay → q ≡ p ++ hay → ReadsMore s0 p0 (take at piece) s p ok → ReadsMore s0 p0 piece s q ok
+pub rest_more : (s0 s : Sheet) (p0 p q piece hay : List ℕ) (at : ℕ) → hay ≡ drop at piece → NoFeed hay → q ≡ p ++ hay → ReadsMore s0 p0 (take at piece) s p ok → ReadsMore s0 p0 piece s q ok
 rest_more s0 s p0 p q piece hay at e n eq g = λ bytes h.
     let k = reads_front s p (bytes ++ take at piece) hay n (g bytes h) in
     let w : (bytes ++ take at piece) ++ hay ≡ bytes ++ piece =

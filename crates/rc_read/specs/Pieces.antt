@@ -1,18 +1,8 @@
--- The line that some bytes begin with, and what becomes of a reader's parts by a piece of the text.
-use Rattle.std.specs.Prelude.{◌∷◌, ◌++◌, ◌==◌, if◌then◌else◌, [], List, ℕ, Option, Some, None, Result, Ok, Err}
+-- What becomes of a reader's parts by a piece of the text.
+use Rattle.std.specs.Prelude.{◌++◌, List, ℕ, Option, Some, None, Result, Ok, Err}
 use Rattle.rc_read.specs.Sheets.{Sheet}
 use Rattle.rc_read.specs.Stream.{Reads, IsReachedOrFaulty}
 use Rattle.rc_read.specs.declared.fault.ReadFault.{ReadFault}
-
--- The line that some bytes begin with: those before the first line feed.
-abbrev pub line_in : List ℕ → List ℕ
-line_in [] = []
-line_in (b ∷ bytes) = if b == 10 then [] else b ∷ line_in bytes
-
--- The same as a list, of none where there are no bytes.
-abbrev pub first_line : List ℕ → List (List ℕ)
-first_line [] = []
-first_line (b ∷ bytes) = line_in (b ∷ bytes) ∷ []
 
 abbrev pub fault_in : {X : Type 0} → Result X ReadFault → Option ReadFault
 fault_in (Ok u) = None

@@ -1,17 +1,11 @@
--- Faster ways to what the definitions of the notation say, and likely sizes. Nothing that is told of it speaks of these.
-use Rattle.std.specs.Prelude.{ℕ, ◌+◌, ◌/◌, min, List, [], ◌∷◌, length, slice_index_or, Option, Some, None, Bool, true, false, ◌&&◌, ◌||◌, ◌==◌, nat_le, nat_lt, if◌then◌else◌}
-use Rattle.std.specs.Str.{bytes_eq}
-use Rattle.rc_lang.specs.declared.program.Thread.{Thread}
-use Rattle.rc_read.specs.declared.blocks.Misplaced.{Misplaced}
-use Rattle.rc_read.specs.declared.says.Says.{Says}
+-- Faster ways to what the definitions of the notation say. Nothing that is told of it speaks of these.
+use Rattle.std.specs.Prelude.{ℕ, ◌+◌, List, [], ◌∷◌, Option, Some, None, Bool, true, false, ◌&&◌, ◌||◌, ◌==◌, nat_lt, if◌then◌else◌}
 use Rattle.rc_read.specs.declared.table.Part.{Part}
 use Rattle.rc_read.specs.declared.table.Part.TheVariants.{Fixed}
 use Rattle.rc_read.specs.declared.table.Row.{Row}
 use Rattle.rc_read.specs.declared.values.Item.{Item}
 use Rattle.rc_read.specs.declared.values.Item.TheVariants as item
-use Rattle.rc_read.specs.Sentences.{bad_brace, is_too_deep, bad_nesting, bad_case}
-use Rattle.rc_read.specs.Sheets.{Sheet}
-use Rattle.rc_read.specs.Spots.{are_items, fits, is_end, is_item}
+use Rattle.rc_read.specs.Spots.{are_items, fits, is_item}
 use Rattle.rc_read.specs.Table.{text_of, parts_of}
 
 -- Among these is a byte above 126 or below 32, as each strange one is.
@@ -19,11 +13,7 @@ abbrev pub any_outside : List ℕ → Bool
 any_outside [] = false
 any_outside (b ∷ bytes) = (nat_lt 126 b || nat_lt b 32) || any_outside bytes
 
--- Each byte above `#` and below 127 is of a word: neither strange nor a blank nor the beginning of a comment.
-abbrev pub is_word_byte : ℕ → Bool
-is_word_byte b = nat_lt 35 b && nat_lt b 127
-
--- The forms that a line can have whose first word begins with this byte.
+-- The forms of which the first word, where it is fixed, begins with this byte.
 abbrev pub starts_with : ℕ → List ℕ → Bool
 starts_with b [] = true
 starts_with b (c ∷ text) = b == c
@@ -39,21 +29,6 @@ beginning b (row ∷ rows) = if may_begin b (parts_of row) then row ∷ beginnin
 abbrev pub first_byte : List (List ℕ) → ℕ
 first_byte ((b ∷ w) ∷ ws) = b
 first_byte _ = 0
-
--- A test that is true of each line that has the parts of a form: how many words there are, and the fixed ones behind
--- the first.
-abbrev pub fixed_fits : Part → List ℕ → Bool
-fixed_fits (Fixed fixed) w = bytes_eq w (text_of fixed)
-fixed_fits _ w = true
-
-abbrev pub may_follow : List Part → List (List ℕ) → Bool
-may_follow [] ws = is_end ws
-may_follow (part ∷ parts) [] = are_items part
-may_follow (part ∷ parts) (w ∷ ws) = if are_items part then true else (fixed_fits part w && may_follow parts ws)
-
-abbrev pub may_match : List Part → List (List ℕ) → Bool
-may_match (part ∷ parts) (w ∷ ws) = are_items part || may_follow parts ws
-may_match _ _ = true
 
 -- How many words a part takes, where they stand there.
 abbrev pub items_in_front : List (List ℕ) → ℕ
@@ -84,21 +59,3 @@ ascend_from i (j ∷ is) = comes_before i j && ascend_from j is
 abbrev pub ascend : List Item → Bool
 ascend [] = true
 ascend (i ∷ is) = ascend_from i is
-
--- What is wrong with where a line stands, sentence by sentence.
-abbrev pub misplaced_at : Sheet → List Item → Says → Misplaced
-misplaced_at s items what = record { brace = bad_brace s what; depth = is_too_deep s what; nesting = bad_nesting s.draft.blocks items what; case = bad_case s.draft what }
-
--- The byte before a name's last, and 0 where there is none.
-abbrev pub second_last : List ℕ → ℕ
-second_last (a ∷ b ∷ name) = slice_index_or (a ∷ b ∷ name) (length name) 0
-second_last _ = 0
-
--- A number, where it is one and lies in a range.
-abbrev pub in_range : ℕ → ℕ → Bool → ℕ → Option ℕ
-in_range low high is n = if is && nat_le low n && nat_le n high then Some n else None
-
--- For how many lines a thread takes memory behind this one, or as the first, in a piece of so many bytes.
-abbrev pub size_by : Option Thread → ℕ → ℕ
-size_by None fed = min (fed / 4) 4096
-size_by (Some thread) fed = length thread.lines.items

@@ -1,6 +1,6 @@
 -- The notation's forms: one row for each, with the parts that stand in it, from the left, and where in a text it may
 -- stand.
-use Rattle.std.specs.Prelude.{ℕ, List, [], ◌∷◌, codes}
+use Rattle.std.specs.Prelude.{ℕ, List, [], ◌∷◌, ◌++◌, codes}
 use Rattle.rc_read.specs.declared.table.Part.{Part}
 use Rattle.rc_read.specs.declared.table.Part.TheVariants.{Fixed, Variable, Operand, Comparison, Signed, Number, File, Buffer, Token, NewFile, NewBuffer, NewToken, NewThread, Items}
 use Rattle.rc_read.specs.declared.table.Range.TheVariants.{Within, Size, CompletionSize, Rounded, Entries, Shares}
@@ -123,9 +123,16 @@ stand_of row.Else = stand.Brace
 stand_of row.Close = stand.Brace
 stand_of _ = stand.Inside
 
-abbrev pub rows : List Row
-rows =
+-- The forms whose first word is fixed, those that begin with a variable, and all, in the order in which they are tried.
+abbrev pub fixed_rows : List Row
+fixed_rows =
     row.Close ∷ row.Else ∷ row.Break ∷ row.GetSqe ∷ row.CqeSeen ∷ row.Case ∷ row.PrepNop ∷ row.Peek ∷ row.Print ∷ row.PrepRead ∷ row.PrepWrite
     ∷ row.PrepFsync ∷ row.Lock ∷ row.Loop ∷ row.Other ∷ row.Nothing ∷ row.SetData64 ∷ row.Store ∷ row.Fill ∷ row.IfReady ∷ row.If ∷ row.IfSpace
-    ∷ row.Thread ∷ row.TokenRead ∷ row.TokenWrite ∷ row.TokenFsync ∷ row.TokenNop ∷ row.File ∷ row.Buffer ∷ row.Submit ∷ row.Set ∷ row.Add
-    ∷ row.Subtract ∷ row.Load ∷ row.SubmitAndWait ∷ row.Ring ∷ row.RingCq ∷ row.RingLeft ∷ row.RingCqLeft ∷ row.Version ∷ []
+    ∷ row.Thread ∷ row.TokenRead ∷ row.TokenWrite ∷ row.TokenFsync ∷ row.TokenNop ∷ row.File ∷ row.Buffer ∷ row.Ring ∷ row.RingCq ∷ row.RingLeft
+    ∷ row.RingCqLeft ∷ row.Version ∷ []
+
+abbrev pub assignments : List Row
+assignments = row.Submit ∷ row.Set ∷ row.Add ∷ row.Subtract ∷ row.Load ∷ row.SubmitAndWait ∷ []
+
+abbrev pub rows : List Row
+rows = fixed_rows ++ assignments

@@ -1,8 +1,9 @@
 -- What the words of a line say in their places.
-use Rattle.std.specs.Prelude.{ℕ, ◌-◌, ◌^◌, List, [], ◌∷◌, Option, Some, None, Bool, false, ◌||◌, ◌&&◌, nat_le, is_none, option_map, unwrap_or, if◌then◌else◌, ℤ, pos, negsuc}
+use Rattle.std.specs.Prelude.{ℕ, ◌-◌, ◌^◌, List, [], ◌∷◌, Option, Some, None, Bool, false, ◌||◌, ◌&&◌, not, nat_le, is_none, option_map, unwrap_or, if◌then◌else◌, ℤ, pos, negsuc, codes}
+use Rattle.std.specs.Str.{bytes_eq}
 use Rattle.rc_lang.specs.declared.lines.Comparison.{Comparison}
 use Rattle.rc_lang.specs.declared.lines.Operand.TheVariants as operand
-use Rattle.rc_lang.specs.Numbers.{is_number, value_of, number_of, signed_number_of}
+use Rattle.rc_lang.specs.Numbers.{is_number, number_of, signed_number_of}
 use Rattle.rc_read.specs.declared.table.Part.{Part}
 use Rattle.rc_read.specs.declared.table.Part.TheVariants as part
 use Rattle.rc_read.specs.declared.table.Range.{Range}
@@ -33,7 +34,7 @@ with_room entries (Some n) = if nat_le entries (rounded_up n) then Some n else N
 
 -- Of a buffer that isn't declared any number from 1 on is in its range.
 abbrev pub any_share : List ℕ → Option ℕ
-any_share w = if is_number w && nat_le 1 (value_of w) then Some 1 else None
+any_share w = if is_number w && not (bytes_eq w (codes "0")) then Some 1 else None
 
 abbrev pub share_number : Option ℕ → List ℕ → Option ℕ
 share_number None w = any_share w

@@ -1,18 +1,14 @@
 //! What a line adds to what was read so far.
 
-ghost use Rattle.std.specs.Prelude.{◌≡◌, ◌-◌, ◌<◌, ◌++◌, ◌∷◌, [], None, length, map, slice_get, slice_set, true, unwrap_or, OnOk, IfOk};
-ghost use Rattle.std.specs.List.{IsDistinct};
-ghost use Rattle.std.specs.Str.{bytes_eq};
+ghost use Rattle.std.specs.Prelude.{◌≡◌, ◌<◌, ◌++◌, ◌∷◌, [], None, length, map, slice_set, unwrap_or, OnOk, IfOk};
 ghost use Rattle.rc_lang.specs.Nesting as nesting;
 ghost use Rattle.rc_lang.specs.Parts.{view_items, view_thread};
 ghost use Rattle.rc_read.specs.Adds as spec;
-ghost use Rattle.rc_read.specs.Quick.{size_by};
-ghost use Rattle.rc_read.specs.Sheets.{buffer_names, headed};
+ghost use Rattle.rc_read.specs.Sheets.{headed};
 ghost use Rattle.rc_read.specs.Texts.{texts_of};
 ghost use Rattle.rc_read.specs.View.{view_arms, view_draft, view_sheet};
 
 use crate::blocks::{innermost, way_out};
-use crate::names::has_buffer;
 use crate::parts::{Arms, Draft, Parts, Region};
 use crate::says::Says;
 use crate::values::Item;
@@ -208,29 +204,6 @@ fn closing_of(block: Option<Block>) -> Stmt
     }
 }
 
-// The closing brace of a block at this place. It is the end of the block's line, where a jump starts from there.
-fn end_block(ends: &mut Vec<usize>, place: usize, block: Block) -> Stmt
-    ensures stmt { result ≡ spec.closing block }
-    ensures ends { ends.new.items ≡ spec.ends_marked ends.old.items place (spec.closed_by (spec.closing block)) }
-{
-    match block {
-        Block::InLock(start) => Stmt::EndLock(start),
-        Block::InArm(peek) => Stmt::EndArm(peek),
-        Block::InIf(start) | Block::InElse(start) => {
-            mark_end(ends, place, start);
-            Stmt::EndIf(start)
-        }
-        Block::InPeek(start) => {
-            mark_end(ends, place, start);
-            Stmt::EndPeek(start)
-        }
-        Block::InLoop(start, number) => {
-            mark_end(ends, place, start);
-            Stmt::EndLoop(start, number)
-        }
-    }
-}
-
 // A break out of the innermost of these blocks' loops.
 fn break_out(blocks: &[Block]) -> Stmt
     ensures { let way = nesting.way_out blocks.now in result ≡ Stmt.Break (unwrap_or way.loop 0) way.releases way.leaves }
@@ -296,9 +269,9 @@ impl Draft {
         ensures { OnOk result (view_draft self.new ≡ spec.with_stmt (view_draft self.old) number [] (spec.closing block)) }
     {
         let place = self.lines.len();
+        let stmt = closing(block);
         let _ = self.blocks.pop();
-        self.ends.push(0)?;
-        let stmt = end_block(&mut self.ends, place, block);
+        put_end(&mut self.ends, place, stmt)?;
         self.lines.push(Line { number, stmt })?;
         Ok(())
     }
@@ -331,9 +304,7 @@ fn second_of<'a>(words: &[&'a [u8]]) -> &'a [u8]
 
 // For how many lines a new thread takes memory at once: as many as the one above has, and the first for each four
 // bytes of the piece, up to as many as a text may have.
-fn likely_size(threads: &[Thread], fed: usize) -> usize
-    ensures { result ≡ size_by (slice_get threads.now (length threads.now - 1)) fed }
-{
+fn likely_size(threads: &[Thread], fed: usize) -> usize {
     match threads.last() {
         Some(thread) => thread.lines.len(),
         None => (fed / 4).min(4096),
@@ -406,13 +377,6 @@ impl Parts {
         Ok(())
     }
 
-    // Whether the names of the buffers are known to differ from each other and from this one.
-    fn differ_from(&self, name: &[u8]) -> bool
-        ensures { result ≡ true → IsDistinct bytes_eq (buffer_names (view_sheet self.now).buffers ++ name.now ∷ []) }
-    {
-        self.differ && !has_buffer(&self.buffers, name)
-    }
-
     // Declares a buffer.
     fn put_buffer(
         &mut self,
@@ -425,14 +389,11 @@ impl Parts {
         ensures count { self.new.count ≡ self.old.count }
     {
         let name = Vec::from_slice(alloc, second_of(words))?;
-        let differ = self.differ_from(&name);
-        self.differ = false;
         self.buffers.push(Buffer {
             name,
             bytes,
             shares,
         })?;
-        self.differ = differ;
         Ok(())
     }
 

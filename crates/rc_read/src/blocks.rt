@@ -1,9 +1,8 @@
 //! The fault sentences about a line that don't look at its places.
 
-ghost use Rattle.std.specs.Prelude.{◌≡◌, ◌==◌, List};
+ghost use Rattle.std.specs.Prelude.{◌≡◌, ◌==◌};
 ghost use Rattle.std.specs.List.{list_any};
 ghost use Rattle.rc_lang.specs.Nesting as nesting;
-ghost use Rattle.rc_lang.specs.declared.lines.Op.{Op};
 ghost use Rattle.rc_read.specs.Quick as quick;
 ghost use Rattle.rc_read.specs.Sentences as spec;
 ghost use Rattle.rc_read.specs.View.{view_arms, view_draft, view_sheet, view_way};
@@ -21,16 +20,6 @@ pub struct Way {
     pub place: Option<usize>,
     pub releases: bool,
     pub leaves: bool,
-}
-
-/// What is wrong with where a line stands: a brace, an else or a header where none may, one block too many, a block in
-/// which the line may not stand or one that it lacks, and what may not stand directly in a peek, or an arm too few.
-#[derive(Clone, Copy)]
-pub struct Misplaced {
-    pub brace: bool,
-    pub depth: bool,
-    pub nesting: bool,
-    pub case: bool,
 }
 
 /// The innermost open block.
@@ -237,8 +226,8 @@ fn is_first_branch(block: Option<Block>) -> bool
     }
 }
 
-// Whether a closing brace, an else or a thread's header stands where none may.
-fn bad_brace(parts: &Parts, says: Says) -> bool
+/// Whether a closing brace, an else or a thread's header stands where none may.
+pub fn bad_brace(parts: &Parts, says: Says) -> bool
     ensures { result ≡ spec.bad_brace (view_sheet parts.now) says }
 {
     match says {
@@ -272,8 +261,8 @@ fn opens_block(says: Says) -> bool
     }
 }
 
-// Whether a line opens one block too many.
-fn is_too_deep(parts: &Parts, says: Says) -> bool
+/// Whether a line opens one block too many.
+pub fn is_too_deep(parts: &Parts, says: Says) -> bool
     ensures { result ≡ spec.is_too_deep (view_sheet parts.now) says }
 {
     opens_block(says) && parts.draft.blocks.len() >= 31
@@ -295,8 +284,8 @@ pub fn any_queue(items: &[Item]) -> bool
     items.iter().any(|item| says_queue(*item))
 }
 
-// Whether a line stands in a block in which it may not, or needs one that isn't open.
-fn bad_nesting(draft: &Draft, items: &[Item], says: Says) -> bool
+/// Whether a line stands in a block in which it may not, or needs one that isn't open.
+pub fn bad_nesting(draft: &Draft, items: &[Item], says: Says) -> bool
     ensures { result ≡ spec.bad_nesting (view_draft draft.now).blocks items.now says }
 {
     let blocks = &draft.blocks;
@@ -318,8 +307,8 @@ fn has_case(arms: &Arms, u: u64) -> bool
     arms.cases.iter().any(|v| *v == u)
 }
 
-// Whether an arm doesn't stand directly in a peek, another statement does, an arm stands twice, or one is missing.
-fn bad_case(draft: &Draft, says: Says) -> bool
+/// Whether an arm doesn't stand directly in a peek, another statement does, an arm stands twice, or one is missing.
+pub fn bad_case(draft: &Draft, says: Says) -> bool
     ensures { result ≡ spec.bad_case (view_draft draft.now) says }
 {
     let arms = &draft.arms;
@@ -333,48 +322,5 @@ fn bad_case(draft: &Draft, says: Says) -> bool
         Says::Loop | Says::Break => directly,
         Says::Version | Says::Ring(_) | Says::File(_) | Says::Buffer(_, _) => false,
         Says::Token(_) | Says::Thread | Says::Else => false,
-    }
-}
-
-// What is wrong with where a statement without a block stands: it may not stand directly in a peek.
-fn misplaced_op(parts: &Parts) -> Misplaced
-    ensures { (op : Op) (items : List Item) → result ≡ quick.misplaced_at (view_sheet parts.now) items (Says.Op op) }
-{
-    Misplaced {
-        brace: false,
-        depth: false,
-        nesting: false,
-        case: directly_in_peek(&parts.draft.blocks),
-    }
-}
-
-// What is wrong with where a closing brace stands: outside a thread, or as a peek's that lacks an arm.
-fn misplaced_close(parts: &Parts) -> Misplaced
-    ensures { (items : List Item) → result ≡ quick.misplaced_at (view_sheet parts.now) items Says.Close }
-{
-    let arms = &parts.draft.arms;
-    let complete = arms.other && arms.none;
-    Misplaced {
-        brace: !is_inside(parts.region),
-        depth: false,
-        nesting: false,
-        case: directly_in_peek(&parts.draft.blocks) && !complete,
-    }
-}
-
-/// What is wrong with where a line stands. Most lines are statements without a block and closing braces, which have
-/// short ways of their own.
-pub fn misplaced_by(parts: &Parts, items: &[Item], says: Says) -> Misplaced
-    ensures { result ≡ quick.misplaced_at (view_sheet parts.now) items.now says }
-{
-    match says {
-        Says::Op(_) => misplaced_op(parts),
-        Says::Close => misplaced_close(parts),
-        _ => Misplaced {
-            brace: bad_brace(parts, says),
-            depth: is_too_deep(parts, says),
-            nesting: bad_nesting(&parts.draft, items, says),
-            case: bad_case(&parts.draft, says),
-        },
     }
 }

@@ -1,9 +1,8 @@
 //! The fault sentences about a line, and what becomes of the parts at it.
 
-ghost use Rattle.std.specs.Prelude.{◌≡◌, IfOk, length, option_map};
+ghost use Rattle.std.specs.Prelude.{◌≡◌, option_map};
 ghost use Rattle.rc_read.specs.Causes.{number_of_cause};
 ghost use Rattle.rc_read.specs.Judging.{JudgesRow, JudgesWords, later_sentences};
-ghost use Rattle.rc_read.specs.Pieces.{line_in};
 ghost use Rattle.rc_read.specs.Sentences as spec;
 ghost use Rattle.rc_read.specs.Spots.{row_of as row_in, spots_of};
 ghost use Rattle.rc_read.specs.Stream.{Judges};
@@ -12,14 +11,16 @@ ghost use Rattle.rc_read.specs.Texts.{texts_of, view_spots};
 ghost use Rattle.rc_read.specs.View.{view_sheet};
 ghost use Rattle.rc_read.specs.Words.{words_of};
 
-use crate::blocks::{any_twice, is_too_long, may_stand, misplaced_by};
+use crate::blocks::{
+    any_twice, bad_brace, bad_case, bad_nesting, is_too_deep, is_too_long, may_stand,
+};
 use crate::fault::{ReadCause, ReadFault};
 use crate::parts::{Parts, Region};
 use crate::says::{Says, says_of};
 use crate::spots::{Spot, put_spots};
 use crate::table::{Row, Stand, stand_of};
 use crate::values::{Item, Value, Wrong, put_values};
-use crate::words::{FirstLine, begins_strange, is, put_words};
+use crate::words::{begins_strange, is, put_words};
 use std::alloc::{AllocError, Global};
 
 /// What stands in the places of a line.
@@ -28,8 +29,6 @@ pub struct Found<'a> {
     spots: Vec<Spot<'a>>,
     values: Vec<Value>,
     items: Vec<Item>,
-    // The number of the buffer that was named last.
-    near: usize,
 }
 
 /// Memory that each line of a piece uses again.
@@ -48,7 +47,6 @@ impl<'a> Scratch<'a> {
                 spots: Vec::new(alloc),
                 values: Vec::new(alloc),
                 items: Vec::new(alloc),
-                near: 0,
             },
         }
     }
@@ -96,22 +94,21 @@ fn later_cause(
 ) -> Option<ReadCause>
     ensures { option_map number_of_cause result ≡ spec.first_true (later_sentences (view_sheet parts.now) line.now wrong items.now says) }
 {
-    let misplaced = misplaced_by(parts, items, says);
     if wrong.unknown {
         Some(ReadCause::UnknownName)
     } else if wrong.double || any_twice(items) {
         Some(ReadCause::DoubleName)
-    } else if misplaced.brace {
+    } else if bad_brace(parts, says) {
         Some(ReadCause::Braces)
     } else if is_too_long(parts, line)
-        || misplaced.depth
+        || is_too_deep(parts, says)
         || wrong.full
         || parts.draft.names.len() > 64
     {
         Some(ReadCause::TooLarge)
-    } else if misplaced.nesting {
+    } else if bad_nesting(&parts.draft, items, says) {
         Some(ReadCause::BadNesting)
-    } else if misplaced.case {
+    } else if bad_case(&parts.draft, says) {
         Some(ReadCause::BadCase)
     } else {
         None
@@ -131,7 +128,7 @@ fn judge_row(
     ensures { JudgesRow (view_sheet parts.old) line.now (texts_of words.now) row (view_sheet parts.new) result }
 {
     let (values, items) = (&mut found.values, &mut found.items);
-    let put = put_values(alloc, values, items, &mut found.near, parts, &found.spots)?;
+    let put = put_values(alloc, values, items, parts, &found.spots)?;
     let Some(wrong) = put else {
         return Ok(Some(ReadCause::BadNumber));
     };
@@ -173,48 +170,29 @@ fn judge_words<'a>(
     judge_row(alloc, parts, found, line, words, row)
 }
 
-// Judges a line whose words are put there, where it is known whether a strange byte is among its bytes.
-fn judge_line<'a>(
+/// Judges a line, and adds it where no sentence is true of it.
+pub fn judge<'a>(
     alloc: Global,
     parts: &mut Parts,
     scratch: &mut Scratch<'a>,
     line: &'a [u8],
-    strange: bool,
 ) -> Result<(), ReadFault>
-    requires words { texts_of scratch.old.words.items ≡ words_of line.now }
-    requires strange { strange ≡ spec.any_strange line.now }
     ensures { Judges (view_sheet parts.old) line.now (view_sheet parts.new) result }
 {
     let number = parts.count + 1;
-    if begins_strange(line, strange) {
+    if begins_strange(line) {
         let cause = ReadCause::NotAscii;
         return Err(ReadFault::Text {
             line: number,
             cause,
         });
     }
+    put_words(&mut scratch.words, line)?;
     match judge_words(alloc, parts, &mut scratch.found, line, &scratch.words)? {
         None => Ok(()),
         Some(cause) => Err(ReadFault::Text {
             line: number,
             cause,
         }),
-    }
-}
-
-/// Judges the line that these bytes begin with, and adds it where no sentence is true of it. The answer is where it ends.
-pub fn judge<'a>(
-    alloc: Global,
-    parts: &mut Parts,
-    scratch: &mut Scratch<'a>,
-    bytes: &'a [u8],
-) -> Result<usize, ReadFault>
-    ensures judges { Judges (view_sheet parts.old) (line_in bytes.now) (view_sheet parts.new) result }
-    ensures end { IfOk result (λ end. end ≡ length (line_in bytes.now)) }
-{
-    let FirstLine { end, strange } = put_words(&mut scratch.words, bytes)?;
-    match judge_line(alloc, parts, scratch, &bytes[..end], strange) {
-        Ok(()) => Ok(end),
-        Err(fault) => Err(fault),
     }
 }

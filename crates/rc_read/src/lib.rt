@@ -7,7 +7,6 @@ mod fault;
 mod judge;
 pub mod laws;
 mod names;
-mod numbers;
 mod parts;
 mod reader;
 mod reserved;

@@ -1,18 +1,18 @@
 //! A reader of a text that comes in pieces.
 
-ghost use Rattle.std.specs.Prelude.{◌≡◌, ◌+◌, ◌<◌, ◌++◌, ◌∷◌, ◌↔◌, [], List, ℕ, None, Some, Err, IsSome, OnOk, length};
+ghost use Rattle.std.specs.Prelude.{◌≡◌, ◌+◌, ◌<◌, ◌++◌, ◌∷◌, ◌↔◌, [], List, ℕ, None, Some, Err, IsSome, length};
 ghost use Rattle.memchr.specs.Find.{Nowhere, Passes, is_byte};
 ghost use Rattle.rc_lang.specs.Program.{IsProgram};
 ghost use Rattle.rc_read.specs.Answer.{program_in as read_in};
-ghost use Rattle.rc_read.specs.Pieces.{IsSoundBy, ReadsMore, first_line};
+ghost use Rattle.rc_read.specs.Pieces.{IsSoundBy, ReadsMore};
 ghost use Rattle.rc_read.specs.Stream.{Judges, JudgesAll, JudgesEnd, Ends, IsAnswer, IsReached};
 ghost use Rattle.rc_read.specs.View.{view_sheet};
-ghost use Rattle.rc_read.specs.Words.{cut};
+ghost use Rattle.rc_read.specs.Words.{last_line};
 
 use crate::fault::{ReadCause, ReadFault};
 use crate::judge::{Scratch, judge};
 use crate::parts::{Parts, Region};
-use memchr::{memchr, memrchr};
+use memchr::memchr;
 use rc_lang::program::{Declarations, Program};
 use std::alloc::Global;
 use std::marker::Model;
@@ -39,57 +39,26 @@ impl Model for Reader {
     ghost invariant = { λ r. IsReachedOrFaulty r.fault (view_sheet r.parts) };
 }
 
-// Judges the pending line, which ends behind these bytes.
-fn end_line(
+// Judges a line that a line feed ends: the pending bytes and these behind them. Where none are pending it is judged
+// where it lies.
+fn end_line<'a>(
     alloc: Global,
     parts: &mut Parts,
     pending: &mut Vec<u8>,
-    front: &[u8],
+    scratch: &mut Scratch<'a>,
+    front: &'a [u8],
 ) -> Result<(), ReadFault>
     requires { Nowhere (Passes (is_byte 10) front.now) 0 (length front.now) }
     ensures reads { ReadsMore (view_sheet parts.old) pending.old.items (front.now ++ 10 ∷ []) (view_sheet parts.new) pending.new.items result }
     ensures sound { IsReached (view_sheet parts.old) → IsSoundBy result (view_sheet parts.new) }
-    ensures none { OnOk result (pending.new.items ≡ []) }
 {
+    if pending.is_empty() {
+        return judge(alloc, parts, scratch, front);
+    }
     pending.extend_from_slice(front)?;
     let judged = judge(alloc, parts, &mut Scratch::new(alloc), pending);
     pending.clear();
-    match judged {
-        Ok(_) => Ok(()),
-        Err(fault) => Err(fault),
-    }
-}
-
-// Where the bytes begin that no line feed ends.
-fn rest_of(piece: &[u8]) -> usize
-    ensures { result + length (cut piece.now).1 ≡ length piece.now }
-{
-    match memrchr(b'\n', piece) {
-        Some(last) => last + 1,
-        None => 0,
-    }
-}
-
-// Takes a piece where nothing is pending, up to the first line that can't be read. Each line is judged where it lies.
-fn take_lines(
-    alloc: Global,
-    parts: &mut Parts,
-    pending: &mut Vec<u8>,
-    piece: &[u8],
-) -> Result<(), ReadFault>
-    requires { pending.old.items ≡ [] }
-    ensures reads { ReadsMore (view_sheet parts.old) [] piece.now (view_sheet parts.new) pending.new.items result }
-    ensures sound { IsReached (view_sheet parts.old) → IsSoundBy result (view_sheet parts.new) }
-{
-    let mut scratch = Scratch::new(alloc);
-    let rest = rest_of(piece);
-    let mut at = 0;
-    while at < rest {
-        let length = judge(alloc, parts, &mut scratch, &piece[at..])?;
-        at = at + length + 1;
-    }
-    pending.extend_from_slice(&piece[at..])?;
-    Ok(())
+    judged
 }
 
 // Takes a piece, up to the first line that can't be read.
@@ -103,31 +72,24 @@ fn take(
     ensures sound { IsReached (view_sheet parts.old) → IsSoundBy result (view_sheet parts.new) }
 {
     parts.fed = piece.len();
-    if pending.is_empty() {
-        return take_lines(alloc, parts, pending, piece);
+    let mut scratch = Scratch::new(alloc);
+    let mut at = 0;
+    while let Some(i) = memchr(b'\n', &piece[at..]) {
+        end_line(alloc, parts, pending, &mut scratch, &piece[at..at + i])?;
+        at = at + i + 1;
     }
-    match memchr(b'\n', piece) {
-        Some(i) => {
-            end_line(alloc, parts, pending, &piece[..i])?;
-            take_lines(alloc, parts, pending, &piece[i + 1..])
-        }
-        None => {
-            pending.extend_from_slice(piece)?;
-            Ok(())
-        }
-    }
+    pending.extend_from_slice(&piece[at..])?;
+    Ok(())
 }
 
 // Judges what comes behind the last line feed, unless it is empty.
 fn judge_rest(alloc: Global, parts: &mut Parts, rest: &[u8]) -> Result<(), ReadFault>
-    ensures { JudgesAll (view_sheet parts.old) (first_line rest.now) (view_sheet parts.new) result }
+    ensures { JudgesAll (view_sheet parts.old) (last_line rest.now) (view_sheet parts.new) result }
 {
     if rest.is_empty() {
-        return Ok(());
-    }
-    match judge(alloc, parts, &mut Scratch::new(alloc), rest) {
-        Ok(_) => Ok(()),
-        Err(fault) => Err(fault),
+        Ok(())
+    } else {
+        judge(alloc, parts, &mut Scratch::new(alloc), rest)
     }
 }
 

@@ -6,7 +6,7 @@ ghost use Rattle.rc_read.specs.Spots as spec;
 ghost use Rattle.rc_read.specs.Table.{parts_of as spec_parts_of};
 ghost use Rattle.rc_read.specs.Texts.{texts_of, view_spots};
 
-use crate::table::{Part, Row, parts_of, rows_of, text_of};
+use crate::table::{Part, Row, assignments, parts_of, rows_of, text_of};
 use crate::words::{is, is_name};
 use rc_lang::lines::Comparison;
 use std::alloc::AllocError;
@@ -117,31 +117,14 @@ fn push_named<'a>(
     Ok(true)
 }
 
-fn push_cut<'a>(spots: &mut Vec<Spot<'a>>, word: &'a [u8]) -> Result<bool, AllocError>
+// Adds the places of a word, if it is an item.
+fn push_item<'a>(spots: &mut Vec<Spot<'a>>, word: &'a [u8]) -> Result<bool, AllocError>
     ensures is { IfOk result (λ b. b ≡ spec.is_item word.now) }
     ensures spots { IfOk result (λ b. view_spots spots.new.items ≡ view_spots spots.old.items ++ (if b then spec.spots_of_item word.now else [])) }
 {
     match colon_in(word) {
         None => Ok(false),
         Some(i) => push_named(spots, &word[..i], &word[i + 1..]),
-    }
-}
-
-// Adds the places of a word, if it is an item.
-fn push_item<'a>(spots: &mut Vec<Spot<'a>>, word: &'a [u8]) -> Result<bool, AllocError>
-    ensures is { IfOk result (λ b. b ≡ spec.is_item word.now) }
-    ensures spots { IfOk result (λ b. view_spots spots.new.items ≡ view_spots spots.old.items ++ (if b then spec.spots_of_item word.now else [])) }
-{
-    match word {
-        // Most items are tokens.
-        [b't', b':', number @ ..] => {
-            spots.push(Spot {
-                part: Part::HeldToken,
-                word: number,
-            })?;
-            Ok(true)
-        }
-        _ => push_cut(spots, word),
     }
 }
 
@@ -188,10 +171,6 @@ fn push_part<'a>(
     match words {
         [] => Ok(None),
         [word, ..] => {
-            // Most words are fixed, and have no place.
-            if let Part::Fixed(fixed) = part {
-                return Ok(is(word, text_of(fixed)).then_some(1));
-            }
             if !fits(part, word) {
                 return Ok(None);
             }
@@ -222,54 +201,6 @@ fn put_places<'a>(
     Ok(at == words.len())
 }
 
-// Whether the words are as many as the parts, and the fixed ones among them are there.
-fn may_follow(parts: &[Part], words: &[&[u8]]) -> bool
-    ensures { result ≡ quick.may_follow parts.now (texts_of words.now) }
-{
-    match (parts, words) {
-        ([], []) => true,
-        ([Part::Items, ..], _) => true,
-        ([], _) | (_, []) => false,
-        ([Part::Fixed(fixed), parts @ ..], [word, words @ ..]) => {
-            is(word, text_of(*fixed)) && may_follow(parts, words)
-        }
-        ([_, parts @ ..], [_, words @ ..]) => may_follow(parts, words),
-    }
-}
-
-// A fast test ahead of the other: whether the words behind the first can be those of the parts.
-fn may_match(parts: &[Part], words: &[&[u8]]) -> bool
-    ensures { result ≡ quick.may_match parts.now (texts_of words.now) }
-{
-    match (parts, words) {
-        ([part, parts @ ..], [_, words @ ..]) => are_items(*part) || may_follow(parts, words),
-        _ => true,
-    }
-}
-
-// Whether a form's first word stands as it is.
-fn begins_fixed(parts: &[Part]) -> bool {
-    match parts {
-        [Part::Fixed(_), ..] => true,
-        _ => false,
-    }
-}
-
-// Puts the places of a line as `put_places` does. A form that begins with a fixed word fails fast at that word.
-fn put_parts<'a>(
-    spots: &mut Vec<Spot<'a>>,
-    parts: &[Part],
-    words: &[&'a [u8]],
-) -> Result<bool, AllocError>
-    ensures matches { IfOk result (λ b. b ≡ spec.matches parts.now (texts_of words.now)) }
-    ensures spots { IfOk result (λ b. b ≡ true → view_spots spots.new.items ≡ spec.spots_of parts.now (texts_of words.now)) }
-{
-    if !begins_fixed(parts) && !may_match(parts, words) {
-        return Ok(false);
-    }
-    put_places(spots, parts, words)
-}
-
 // The first of these forms that a line has with these words, whose places are put there.
 fn first_row<'a>(
     spots: &mut Vec<Spot<'a>>,
@@ -280,7 +211,7 @@ fn first_row<'a>(
     ensures spots { IfOk result (λ o. IfSome o (λ row. view_spots spots.new.items ≡ spec.spots_of (spec_parts_of row) (texts_of words.now))) }
 {
     for row in rows {
-        if put_parts(spots, parts_of(*row), words)? {
+        if put_places(spots, parts_of(*row), words)? {
             return Ok(Some(*row));
         }
     }
@@ -300,7 +231,7 @@ fn first_byte(words: &[&[u8]]) -> u8
     }
 }
 
-/// The form of a line with these words, whose places are put there.
+/// The form of a line with these words, whose places are put there. Most begin with a fixed word.
 pub fn put_spots<'a>(
     spots: &mut Vec<Spot<'a>>,
     words: &[&'a [u8]],
@@ -308,8 +239,8 @@ pub fn put_spots<'a>(
     ensures row { IfOk result (λ o. o ≡ spec.row_of (texts_of words.now)) }
     ensures spots { IfOk result (λ o. IfSome o (λ row. view_spots spots.new.items ≡ spec.spots_of (spec_parts_of row) (texts_of words.now))) }
 {
-    match first_row(spots, rows_of(first_byte(words)), words) {
-        Ok(row) => Ok(row),
-        Err(e) => Err(e),
+    if let Some(row) = first_row(spots, rows_of(first_byte(words)), words)? {
+        return Ok(Some(row));
     }
+    Ok(first_row(spots, assignments(), words)?)
 }

@@ -446,50 +446,15 @@ pub fn stand_of(row: Row) -> Stand
     }
 }
 
-/// The forms that a line can have whose first word begins with this byte, in the order in which they are tried.
+/// The forms whose first word is fixed and begins with this byte, in the order in which they are tried.
 pub fn rows_of(first: u8) -> &'static [Row]
-    ensures { result.now ≡ beginning first spec.rows }
+    ensures { result.now ≡ beginning first spec.fixed_rows }
 {
     match first {
-        b'}' => &[
-            Row::Close,
-            Row::Else,
-            Row::Submit,
-            Row::Set,
-            Row::Add,
-            Row::Subtract,
-            Row::Load,
-            Row::SubmitAndWait,
-        ],
-        b'b' => &[
-            Row::Break,
-            Row::Buffer,
-            Row::Submit,
-            Row::Set,
-            Row::Add,
-            Row::Subtract,
-            Row::Load,
-            Row::SubmitAndWait,
-        ],
-        b'g' => &[
-            Row::GetSqe,
-            Row::Submit,
-            Row::Set,
-            Row::Add,
-            Row::Subtract,
-            Row::Load,
-            Row::SubmitAndWait,
-        ],
-        b'c' => &[
-            Row::CqeSeen,
-            Row::Case,
-            Row::Submit,
-            Row::Set,
-            Row::Add,
-            Row::Subtract,
-            Row::Load,
-            Row::SubmitAndWait,
-        ],
+        b'}' => &[Row::Close, Row::Else],
+        b'b' => &[Row::Break, Row::Buffer],
+        b'g' => &[Row::GetSqe],
+        b'c' => &[Row::CqeSeen, Row::Case],
         b'p' => &[
             Row::PrepNop,
             Row::Peek,
@@ -497,105 +462,41 @@ pub fn rows_of(first: u8) -> &'static [Row]
             Row::PrepRead,
             Row::PrepWrite,
             Row::PrepFsync,
-            Row::Submit,
-            Row::Set,
-            Row::Add,
-            Row::Subtract,
-            Row::Load,
-            Row::SubmitAndWait,
         ],
-        b'l' => &[
-            Row::Lock,
-            Row::Loop,
-            Row::Submit,
-            Row::Set,
-            Row::Add,
-            Row::Subtract,
-            Row::Load,
-            Row::SubmitAndWait,
-        ],
-        b'o' => &[
-            Row::Other,
-            Row::Submit,
-            Row::Set,
-            Row::Add,
-            Row::Subtract,
-            Row::Load,
-            Row::SubmitAndWait,
-        ],
-        b'n' => &[
-            Row::Nothing,
-            Row::Submit,
-            Row::Set,
-            Row::Add,
-            Row::Subtract,
-            Row::Load,
-            Row::SubmitAndWait,
-        ],
-        b's' => &[
-            Row::SetData64,
-            Row::Store,
-            Row::Submit,
-            Row::Set,
-            Row::Add,
-            Row::Subtract,
-            Row::Load,
-            Row::SubmitAndWait,
-        ],
-        b'f' => &[
-            Row::Fill,
-            Row::File,
-            Row::Submit,
-            Row::Set,
-            Row::Add,
-            Row::Subtract,
-            Row::Load,
-            Row::SubmitAndWait,
-        ],
-        b'i' => &[
-            Row::IfReady,
-            Row::If,
-            Row::IfSpace,
-            Row::Submit,
-            Row::Set,
-            Row::Add,
-            Row::Subtract,
-            Row::Load,
-            Row::SubmitAndWait,
-        ],
+        b'l' => &[Row::Lock, Row::Loop],
+        b'o' => &[Row::Other],
+        b'n' => &[Row::Nothing],
+        b's' => &[Row::SetData64, Row::Store],
+        b'f' => &[Row::Fill, Row::File],
+        b'i' => &[Row::IfReady, Row::If, Row::IfSpace],
         b't' => &[
             Row::Thread,
             Row::TokenRead,
             Row::TokenWrite,
             Row::TokenFsync,
             Row::TokenNop,
-            Row::Submit,
-            Row::Set,
-            Row::Add,
-            Row::Subtract,
-            Row::Load,
-            Row::SubmitAndWait,
         ],
         b'r' => &[
-            Row::Submit,
-            Row::Set,
-            Row::Add,
-            Row::Subtract,
-            Row::Load,
-            Row::SubmitAndWait,
             Row::Ring,
             Row::RingCq,
             Row::RingLeft,
             Row::RingCqLeft,
             Row::Version,
         ],
-        _ => &[
-            Row::Submit,
-            Row::Set,
-            Row::Add,
-            Row::Subtract,
-            Row::Load,
-            Row::SubmitAndWait,
-        ],
+        _ => &[],
     }
+}
+
+/// The forms that begin with a variable, in the order in which they are tried.
+pub fn assignments() -> &'static [Row]
+    ensures { result.now ≡ spec.assignments }
+{
+    &[
+        Row::Submit,
+        Row::Set,
+        Row::Add,
+        Row::Subtract,
+        Row::Load,
+        Row::SubmitAndWait,
+    ]
 }

@@ -1,26 +1,15 @@
 //! The words of a line, as slices of it.
 
-ghost use Rattle.std.specs.Prelude.{◌≡◌, ◌++◌, IfOk, OnOk, length, take};
+ghost use Rattle.std.specs.Prelude.{◌≡◌, ◌++◌, OnOk, take};
 ghost use Rattle.std.specs.Str.{bytes_eq};
 ghost use Rattle.rc_lang.specs.Names as names;
-ghost use Rattle.rc_read.specs.Pieces.{line_in};
-ghost use Rattle.rc_read.specs.Quick.{any_outside, is_word_byte};
+ghost use Rattle.rc_read.specs.Quick.{any_outside};
 ghost use Rattle.rc_read.specs.Sentences.{any_strange, is_strange};
 ghost use Rattle.rc_read.specs.Texts.{texts_of};
 ghost use Rattle.rc_read.specs.Words as spec;
 
 use crate::reserved::is_reserved;
-use memchr::memchr;
 use std::alloc::AllocError;
-
-/// The line that some bytes begin with.
-#[derive(Clone, Copy)]
-pub struct FirstLine {
-    /// The place of the line feed that ends it, or the number of the bytes where there is none.
-    pub end: usize,
-    /// Whether a strange byte is among its bytes.
-    pub strange: bool,
-}
 
 /// Whether a word is this text.
 pub fn is(word: &[u8], text: &[u8]) -> bool
@@ -63,18 +52,14 @@ fn has_strange(bytes: &[u8]) -> bool
     any_outside(bytes) && any_strange(bytes)
 }
 
-/// Whether a strange byte is among a line's first 256, where it is known whether one is among all.
-pub fn begins_strange(line: &[u8], strange: bool) -> bool
-    requires { strange ≡ any_strange line.now }
+/// Whether a strange byte is among a line's first 256.
+pub fn begins_strange(line: &[u8]) -> bool
     ensures { result ≡ any_strange (take 256 line.now) }
 {
-    if !strange {
-        return false;
-    }
     if line.len() > 256 {
         has_strange(&line[..256])
     } else {
-        true
+        has_strange(line)
     }
 }
 
@@ -94,55 +79,25 @@ fn push_word<'a>(words: &mut Vec<&'a [u8]>, word: &'a [u8]) -> Result<(), AllocE
     Ok(())
 }
 
-// Whether a byte is surely of a word, as most are: above `#` it is neither strange nor a blank nor the beginning of a
-// comment. `!` and `"` are of words too, and looked at closer.
-fn is_word_byte(b: u8) -> bool
-    ensures { result ≡ is_word_byte b }
-{
-    b > b'#' && b < 127
-}
-
-// How long the line is that some bytes begin with.
-fn line_length(bytes: &[u8]) -> usize
-    ensures { result ≡ length (line_in bytes.now) }
-{
-    match memchr(b'\n', bytes) {
-        Some(end) => end,
-        None => bytes.len(),
-    }
-}
-
-/// Puts the words of the line there that these bytes begin with, without its comment.
-pub fn put_words<'a>(words: &mut Vec<&'a [u8]>, bytes: &'a [u8]) -> Result<FirstLine, AllocError>
-    ensures words { OnOk result (texts_of words.new.items ≡ spec.words_of (line_in bytes.now)) }
-    ensures end { IfOk result (λ line. line.end ≡ length (line_in bytes.now)) }
-    ensures strange { IfOk result (λ line. line.strange ≡ any_strange (line_in bytes.now)) }
+/// Puts the words of a line there, without its comment.
+pub fn put_words<'a>(words: &mut Vec<&'a [u8]>, line: &'a [u8]) -> Result<(), AllocError>
+    ensures { OnOk result (texts_of words.new.items ≡ spec.words_of line.now) }
 {
     words.clear();
     let mut start = 0;
-    let mut strange = false;
-    for i in 0..bytes.len() {
-        let b = bytes[i];
-        if !is_word_byte(b) {
-            if is_blank(b) {
-                push_word(words, &bytes[start..i])?;
+    for i in 0..line.len() {
+        // Most bytes are of words.
+        if line[i] <= b'#' {
+            if line[i] == b'#' {
+                return push_word(words, &line[start..i]);
+            }
+            if is_blank(line[i]) {
+                push_word(words, &line[start..i])?;
                 start = i + 1;
-            } else if b == b'\n' {
-                push_word(words, &bytes[start..i])?;
-                return Ok(FirstLine { end: i, strange });
-            } else if b == b'#' {
-                push_word(words, &bytes[start..i])?;
-                let end = i + line_length(&bytes[i..]);
-                let strange = strange | has_strange(&bytes[i..end]);
-                return Ok(FirstLine { end, strange });
-            } else {
-                strange = strange | is_strange(b);
             }
         }
     }
-    push_word(words, &bytes[start..])?;
-    let end = bytes.len();
-    Ok(FirstLine { end, strange })
+    push_word(words, &line[start..])
 }
 
 fn is_name_byte(b: u8) -> bool

@@ -6,7 +6,8 @@ use Rattle.rc_lang.specs.Nesting.{blocks_at}
 use Rattle.rc_lang.specs.Parts.{view_buffer, view_program, view_thread}
 use Rattle.rc_lang.specs.declared.program.Declarations.{Declarations}
 use Rattle.rc_lang.specs.declared.program.Thread.{Thread as ThreadPart}
-use Rattle.rc_lang.specs.Program.{Program, Thread, IsProgram, IsThread, IsFile, IsBuffer, IsTokenKind, DeclaresToken}
+use Rattle.rc_lang.specs.Program.{Program, Thread, IsProgram, IsThread, IsFile, IsBuffer, IsTokenKind, DeclaresToken, line_numbers}
+use Rattle.rc_lang.proofs.Rising.{by_test}
 use Rattle.rc_split.specs.Bags.{Part, ShareOf, TokenOf, Credit, bag_of}
 use Rattle.rc_rules.specs.declared.cause.Cause.{Cause}
 use Rattle.rc_rules.specs.declared.mode.Mode.{Mode}
@@ -93,6 +94,7 @@ is_share = record {
   few_threads = lit≤ tt;
   distinct_names = single bytes_eq (codes "t0");
   each = each;
+  numbers = by_test (line_numbers share.threads) refl;
 }
   where
     each : (i : ℕ) (t : Thread) → slice_get (share_thread ∷ []) i ≡ Some t → IsThread share t

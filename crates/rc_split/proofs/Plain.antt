@@ -32,6 +32,7 @@ is_plain = record {
   few_threads = lit≤ tt;
   distinct_names = distinct _;
   each = λ i t e. absurd (cc);
+  numbers = λ k lt. absurd (omega arith);
 }
 
 pub made_plain : (d : Declarations) (ts : List ThreadPart) → d.files.items ≡ [] → d.buffers.items ≡ [] → d.tokens.items ≡ [] → ts ≡ [] → IsProgram (view_program (record { entries = 1; completion_entries = 2; left = 0 }) d ts)

@@ -2,6 +2,7 @@
 use Rattle.std.proofs.Common.{◌≡◌, ℕ, zero, suc, ◌≤◌, Bool, true, false, List, [], ◌∷◌, ◌++◌, map, length, Some, refl, sym, ap, subst, arith, lit≤}
 use Rattle.std.specs.Prelude.{All, slice_get, nat_eq, codes}
 use Rattle.std.specs.List.{IsDistinct}
+use Rattle.std.specs.List.Sorted.{IsStrictlyIncreasing}
 use Rattle.std.specs.Str.{bytes_eq}
 use Rattle.rc_lang.specs.declared.lines.Line.{Line}
 use Rattle.rc_lang.specs.declared.lines.Op.TheVariants.{GetSqe}
@@ -11,7 +12,8 @@ use Rattle.rc_lang.specs.declared.program.Declarations.{Declarations}
 use Rattle.rc_lang.specs.declared.program.Thread.{Thread as ThreadPart}
 use Rattle.rc_lang.specs.Nesting.{IsNested, IsNestedIn, blocks_at}
 use Rattle.rc_lang.specs.Parts.{view_program, view_thread, view_buffer}
-use Rattle.rc_lang.specs.Program.{Thread, IsProgram, IsThread, IsItems, IsResolved, IsLinked, stmt_at}
+use Rattle.rc_lang.specs.Program.{Thread, IsProgram, IsThread, IsItems, IsResolved, IsLinked, line_numbers, stmt_at}
+use Rattle.rc_lang.proofs.Rising.{by_test}
 use Rattle.rc_verify.specs.Example.{example, example_lines, example_thread}
 
 none : {X : Type 0} (P : X → Type 0) → All P []
@@ -94,6 +96,10 @@ is_thread n calls h = record {
   queues = λ j k e. absurd (no_loop calls j k e);
 }
 
+rising : (calls : Bool) → IsStrictlyIncreasing (line_numbers (example_thread 0 calls ∷ []))
+rising true = by_test (3 ∷ 4 ∷ []) refl
+rising false = by_test (3 ∷ []) refl
+
 is_example : (n : ℕ) (calls : Bool) → n ≤ 2048 → IsProgram (example n calls)
 is_example n calls h = record {
   entries = record { power = (0, refl); within = lit≤ tt };
@@ -112,6 +118,7 @@ is_example n calls h = record {
   few_threads = lit≤ tt;
   distinct_names = single bytes_eq (codes "t0");
   each = each;
+  numbers = rising calls;
 }
   where
     each : (i : ℕ) (t : Thread) → slice_get (example_thread n calls ∷ []) i ≡ Some t → IsThread (example n calls) t

@@ -19,8 +19,9 @@ use Rattle.rc_lang.specs.declared.program.TokenKind.TheVariants.{Nop}
 use Rattle.rc_lang.specs.Names.{is_name}
 use Rattle.rc_lang.specs.Nesting.{IsNested, IsNestedIn, blocks_after, blocks_at}
 use Rattle.rc_lang.specs.Parts.{view_buffer, view_thread}
-use Rattle.rc_lang.specs.Program.{Buffer, DeclaresToken, IsBuffer, IsItems, IsLinked, IsProgram, IsResolved, IsThread, IsTokenKind, Program, Thread, stmt_at}
+use Rattle.rc_lang.specs.Program.{Buffer, DeclaresToken, IsBuffer, IsItems, IsLinked, IsProgram, IsResolved, IsThread, IsTokenKind, Program, Thread, line_numbers, stmt_at}
 use Rattle.rc_lang.proofs.Lookups.{line_with}
+use Rattle.rc_lang.proofs.Rising.{by_test}
 
 -- ---- what holds of each line
 
@@ -54,8 +55,8 @@ lines =
     ∷ record { number = 17; stmt = EndLock 6 }
     ∷ []
 
-abbrev pub named : List ℕ → List Line → Thread
-named name ls = record { name = name; line = 5; items = record { shares = []; tokens = []; credits = 0; queue = None }; loops = []; lines = ls; ends = []; variables = 1 }
+abbrev pub named : List ℕ → ℕ → List Line → Thread
+named name line ls = record { name = name; line = line; items = record { shares = []; tokens = []; credits = 0; queue = None }; loops = []; lines = ls; ends = []; variables = 1 }
 
 abbrev pub buffers : List Buffer
 buffers = record { name = codes "a"; bytes = 4; shares = 1 } ∷ []
@@ -64,7 +65,7 @@ abbrev pub tokens : List Token
 tokens = record { user_data = 7; kind = Nop } ∷ []
 
 abbrev pub threads : List Thread
-threads = named (codes "t0") lines ∷ named (codes "k") [] ∷ named (codes "t1") [] ∷ []
+threads = named (codes "t0") 5 lines ∷ named (codes "k") 19 [] ∷ named (codes "t1") 21 [] ∷ []
 
 abbrev pub whole : Program
 whole = record { entries = 1; completion_entries = 2; left = 0; files = []; buffers = buffers; tokens = tokens; threads = threads }
@@ -111,7 +112,7 @@ nested = record {
 token_7 : DeclaresToken whole 7
 token_7 = (0, lit< tt, refl)
 
-first : IsThread whole (named (codes "t0") lines)
+first : IsThread whole (named (codes "t0") 5 lines)
 first = record {
   name = refl;
   line = (lit≤ tt, lit≤ tt);
@@ -133,10 +134,10 @@ first = record {
     numbered k d lt = All-from_recursion (λ (l : Line). (1 ≤ l.number) × (l.number ≤ 4096)) lines
         ((lit≤ tt, lit≤ tt), ((lit≤ tt, lit≤ tt), ((lit≤ tt, lit≤ tt), ((lit≤ tt, lit≤ tt), ((lit≤ tt, lit≤ tt), ((lit≤ tt, lit≤ tt), ((lit≤ tt, lit≤ tt), ((lit≤ tt, lit≤ tt), ((lit≤ tt, lit≤ tt), ((lit≤ tt, lit≤ tt), ((lit≤ tt, lit≤ tt), ((lit≤ tt, lit≤ tt), tt)))))))))))) k d lt
 
-lineless : (name : List ℕ) → is_name name ≡ true → IsThread whole (named name [])
-lineless name n = record {
+lineless : (name : List ℕ) (line : ℕ) → is_name name ≡ true → (1 ≤ line) × (line ≤ 4096) → IsThread whole (named name line [])
+lineless name line n is = record {
   name = n;
-  line = (lit≤ tt, lit≤ tt);
+  line = is;
   items = no_items;
   no_queue = refl;
   loops = All-nil _;
@@ -151,8 +152,8 @@ lineless name n = record {
 
 each : (i : ℕ) (t : Thread) → slice_get threads i ≡ Some t → IsThread whole t
 each zero t e = subst (IsThread whole) (same_Some _ t e) first
-each (suc zero) t e = subst (IsThread whole) (same_Some _ t e) (lineless (codes "k") refl)
-each (suc (suc zero)) t e = subst (IsThread whole) (same_Some _ t e) (lineless (codes "t1") refl)
+each (suc zero) t e = subst (IsThread whole) (same_Some _ t e) (lineless (codes "k") 19 refl (lit≤ tt, lit≤ tt))
+each (suc (suc zero)) t e = subst (IsThread whole) (same_Some _ t e) (lineless (codes "t1") 21 refl (lit≤ tt, lit≤ tt))
 each (suc (suc (suc i))) t e = absurd (cc)
 
 one_buffer : (k : ℕ) (d : Buffer) → k < length buffers → IsBuffer (slice_index_or buffers k d)
@@ -182,6 +183,7 @@ whole_is = record {
   few_threads = lit≤ tt;
   distinct_names = search rules;
   each = each;
+  numbers = by_test (line_numbers threads) refl;
 }
 
 -- ---- the parts that the test hands in
@@ -191,12 +193,12 @@ cons_is x y xs ys e h = ap (λ z. z ∷ xs) e ∙ ap (λ zs. y ∷ zs) h
 
 pub made_of : (files : List File) (bs : List BufferPart) (ts : List Token) (parts : List ThreadPart) (b : BufferPart) (x y z : ThreadPart)
     → files ≡ [] → bs ≡ b ∷ [] → view_buffer b ≡ record { name = codes "a"; bytes = 4; shares = 1 } → ts ≡ tokens
-    → parts ≡ x ∷ y ∷ z ∷ [] → view_thread x ≡ named (codes "t0") lines → view_thread y ≡ named (codes "k") [] → view_thread z ≡ named (codes "t1") []
+    → parts ≡ x ∷ y ∷ z ∷ [] → view_thread x ≡ named (codes "t0") 5 lines → view_thread y ≡ named (codes "k") 19 [] → view_thread z ≡ named (codes "t1") 21 []
     → IsProgram (record { entries = 1; completion_entries = 2; left = 0; files = files; buffers = map view_buffer bs; tokens = ts; threads = map view_thread parts })
 made_of files bs ts parts b x y z f bl be t pl xe ye ze =
     let eb : map view_buffer bs ≡ buffers = ap (map view_buffer) bl ∙ cons_is (view_buffer b) _ [] [] be refl in
     let ep : map view_thread parts ≡ threads =
     ap (map view_thread) pl
-    ∙ cons_is (view_thread x) (named (codes "t0") lines) (view_thread y ∷ view_thread z ∷ []) (named (codes "k") [] ∷ named (codes "t1") [] ∷ []) xe
-    (cons_is (view_thread y) (named (codes "k") []) (view_thread z ∷ []) (named (codes "t1") [] ∷ []) ye (cons_is (view_thread z) (named (codes "t1") []) [] [] ze refl)) in
+    ∙ cons_is (view_thread x) (named (codes "t0") 5 lines) (view_thread y ∷ view_thread z ∷ []) (named (codes "k") 19 [] ∷ named (codes "t1") 21 [] ∷ []) xe
+    (cons_is (view_thread y) (named (codes "k") 19 []) (view_thread z ∷ []) (named (codes "t1") 21 [] ∷ []) ye (cons_is (view_thread z) (named (codes "t1") 21 []) [] [] ze refl)) in
     rw (f, eb, t, ep) whole_is

@@ -35,14 +35,14 @@ const LINES: [Line; 12] = [
     line!(17, Stmt::EndLock(6)),
 ];
 
-fn thread(alloc: Global, name: &[u8], lines: &[Line]) -> Result<Thread, AllocError>
+fn thread(alloc: Global, name: &[u8], line: u32, lines: &[Line]) -> Result<Thread, AllocError>
     ensures { IfOk result
         (λ t. view_thread t
-        ≡ record { name = name.now; line = 5; items = record { shares = []; tokens = []; credits = 0; queue = None }; loops = []; lines = lines.now; ends = []; variables = 1 }) }
+        ≡ record { name = name.now; line = line; items = record { shares = []; tokens = []; credits = 0; queue = None }; loops = []; lines = lines.now; ends = []; variables = 1 }) }
 {
     Ok(Thread {
         name: Vec::from_slice(alloc, name)?,
-        line: 5,
+        line,
         items: Items {
             shares: Vec::new(alloc),
             tokens: Vec::new(alloc),
@@ -70,9 +70,9 @@ pub(crate) fn program(alloc: Global) -> Result<Program, AllocError> {
     let threads = Vec::from_array(
         alloc,
         [
-            thread(alloc, b"t0", &LINES)?,
-            thread(alloc, b"k", &[])?,
-            thread(alloc, b"t1", &[])?,
+            thread(alloc, b"t0", 5, &LINES)?,
+            thread(alloc, b"k", 19, &[])?,
+            thread(alloc, b"t1", 21, &[])?,
         ],
     )?;
     let files = Vec::new(alloc);

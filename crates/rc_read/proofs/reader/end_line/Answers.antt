@@ -1,32 +1,25 @@
-use Rattle.std.proofs.Common.{◌≡◌, ◌++◌, ℕ, Err, refl, ap, rules}
-use Rattle.rc_read.specs.Pieces.{line_in}
+use Rattle.std.proofs.Common.{◌≡◌, refl, [], length, sym, ◌∙◌, arith, rules}
+use Rattle.std.proofs.lemmas.Bool.{eqb-true}
+use Rattle.std.proofs.lemmas.List.{nil_from_length}
 use Rattle.rc_read.specs.View.{view_sheet}
-use Rattle.rc_read.proofs.Streams.{cut_front, ends, judges_ok, judges_err, ok, sound_by}
+use Rattle.rc_read.proofs.Streams.{ends, sound_by}
 use Rattle.rc_read.proofs.reader.end_line.Goals as goal
 
-pub returns-in-Ok-clause-reads : goal.returns-in-Ok-clause-reads
-returns-in-Ok-clause-reads c =
-    let old = view_sheet c.args.parts.now in
-    let new = view_sheet c.judge-judged.new.parts in
-    let front = c.args.front.now in
-    let line = line_in c.deref.result.now in
-    let whole : c.deref.result.now ≡ c.args.pending.now.items ++ front = search rules in
-    let judges = judges_ok c.judge-judged.result c.in-Ok.field-0 (tt {0}) old new line line c.in-Ok.is refl c.judge-judged.ensures.judges in
-    ends ok old new c.args.pending.now.items front line c.clear.new.self.items (cut_front front c.requires) (ap line_in whole) c.clear.ensures.items judges
+pub returns-then-is_empty-clause-reads : goal.returns-then-is_empty-clause-reads
+returns-then-is_empty-clause-reads c =
+    let pending = c.args.pending.now in
+    let n : length pending.items ≡ 0 = omega (arith, eqb-true _ _ (sym c.is_empty.ensures ∙ c.if-is_empty.true)) in
+    let e : pending.items ≡ [] = nil_from_length pending.items n in
+    ends c.judge.result (view_sheet c.args.parts.now) (view_sheet c.judge.new.parts) pending.items c.args.front.now c.args.front.now pending.items c.requires (rw e refl) e c.judge.ensures
 
-pub returns-in-Ok-clause-sound : goal.returns-in-Ok-clause-sound
-returns-in-Ok-clause-sound c =
-    let old = view_sheet c.args.parts.now in
-    let new = view_sheet c.judge-judged.new.parts in
-    let line = line_in c.deref.result.now in
-    sound_by old new line ok (judges_ok c.judge-judged.result c.in-Ok.field-0 (tt {0}) old new line line c.in-Ok.is refl c.judge-judged.ensures.judges)
+pub returns-then-is_empty-clause-sound : goal.returns-then-is_empty-clause-sound
+returns-then-is_empty-clause-sound c =
+    sound_by (view_sheet c.args.parts.now) (view_sheet c.judge.new.parts) c.args.front.now c.judge.result c.judge.ensures
 
-pub returns-in-Err-clause-reads : goal.returns-in-Err-clause-reads
-returns-in-Err-clause-reads c =
-    let old = view_sheet c.args.parts.now in
-    let new = view_sheet c.judge-judged.new.parts in
-    let front = c.args.front.now in
-    let line = line_in c.deref.result.now in
-    let whole : c.deref.result.now ≡ c.args.pending.now.items ++ front = search rules in
-    let judges = judges_err ℕ (Unit {0}) c.judge-judged.result c.in-Err.fault old new line line c.in-Err.is refl c.judge-judged.ensures.judges in
-    ends (Err c.in-Err.fault) old new c.args.pending.now.items front line c.clear.new.self.items (cut_front front c.requires) (ap line_in whole) c.clear.ensures.items judges
+pub returns-clause-reads : goal.returns-clause-reads
+returns-clause-reads c =
+    ends c.judge-judged.result (view_sheet c.args.parts.now) (view_sheet c.judge-judged.new.parts) c.args.pending.now.items c.args.front.now c.deref.result.now c.clear.new.self.items c.requires (search rules) c.clear.ensures.items c.judge-judged.ensures
+
+pub returns-clause-sound : goal.returns-clause-sound
+returns-clause-sound c =
+    sound_by (view_sheet c.args.parts.now) (view_sheet c.judge-judged.new.parts) c.deref.result.now c.judge-judged.result c.judge-judged.ensures

@@ -9,5 +9,5 @@ with_unknown wrong unknown = record wrong { unknown = unknown || wrong.unknown }
 
 pub returns-clause-wrong : goal.returns-clause-wrong
 returns-clause-wrong c =
-    let bs = map view_buffer c.args.parts.now.buffers.items in
-    c.lack.ensures.wrong ∙ ap (with_unknown c.args.noted.now.wrong) (undeclared c.is_none.result c.find_about-buffer.result.1 bs bs c.args.word.now c.is_none.ensures c.find_about-buffer.ensures.shares refl)
+    let bs = c.deref.result.now in
+    c.lack.ensures.wrong ∙ ap (with_unknown c.args.noted.now.wrong) (undeclared c.is_none.result c.find_buffer-buffer.result.1 (map view_buffer bs) (map view_buffer c.args.parts.now.buffers.items) c.args.word.now c.is_none.ensures c.find_buffer-buffer.ensures.shares (ap (map view_buffer) c.deref.ensures.value))

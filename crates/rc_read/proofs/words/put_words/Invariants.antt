@@ -1,6 +1,4 @@
-use Rattle.std.proofs.Common.{◌≡◌, ◌++◌, ◌||◌, ◌≤◌, ◌+◌, ◌-◌, length, take, drop}
-use Rattle.rc_read.specs.Pieces.{line_in}
-use Rattle.rc_read.specs.Sentences.{any_strange}
+use Rattle.std.proofs.Common.{◌≡◌, ◌++◌, ◌≤◌, ◌-◌, take, drop}
 use Rattle.rc_read.specs.Texts.{texts_of}
 use Rattle.rc_read.specs.Words as spec
 use Rattle.rc_read.proofs.words.put_words.Given as goal
@@ -8,7 +6,5 @@ use Rattle.rc_read.proofs.words.put_words.Given as goal
 abbrev pub invariant-loop-i : goal.invariant-loop-i
 invariant-loop-i l = record {
   above : l.start ≤ l.i;
-  cut : texts_of l.words.items ++ spec.words_after (take (l.i - l.start) (drop l.start l.bytes)) (spec.without_comment (line_in (drop l.i l.bytes))) ≡ spec.words_of (line_in l.bytes);
-  end : l.i + length (line_in (drop l.i l.bytes)) ≡ length (line_in l.bytes);
-  strange : (l.strange || any_strange (line_in (drop l.i l.bytes))) ≡ any_strange (line_in l.bytes);
+  cut : texts_of l.words.items ++ spec.words_after (take (l.i - l.start) (drop l.start l.line)) (spec.without_comment (drop l.i l.line)) ≡ spec.words_of l.line;
 }

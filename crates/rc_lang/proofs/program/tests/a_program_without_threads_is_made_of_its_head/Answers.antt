@@ -42,6 +42,7 @@ bare = record {
   few_threads = lit≤ tt;
   distinct_names = none_twice _;
   each = λ i t e. absurd (cc);
+  numbers = λ k lt. absurd (omega arith);
 }
 
 pub new-program-requires : goal.new-program-requires
