@@ -12,3 +12,5 @@ pub mod report;
 mod request_ring;
 pub mod runner;
 mod same;
+#[cfg(test)]
+mod stepping;

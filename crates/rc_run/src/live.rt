@@ -109,11 +109,16 @@ impl Live {
         &self.history
     }
 
-    /// The events.
+    /// The events. An open entry is let go of; takes no memory.
     pub fn close(self) -> Vec<Event>
         ensures { result.items ≡ self.history }
     {
-        let Live { history, .. } = self;
+        let Live {
+            mut machine,
+            history,
+            ..
+        } = self;
+        machine.ring.abandon();
         history
     }
 

@@ -202,6 +202,20 @@ impl RequestRing {
         self.used() - open
     }
 
+    /// Lets go of the open entry, if there is one; nothing is queued.
+    pub fn abandon(&mut self)
+        ensures { self.new ≡ record self.old { slot = Closed; datasync = false } }
+    {
+        if !self.ring.parked() {
+            return;
+        }
+        if self.ring.open_prepared() {
+            self.ring.resume_prepared().abandon(&mut self.ring);
+        } else {
+            self.ring.resume_vacant().abandon(&mut self.ring);
+        }
+    }
+
     /// How many requests were made.
     pub fn made(&self) -> u64
         ensures { result ≡ self.now.made }

@@ -1,6 +1,6 @@
 //! Real threads over a run that is under way.
 
-ghost use Rattle.std.specs.Prelude.{◌≡◌, ◌≢◌, ◌⊎◌, ◌+◌, ◌<◌, ◌≤◌, ℤ, pos, negsuc, ◌≤ℤ◌, [], true, Err, IfOk, count_by, length, sum, vec_capacity, vec_len};
+ghost use Rattle.std.specs.Prelude.{◌≡◌, ◌≢◌, ◌⊎◌, ◌+◌, ◌<◌, ◌≤◌, ℤ, pos, negsuc, ◌≤ℤ◌, [], true, false, Err, IfOk, drop, count_by, length, sum, vec_capacity, vec_len};
 ghost use Rattle.std.specs.Arc.{arc_value};
 ghost use Rattle.rc_run.specs.Jobs.{allows};
 ghost use Rattle.rc_run.specs.Lives.{begun};
@@ -111,7 +111,7 @@ fn draw_take<D: Device, C: Chooser, L: Ledger, R: Wait>(
     queued: u32,
 ) -> i32
     requires { queued ≤ 1024 }
-    ensures { negsuc 4094 ≤ℤ result }
+    ensures { (result ≡ negsuc 10) ⊎ ((pos 0 ≤ℤ result) × (result ≤ℤ pos queued)) }
 {
     let take = draw(rt, shared, queued + 2);
     if take <= queued { take as i32 } else { -11 }
@@ -124,7 +124,7 @@ fn draw_grant<D: Device, C: Chooser, L: Ledger, R: Wait>(
     len: u32,
 ) -> i32
     requires { len ≤ 4096 }
-    ensures { (negsuc 4094 ≤ℤ result) × (result ≤ℤ pos 4096) }
+    ensures { (result ≡ negsuc 4) ⊎ ((pos 0 ≤ℤ result) × (result ≤ℤ pos len)) }
 {
     match draw(rt, shared, 8) {
         0 => -5,
@@ -262,6 +262,10 @@ fn served<D: Device, C: Chooser, L: Ledger, R: Wait>(
 ) -> (Job, i32)
     ensures allowed { allows result.0 result.1 ≡ true }
     ensures given { D.gives result.0.request.user_data result.1 ⊎ (result.1 ≡ negsuc 11) }
+    ensures request { result.0.request ≡ job.request }
+    ensures rest { drop job.request.len result.0.bytes ≡ drop job.request.len job.bytes }
+    ensures starved { job.starved ≡ true → (result.0 ≡ job) × (result.1 ≡ negsuc 11) }
+    ensures fed { job.starved ≡ false → (result.0.starved ≡ false) × D.gives job.request.user_data result.1 }
 {
     if job.starved() {
         return (job, -12);
