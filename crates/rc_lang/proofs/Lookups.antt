@@ -5,7 +5,7 @@ use Rattle.std.proofs.lemmas.Option.{slice_get-get_or, slice_get_within, slice_g
 use Rattle.rc_lang.specs.declared.lines.Block.{Block}
 use Rattle.rc_lang.specs.declared.lines.Line.{Line}
 use Rattle.rc_lang.specs.declared.lines.Stmt.{Stmt}
-use Rattle.rc_lang.specs.Nesting.{Way, blocks_after, blocks_at, blocks_behind, directly_in_peek, in_lock, in_peek, innermost, is_lock, is_peek, is_some_peek, IsNestedIn, way_out, way_past, way_through, without_innermost}
+use Rattle.rc_lang.specs.Nesting.{blocks_after, blocks_at, blocks_behind, directly_in_peek, in_lock, in_peek, innermost, is_lock, is_peek, is_some_peek, IsNestedIn, without_innermost}
 use Rattle.rc_lang.specs.Program.{stmt_at, stmt_of}
 
 -- ---- lists
@@ -54,9 +54,6 @@ pushed_length bs b = let n : length (bs ++ b ∷ []) ≡ length bs + 1 = length-
 pub innermost_pushed : (bs : List Block) (b : Block) → innermost (bs ++ b ∷ []) ≡ Some b
 innermost_pushed bs b = ap (λ k. slice_get (bs ++ b ∷ []) k) (pushed_length bs b) ∙ get_new bs b []
 
-pub without_pushed : (bs : List Block) (b : Block) → without_innermost (bs ++ b ∷ []) ≡ bs
-without_pushed bs b = ap (λ k. take k (bs ++ b ∷ [])) (pushed_length bs b) ∙ take_front bs (b ∷ [])
-
 pub nothing_open : (bs : List Block) → innermost bs ≡ None → bs ≡ []
 nothing_open [] e = refl
 nothing_open (a ∷ bs) e = let h : innermost (a ∷ bs) ≡ Some (get_or (a ∷ bs) (length (a ∷ bs) - 1) a) = slice_get-get_or (a ∷ bs) (length (a ∷ bs) - 1) a (omega arith) in absurd (cc)
@@ -87,13 +84,6 @@ in_peek_more (a ∷ outer) bs = ap (λ x. is_peek a || x) (in_peek_more outer bs
 
 pub in_peek_pushed : (bs : List Block) (b : Block) → in_peek (bs ++ b ∷ []) ≡ (in_peek bs || is_peek b)
 in_peek_pushed bs b = in_peek_more bs (b ∷ []) ∙ ap (λ x. in_peek bs || x) (or_nothing (is_peek b))
-
-pub way_through_more : (way : Way) (outer bs : List Block) → way_through way (outer ++ bs) ≡ way_through (way_through way outer) bs
-way_through_more way [] bs = refl
-way_through_more way (a ∷ outer) bs = way_through_more (way_past way a) outer bs
-
-pub way_out_pushed : (bs : List Block) (b : Block) → way_out (bs ++ b ∷ []) ≡ way_past (way_out bs) b
-way_out_pushed bs b = way_through_more (record { loop = None; releases = false; leaves = false }) bs (b ∷ [])
 
 -- outside of peeks nothing stands directly in one
 pub not_directly : (bs : List Block) → in_peek bs ≡ false → directly_in_peek bs ≡ false

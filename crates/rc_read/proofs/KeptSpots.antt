@@ -4,7 +4,7 @@ use Rattle.std.proofs.lemmas.Bool.{or_cases, or_left, or_right}
 use Rattle.std.proofs.lemmas.Cmp.{nat_list_eq_equiv}
 use Rattle.rc_read.specs.declared.table.Part.{Part}
 use Rattle.rc_read.specs.declared.table.Part.TheVariants.{Fixed, Items}
-use Rattle.rc_read.specs.declared.table.Word.{Word}
+use Rattle.rc_read.specs.declared.fixed.Word.{Word}
 use Rattle.rc_read.specs.Adds.{second_of}
 use Rattle.rc_read.specs.Sheets.{is_among, is_variable, names_behind, number_in, with_name}
 use Rattle.rc_read.specs.Spots.{Spot, are_items, behind, behind_items, behind_one, fits, is_fixed, matches, spot_of_part, spots_at, spots_of, spots_of_items}

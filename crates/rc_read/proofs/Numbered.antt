@@ -28,13 +28,6 @@ number_outside (n ∷ ns) w e =
     let p = or_parts (bytes_eq n w) (is_among ns w) e in
     rw p.0 omega (arith, number_outside ns w p.1)
 
-pub is_new : (names : List (Vec ℕ)) (w : List ℕ) → number_in (view_names names) w ≡ length names → is_among (view_names names) w ≡ false
-is_new names w h = go (is_among (view_names names) w) refl
-  where
-    go : (b : Bool) → is_among (view_names names) w ≡ b → b ≡ false
-    go true e = absurd (omega (arith, number_below (view_names names) w e, h, length-map names (λ (n : Vec ℕ). n.items)))
-    go false e = refl
-
 pub is_old : (names : List (Vec ℕ)) (w : List ℕ) → ¬ (number_in (view_names names) w ≡ length names) → is_among (view_names names) w ≡ true
 is_old names w h = go (is_among (view_names names) w) refl
   where
