@@ -1,5 +1,6 @@
 -- Which blocks stand in which: at most one lock and at most one peek is open at a place.
-use Rattle.std.proofs.Common.{◌≡◌, ℕ, Bool, true, false, ◌||◌, List, [], ◌∷◌, ◌++◌, append_assoc, Some, refl, sym, ap, ◌∙◌, subst}
+use Rattle.std.proofs.Common.{◌≡◌, ℕ, true, false, ◌||◌, List, [], ◌∷◌, ◌++◌, append_assoc, Some, refl, sym, ap, ◌∙◌, subst}
+use Rattle.std.proofs.lemmas.Bool.{or_left, or_right}
 use Rattle.rc_lang.specs.declared.lines.Block.{Block}
 use Rattle.rc_lang.specs.declared.lines.Block.TheVariants.{InLock, InIf, InElse, InPeek, InArm, InLoop}
 use Rattle.rc_lang.specs.declared.lines.Line.{Line}
@@ -19,14 +20,6 @@ FitsIn outer (InArm o) = innermost outer ≡ Some (InPeek o)
 FitsIn outer (InLoop o k) = in_peek outer ≡ false
 
 -- ---- lists
-
-or_left : (a b : Bool) → a ≡ true → (a || b) ≡ true
-or_left true b e = refl
-or_left false b e = absurd (cc)
-
-or_right : (a b : Bool) → b ≡ true → (a || b) ≡ true
-or_right true b e = refl
-or_right false b e = e
 
 pub peek_found : (bs : List Block) → in_peek bs ≡ true → (outer : List Block) × (o : ℕ) × (inner : List Block) × (bs ≡ outer ++ InPeek o ∷ inner)
 peek_found [] e = absurd (cc)

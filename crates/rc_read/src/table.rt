@@ -312,32 +312,12 @@ pub fn stand_of(row: Row) -> Stand
         | Row::TokenNop => Stand::Declaration,
         Row::Thread => Stand::Header,
         Row::Else | Row::Close => Stand::Brace,
-        Row::Set
-        | Row::Add
-        | Row::Subtract
-        | Row::Load
-        | Row::Store
-        | Row::Fill
-        | Row::Print
-        | Row::Lock
-        | Row::GetSqe
-        | Row::PrepRead
-        | Row::PrepWrite
-        | Row::PrepFsync
-        | Row::PrepNop
-        | Row::SetData64
-        | Row::Submit
-        | Row::SubmitAndWait
-        | Row::CqeSeen
-        | Row::Peek
-        | Row::Case
-        | Row::Other
-        | Row::Nothing
-        | Row::If
-        | Row::IfReady
-        | Row::IfSpace
-        | Row::Loop
-        | Row::Break => Stand::Inside,
+        Row::Set | Row::Add | Row::Subtract | Row::Load | Row::Store | Row::Fill => Stand::Inside,
+        Row::Print | Row::Lock | Row::GetSqe | Row::PrepRead | Row::PrepWrite => Stand::Inside,
+        Row::PrepFsync | Row::PrepNop | Row::SetData64 | Row::Submit => Stand::Inside,
+        Row::SubmitAndWait | Row::CqeSeen | Row::Peek | Row::Case | Row::Other => Stand::Inside,
+        Row::Nothing | Row::If | Row::IfReady | Row::IfSpace | Row::Loop => Stand::Inside,
+        Row::Break => Stand::Inside,
     }
 }
 
