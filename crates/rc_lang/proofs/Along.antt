@@ -1,5 +1,7 @@
 -- Whether a lock and a peek are open, from a line to the next.
 use Rattle.std.proofs.Common.{◌≡◌, ℕ, ◌+◌, Bool, true, false, ◌||◌, List, [], ◌∷◌, ◌++◌, append_assoc, Some, refl, sym, ap, ◌∙◌, inl, inr}
+use Rattle.std.proofs.Math.Bool.{or-false}
+use Rattle.std.proofs.lemmas.Bool.{or_right}
 use Rattle.rc_lang.specs.declared.lines.Block.{Block}
 use Rattle.rc_lang.specs.declared.lines.Block.TheVariants.{InLock, InIf, InElse, InPeek, InArm, InLoop}
 use Rattle.rc_lang.specs.declared.lines.Line.{Line}
@@ -46,19 +48,11 @@ peeked_behind p (Break o releases leaves) = p
 
 -- ---- one block more or less
 
-or_nothing : (a b : Bool) → b ≡ false → (a || b) ≡ a
-or_nothing true b e = refl
-or_nothing false b e = e
-
-or_some : (a b : Bool) → b ≡ true → (a || b) ≡ true
-or_some true b e = refl
-or_some false b e = e
-
 pub same_lock : (bs : List Block) (b : Block) → is_lock b ≡ false → in_lock (bs ++ b ∷ []) ≡ in_lock bs
-same_lock bs b e = in_lock_pushed bs b ∙ or_nothing (in_lock bs) (is_lock b) e
+same_lock bs b e = in_lock_pushed bs b ∙ ap (λ x. in_lock bs || x) e ∙ or-false (in_lock bs)
 
 pub same_peek : (bs : List Block) (b : Block) → is_peek b ≡ false → in_peek (bs ++ b ∷ []) ≡ in_peek bs
-same_peek bs b e = in_peek_pushed bs b ∙ or_nothing (in_peek bs) (is_peek b) e
+same_peek bs b e = in_peek_pushed bs b ∙ ap (λ x. in_peek bs || x) e ∙ or-false (in_peek bs)
 
 -- ---- from a line to the next
 
@@ -75,7 +69,7 @@ module _ (lines : List Line) (each : EachNested lines) (j : ℕ) where
   -- Behind a line a lock is open where it opens one, or one was open and it closes none.
   pub lock_next : (s : Stmt) → stmt_at lines j ≡ Some s → in_lock (blocks_at lines (j + 1)) ≡ locked_behind (in_lock (blocks_at lines j)) s
   lock_next (Do op) e = ap in_lock (blocks_next lines j (Do op) e)
-  lock_next Lock e = ap in_lock (blocks_next lines j Lock e) ∙ in_lock_pushed (blocks_at lines j) (InLock j) ∙ or_some (in_lock (blocks_at lines j)) true refl
+  lock_next Lock e = ap in_lock (blocks_next lines j Lock e) ∙ in_lock_pushed (blocks_at lines j) (InLock j) ∙ or_right (in_lock (blocks_at lines j)) true refl
   lock_next (EndLock o) e = let c = closes_lock lines each j o e in ap in_lock c.behind ∙ (nested_here lines each o Lock c.stands).0
   lock_next (If test) e = lock_pushed (If test) (InIf j) e (blocks_next lines j (If test) e) refl
   lock_next (Else o) e = let c = turns lines each j o e in lock_popped (blocks_at lines o) (InIf o) (InElse j) c.within c.behind refl refl
@@ -113,7 +107,7 @@ module _ (lines : List Line) (each : EachNested lines) (j : ℕ) where
     | inl c ↦ peek_closed (blocks_at lines o) (InIf o) c.1.within c.1.behind refl
     | inr c ↦ peek_closed (blocks_at lines c.opener) (InElse o) c.within c.behind refl
   ]
-  peek_next (Peek x) e = ap in_peek (blocks_next lines j (Peek x) e) ∙ in_peek_pushed (blocks_at lines j) (InPeek j) ∙ or_some (in_peek (blocks_at lines j)) true refl
+  peek_next (Peek x) e = ap in_peek (blocks_next lines j (Peek x) e) ∙ in_peek_pushed (blocks_at lines j) (InPeek j) ∙ or_right (in_peek (blocks_at lines j)) true refl
   peek_next (Case o u) e = peek_pushed (Case o u) (InArm o) e (blocks_next lines j (Case o u) e) refl
   peek_next (Other o) e = peek_pushed (Other o) (InArm o) e (blocks_next lines j (Other o) e) refl
   peek_next (Nothing o) e = peek_pushed (Nothing o) (InArm o) e (blocks_next lines j (Nothing o) e) refl

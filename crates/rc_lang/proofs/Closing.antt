@@ -1,5 +1,7 @@
 -- What a line that closes a block, or leads out of one, says of the line that opened it.
 use Rattle.std.proofs.Common.{◌≡◌, ℕ, ◌+◌, ◌<◌, Bool, true, false, cond, ◌||◌, List, [], ◌∷◌, ◌++◌, append_assoc, Some, None, refl, sym, ap, ◌∙◌, ◌⊎◌, inl, inr}
+use Rattle.std.proofs.Math.Bool.{or-false}
+use Rattle.std.proofs.lemmas.Bool.{or_right}
 use Rattle.rc_lang.specs.declared.lines.Block.{Block}
 use Rattle.rc_lang.specs.declared.lines.Block.TheVariants.{InLock, InIf, InElse, InPeek, InArm, InLoop}
 use Rattle.rc_lang.specs.declared.lines.Line.{Line}
@@ -101,10 +103,6 @@ or_true : (a : Bool) → true ≡ (a || true)
 or_true true = refl
 or_true false = refl
 
-or_nothing : (a : Bool) → a ≡ (a || false)
-or_nothing true = refl
-or_nothing false = refl
-
 -- where no loop was passed
 pub record IsWayPast (way : Way) (bs : List Block) (o : ℕ) (releases leaves : Bool) : Type 0 where
   pub loop : way.loop ≡ Some o
@@ -119,8 +117,8 @@ module _ (o : ℕ) (releases leaves : Bool) where
   pub way_found : (way : Way) (bs : List Block) → way_through way bs ≡ record { loop = Some o; releases = releases; leaves = leaves } → IsWayPast way bs o releases leaves ⊎ IsWayOut bs o releases leaves
   way_found way [] e = inl (record {
     loop = ap (λ (w : Way). w.loop) e;
-    lock = sym (ap (λ (w : Way). w.releases) e) ∙ or_nothing way.releases;
-    peek = sym (ap (λ (w : Way). w.leaves) e) ∙ or_nothing way.leaves;
+    lock = sym (ap (λ (w : Way). w.releases) e) ∙ sym (or-false way.releases);
+    peek = sym (ap (λ (w : Way). w.leaves) e) ∙ sym (or-false way.leaves);
     no_loop = refl;
   })
   way_found way (InLock p ∷ bs) e = elim (way_found (way_past way (InLock p)) bs e) [
@@ -161,10 +159,6 @@ or_parts_false true true h = h refl
 or_parts_false true false h = refl
 or_parts_false false true h = refl
 or_parts_false false false h = refl
-
-or_second : (a r : Bool) → r ≡ true → (a || r) ≡ true
-or_second true r h = refl
-or_second false r h = h
 
 module _ (lines : List Line) (each : EachNested lines) (j : ℕ) where
   innermost_placed : (b : Block) → innermost (blocks_at lines j) ≡ Some b → IsPlaced lines j (without_innermost (blocks_at lines j)) b
@@ -267,7 +261,7 @@ module _ (lines : List Line) (each : EachNested lines) (j : ℕ) where
         peek_between = w.peek;
         no_loop_between = w.no_loop;
         lock_outside = or_parts_false (in_lock (blocks_at lines o)) releases (λ t. sym w.lock ∙ lock_in_one lines each j (blocks_at lines o) (InLoop o w.number ∷ w.inner) s t) ∙ ap (λ x. cond releases false x) (sym l);
-        locked = λ t. l ∙ or_second (in_lock (blocks_at lines o)) releases t;
+        locked = λ t. l ∙ or_right (in_lock (blocks_at lines o)) releases t;
         no_peek_outside = f;
         peeked = p ∙ ap (λ x. x || leaves) f;
         behind = blocks_next lines j (Break o releases leaves) e;

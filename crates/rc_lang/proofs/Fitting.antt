@@ -1,5 +1,6 @@
 -- Which blocks stand in which: at most one lock and at most one peek is open at a place.
-use Rattle.std.proofs.Common.{◌≡◌, ℕ, Bool, true, false, ◌||◌, List, [], ◌∷◌, ◌++◌, append_assoc, Some, refl, sym, ap, ◌∙◌, subst}
+use Rattle.std.proofs.Common.{◌≡◌, ℕ, true, false, ◌||◌, List, [], ◌∷◌, ◌++◌, append_assoc, Some, refl, sym, ap, ◌∙◌, subst}
+use Rattle.std.proofs.lemmas.Bool.{or_left, or_right}
 use Rattle.rc_lang.specs.declared.lines.Block.{Block}
 use Rattle.rc_lang.specs.declared.lines.Block.TheVariants.{InLock, InIf, InElse, InPeek, InArm, InLoop}
 use Rattle.rc_lang.specs.declared.lines.Line.{Line}
@@ -19,24 +20,6 @@ FitsIn outer (InArm o) = innermost outer ≡ Some (InPeek o)
 FitsIn outer (InLoop o k) = in_peek outer ≡ false
 
 -- ---- lists
-
-or_left : (a b : Bool) → a ≡ true → (a || b) ≡ true
-or_left true b e = refl
-or_left false b e = absurd (cc)
-
-or_right : (a b : Bool) → b ≡ true → (a || b) ≡ true
-or_right true b e = refl
-or_right false b e = e
-
--- a lock that is open is one of the blocks
-pub lock_found : (bs : List Block) → in_lock bs ≡ true → (outer : List Block) × (o : ℕ) × (inner : List Block) × (bs ≡ outer ++ InLock o ∷ inner)
-lock_found [] e = absurd (cc)
-lock_found (InLock o ∷ bs) e = ([], o, bs, refl)
-lock_found (InIf o ∷ bs) e = let h = lock_found bs e in (InIf o ∷ h.0, h.1, h.2, ap (λ xs. InIf o ∷ xs) h.3)
-lock_found (InElse o ∷ bs) e = let h = lock_found bs e in (InElse o ∷ h.0, h.1, h.2, ap (λ xs. InElse o ∷ xs) h.3)
-lock_found (InPeek o ∷ bs) e = let h = lock_found bs e in (InPeek o ∷ h.0, h.1, h.2, ap (λ xs. InPeek o ∷ xs) h.3)
-lock_found (InArm o ∷ bs) e = let h = lock_found bs e in (InArm o ∷ h.0, h.1, h.2, ap (λ xs. InArm o ∷ xs) h.3)
-lock_found (InLoop o k ∷ bs) e = let h = lock_found bs e in (InLoop o k ∷ h.0, h.1, h.2, ap (λ xs. InLoop o k ∷ xs) h.3)
 
 pub peek_found : (bs : List Block) → in_peek bs ≡ true → (outer : List Block) × (o : ℕ) × (inner : List Block) × (bs ≡ outer ++ InPeek o ∷ inner)
 peek_found [] e = absurd (cc)
@@ -95,12 +78,6 @@ module _ (lines : List Line) (each : EachNested lines) where
   inner_placed : (j : ℕ) (outer : List Block) (b : Block) (inner : List Block) → blocks_at lines j ≡ outer ++ b ∷ inner → EachPlaced lines j (outer ++ b ∷ []) inner
   inner_placed j outer b inner e = each_placed lines j (outer ++ b ∷ []) inner (subst (λ x. ArePlaced lines j x) (e ∙ sym (append_assoc outer (b ∷ []) inner)) (placed lines each j))
 
-  -- At most one lock is open at a place, and it stands in no peek.
-  pub one_lock : (j : ℕ) (outer : List Block) (o : ℕ) (inner : List Block) → blocks_at lines j ≡ outer ++ InLock o ∷ inner → (in_lock outer ≡ false) × (in_peek outer ≡ false) × (in_lock inner ≡ false)
-  one_lock j outer o inner e =
-      let f = fits_at j outer (InLock o) inner e in
-      (f.0, f.1, no_lock_within j (outer ++ InLock o ∷ []) inner (inner_placed j outer (InLock o) inner e) (in_lock_pushed outer (InLock o) ∙ or_right (in_lock outer) true refl))
-
   -- At most one peek is open at a place, and no lock stands in it.
   pub one_peek : (j : ℕ) (outer : List Block) (o : ℕ) (inner : List Block) → blocks_at lines j ≡ outer ++ InPeek o ∷ inner → (in_peek outer ≡ false) × (in_peek inner ≡ false) × (in_lock inner ≡ false)
   one_peek j outer o inner e =
@@ -110,6 +87,3 @@ module _ (lines : List Line) (each : EachNested lines) where
   -- Two parts of what is open at a place don't both have a lock, nor both a peek.
   pub lock_in_one : (j : ℕ) (outer inner : List Block) → blocks_at lines j ≡ outer ++ inner → in_lock outer ≡ true → in_lock inner ≡ false
   lock_in_one j outer inner e h = no_lock_within j outer inner (each_placed lines j outer inner (subst (λ x. ArePlaced lines j x) e (placed lines each j))) h
-
-  pub peek_in_one : (j : ℕ) (outer inner : List Block) → blocks_at lines j ≡ outer ++ inner → in_peek outer ≡ true → in_peek inner ≡ false
-  peek_in_one j outer inner e h = (none_within_peek j outer inner (each_placed lines j outer inner (subst (λ x. ArePlaced lines j x) e (placed lines each j))) h).1

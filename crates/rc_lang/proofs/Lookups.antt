@@ -1,11 +1,14 @@
 -- Look-ups in lists of lines and of blocks, where one more stands at the end.
-use Rattle.std.proofs.Common.{◌≡◌, ℕ, zero, suc, ◌+◌, ◌-◌, ◌<◌, ◌≤◌, Bool, true, false, ◌||◌, List, [], ◌∷◌, ◌++◌, length, length-append, get_or, take, take_all, Option, Some, None, refl, sym, ap, ◌∙◌, subst, slice_get, ◌⊎◌, inl, inr, arith}
+use Rattle.std.proofs.Common.{◌≡◌, ℕ, zero, suc, ◌+◌, ◌-◌, ◌<◌, ◌≤◌, false, ◌||◌, List, [], ◌∷◌, ◌++◌, length, length-append, get_or, take, take_all, Option, Some, None, refl, sym, ap, ◌∙◌, subst, slice_get, ◌⊎◌, inl, inr, arith}
+use Rattle.std.proofs.Math.Bool.{or-false}
+use Rattle.std.proofs.lemmas.Bool.{or_parts}
+use Rattle.std.proofs.lemmas.List.Folds.{list_any-append}
 use Rattle.std.proofs.lemmas.List.{take-append-le}
 use Rattle.std.proofs.lemmas.Option.{slice_get-get_or, slice_get_within, slice_get_past}
 use Rattle.rc_lang.specs.declared.lines.Block.{Block}
 use Rattle.rc_lang.specs.declared.lines.Line.{Line}
 use Rattle.rc_lang.specs.declared.lines.Stmt.{Stmt}
-use Rattle.rc_lang.specs.Nesting.{Way, blocks_after, blocks_at, blocks_behind, directly_in_peek, in_lock, in_peek, innermost, is_lock, is_peek, is_some_peek, IsNestedIn, way_out, way_past, way_through, without_innermost}
+use Rattle.rc_lang.specs.Nesting.{blocks_after, blocks_at, blocks_behind, directly_in_peek, in_lock, in_peek, innermost, is_lock, is_peek, is_some_peek, IsNestedIn, without_innermost}
 use Rattle.rc_lang.specs.Program.{stmt_at, stmt_of}
 
 -- ---- lists
@@ -54,9 +57,6 @@ pushed_length bs b = let n : length (bs ++ b ∷ []) ≡ length bs + 1 = length-
 pub innermost_pushed : (bs : List Block) (b : Block) → innermost (bs ++ b ∷ []) ≡ Some b
 innermost_pushed bs b = ap (λ k. slice_get (bs ++ b ∷ []) k) (pushed_length bs b) ∙ get_new bs b []
 
-pub without_pushed : (bs : List Block) (b : Block) → without_innermost (bs ++ b ∷ []) ≡ bs
-without_pushed bs b = ap (λ k. take k (bs ++ b ∷ [])) (pushed_length bs b) ∙ take_front bs (b ∷ [])
-
 pub nothing_open : (bs : List Block) → innermost bs ≡ None → bs ≡ []
 nothing_open [] e = refl
 nothing_open (a ∷ bs) e = let h : innermost (a ∷ bs) ≡ Some (get_or (a ∷ bs) (length (a ∷ bs) - 1) a) = slice_get-get_or (a ∷ bs) (length (a ∷ bs) - 1) a (omega arith) in absurd (cc)
@@ -66,46 +66,25 @@ directly_pushed bs b = ap is_some_peek (innermost_pushed bs b)
 
 -- ---- locks, peeks and the way out of more blocks
 
-or_grouped : (a b c : Bool) → (a || (b || c)) ≡ ((a || b) || c)
-or_grouped true b c = refl
-or_grouped false b c = refl
-
-or_nothing : (a : Bool) → (a || false) ≡ a
-or_nothing true = refl
-or_nothing false = refl
-
 pub in_lock_more : (outer bs : List Block) → in_lock (outer ++ bs) ≡ (in_lock outer || in_lock bs)
-in_lock_more [] bs = refl
-in_lock_more (a ∷ outer) bs = ap (λ x. is_lock a || x) (in_lock_more outer bs) ∙ or_grouped (is_lock a) (in_lock outer) (in_lock bs)
+in_lock_more outer bs = list_any-append is_lock outer bs
 
 pub in_lock_pushed : (bs : List Block) (b : Block) → in_lock (bs ++ b ∷ []) ≡ (in_lock bs || is_lock b)
-in_lock_pushed bs b = in_lock_more bs (b ∷ []) ∙ ap (λ x. in_lock bs || x) (or_nothing (is_lock b))
+in_lock_pushed bs b = in_lock_more bs (b ∷ []) ∙ ap (λ x. in_lock bs || x) (or-false (is_lock b))
 
 pub in_peek_more : (outer bs : List Block) → in_peek (outer ++ bs) ≡ (in_peek outer || in_peek bs)
-in_peek_more [] bs = refl
-in_peek_more (a ∷ outer) bs = ap (λ x. is_peek a || x) (in_peek_more outer bs) ∙ or_grouped (is_peek a) (in_peek outer) (in_peek bs)
+in_peek_more outer bs = list_any-append is_peek outer bs
 
 pub in_peek_pushed : (bs : List Block) (b : Block) → in_peek (bs ++ b ∷ []) ≡ (in_peek bs || is_peek b)
-in_peek_pushed bs b = in_peek_more bs (b ∷ []) ∙ ap (λ x. in_peek bs || x) (or_nothing (is_peek b))
-
-pub way_through_more : (way : Way) (outer bs : List Block) → way_through way (outer ++ bs) ≡ way_through (way_through way outer) bs
-way_through_more way [] bs = refl
-way_through_more way (a ∷ outer) bs = way_through_more (way_past way a) outer bs
-
-pub way_out_pushed : (bs : List Block) (b : Block) → way_out (bs ++ b ∷ []) ≡ way_past (way_out bs) b
-way_out_pushed bs b = way_through_more (record { loop = None; releases = false; leaves = false }) bs (b ∷ [])
+in_peek_pushed bs b = in_peek_more bs (b ∷ []) ∙ ap (λ x. in_peek bs || x) (or-false (is_peek b))
 
 -- outside of peeks nothing stands directly in one
 pub not_directly : (bs : List Block) → in_peek bs ≡ false → directly_in_peek bs ≡ false
 not_directly bs e = go (innermost bs) refl
   where
-    second : (a b : Bool) → (a || b) ≡ false → b ≡ false
-    second true b h = absurd (cc)
-    second false b h = h
-
     go : (x : Option Block) → innermost bs ≡ x → directly_in_peek bs ≡ false
     go None f = ap is_some_peek f
-    go (Some b) f = ap is_some_peek f ∙ second (in_peek (without_innermost bs)) (is_peek b) (sym (in_peek_pushed (without_innermost bs) b) ∙ ap in_peek (sym (innermost_split bs b f)) ∙ e)
+    go (Some b) f = ap is_some_peek f ∙ (or_parts (in_peek (without_innermost bs)) (is_peek b) (sym (in_peek_pushed (without_innermost bs) b) ∙ ap in_peek (sym (innermost_split bs b f)) ∙ e)).1
 
 -- ---- statements at places
 

@@ -1,5 +1,6 @@
 -- Where a thread comes to rest: past the lines that are no events.
 use Rattle.std.proofs.Common.{◌≡◌, ℕ, zero, suc, ◌+◌, ◌<◌, ◌≤◌, Bool, true, false, cond, ◌||◌, List, [], ◌∷◌, length, Option, Some, None, refl, sym, ap, ◌∙◌, subst, slice_get, slice_index, inl, inr, arith}
+use Rattle.std.proofs.Math.Bool.{or-false}
 use Rattle.rc_lang.specs.declared.lines.Block.TheVariants.{InIf, InPeek, InArm}
 use Rattle.rc_lang.specs.declared.lines.Line.{Line}
 use Rattle.rc_lang.specs.declared.lines.Stmt.{Stmt}
@@ -138,13 +139,9 @@ module _ (lines : List Line) (ends : List ℕ) (laid : IsLaid lines ends) where
       record {
         ahead = h.lands.ahead;
         goes_on = arm_open lines ends laid j o e;
-        lock = ap in_lock h.lands.blocks ∙ sym (or_nothing (in_lock (blocks_at lines o))) ∙ sym (in_lock_more (blocks_at lines o) (InPeek o ∷ InArm o ∷ [])) ∙ sym (ap in_lock c.within);
+        lock = ap in_lock h.lands.blocks ∙ sym (or-false (in_lock (blocks_at lines o))) ∙ sym (in_lock_more (blocks_at lines o) (InPeek o ∷ InArm o ∷ [])) ∙ sym (ap in_lock c.within);
         peek = ap in_peek h.lands.blocks ∙ nested_here lines laid.each o (Peek c.variable) c.stands;
       }
-    where
-      or_nothing : (a : Bool) → (a || false) ≡ a
-      or_nothing true = refl
-      or_nothing false = refl
 
   pub passes : (j k : ℕ) (x : Option Stmt) → stmt_at lines j ≡ x → passed_to ends j x ≡ Some k → Passes lines j k (ends_arm x)
   passes j k None e h = absurd (cc)

@@ -83,40 +83,6 @@ peek_opened_at o j (Loop k) e = absurd (cc)
 peek_opened_at o j (EndLoop p k) e = absurd (cc)
 peek_opened_at o j (Break p releases leaves) e = absurd (cc)
 
-pub loop_opened_at : (o n : ℕ) → OpenedAt o (InLoop o n)
-loop_opened_at o n j (Do op) e = absurd (cc)
-loop_opened_at o n j Lock e = absurd (cc)
-loop_opened_at o n j (EndLock p) e = absurd (cc)
-loop_opened_at o n j (If test) e = absurd (cc)
-loop_opened_at o n j (Else p) e = absurd (cc)
-loop_opened_at o n j (EndIf p) e = absurd (cc)
-loop_opened_at o n j (Peek x) e = absurd (cc)
-loop_opened_at o n j (Case p u) e = absurd (cc)
-loop_opened_at o n j (Other p) e = absurd (cc)
-loop_opened_at o n j (Nothing p) e = absurd (cc)
-loop_opened_at o n j (EndArm p) e = absurd (cc)
-loop_opened_at o n j (EndPeek p) e = absurd (cc)
-loop_opened_at o n j (Loop k) e = cc
-loop_opened_at o n j (EndLoop p k) e = absurd (cc)
-loop_opened_at o n j (Break p releases leaves) e = absurd (cc)
-
-pub lock_opened_at : (o : ℕ) → OpenedAt o (InLock o)
-lock_opened_at o j (Do op) e = absurd (cc)
-lock_opened_at o j Lock e = cc
-lock_opened_at o j (EndLock p) e = absurd (cc)
-lock_opened_at o j (If test) e = absurd (cc)
-lock_opened_at o j (Else p) e = absurd (cc)
-lock_opened_at o j (EndIf p) e = absurd (cc)
-lock_opened_at o j (Peek x) e = absurd (cc)
-lock_opened_at o j (Case p u) e = absurd (cc)
-lock_opened_at o j (Other p) e = absurd (cc)
-lock_opened_at o j (Nothing p) e = absurd (cc)
-lock_opened_at o j (EndArm p) e = absurd (cc)
-lock_opened_at o j (EndPeek p) e = absurd (cc)
-lock_opened_at o j (Loop k) e = absurd (cc)
-lock_opened_at o j (EndLoop p k) e = absurd (cc)
-lock_opened_at o j (Break p releases leaves) e = absurd (cc)
-
 module _ (lines : List Line) (o : ℕ) (b : Block) (opened : OpenedAt o b) where
   -- A block that is open at a place was open at each place from behind the line that opened it.
   pub open_since : (d m p : ℕ) → o < m → m ≤ p → slice_get (blocks_at lines p) d ≡ Some b → slice_get (blocks_at lines m) d ≡ Some b

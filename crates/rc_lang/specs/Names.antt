@@ -1,5 +1,6 @@
 -- Which words are names.
-use Rattle.std.specs.Prelude.{ℕ, List, [], ◌∷◌, length, Bool, true, false, ◌&&◌, ◌||◌, not, ◌==◌, nat_lt, nat_le, codes}
+use Rattle.std.specs.Prelude.{ℕ, List, [], ◌∷◌, length, Bool, false, ◌&&◌, ◌||◌, not, ◌==◌, nat_lt, nat_le, codes}
+use Rattle.std.specs.List.{list_all}
 use Rattle.std.specs.Str.{bytes_eq}
 use Rattle.rc_lang.specs.Numbers.{is_digit}
 
@@ -10,8 +11,7 @@ abbrev pub is_name_byte : ℕ → Bool
 is_name_byte b = is_lower b || is_digit b || b == 95
 
 abbrev pub all_name_bytes : List ℕ → Bool
-all_name_bytes [] = true
-all_name_bytes (b ∷ bytes) = is_name_byte b && all_name_bytes bytes
+all_name_bytes bytes = list_all is_name_byte bytes
 
 -- The words that are no names: those of the head, of declarations and items,
 abbrev pub is_heading : List ℕ → Bool

@@ -1,5 +1,6 @@
 -- Which blocks are open at a place of a thread, and which lines may stand there.
-use Rattle.std.specs.Prelude.{ℕ, ◌≡◌, ◌+◌, ◌-◌, ◌≤◌, ◌⊎◌, Bool, true, false, ◌||◌, List, [], ◌∷◌, ◌++◌, length, take, Option, Some, None, slice_get}
+use Rattle.std.specs.Prelude.{ℕ, ◌≡◌, ◌+◌, ◌-◌, ◌≤◌, ◌⊎◌, Bool, true, false, List, [], ◌∷◌, ◌++◌, length, take, Option, Some, None, slice_get}
+use Rattle.std.specs.List.{list_any}
 use Rattle.rc_lang.specs.declared.lines.Block.{Block}
 use Rattle.rc_lang.specs.declared.lines.Block.TheVariants.{InLock, InIf, InElse, InPeek, InArm, InLoop}
 use Rattle.rc_lang.specs.declared.lines.Line.{Line}
@@ -57,12 +58,10 @@ is_peek (InArm o) = false
 is_peek (InLoop o k) = false
 
 abbrev pub in_lock : List Block → Bool
-in_lock [] = false
-in_lock (b ∷ bs) = is_lock b || in_lock bs
+in_lock blocks = list_any is_lock blocks
 
 abbrev pub in_peek : List Block → Bool
-in_peek [] = false
-in_peek (b ∷ bs) = is_peek b || in_peek bs
+in_peek blocks = list_any is_peek blocks
 
 -- Directly in a peek stand only its arms.
 abbrev pub is_some_peek : Option Block → Bool

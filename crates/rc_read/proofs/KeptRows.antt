@@ -16,7 +16,7 @@ use Rattle.rc_read.specs.declared.table.Row.{Row}
 use Rattle.rc_read.specs.declared.table.Row.TheVariants as row
 use Rattle.rc_read.specs.declared.table.Stand.{Stand}
 use Rattle.rc_read.specs.declared.table.Stand.TheVariants as stand
-use Rattle.rc_read.specs.declared.table.Word.TheVariants as words
+use Rattle.rc_read.specs.declared.fixed.Word.TheVariants as words
 use Rattle.rc_read.specs.declared.values.Item.{Item}
 use Rattle.rc_read.specs.declared.values.Value.{Value}
 use Rattle.rc_read.specs.Adds.{held, second_of}

@@ -1,10 +1,11 @@
 -- The places of a line's words, part by part.
-use Rattle.std.proofs.Common.{◌≡◌, ℕ, ◌+◌, ◌<◌, ◌≤◌, suc, Bool, true, false, cond, ◌||◌, List, [], ◌∷◌, ◌++◌, append-nil, length, length-append, Some, None, option_map, unwrap_or, refl, sym, ap, ◌∙◌, subst, bytes_eq, inl, inr, arith}
-use Rattle.std.proofs.lemmas.Bool.{or_cases, or_left, or_right}
+use Rattle.std.proofs.Common.{◌≡◌, ℕ, ◌+◌, ◌<◌, ◌≤◌, suc, Bool, true, false, cond, ◌||◌, List, [], ◌∷◌, ◌++◌, append-nil, length, length-append, Some, None, option_map, unwrap_or, refl, sym, ap, ◌∙◌, subst, bytes_eq, arith}
+use Rattle.std.proofs.lemmas.Bool.{or_left, or_right}
+use Rattle.std.proofs.lemmas.List.Folds.{list_any-append}
 use Rattle.std.proofs.lemmas.Cmp.{nat_list_eq_equiv}
 use Rattle.rc_read.specs.declared.table.Part.{Part}
 use Rattle.rc_read.specs.declared.table.Part.TheVariants.{Fixed, Items}
-use Rattle.rc_read.specs.declared.table.Word.{Word}
+use Rattle.rc_read.specs.declared.fixed.Word.{Word}
 use Rattle.rc_read.specs.Adds.{second_of}
 use Rattle.rc_read.specs.Sheets.{is_among, is_variable, names_behind, number_in, with_name}
 use Rattle.rc_read.specs.Spots.{Spot, are_items, behind, behind_items, behind_one, fits, is_fixed, matches, spot_of_part, spots_at, spots_of, spots_of_items}
@@ -91,15 +92,10 @@ items_after e f g ws m =
 -- ---- names
 
 among_push : (ns : List (List ℕ)) (w v : List ℕ) → is_among ns v ≡ true → is_among (ns ++ w ∷ []) v ≡ true
-among_push [] w v e = absurd (cc)
-among_push (n ∷ ns) w v e = elim (or_cases (bytes_eq n v) (is_among ns v) e) [
-  | inl h ↦ or_left (bytes_eq n v) (is_among (ns ++ w ∷ []) v) h
-  | inr h ↦ or_right (bytes_eq n v) (is_among (ns ++ w ∷ []) v) (among_push ns w v h)
-]
+among_push ns w v e = list_any-append (λ n. bytes_eq n v) ns (w ∷ []) ∙ or_left (is_among ns v) (is_among (w ∷ []) v) e
 
 among_new : (ns : List (List ℕ)) (w : List ℕ) → is_among (ns ++ w ∷ []) w ≡ true
-among_new [] w = or_left (bytes_eq w w) false (nat_list_eq_equiv.refl w)
-among_new (n ∷ ns) w = or_right (bytes_eq n w) (is_among (ns ++ w ∷ []) w) (among_new ns w)
+among_new ns w = list_any-append (λ n. bytes_eq n w) ns (w ∷ []) ∙ or_right (is_among ns w) (is_among (w ∷ []) w) (or_left (bytes_eq w w) false (nat_list_eq_equiv.refl w))
 
 among_here : (ns : List (List ℕ)) (w : List ℕ) → is_among (with_name ns w) w ≡ true
 among_here ns w = go (is_among ns w) refl

@@ -1,7 +1,7 @@
 -- A variable keeps its number as others are added behind it, so that what a place says doesn't change with them.
 use Rattle.std.proofs.Common.{◌≡◌, ℕ, suc, ◌+◌, ◌<◌, List, [], ◌∷◌, ◌++◌, length, Bool, true, false, cond, not, ◌||◌, Option, Some, refl, sym, ap, ◌∙◌, arith}
 use Rattle.std.proofs.lemmas.Cmp.{nat_list_eq_equiv}
-use Rattle.std.proofs.lemmas.Bool.{or_parts}
+use Rattle.std.proofs.lemmas.Bool.{or_parts, true_from_ne_false}
 use Rattle.std.proofs.lemmas.List.{length-map}
 use Rattle.std.specs.Global.{Vec}
 use Rattle.std.specs.Str.{bytes_eq}
@@ -28,19 +28,8 @@ number_outside (n ∷ ns) w e =
     let p = or_parts (bytes_eq n w) (is_among ns w) e in
     rw p.0 omega (arith, number_outside ns w p.1)
 
-pub is_new : (names : List (Vec ℕ)) (w : List ℕ) → number_in (view_names names) w ≡ length names → is_among (view_names names) w ≡ false
-is_new names w h = go (is_among (view_names names) w) refl
-  where
-    go : (b : Bool) → is_among (view_names names) w ≡ b → b ≡ false
-    go true e = absurd (omega (arith, number_below (view_names names) w e, h, length-map names (λ (n : Vec ℕ). n.items)))
-    go false e = refl
-
 pub is_old : (names : List (Vec ℕ)) (w : List ℕ) → ¬ (number_in (view_names names) w ≡ length names) → is_among (view_names names) w ≡ true
-is_old names w h = go (is_among (view_names names) w) refl
-  where
-    go : (b : Bool) → is_among (view_names names) w ≡ b → b ≡ true
-    go true e = refl
-    go false e = absurd (h (number_outside (view_names names) w e ∙ length-map names (λ (n : Vec ℕ). n.items)))
+is_old names w h = true_from_ne_false (is_among (view_names names) w) (λ e. h (number_outside (view_names names) w e ∙ length-map names (λ (n : Vec ℕ). n.items)))
 
 -- ---- the number of a name as others are added
 

@@ -1,5 +1,6 @@
 -- The forms that a line can have whose first word begins with a byte are enough.
-use Rattle.std.proofs.Common.{◌≡◌, ℕ, List, [], ◌∷◌, ◌++◌, Bool, true, false, cond, eqb, ◌&&◌, Option, Some, None, refl, sym, ap, ◌∙◌}
+use Rattle.std.proofs.Common.{◌≡◌, ℕ, List, [], ◌∷◌, ◌++◌, Bool, true, false, cond, eqb, Option, Some, None, refl, sym, ap, ◌∙◌}
+use Rattle.std.proofs.lemmas.Bool.{and_parts}
 use Rattle.std.specs.Option.{option_or}
 use Rattle.std.specs.Prelude.{option_map, unwrap_or}
 use Rattle.std.specs.Str.{bytes_eq}
@@ -15,11 +16,7 @@ use Rattle.rc_read.specs.Table.{assignments, fixed_rows, parts_of, text_of}
 word_begins : (w text : List ℕ) (ws : List (List ℕ)) → bytes_eq w text ≡ true → starts_with (first_byte (w ∷ ws)) text ≡ true
 word_begins w [] ws h = refl
 word_begins [] (c ∷ text) ws h = absurd cc
-word_begins (b ∷ w) (c ∷ text) ws h = first_is (eqb b c) (bytes_eq w text) h
-  where
-    first_is : (x y : Bool) → (x && y) ≡ true → x ≡ true
-    first_is true y h = refl
-    first_is false y h = h
+word_begins (b ∷ w) (c ∷ text) ws h = (and_parts (eqb b c) (bytes_eq w text) h).0
 
 stands : (f : Bool) (parts : List Part) (ws : List (List ℕ)) → unwrap_or (option_map (λ rest. matches parts rest) (cond f (Some ws) None)) false ≡ true → f ≡ true
 stands true parts ws h = refl

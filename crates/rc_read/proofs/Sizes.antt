@@ -1,8 +1,7 @@
 -- The sizes of rings, and buffers that aren't declared.
-use Rattle.std.proofs.Common.{◌≡◌, ℕ, ◌+◌, ◌-◌, ◌*◌, ◌≤◌, List, [], ◌∷◌, Bool, true, false, cond, not, ◌&&◌, ◌||◌, eqb, leb, Option, Some, refl, sym, ap, ◌∙◌, length, get_or, arith, inl, inr}
-use Rattle.std.proofs.lemmas.Bool.{le-leb, leb-true, cases_eq, ne_eqb, and_parts, not-true, eqb-false}
+use Rattle.std.proofs.Common.{◌≡◌, ℕ, ◌≤◌, List, [], ◌∷◌, Bool, true, false, cond, not, ◌||◌, leb, Option, Some, refl, sym, ap, ◌∙◌, arith}
+use Rattle.std.proofs.lemmas.Bool.{leb-true, and_parts}
 use Rattle.std.specs.List.{list_all}
-use Rattle.rc_lang.specs.Numbers.{is_number, is_digit, value_of, value_behind}
 use Rattle.std.specs.Prelude.{is_some}
 use Rattle.std.specs.Str.{bytes_eq}
 use Rattle.rc_lang.specs.Program.{Buffer}

@@ -1,6 +1,6 @@
 -- Lines that come one after another, and pieces.
 use Rattle.std.proofs.Common.{◌≡◌, ℕ, suc, ◌+◌, ◌-◌, ◌<◌, List, [], ◌∷◌, ◌++◌, length, take, drop, get_or, Bool, true, false, cond, eqb, Option, Some, None, Result, Ok, Err, refl, sym, ap, subst, ◌∙◌, append_assoc, arith, length-drop}
-use Rattle.std.proofs.lemmas.Bool.{eqb-true}
+use Rattle.std.proofs.lemmas.Bool.{false_from_ne_true, eqb-true}
 use Rattle.std.proofs.lemmas.List.{take-append-drop, take-take, drop-take, take_more, get_or-drop}
 use Rattle.memchr.specs.Find.{Nowhere, Passes, is_byte}
 use Rattle.rc_lang.specs.Program.{Program}
@@ -66,10 +66,6 @@ cut-push_line (b ∷ bytes) =
 abbrev pub NoFeed : List ℕ → Type 0
 NoFeed front = Nowhere (Passes (is_byte 10) front) 0 (length front)
 
-not_true : (c : Bool) → ¬ (c ≡ true) → c ≡ false
-not_true true h = absurd (h refl)
-not_true false h = refl
-
 grows : (c : Bool) (b : ℕ) (front : List ℕ) (p : List (List ℕ) × List ℕ) (q : List (List ℕ) × List ℕ) → c ≡ false → p ≡ ([], front) → cond c q (before_line b p) ≡ ([], b ∷ front)
 grows true b front p q e f = absurd cc
 grows false b front p q e f = rw f refl
@@ -77,7 +73,7 @@ grows false b front p q e f = rw f refl
 cut_front : (front : List ℕ) → NoFeed front → cut front ≡ ([], front)
 cut_front [] h = refl
 cut_front (b ∷ front) h =
-    grows (eqb b 10) b front (cut front) ([] ∷ (cut front).0, (cut front).1) (not_true (eqb b 10) (h 0 (omega arith) (omega arith)))
+    grows (eqb b 10) b front (cut front) ([] ∷ (cut front).0, (cut front).1) (false_from_ne_true (eqb b 10) (h 0 (omega arith) (omega arith)))
     (cut_front front (λ k low high p. h (suc k) (omega arith) (omega (arith, high)) p))
 
 -- more bytes of a line

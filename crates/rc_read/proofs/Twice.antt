@@ -1,22 +1,11 @@
 -- Items of which each comes before the next are named once.
-use Rattle.std.proofs.Common.{◌≡◌, ℕ, List, [], ◌∷◌, Bool, true, false, eqb, ltb, not, ◌&&◌, ◌||◌, refl, sym, arith}
-use Rattle.std.proofs.lemmas.Bool.{ltb-true, lt-ltb, ne_eqb}
+use Rattle.std.proofs.Common.{◌≡◌, ℕ, List, [], ◌∷◌, Bool, true, false, eqb, ltb, not, refl, sym, arith}
+use Rattle.std.proofs.lemmas.Bool.{and_parts, ltb-true, lt-ltb, ne_eqb, or_from}
 use Rattle.std.specs.List.{list_any}
 use Rattle.rc_read.specs.declared.values.Item.{Item}
 use Rattle.rc_read.specs.declared.values.Item.TheVariants.{Shares, Token, Credits, Queued}
 use Rattle.rc_read.specs.Quick.{comes_before, ascend_from, ascend}
 use Rattle.rc_read.specs.Sentences.{names_same, any_twice}
-
-left : (a b : Bool) → (a && b) ≡ true → a ≡ true
-left true b h = refl
-left false b h = h
-
-right : (a b : Bool) → (a && b) ≡ true → b ≡ true
-right true b h = h
-right false b h = absurd cc
-
-neither : (a b : Bool) → a ≡ false → b ≡ false → (a || b) ≡ false
-neither a b e f = rw (e, f) refl
 
 below_differs : (a b : ℕ) → ltb a b ≡ true → eqb a b ≡ false
 below_differs a b h = ne_eqb a b (omega (arith, ltb-true a b h))
@@ -72,18 +61,17 @@ beyond (Queued n) (Credits v) k h g = absurd cc
 beyond (Queued n) (Queued v) k h g = absurd cc
 
 none_same : (i j : Item) (is : List Item) → comes_before i j ≡ true → ascend_from j is ≡ true → list_any (names_same i) (j ∷ is) ≡ false
-none_same i j [] b h = neither (names_same i j) false (differ i j b) refl
+none_same i j [] b h = or_from (names_same i j) false (differ i j b) refl
 none_same i j (k ∷ is) b h =
-    neither (names_same i j) (list_any (names_same i) (k ∷ is)) (differ i j b)
-    (none_same i k is (beyond i j k b (left (comes_before j k) (ascend_from k is) h)) (right (comes_before j k) (ascend_from k is) h))
+    or_from (names_same i j) (list_any (names_same i) (k ∷ is)) (differ i j b)
+    (none_same i k is (beyond i j k b (and_parts (comes_before j k) (ascend_from k is) h).0) (and_parts (comes_before j k) (ascend_from k is) h).1)
 
 not_twice : (is : List Item) → ascend is ≡ true → any_twice is ≡ false
 not_twice [] h = refl
 not_twice (i ∷ []) h = refl
 not_twice (i ∷ j ∷ is) h =
-    let b = left (comes_before i j) (ascend_from j is) h in
-    let rest = right (comes_before i j) (ascend_from j is) h in
-    neither (list_any (names_same i) (j ∷ is)) (any_twice (j ∷ is)) (none_same i j is b rest) (not_twice (j ∷ is) rest)
+    let p = and_parts (comes_before i j) (ascend_from j is) h in
+    or_from (list_any (names_same i) (j ∷ is)) (any_twice (j ∷ is)) (none_same i j is p.0 p.1) (not_twice (j ∷ is) p.1)
 
 pub ascending : (b : Bool) (is : List Item) → b ≡ ascend is → b ≡ true → not b ≡ any_twice is
 ascending true is e n = sym (not_twice is (sym e))

@@ -7,7 +7,7 @@ use Rattle.rc_read.specs.declared.says.Says.{Says}
 use Rattle.rc_read.specs.declared.table.Part.{Part}
 use Rattle.rc_read.specs.declared.table.Row.{Row}
 use Rattle.rc_read.specs.declared.values.Item.{Item}
-use Rattle.rc_read.specs.declared.values.Wrong.{Wrong}
+use Rattle.rc_read.specs.declared.noted.Wrong.{Wrong}
 use Rattle.rc_read.specs.Says.{says_of}
 use Rattle.rc_read.specs.Sentences.{is_unknown, any_unknown, is_double, any_double, any_twice, bad_brace, is_too_long, is_too_deep, is_full, any_full, bad_nesting, bad_case, word_sentences, first_true}
 use Rattle.rc_read.specs.Sheets.{Sheet, with_names}

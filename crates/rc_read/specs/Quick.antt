@@ -1,5 +1,6 @@
 -- Faster ways to what the definitions of the notation say. Nothing that is told of it speaks of these.
 use Rattle.std.specs.Prelude.{ℕ, ◌+◌, List, [], ◌∷◌, Option, Some, None, Bool, true, false, ◌&&◌, ◌||◌, ◌==◌, nat_lt, if◌then◌else◌}
+use Rattle.std.specs.List.{list_any}
 use Rattle.rc_read.specs.declared.table.Part.{Part}
 use Rattle.rc_read.specs.declared.table.Part.TheVariants.{Fixed}
 use Rattle.rc_read.specs.declared.table.Row.{Row}
@@ -10,8 +11,7 @@ use Rattle.rc_read.specs.Table.{text_of, parts_of}
 
 -- Among these is a byte above 126 or below 32, as each strange one is.
 abbrev pub any_outside : List ℕ → Bool
-any_outside [] = false
-any_outside (b ∷ bytes) = (nat_lt 126 b || nat_lt b 32) || any_outside bytes
+any_outside bytes = list_any (λ b. nat_lt 126 b || nat_lt b 32) bytes
 
 -- The forms of which the first word, where it is fixed, begins with this byte.
 abbrev pub starts_with : ℕ → List ℕ → Bool

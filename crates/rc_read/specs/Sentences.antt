@@ -29,8 +29,7 @@ abbrev pub is_strange : ℕ → Bool
 is_strange b = nat_lt 126 b || (nat_lt b 32 && not (b == 9) && not (b == 13))
 
 abbrev pub any_strange : List ℕ → Bool
-any_strange [] = false
-any_strange (b ∷ bytes) = is_strange b || any_strange bytes
+any_strange bytes = list_any is_strange bytes
 
 -- ---- P2: the first line with words isn't `ringcheck 1`, the second doesn't begin with `ring`
 
@@ -88,8 +87,7 @@ is_unknown s part.HeldToken w = lacks_token s (user_data_of w)
 is_unknown s _ w = false
 
 abbrev pub any_unknown : Sheet → List Spot → Bool
-any_unknown s [] = false
-any_unknown s (p ∷ ps) = is_unknown s p.part p.word || any_unknown s ps
+any_unknown s ps = list_any (λ (p : Spot). is_unknown s p.part p.word) ps
 
 -- ---- P6: a file, a buffer, a token or a thread declared twice, an item named twice
 
@@ -110,8 +108,7 @@ is_double s part.NewThread w = is_among (thread_names s.threads) w || bytes_eq s
 is_double s _ w = false
 
 abbrev pub any_double : Sheet → List Spot → Bool
-any_double s [] = false
-any_double s (p ∷ ps) = is_double s p.part p.word || any_double s ps
+any_double s ps = list_any (λ (p : Spot). is_double s p.part p.word) ps
 
 abbrev pub names_same : Item → Item → Bool
 names_same (item.Shares b k) (item.Shares c l) = b == c
@@ -167,8 +164,7 @@ is_full s part.NewThread = nat_le 16 (length s.threads)
 is_full s _ = false
 
 abbrev pub any_full : Sheet → List Spot → Bool
-any_full s [] = false
-any_full s (p ∷ ps) = is_full s p.part || any_full s ps
+any_full s ps = list_any (λ (p : Spot). is_full s p.part) ps
 
 abbrev pub has_too_many_names : Sheet → List Spot → Bool
 has_too_many_names s spots = nat_lt 64 (length (names_behind s.draft.names spots))

@@ -1,5 +1,5 @@
 -- What stands above a line.
-use Rattle.std.specs.Prelude.{ℕ, ◌+◌, List, [], ◌∷◌, ◌++◌, map, Option, Some, None, Bool, true, false, not, ◌||◌, ◌==◌, if◌then◌else◌}
+use Rattle.std.specs.Prelude.{ℕ, ◌+◌, List, [], ◌∷◌, ◌++◌, map, Option, Some, None, Bool, true, false, not, ◌==◌, if◌then◌else◌}
 use Rattle.std.specs.List.{list_any}
 use Rattle.std.specs.Str.{bytes_eq}
 use Rattle.rc_lang.specs.declared.lines.Block.{Block}
@@ -77,8 +77,7 @@ number_in [] word = 0
 number_in (n ∷ ns) word = if bytes_eq n word then 0 else number_in ns word + 1
 
 abbrev pub is_among : List (List ℕ) → List ℕ → Bool
-is_among [] word = false
-is_among (n ∷ ns) word = bytes_eq n word || is_among ns word
+is_among names word = list_any (λ n. bytes_eq n word) names
 
 abbrev pub with_name : List (List ℕ) → List ℕ → List (List ℕ)
 with_name ns word = if is_among ns word then ns else ns ++ word ∷ []

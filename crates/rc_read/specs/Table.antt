@@ -8,8 +8,8 @@ use Rattle.rc_read.specs.declared.table.Row.{Row}
 use Rattle.rc_read.specs.declared.table.Row.TheVariants as row
 use Rattle.rc_read.specs.declared.table.Stand.{Stand}
 use Rattle.rc_read.specs.declared.table.Stand.TheVariants as stand
-use Rattle.rc_read.specs.declared.table.Word.{Word}
-use Rattle.rc_read.specs.declared.table.Word.TheVariants as words
+use Rattle.rc_read.specs.declared.fixed.Word.{Word}
+use Rattle.rc_read.specs.declared.fixed.Word.TheVariants as words
 
 -- ---- fixed words
 

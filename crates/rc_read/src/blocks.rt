@@ -53,24 +53,14 @@ fn is_peek(block: Block) -> bool
 pub fn in_lock(blocks: &[Block]) -> bool
     ensures { result ≡ nesting.in_lock blocks.now }
 {
-    for block in blocks {
-        if is_lock(*block) {
-            return true;
-        }
-    }
-    false
+    blocks.iter().any(|block| is_lock(*block))
 }
 
 /// Whether a peek is open.
 pub fn in_peek(blocks: &[Block]) -> bool
     ensures { result ≡ nesting.in_peek blocks.now }
 {
-    for block in blocks {
-        if is_peek(*block) {
-            return true;
-        }
-    }
-    false
+    blocks.iter().any(|block| is_peek(*block))
 }
 
 /// Whether the innermost open block is a peek.
@@ -152,11 +142,8 @@ fn any_same(item: Item, items: &[Item]) -> bool
 fn comes_before(i: Item, j: Item) -> bool
     ensures { result ≡ quick.comes_before i j }
 {
-    // Most items are tokens.
-    if let (Item::Token(u), Item::Token(v)) = (i, j) {
-        return u < v;
-    }
     match (i, j) {
+        (Item::Token(u), Item::Token(v)) => u < v,
         (Item::Shares(b, _), Item::Shares(c, _)) => b < c,
         (Item::Shares(_, _), Item::Token(_) | Item::Credits(_) | Item::Queued(_)) => true,
         (Item::Token(_), Item::Credits(_) | Item::Queued(_)) => true,

@@ -15,11 +15,12 @@ use crate::blocks::{
     any_twice, bad_brace, bad_case, bad_nesting, is_too_deep, is_too_long, may_stand,
 };
 use crate::fault::{ReadCause, ReadFault};
+use crate::noted::{Wrong, put_values};
 use crate::parts::{Parts, Region};
 use crate::says::{Says, says_of};
 use crate::spots::{Spot, put_spots};
 use crate::table::{Row, Stand, stand_of};
-use crate::values::{Item, Value, Wrong, put_values};
+use crate::values::{Item, Value};
 use crate::words::{begins_strange, is, put_words};
 use std::alloc::{AllocError, Global};
 

@@ -3,10 +3,13 @@
 
 mod add;
 mod blocks;
+mod draft;
 mod fault;
+mod fixed;
 mod judge;
 pub mod laws;
 mod names;
+mod noted;
 mod parts;
 mod reader;
 mod reserved;

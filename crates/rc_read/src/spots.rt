@@ -6,7 +6,8 @@ ghost use Rattle.rc_read.specs.Spots as spec;
 ghost use Rattle.rc_read.specs.Table.{parts_of as spec_parts_of};
 ghost use Rattle.rc_read.specs.Texts.{texts_of, view_spots};
 
-use crate::table::{Part, Row, assignments, parts_of, rows_of, text_of};
+use crate::fixed::text_of;
+use crate::table::{Part, Row, assignments, parts_of, rows_of};
 use crate::words::{is, is_name};
 use rc_lang::lines::Comparison;
 use std::alloc::AllocError;

@@ -4,57 +4,7 @@ ghost use Rattle.std.specs.Prelude.{◌≡◌};
 ghost use Rattle.rc_read.specs.Quick.{beginning};
 ghost use Rattle.rc_read.specs.Table as spec;
 
-/// A word that stands as it is.
-#[derive(Clone, Copy)]
-pub enum Word {
-    Ringcheck,
-    One,
-    Ring,
-    Cq,
-    Left,
-    File,
-    Buffer,
-    Token,
-    Read,
-    Write,
-    Fsync,
-    Nop,
-    Thread,
-    Holds,
-    Open,
-    Close,
-    Is,
-    Plus,
-    Minus,
-    Load,
-    Store,
-    Fill,
-    Print,
-    Lock,
-    GetSqe,
-    PrepRead,
-    PrepWrite,
-    PrepFsync,
-    PrepNop,
-    SetData64,
-    Submit,
-    SubmitAndWait,
-    CqeSeen,
-    PeekCqe,
-    Case,
-    Other,
-    Nothing,
-    If,
-    SqReady,
-    Equal,
-    Zero,
-    SqSpaceLeft,
-    AtLeast,
-    Else,
-    Loop,
-    Keeps,
-    Break,
-}
+use crate::fixed::Word;
 
 /// The range of a number.
 #[derive(Clone, Copy)]
@@ -162,61 +112,6 @@ pub enum Stand {
     Inside,
     /// Wherever a block may be open.
     Brace,
-}
-
-/// The bytes of a fixed word.
-pub fn text_of(word: Word) -> &'static [u8]
-    ensures { result.now ≡ spec.text_of word }
-{
-    match word {
-        Word::Ringcheck => b"ringcheck",
-        Word::One => b"1",
-        Word::Ring => b"ring",
-        Word::Cq => b"cq",
-        Word::Left => b"left",
-        Word::File => b"file",
-        Word::Buffer => b"buffer",
-        Word::Token => b"token",
-        Word::Read => b"read",
-        Word::Write => b"write",
-        Word::Fsync => b"fsync",
-        Word::Nop => b"nop",
-        Word::Thread => b"thread",
-        Word::Holds => b"holds",
-        Word::Open => b"{",
-        Word::Close => b"}",
-        Word::Is => b"=",
-        Word::Plus => b"+",
-        Word::Minus => b"-",
-        Word::Load => b"load",
-        Word::Store => b"store",
-        Word::Fill => b"fill",
-        Word::Print => b"print",
-        Word::Lock => b"lock",
-        Word::GetSqe => b"get_sqe",
-        Word::PrepRead => b"prep_read",
-        Word::PrepWrite => b"prep_write",
-        Word::PrepFsync => b"prep_fsync",
-        Word::PrepNop => b"prep_nop",
-        Word::SetData64 => b"set_data64",
-        Word::Submit => b"submit",
-        Word::SubmitAndWait => b"submit_and_wait",
-        Word::CqeSeen => b"cqe_seen",
-        Word::PeekCqe => b"peek_cqe",
-        Word::Case => b"case",
-        Word::Other => b"other",
-        Word::Nothing => b"none",
-        Word::If => b"if",
-        Word::SqReady => b"sq_ready",
-        Word::Equal => b"==",
-        Word::Zero => b"0",
-        Word::SqSpaceLeft => b"sq_space_left",
-        Word::AtLeast => b">=",
-        Word::Else => b"else",
-        Word::Loop => b"loop",
-        Word::Keeps => b"keeps",
-        Word::Break => b"break",
-    }
 }
 
 /// The parts of a form, from the left.
@@ -417,32 +312,12 @@ pub fn stand_of(row: Row) -> Stand
         | Row::TokenNop => Stand::Declaration,
         Row::Thread => Stand::Header,
         Row::Else | Row::Close => Stand::Brace,
-        Row::Set
-        | Row::Add
-        | Row::Subtract
-        | Row::Load
-        | Row::Store
-        | Row::Fill
-        | Row::Print
-        | Row::Lock
-        | Row::GetSqe
-        | Row::PrepRead
-        | Row::PrepWrite
-        | Row::PrepFsync
-        | Row::PrepNop
-        | Row::SetData64
-        | Row::Submit
-        | Row::SubmitAndWait
-        | Row::CqeSeen
-        | Row::Peek
-        | Row::Case
-        | Row::Other
-        | Row::Nothing
-        | Row::If
-        | Row::IfReady
-        | Row::IfSpace
-        | Row::Loop
-        | Row::Break => Stand::Inside,
+        Row::Set | Row::Add | Row::Subtract | Row::Load | Row::Store | Row::Fill => Stand::Inside,
+        Row::Print | Row::Lock | Row::GetSqe | Row::PrepRead | Row::PrepWrite => Stand::Inside,
+        Row::PrepFsync | Row::PrepNop | Row::SetData64 | Row::Submit => Stand::Inside,
+        Row::SubmitAndWait | Row::CqeSeen | Row::Peek | Row::Case | Row::Other => Stand::Inside,
+        Row::Nothing | Row::If | Row::IfReady | Row::IfSpace | Row::Loop => Stand::Inside,
+        Row::Break => Stand::Inside,
     }
 }
 

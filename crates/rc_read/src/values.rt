@@ -1,23 +1,15 @@
 //! What the words of a line say in their places.
 
-ghost use Rattle.std.specs.Prelude.{◌≡◌, ◌≤◌, ◌&&◌, false, nat_le, ◌++◌, ◌∷◌, [], IfOk, IfSome, OnOk, is_none, option_map};
-ghost use Rattle.std.specs.List.{list_all};
-ghost use Rattle.rc_lang.specs.Numbers.{is_digit, is_number, number_of as number_in_range, value_of};
-ghost use Rattle.rc_read.specs.Judging as judging;
-ghost use Rattle.rc_read.specs.Sentences as sentences;
-ghost use Rattle.rc_read.specs.Sheets as sheets;
-ghost use Rattle.rc_read.specs.Texts.{view_spots};
+ghost use Rattle.std.specs.Prelude.{◌≡◌, ◌≤◌, option_map};
+ghost use Rattle.rc_lang.specs.Numbers.{number_of as number_in_range};
 ghost use Rattle.rc_read.specs.Values as spec;
 ghost use Rattle.rc_read.specs.View.{view_sheet};
 
-use crate::names::{add_name, find_buffer, has_buffer, has_file, has_thread, has_token};
 use crate::parts::Parts;
-use crate::spots::{Spot, begins_number, comparison_of};
-use crate::table::{Part, Range};
+use crate::table::Range;
 use crate::words::is;
 use rc_lang::lines::{Comparison, Operand};
 use rc_lang::numbers::{is_number, number_of, signed_number_of};
-use std::alloc::{AllocError, Global};
 
 /// An item of a list: shares of a buffer, a token, credits or queued entries.
 #[derive(Clone, Copy)]
@@ -50,13 +42,10 @@ pub struct Seen {
     pub shares: Option<u32>,
 }
 
-fn small_number_of(low: u32, high: u32, word: &[u8]) -> Option<u32>
+pub fn small_number_of(low: u32, high: u32, word: &[u8]) -> Option<u32>
     ensures { result ≡ number_in_range low high word.now }
 {
-    match number_of(u64::from(low), u64::from(high), word) {
-        Some(n) => Some(n as u32),
-        None => None,
-    }
+    Some(number_of(u64::from(low), u64::from(high), word)? as u32)
 }
 
 // The first of these numbers that isn't below n, and 2048 where all are.
@@ -83,10 +72,8 @@ pub fn rounded_up(n: u32) -> u32
 fn with_room(entries: u32, size: Option<u32>) -> Option<u32>
     ensures { result ≡ spec.with_room entries size }
 {
-    match size {
-        None => None,
-        Some(n) => (entries <= rounded_up(n)).then_some(n),
-    }
+    let n = size?;
+    (entries <= rounded_up(n)).then_some(n)
 }
 
 fn any_share(word: &[u8]) -> Option<u32>
@@ -95,7 +82,7 @@ fn any_share(word: &[u8]) -> Option<u32>
     (is_number(word) && !is(word, b"0")).then_some(1)
 }
 
-fn number_at(parts: &Parts, seen: Seen, range: Range, word: &[u8]) -> Option<u32>
+pub fn number_at(parts: &Parts, seen: Seen, range: Range, word: &[u8]) -> Option<u32>
     ensures { result ≡ spec.number_at (view_sheet parts.now) seen range word.now }
 {
     match range {
@@ -131,25 +118,19 @@ pub fn file_number_of(word: &[u8]) -> Option<u32>
     small_number_of(0, 1023, word)
 }
 
-fn small_value(n: Option<u32>) -> Option<Value>
+pub fn small_value(n: Option<u32>) -> Option<Value>
     ensures { result ≡ spec.small_value n }
 {
-    match n {
-        None => None,
-        Some(n) => Some(Value::Small(n)),
-    }
+    Some(Value::Small(n?))
 }
 
-fn signed_value(word: &[u8]) -> Option<Value>
+pub fn signed_value(word: &[u8]) -> Option<Value>
     ensures { result ≡ spec.signed_value word.now }
 {
-    match signed_of(word) {
-        None => None,
-        Some(n) => Some(Value::Operand(Operand::Number(n))),
-    }
+    Some(Value::Operand(Operand::Number(signed_of(word)?)))
 }
 
-fn comparison_value(comparison: Option<Comparison>) -> Value
+pub fn comparison_value(comparison: Option<Comparison>) -> Value
     ensures { result ≡ spec.comparison_value comparison }
 {
     match comparison {
@@ -158,53 +139,41 @@ fn comparison_value(comparison: Option<Comparison>) -> Value
     }
 }
 
-fn user_data_value(user_data: Option<u64>) -> Option<Value>
+pub fn user_data_value(user_data: Option<u64>) -> Option<Value>
     ensures { result ≡ option_map (λ u. Value.UserData u) user_data }
 {
-    match user_data {
-        None => None,
-        Some(u) => Some(Value::UserData(u)),
-    }
+    Some(Value::UserData(user_data?))
 }
 
-fn held_shares(buffer: usize, word: &[u8]) -> Option<Value>
+pub fn held_shares(buffer: usize, word: &[u8]) -> Option<Value>
     ensures { result ≡ option_map (λ k. Value.Item (Item.Shares buffer k)) (number_in_range 1 16 word.now) }
 {
-    match small_number_of(1, 16, word) {
-        None => None,
-        Some(k) => Some(Value::Item(Item::Shares(buffer, k))),
-    }
+    let count = small_number_of(1, 16, word)?;
+    Some(Value::Item(Item::Shares(buffer, count)))
 }
 
-fn held_token(user_data: Option<u64>) -> Option<Value>
+pub fn held_token(user_data: Option<u64>) -> Option<Value>
     ensures { result ≡ option_map (λ u. Value.Item (Item.Token u)) user_data }
 {
-    match user_data {
-        None => None,
-        Some(u) => Some(Value::Item(Item::Token(u))),
-    }
+    Some(Value::Item(Item::Token(user_data?)))
 }
 
-fn held_credits(word: &[u8]) -> Option<Value>
+pub fn held_credits(word: &[u8]) -> Option<Value>
     ensures { result ≡ option_map (λ n. Value.Item (Item.Credits n)) (number_in_range 0 2048 word.now) }
 {
-    match small_number_of(0, 2048, word) {
-        None => None,
-        Some(n) => Some(Value::Item(Item::Credits(n))),
-    }
+    let count = small_number_of(0, 2048, word)?;
+    Some(Value::Item(Item::Credits(count)))
 }
 
-fn held_queued(entries: u32, word: &[u8]) -> Option<Value>
+pub fn held_queued(entries: u32, word: &[u8]) -> Option<Value>
     ensures { result ≡ option_map (λ k. Value.Item (Item.Queued k)) (number_in_range 0 entries word.now) }
 {
-    match small_number_of(0, entries, word) {
-        None => None,
-        Some(k) => Some(Value::Item(Item::Queued(k))),
-    }
+    let count = small_number_of(0, entries, word)?;
+    Some(Value::Item(Item::Queued(count)))
 }
 
 // Before the first place.
-fn start() -> Seen
+pub fn start() -> Seen
     ensures { result ≡ spec.start }
 {
     Seen {
@@ -214,7 +183,7 @@ fn start() -> Seen
     }
 }
 
-fn sized(seen: Seen, size: Option<u32>) -> Seen
+pub fn sized(seen: Seen, size: Option<u32>) -> Seen
     ensures { result ≡ spec.sized seen size }
 {
     match size {
@@ -224,279 +193,4 @@ fn sized(seen: Seen, size: Option<u32>) -> Seen
             ..seen
         },
     }
-}
-
-fn lacks_file(parts: &Parts, number: Option<u32>) -> bool
-    ensures { result ≡ sentences.lacks_file (view_sheet parts.now) number }
-{
-    match number {
-        None => false,
-        Some(n) => !has_file(&parts.files, n),
-    }
-}
-
-fn lacks_token(parts: &Parts, user_data: Option<u64>) -> bool
-    ensures { result ≡ sentences.lacks_token (view_sheet parts.now) user_data }
-{
-    match user_data {
-        None => false,
-        Some(u) => !has_token(&parts.tokens, u),
-    }
-}
-
-fn repeats_file(parts: &Parts, number: Option<u32>) -> bool
-    ensures { result ≡ sentences.repeats_file (view_sheet parts.now) number }
-{
-    match number {
-        None => false,
-        Some(n) => has_file(&parts.files, n),
-    }
-}
-
-fn repeats_token(parts: &Parts, user_data: Option<u64>) -> bool
-    ensures { result ≡ sentences.repeats_token (view_sheet parts.now) user_data }
-{
-    match user_data {
-        None => false,
-        Some(u) => u <= parts.highest && has_token(&parts.tokens, u),
-    }
-}
-
-/// What is wrong with names in the places of a line: one that isn't declared, one that is declared a second time, and
-/// one declaration too many.
-#[derive(Clone, Copy)]
-pub struct Wrong {
-    pub unknown: bool,
-    pub double: bool,
-    pub full: bool,
-}
-
-// What is noted of the places so far: what they say of the next, and what is wrong with their names.
-#[derive(Clone, Copy)]
-struct Noted {
-    seen: Seen,
-    wrong: Wrong,
-}
-
-impl Noted {
-    ghost use Rattle.std.specs.Prelude.{◌≡◌, ◌||◌, false};
-    ghost use Rattle.rc_read.specs.Values.{start};
-
-    // Before the first place.
-    fn new() -> Noted
-        ensures seen { result.seen ≡ start }
-        ensures wrong { result.wrong ≡ record { unknown = false; double = false; full = false } }
-    {
-        Noted {
-            seen: start(),
-            wrong: Wrong {
-                unknown: false,
-                double: false,
-                full: false,
-            },
-        }
-    }
-
-    // Notes whether a name isn't declared.
-    fn lack(&mut self, unknown: bool)
-        ensures seen { self.new.seen ≡ self.old.seen }
-        ensures wrong { self.new.wrong ≡ record self.old.wrong { unknown = unknown || self.old.wrong.unknown } }
-    {
-        self.wrong.unknown = unknown | self.wrong.unknown;
-    }
-
-    // Notes whether a name is declared a second time, and whether it is one too many.
-    fn repeat(&mut self, double: bool, full: bool)
-        ensures seen { self.new.seen ≡ self.old.seen }
-        ensures wrong { self.new.wrong ≡ record self.old.wrong { double = double || self.old.wrong.double; full = full || self.old.wrong.full } }
-    {
-        self.wrong.double = double | self.wrong.double;
-        self.wrong.full = full | self.wrong.full;
-    }
-}
-
-fn look_at_buffer(parts: &Parts, noted: &mut Noted, word: &[u8]) -> Option<Value>
-    ensures value { result ≡ spec.value_at (view_sheet parts.now) noted.old.seen Part.Buffer word.now }
-    ensures seen { noted.new.seen ≡ spec.seen_behind (view_sheet parts.now) noted.old.seen Part.Buffer word.now }
-    ensures wrong { noted.new.wrong ≡ judging.wrong_with (view_sheet parts.now) Part.Buffer word.now noted.old.wrong }
-{
-    let (buffer, shares) = find_buffer(&parts.buffers, word);
-    noted.lack(shares.is_none());
-    noted.seen.buffer = buffer;
-    noted.seen.shares = shares;
-    Some(Value::Named(buffer))
-}
-
-fn look_at_token(parts: &Parts, noted: &mut Noted, word: &[u8]) -> Option<Value>
-    ensures value { result ≡ spec.value_at (view_sheet parts.now) noted.old.seen Part.Token word.now }
-    ensures seen { noted.new.seen ≡ noted.old.seen }
-    ensures wrong { noted.new.wrong ≡ judging.wrong_with (view_sheet parts.now) Part.Token word.now noted.old.wrong }
-{
-    let user_data = user_data_of(word);
-    noted.lack(lacks_token(parts, user_data));
-    user_data_value(user_data)
-}
-
-fn look_at_held_token(parts: &Parts, noted: &mut Noted, word: &[u8]) -> Option<Value>
-    ensures value { result ≡ spec.value_at (view_sheet parts.now) noted.old.seen Part.HeldToken word.now }
-    ensures seen { noted.new.seen ≡ noted.old.seen }
-    ensures wrong { noted.new.wrong ≡ judging.wrong_with (view_sheet parts.now) Part.HeldToken word.now noted.old.wrong }
-{
-    let user_data = user_data_of(word);
-    noted.lack(lacks_token(parts, user_data));
-    held_token(user_data)
-}
-
-fn look_at_file(parts: &Parts, noted: &mut Noted, word: &[u8]) -> Option<Value>
-    ensures value { result ≡ spec.value_at (view_sheet parts.now) noted.old.seen Part.File word.now }
-    ensures seen { noted.new.seen ≡ noted.old.seen }
-    ensures wrong { noted.new.wrong ≡ judging.wrong_with (view_sheet parts.now) Part.File word.now noted.old.wrong }
-{
-    let number = file_number_of(word);
-    noted.lack(lacks_file(parts, number));
-    small_value(number)
-}
-
-fn look_at_size(noted: &mut Noted, word: &[u8]) -> Option<Value>
-    ensures value { result ≡ spec.small_value (number_in_range 1 1024 word.now) }
-    ensures seen { noted.new.seen ≡ spec.sized noted.old.seen (number_in_range 1 1024 word.now) }
-    ensures wrong { noted.new.wrong ≡ noted.old.wrong }
-{
-    let size = small_number_of(1, 1024, word);
-    noted.seen = sized(noted.seen, size);
-    small_value(size)
-}
-
-fn look_at_new_file(parts: &Parts, noted: &mut Noted, word: &[u8]) -> Option<Value>
-    ensures value { result ≡ spec.value_at (view_sheet parts.now) noted.old.seen Part.NewFile word.now }
-    ensures seen { noted.new.seen ≡ noted.old.seen }
-    ensures wrong { noted.new.wrong ≡ judging.wrong_with (view_sheet parts.now) Part.NewFile word.now noted.old.wrong }
-{
-    let number = file_number_of(word);
-    noted.repeat(repeats_file(parts, number), parts.files.len() >= 16);
-    small_value(number)
-}
-
-fn look_at_new_buffer(parts: &Parts, noted: &mut Noted, word: &[u8]) -> Option<Value>
-    ensures value { result ≡ spec.value_at (view_sheet parts.now) noted.old.seen Part.NewBuffer word.now }
-    ensures seen { noted.new.seen ≡ noted.old.seen }
-    ensures wrong { noted.new.wrong ≡ judging.wrong_with (view_sheet parts.now) Part.NewBuffer word.now noted.old.wrong }
-{
-    noted.repeat(has_buffer(&parts.buffers, word), parts.buffers.len() >= 64);
-    Some(Value::Nothing)
-}
-
-fn look_at_new_token(parts: &Parts, noted: &mut Noted, word: &[u8]) -> Option<Value>
-    ensures value { result ≡ spec.value_at (view_sheet parts.now) noted.old.seen Part.NewToken word.now }
-    ensures seen { noted.new.seen ≡ noted.old.seen }
-    ensures wrong { noted.new.wrong ≡ judging.wrong_with (view_sheet parts.now) Part.NewToken word.now noted.old.wrong }
-{
-    let user_data = user_data_of(word);
-    noted.repeat(repeats_token(parts, user_data), parts.tokens.len() >= 256);
-    user_data_value(user_data)
-}
-
-fn look_at_new_thread(parts: &Parts, noted: &mut Noted, word: &[u8]) -> Option<Value>
-    ensures value { result ≡ spec.value_at (view_sheet parts.now) noted.old.seen Part.NewThread word.now }
-    ensures seen { noted.new.seen ≡ noted.old.seen }
-    ensures wrong { noted.new.wrong ≡ judging.wrong_with (view_sheet parts.now) Part.NewThread word.now noted.old.wrong }
-{
-    let double = has_thread(&parts.threads, word) || is(&parts.draft.name, word);
-    noted.repeat(double, parts.threads.len() >= 16);
-    Some(Value::Nothing)
-}
-
-// The number of a variable, which is added where it is new.
-fn variable_of(alloc: Global, parts: &mut Parts, word: &[u8]) -> Result<usize, AllocError>
-    ensures number { IfOk result (λ n. n ≡ sheets.number_in (view_sheet parts.old).draft.names word.now) }
-    ensures sheet { OnOk result (view_sheet parts.new ≡ sheets.with_names (view_sheet parts.old) (record { part = Part.Variable; word = word.now } ∷ [])) }
-{
-    Ok(add_name(alloc, &mut parts.draft.names, word)?)
-}
-
-// What an operand is. A variable is added where it is new.
-fn operand_of(alloc: Global, parts: &mut Parts, word: &[u8]) -> Result<Option<Value>, AllocError>
-    ensures value { IfOk result (λ o. o ≡ spec.operand_of (view_sheet parts.old) word.now) }
-    ensures sheet { OnOk result (view_sheet parts.new ≡ sheets.with_names (view_sheet parts.old) (record { part = Part.Operand; word = word.now } ∷ [])) }
-{
-    if begins_number(word) {
-        return Ok(signed_value(word));
-    }
-    let variable = variable_of(alloc, parts, word)?;
-    Ok(Some(Value::Operand(Operand::Variable(variable))))
-}
-
-// What the word of a place says. What it says of the places behind it, and what is wrong with its name, is noted, and a
-// variable is added where it is new.
-fn look_at(
-    alloc: Global,
-    parts: &mut Parts,
-    noted: &mut Noted,
-    part: Part,
-    word: &[u8],
-) -> Result<Option<Value>, AllocError>
-    ensures value { IfOk result (λ o. o ≡ spec.value_at (view_sheet parts.old) noted.old.seen part word.now) }
-    ensures seen { OnOk result (noted.new.seen ≡ spec.seen_behind (view_sheet parts.old) noted.old.seen part word.now) }
-    ensures wrong { OnOk result (noted.new.wrong ≡ judging.wrong_with (view_sheet parts.old) part word.now noted.old.wrong) }
-    ensures sheet { OnOk result (view_sheet parts.new ≡ sheets.with_names (view_sheet parts.old) (record { part = part; word = word.now } ∷ [])) }
-{
-    Ok(match part {
-        Part::Fixed(_) | Part::Items => Some(Value::Nothing),
-        Part::Variable => Some(Value::Named(variable_of(alloc, parts, word)?)),
-        Part::Operand => operand_of(alloc, parts, word)?,
-        Part::Comparison => Some(comparison_value(comparison_of(word))),
-        Part::Signed => signed_value(word),
-        Part::Number(Range::Size) => look_at_size(noted, word),
-        Part::Number(range) => small_value(number_at(parts, noted.seen, range, word)),
-        Part::Buffer => look_at_buffer(parts, noted, word),
-        Part::Token => look_at_token(parts, noted, word),
-        Part::File => look_at_file(parts, noted, word),
-        Part::NewFile => look_at_new_file(parts, noted, word),
-        Part::NewBuffer => look_at_new_buffer(parts, noted, word),
-        Part::NewToken => look_at_new_token(parts, noted, word),
-        Part::NewThread => look_at_new_thread(parts, noted, word),
-        Part::HeldShares => held_shares(noted.seen.buffer, word),
-        Part::HeldToken => look_at_held_token(parts, noted, word),
-        Part::Credits => held_credits(word),
-        Part::Queued => held_queued(parts.head.entries, word),
-    })
-}
-
-// Adds the item that a value is, if it is one.
-fn push_if_item(items: &mut Vec<Item>, value: Value) -> Result<(), AllocError>
-    ensures { OnOk result (items.new.items ≡ items.old.items ++ spec.items_in (value ∷ [])) }
-{
-    match value {
-        Value::Item(item) => Ok(items.push(item)?),
-        _ => Ok(()),
-    }
-}
-
-/// Puts what the places of a line say there, and the items among it, and adds the line's variables, unless a word in a
-/// number's place is no number or is out of its range. The answer is what is wrong with their names.
-pub fn put_values(
-    alloc: Global,
-    values: &mut Vec<Value>,
-    items: &mut Vec<Item>,
-    parts: &mut Parts,
-    spots: &[Spot],
-) -> Result<Option<Wrong>, AllocError>
-    ensures lacks { IfOk result (λ o. is_none o ≡ spec.any_lacks (sheets.with_names (view_sheet parts.old) (view_spots spots.now)) spec.start (view_spots spots.now)) }
-    ensures sheet { IfOk result (λ o. IfSome o (λ _. view_sheet parts.new ≡ sheets.with_names (view_sheet parts.old) (view_spots spots.now))) }
-    ensures values { IfOk result (λ o. IfSome o (λ _. values.new.items ≡ spec.values_of (sheets.with_names (view_sheet parts.old) (view_spots spots.now)) spec.start (view_spots spots.now))) }
-    ensures items { IfOk result (λ o. IfSome o (λ _. items.new.items ≡ spec.items_in (spec.values_of (sheets.with_names (view_sheet parts.old) (view_spots spots.now)) spec.start (view_spots spots.now)))) }
-    ensures wrong { IfOk result (λ o. IfSome o (λ wrong. wrong ≡ judging.wrong_in (sheets.with_names (view_sheet parts.old) (view_spots spots.now)) (view_spots spots.now))) }
-{
-    let mut noted = Noted::new();
-    values.clear();
-    items.clear();
-    for spot in spots {
-        let says = look_at(alloc, parts, &mut noted, spot.part, spot.word)?;
-        let Some(value) = says else {
-            return Ok(None);
-        };
-        values.push(value)?;
-        push_if_item(items, value)?;
-    }
-    Ok(Some(noted.wrong))
 }

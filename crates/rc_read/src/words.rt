@@ -27,11 +27,7 @@ fn is_strange(b: u8) -> bool
 fn any_strange(bytes: &[u8]) -> bool
     ensures { result ≡ any_strange bytes.now }
 {
-    let mut any = false;
-    for b in bytes {
-        any = any | is_strange(*b);
-    }
-    any
+    bytes.iter().any(|b| is_strange(*b))
 }
 
 // Whether a byte is above 126 or below 32, as each strange one is. There seldom is one.
@@ -109,12 +105,7 @@ fn is_name_byte(b: u8) -> bool
 fn all_name_bytes(bytes: &[u8]) -> bool
     ensures { result ≡ names.all_name_bytes bytes.now }
 {
-    for b in bytes {
-        if !is_name_byte(*b) {
-            return false;
-        }
-    }
-    true
+    bytes.iter().all(|b| is_name_byte(*b))
 }
 
 fn is_spelt(word: &[u8]) -> bool

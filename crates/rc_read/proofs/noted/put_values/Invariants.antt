@@ -4,7 +4,7 @@ use Rattle.rc_read.specs.Sheets.{with_names}
 use Rattle.rc_read.specs.Texts.{view_spots}
 use Rattle.rc_read.specs.Values as spec
 use Rattle.rc_read.specs.View.{view_sheet}
-use Rattle.rc_read.proofs.values.put_values.Given as goal
+use Rattle.rc_read.proofs.noted.put_values.Given as goal
 
 abbrev pub invariant-loop-spot : goal.invariant-loop-spot
 invariant-loop-spot l = record {

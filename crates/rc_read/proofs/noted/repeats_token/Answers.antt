@@ -1,7 +1,7 @@
 use Rattle.std.proofs.Common.{sym, ◌∙◌, arith}
 use Rattle.std.proofs.lemmas.Bool.{lt-leb}
 use Rattle.rc_read.proofs.Tokens.{none_higher}
-use Rattle.rc_read.proofs.values.repeats_token.Goals as goal
+use Rattle.rc_read.proofs.noted.repeats_token.Goals as goal
 
 pub returns-else-u-parts : goal.returns-else-u-parts
 returns-else-u-parts c =

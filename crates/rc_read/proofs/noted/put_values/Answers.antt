@@ -4,14 +4,14 @@ use Rattle.rc_read.proofs.Among.{items_first}
 use Rattle.rc_read.proofs.Numbered.{sheet_on, values_on, lacks_on, unknown_on, double_on, full_on}
 use Rattle.rc_read.specs.declared.values.Item.{Item}
 use Rattle.rc_read.specs.declared.values.Value.{Value}
-use Rattle.rc_read.specs.declared.values.Wrong.{Wrong}
+use Rattle.rc_read.specs.declared.noted.Wrong.{Wrong}
 use Rattle.rc_read.specs.Sentences.{any_unknown, any_double, any_full}
 use Rattle.rc_read.specs.Sheets.{with_names}
 use Rattle.rc_read.specs.Spots.{Spot}
 use Rattle.rc_read.specs.Texts.{view_spot, view_spots}
 use Rattle.rc_read.specs.Values.{value_at, values_of, items_in, any_lacks}
 use Rattle.rc_read.specs.View.{view_sheet}
-use Rattle.rc_read.proofs.values.put_values.Goals as goal
+use Rattle.rc_read.proofs.noted.put_values.Goals as goal
 
 pub loop-spot-preserved : goal.loop-spot-preserved
 loop-spot-preserved c =

@@ -1,8 +1,8 @@
-use Rattle.std.proofs.Common.{Bool, ◌||◌, ap, map, refl, ◌∙◌}
+use Rattle.std.proofs.Common.{Bool, ◌||◌, ap, map, ◌∙◌}
 use Rattle.rc_lang.specs.Parts.{view_buffer}
-use Rattle.rc_read.specs.declared.values.Wrong.{Wrong}
+use Rattle.rc_read.specs.declared.noted.Wrong.{Wrong}
 use Rattle.rc_read.proofs.Sizes.{undeclared}
-use Rattle.rc_read.proofs.values.look_at_buffer.Goals as goal
+use Rattle.rc_read.proofs.noted.look_at_buffer.Goals as goal
 
 abbrev with_unknown : Wrong → Bool → Wrong
 with_unknown wrong unknown = record wrong { unknown = unknown || wrong.unknown }

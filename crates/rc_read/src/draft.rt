@@ -1,0 +1,276 @@
+//! What a line adds to the open thread.
+
+ghost use Rattle.std.specs.Prelude.{◌≡◌, ◌++◌, ◌∷◌, [], length, map, slice_set, unwrap_or, OnOk, IfOk};
+ghost use Rattle.rc_lang.specs.Nesting as nesting;
+ghost use Rattle.rc_lang.specs.Parts.{view_items, view_thread};
+ghost use Rattle.rc_read.specs.Adds as spec;
+ghost use Rattle.rc_read.specs.View.{view_arms, view_draft};
+
+use crate::blocks::{innermost, way_out};
+use crate::parts::{Arms, Draft};
+use crate::says::Says;
+use crate::values::Item;
+use rc_lang::lines::{Block, Line, Op, Stmt};
+use rc_lang::program::{Items, Share, Thread};
+use std::alloc::{AllocError, Global};
+
+// What a list of items holds.
+pub fn held(alloc: Global, items: &[Item]) -> Result<Items, AllocError>
+    ensures { IfOk result (λ i. view_items i ≡ spec.held items.now) }
+{
+    let mut shares = Vec::new(alloc);
+    let mut tokens = Vec::with_capacity(alloc, items.len())?;
+    let mut credits = None;
+    let mut queue = None;
+    for item in items {
+        match *item {
+            Item::Shares(buffer, count) => shares.push(Share { buffer, count })?,
+            Item::Token(user_data) => tokens.push(user_data)?,
+            Item::Credits(count) => credits = credits.or(Some(count)),
+            Item::Queued(count) => queue = queue.or(Some(count)),
+        }
+    }
+    Ok(Items {
+        shares,
+        tokens,
+        credits: credits.unwrap_or(0),
+        queue,
+    })
+}
+
+// Opens or closes the block of a line at this place.
+fn put_block(blocks: &mut Vec<Block>, place: usize, stmt: Stmt) -> Result<(), AllocError>
+    ensures { OnOk result (blocks.new.items ≡ nesting.blocks_behind blocks.old.items place stmt) }
+{
+    match stmt {
+        Stmt::Do(_) | Stmt::Break(_, _, _) => Ok(()),
+        Stmt::Lock => Ok(blocks.push(Block::InLock(place))?),
+        Stmt::If(_) => Ok(blocks.push(Block::InIf(place))?),
+        Stmt::Else(_) => {
+            let _ = blocks.pop();
+            Ok(blocks.push(Block::InElse(place))?)
+        }
+        Stmt::Peek(_) => Ok(blocks.push(Block::InPeek(place))?),
+        Stmt::Case(peek, _) | Stmt::Other(peek) | Stmt::Nothing(peek) => {
+            Ok(blocks.push(Block::InArm(peek))?)
+        }
+        Stmt::Loop(number) => Ok(blocks.push(Block::InLoop(place, number))?),
+        Stmt::EndLock(_) | Stmt::EndIf(_) | Stmt::EndArm(_) => {
+            let _ = blocks.pop();
+            Ok(())
+        }
+        Stmt::EndPeek(_) | Stmt::EndLoop(_, _) => {
+            let _ = blocks.pop();
+            Ok(())
+        }
+    }
+}
+
+// The place of the line that a line closes, where a jump starts from there.
+fn closed_by(stmt: Stmt) -> Option<usize>
+    ensures { result ≡ spec.closed_by stmt }
+{
+    match stmt {
+        Stmt::Else(place) | Stmt::EndIf(place) => Some(place),
+        Stmt::EndPeek(place) | Stmt::EndLoop(place, _) => Some(place),
+        Stmt::Do(_) | Stmt::Lock | Stmt::EndLock(_) | Stmt::If(_) => None,
+        Stmt::Peek(_) | Stmt::Case(_, _) | Stmt::Other(_) | Stmt::Nothing(_) => None,
+        Stmt::EndArm(_) | Stmt::Loop(_) | Stmt::Break(_, _, _) => None,
+    }
+}
+
+// Marks the line at this place as the end of an earlier one.
+fn mark_end(ends: &mut Vec<usize>, place: usize, start: usize)
+    ensures { ends.new.items ≡ slice_set ends.old.items start place }
+{
+    if start < ends.len() {
+        ends[start] = place;
+    }
+}
+
+// Adds a line at this place to the table of ends.
+fn put_end(ends: &mut Vec<usize>, place: usize, stmt: Stmt) -> Result<(), AllocError>
+    ensures { OnOk result (ends.new.items ≡ spec.ends_behind ends.old.items place stmt) }
+{
+    ends.push(0)?;
+    if let Some(start) = closed_by(stmt) {
+        mark_end(ends, place, start);
+    }
+    Ok(())
+}
+
+// Adds the items of a loop.
+fn push_items(alloc: Global, loops: &mut Vec<Items>, items: &[Item]) -> Result<(), AllocError>
+    ensures { OnOk result (map view_items loops.new.items ≡ map view_items loops.old.items ++ spec.held items.now ∷ []) }
+{
+    loops.push(held(alloc, items)?)?;
+    Ok(())
+}
+
+// Keeps the items of a loop.
+fn put_loop(
+    alloc: Global,
+    loops: &mut Vec<Items>,
+    items: &[Item],
+    stmt: Stmt,
+) -> Result<(), AllocError>
+    ensures { OnOk result (map view_items loops.new.items ≡ spec.loops_behind (map view_items loops.old.items) items.now stmt) }
+{
+    match stmt {
+        Stmt::Loop(_) => push_items(alloc, loops, items),
+        Stmt::Do(_) | Stmt::Lock | Stmt::EndLock(_) | Stmt::If(_) => Ok(()),
+        Stmt::Else(_) | Stmt::EndIf(_) | Stmt::Peek(_) | Stmt::Case(_, _) => Ok(()),
+        Stmt::Other(_) | Stmt::Nothing(_) | Stmt::EndArm(_) | Stmt::EndPeek(_) => Ok(()),
+        Stmt::EndLoop(_, _) | Stmt::Break(_, _, _) => Ok(()),
+    }
+}
+
+impl Arms {
+    // Keeps the arm that begins with a line; a peek begins without arms.
+    fn put(&mut self, stmt: Stmt) -> Result<(), AllocError>
+        ensures { OnOk result (view_arms self.new ≡ spec.arms_behind (view_arms self.old) stmt) }
+    {
+        match stmt {
+            Stmt::Peek(_) => {
+                self.cases.clear();
+                self.other = false;
+                self.none = false;
+                Ok(())
+            }
+            Stmt::Case(_, user_data) => Ok(self.cases.push(user_data)?),
+            Stmt::Other(_) => {
+                self.other = true;
+                Ok(())
+            }
+            Stmt::Nothing(_) => {
+                self.none = true;
+                Ok(())
+            }
+            Stmt::Do(_) | Stmt::Lock | Stmt::EndLock(_) | Stmt::If(_) => Ok(()),
+            Stmt::Else(_) | Stmt::EndIf(_) | Stmt::EndArm(_) | Stmt::EndPeek(_) => Ok(()),
+            Stmt::Loop(_) | Stmt::EndLoop(_, _) | Stmt::Break(_, _, _) => Ok(()),
+        }
+    }
+}
+
+// The place that a block belongs to.
+fn block_place(block: Option<Block>) -> usize
+    ensures { result ≡ spec.block_place block }
+{
+    match block {
+        Some(Block::InLock(place) | Block::InIf(place) | Block::InElse(place)) => place,
+        Some(Block::InPeek(place) | Block::InArm(place)) => place,
+        Some(Block::InLoop(place, _)) => place,
+        None => 0,
+    }
+}
+
+// The closing brace of a block.
+fn closing(block: Block) -> Stmt
+    ensures { result ≡ spec.closing block }
+{
+    match block {
+        Block::InLock(place) => Stmt::EndLock(place),
+        Block::InIf(place) | Block::InElse(place) => Stmt::EndIf(place),
+        Block::InPeek(place) => Stmt::EndPeek(place),
+        Block::InArm(place) => Stmt::EndArm(place),
+        Block::InLoop(place, number) => Stmt::EndLoop(place, number),
+    }
+}
+
+fn closing_of(block: Option<Block>) -> Stmt
+    ensures { result ≡ spec.closing_of block }
+{
+    match block {
+        Some(block) => closing(block),
+        None => Stmt::Lock,
+    }
+}
+
+// A break out of the innermost of these blocks' loops.
+fn break_out(blocks: &[Block]) -> Stmt
+    ensures { let way = nesting.way_out blocks.now in result ≡ Stmt.Break (unwrap_or way.loop 0) way.releases way.leaves }
+{
+    let way = way_out(blocks);
+    Stmt::Break(way.place.unwrap_or(0), way.releases, way.leaves)
+}
+
+impl Draft {
+    // The statement of a line of the thread.
+    pub fn stmt_in(&self, says: Says) -> Stmt
+        ensures { result ≡ spec.stmt_in (view_draft self.now) says }
+    {
+        let block = innermost(&self.blocks);
+        match says {
+            Says::Op(op) => Stmt::Do(op),
+            Says::Lock => Stmt::Lock,
+            Says::If(test) => Stmt::If(test),
+            Says::Else => Stmt::Else(block_place(block)),
+            Says::Peek(variable) => Stmt::Peek(variable),
+            Says::Case(user_data) => Stmt::Case(block_place(block), user_data),
+            Says::Other => Stmt::Other(block_place(block)),
+            Says::Nothing => Stmt::Nothing(block_place(block)),
+            Says::Loop => Stmt::Loop(self.loops.len()),
+            Says::Break => break_out(&self.blocks),
+            Says::Version | Says::Ring(_) | Says::File(_) => closing_of(block),
+            Says::Buffer(_, _) | Says::Token(_) | Says::Thread => closing_of(block),
+            Says::Close => closing_of(block),
+        }
+    }
+
+    // Adds a line with this number.
+    pub fn put(
+        &mut self,
+        alloc: Global,
+        number: u32,
+        items: &[Item],
+        stmt: Stmt,
+    ) -> Result<(), AllocError>
+        ensures { OnOk result (view_draft self.new ≡ spec.with_stmt (view_draft self.old) number items.now stmt) }
+    {
+        let place = self.lines.len();
+        put_loop(alloc, &mut self.loops, items, stmt)?;
+        put_block(&mut self.blocks, place, stmt)?;
+        put_end(&mut self.ends, place, stmt)?;
+        self.arms.put(stmt)?;
+        self.lines.push(Line { number, stmt })?;
+        Ok(())
+    }
+
+    // Adds a statement without a block with this number, which opens, closes and keeps nothing else.
+    pub fn put_op(&mut self, number: u32, op: Op) -> Result<(), AllocError>
+        ensures { OnOk result (view_draft self.new ≡ spec.with_stmt (view_draft self.old) number [] (Stmt.Do op)) }
+    {
+        self.ends.push(0)?;
+        let stmt = Stmt::Do(op);
+        self.lines.push(Line { number, stmt })?;
+        Ok(())
+    }
+
+    // Closes the innermost block, which is this one, by a line with this number.
+    pub fn put_close(&mut self, number: u32, block: Block) -> Result<(), AllocError>
+        ensures { OnOk result (view_draft self.new ≡ spec.with_stmt (view_draft self.old) number [] (spec.closing block)) }
+    {
+        let place = self.lines.len();
+        let stmt = closing(block);
+        let _ = self.blocks.pop();
+        put_end(&mut self.ends, place, stmt)?;
+        self.lines.push(Line { number, stmt })?;
+        Ok(())
+    }
+
+    // The thread that is complete.
+    pub fn into_thread(self) -> Thread
+        ensures { view_thread result ≡ spec.whole_thread (view_draft self) }
+    {
+        Thread {
+            name: self.name,
+            line: self.line,
+            items: self.items,
+            loops: self.loops,
+            lines: self.lines,
+            ends: self.ends,
+            variables: self.names.len(),
+        }
+    }
+}
