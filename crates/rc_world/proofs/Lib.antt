@@ -10,6 +10,7 @@ pub mod Settling
 pub mod Threads
 pub mod Jumps
 pub mod StepParts
+pub mod Cases
 pub mod RingSteps
 pub mod WorldSteps
 pub mod Kernel
@@ -25,4 +26,3 @@ pub mod LawRuns
 pub mod LawSteps
 pub mod LawTraces
 pub mod Harmless
-mod MadeProgram
