@@ -1,6 +1,8 @@
 //! Texts that are admitted, refused or no programs.
 
 mod ring_calls;
+mod schedules;
+mod worlds;
 
 use crate::admitted::{Admitted, admit};
 use crate::fault::AdmitFault;

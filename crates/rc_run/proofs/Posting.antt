@@ -1,5 +1,6 @@
 -- Jobs that are taken, and their results.
 use Rattle.std.proofs.Common.{◌≡◌, ◌≢◌, ℕ, ℤ, zero, suc, ◌%◌, ◌<◌, ◌≤◌, inr, Bool, true, false, ◌||◌, not, cond, if◌then◌else◌, List, [], ◌∷◌, ◌++◌, filter, length, map, take, Option, Some, None, IsSome, is_some, slice_get, refl, sym, ap, subst, ◌∙◌, arith}
+use Rattle.std.proofs.lemmas.Bool.{and_parts}
 use Rattle.std.proofs.Math.Nat.{mod-lt}
 use Rattle.std.proofs.lemmas.List.{length-map}
 use Rattle.std.proofs.lemmas.Option.{same_Some, slice_get-map}
@@ -11,7 +12,7 @@ use Rattle.rc_lang.specs.Requests.{may_complete}
 use Rattle.rc_world.specs.declared.event.Event.{Event}
 use Rattle.rc_world.specs.Machine.{Pending, World, bytes_brought, is_read, kernel_step, start_world, without}
 use Rattle.rc_world.specs.Runs.{IsRun}
-use Rattle.rc_world.proofs.LawLists.{and_left, get_at, get_past}
+use Rattle.rc_world.proofs.LawLists.{get_at, get_past}
 use Rattle.rc_run.specs.declared.machine.Pending.{Pending as PendingPart}
 use Rattle.rc_run.specs.Calm.{IsCalm}
 use Rattle.rc_run.specs.Jobs.{Job, allows, is_errno}
@@ -119,7 +120,7 @@ module _ (w : World) (c : IsCalm w) (k : ℕ) (p : Pending) (here : slice_get w.
 
   pub completes : (res : ℤ) → allows job res ≡ true → IsSome (completed_by w k res job.bytes)
   completes res may =
-      let allowed = and_left (may_complete job.request res) (not job.starved || is_errno res) may in
+      let allowed = (and_parts (may_complete job.request res) (not job.starved || is_errno res) may).0 in
       let step = c.completes k p res (brought p.request job.bytes) here (subst (λ (q : Request). may_complete q res ≡ true) same allowed) (take_length (bytes_brought p.request) job.bytes enough) in
       ap is_some (at_request res ∙ step.1)
 

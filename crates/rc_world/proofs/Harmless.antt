@@ -1,5 +1,6 @@
 -- A world without harm has no fault of any kind.
 use Rattle.std.proofs.Common.{◌≡◌, ℕ, ◌+◌, ◌<◌, ◌≤◌, Bool, true, false, ◌&&◌, ◌||◌, not, if◌then◌else◌, List, [], ◌∷◌, ◌++◌, drop, length, Option, Some, None, slice_get, refl, ap, ◌∙◌}
+use Rattle.std.proofs.lemmas.Bool.{or_parts, and_left, and_right}
 use Rattle.std.proofs.lemmas.List.{drop_all}
 use Rattle.rc_lang.specs.declared.lines.Line.{Line}
 use Rattle.rc_lang.specs.declared.lines.Stmt.{Stmt}
@@ -12,7 +13,6 @@ use Rattle.rc_world.specs.Faults.{Access, access_of, all_kinds, clashes, fault_a
 use Rattle.rc_world.specs.Harm.{harms_at, harms_buffer, harms_from, harms_rings, has_harm, is_harmful}
 use Rattle.rc_world.specs.Machine.{World}
 use Rattle.rc_world.proofs.Heads.{drop_next, no_races}
-use Rattle.rc_world.proofs.Lists.{neither}
 
 -- ---- one thread
 
@@ -23,21 +23,13 @@ record Quiet (h p q r s c : Bool) : Type 0 where
   raw : (h && s) ≡ false
   call : (c && not h) ≡ false
 
-and_false : (c : Bool) → c ≡ false → (c && true) ≡ false
-and_false true e = absurd (cc)
-and_false false e = refl
-
-and_never : (c : Bool) → (c && false) ≡ false
-and_never true = refl
-and_never false = refl
-
 quiet : (h p q r s c : Bool) → (if h then p || q || r || s else c) ≡ false → Quiet h p q r s c
 quiet true p q r s c e =
-    let a = neither (p || q || r) s e in
-    let b = neither (p || q) r a.0 in
-    let d = neither p q b.0 in
-    record { full = d.0; ambiguous = d.1; unknown = b.1; raw = a.1; call = and_never c }
-quiet false p q r s c e = record { full = refl; ambiguous = refl; unknown = refl; raw = refl; call = and_false c e }
+    let a = or_parts (p || q || r) s e in
+    let b = or_parts (p || q) r a.0 in
+    let d = or_parts p q b.0 in
+    record { full = d.0; ambiguous = d.1; unknown = b.1; raw = a.1; call = and_right c false refl }
+quiet false p q r s c e = record { full = refl; ambiguous = refl; unknown = refl; raw = refl; call = and_left c true e }
 
 record Untouched (w : World) (i : ℕ) (a : Option Access) : Type 0 where
   writes : writes_pending w.pending a ≡ false
@@ -47,19 +39,19 @@ record Untouched (w : World) (i : ℕ) (a : Option Access) : Type 0 where
 untouched : (w : World) (i : ℕ) (a : Option Access) → harms_buffer w i a ≡ false → Untouched w i a
 untouched w i None e = record { writes = refl; reads = refl; race = no_races w (i + 1) (drop (i + 1) w.controls.threads) }
 untouched w i (Some a) e =
-    let b = neither (writes_pending w.pending (Some a) || reads_filling w.pending (Some a)) (races w i (Some a)) e in
-    let c = neither (writes_pending w.pending (Some a)) (reads_filling w.pending (Some a)) b.0 in
+    let b = or_parts (writes_pending w.pending (Some a) || reads_filling w.pending (Some a)) (races w i (Some a)) e in
+    let c = or_parts (writes_pending w.pending (Some a)) (reads_filling w.pending (Some a)) b.0 in
     record { writes = c.0; reads = c.1; race = b.1 }
 
 module _ (w : World) (i : ℕ) (s : Stmt) (e : is_harmful w i s ≡ false) where
   sides : ((harms_buffer w i (access_of s) || is_out_at w.program s) ≡ false) × ((if is_holder w.controls.holder i then harms_rings w s else is_ring_call s) ≡ false)
-  sides = neither (harms_buffer w i (access_of s) || is_out_at w.program s) (if is_holder w.controls.holder i then harms_rings w s else is_ring_call s) e
+  sides = or_parts (harms_buffer w i (access_of s) || is_out_at w.program s) (if is_holder w.controls.holder i then harms_rings w s else is_ring_call s) e
 
   rings : Quiet (is_holder w.controls.holder i) (is_full_at w s) (is_ambiguous_at w s) (is_unknown_at w s) (is_raw_at w.slot s) (is_ring_call s)
   rings = quiet (is_holder w.controls.holder i) (is_full_at w s) (is_ambiguous_at w s) (is_unknown_at w s) (is_raw_at w.slot s) (is_ring_call s) sides.1
 
   places : (harms_buffer w i (access_of s) ≡ false) × (is_out_at w.program s ≡ false)
-  places = neither (harms_buffer w i (access_of s)) (is_out_at w.program s) sides.0
+  places = or_parts (harms_buffer w i (access_of s)) (is_out_at w.program s) sides.0
 
   buffer : Untouched w i (access_of s)
   buffer = untouched w i (access_of s) places.0
@@ -86,14 +78,14 @@ none_at w kind i (Some l) e = ap (λ b. if b then record { kind = kind; party = 
 none_from : (w : World) (kind : FaultKind) (i : ℕ) (threads : List Standing) → harms_from w i threads ≡ false → faults_from w kind i threads ≡ []
 none_from w kind i [] e = refl
 none_from w kind i (t ∷ ts) e =
-    let n = neither (harms_at w i (next_line w.program w.controls i)) (harms_from w (i + 1) ts) e in
+    let n = or_parts (harms_at w i (next_line w.program w.controls i)) (harms_from w (i + 1) ts) e in
     ap (λ (fs : List Fault). fs ++ faults_from w kind (i + 1) ts) (none_at w kind i (next_line w.program w.controls i) n.0) ∙ none_from w kind (i + 1) ts n.1
 
 -- ---- the world
 
 module _ (w : World) (e : has_harm w ≡ false) where
   calm : (clashes w.pending ≡ false) × (overflows w w.pending ≡ false)
-  calm = neither _ _ (neither _ _ e).0
+  calm = or_parts _ _ (or_parts _ _ e).0
 
   none_in_kernel : (kind : FaultKind) → in_kernel w kind ≡ false
   none_in_kernel WriteOfPending = refl
@@ -111,7 +103,7 @@ module _ (w : World) (e : has_harm w ≡ false) where
   none_of : (kind : FaultKind) → faults_of w kind ≡ []
   none_of kind =
       ap (λ b. (if b then record { kind = kind; party = InKernel } ∷ [] else []) ++ faults_from w kind 0 w.controls.threads) (none_in_kernel kind)
-      ∙ none_from w kind 0 w.controls.threads (neither _ _ e).1
+      ∙ none_from w kind 0 w.controls.threads (or_parts _ _ e).1
 
   none_by : (kinds : List FaultKind) → faults_by w kinds ≡ []
   none_by [] = refl

@@ -1,22 +1,16 @@
 -- Where the jumps of a thread lead that stands at a line.
 use Rattle.std.proofs.Common.{ℕ, ◌<◌, ◌≤◌, Bool, ap, arith}
 use Rattle.rc_lang.specs.declared.lines.Op.{Op}
-use Rattle.rc_lang.specs.declared.lines.Op.TheVariants.{Set, Assign, Add, Subtract, Load, Store, Fill, Print, GetSqe, PrepRead, PrepWrite, PrepFsync, PrepNop, SetData64, Submit, SubmitAndWait, CqeSeen}
-use Rattle.rc_lang.specs.declared.lines.Operand.{Operand}
-use Rattle.rc_lang.specs.declared.lines.Operand.TheVariants.{Variable, Number}
 use Rattle.rc_lang.specs.declared.lines.Stmt.TheVariants.{Do, If, Peek, EndLoop, Break}
 use Rattle.rc_lang.specs.declared.lines.Test.{Test}
 use Rattle.rc_lang.specs.declared.lines.Test.TheVariants.{Compare, ReadyZero, SpaceAtLeast}
 use Rattle.rc_lang.specs.Nesting.{Way}
-use Rattle.rc_lang.specs.Program.{IsOperand, IsResolvedOp, Program, end_at, lines_of}
+use Rattle.rc_lang.specs.Program.{Program, end_at, lines_of}
 use Rattle.rc_lang.proofs.Lookups.{nested_here}
-use Rattle.rc_world.specs.Changes.{OpIsSmall, StandsAt, TestIsSmall}
+use Rattle.rc_world.specs.Changes.{CallIsSmall, StandsAt, TestIsSmall}
 use Rattle.rc_world.specs.Controls.{Controls}
 use Rattle.rc_world.proofs.Laid.{IsBelow, break_loop, if_leads, laid, loop_leads, loop_top, peek_leads, resolved_in}
-
-small_operand : (n : ℕ) (a : Operand) → n ≤ 64 → IsOperand n a → IsOperand 64 a
-small_operand n (Variable x) le h = let lt : x < n = h in omega arith
-small_operand n (Number v) le h = tt
+use Rattle.rc_world.proofs.RingSteps.{small_stmt}
 
 module _ (P : Program) (c : Controls) (i j : ℕ) where
   pub peek_below : (x : ℕ) → StandsAt P c i j (Peek x) → IsBelow (lines_of P i) j (end_at P i j)
@@ -46,24 +40,5 @@ module _ (P : Program) (c : Controls) (i j : ℕ) where
   test_small ReadyZero s = tt
   test_small (SpaceAtLeast n) s = tt
 
-  pub op_small : (op : Op) → StandsAt P c i j (Do op) → OpIsSmall op
-  op_small op s = let r = resolved_in P s.made i j (Do op) s.line in go r.0 r.2 op r.3
-    where
-      go : (n : ℕ) → n ≤ 64 → (op : Op) → IsResolvedOp P n op → OpIsSmall op
-      go n le (Set x v) h = let lt : x < n = h in omega arith
-      go n le (Assign x y) h = let a : x < n = h.0 in let b : y < n = h.1 in (omega arith, omega arith)
-      go n le (Add x y z) h = let a : x < n = h.0 in (omega arith, small_operand n y le h.1, small_operand n z le h.2)
-      go n le (Subtract x y z) h = let a : x < n = h.0 in (omega arith, small_operand n y le h.1, small_operand n z le h.2)
-      go n le (Load x b k) h = let a : x < n = h.0 in omega arith
-      go n le (Store b k x) h = let a : x < n = h.2 in omega arith
-      go n le (Fill b x) h = let a : x < n = h.1 in omega arith
-      go n le (Print x) h = let a : x < n = h in omega arith
-      go n le GetSqe h = tt
-      go n le (PrepRead fd b len off) h = tt
-      go n le (PrepWrite fd b len off k) h = tt
-      go n le (PrepFsync fd datasync) h = tt
-      go n le PrepNop h = tt
-      go n le (SetData64 u) h = tt
-      go n le (Submit x) h = let a : x < n = h in omega arith
-      go n le (SubmitAndWait x m) h = let a : x < n = h.0 in omega arith
-      go n le CqeSeen h = tt
+  pub op_small : (op : Op) → StandsAt P c i j (Do op) → CallIsSmall P op
+  op_small op s = small_stmt P s.made i j (Do op) s.line

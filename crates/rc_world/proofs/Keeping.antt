@@ -1,5 +1,5 @@
 -- What steps change in a world, it keeps.
-use Rattle.std.proofs.Common.{◌≡◌, ℕ, zero, suc, ◌+◌, ◌≤◌, inl, inr, Bool, true, false, if◌then◌else◌, List, [], ◌∷◌, ◌++◌, drop, length, length-append, take, Option, Some, None, slice_get, refl, sym, ap, ◌∙◌, subst, arith}
+use Rattle.std.proofs.Common.{◌≡◌, ℕ, zero, suc, ◌+◌, ◌≤◌, inl, inr, Bool, true, false, if◌then◌else◌, List, [], ◌∷◌, ◌++◌, drop, length, length-append, take, Option, Some, None, slice_get, refl, sym, ap, subst, arith}
 use Rattle.std.proofs.lemmas.Option.{same_Some}
 use Rattle.rc_lang.specs.declared.request.Request.{Request}
 use Rattle.rc_lang.specs.Program.{Program}
@@ -71,19 +71,12 @@ handed_is w n = all_begun (record w { queued = drop n w.queued }) (take n w.queu
 pub kept_handed_is : (w : World) → IsKept w → (n : ℕ) (queued : List Request) (pending : List Pending) (buffers : List (Option (List ℕ)))
     → queued ≡ drop n w.queued → pending ≡ begun_pending w.pending w.buffers (take n w.queued) → buffers ≡ begun_buffers w.buffers (take n w.queued)
     → IsKept (record w { queued = queued; pending = pending; buffers = buffers })
-kept_handed_is w k n queued pending buffers q p b =
-    subst (λ x. IsKept (record w { queued = x; pending = pending; buffers = buffers })) (sym q)
-    (subst (λ x. IsKept (record w { queued = drop n w.queued; pending = x; buffers = buffers })) (sym p)
-    (subst (λ x. IsKept (record w { queued = drop n w.queued; pending = begun_pending w.pending w.buffers (take n w.queued); buffers = x })) (sym b) (kept_handed w k n)))
+kept_handed_is w k n queued pending buffers q p b = rw (q, p, b) (kept_handed w k n)
 
 pub handed_as : (w : World) (n : ℕ) (queued : List Request) (pending : List Pending) (buffers : List (Option (List ℕ)))
     → queued ≡ drop n w.queued → pending ≡ begun_pending w.pending w.buffers (take n w.queued) → buffers ≡ begun_buffers w.buffers (take n w.queued)
     → ◌≡◌ {A = World} (record w { queued = queued; pending = pending; buffers = buffers }) (hands_over w n)
-handed_as w n queued pending buffers q p b =
-    ap (λ x. changed x pending buffers) q ∙ ap (λ x. changed (drop n w.queued) x buffers) p ∙ ap (λ x. changed (drop n w.queued) (begun_pending w.pending w.buffers (take n w.queued)) x) b ∙ sym (handed_is w n)
-  where
-    changed : List Request → List Pending → List (Option (List ℕ)) → World
-    changed x y z = record w { queued = x; pending = y; buffers = z }
+handed_as w n queued pending buffers q p b = rw (q, p, b) (sym (handed_is w n))
 
 -- ---- a request completes
 

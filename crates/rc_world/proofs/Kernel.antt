@@ -1,6 +1,6 @@
 -- The step of the kernel that an item names.
 use Rattle.std.proofs.Common.{ℕ, ℤ, pos, negsuc, zero, suc, Bool, true, false, ◌&&◌, if◌then◌else◌, ◌≡◌, ◌≤◌, ◌<◌, List, [], ◌∷◌, ◌++◌, append_assoc, drop, get_or, take, replicate, length, nat_eq, nat_le, Option, Some, None, IsSome, option_map, slice_get, slice_set, refl, sym, ap, subst, ◌∙◌, arith}
-use Rattle.std.proofs.lemmas.Bool.{eqb-true, leb-true}
+use Rattle.std.proofs.lemmas.Bool.{eqb-true, leb-true, and_parts}
 use Rattle.std.proofs.lemmas.List.Quantifiers.{position-Some}
 use Rattle.std.proofs.lemmas.Option.{get_or_from_slice_get}
 use Rattle.rc_lang.specs.declared.request.Kind.{Kind}
@@ -19,10 +19,6 @@ use Rattle.rc_world.specs.Parts.{refilled}
 use Rattle.rc_world.specs.WorldParts.{given_in}
 use Rattle.rc_world.proofs.Keeping.{memory_given}
 use Rattle.rc_world.proofs.Memory.{read_has_buffer}
-
-pub both : (a b : Bool) → (a && b) ≡ true → (a ≡ true) × (b ≡ true)
-both true b e = (refl, e)
-both false b e = absurd (cc)
 
 if_some : {A : Type 0} (b : Bool) (x : Option A) → IsSome (if b then x else None) → (b ≡ true) × IsSome x
 if_some true x h = (refl, h)
@@ -64,7 +60,7 @@ module _ (w : World) (k : IsKept w) (u n : ℕ) (res : ℤ) (fill : ℕ) (p : Pe
   allowed : (may_complete p.request res ≡ true) × (nat_eq (length (item_bytes res fill (Some p))) (bytes_brought p.request) ≡ true) × IsSome (kernel_event w n res p.request (given_back w p.request (item_bytes res fill (Some p)) p.bytes))
   allowed =
       let h = if_some (may_complete p.request res && nat_eq (length (item_bytes res fill (Some p))) (bytes_brought p.request)) _ (subst IsSome step_is some) in
-      let b = both _ _ h.0 in
+      let b = and_parts _ _ h.0 in
       (b.0, b.1, h.1)
 
   pub may : may_complete p.request res ≡ true
@@ -132,9 +128,6 @@ module _ (w : World) (k : IsKept w) (u n : ℕ) (res : ℤ) (fill : ℕ) (p : Pe
       let passes : nat_eq p.request.user_data u ≡ true = subst (λ (x : Pending). nat_eq x.request.user_data u ≡ true) at found.1 in
       eqb-true p.request.user_data u passes
 
-  abbrev done : ℕ → List Pending → List Request → List Completion → List (Option (List ℕ)) → Option (Event × World)
-  done v ps cs qs bs = Some (ByKernel (record { user_data = v; res = res }), record w { pending = ps; completed = cs; completions = qs; buffers = bs })
-
   -- what the code has made of the lists
   pub completed_by : (pending : List Pending) (completed : List Request) (completions : List Completion) (buffers : List (Option (List ℕ)))
       → pending ≡ without n w.pending → completed ≡ w.completed ++ p.request ∷ [] → completions ≡ w.completions ++ record { user_data = u; res = res } ∷ []
@@ -142,12 +135,8 @@ module _ (w : World) (k : IsKept w) (u n : ℕ) (res : ℤ) (fill : ℕ) (p : Pe
       → kernel_item w res fill (pending_place w u) ≡ Some (ByKernel (record { user_data = u; res = res }), record w { pending = pending; completed = completed; completions = completions; buffers = buffers })
   completed_by pending completed completions buffers a c q b =
       let bs = given_in w.buffers p.request.buffer (option_map (refilled (count_in res) fill) p.bytes) in
-      completed_as
-      ∙ ap (λ v. done v (without n w.pending) (w.completed ++ p.request ∷ []) (w.completions ++ record { user_data = v; res = res } ∷ []) bs) same
-      ∙ ap (λ x. done u x (w.completed ++ p.request ∷ []) (w.completions ++ record { user_data = u; res = res } ∷ []) bs) (sym a)
-      ∙ ap (λ x. done u pending x (w.completions ++ record { user_data = u; res = res } ∷ []) bs) (sym c)
-      ∙ ap (λ x. done u pending completed x bs) (sym q)
-      ∙ ap (λ x. done u pending completed completions x) (sym b)
+      let done : ℕ → Option (Event × World) = λ v. Some (ByKernel (record { user_data = v; res = res }), record w { pending = without n w.pending; completed = w.completed ++ p.request ∷ []; completions = w.completions ++ record { user_data = v; res = res } ∷ []; buffers = bs }) in
+      rw (a, c, q, b) (completed_as ∙ ap done same)
 
   pub kept_completed : clashes w.pending ≡ false → (pending : List Pending) (completed : List Request) (completions : List Completion) (buffers : List (Option (List ℕ)))
       → pending ≡ without n w.pending → buffers ≡ given_in w.buffers p.request.buffer (option_map (refilled (count_in res) fill) p.bytes)
@@ -159,5 +148,5 @@ module _ (w : World) (k : IsKept w) (u n : ℕ) (res : ℤ) (fill : ℕ) (p : Pe
         room = k.room;
         slot = k.slot;
         queued = k.queued;
-        memory = subst (λ x. IsMemory w.program x buffers) (sym a) (subst (λ x. IsMemory w.program (without n w.pending) x) (sym b) m);
+        memory = rw (a, b) m;
       }

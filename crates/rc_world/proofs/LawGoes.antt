@@ -1,6 +1,6 @@
 -- In a world of a run without a fault each thread with something left has a step, and each pending request can complete.
 use Rattle.std.proofs.Common.{◌≡◌, ℕ, ◌+◌, ◌<◌, ◌≤◌, Bool, true, false, ◌&&◌, not, if◌then◌else◌, List, [], ◌∷◌, ◌++◌, length, nat_eq, nat_le, nat_lt, Option, Some, None, refl, sym, ap, ◌∙◌, subst, slice_get, slice_index, slice_index_or, slice_set, replicate, inl, inr, ℤ, pos, arith, eq-eqb, leb-false, lt-ltb}
-use Rattle.std.proofs.lemmas.Bool.{le-leb}
+use Rattle.std.proofs.lemmas.Bool.{le-leb, and_parts, and_from, or_cases, or_left, or_right, not-false}
 use Rattle.rc_lang.specs.declared.lines.Line.{Line}
 use Rattle.rc_lang.specs.declared.lines.Op.{Op}
 use Rattle.rc_lang.specs.declared.lines.Op.TheVariants.{Set, Assign, Add, Subtract, Load, Store, Fill, Print, GetSqe, PrepRead, PrepWrite, PrepFsync, PrepNop, SetData64, Submit, SubmitAndWait, CqeSeen}
@@ -29,8 +29,8 @@ use Rattle.rc_world.specs.Kept.{IsKept, IsMemory}
 use Rattle.rc_world.specs.Machine.{Pending, World, byte_of, bytes_brought, completes, completion_of, count_in, fills, fits_buffer, front_of, given_back, hands_over, in_rings, is_read, is_take, kernel_event, kernel_step_of, new_request, opens_entry, prepared_nop, prepares, queues, reaps_front, slot_len, start_world, stmt_answer, stores, thread_step, with_bytes, with_controls}
 use Rattle.rc_world.proofs.Laid.{resolved_in}
 use Rattle.rc_world.proofs.LawFaultless.{none_at, none_in_kernel, none_of_kind}
-use Rattle.rc_world.proofs.LawLists.{and_both, and_left, and_right, get_at, get_past}
-use Rattle.rc_world.proofs.Lists.{either, get_none, get_of, or_left, or_right}
+use Rattle.rc_world.proofs.LawLists.{get_at, get_past}
+use Rattle.rc_world.proofs.Lists.{get_none, get_of}
 use Rattle.rc_world.proofs.Memory.{read_has_buffer}
 use Rattle.rc_world.proofs.LawRuns.{IsSound, run_sound, sound_at_start}
 use Rattle.rc_world.proofs.LawSteps.{StandsAt, next_of_standing, step_is}
@@ -41,10 +41,6 @@ and_false : (a b : Bool) → (a && b) ≡ false → a ≡ true → b ≡ false
 and_false true b e h = e
 and_false false b e h = absurd (cc)
 
-not_false : (b : Bool) → not b ≡ false → b ≡ true
-not_false true e = refl
-not_false false e = absurd (cc)
-
 not_both : (a b : Bool) → (a ≡ true → b ≡ true) → b ≡ false → a ≡ false
 not_both true b h e = let d = h refl in absurd (cc)
 not_both false b h e = refl
@@ -53,8 +49,8 @@ not_both false b h e = refl
 
 filling_is_named : (b : ℕ) (ps : List Pending) → is_filling ps b ≡ true → is_named ps b ≡ true
 filling_is_named b [] e = absurd (cc)
-filling_is_named b (p ∷ ps) e = elim (either (reads_into b p.request) (is_filling ps b) e) [
-  | inl h ↦ or_left (names b p.request) (is_named ps b) (and_both (has_buffer p.request.kind) (nat_eq p.request.buffer b) (read_has_buffer p.request.kind (and_left (is_read p.request.kind) _ h)) (and_right (is_read p.request.kind) (nat_eq p.request.buffer b) h))
+filling_is_named b (p ∷ ps) e = elim (or_cases (reads_into b p.request) (is_filling ps b) e) [
+  | inl h ↦ or_left (names b p.request) (is_named ps b) (and_from (has_buffer p.request.kind) (nat_eq p.request.buffer b) (read_has_buffer p.request.kind (and_parts (is_read p.request.kind) _ h).0) (and_parts (is_read p.request.kind) (nat_eq p.request.buffer b) h).1)
   | inr h ↦ or_right (names b p.request) (is_named ps b) (filling_is_named b ps h)
 ]
 
@@ -114,7 +110,7 @@ HasNoFault w i s = (kind : FaultKind) → has_fault w kind i s ≡ false
 module _ (w : World) (i : ℕ) (t : Standing) (r : ℤ) where
   -- a thread at a call on the ring holds the lock
   holds : (s : Stmt) → is_ring_call s ≡ true → HasNoFault w i s → is_holder w.controls.holder i ≡ true
-  holds s c f = not_false (is_holder w.controls.holder i) (and_false (is_ring_call s) (not (is_holder w.controls.holder i)) (f NoLock) c)
+  holds s c f = not-false (is_holder w.controls.holder i) (and_false (is_ring_call s) (not (is_holder w.controls.holder i)) (f NoLock) c)
 
   -- a prep of an entry that the holder has opened
   can_prepare : (op : Op) (q : Request) (m : Move) → is_ring_call (Do op) ≡ true → HasNoFault w i (Do op) → (is_holder w.controls.holder i && not (is_vacant w.slot)) ≡ false → fits_buffer w.program q ≡ true
@@ -169,8 +165,8 @@ module _ (w : World) (i : ℕ) (t : Standing) (r : ℤ) where
         let h = holds (Do GetSqe) refl f in
         let v = opens w w.slot (and_false (is_holder w.controls.holder i) _ (f RawEntry) h) (and_false (is_holder w.controls.holder i) _ (f RingFull) h) in
         record { rings = v.0; move = _; in_the_rings = v.1; acted = refl }
-    can_do n (PrepRead fd b len off) a f u = can_prepare (PrepRead fd b len off) (new_request Read (pos fd) b len off) _ refl f (f RawEntry) (not_false (nat_le len (bytes_at w.program.buffers b)) (f OutOfBuffer)) refl refl
-    can_do n (PrepWrite fd b len off k) a f u = can_prepare (PrepWrite fd b len off k) (new_request Write (pos fd) b len off) _ refl f (f RawEntry) (not_false (nat_le len (bytes_at w.program.buffers b)) (f OutOfBuffer)) refl refl
+    can_do n (PrepRead fd b len off) a f u = can_prepare (PrepRead fd b len off) (new_request Read (pos fd) b len off) _ refl f (f RawEntry) (not-false (nat_le len (bytes_at w.program.buffers b)) (f OutOfBuffer)) refl refl
+    can_do n (PrepWrite fd b len off k) a f u = can_prepare (PrepWrite fd b len off k) (new_request Write (pos fd) b len off) _ refl f (f RawEntry) (not-false (nat_le len (bytes_at w.program.buffers b)) (f OutOfBuffer)) refl refl
     can_do n (PrepFsync fd datasync) a f u = can_prepare (PrepFsync fd datasync) (new_request Fsync (pos fd) 0 0 0) _ refl f (f RawEntry) (le-leb 0 (bytes_at w.program.buffers 0) (omega arith)) refl refl
     can_do n PrepNop a f u = can_prepare PrepNop prepared_nop _ refl f (f RawEntry) (le-leb 0 (bytes_at w.program.buffers 0) (omega arith)) refl refl
     can_do n (SetData64 d) a f u =
@@ -273,7 +269,7 @@ module _ (w : World) (safe : clashes w.pending ≡ false) where
   pub completes_freely : IsMemory w.program w.pending w.buffers → CompletesFreely w
   completes_freely m k p res bytes e may n =
       let g = given m k p e bytes p.bytes refl in
-      let allowed = and_both (may_complete p.request res) (nat_eq (length bytes) (bytes_brought p.request)) may (eq-eqb (length bytes) (bytes_brought p.request) n) in (
+      let allowed = and_from (may_complete p.request res) (nat_eq (length bytes) (bytes_brought p.request)) may (eq-eqb (length bytes) (bytes_brought p.request) n) in (
         (ByKernel (completion_of p.request res), completes w k res p.request g.0),
         ap (kernel_step_of w k res bytes) e
             ∙ ap (λ b. if b then kernel_event w k res p.request (given_back w p.request bytes p.bytes) else None) allowed

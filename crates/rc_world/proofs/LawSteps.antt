@@ -1,6 +1,6 @@
 -- What a step is made of.
 use Rattle.std.proofs.Common.{◌≡◌, ℕ, Bool, true, false, if◌then◌else◌, List, length, nat_eq, ◌&&◌, Option, Some, None, refl, sym, ap, ◌∙◌, slice_get, ℤ}
-use Rattle.std.proofs.lemmas.Bool.{eqb-true}
+use Rattle.std.proofs.lemmas.Bool.{eqb-true, and_parts}
 use Rattle.std.proofs.lemmas.Option.{some_pair_parts}
 use Rattle.rc_lang.specs.declared.lines.Line.{Line}
 use Rattle.rc_lang.specs.Program.{line_at}
@@ -8,7 +8,6 @@ use Rattle.rc_lang.specs.Requests.{may_complete}
 use Rattle.rc_world.specs.declared.event.Event.{Event}
 use Rattle.rc_world.specs.Controls.{Move, Standing, acts, as_event, made, moved, next_at, next_line}
 use Rattle.rc_world.specs.Machine.{Pending, World, bytes_brought, completes, given_back, in_rings, kernel_event, kernel_step_of, stmt_answer, thread_step, thread_step_at, with_controls}
-use Rattle.rc_world.proofs.LawLists.{and_right}
 use Rattle.rc_world.proofs.StepParts.{step_at}
 
 -- The thread stands at this line.
@@ -81,4 +80,4 @@ module _ (w : World) (k : ℕ) (res : ℤ) (bytes : List ℕ) (e : Event) (after
   completed None g q = absurd (cc)
   completed (Some p) g q =
       let h = if_some (may_complete p.request res && nat_eq (length bytes) (bytes_brought p.request)) (kernel_event w k res p.request (given_back w p.request bytes p.bytes)) (e, after) q in
-      with_buffers p g (eqb-true (length bytes) (bytes_brought p.request) (and_right (may_complete p.request res) (nat_eq (length bytes) (bytes_brought p.request)) h.0)) (given_back w p.request bytes p.bytes) refl h.1
+      with_buffers p g (eqb-true (length bytes) (bytes_brought p.request) (and_parts (may_complete p.request res) (nat_eq (length bytes) (bytes_brought p.request)) h.0).1) (given_back w p.request bytes p.bytes) refl h.1

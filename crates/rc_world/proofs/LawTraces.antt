@@ -1,6 +1,6 @@
 -- An item that is enabled names a step, and the events of a trace are a run.
 use Rattle.std.proofs.Common.{◌≡◌, sym, ℕ, ◌+◌, ◌≤◌, Bool, true, false, if◌then◌else◌, List, [], ◌∷◌, drop, length, length-append, length-drop, replicate, take, Option, Some, None, refl, ap, ◌∙◌, slice_get, inl, inr, ℤ, arith}
-use Rattle.std.proofs.lemmas.Bool.{le-leb, leb-true}
+use Rattle.std.proofs.lemmas.Bool.{le-leb, leb-true, and_parts}
 use Rattle.std.proofs.lemmas.List.{length-replicate, length-take}
 use Rattle.std.proofs.lemmas.Option.{slice_get_past}
 use Rattle.rc_lang.specs.declared.lines.Line.{Line}
@@ -25,7 +25,6 @@ use Rattle.rc_world.specs.Runs.{IsRun, IsStep}
 use Rattle.rc_world.specs.Trace.{at_item, trace_from}
 use Rattle.rc_world.proofs.LawFaultless.{none_in_kernel, none_of_kind}
 use Rattle.rc_world.proofs.LawGoes.{completes_freely, line_goes}
-use Rattle.rc_world.proofs.LawLists.{and_left, and_right}
 use Rattle.rc_lang.proofs.Rests.{may_rest}
 use Rattle.rc_world.proofs.Kernel.{count_within}
 use Rattle.rc_world.proofs.LawRuns.{IsSound, run_sound, sound_at_start}
@@ -35,7 +34,7 @@ use Rattle.rc_world.proofs.LawRuns.{IsSound, run_sound, sound_at_start}
 -- an answer that an enabled item gives is one that the submit may give
 take_allowed : (w : World) (take : Option ℤ) (n : Next) → is_ready w take n ≡ true → is_take w (take_of w take) ≡ true
 take_allowed w None (Ready l) e = le-leb (length w.queued) (length w.queued) (omega arith)
-take_allowed w (Some r) (Ready l) e = and_right (is_submit l.stmt) (is_take w r) e
+take_allowed w (Some r) (Ready l) e = (and_parts (is_submit l.stmt) (is_take w r) e).1
 take_allowed w take TakenLock e = absurd (cc)
 take_allowed w take Ended e = absurd (cc)
 
@@ -114,7 +113,7 @@ module _ (w : World) (safe : fault_of w ≡ None) (kept : IsKept w) (res : ℤ) 
   kernel_at : (k : ℕ) (p : Option Pending) → slice_get w.pending k ≡ p → kernel_may res fill p ≡ true → (s : Event × World) × (kernel_step w k res (item_bytes res fill p) ≡ Some s)
   kernel_at k None e h = absurd (cc)
   kernel_at k (Some p) e h =
-      let may = and_left (may_complete p.request res) _ h in
+      let may = (and_parts (may_complete p.request res) _ h).0 in
       completes_freely w no_clash kept.memory k p res (item_bytes res fill (Some p)) e may (item_length k p e may)
 
   pub kernel_steps : (place : Option ℕ) → kernel_may res fill (pending_at w place) ≡ true → (s : Event × World) × (kernel_item w res fill place ≡ Some s)

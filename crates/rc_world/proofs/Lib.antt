@@ -10,6 +10,7 @@ pub mod Settling
 pub mod Threads
 pub mod Jumps
 pub mod StepParts
+pub mod Cases
 pub mod RingCases
 pub mod RingSteps
 pub mod WorldSteps
@@ -26,4 +27,3 @@ pub mod LawRuns
 pub mod LawSteps
 pub mod LawTraces
 pub mod Harmless
-mod MadeProgram

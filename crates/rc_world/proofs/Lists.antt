@@ -1,5 +1,6 @@
 -- Lists with an element more, less, or changed.
 use Rattle.std.proofs.Common.{◌≡◌, ◌≢◌, ℕ, zero, suc, ◌+◌, ◌<◌, ◌⊎◌, inl, inr, Bool, true, false, ◌||◌, cond, not, List, [], ◌∷◌, ◌++◌, drop, length, map, take, Option, Some, None, replicate, refl, ap, ◌∙◌, slice_get, slice_set, slice_index_or, arith}
+use Rattle.std.proofs.lemmas.Bool.{or_cases, or_left, or_parts, or_right}
 use Rattle.std.specs.List.{list_any, position, prefix_len}
 use Rattle.std.proofs.lemmas.List.{length-map}
 use Rattle.std.proofs.lemmas.Option.{same_Some}
@@ -60,22 +61,6 @@ pub or_false : (b : Bool) → (b || false) ≡ b
 or_false true = refl
 or_false false = refl
 
-pub or_right : (a b : Bool) → b ≡ true → (a || b) ≡ true
-or_right true b e = refl
-or_right false b e = e
-
-pub or_left : (a b : Bool) → a ≡ true → (a || b) ≡ true
-or_left true b e = refl
-or_left false b e = absurd (cc)
-
-pub either : (a b : Bool) → (a || b) ≡ true → (a ≡ true) ⊎ (b ≡ true)
-either true b e = inl refl
-either false b e = inr e
-
-pub neither : (a b : Bool) → (a || b) ≡ false → (a ≡ false) × (b ≡ false)
-neither true b e = absurd (cc)
-neither false b e = (refl, e)
-
 pub any_map : {A B : Type 0} (f : A → B) (test : B → Bool) (xs : List A) → list_any test (map f xs) ≡ list_any (λ x. test (f x)) xs
 any_map f test [] = refl
 any_map f test (x ∷ xs) = ap (λ b. test (f x) || b) (any_map f test xs)
@@ -97,7 +82,7 @@ any_at test (y ∷ xs) (suc k) x e t = or_right (test y) _ (any_at test xs k x e
 -- where one is found
 pub found : {A : Type 0} (test : A → Bool) (xs : List A) → list_any test xs ≡ true → (k : ℕ) × (x : A) × (slice_get xs k ≡ Some x) × (test x ≡ true)
 found test [] e = absurd (cc)
-found test (y ∷ xs) e = elim (either (test y) (list_any test xs) e) [
+found test (y ∷ xs) e = elim (or_cases (test y) (list_any test xs) e) [
   | inl h ↦ (0, y, refl, h)
   | inr h ↦ let r = found test xs h in (suc r.0, r.1, r.2, r.3)
 ]
@@ -106,11 +91,11 @@ found test (y ∷ xs) e = elim (either (test y) (list_any test xs) e) [
 pub any_without : {A : Type 0} (test : A → Bool) (k : ℕ) (xs : List A) (x : A) → slice_get xs k ≡ Some x → test x ≡ false → list_any test xs ≡ true → list_any test (without k xs) ≡ true
 any_without test zero [] x e t h = absurd (cc)
 any_without test (suc k) [] x e t h = absurd (cc)
-any_without test zero (y ∷ xs) x e t h = elim (either (test y) (list_any test xs) h) [
+any_without test zero (y ∷ xs) x e t h = elim (or_cases (test y) (list_any test xs) h) [
   | inl q ↦ let d : test y ≡ false = ap test (same_Some _ _ e) ∙ t in absurd (cc)
   | inr q ↦ q
 ]
-any_without test (suc k) (y ∷ xs) x e t h = elim (either (test y) (list_any test xs) h) [
+any_without test (suc k) (y ∷ xs) x e t h = elim (or_cases (test y) (list_any test xs) h) [
   | inl q ↦ or_left (test y) _ q
   | inr q ↦ or_right (test y) _ (any_without test k xs x e t q)
 ]
@@ -119,8 +104,8 @@ any_without test (suc k) (y ∷ xs) x e t h = elim (either (test y) (list_any te
 pub none_without : {A : Type 0} (test : A → Bool) (k : ℕ) (xs : List A) → list_any test xs ≡ false → list_any test (without k xs) ≡ false
 none_without test zero [] h = refl
 none_without test (suc k) [] h = refl
-none_without test zero (y ∷ xs) h = (neither (test y) (list_any test xs) h).1
-none_without test (suc k) (y ∷ xs) h = let n = neither (test y) (list_any test xs) h in ap (λ b. b || list_any test (without k xs)) n.0 ∙ none_without test k xs n.1
+none_without test zero (y ∷ xs) h = (or_parts (test y) (list_any test xs) h).1
+none_without test (suc k) (y ∷ xs) h = let n = or_parts (test y) (list_any test xs) h in ap (λ b. b || list_any test (without k xs)) n.0 ∙ none_without test k xs n.1
 
 pub map_without : {A B : Type 0} (f : A → B) (k : ℕ) (xs : List A) → map f (without k xs) ≡ without k (map f xs)
 map_without f zero [] = refl

@@ -1,5 +1,6 @@
 -- The pending requests and the buffers keep to one another.
 use Rattle.std.proofs.Common.{◌≡◌, ℕ, zero, suc, ◌+◌, ◌-◌, ◌<◌, ◌≤◌, inl, inr, Bool, true, false, ◌&&◌, ◌||◌, if◌then◌else◌, List, [], ◌∷◌, ◌++◌, drop, length, length-append, Option, Some, None, refl, sym, ap, ◌∙◌, subst, slice_get, slice_set, slice_index_or, nat_eq, nat_le, arith, eq-eqb}
+use Rattle.std.proofs.lemmas.Bool.{or_parts, or_left, or_right, and_parts}
 use Rattle.std.proofs.lemmas.List.{length-set}
 use Rattle.std.proofs.lemmas.Bool.Decides.{nat_tests}
 use Rattle.rc_lang.specs.declared.request.Kind.{Kind}
@@ -9,7 +10,7 @@ use Rattle.rc_lang.specs.Program.{Program, bytes_at}
 use Rattle.rc_world.specs.Faults.{clash, clashes, clashes_with, has_buffer, is_filling, reads_into}
 use Rattle.rc_world.specs.Kept.{IsFitting, IsKeptPending, IsMemory}
 use Rattle.rc_world.specs.Machine.{Pending, bytes_brought, is_read, taken_bytes, without, without_taken}
-use Rattle.rc_world.proofs.Lists.{any_at, any_push, any_without, found, get_none, get_of, get_push, get_set, get_without, neither, none_without, or_left, or_right}
+use Rattle.rc_world.proofs.Lists.{any_at, any_push, any_without, found, get_none, get_of, get_push, get_set, get_without, none_without}
 
 -- ---- clashes
 
@@ -49,9 +50,9 @@ clashes_push (p ∷ ps) q =
 pub calm_without : (k : ℕ) (ps : List Pending) → clashes ps ≡ false → clashes (without k ps) ≡ false
 calm_without zero [] h = refl
 calm_without (suc k) [] h = refl
-calm_without zero (p ∷ ps) h = (neither (clashes_with p.request ps) (clashes ps) h).1
+calm_without zero (p ∷ ps) h = (or_parts (clashes_with p.request ps) (clashes ps) h).1
 calm_without (suc k) (p ∷ ps) h =
-    let n = neither (clashes_with p.request ps) (clashes ps) h in
+    let n = or_parts (clashes_with p.request ps) (clashes ps) h in
     ap (λ b. b || clashes (without k ps)) (none_without (λ (x : Pending). clash p.request x.request) k ps n.0) ∙ calm_without k ps n.1
 
 -- A read of a buffer that another one fills clashes with it.
@@ -61,13 +62,9 @@ read_has_buffer Fsync e = absurd (cc)
 read_has_buffer Read e = refl
 read_has_buffer Write e = absurd (cc)
 
-parts : (a b : Bool) → (a && b) ≡ true → (a ≡ true) × (b ≡ true)
-parts true b e = (refl, e)
-parts false b e = absurd (cc)
-
 clash_of_reads : (r s : Request) → is_read r.kind ≡ true → reads_into r.buffer s ≡ true → clash r s ≡ true
 clash_of_reads r s e f =
-    let p = parts (is_read s.kind) (nat_eq s.buffer r.buffer) f in
+    let p = and_parts (is_read s.kind) (nat_eq s.buffer r.buffer) f in
     let a = read_has_buffer r.kind e in
     let b = read_has_buffer s.kind p.0 in
     ap (λ x. (x && (has_buffer s.kind && nat_eq s.buffer r.buffer)) && (is_read r.kind || is_read s.kind)) a

@@ -1,26 +1,20 @@
 -- Schedules that are read piece by piece.
 use Rattle.std.proofs.Common.{◌≡◌, ℕ, suc, ◌+◌, ◌<◌, List, [], ◌∷◌, ◌++◌, map, length, drop, get_or, Bool, true, false, cond, not, refl, sym, ap, ◌∙◌, arith, ltb, eqb, append_assoc, append-nil, length-append, inl, inr}
+use Rattle.rc_world.proofs.Lists.{position_map}
 use Rattle.std.specs.Prelude.{Option, Some, None, Result, Ok, Err, is_none, position, filter_map}
-use Rattle.std.specs.List.{prefix_len, position_or_len, slice_split, cons_option}
+use Rattle.std.specs.List.{position_or_len, slice_split, cons_option}
 use Rattle.std.proofs.lemmas.Bool.{cases_lt, lt-ltb, le-ltb}
 use Rattle.std.specs.Str.{bytes_eq}
-use Rattle.std.proofs.lemmas.List.{length-map, at_drop_more, at_drop_all}
+use Rattle.std.proofs.lemmas.List.{at_drop_more, at_drop_all}
 use Rattle.rc_lang.specs.declared.program.Thread.{Thread as ThreadPart}
 use Rattle.rc_lang.specs.Parts.{view_thread}
 use Rattle.rc_lang.specs.Program.{Program, Thread}
 use Rattle.rc_world.specs.declared.event.Item.{Item}
 use Rattle.rc_world.specs.Schedule.{items_or, pieces_of, item_of, items_of}
 
-prefix_len-map : {X Y : Type 0} (f : X → Y) (p : Y → Bool) (xs : List X) → prefix_len p (map f xs) ≡ prefix_len (λ x. p (f x)) xs
-prefix_len-map f p [] = refl
-prefix_len-map f p (x ∷ xs) = ap (λ (k : ℕ). cond (p (f x)) (1 + k) 0) (prefix_len-map f p xs)
-
-position-map : {X Y : Type 0} (f : X → Y) (p : Y → Bool) (xs : List X) → position p (map f xs) ≡ position (λ x. p (f x)) xs
-position-map f p xs = rw (prefix_len-map f (λ y. not (p y)) xs, length-map xs f) refl
-
 -- the place of a name among the threads' parts is its place among the threads
 pub place_of_thread : (parts : List ThreadPart) (threads : List Thread) (name : List ℕ) → map view_thread parts ≡ threads → position (λ (t : ThreadPart). bytes_eq t.name.items name) parts ≡ position (λ (t : Thread). bytes_eq t.name name) threads
-place_of_thread parts threads name e = sym (position-map view_thread (λ (t : Thread). bytes_eq t.name name) parts) ∙ ap (position (λ (t : Thread). bytes_eq t.name name)) e
+place_of_thread parts threads name e = sym (position_map view_thread (λ (t : Thread). bytes_eq t.name name) parts) ∙ ap (position (λ (t : Thread). bytes_eq t.name name)) e
 
 -- ---- the items so far, and what becomes of the pieces that are left
 

@@ -1,6 +1,6 @@
 -- Controls whose threads have changed.
 use Rattle.std.proofs.Common.{ℕ, ℤ, Bool, false, ◌≡◌, ◌+◌, ◌<◌, List, length, map, set, get_or, Option, Some, if◌then◌else◌, slice_index_or, slice_set, sym, ap, ◌∙◌, subst}
-use Rattle.std.proofs.lemmas.List.{get_or-map, get_or-set_same, length-map, length-set, map-set, set-set}
+use Rattle.std.proofs.lemmas.List.{get_or-map, get_or-set_same, length-map, map-set, set-set}
 use Rattle.rc_lang.specs.Program.{Program}
 use Rattle.rc_world.specs.declared.controls.Control.{Control}
 use Rattle.rc_world.specs.declared.event.Action.{Action}
@@ -29,12 +29,6 @@ after_set c i x v = record { place = (standing_at c i).place; variables = slice_
 
 pub set_standing : (c : Controls) (i x : ℕ) (v : ℤ) → i < length c.threads → standing_at (with_variable c i x v) i ≡ after_set c i x v
 set_standing c i x v lt = get_or-set_same c.threads i (after_set c i x v) nowhere lt
-
-pub set_exists : (c d : Controls) (i x : ℕ) (v : ℤ) → d ≡ with_variable c i x v → i < length c.threads → i < length d.threads
-set_exists c d i x v e lt = subst (λ n. i < n) (sym (ap (λ (k : Controls). length k.threads) e ∙ length-set c.threads i (after_set c i x v))) lt
-
-pub set_place : (c d : Controls) (i j x : ℕ) (v : ℤ) → d ≡ with_variable c i x v → i < length c.threads → (standing_at c i).place ≡ j → (standing_at d i).place ≡ j
-set_place c d i j x v e lt q = ap (λ (k : Controls). (standing_at k i).place) e ∙ ap (λ (t : Standing). t.place) (set_standing c i x v lt) ∙ q
 
 -- The thread goes to place j, once a variable is set, with another holder or front.
 pub set_then_gone : (P : Program) (c : Controls) (i j x : ℕ) (v : ℤ) (holder : Option ℕ) (peeked : Bool) (action : Action) → i < length c.threads
@@ -78,15 +72,5 @@ set_and_gone P c d new i j k x v holder peeked action lt e g q =
     ap (λ (n : Controls). Some (action, n))
     (sym (set_then_gone P c i j x v holder peeked action lt)
     ∙ ap (λ n. gone_to P (record { threads = (with_variable c i x v).threads; holder = holder; peeked = peeked }) i n) (sym q)
-    ∙ ap (λ (n : Controls). gone_to P n i k) (sym e)
-    ∙ sym g)
-
--- The same without a variable.
-pub just_gone : (P : Program) (c d new : Controls) (i j k : ℕ) (holder : Option ℕ) (peeked : Bool) (action : Action)
-    → d ≡ record { threads = c.threads; holder = holder; peeked = peeked } → new ≡ gone_to P d i k → k ≡ j
-    → made P c i (Some (record { action = action; holder = holder; peeked = peeked; place = j; variables = (standing_at c i).variables })) ≡ Some (action, new)
-just_gone P c d new i j k holder peeked action e g q =
-    ap (λ (n : Controls). Some (action, n))
-    (ap (λ n. gone_to P (record { threads = c.threads; holder = holder; peeked = peeked }) i n) (sym q)
     ∙ ap (λ (n : Controls). gone_to P n i k) (sym e)
     ∙ sym g)

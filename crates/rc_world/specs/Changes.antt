@@ -41,32 +41,27 @@ pub record StandsAt (program : Program) (c : Controls) (i j : ℕ) (s : Stmt) : 
 abbrev pub hop_at : Program → ℕ → ℕ → Option (ℕ × Bool)
 hop_at program i j = option_map (λ k. (k, is_arm_end (stmt_at (lines_of program i) j))) (hop_of program i j (stmt_at (lines_of program i) j))
 
--- The variables of a statement are some of 64.
-abbrev pub OpIsSmall : Op → Type 0
-OpIsSmall (Set x n) = x < 64
-OpIsSmall (Assign x y) = (x < 64) × (y < 64)
-OpIsSmall (Add x y z) = (x < 64) × IsOperand 64 y × IsOperand 64 z
-OpIsSmall (Subtract x y z) = (x < 64) × IsOperand 64 y × IsOperand 64 z
-OpIsSmall (Load x b i) = x < 64
-OpIsSmall (Store b i x) = x < 64
-OpIsSmall (Fill b x) = x < 64
-OpIsSmall (Print x) = x < 64
-OpIsSmall (Submit x) = x < 64
-OpIsSmall (SubmitAndWait x n) = x < 64
-OpIsSmall _ = Unit {0}
-
 abbrev pub TestIsSmall : Test → Type 0
 TestIsSmall (Compare x comparison n) = x < 64
 TestIsSmall ReadyZero = Unit {0}
 TestIsSmall (SpaceAtLeast n) = Unit {0}
 
--- The numbers of what a statement does to rings and buffers are small enough.
+-- The numbers of a statement are small enough: its variables are some of 64, and a prep names a file and a buffer that
+-- may be there.
 abbrev pub CallIsSmall : Program → Op → Type 0
+CallIsSmall program (Set x n) = x < 64
+CallIsSmall program (Assign x y) = (x < 64) × (y < 64)
+CallIsSmall program (Add x y z) = (x < 64) × IsOperand 64 y × IsOperand 64 z
+CallIsSmall program (Subtract x y z) = (x < 64) × IsOperand 64 y × IsOperand 64 z
+CallIsSmall program (Load x b i) = x < 64
 CallIsSmall program (Store b i x) = x < 64
 CallIsSmall program (Fill b x) = x < 64
+CallIsSmall program (Print x) = x < 64
 CallIsSmall program (PrepRead fd b len off) = (fd ≤ 1023) × (b < 64) × (b < length program.buffers)
 CallIsSmall program (PrepWrite fd b len off k) = (fd ≤ 1023) × (b < 64) × (b < length program.buffers)
 CallIsSmall program (PrepFsync fd datasync) = fd ≤ 1023
+CallIsSmall program (Submit x) = x < 64
+CallIsSmall program (SubmitAndWait x n) = x < 64
 CallIsSmall program _ = Unit {0}
 
 abbrev pub StmtIsSmall : Program → Stmt → Type 0

@@ -4,7 +4,7 @@ use Rattle.std.specs.Global.{Vec}
 use Rattle.rc_lang.specs.declared.request.Request.{Request}
 use Rattle.rc_world.specs.declared.world.Pending.{Pending as PendingPart}
 use Rattle.rc_world.specs.declared.world.World.TheInside.{Inside}
-use Rattle.rc_world.specs.declared.world.faults.Access.{Access as AccessPart}
+use Rattle.rc_world.specs.declared.world.faults.statements.Access.{Access as AccessPart}
 use Rattle.rc_world.specs.Faults.{Access}
 use Rattle.rc_world.specs.Machine.{Pending, World, taken_bytes, without_taken}
 

@@ -3,15 +3,18 @@
 ghost use Rattle.std.specs.Prelude.{◌≡◌, ◌<◌, ◌≤◌, length, map, option_map, pos, replicate, ◌+ℤ◌, ◌-ℤ◌, slice_get, IfOk, IfSome, IsSome, IsOkAnd};
 ghost use Rattle.rc_lang.specs.declared.lines.Stmt.TheVariants.{Peek};
 ghost use Rattle.rc_lang.specs.Program.{IsProgram, IsOperand, end_at, lines_of, stmt_at};
-ghost use Rattle.rc_world.specs.Changes.{OpIsSmall, StandsAt, TestIsSmall, gone_to, hop_at, standing_at, with_variable};
+ghost use Rattle.rc_world.specs.Changes.{CallIsSmall, StandsAt, TestIsSmall, gone_to, hop_at, standing_at, with_variable};
 ghost use Rattle.rc_world.specs.Controls as spec;
-ghost use Rattle.rc_world.specs.Items.{ready_or_taken};
 
+use self::places::ready_or_taken;
 use crate::event::{Action, Completion, Event};
 use rc_lang::lines::{Line, Op, Operand, Stmt, Test};
 use rc_lang::program::{Program, Thread};
 use std::alloc::{AllocError, Global};
 use std::marker::Model;
+
+mod places;
+mod steps;
 
 /// Where a thread stands.
 #[derive(Clone, Copy)]
@@ -71,9 +74,6 @@ impl Model for Controls {
 
     ghost invariant = { λ c. length c.threads.items ≤ 16 };
 }
-
-/// The value of a variable after a peek without a completion: `-EAGAIN` (`io_uring_peek_cqe(3)`).
-const NO_COMPLETION: i64 = -11;
 
 impl Controls {
     ghost use Rattle.rc_world.specs.Items.{next_of};
@@ -164,25 +164,6 @@ impl Controls {
         self.threads[thread as usize].variables[x]
     }
 
-    /// What `advance` does.
-    pub(crate) fn step(&mut self, program: &Program, thread: u32, answer: Answer) -> Event
-        requires { IsSome (spec.controls_step program.now self.old thread answer) }
-        ensures { spec.controls_step program.now self.old thread answer ≡ Some (result, self.new) }
-    {
-        let Some(place) = self.place(thread) else {
-            unreachable!()
-        };
-        let Some(line) = program.line_at(thread as usize, place) else {
-            unreachable!()
-        };
-        let action = self.act(program, thread, place, line.stmt, answer);
-        Event::ByThread {
-            thread,
-            line: number_of_event(program, thread, line),
-            action,
-        }
-    }
-
     // The place of the thread's next line.
     fn place(&self, thread: u32) -> Option<usize>
         ensures { result ≡ option_map (λ t. t.place) (slice_get self.now.threads thread) }
@@ -218,14 +199,7 @@ impl Controls {
                 let holds = self.decide(program, thread, test, answer);
                 self.branch(program, thread, place, holds)
             }
-            Stmt::Else(_) => unreachable!(),
-            Stmt::EndIf(_) => unreachable!(),
             Stmt::Peek(x) => self.peek(program, thread, place, x, answer),
-            Stmt::Case(_, _) => unreachable!(),
-            Stmt::Other(_) => unreachable!(),
-            Stmt::Nothing(_) => unreachable!(),
-            Stmt::EndArm(_) => unreachable!(),
-            Stmt::EndPeek(_) => unreachable!(),
             Stmt::Loop(_) => self.pass(program, thread, place, Action::Looped),
             Stmt::EndLoop(top, _) => {
                 self.go(program, thread, top + 1);
@@ -234,6 +208,8 @@ impl Controls {
             Stmt::Break(top, releases, leaves) => self.leave(
                 program, thread, top, releases, leaves,
             ),
+            Stmt::Else(_) | Stmt::EndIf(_) | Stmt::Case(_, _) | Stmt::Other(_) => unreachable!(),
+            Stmt::Nothing(_) | Stmt::EndArm(_) | Stmt::EndPeek(_) => unreachable!(),
         }
     }
 
@@ -249,7 +225,7 @@ impl Controls {
         requires exists { thread < length self.old.threads }
         requires here { (standing_at self.old thread).place ≡ place }
         requires within { place ≤ 4096 }
-        requires small { OpIsSmall op }
+        requires small { CallIsSmall program.now op }
         requires step { IsSome (spec.does self.old (standing_at self.old thread) op answer) }
         ensures { spec.made program.now self.old thread (spec.does self.old (standing_at self.old thread) op answer) ≡ Some (result, self.new) }
     {
@@ -314,86 +290,6 @@ impl Controls {
         }
     }
 
-    // The thread goes behind its line with this value of a variable.
-    fn assign(
-        &mut self,
-        program: &Program,
-        thread: u32,
-        place: usize,
-        x: usize,
-        value: i64,
-    ) -> Action
-        requires exists { thread < length self.old.threads }
-        requires here { (standing_at self.old thread).place ≡ place }
-        requires within { place ≤ 4096 }
-        requires variable { x < 64 }
-        ensures { spec.made program.now self.old thread (Some (spec.sets_variable self.old (standing_at self.old thread) x value (Action.VariableSet value))) ≡ Some (result, self.new) }
-    {
-        self.set(thread, x, value);
-        self.pass(program, thread, place, Action::VariableSet(value))
-    }
-
-    // The step of a load.
-    fn load(
-        &mut self,
-        program: &Program,
-        thread: u32,
-        place: usize,
-        x: usize,
-        answer: Answer,
-    ) -> Action
-        requires exists { thread < length self.old.threads }
-        requires here { (standing_at self.old thread).place ≡ place }
-        requires within { place ≤ 4096 }
-        requires variable { x < 64 }
-        requires step { IsSome (spec.loads self.old (standing_at self.old thread) x answer) }
-        ensures { spec.made program.now self.old thread (spec.loads self.old (standing_at self.old thread) x answer) ≡ Some (result, self.new) }
-    {
-        let Answer::Byte(byte) = answer else {
-            unreachable!()
-        };
-        self.set(thread, x, i64::from(byte));
-        self.pass(program, thread, place, Action::Loaded(byte))
-    }
-
-    // The step of a submit.
-    fn submit(
-        &mut self,
-        program: &Program,
-        thread: u32,
-        place: usize,
-        x: usize,
-        answer: Answer,
-    ) -> Action
-        requires exists { thread < length self.old.threads }
-        requires here { (standing_at self.old thread).place ≡ place }
-        requires within { place ≤ 4096 }
-        requires variable { x < 64 }
-        requires step { IsSome (spec.submits self.old (standing_at self.old thread) x answer) }
-        ensures { spec.made program.now self.old thread (spec.submits self.old (standing_at self.old thread) x answer) ≡ Some (result, self.new) }
-    {
-        let Answer::Number(taken) = answer else {
-            unreachable!()
-        };
-        self.set(thread, x, i64::from(taken));
-        self.pass(program, thread, place, Action::Submitted(taken))
-    }
-
-    // The step of `cqe_seen`.
-    fn reap(&mut self, program: &Program, thread: u32, place: usize, answer: Answer) -> Action
-        requires exists { thread < length self.old.threads }
-        requires here { (standing_at self.old thread).place ≡ place }
-        requires within { place ≤ 4096 }
-        requires step { IsSome (spec.reaps self.old (standing_at self.old thread) answer) }
-        ensures { spec.made program.now self.old thread (spec.reaps self.old (standing_at self.old thread) answer) ≡ Some (result, self.new) }
-    {
-        let Answer::Front(completion) = answer else {
-            unreachable!()
-        };
-        self.peeked = false;
-        self.pass(program, thread, place, Action::Reaped(completion.user_data))
-    }
-
     // What an if decides.
     fn decide(&self, program: &Program, thread: u32, test: Test, answer: Answer) -> bool
         requires exists { thread < length self.now.threads }
@@ -413,111 +309,6 @@ impl Controls {
             },
         }
     }
-
-    // The step of an if that is decided.
-    fn branch(&mut self, program: &Program, thread: u32, place: usize, holds: bool) -> Action
-        requires exists { thread < length self.old.threads }
-        requires here { (standing_at self.old thread).place ≡ place }
-        requires within { place ≤ 4096 }
-        requires end { end_at program.now thread place ≤ 4096 }
-        ensures { spec.made program.now self.old thread (Some (spec.branches program.now self.old thread (standing_at self.old thread) holds)) ≡ Some (result, self.new) }
-    {
-        let last = if holds {
-            place
-        } else {
-            program.end_at(thread as usize, place)
-        };
-        self.go(program, thread, last + 1);
-        Action::Branched(holds)
-    }
-
-    // The step of a peek: to the arm for the front's user data, or to that for no completion.
-    fn peek(
-        &mut self,
-        program: &Program,
-        thread: u32,
-        place: usize,
-        x: usize,
-        answer: Answer,
-    ) -> Action
-        requires here { StandsAt program.now self.old thread place (Peek x) }
-        requires step { IsSome (spec.peeks program.now self.old thread (standing_at self.old thread) x answer) }
-        ensures { spec.made program.now self.old thread (spec.peeks program.now self.old thread (standing_at self.old thread) x answer) ≡ Some (result, self.new) }
-    {
-        match answer {
-            Answer::Plain => {
-                let arm = none_arm(program, thread, place);
-                self.set(thread, x, NO_COMPLETION);
-                self.go(program, thread, arm + 1);
-                Action::PeekedNone
-            }
-            Answer::Number(_) => unreachable!(),
-            Answer::Byte(_) => unreachable!(),
-            Answer::Front(completion) => {
-                let arm = arm_for(program, thread, place, completion.user_data);
-                self.set(thread, x, i64::from(completion.res));
-                self.peeked = true;
-                self.go(program, thread, arm + 1);
-                Action::Peeked(completion)
-            }
-        }
-    }
-
-    // The step of a break out of the loop at this place.
-    fn leave(
-        &mut self,
-        program: &Program,
-        thread: u32,
-        top: usize,
-        releases: bool,
-        leaves: bool,
-    ) -> Action
-        requires exists { thread < length self.old.threads }
-        requires end { end_at program.now thread top ≤ 4096 }
-        ensures { spec.made program.now self.old thread (Some (spec.breaks program.now self.old thread (standing_at self.old thread) top releases leaves)) ≡ Some (result, self.new) }
-    {
-        if releases {
-            self.holder = None;
-        }
-        if leaves {
-            self.peeked = false;
-        }
-        let end = program.end_at(thread as usize, top);
-        self.go(program, thread, end + 1);
-        Action::LoopLeft
-    }
-
-    // The thread goes to the next line.
-    fn pass(&mut self, program: &Program, thread: u32, place: usize, action: Action) -> Action
-        requires exists { thread < length self.old.threads }
-        requires here { (standing_at self.old thread).place ≡ place }
-        requires within { place ≤ 4096 }
-        ensures { spec.made program.now self.old thread (Some (spec.goes_on self.old (standing_at self.old thread) action)) ≡ Some (result, self.new) }
-    {
-        self.go(program, thread, place + 1);
-        action
-    }
-
-    // A variable gets another value.
-    fn set(&mut self, thread: u32, x: usize, value: i64)
-        requires exists { thread < length self.old.threads }
-        requires variable { x < 64 }
-        ensures { self.new ≡ with_variable self.old thread x value }
-    {
-        self.threads[thread as usize].variables[x] = value;
-    }
-
-    // The thread goes to this place, or to where that leads.
-    fn go(&mut self, program: &Program, thread: u32, start: usize)
-        requires exists { thread < length self.old.threads }
-        ensures { self.new ≡ gone_to program.now self.old thread start }
-    {
-        let (place, ends_arm) = rest(program, thread, start);
-        self.threads[thread as usize].place = place;
-        if ends_arm {
-            self.peeked = false;
-        }
-    }
 }
 
 // As many threads that begin as these.
@@ -530,45 +321,6 @@ fn first_places(alloc: Global, threads: &[Thread]) -> Result<Vec<Control>, Alloc
         variables: [0; 64],
     };
     Ok(vec![in alloc; begun; threads.len()]?)
-}
-
-// What a thread has next that stands at this line.
-fn ready_or_taken(holder: Option<u32>, line: Line) -> Next
-    ensures { result ≡ ready_or_taken holder line line.stmt }
-{
-    match line.stmt {
-        Stmt::Do(_) => Next::Ready(line),
-        Stmt::Lock => match holder {
-            None => Next::Ready(line),
-            Some(_) => Next::TakenLock,
-        },
-        Stmt::EndLock(_) => Next::Ready(line),
-        Stmt::If(_) => Next::Ready(line),
-        Stmt::Else(_) => Next::Ended,
-        Stmt::EndIf(_) => Next::Ended,
-        Stmt::Peek(_) => Next::Ready(line),
-        Stmt::Case(_, _) => Next::Ended,
-        Stmt::Other(_) => Next::Ended,
-        Stmt::Nothing(_) => Next::Ended,
-        Stmt::EndArm(_) => Next::Ended,
-        Stmt::EndPeek(_) => Next::Ended,
-        Stmt::Loop(_) => Next::Ready(line),
-        Stmt::EndLoop(_, _) => Next::Ready(line),
-        Stmt::Break(_, _, _) => Next::Ready(line),
-    }
-}
-
-// The number of the line of an event: at a return to the top of a loop it is the loop's.
-fn number_of_event(program: &Program, thread: u32, line: Line) -> u32
-    ensures { result ≡ spec.number_of_event program.now thread line line.stmt }
-{
-    match line.stmt {
-        Stmt::EndLoop(top, _) => match program.line_at(thread as usize, top) {
-            Some(line) => line.number,
-            None => 0,
-        },
-        _ => line.number,
-    }
 }
 
 // The sum, wrapped to 64 bits.
@@ -617,103 +369,5 @@ fn hop(program: &Program, thread: u32, place: usize) -> Option<(usize, bool)>
         Stmt::EndIf(_) => Some((place + 1, false)),
         Stmt::EndArm(peek) => Some((program.end_at(thread as usize, peek) + 1, true)),
         _ => None,
-    }
-}
-
-// The lines between the peek at this place and its closing brace, from the peek's own on.
-fn arms_of(program: &Program, thread: u32, peek: usize) -> &[Line]
-    requires start { peek ≤ end_at program.now thread peek }
-    requires end { end_at program.now thread peek ≤ length (lines_of program.now thread) }
-    ensures { result.now ≡ spec.arms_of program.now thread peek }
-{
-    let end = program.end_at(thread as usize, peek);
-    let lines = lines(program, thread);
-    &lines[peek..end]
-}
-
-// The lines of a thread.
-fn lines(program: &Program, thread: u32) -> &[Line]
-    ensures { result.now ≡ lines_of program.now thread }
-{
-    match program.threads().get(thread as usize) {
-        Some(thread) => &thread.lines,
-        None => &[],
-    }
-}
-
-// The place of the peek's arm for this user data, else of that for any other.
-fn arm_for(program: &Program, thread: u32, peek: usize, user_data: u64) -> usize
-    requires start { peek ≤ end_at program.now thread peek }
-    requires end { end_at program.now thread peek ≤ length (lines_of program.now thread) }
-    requires within { peek ≤ 4096 }
-    ensures value { result ≡ spec.arm_for program.now thread peek user_data }
-    ensures below { result ≤ end_at program.now thread peek }
-{
-    let arms = arms_of(program, thread, peek);
-    let arm = match case_place(arms, peek, user_data) {
-        Some(place) => place,
-        None => other_place(arms, peek).unwrap_or(0),
-    };
-    peek + arm
-}
-
-// The place of the peek's arm for no completion.
-fn none_arm(program: &Program, thread: u32, peek: usize) -> usize
-    requires start { peek ≤ end_at program.now thread peek }
-    requires end { end_at program.now thread peek ≤ length (lines_of program.now thread) }
-    requires within { peek ≤ 4096 }
-    ensures value { result ≡ spec.none_arm program.now thread peek }
-    ensures below { result ≤ end_at program.now thread peek }
-{
-    let arms = arms_of(program, thread, peek);
-    peek + none_place(arms, peek).unwrap_or(0)
-}
-
-fn case_place(arms: &[Line], peek: usize, user_data: u64) -> Option<usize>
-    ensures value { result ≡ spec.first_place (spec.is_case peek user_data) arms.now }
-    ensures within { IfSome result (λ k. k < length arms.now) }
-{
-    arms.iter()
-        .position(|line| is_case(line.stmt, peek, user_data))
-}
-
-fn other_place(arms: &[Line], peek: usize) -> Option<usize>
-    ensures value { result ≡ spec.first_place (spec.is_other peek) arms.now }
-    ensures within { IfSome result (λ k. k < length arms.now) }
-{
-    arms.iter().position(|line| is_other(line.stmt, peek))
-}
-
-fn none_place(arms: &[Line], peek: usize) -> Option<usize>
-    ensures value { result ≡ spec.first_place (spec.is_none_arm peek) arms.now }
-    ensures within { IfSome result (λ k. k < length arms.now) }
-{
-    arms.iter().position(|line| is_none_arm(line.stmt, peek))
-}
-
-fn is_case(stmt: Stmt, peek: usize, user_data: u64) -> bool
-    ensures { result ≡ spec.is_case peek user_data stmt }
-{
-    match stmt {
-        Stmt::Case(place, data) => place == peek && data == user_data,
-        _ => false,
-    }
-}
-
-fn is_other(stmt: Stmt, peek: usize) -> bool
-    ensures { result ≡ spec.is_other peek stmt }
-{
-    match stmt {
-        Stmt::Other(place) => place == peek,
-        _ => false,
-    }
-}
-
-fn is_none_arm(stmt: Stmt, peek: usize) -> bool
-    ensures { result ≡ spec.is_none_arm peek stmt }
-{
-    match stmt {
-        Stmt::Nothing(place) => place == peek,
-        _ => false,
     }
 }

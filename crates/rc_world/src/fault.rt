@@ -3,44 +3,34 @@
 ghost use Rattle.std.specs.Prelude.{◌≡◌};
 ghost use Rattle.rc_world.specs.FaultNames.{number_of_fault, name_of_fault};
 
+use std::fmt::{self, Display, Formatter, Write};
 use thiserror::Error;
 
 /// What is wrong in a world, before the harmful step.
-#[derive(Clone, Copy, PartialEq, Eq, Debug, Error)]
+#[derive(Clone, Copy, PartialEq, Eq, Debug)]
 pub enum FaultKind {
     /// F1: a store or a fill is next of a buffer that a pending request names.
-    #[error("F1 WriteOfPending")]
     WriteOfPending,
     /// F2: a load is next of a buffer that a pending read fills.
-    #[error("F2 ReadOfFilling")]
     ReadOfFilling,
     /// F3: two pending requests name one buffer and one of them is a read.
-    #[error("F3 KernelClash")]
     KernelClash,
     /// F4: two threads have the same buffer next, and one of them writes it.
-    #[error("F4 ThreadRace")]
     ThreadRace,
     /// F5: `get_sqe` is next and the submission ring is full.
-    #[error("F5 RingFull")]
     RingFull,
     /// F6: a request is pending and the completion ring is full.
-    #[error("F6 Overflow")]
     Overflow,
     /// F7: `set_data64` is next with user data that a request in flight has.
-    #[error("F7 AmbiguousData")]
     AmbiguousData,
     /// F8: `cqe_seen` is next and no completion of exactly one request was peeked.
-    #[error("F8 UnknownReap")]
     UnknownReap,
     /// F9: a call on the ring is next, of a thread without the lock.
-    #[error("F9 NoLock")]
     NoLock,
     /// F10: a call, the end of the lock or a break that releases it is next, which the stage of the submission entry
     /// doesn't allow.
-    #[error("F10 RawEntry")]
     RawEntry,
     /// F11: a load or a store behind the end of its buffer is next, or a prep of more bytes than the buffer has.
-    #[error("F11 OutOfBuffer")]
     OutOfBuffer,
 }
 
@@ -96,6 +86,12 @@ impl FaultKind {
             FaultKind::RawEntry => "RawEntry",
             FaultKind::OutOfBuffer => "OutOfBuffer",
         }
+    }
+}
+
+impl Display for FaultKind {
+    fn fmt<W: Write>(&self, f: &mut Formatter<W>) -> fmt::Result {
+        write!(f, "F{} {}", self.number(), self.name())
     }
 }
 

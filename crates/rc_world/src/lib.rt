@@ -3,8 +3,6 @@
 
 pub mod controls;
 pub mod event;
-#[cfg(test)]
-mod examples;
 pub mod fault;
 pub mod laws;
 pub mod schedule;

@@ -12,18 +12,20 @@ ghost use Rattle.rc_world.specs.Machine as machine;
 ghost use Rattle.rc_world.specs.WorldParts.{begun_buffers, begun_pending, view_pending};
 
 use self::bytes::Bytes;
+use self::requests::{kernel_may, place_of_pending};
 use crate::controls::{Answer, Controls, Next, low_byte};
 use crate::event::{Completion, Event, Item};
 use crate::fault::Fault;
-use rc_lang::lines::{Line, Op, Stmt, Test};
+use rc_lang::lines::{Op, Stmt, Test};
 use rc_lang::program::{Buffer, Program};
-use rc_lang::request::{Kind, Request};
+use rc_lang::request::Request;
 use std::alloc::{AllocError, Global};
 use std::marker::Model;
 use thiserror::Error;
 
 mod bytes;
 mod faults;
+mod requests;
 mod rings;
 
 /// The open submission entry.
@@ -143,10 +145,7 @@ impl<'a> World<'a> {
         ensures { result ≡ items.is_enabled self.now item.now }
     {
         match *item {
-            Item::Thread { thread, take } => match self.controls.line(self.program, thread) {
-                Some(line) => self.is_ready(take, line),
-                None => false,
-            },
+            Item::Thread { thread, take } => self.is_ready(take, self.next(thread)),
             Item::Kernel {
                 user_data,
                 res,
@@ -180,26 +179,14 @@ impl<'a> World<'a> {
         Ok(event)
     }
 
-    // Whether a thread that stands at this line may go on, where this is the answer of its item.
-    fn is_ready(&self, take: Option<i32>, line: Line) -> bool
-        ensures { result ≡ items.is_ready self.now take (items.ready_or_taken self.now.controls.holder line line.stmt) }
+    // Whether a thread that has this next may go on, where this is the answer of its item.
+    fn is_ready(&self, take: Option<i32>, next: Next) -> bool
+        ensures { result ≡ items.is_ready self.now take next }
     {
-        match line.stmt {
-            Stmt::Do(_) => self.takes(take, line.stmt),
-            Stmt::Lock => take.is_none() && self.controls.holder().is_none(),
-            Stmt::EndLock(_) => take.is_none(),
-            Stmt::If(_) => take.is_none(),
-            Stmt::Else(_) => false,
-            Stmt::EndIf(_) => false,
-            Stmt::Peek(_) => take.is_none(),
-            Stmt::Case(_, _) => false,
-            Stmt::Other(_) => false,
-            Stmt::Nothing(_) => false,
-            Stmt::EndArm(_) => false,
-            Stmt::EndPeek(_) => false,
-            Stmt::Loop(_) => take.is_none(),
-            Stmt::EndLoop(_, _) => take.is_none(),
-            Stmt::Break(_, _, _) => take.is_none(),
+        match next {
+            Next::Ready(line) => self.takes(take, line.stmt),
+            Next::TakenLock => false,
+            Next::Ended => false,
         }
     }
 
@@ -334,74 +321,3 @@ fn is_submit(stmt: Stmt) -> bool
         _ => false,
     }
 }
-
-fn is_read(kind: Kind) -> bool
-    ensures { result ≡ machine.is_read kind }
-{
-    match kind {
-        Kind::Nop => false,
-        Kind::Fsync => false,
-        Kind::Read => true,
-        Kind::Write => false,
-    }
-}
-
-// How many bytes a request moves at most.
-fn most_moved(request: Request) -> u32
-    ensures { result ≡ requests.most_moved request.len request.kind }
-{
-    match request.kind {
-        Kind::Nop => 0,
-        Kind::Fsync => 0,
-        Kind::Read => request.len,
-        Kind::Write => request.len,
-    }
-}
-
-// Whether the request may complete with this result.
-fn may_complete(request: Request, res: i32) -> bool
-    ensures { result ≡ requests.may_complete request res }
-{
-    match u32::try_from(res) {
-        Ok(count) => count <= most_moved(request),
-        Err(_) => res >= -4095,
-    }
-}
-
-// Whether an item may complete the request by this result and fill byte.
-fn kernel_may(request: Request, res: i32, fill: u8) -> bool
-    ensures { result ≡ (requests.may_complete request res && (nat_eq fill 0 || machine.is_read request.kind)) }
-{
-    may_complete(request, res) && (fill == 0 || is_read(request.kind))
-}
-
-// The place of the pending request with this user data.
-fn place_of_pending(pending: &[Pending], user_data: u64) -> Option<usize>
-    ensures value { result ≡ position (λ p. nat_eq p.request.user_data user_data) pending.now }
-    ensures within { IfSome result (λ k. k < length pending.now) }
-{
-    pending
-        .iter()
-        .position(|pending| pending.request.user_data == user_data)
-}
-
-// The place of the first request with this user data.
-fn place_of(requests: &[Request], user_data: u64) -> Option<usize>
-    ensures { result ≡ position (λ r. nat_eq r.user_data user_data) requests.now }
-{
-    requests
-        .iter()
-        .position(|request| request.user_data == user_data)
-}
-
-// The requests without the first that has this user data.
-fn remove_first(requests: &mut Vec<Request>, user_data: u64)
-    ensures { requests.new.items ≡ machine.without_data user_data requests.old.items }
-{
-    if let Some(place) = place_of(requests, user_data) {
-        requests.remove(place);
-    }
-}
-
-#[cfg(test)]
-mod tests;

@@ -7,19 +7,17 @@ ghost use Rattle.rc_world.specs.Faults as spec;
 ghost use Rattle.rc_world.specs.Harm as harm;
 ghost use Rattle.rc_world.specs.WorldParts.{view_access, view_pending};
 
-use super::{Pending, Slot, World, is_read};
+use self::statements::{
+    Access, access_of, conflicts, is_out_at, is_prepared, is_raw_at, is_ring_call,
+};
+use super::requests::is_read;
+use super::{Pending, World};
 use crate::event::Completion;
 use crate::fault::{Fault, FaultKind, Party};
-use rc_lang::lines::{Op, Stmt, Test};
-use rc_lang::program::Program;
+use rc_lang::lines::{Op, Stmt};
 use rc_lang::request::{Kind, Request};
 
-/// What a statement does with a buffer.
-#[derive(Clone, Copy)]
-pub(crate) struct Access {
-    buffer: usize,
-    writes: bool,
-}
+mod statements;
 
 impl<'a> World<'a> {
     /// The world's fault: of several the one with the least number, and there the first thread's.
@@ -280,38 +278,6 @@ impl<'a> World<'a> {
     }
 }
 
-// What a statement does with a buffer, if it touches one.
-fn access_of(stmt: Stmt) -> Option<Access>
-    ensures { option_map view_access result ≡ spec.access_of stmt }
-{
-    match stmt {
-        Stmt::Do(Op::Load(_, buffer, _)) => Some(Access {
-            buffer,
-            writes: false,
-        }),
-        Stmt::Do(Op::Store(buffer, _, _)) => Some(Access {
-            buffer,
-            writes: true,
-        }),
-        Stmt::Do(Op::Fill(buffer, _)) => Some(Access {
-            buffer,
-            writes: true,
-        }),
-        _ => None,
-    }
-}
-
-fn conflicts(access: Option<Access>, other: Option<Access>) -> bool
-    ensures { result ≡ spec.conflicts (option_map view_access access) (option_map view_access other) }
-{
-    match (access, other) {
-        (Some(access), Some(other)) => {
-            access.buffer == other.buffer && (access.writes || other.writes)
-        }
-        _ => false,
-    }
-}
-
 // Whether a request of this kind names a buffer.
 pub(super) fn has_buffer(kind: Kind) -> bool
     ensures { result ≡ spec.has_buffer kind }
@@ -388,122 +354,4 @@ fn count_of(requests: &[Request], user_data: u64) -> usize
         .iter()
         .filter(|request| request.user_data == user_data)
         .count()
-}
-
-fn is_closed(slot: Slot) -> bool
-    ensures { result ≡ spec.is_closed slot }
-{
-    match slot {
-        Slot::Closed => true,
-        Slot::Vacant => false,
-        Slot::Prepared(_) => false,
-    }
-}
-
-fn is_vacant(slot: Slot) -> bool
-    ensures { result ≡ spec.is_vacant slot }
-{
-    match slot {
-        Slot::Closed => false,
-        Slot::Vacant => true,
-        Slot::Prepared(_) => false,
-    }
-}
-
-fn is_prepared(slot: Slot) -> bool
-    ensures { result ≡ spec.is_prepared slot }
-{
-    match slot {
-        Slot::Closed => false,
-        Slot::Vacant => false,
-        Slot::Prepared(_) => true,
-    }
-}
-
-// Whether a statement is a call on the ring.
-fn is_ring_call(stmt: Stmt) -> bool
-    ensures { result ≡ spec.is_ring_call stmt }
-{
-    match stmt {
-        Stmt::Do(op) => is_ring_op(op),
-        Stmt::If(test) => is_ring_test(test),
-        Stmt::Peek(_) => true,
-        _ => false,
-    }
-}
-
-fn is_ring_op(op: Op) -> bool
-    ensures { result ≡ spec.is_ring_op op }
-{
-    match op {
-        Op::Set(_, _) => false,
-        Op::Assign(_, _) => false,
-        Op::Add(_, _, _) => false,
-        Op::Subtract(_, _, _) => false,
-        Op::Load(_, _, _) => false,
-        Op::Store(_, _, _) => false,
-        Op::Fill(_, _) => false,
-        Op::Print(_) => false,
-        _ => true,
-    }
-}
-
-fn is_ring_test(test: Test) -> bool
-    ensures { result ≡ spec.is_ring_test test }
-{
-    match test {
-        Test::Compare(_, _, _) => false,
-        Test::ReadyZero => true,
-        Test::SpaceAtLeast(_) => true,
-    }
-}
-
-// Whether a statement wants the open entry in another stage.
-fn is_raw_at(slot: Slot, stmt: Stmt) -> bool
-    ensures { result ≡ spec.is_raw_at slot stmt }
-{
-    match stmt {
-        Stmt::Do(op) => op_is_raw(slot, op),
-        Stmt::EndLock(_) => !is_closed(slot),
-        Stmt::Break(_, releases, _) => releases && !is_closed(slot),
-        _ => false,
-    }
-}
-
-fn op_is_raw(slot: Slot, op: Op) -> bool
-    ensures { result ≡ spec.op_is_raw slot op }
-{
-    match op {
-        Op::GetSqe => !is_closed(slot),
-        Op::PrepRead(_, _, _, _) => !is_vacant(slot),
-        Op::PrepWrite(_, _, _, _, _) => !is_vacant(slot),
-        Op::PrepFsync(_, _) => !is_vacant(slot),
-        Op::PrepNop => !is_vacant(slot),
-        Op::SetData64(_) => !is_prepared(slot),
-        Op::Submit(_) => !is_closed(slot),
-        Op::SubmitAndWait(_, _) => !is_closed(slot),
-        _ => false,
-    }
-}
-
-// Whether a statement reaches behind the end of its buffer.
-fn is_out_at(program: &Program, stmt: Stmt) -> bool
-    ensures { result ≡ spec.is_out_at program.now stmt }
-{
-    match stmt {
-        Stmt::Do(op) => op_is_out(program, op),
-        _ => false,
-    }
-}
-
-fn op_is_out(program: &Program, op: Op) -> bool
-    ensures { result ≡ spec.op_is_out program.now op }
-{
-    match op {
-        Op::Load(_, buffer, i) => program.bytes_at(buffer) <= i,
-        Op::Store(buffer, i, _) => program.bytes_at(buffer) <= i,
-        Op::PrepRead(_, buffer, len, _) => !(len <= program.bytes_at(buffer)),
-        Op::PrepWrite(_, buffer, len, _, _) => !(len <= program.bytes_at(buffer)),
-        _ => false,
-    }
 }

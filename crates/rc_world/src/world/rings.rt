@@ -12,7 +12,8 @@ ghost use Rattle.rc_world.specs.WorldParts.{begun_buffers, begun_pending, given_
 
 use super::bytes::Bytes;
 use super::faults::{has_buffer, names};
-use super::{Pending, Slot, World, is_read, place_of_pending, remove_first};
+use super::requests::{is_read, place_of_pending, remove_first};
+use super::{Pending, Slot, World};
 use crate::controls::low_byte;
 use crate::event::{Completion, Event};
 use rc_lang::lines::{Op, Stmt};

@@ -2,7 +2,7 @@ use Rattle.std.proofs.Common.{rules, refl, ◌<◌, ◌≤◌, ◌≡◌, ◌+�
 use Rattle.rc_world.specs.Faults.{races}
 use Rattle.rc_world.specs.Machine.{World}
 use Rattle.rc_world.specs.WorldParts.{view_access}
-use Rattle.rc_world.specs.declared.world.faults.Access.{Access}
+use Rattle.rc_world.specs.declared.world.faults.statements.Access.{Access}
 use Rattle.rc_world.proofs.Heads.{no_races, races_end, races_found, races_more}
 use Rattle.rc_world.proofs.world.World.races.Goals as goal
 

@@ -1,10 +1,42 @@
 //! A thread that is stepped to its end, and a nop that completes behind it.
 
-use super::*;
-use crate::event::Action;
-use crate::examples::program;
+use rc_lang::program::Program;
+use rc_read::{ReadFault, read_program};
+use rc_world::event::{Action, Completion, Event, Item};
+use rc_world::world::{Stop, World};
+use std::alloc::Global;
 use std::process::Abort;
 use std::test::Fail;
+
+/// A sum that wraps, a byte that is stored and loaded, and a nop that is queued and submitted; two threads do nothing.
+const STEPS: &str = "ringcheck 1
+ring 1
+buffer a 4 1
+token 7 nop
+thread t0 holds {
+x = 9223372036854775807
+x = x + 1
+print x
+x = 321
+store a 3 x
+x = load a 3
+lock {
+get_sqe
+prep_nop
+set_data64 7
+x = submit
+}
+}
+thread k holds {
+}
+thread t1 holds {
+}
+";
+
+/// Its program.
+pub fn program(alloc: Global) -> Result<Program, ReadFault> {
+    read_program(alloc, STEPS.as_bytes())
+}
 
 const THREAD: Item = Item::Thread {
     thread: 0,

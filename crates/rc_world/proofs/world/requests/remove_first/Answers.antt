@@ -2,7 +2,7 @@ use Rattle.std.proofs.Common.{nat_eq, sym, ap, ◌∙◌}
 use Rattle.std.specs.List.{position}
 use Rattle.rc_lang.specs.declared.request.Request.{Request}
 use Rattle.rc_world.proofs.Requests.{without_data-some, without_data-none}
-use Rattle.rc_world.proofs.world.remove_first.Goals as goal
+use Rattle.rc_world.proofs.world.requests.remove_first.Goals as goal
 
 pub returns-in-Some : goal.returns-in-Some
 returns-in-Some c =

@@ -1,0 +1,239 @@
+//! What the steps of threads do to their controls.
+
+ghost use Rattle.std.specs.Prelude.{◌≡◌, ◌<◌, ◌≤◌, length, Some, IsSome};
+ghost use Rattle.rc_lang.specs.declared.lines.Stmt.TheVariants.{Peek};
+ghost use Rattle.rc_lang.specs.Program.{end_at};
+ghost use Rattle.rc_world.specs.Changes.{StandsAt, gone_to, standing_at, with_variable};
+ghost use Rattle.rc_world.specs.Controls as spec;
+
+use super::places::{arm_for, none_arm, number_of_event};
+use super::{Answer, Controls, rest};
+use crate::event::{Action, Event};
+use rc_lang::program::Program;
+
+/// The value of a variable after a peek without a completion: `-EAGAIN` (`io_uring_peek_cqe(3)`).
+const NO_COMPLETION: i64 = -11;
+
+impl Controls {
+    /// What `advance` does.
+    pub(crate) fn step(&mut self, program: &Program, thread: u32, answer: Answer) -> Event
+        requires { IsSome (spec.controls_step program.now self.old thread answer) }
+        ensures { spec.controls_step program.now self.old thread answer ≡ Some (result, self.new) }
+    {
+        let Some(place) = self.place(thread) else {
+            unreachable!()
+        };
+        let Some(line) = program.line_at(thread as usize, place) else {
+            unreachable!()
+        };
+        let action = self.act(program, thread, place, line.stmt, answer);
+        Event::ByThread {
+            thread,
+            line: number_of_event(program, thread, line),
+            action,
+        }
+    }
+
+    // The thread goes behind its line with this value of a variable.
+    pub(super) fn assign(
+        &mut self,
+        program: &Program,
+        thread: u32,
+        place: usize,
+        x: usize,
+        value: i64,
+    ) -> Action
+        requires exists { thread < length self.old.threads }
+        requires here { (standing_at self.old thread).place ≡ place }
+        requires within { place ≤ 4096 }
+        requires variable { x < 64 }
+        ensures { spec.made program.now self.old thread (Some (spec.sets_variable self.old (standing_at self.old thread) x value (Action.VariableSet value))) ≡ Some (result, self.new) }
+    {
+        self.set(thread, x, value);
+        self.pass(program, thread, place, Action::VariableSet(value))
+    }
+
+    // The step of a load.
+    pub(super) fn load(
+        &mut self,
+        program: &Program,
+        thread: u32,
+        place: usize,
+        x: usize,
+        answer: Answer,
+    ) -> Action
+        requires exists { thread < length self.old.threads }
+        requires here { (standing_at self.old thread).place ≡ place }
+        requires within { place ≤ 4096 }
+        requires variable { x < 64 }
+        requires step { IsSome (spec.loads self.old (standing_at self.old thread) x answer) }
+        ensures { spec.made program.now self.old thread (spec.loads self.old (standing_at self.old thread) x answer) ≡ Some (result, self.new) }
+    {
+        let Answer::Byte(byte) = answer else {
+            unreachable!()
+        };
+        self.set(thread, x, i64::from(byte));
+        self.pass(program, thread, place, Action::Loaded(byte))
+    }
+
+    // The step of a submit.
+    pub(super) fn submit(
+        &mut self,
+        program: &Program,
+        thread: u32,
+        place: usize,
+        x: usize,
+        answer: Answer,
+    ) -> Action
+        requires exists { thread < length self.old.threads }
+        requires here { (standing_at self.old thread).place ≡ place }
+        requires within { place ≤ 4096 }
+        requires variable { x < 64 }
+        requires step { IsSome (spec.submits self.old (standing_at self.old thread) x answer) }
+        ensures { spec.made program.now self.old thread (spec.submits self.old (standing_at self.old thread) x answer) ≡ Some (result, self.new) }
+    {
+        let Answer::Number(taken) = answer else {
+            unreachable!()
+        };
+        self.set(thread, x, i64::from(taken));
+        self.pass(program, thread, place, Action::Submitted(taken))
+    }
+
+    // The step of `cqe_seen`.
+    pub(super) fn reap(
+        &mut self,
+        program: &Program,
+        thread: u32,
+        place: usize,
+        answer: Answer,
+    ) -> Action
+        requires exists { thread < length self.old.threads }
+        requires here { (standing_at self.old thread).place ≡ place }
+        requires within { place ≤ 4096 }
+        requires step { IsSome (spec.reaps self.old (standing_at self.old thread) answer) }
+        ensures { spec.made program.now self.old thread (spec.reaps self.old (standing_at self.old thread) answer) ≡ Some (result, self.new) }
+    {
+        let Answer::Front(completion) = answer else {
+            unreachable!()
+        };
+        self.peeked = false;
+        self.pass(program, thread, place, Action::Reaped(completion.user_data))
+    }
+
+    // The step of an if that is decided.
+    pub(super) fn branch(
+        &mut self,
+        program: &Program,
+        thread: u32,
+        place: usize,
+        holds: bool,
+    ) -> Action
+        requires exists { thread < length self.old.threads }
+        requires here { (standing_at self.old thread).place ≡ place }
+        requires within { place ≤ 4096 }
+        requires end { end_at program.now thread place ≤ 4096 }
+        ensures { spec.made program.now self.old thread (Some (spec.branches program.now self.old thread (standing_at self.old thread) holds)) ≡ Some (result, self.new) }
+    {
+        let last = if holds {
+            place
+        } else {
+            program.end_at(thread as usize, place)
+        };
+        self.go(program, thread, last + 1);
+        Action::Branched(holds)
+    }
+
+    // The step of a peek: to the arm for the front's user data, or to that for no completion.
+    pub(super) fn peek(
+        &mut self,
+        program: &Program,
+        thread: u32,
+        place: usize,
+        x: usize,
+        answer: Answer,
+    ) -> Action
+        requires here { StandsAt program.now self.old thread place (Peek x) }
+        requires step { IsSome (spec.peeks program.now self.old thread (standing_at self.old thread) x answer) }
+        ensures { spec.made program.now self.old thread (spec.peeks program.now self.old thread (standing_at self.old thread) x answer) ≡ Some (result, self.new) }
+    {
+        match answer {
+            Answer::Plain => {
+                let arm = none_arm(program, thread, place);
+                self.set(thread, x, NO_COMPLETION);
+                self.go(program, thread, arm + 1);
+                Action::PeekedNone
+            }
+            Answer::Number(_) => unreachable!(),
+            Answer::Byte(_) => unreachable!(),
+            Answer::Front(completion) => {
+                let arm = arm_for(program, thread, place, completion.user_data);
+                self.set(thread, x, i64::from(completion.res));
+                self.peeked = true;
+                self.go(program, thread, arm + 1);
+                Action::Peeked(completion)
+            }
+        }
+    }
+
+    // The step of a break out of the loop at this place.
+    pub(super) fn leave(
+        &mut self,
+        program: &Program,
+        thread: u32,
+        top: usize,
+        releases: bool,
+        leaves: bool,
+    ) -> Action
+        requires exists { thread < length self.old.threads }
+        requires end { end_at program.now thread top ≤ 4096 }
+        ensures { spec.made program.now self.old thread (Some (spec.breaks program.now self.old thread (standing_at self.old thread) top releases leaves)) ≡ Some (result, self.new) }
+    {
+        if releases {
+            self.holder = None;
+        }
+        if leaves {
+            self.peeked = false;
+        }
+        let end = program.end_at(thread as usize, top);
+        self.go(program, thread, end + 1);
+        Action::LoopLeft
+    }
+
+    // The thread goes to the next line.
+    pub(super) fn pass(
+        &mut self,
+        program: &Program,
+        thread: u32,
+        place: usize,
+        action: Action,
+    ) -> Action
+        requires exists { thread < length self.old.threads }
+        requires here { (standing_at self.old thread).place ≡ place }
+        requires within { place ≤ 4096 }
+        ensures { spec.made program.now self.old thread (Some (spec.goes_on self.old (standing_at self.old thread) action)) ≡ Some (result, self.new) }
+    {
+        self.go(program, thread, place + 1);
+        action
+    }
+
+    // A variable gets another value.
+    pub(super) fn set(&mut self, thread: u32, x: usize, value: i64)
+        requires exists { thread < length self.old.threads }
+        requires variable { x < 64 }
+        ensures { self.new ≡ with_variable self.old thread x value }
+    {
+        self.threads[thread as usize].variables[x] = value;
+    }
+
+    // The thread goes to this place, or to where that leads.
+    pub(super) fn go(&mut self, program: &Program, thread: u32, start: usize)
+        requires exists { thread < length self.old.threads }
+        ensures { self.new ≡ gone_to program.now self.old thread start }
+    {
+        let (place, ends_arm) = rest(program, thread, start);
+        self.threads[thread as usize].place = place;
+        if ends_arm {
+            self.peeked = false;
+        }
+    }
+}

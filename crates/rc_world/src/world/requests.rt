@@ -1,0 +1,76 @@
+//! Requests: what they may complete with, and where they stand.
+
+ghost use Rattle.std.specs.Prelude.{◌≡◌, ◌<◌, ◌&&◌, ◌||◌, length, nat_eq, position, IfSome};
+ghost use Rattle.rc_lang.specs.Requests as requests;
+ghost use Rattle.rc_world.specs.Machine as machine;
+
+use super::Pending;
+use rc_lang::request::{Kind, Request};
+
+pub(super) fn is_read(kind: Kind) -> bool
+    ensures { result ≡ machine.is_read kind }
+{
+    match kind {
+        Kind::Nop => false,
+        Kind::Fsync => false,
+        Kind::Read => true,
+        Kind::Write => false,
+    }
+}
+
+// How many bytes a request moves at most.
+fn most_moved(request: Request) -> u32
+    ensures { result ≡ requests.most_moved request.len request.kind }
+{
+    match request.kind {
+        Kind::Nop => 0,
+        Kind::Fsync => 0,
+        Kind::Read => request.len,
+        Kind::Write => request.len,
+    }
+}
+
+// Whether the request may complete with this result.
+fn may_complete(request: Request, res: i32) -> bool
+    ensures { result ≡ requests.may_complete request res }
+{
+    match u32::try_from(res) {
+        Ok(count) => count <= most_moved(request),
+        Err(_) => res >= -4095,
+    }
+}
+
+// Whether an item may complete the request by this result and fill byte.
+pub(super) fn kernel_may(request: Request, res: i32, fill: u8) -> bool
+    ensures { result ≡ (requests.may_complete request res && (nat_eq fill 0 || machine.is_read request.kind)) }
+{
+    may_complete(request, res) && (fill == 0 || is_read(request.kind))
+}
+
+// The place of the pending request with this user data.
+pub(super) fn place_of_pending(pending: &[Pending], user_data: u64) -> Option<usize>
+    ensures value { result ≡ position (λ p. nat_eq p.request.user_data user_data) pending.now }
+    ensures within { IfSome result (λ k. k < length pending.now) }
+{
+    pending
+        .iter()
+        .position(|pending| pending.request.user_data == user_data)
+}
+
+// The place of the first request with this user data.
+fn place_of(requests: &[Request], user_data: u64) -> Option<usize>
+    ensures { result ≡ position (λ r. nat_eq r.user_data user_data) requests.now }
+{
+    requests
+        .iter()
+        .position(|request| request.user_data == user_data)
+}
+
+// The requests without the first that has this user data.
+pub(super) fn remove_first(requests: &mut Vec<Request>, user_data: u64)
+    ensures { requests.new.items ≡ machine.without_data user_data requests.old.items }
+{
+    if let Some(place) = place_of(requests, user_data) {
+        requests.remove(place);
+    }
+}
