@@ -1,6 +1,6 @@
 -- A world of which those facts are true has no fault.
 use Rattle.std.proofs.Common.{◌≡◌, ℕ, ◌+◌, ◌<◌, ◌≤◌, Bool, true, false, ◌&&◌, ◌||◌, List, [], ◌∷◌, ◌++◌, length, drop, Option, Some, None, refl, sym, ap, ◌∙◌, subst, inl, inr, arith}
-use Rattle.std.proofs.lemmas.Option.{slice_get_within}
+use Rattle.std.proofs.lemmas.Option.{same_Some, slice_get_within}
 use Rattle.std.proofs.lemmas.Bool.{and_from, and_parts, and_right, eq-eqb, eqb-true, false_from_ne_true, leb-true, lt-leb, ltb-true, not_from_true, not-true, or_cases, or_from}
 use Rattle.std.proofs.lemmas.List.{length-map}
 use Rattle.std.specs.List.{list_any}
@@ -31,13 +31,14 @@ use Rattle.rc_world.specs.declared.world.Slot.TheVariants as entries
 use Rattle.rc_world.specs.Controls.{Standing, next_at, next_line}
 use Rattle.rc_world.specs.Faults.{Access, access_at, access_by, access_of, all_kinds, clashes, conflicts, count_of, fault_at, fault_of, faults_by, faults_from, faults_of, front_is_one, has_data, has_fault, in_kernel, is_closed, is_filling, is_full_at, is_holder, is_in_flight, is_named, is_ambiguous_at, is_out_at, is_prepared, is_raw_at, is_ring_call, is_ring_op, is_unknown_at, is_vacant, names, op_is_out, op_is_raw, overflows, races_from, reads_filling, reads_into, writes_pending}
 use Rattle.rc_world.specs.Machine.{Pending, World, is_read, slot_len, used_entries}
+use Rattle.rc_world.proofs.Lists.{found}
 use Rattle.rc_admit.proofs.Flight.{data_in, front_is}
 use Rattle.rc_admit.proofs.Lists.{sum_to, sum_to_one, sum_to_two, sum_over, sum_over_one, Each-get}
 use Rattle.rc_admit.proofs.Moves.{fits_parts}
 use Rattle.rc_admit.proofs.Ops.{slot_closed, slot_vacant, slot_prepared}
 use Rattle.rc_admit.proofs.Owned.{Stand, EdgeAt, HasEdge, owns, owns_pending, unheld, SlotFits, StartsWith, IsNonempty, FrontFits, Fits, held, HasKind, HasKindPending, Owned, WellOwned}
 use Rattle.rc_admit.proofs.Rule.{InRing, asks_lock, in_ring, inside_of, met, prepared_as}
-use Rattle.rc_admit.proofs.Shares.{any_is, buffer_shared, credits_owned, data_owned, data_pending, fills_all, names_one, no_clash}
+use Rattle.rc_admit.proofs.Shares.{buffer_shared, credits_owned, data_owned, data_pending, fills_all, names_one, no_clash}
 use Rattle.rc_admit.proofs.Steps.{breaks_as_released, token_owned}
 
 -- ---- a world without a fault
@@ -62,27 +63,24 @@ without_fault w k h = ap (λ xs. slice_get xs 0) (none_by w all_kinds (λ kind. 
 
 -- ---- what the rules ask of an access
 
-some_is : {A : Type 0} (x y : A) → Some x ≡ Some y → x ≡ y
-some_is x y e = cc
-
 -- A statement that writes a buffer has all its shares.
 all_by : (P : Program) (b : Part → ℕ) (m : Mode) (op : Op) → Meets (op_premises P b m op) → (a : Access) → access_by op ≡ Some a → a.writes ≡ true → shares_at P.buffers a.buffer ≤ b (ShareOf a.buffer)
-all_by P b m (Load x c j) h a e y = let z : false ≡ a.writes = ap (λ (x : Access). x.writes) (some_is (record { buffer = c; writes = false }) a e) in absurd (cc)
-all_by P b m (Store c j x) h a e y = subst (λ (x : Access). shares_at P.buffers x.buffer ≤ b (ShareOf x.buffer)) (some_is (record { buffer = c; writes = true }) a e) (leb-true _ _ (met 7 (op_premises P b m (Store c j x)) h))
-all_by P b m (Fill c x) h a e y = subst (λ (x : Access). shares_at P.buffers x.buffer ≤ b (ShareOf x.buffer)) (some_is (record { buffer = c; writes = true }) a e) (leb-true _ _ (met 7 (op_premises P b m (Fill c x)) h))
+all_by P b m (Load x c j) h a e y = let z : false ≡ a.writes = ap (λ (x : Access). x.writes) (same_Some (record { buffer = c; writes = false }) a e) in absurd (cc)
+all_by P b m (Store c j x) h a e y = subst (λ (x : Access). shares_at P.buffers x.buffer ≤ b (ShareOf x.buffer)) (same_Some (record { buffer = c; writes = true }) a e) (leb-true _ _ (met 7 (op_premises P b m (Store c j x)) h))
+all_by P b m (Fill c x) h a e y = subst (λ (x : Access). shares_at P.buffers x.buffer ≤ b (ShareOf x.buffer)) (same_Some (record { buffer = c; writes = true }) a e) (leb-true _ _ (met 7 (op_premises P b m (Fill c x)) h))
 all_by P b m _ h a e y = absurd (cc)
 
 -- One that reads or writes it has a share.
 one_by : (P : Program) → IsProgram P → (b : Part → ℕ) (m : Mode) (n k : ℕ) (op : Op) → Meets (op_premises P b m op) → IsResolved P n k (Do op) → (a : Access) → access_by op ≡ Some a → 1 ≤ b (ShareOf a.buffer)
-one_by P made b m n k (Load x c j) h r a e = subst (λ (x : Access). 1 ≤ b (ShareOf x.buffer)) (some_is (record { buffer = c; writes = false }) a e) (leb-true 1 _ (met 8 (op_premises P b m (Load x c j)) h))
+one_by P made b m n k (Load x c j) h r a e = subst (λ (x : Access). 1 ≤ b (ShareOf x.buffer)) (same_Some (record { buffer = c; writes = false }) a e) (leb-true 1 _ (met 8 (op_premises P b m (Load x c j)) h))
 one_by P made b m n k (Store c j x) h r a e =
     let s : 1 ≤ shares_at P.buffers c = buffer_shared P made c r.0 in
     let g : shares_at P.buffers c ≤ b (ShareOf c) = leb-true _ _ (met 7 (op_premises P b m (Store c j x)) h) in
-    subst (λ (x : Access). 1 ≤ b (ShareOf x.buffer)) (some_is (record { buffer = c; writes = true }) a e) (omega arith)
+    subst (λ (x : Access). 1 ≤ b (ShareOf x.buffer)) (same_Some (record { buffer = c; writes = true }) a e) (omega arith)
 one_by P made b m n k (Fill c x) h r a e =
     let s : 1 ≤ shares_at P.buffers c = buffer_shared P made c r.0 in
     let g : shares_at P.buffers c ≤ b (ShareOf c) = leb-true _ _ (met 7 (op_premises P b m (Fill c x)) h) in
-    subst (λ (x : Access). 1 ≤ b (ShareOf x.buffer)) (some_is (record { buffer = c; writes = true }) a e) (omega arith)
+    subst (λ (x : Access). 1 ≤ b (ShareOf x.buffer)) (same_Some (record { buffer = c; writes = true }) a e) (omega arith)
 one_by P made b m n k _ h r a e = absurd (cc)
 
 -- ---- where a thread stands
@@ -167,7 +165,7 @@ module _ (w : World) (made : IsProgram w.program) (S : Stand) (edge : HasEdge w.
       bad h =
           let b : ℕ = a.buffer in
           let t = and_parts a.writes (is_named w.pending b) h in
-          let x = any_is (λ (p : Pending). names b p.request) w.pending t.1 in
+          let x = found (λ (p : Pending). names b p.request) w.pending t.1 in
           let mine : shares_at P.buffers b ≤ bags i (ShareOf b) = all_shares i s n a e t.0 in
           let its : 1 ≤ owned P x.1.request.user_data (ShareOf b) = names_one P made x.1.request b (kind_at x.0 x.1 x.2) x.3 in
           let le : owned P x.1.request.user_data (ShareOf b) ≤ unheld P w (ShareOf b) = pending_most (ShareOf b) x.0 x.1 x.2 in
@@ -182,7 +180,7 @@ module _ (w : World) (made : IsProgram w.program) (S : Stand) (edge : HasEdge w.
       bad h =
           let b : ℕ = a.buffer in
           let t = and_parts (not a.writes) (is_filling w.pending b) h in
-          let x = any_is (λ (p : Pending). reads_into b p.request) w.pending t.1 in
+          let x = found (λ (p : Pending). reads_into b p.request) w.pending t.1 in
           let r = and_parts (is_read x.1.request.kind) (nat_eq x.1.request.buffer b) x.3 in
           let mine : 1 ≤ bags i (ShareOf b) = one_share i s n a e in
           let its : shares_at P.buffers b ≤ owned P x.1.request.user_data (ShareOf b) = fills_all P x.1.request b (kind_at x.0 x.1 x.2) r.0 (eqb-true x.1.request.buffer b r.1) in

@@ -1,32 +1,22 @@
 -- What requests own, by their kinds: of a buffer that they name a share, and of one that they fill all.
 use Rattle.std.proofs.Common.{◌≡◌, ℕ, suc, ◌+◌, ◌<◌, ◌≤◌, Bool, true, false, cond, ◌||◌, ◌&&◌, List, [], ◌∷◌, length, Option, Some, None, refl, sym, ap, ◌∙◌, subst, inl, inr, arith}
 use Rattle.std.proofs.lemmas.Bool.{and_from, and_parts, eq-eqb, eqb-true, false_from_ne_true, or_cases, or_from}
-use Rattle.std.proofs.lemmas.Option.{slice_get_within, get_or_from_slice_get}
 use Rattle.std.specs.List.{list_any}
-use Rattle.std.specs.Prelude.{nat_eq, slice_get, slice_index_or}
-use Rattle.rc_lang.specs.declared.program.Token.{Token}
+use Rattle.std.specs.Prelude.{nat_eq, slice_get}
 use Rattle.rc_lang.specs.declared.program.TokenKind.{TokenKind}
 use Rattle.rc_lang.specs.declared.program.TokenKind.TheVariants.{Read, Write, Fsync, Nop}
 use Rattle.rc_lang.specs.declared.request.Request.{Request}
-use Rattle.rc_lang.specs.Program.{IsProgram, IsTokenKind, Program, no_buffer, shares_at, token_place}
-use Rattle.rc_rules.specs.Rules.{kind_at, kind_bag, kind_in, kind_of, line_bag, owned}
+use Rattle.rc_lang.specs.Program.{IsProgram, IsTokenKind, Program, no_buffer, shares_at}
+use Rattle.rc_rules.specs.Rules.{kind_bag, kind_of, line_bag, owned}
+use Rattle.rc_rules.specs.States.{IsLine}
+use Rattle.rc_rules.proofs.Lines.{line_of}
 use Rattle.rc_split.specs.Bags.{ShareOf, TokenOf, Credit, shares_bag}
 use Rattle.rc_world.specs.Faults.{clash, clashes, clashes_with, has_buffer, has_data, names}
 use Rattle.rc_world.specs.Machine.{Pending, is_read}
+use Rattle.rc_world.proofs.Lists.{found}
 use Rattle.rc_admit.proofs.Lists.{sum_over, sum_over_one, nat_eq_cases, Each, Each-get}
 use Rattle.rc_admit.proofs.Owned.{FitsKind, HasKind, HasKindPending, owns, owns_pending}
 use Rattle.rc_admit.proofs.Steps.{token_owned}
-
--- one of which a test is true
-pub any_is : {A : Type 0} (test : A → Bool) (xs : List A) → list_any test xs ≡ true → (k : ℕ) × (x : A) × (slice_get xs k ≡ Some x) × (test x ≡ true)
-any_is test [] e = absurd (cc)
-any_is test (x ∷ xs) e = elim (or_cases (test x) (list_any test xs) e) [
-  | inl h ↦ (0, x, refl, h)
-  | inr h ↦ let t = any_is test xs h in (t.0 + 1, t.1, next t.0 x xs t.1 t.2, t.3)
-]
-  where
-    next : {A : Type 0} (k : ℕ) (x : A) (xs : List A) (y : A) → slice_get xs k ≡ Some y → slice_get (x ∷ xs) (k + 1) ≡ Some y
-    next k x xs y h = let s : k + 1 ≡ suc k = omega arith in ap (λ n. slice_get (x ∷ xs) n) s ∙ h
 
 same_shares : (c d k : ℕ) → c ≡ d → shares_bag c k (ShareOf d) ≡ k
 same_shares c d k e = elim (nat_eq_cases c d) [ inl h ↦ ap (λ t. cond t k 0) h.1 | inr h ↦ absurd (h.0 e) ]
@@ -36,18 +26,7 @@ buffer_shared P made b lt = (made.buffers b no_buffer lt).shares.0
 
 -- The kind of a token is one of the program's.
 token_kind : (P : Program) → IsProgram P → (u : ℕ) (kind : TokenKind) → kind_of P u ≡ Some kind → IsTokenKind P kind
-token_kind P made u kind e = place (token_place P.tokens u) e
-  where
-    token : (k : ℕ) (x : Option Token) → slice_get P.tokens k ≡ x → kind_in x ≡ Some kind → IsTokenKind P kind
-    token k None h f = absurd (cc)
-    token k (Some t) h f =
-        let same : slice_index_or P.tokens k t ≡ t = get_or_from_slice_get P.tokens k t t h in
-        let is : t.kind ≡ kind = cc in
-        subst (λ x. IsTokenKind P x) is (subst (λ (x : Token). IsTokenKind P x.kind) same (made.tokens k t (slice_get_within P.tokens k t h)))
-
-    place : (x : Option ℕ) → kind_at P.tokens x ≡ Some kind → IsTokenKind P kind
-    place None f = absurd (cc)
-    place (Some k) f = token k (slice_get P.tokens k) refl f
+token_kind P made u kind e = subst (IsLine P) e (line_of P u made)
 
 -- what a request owns, as its token's line says
 owned_is : (P : Program) (u : ℕ) (kind : TokenKind) (b : ℕ) → kind_of P u ≡ Some kind → owned P u (ShareOf b) ≡ kind_bag P kind (ShareOf b)
@@ -107,14 +86,14 @@ no_clash P made (p ∷ ps) a t = or_from (clashes_with p.request ps) (clashes ps
         ]
 
     one : clashes_with p.request ps ≡ true → ⊥
-    one e = let x = any_is (λ (q : Pending). clash p.request q.request) ps e in two x.1 x.0 x.2 x.3
+    one e = let x = found (λ (q : Pending). clash p.request q.request) ps e in two x.1 x.0 x.2 x.3
 
 -- ---- tokens and credits
 
 -- A request with this user data owns its token.
 pub data_owned : (P : Program) (u : ℕ) (rs : List Request) → list_any (has_data u) rs ≡ true → 1 ≤ sum_over (owns P (TokenOf u)) rs
 data_owned P u rs e =
-    let x = any_is (has_data u) rs e in
+    let x = found (has_data u) rs e in
     let q : x.1.user_data ≡ u = eqb-true x.1.user_data u x.3 in
     let y : 1 ≤ owned P x.1.user_data (TokenOf u) = subst (λ v. 1 ≤ owned P v (TokenOf u)) (sym q) (token_owned P u) in
     let z : owned P x.1.user_data (TokenOf u) ≤ sum_over (owns P (TokenOf u)) rs = sum_over_one (owns P (TokenOf u)) x.0 rs x.1 x.2 in
@@ -122,7 +101,7 @@ data_owned P u rs e =
 
 pub data_pending : (P : Program) (u : ℕ) (ps : List Pending) → list_any (λ (p : Pending). has_data u p.request) ps ≡ true → 1 ≤ sum_over (owns_pending P (TokenOf u)) ps
 data_pending P u ps e =
-    let x = any_is (λ (p : Pending). has_data u p.request) ps e in
+    let x = found (λ (p : Pending). has_data u p.request) ps e in
     let q : x.1.request.user_data ≡ u = eqb-true x.1.request.user_data u x.3 in
     let y : 1 ≤ owned P x.1.request.user_data (TokenOf u) = subst (λ v. 1 ≤ owned P v (TokenOf u)) (sym q) (token_owned P u) in
     let z : owned P x.1.request.user_data (TokenOf u) ≤ sum_over (owns_pending P (TokenOf u)) ps = sum_over_one (owns_pending P (TokenOf u)) x.0 ps x.1 x.2 in
