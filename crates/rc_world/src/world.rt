@@ -12,7 +12,7 @@ ghost use Rattle.rc_world.specs.Machine as machine;
 ghost use Rattle.rc_world.specs.WorldParts.{begun_buffers, begun_pending, view_pending};
 
 use self::bytes::Bytes;
-use crate::controls::{Answer, Controls, Next, low_byte};
+use crate::controls::{Answer, Controls, Next};
 use crate::event::{Completion, Event, Item};
 use crate::fault::Fault;
 use rc_lang::lines::{Line, Op, Stmt, Test};
