@@ -1,7 +1,7 @@
 -- The step of the kernel that a job's result names.
 use Rattle.std.proofs.Common.{◌≡◌, ℕ, ℤ, Bool, true, false, ◌&&◌, if◌then◌else◌, ◌≤◌, ◌<◌, List, [], ◌∷◌, ◌++◌, take, drop, length, map, get_or, option_map, Option, Some, None, IsSome, IfSome, nat_eq, slice_get, slice_set, refl, sym, ap, subst, ◌∙◌, arith}
 use Rattle.std.specs.Global.{Vec}
-use Rattle.std.proofs.lemmas.Bool.{leb-true}
+use Rattle.std.proofs.lemmas.Bool.{and_parts, leb-true}
 use Rattle.std.proofs.lemmas.List.{map-set}
 use Rattle.std.proofs.lemmas.Option.{slice_get-get_or, slice_get-map}
 use Rattle.rc_lang.specs.declared.request.Request.{Request}
@@ -16,10 +16,6 @@ use Rattle.rc_world.specs.WorldParts.{view_bytes}
 use Rattle.rc_world.proofs.Memory.{read_has_buffer}
 use Rattle.rc_run.specs.declared.machine.Pending.{Pending as PendingPart}
 use Rattle.rc_run.specs.Machine.{brought, completed_at, completed_by, given_to, pending_of}
-
-both : (a b : Bool) → (a && b) ≡ true → (a ≡ true) × (b ≡ true)
-both true b e = (refl, e)
-both false b e = absurd (cc)
 
 some_if : {A : Type 0} (b : Bool) (x : Option A) → IsSome (if b then x else None) → (b ≡ true) × IsSome x
 some_if true x h = (refl, h)
@@ -42,7 +38,7 @@ module _ (w : World) (k : IsKept w) (n : ℕ) (res : ℤ) (bytes : List ℕ) (p 
   allowed : (may_complete p.request res ≡ true) × (nat_eq (length (brought p.request bytes)) (bytes_brought p.request) ≡ true) × IsSome (kernel_event w n res p.request (given_back w p.request (brought p.request bytes) p.bytes))
   allowed =
       let h = some_if (may_complete p.request res && nat_eq (length (brought p.request bytes)) (bytes_brought p.request)) _ (subst IsSome step_is some) in
-      let b = both _ _ h.0 in
+      let b = and_parts _ _ h.0 in
       (b.0, b.1, h.1)
 
   held : IsKeptPending w.program w.pending p

@@ -1,10 +1,8 @@
 -- Jobs of pending requests.
-use Rattle.std.proofs.Common.{◌≡◌, ℕ, ◌<◌, ◌≤◌, inl, inr, Bool, true, false, ◌&&◌, List, [], length, map, get_or, Option, Some, None, nat_eq, slice_get, slice_index_or, refl, sym, ap, subst, ◌∙◌, arith}
+use Rattle.std.proofs.Common.{◌≡◌, ℕ, ◌<◌, ◌≤◌, inl, inr, true, false, List, [], length, Option, Some, None, nat_eq, slice_get, refl, sym, ap, subst, ◌∙◌, arith}
 use Rattle.std.specs.Prelude.{unwrap_or}
-use Rattle.std.proofs.lemmas.Bool.{cases_lt, eqb-true, leb-true}
-use Rattle.std.specs.Global.{Vec}
-use Rattle.rc_world.specs.WorldParts.{view_bytes}
-use Rattle.std.proofs.lemmas.List.{get_or-map, get_or_past, length-map}
+use Rattle.std.proofs.lemmas.Bool.{and_parts, cases_lt, eqb-true, leb-true}
+use Rattle.std.proofs.lemmas.List.{get_or_past}
 use Rattle.std.proofs.lemmas.Option.{same_Some}
 use Rattle.rc_lang.specs.declared.request.Kind.{Kind}
 use Rattle.rc_lang.specs.declared.request.Kind.TheVariants.{Nop, Fsync, Read, Write}
@@ -16,18 +14,14 @@ use Rattle.rc_world.specs.Machine.{Pending, World, bytes_of, is_read}
 use Rattle.rc_world.proofs.LawFaultless.{none_in_kernel, none_of_kind}
 use Rattle.rc_world.proofs.Lists.{found, get_none, get_of}
 use Rattle.rc_run.specs.Calm.{IsCalm}
-use Rattle.rc_run.specs.Jobs.{IsJob, Job}
-use Rattle.rc_run.specs.Lives.{IsJobOf, bytes_by}
+use Rattle.rc_run.specs.Jobs.{IsJob}
+use Rattle.rc_run.specs.Lives.{IsJobOf, bytes_by, bytes_for}
 
 buffer_small : (P : Program) → IsProgram P → (b : ℕ) → bytes_at P.buffers b ≤ 4096
 buffer_small P made b = elim (cases_lt b (length P.buffers)) [
   | inl lt ↦ (made.buffers b no_buffer lt).bytes.1
   | inr le ↦ let e : bytes_at P.buffers b ≡ 0 = ap (λ (x : Buffer). x.bytes) (get_or_past P.buffers b no_buffer le) in omega arith
 ]
-
-both : (a b : Bool) → (a && b) ≡ true → (a ≡ true) × (b ≡ true)
-both true b e = (refl, e)
-both false b e = absurd (cc)
 
 read_kind : (k : Kind) → is_read k ≡ true → k ≡ Read
 read_kind Nop e = absurd (cc)
@@ -61,7 +55,7 @@ module _ (w : World) (c : IsCalm w) (k : ℕ) (p : Pending) (here : slice_get w.
           let le : p.request.len ≤ bytes_at w.program.buffers p.request.buffer = within in
           omega (arith, s, le)
 
-  pub write_within : p.request.kind ≡ Write → p.request.buffer < length w.buffers
+  write_within : p.request.kind ≡ Write → p.request.buffer < length w.buffers
   write_within is = subst (λ n. p.request.buffer < n) (sym c.kept.memory.as_many) (held.fitting.exists (ap has_buffer is))
 
   write_enough : p.request.kind ≡ Write → p.request.len ≤ length (unwrap_or (bytes_of w p.request.buffer) [])
@@ -71,7 +65,7 @@ module _ (w : World) (c : IsCalm w) (k : ℕ) (p : Pending) (here : slice_get w.
       go None e =
           let filling = c.kept.memory.filled p.request.buffer (get_none w.buffers p.request.buffer (write_within is) e) in
           let f = found (λ (q : Pending). reads_into p.request.buffer q.request) w.pending filling in
-          let b = both (is_read f.1.request.kind) (nat_eq f.1.request.buffer p.request.buffer) f.3 in
+          let b = and_parts (is_read f.1.request.kind) (nat_eq f.1.request.buffer p.request.buffer) f.3 in
           let read = read_kind f.1.request.kind b.0 in
           absurd (c.no_clash f.0 k p.request.buffer f.1.request p.request (λ q. other q f.1 f.2 read) (f.1, f.2, refl) (p, here, refl) (read, eqb-true f.1.request.buffer p.request.buffer b.1) (inr is, refl))
         where
@@ -92,10 +86,10 @@ module _ (w : World) (c : IsCalm w) (k : ℕ) (p : Pending) (here : slice_get w.
   enough Read is = read_enough is
   enough Write is = write_enough is
 
-  pub fed : (kind : Kind) → p.request.kind ≡ kind → (bytes : List ℕ) → bytes ≡ bytes_by w p kind → IsJob (record { request = p.request; bytes = bytes; starved = false })
-  fed kind is bytes e = record {
+  pub fed : (bytes : List ℕ) → bytes ≡ bytes_for w p → IsJob (record { request = p.request; bytes = bytes; starved = false })
+  fed bytes e = record {
     small = small;
-    enough = λ f. subst (λ xs. p.request.len ≤ length xs) (sym e) (enough kind is);
+    enough = λ f. subst (λ xs. p.request.len ≤ length xs) (sym e) (enough p.request.kind refl);
     none = λ f. absurd (cc);
     of_write = λ f. absurd (cc);
   }
@@ -103,29 +97,20 @@ module _ (w : World) (c : IsCalm w) (k : ℕ) (p : Pending) (here : slice_get w.
   pub starves : p.request.kind ≡ Write → (bytes : List ℕ) → bytes ≡ [] → IsJob (record { request = p.request; bytes = bytes; starved = true })
   starves is bytes e = record { small = small; enough = λ f. absurd (cc); none = λ f. e; of_write = λ f. is }
 
-  pub fed_of : (kind : Kind) → p.request.kind ≡ kind → (bytes : List ℕ) → bytes ≡ bytes_by w p kind → (job : Job) → job ≡ record { request = p.request; bytes = bytes; starved = false }
-      → (q : Pending) → slice_get w.pending k ≡ Some q → IsJobOf w q job
-  fed_of kind is bytes e job j q at =
-      subst (λ (x : Pending). IsJobOf w x job) (same_Some p q (sym here ∙ at)) (record {
-        request = ap (λ (x : Job). x.request) j;
-        bytes = λ f. ap (λ (x : Job). x.bytes) j ∙ e ∙ sym (ap (bytes_by w p) is);
-        of_write = λ f. let fed_so : job.starved ≡ false = ap (λ (x : Job). x.starved) j in absurd (cc);
-        none = λ f. let fed_so : job.starved ≡ false = ap (λ (x : Job). x.starved) j in absurd (cc);
+  pub fed_of : (bytes : List ℕ) → bytes ≡ bytes_for w p → (q : Pending) → slice_get w.pending k ≡ Some q → IsJobOf w q (record { request = p.request; bytes = bytes; starved = false })
+  fed_of bytes e q at =
+      subst (λ (x : Pending). IsJobOf w x (record { request = p.request; bytes = bytes; starved = false })) (same_Some p q (sym here ∙ at)) (record {
+        request = refl;
+        bytes = λ f. e;
+        of_write = λ f. absurd (cc);
+        none = λ f. absurd (cc);
       })
 
-  pub starved_of : p.request.kind ≡ Write → (bytes : List ℕ) → bytes ≡ [] → (job : Job) → job ≡ record { request = p.request; bytes = bytes; starved = true }
-      → (q : Pending) → slice_get w.pending k ≡ Some q → IsJobOf w q job
-  starved_of is bytes e job j q at =
-      subst (λ (x : Pending). IsJobOf w x job) (same_Some p q (sym here ∙ at)) (record {
-        request = ap (λ (x : Job). x.request) j;
-        bytes = λ f. let starved_so : job.starved ≡ true = ap (λ (x : Job). x.starved) j in absurd (cc);
+  pub starved_of : p.request.kind ≡ Write → (bytes : List ℕ) → bytes ≡ [] → (q : Pending) → slice_get w.pending k ≡ Some q → IsJobOf w q (record { request = p.request; bytes = bytes; starved = true })
+  starved_of is bytes e q at =
+      subst (λ (x : Pending). IsJobOf w x (record { request = p.request; bytes = bytes; starved = true })) (same_Some p q (sym here ∙ at)) (record {
+        request = refl;
+        bytes = λ f. absurd (cc);
         of_write = λ f. is;
-        none = λ f. ap (λ (x : Job). x.bytes) j ∙ e;
+        none = λ f. e;
       })
-
--- a buffer in the code, and in the world
-pub buffer_is : (items : List (Option (Vec ℕ))) (b : ℕ) (r : Option (Vec ℕ)) → b < length items → r ≡ get_or items b r → view_bytes r ≡ slice_index_or (map view_bytes items) b None
-buffer_is items b r lt at = ap view_bytes at ∙ sym (get_or-map view_bytes items b r None lt)
-
-pub buffer_there : (items : List (Option (Vec ℕ))) (b : ℕ) → b < length (map view_bytes items) → b < length items
-buffer_there items b lt = subst (λ n. b < n) (length-map items view_bytes) lt

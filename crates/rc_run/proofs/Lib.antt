@@ -2,7 +2,6 @@ mod Entries
 mod Buffers
 mod Starts
 mod Begins
-mod Steps
 mod Completes
 mod Orders
 mod Calms

@@ -1,9 +1,9 @@
 -- In each world of a run the requests that are pending and queued stand in the order of their serial numbers, and those
 -- that move no bytes ask for none.
 use Rattle.std.proofs.Common.{◌≡◌, ℕ, zero, suc, ◌+◌, ◌<◌, ◌≤◌, Bool, true, false, ◌&&◌, List, [], ◌∷◌, ◌++◌, append_assoc, length, map, take, drop, Option, Some, None, refl, sym, ap, ◌∙◌, subst, inl, inr, arith, ℤ, pos}
-use Rattle.std.proofs.lemmas.List.{map-append}
+use Rattle.std.proofs.lemmas.List.{map-append, take-append-drop}
 use Rattle.std.proofs.lemmas.Option.{same_Some}
-use Rattle.std.specs.Prelude.{nat_eq, nat_lt, slice_get, slice_set, if◌then◌else◌}
+use Rattle.std.specs.Prelude.{nat_eq, nat_lt, slice_get, if◌then◌else◌}
 use Rattle.rc_lang.specs.declared.lines.Line.{Line}
 use Rattle.rc_lang.specs.declared.lines.Op.{Op}
 use Rattle.rc_lang.specs.declared.lines.Op.TheVariants.{Store, Fill, GetSqe, PrepRead, PrepWrite, PrepFsync, PrepNop, SetData64, Submit, SubmitAndWait, CqeSeen}
@@ -18,7 +18,7 @@ use Rattle.rc_world.specs.declared.event.Event.{Event}
 use Rattle.rc_world.specs.declared.world.Slot.{Slot}
 use Rattle.rc_world.specs.declared.world.Slot.TheVariants.{Closed, Vacant, Prepared}
 use Rattle.rc_world.specs.Controls.{Controls, Standing, controls_step, low_byte, next_line, variable}
-use Rattle.rc_world.specs.Machine.{Pending, World, bytes_brought, bytes_of, count_in, fills, fits_buffer, given_back, hands_over, in_rings, is_take, kernel_event, kernel_step, kernel_step_of, new_request, op_in_rings, opens_entry, prepared_nop, prepares, queues, reaps_front, start_world, stmt_answer, stores, submits_by, thread_step, thread_step_at, with_bytes, with_controls, without}
+use Rattle.rc_world.specs.Machine.{Pending, World, bytes_brought, bytes_of, count_in, fills, fits_buffer, given_back, hands_over, in_rings, is_take, kernel_event, kernel_step, kernel_step_of, new_request, op_in_rings, opens_entry, prepared_nop, prepares, queues, reaps_front, start_world, stmt_answer, stores, submits_by, thread_step, thread_step_at, with_controls, without}
 use Rattle.rc_world.specs.Runs.{IsRun}
 use Rattle.rc_admit.proofs.Flight.{begun}
 use Rattle.rc_run.specs.Calm.{IsPlain}
@@ -93,10 +93,9 @@ abbrev OrderlyStep : Option (Event × World) → Type 0
 OrderlyStep None = Unit {0}
 OrderlyStep (Some x) = IsOrderly x.1
 
-cut : (n : ℕ) (rs : List Request) → take n rs ++ drop n rs ≡ rs
-cut zero rs = refl
-cut (suc n) [] = refl
-cut (suc n) (r ∷ rs) = ap (λ qs. r ∷ qs) (cut n rs)
+if_orderly : (b : Bool) (w : World) → IsOrderly w → Orderly (if b then Some w else None)
+if_orderly true w h = h
+if_orderly false w h = tt
 
 module _ (w : World) (h : IsOrderly w) where
   same : (x : Slot) (bs : List (Option (List ℕ))) → SlotIsPlain x → IsOrderly (record w { slot = x; buffers = bs })
@@ -104,32 +103,20 @@ module _ (w : World) (h : IsOrderly w) where
 
   stores_orderly : (b j byte : ℕ) (x : Option (List ℕ)) → Orderly (stores w b j byte x)
   stores_orderly b j byte None = tt
-  stores_orderly b j byte (Some bytes) = go (nat_lt j (length bytes))
-    where
-      go : (y : Bool) → Orderly (if y then Some (with_bytes w b (slice_set bytes j byte)) else None)
-      go true = same w.slot _ h.slot
-      go false = tt
+  stores_orderly b j byte (Some bytes) = if_orderly (nat_lt j (length bytes)) _ (same w.slot _ h.slot)
 
   fills_orderly : (b byte : ℕ) (x : Option (List ℕ)) → Orderly (fills w b byte x)
   fills_orderly b byte None = tt
   fills_orderly b byte (Some bytes) = same w.slot _ h.slot
 
   opens_orderly : (x : Slot) → Orderly (opens_entry w x)
-  opens_orderly Closed = go (nat_lt (length w.queued) w.program.entries)
-    where
-      go : (y : Bool) → Orderly (if y then Some (record w { slot = Vacant }) else None)
-      go true = same Vacant w.buffers tt
-      go false = tt
+  opens_orderly Closed = if_orderly (nat_lt (length w.queued) w.program.entries) _ (same Vacant w.buffers tt)
   opens_orderly Vacant = tt
   opens_orderly (Prepared r) = tt
 
   prepares_orderly : (r : Request) → IsPlain r → (x : Slot) → Orderly (prepares w r x)
   prepares_orderly r plain Closed = tt
-  prepares_orderly r plain Vacant = go (fits_buffer w.program r)
-    where
-      go : (y : Bool) → Orderly (if y then Some (record w { slot = Prepared r }) else None)
-      go true = same (Prepared r) w.buffers plain
-      go false = tt
+  prepares_orderly r plain Vacant = if_orderly (fits_buffer w.program r) _ (same (Prepared r) w.buffers plain)
   prepares_orderly r plain (Prepared s) = tt
 
   queues_orderly : (u : ℕ) (x : Slot) → SlotIsPlain x → Orderly (queues w u x)
@@ -143,7 +130,7 @@ module _ (w : World) (h : IsOrderly w) where
       }
 
   submits_orderly : (r : ℤ) → Orderly (submits_by w r)
-  submits_orderly r = go (is_take w r)
+  submits_orderly r = if_orderly (is_take w r) _ (handed (count_in r))
     where
       handed : (n : ℕ) → IsOrderly (hands_over w n)
       handed n =
@@ -151,13 +138,9 @@ module _ (w : World) (h : IsOrderly w) where
           let all : requests (w.pending ++ b.pending) ++ drop n w.queued ≡ requests w.pending ++ w.queued =
           ap (λ rs. rs ++ drop n w.queued) (map-append (λ (x : Pending). x.request) w.pending b.pending ∙ ap (λ rs. requests w.pending ++ rs) b.are)
           ∙ append_assoc (requests w.pending) (take n w.queued) (drop n w.queued)
-          ∙ ap (λ rs. requests w.pending ++ rs) (cut n w.queued)
+          ∙ ap (λ rs. requests w.pending ++ rs) (take-append-drop n w.queued)
           in
           subst IsOrderly (sym b.is) (record { slot = h.slot; rising = subst (λ rs. Rising 0 rs w.made) (sym all) h.rising })
-
-      go : (y : Bool) → Orderly (if y then Some (hands_over w (count_in r)) else None)
-      go true = handed (count_in r)
-      go false = tt
 
   reaps_orderly : (cs : List Completion) → Orderly (reaps_front w cs)
   reaps_orderly [] = tt

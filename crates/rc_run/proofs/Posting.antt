@@ -1,8 +1,8 @@
 -- Jobs that are taken, and their results.
-use Rattle.std.proofs.Common.{◌≡◌, ◌≢◌, ℕ, ℤ, zero, suc, ◌%◌, ◌<◌, ◌≤◌, inr, Bool, true, false, ◌||◌, not, cond, if◌then◌else◌, List, [], ◌∷◌, ◌++◌, filter, length, map, take, Option, Some, None, IsSome, is_some, slice_get, refl, sym, ap, subst, ◌∙◌, arith}
-use Rattle.std.proofs.lemmas.Bool.{and_parts}
+use Rattle.std.proofs.Common.{◌≡◌, ◌≢◌, ℕ, ℤ, zero, suc, ◌%◌, ◌<◌, ◌≤◌, inr, Bool, true, false, ◌||◌, not, cond, if◌then◌else◌, List, [], ◌∷◌, ◌++◌, filter, length, map, Option, Some, None, IsSome, is_some, option_map, slice_get, refl, sym, ap, subst, ◌∙◌, arith}
 use Rattle.std.proofs.Math.Nat.{mod-lt}
-use Rattle.std.proofs.lemmas.List.{length-map}
+use Rattle.std.proofs.lemmas.Bool.{and_parts}
+use Rattle.std.proofs.lemmas.List.{length-map, length-take-le, nil_from_length}
 use Rattle.std.proofs.lemmas.Option.{same_Some, slice_get-map}
 use Rattle.rc_lang.specs.declared.request.Kind.{Kind}
 use Rattle.rc_lang.specs.declared.request.Kind.TheVariants.{Nop, Fsync, Read, Write}
@@ -10,13 +10,13 @@ use Rattle.rc_lang.specs.declared.request.Request.{Request}
 use Rattle.rc_lang.specs.Program.{Program}
 use Rattle.rc_lang.specs.Requests.{may_complete}
 use Rattle.rc_world.specs.declared.event.Event.{Event}
-use Rattle.rc_world.specs.Machine.{Pending, World, bytes_brought, is_read, kernel_step, start_world, without}
+use Rattle.rc_world.specs.Machine.{Pending, World, bytes_brought, is_read, kernel_step, start_world}
 use Rattle.rc_world.specs.Runs.{IsRun}
 use Rattle.rc_world.proofs.LawLists.{get_at, get_past}
 use Rattle.rc_run.specs.declared.machine.Pending.{Pending as PendingPart}
 use Rattle.rc_run.specs.Calm.{IsCalm}
-use Rattle.rc_run.specs.Jobs.{Job, allows, is_errno}
-use Rattle.rc_run.specs.Lives.{IsAsked, IsJobOf, IsNotOut, Lent, Live, Posted, free, is_free}
+use Rattle.rc_run.specs.Jobs.{IsJob, Job, allows, is_errno}
+use Rattle.rc_run.specs.Lives.{IsAsked, IsJobOf, IsOut, Lent, Live, free, is_free}
 use Rattle.rc_run.specs.Machine.{brought, completed_at, completed_by, pending_of}
 use Rattle.rc_run.proofs.Turns.{goes_one_on}
 
@@ -36,12 +36,8 @@ free_parts out items = filter (λ (p : PendingPart). is_free out p.request) item
 free_is : (s : Live) (items : List PendingPart) → s.world.pending ≡ map pending_of items → free s ≡ map pending_of (free_parts s.out items)
 free_is s items e = ap (filter (λ (p : Pending). is_free s.out p.request)) e ∙ kept_map (λ (p : Pending). is_free s.out p.request) items
 
-none_left : {A : Type 0} (xs : List A) → length xs ≡ 0 → xs ≡ []
-none_left [] e = refl
-none_left (x ∷ xs) e = absurd (omega arith)
-
 pub none_free : (s : Live) (items : List PendingPart) → s.world.pending ≡ map pending_of items → length (free_parts s.out items) ≡ 0 → free s ≡ []
-none_free s items e n = free_is s items e ∙ ap (map pending_of) (none_left (free_parts s.out items) n)
+none_free s items e n = free_is s items e ∙ ap (map pending_of) (nil_from_length (free_parts s.out items) n)
 
 pub lent : (s v : Live) (items : List PendingPart) (choice count place : ℕ) (job : Job) (serial : ℕ) → s.world.pending ≡ map pending_of items
     → count ≡ length (free_parts s.out items) → place < length items → slice_get items place ≡ slice_get (free_parts s.out items) (choice % count)
@@ -70,84 +66,62 @@ lent s v items choice count place job serial pending counted lt at of number aft
 
 -- ---- the request of a job
 
-asked : (items : List PendingPart) (r : Request) (k : ℕ) (p : Pending) → slice_get (map pending_of items) k ≡ Some p → p.request ≡ r → IsAsked items r k
+-- a pending request, in the code and in the world
+pub asked : (items : List PendingPart) (r : Request) (k : ℕ) (p : Pending) → slice_get (map pending_of items) k ≡ Some p → p.request ≡ r → IsAsked items r k
 asked [] r k p e q = absurd (cc)
 asked (x ∷ items) r zero p e q = record { part = x; here = refl; same = ap (λ (y : Pending). y.request) (same_Some _ _ e) ∙ q }
 asked (x ∷ items) r (suc k) p e q = let a = asked items r k p e q in record { part = a.part; here = a.here; same = a.same }
 
-pub not_out : (s : Live) (items : List PendingPart) (r : Request) → s.world.pending ≡ map pending_of items → ((k : ℕ) → IsAsked items r k → ⊥) → IsNotOut s r
-not_out s items r pending none k n o = none k (asked items r k o.pending (ap (λ (ps : List Pending). slice_get ps k) (sym pending) ∙ o.here) o.same)
-
 pub asked_here : (items : List PendingPart) (r : Request) (k : ℕ) (a : IsAsked items r k) → slice_get (map pending_of items) k ≡ Some (pending_of a.part)
-asked_here [] r k a = let e = a.here in absurd (cc)
-asked_here (x ∷ items) r zero a = ap (λ (y : PendingPart). Some (pending_of y)) (same_Some _ _ a.here)
-asked_here (x ∷ items) r (suc k) a = asked_here items r k (record { part = a.part; here = a.here; same = a.same })
-
-pub asked_within : (items : List PendingPart) (r : Request) (k : ℕ) → IsAsked items r k → k < length items
-asked_within [] r k a = let e = a.here in absurd (cc)
-asked_within (x ∷ items) r zero a = omega arith
-asked_within (x ∷ items) r (suc k) a = let lt : k < length items = asked_within items r k (record { part = a.part; here = a.here; same = a.same }) in omega (arith, lt)
+asked_here items r k a = slice_get-map pending_of items k ∙ ap (option_map pending_of) a.here
 
 -- ---- results
 
-brings_enough : (job : Job) (r : Request) → job.request ≡ r → (job.starved ≡ false → job.request.len ≤ length job.bytes) → (job.starved ≡ true → job.request.kind ≡ Write) → bytes_brought r ≤ length job.bytes
-brings_enough job r same fed starved = subst (λ (q : Request). bytes_brought q ≤ length job.bytes) same (go job.request.kind refl job.starved refl)
+brings_enough : (job : Job) → IsJob job → bytes_brought job.request ≤ length job.bytes
+brings_enough job is = go job.request.kind refl job.starved refl
   where
     none : (k : Kind) → job.request.kind ≡ k → is_read k ≡ false → bytes_brought job.request ≤ length job.bytes
-    none k is other = let z : bytes_brought job.request ≡ 0 = ap (λ b. if b then job.request.len else 0) (ap is_read is ∙ other) in omega (arith, z)
+    none k e other = let z : bytes_brought job.request ≡ 0 = ap (λ b. if b then job.request.len else 0) (ap is_read e ∙ other) in omega (arith, z)
 
     go : (k : Kind) → job.request.kind ≡ k → (b : Bool) → job.starved ≡ b → bytes_brought job.request ≤ length job.bytes
-    go Nop is b e = none Nop is refl
-    go Fsync is b e = none Fsync is refl
-    go Write is b e = none Write is refl
-    go Read is true e = let w = starved e in absurd (cc)
-    go Read is false e =
-        let z : bytes_brought job.request ≡ job.request.len = ap (λ b. if b then job.request.len else 0) (ap is_read is) in
-        let le = fed e in
+    go Nop e b s = none Nop e refl
+    go Fsync e b s = none Fsync e refl
+    go Write e b s = none Write e refl
+    go Read e true s = let w = is.of_write s in absurd (cc)
+    go Read e false s =
+        let z : bytes_brought job.request ≡ job.request.len = ap (λ b. if b then job.request.len else 0) (ap is_read e) in
+        let le = is.enough s in
         omega (arith, z, le)
 
-take_length : (n : ℕ) (xs : List ℕ) → n ≤ length xs → length (take n xs) ≡ n
-take_length zero xs le = refl
-take_length (suc n) [] le = absurd (omega arith)
-take_length (suc n) (x ∷ xs) le = ap suc (take_length n xs (omega (arith, le)))
+-- the job of a request that is out, and the world where it is
+module _ (s : Live) (c : IsCalm s.world) (k n : ℕ) (job : Job) (is : IsJob job) (out : IsOut s job.request k n) where
+  pub enough : (p : Pending) → slice_get s.world.pending k ≡ Some p → bytes_brought p.request ≤ length job.bytes
+  enough p at = subst (λ (q : Request). bytes_brought q ≤ length job.bytes) (sym out.same ∙ ap (λ (x : Pending). x.request) (same_Some _ _ (sym out.here ∙ at))) (brings_enough job is)
 
-module _ (w : World) (c : IsCalm w) (k : ℕ) (p : Pending) (here : slice_get w.pending k ≡ Some p) (job : Job) (same : job.request ≡ p.request) (fed : job.starved ≡ false → job.request.len ≤ length job.bytes) (starved : job.starved ≡ true → job.request.kind ≡ Write) where
-  pub enough : bytes_brought p.request ≤ length job.bytes
-  enough = brings_enough job p.request same fed starved
+  pub room : length s.world.completions < s.world.program.completion_entries
+  room = c.has_room k job.request (out.pending, out.here, out.same)
 
-  at_request : (res : ℤ) → completed_by w k res job.bytes ≡ kernel_step w k res (brought p.request job.bytes)
-  at_request res = ap (completed_at w k res job.bytes) here
+  at_request : (res : ℤ) → completed_by s.world k res job.bytes ≡ kernel_step s.world k res (brought out.pending.request job.bytes)
+  at_request res = ap (completed_at s.world k res job.bytes) out.here
 
-  pub completes : (res : ℤ) → allows job res ≡ true → IsSome (completed_by w k res job.bytes)
+  pub completes : (res : ℤ) → allows job res ≡ true → IsSome (completed_by s.world k res job.bytes)
   completes res may =
       let allowed = (and_parts (may_complete job.request res) (not job.starved || is_errno res) may).0 in
-      let step = c.completes k p res (brought p.request job.bytes) here (subst (λ (q : Request). may_complete q res ≡ true) same allowed) (take_length (bytes_brought p.request) job.bytes enough) in
+      let step = c.completes k out.pending res (brought out.pending.request job.bytes) out.here (subst (λ (q : Request). may_complete q res ≡ true) (sym out.same) allowed) (length-take-le (bytes_brought out.pending.request) job.bytes (enough out.pending out.here)) in
       ap is_some (at_request res ∙ step.1)
 
-  pub posted_leads : (P Q : Program) (v : World) (old new : List Event) (res : ℤ) (e : Event) → IsRun (start_world P) old w → completed_by w k res job.bytes ≡ Some (e, v) → Q ≡ P → new ≡ old ++ e ∷ []
+  pub posted_leads : (P Q : Program) (v : World) (old new : List Event) (res : ℤ) (e : Event) → IsRun (start_world P) old s.world → completed_by s.world k res job.bytes ≡ Some (e, v) → Q ≡ P → new ≡ old ++ e ∷ []
       → IsRun (start_world Q) new v
   posted_leads P Q v old new res e run step are more =
       subst (λ x. IsRun (start_world x) new v) (sym are)
       (subst (λ es. IsRun (start_world P) es v) (sym more)
-      (goes_one_on (start_world P) w v old e run (record { no_fault = c.no_fault; step = inr (k, res, brought p.request job.bytes, sym (at_request res) ∙ step) })))
+      (goes_one_on (start_world P) s.world v old e run (record { no_fault = c.no_fault; step = inr (k, res, brought out.pending.request job.bytes, sym (at_request res) ∙ step) })))
 
 pub some_free : (s : Live) (items : List PendingPart) (choice count : ℕ) → count ≡ length (free_parts s.out items) → count ≢ 0 → slice_get (free_parts s.out items) (choice % count) ≡ None → ⊥
 some_free s items choice count counted some none =
     let le : length (free_parts s.out items) ≤ choice % count = get_past (free_parts s.out items) (choice % count) none in
     let lt : choice % count < count = mod-lt choice (omega (arith, some)) in
     absurd (omega (arith, le, lt, counted))
-
-pub posted : (s v : Live) (items : List PendingPart) (job : Job) (res : ℤ) (k n : ℕ) (a : IsAsked items job.request k) (e : Event) → s.world.pending ≡ map pending_of items
-    → slice_get s.out n ≡ Some job.request.serial → completed_by s.world k res job.bytes ≡ Some (e, v.world)
-    → v ≡ record s { history = s.history ++ e ∷ []; world = v.world; out = without n s.out } → Posted s job res v
-posted s v items job res k n a e pending out step after = record {
-  place = k;
-  number = n;
-  is_out = record { pending = pending_of a.part; here = ap (λ (ps : List Pending). slice_get ps k) pending ∙ asked_here items job.request k a; same = a.same; out = out };
-  event = e;
-  step = step;
-  after = after;
-}
 
 pub count_free : (s : Live) (items : List PendingPart) (count : ℕ) → s.world.pending ≡ map pending_of items → count ≡ length (free_parts s.out items) → count ≡ length (free s)
 count_free s items count pending counted = counted ∙ sym (length-map (free_parts s.out items) pending_of) ∙ sym (ap (λ (ps : List Pending). length ps) (free_is s items pending))

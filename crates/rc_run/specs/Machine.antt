@@ -1,26 +1,19 @@
 -- The world that a machine's parts stand for.
 use Rattle.std.specs.Prelude.{ℕ, ◌≡◌, ◌+◌, ◌≤◌, Bool, false, List, [], ◌∷◌, ◌++◌, map, Option, Some, None, ℤ, pos, negsuc, min, length, take, drop, slice_get, slice_set}
 use Rattle.std.specs.Arc.{arc_value}
-use Rattle.rc_world.specs.declared.event.Action.{Action}
-use Rattle.rc_world.specs.declared.event.Action.TheVariants.{Stored, Filled}
 use Rattle.rc_world.specs.declared.event.Event.{Event}
-use Rattle.rc_world.specs.declared.event.Event.TheVariants.{ByThread}
 use Rattle.rc_lang.specs.declared.lines.Op.{Op}
-use Rattle.rc_lang.specs.declared.lines.Op.TheVariants.{Store, Fill, GetSqe, PrepRead, PrepWrite, PrepFsync, PrepNop, SetData64, Submit, SubmitAndWait, CqeSeen}
-use Rattle.rc_lang.specs.declared.request.Kind.TheVariants.{Fsync, Read, Write}
+use Rattle.rc_lang.specs.declared.lines.Op.TheVariants.{GetSqe, PrepRead, PrepWrite, PrepFsync, PrepNop, SetData64, Submit, SubmitAndWait}
 use Rattle.rc_lang.specs.declared.lines.Line.{Line}
 use Rattle.rc_lang.specs.declared.lines.Stmt.{Stmt}
 use Rattle.rc_lang.specs.declared.lines.Stmt.TheVariants.{Do}
 use Rattle.rc_lang.specs.declared.request.Request.{Request}
-use Rattle.rc_world.specs.declared.controls.Answer.{Answer}
 use Rattle.rc_world.specs.declared.world.Slot.{Slot}
 use Rattle.rc_world.specs.declared.world.Slot.TheVariants.{Closed}
-use Rattle.rc_world.specs.Changes.{standing_at}
-use Rattle.rc_world.specs.Controls.{controls_step}
 use Rattle.std.specs.Vec.{vec_capacity, vec_len}
 use Rattle.rc_run.specs.Held.{AreDistinct}
 use Rattle.rc_run.specs.Requests.{data_of}
-use Rattle.rc_world.specs.Machine.{Pending, World, bytes_brought, kernel_step, new_request, op_in_rings, prepared_nop, prepares, with_controls}
+use Rattle.rc_world.specs.Machine.{Pending, World, bytes_brought, kernel_step}
 use Rattle.rc_world.specs.WorldParts.{view_bytes}
 use Rattle.rc_run.specs.declared.machine.Machine.{Machine}
 use Rattle.rc_run.specs.declared.machine.Pending.{Pending as PendingPart}
@@ -46,16 +39,6 @@ pub record IsSized (m : Machine) : Type 0 where
   pub entries : m.ring.entries ≡ (arc_value m.admitted).entries
   pub completion_entries : m.ring.completion_entries ≡ (arc_value m.admitted).completion_entries
 
--- the byte that a store or a fill wrote
-abbrev pub byte_by : Action → ℕ
-byte_by (Stored b) = b
-byte_by (Filled b) = b
-byte_by _ = 0
-
-abbrev pub byte_in : Event → ℕ
-byte_in (ByThread i n action) = byte_by action
-byte_in _ = 0
-
 -- What a submit that is granted this answers: no more than is queued, or the errno.
 abbrev pub submit_answer : World → ℤ → ℤ
 submit_answer w (pos n) = pos (min n (length w.queued))
@@ -78,29 +61,6 @@ datasync_by _ b = b
 abbrev pub datasync_after : Option Line → Bool → Bool
 datasync_after None b = b
 datasync_after (Some line) b = datasync_by line.stmt b
-
--- The step of a statement without a block, whose answer is given.
-abbrev pub call_step : World → ℕ → Op → ℤ → Answer → Option (Event × World)
-call_step w i op r a = with_controls (op_in_rings w (standing_at w.controls i) r op) (controls_step w.program w.controls i a)
-
--- Of the statements that the rings are asked for, a prep alone.
-abbrev pub IsPrepOrPlain : Op → Type 0
-IsPrepOrPlain (Store b i x) = ⊥
-IsPrepOrPlain (Fill b x) = ⊥
-IsPrepOrPlain GetSqe = ⊥
-IsPrepOrPlain (SetData64 u) = ⊥
-IsPrepOrPlain (Submit x) = ⊥
-IsPrepOrPlain (SubmitAndWait x n) = ⊥
-IsPrepOrPlain CqeSeen = ⊥
-IsPrepOrPlain _ = Unit {0}
-
--- What such a statement does to the rings; where a thread stands has no part in it.
-abbrev pub prepared_by : World → Op → Option World
-prepared_by w (PrepRead fd b len off) = prepares w (new_request Read (pos fd) b len off) w.slot
-prepared_by w (PrepWrite fd b len off k) = prepares w (new_request Write (pos fd) b len off) w.slot
-prepared_by w (PrepFsync fd datasync) = prepares w (new_request Fsync (pos fd) 0 0 0) w.slot
-prepared_by w PrepNop = prepares w prepared_nop w.slot
-prepared_by w _ = Some w
 
 -- A submit finds no open entry.
 abbrev pub IsClosedAt : Slot → Stmt → Type 0

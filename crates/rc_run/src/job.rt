@@ -91,6 +91,7 @@ impl Job {
     pub(crate) fn into_parts(self) -> (Request, Vec<u8>)
         ensures request { result.0 ≡ self.request }
         ensures bytes { result.1.items ≡ self.bytes }
+        ensures job { IsJob self }
     {
         let Job {
             request,

@@ -8,7 +8,7 @@ ghost use Rattle.rc_world.specs.Machine.{start_world};
 ghost use Rattle.rc_world.specs.Runs.{IsRun, IsSafe};
 ghost use Rattle.rc_run.specs.Calm.{IsCalm};
 ghost use Rattle.rc_run.specs.Jobs.{allows};
-ghost use Rattle.rc_run.specs.Lives.{IsAsked, IsInOrder, IsNotOut, Lent, Posted, Turned, begun, free, is_free};
+ghost use Rattle.rc_run.specs.Lives.{IsAsked, IsInOrder, IsNotOut, IsOut, Lent, Posted, Turned, begun, free, is_free};
 ghost use Rattle.rc_run.specs.Machine.{pending_of, world_of};
 
 use crate::job::Job;
@@ -195,19 +195,40 @@ impl Live {
         ensures ok { OnOk result (Posted self.old job res self.new) }
         ensures err { IfErr result (λ j. (j ≡ job) × (self.new ≡ self.old) × IsNotOut self.old job.request) }
     {
-        self.look();
-        let request = job.request();
+        match self.place_of(job.request()) {
+            Some((place, number)) => {
+                self.complete(place, number, job, res);
+                Ok(())
+            }
+            None => Err(job),
+        }
+    }
+
+    // Where a request is pending whose job is out, and where its serial number stands.
+    fn place_of(&self, request: Request) -> Option<(usize, usize)>
+        ensures some { IfSome result (λ p. IsOut self.now request p.0 p.1) }
+        ensures none { IfNone result (IsNotOut self.now request) }
+    {
         let Some(place) = pending_place(&self.machine.pending, request) else {
-            return Err(job);
+            return None;
         };
         let Some(number) = number_of(&self.out, request.serial) else {
-            return Err(job);
+            return None;
         };
+        Some((place, number))
+    }
+
+    // The result of a job that is out.
+    fn complete(&mut self, place: usize, number: usize, job: Job, res: i32)
+        requires out { IsOut self.old job.request place number }
+        requires allowed { allows job res ≡ true }
+        ensures { Posted self.old job res self.new }
+    {
+        self.look();
         let (_, bytes) = job.into_parts();
         self.out.remove(number);
         let event = self.machine.complete(place, res, &bytes);
         self.history.push_reserved(event);
-        Ok(())
     }
 }
 

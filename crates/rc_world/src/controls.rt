@@ -155,8 +155,17 @@ impl Controls {
         program.line_at(thread as usize, place)
     }
 
-    /// The value of a variable.
-    pub(crate) fn variable(&self, thread: u32, x: usize) -> i64
+    /// What a store or a fill of a variable writes: the low eight bits of its value.
+    pub fn byte(&self, thread: u32, x: usize) -> u8
+        requires exists { thread < length self.now.threads }
+        requires within { x < 64 }
+        ensures { result ≡ spec.low_byte (spec.variable (standing_at self.now thread) x) }
+    {
+        (self.variable(thread, x).cast_unsigned() % 256) as u8
+    }
+
+    // The value of a variable.
+    fn variable(&self, thread: u32, x: usize) -> i64
         requires exists { thread < length self.now.threads }
         requires within { x < 64 }
         ensures { result ≡ spec.variable (standing_at self.now thread) x }
@@ -245,11 +254,11 @@ impl Controls {
             }
             Op::Load(x, _, _) => self.load(program, thread, place, x, answer),
             Op::Store(_, _, x) => {
-                let byte = low_byte(self.variable(thread, x));
+                let byte = self.byte(thread, x);
                 self.pass(program, thread, place, Action::Stored(byte))
             }
             Op::Fill(_, x) => {
-                let byte = low_byte(self.variable(thread, x));
+                let byte = self.byte(thread, x);
                 self.pass(program, thread, place, Action::Filled(byte))
             }
             Op::Print(x) => {
@@ -335,13 +344,6 @@ fn difference(a: i64, b: i64) -> i64
     ensures { result ≡ spec.wrapped (a -ℤ b) }
 {
     a.wrapping_sub(b)
-}
-
-// The low eight bits.
-pub(crate) fn low_byte(value: i64) -> u8
-    ensures { result ≡ spec.low_byte value }
-{
-    (value.cast_unsigned() % 256) as u8
 }
 
 // The place where a thread comes to rest that goes to this one, over lines that are no events, and whether an arm ends

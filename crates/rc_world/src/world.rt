@@ -13,7 +13,7 @@ ghost use Rattle.rc_world.specs.WorldParts.{begun_buffers, begun_pending, view_p
 
 use self::bytes::Bytes;
 use self::requests::{kernel_may, place_of_pending};
-use crate::controls::{Answer, Controls, Next, low_byte};
+use crate::controls::{Answer, Controls, Next};
 use crate::event::{Completion, Event, Item};
 use crate::fault::Fault;
 use rc_lang::lines::{Op, Stmt, Test};

@@ -14,7 +14,6 @@ use super::bytes::Bytes;
 use super::faults::{has_buffer, names};
 use super::requests::{is_read, place_of_pending, remove_first};
 use super::{Pending, Slot, World};
-use crate::controls::low_byte;
 use crate::event::{Completion, Event};
 use rc_lang::lines::{Op, Stmt};
 use rc_lang::request::{Kind, Request};
@@ -54,11 +53,11 @@ impl<'a> World<'a> {
             Op::Subtract(_, _, _) => Ok(()),
             Op::Load(_, _, _) => Ok(()),
             Op::Store(buffer, i, x) => {
-                let byte = low_byte(self.controls.variable(thread, x));
+                let byte = self.controls.byte(thread, x);
                 self.store(buffer, i, byte)
             }
             Op::Fill(buffer, x) => {
-                let byte = low_byte(self.controls.variable(thread, x));
+                let byte = self.controls.byte(thread, x);
                 self.fill(buffer, byte)
             }
             Op::Print(_) => Ok(()),

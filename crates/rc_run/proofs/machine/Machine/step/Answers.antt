@@ -1,35 +1,39 @@
-use Rattle.std.proofs.Common.{◌≡◌, ℤ, w32, Some, ap, sym, subst, ◌∙◌, rules}
+use Rattle.std.proofs.Common.{ℤ, w32, Some, IsSome, ap, sym, subst, ◌∙◌}
 use Rattle.std.proofs.lemmas.Int.{to_z-of_z}
-use Rattle.std.specs.Prelude.{MatchResult, Option}
-use Rattle.std.specs.Arc.{arc_value}
-use Rattle.rc_lang.specs.declared.lines.Stmt.{Stmt}
-use Rattle.rc_world.specs.declared.event.Event.{Event}
-use Rattle.rc_world.specs.Changes.{StmtIsSmall}
-use Rattle.rc_world.specs.Machine.{World, stmt_answer, with_controls}
-use Rattle.rc_world.proofs.WorldSteps.{small_here}
+use Rattle.rc_world.specs.Changes.{standing_at}
+use Rattle.rc_world.specs.Machine.{in_rings, stmt_answer}
+use Rattle.rc_world.proofs.WorldSteps.{at_line, small_here, step_done, step_ready, step_some}
 use Rattle.rc_run.specs.declared.machine.Machine.{Machine}
-use Rattle.rc_run.specs.Machine.{call_step, world_of}
-use Rattle.rc_run.proofs.Steps.{plain_datasync, step_of_call, step_of_plain}
+use Rattle.rc_run.specs.Machine.{world_of}
 use Rattle.rc_run.proofs.machine.Machine.step.Goals as goal
 
-pub call-requires-clause-small : goal.call-requires-clause-small
-call-requires-clause-small c =
-    let m = c.args.self.now in
-    subst (λ (s : Stmt). StmtIsSmall (arc_value m.admitted) s) c.in-Do.is (small_here (world_of m) c.requires.kept c.args.thread c.args.taken c.args.line c.requires.line)
+pub rings-requires-clause-exists : goal.rings-requires-clause-exists
+rings-requires-clause-exists c = let w = world_of c.args.self.now in (at_line w.program w.controls c.args.thread c.args.line c.requires.line).exists
 
-pub returns-in-Do-clause-step : goal.returns-in-Do-clause-step
-returns-in-Do-clause-step c =
-    let w = world_of c.args.self.now in
-    let answer = c.answer-answer.ensures ∙ ap (λ (z : ℤ). stmt_answer w z c.args.line.stmt) (to_z-of_z w32 c.args.taken c.ranges.taken) in
-    let same = step_of_call w c.requires.kept c.args.thread c.args.taken c.args.line c.requires.line c.answer-answer.result answer c.in-Do.op c.in-Do.is in
-    let made = subst (λ (z : ℤ). MatchResult c.call.result (λ e. call_step w c.args.thread c.in-Do.op z c.answer-answer.result ≡ Some (e, world_of c.call.new.self)) (λ x. world_of c.call.new.self ≡ w)) (to_z-of_z w32 c.args.taken c.ranges.taken) c.call.ensures.step in
-    subst (λ (o : Option (Event × World)). MatchResult c.call.result (λ e. o ≡ Some (e, world_of c.call.new.self)) (λ x. world_of c.call.new.self ≡ w)) (sym same) made
+pub rings-requires-clause-small : goal.rings-requires-clause-small
+rings-requires-clause-small c = small_here (world_of c.args.self.now) c.requires.kept c.args.thread c.args.taken c.args.line c.requires.line
 
-pub returns-in_default : goal.returns-in_default
-returns-in_default c =
+pub rings-requires-clause-step : goal.rings-requires-clause-step
+rings-requires-clause-step c =
     let w = world_of c.args.self.now in
-    let answer = c.answer-answer.ensures ∙ ap (λ (z : ℤ). stmt_answer w z c.args.line.stmt) (to_z-of_z w32 c.args.taken c.ranges.taken) in
-    let same = step_of_plain w c.requires.kept c.args.thread c.args.taken c.args.line c.requires.line c.answer-answer.result answer c.in_default.not-Do in
-    let m = c.args.self.now in
-    let ring : c.advance.new.self.ring.datasync ≡ m.ring.datasync = ap (λ (v : Machine). v.ring.datasync) c.advance.ensures.rest in
-    record { step = same ∙ ap (with_controls (Some w)) c.advance.ensures.step ∙ search rules; datasync = ring ∙ sym (plain_datasync c.args.line.stmt m.ring.datasync c.in_default.not-Do); rest = search rules }
+    subst (λ (z : ℤ). IsSome (in_rings w (standing_at w.controls c.args.thread) z c.args.line.stmt)) (sym (to_z-of_z w32 c.args.taken c.ranges.taken))
+    (step_some w c.requires.kept c.args.thread c.args.taken c.args.line c.requires.line c.requires.step).0
+
+pub advance-requires : goal.advance-requires
+advance-requires c =
+    let w = world_of c.args.self.now in
+    let l = c.args.line in
+    let read = to_z-of_z w32 c.args.taken c.ranges.taken in
+    let rings = ap (λ z. in_rings w (standing_at w.controls c.args.thread) z l.stmt) (sym read) ∙ c.in_ok-rings.ensures.step in
+    let answer = c.answer-answer.ensures ∙ ap (λ z. stmt_answer w z l.stmt) read in
+    step_ready w c.requires.kept c.args.thread c.args.taken l c.requires.line (world_of c.rings.new.self) rings c.answer-answer.result answer c.requires.step
+
+pub returns-clause-step : goal.returns-clause-step
+returns-clause-step c =
+    let w = world_of c.args.self.now in
+    let l = c.args.line in
+    let read = to_z-of_z w32 c.args.taken c.ranges.taken in
+    let rings = ap (λ z. in_rings w (standing_at w.controls c.args.thread) z l.stmt) (sym read) ∙ c.in_ok-rings.ensures.step in
+    let answer = c.answer-answer.ensures ∙ ap (λ z. stmt_answer w z l.stmt) read in
+    step_done w c.requires.kept c.args.thread c.args.taken l c.requires.line (world_of c.rings.new.self) rings c.answer-answer.result answer c.advance.result c.advance.new.self.controls c.advance.ensures.step
+    ∙ ap (λ (m : Machine). Some (c.advance.result, world_of m)) (sym c.advance.ensures.rest)

@@ -2,7 +2,7 @@ use Rattle.std.proofs.Common.{rules, ◌≡◌, true, None, if◌then◌else◌,
 use Rattle.std.proofs.lemmas.List.{map-set}
 use Rattle.rc_world.specs.Machine as machine
 use Rattle.rc_world.specs.WorldParts.{view_bytes}
-use Rattle.rc_run.proofs.machine.taken_bytes.Goals as goal
+use Rattle.rc_run.proofs.machine.rings.taken_bytes.Goals as goal
 
 pub returns-in-Some-clause-buffers : goal.returns-in-Some-clause-buffers
 returns-in-Some-clause-buffers c =

@@ -1,6 +1,6 @@
 use Rattle.std.proofs.Common.{sym, ◌∙◌}
 use Rattle.rc_run.proofs.Begins.{begun_more}
-use Rattle.rc_run.proofs.machine.begin_all.Goals as goal
+use Rattle.rc_run.proofs.machine.rings.begin_all.Goals as goal
 
 pub loop-i-preserved : goal.loop-i-preserved
 loop-i-preserved c =

@@ -2,7 +2,7 @@ use Rattle.std.proofs.Common.{nat_eq, sym, ap, ◌∙◌}
 use Rattle.std.specs.List.{position}
 use Rattle.rc_lang.specs.declared.request.Request.{Request}
 use Rattle.rc_world.proofs.Requests.{without_data-some, without_data-none}
-use Rattle.rc_run.proofs.machine.remove_first.Goals as goal
+use Rattle.rc_run.proofs.machine.rings.remove_first.Goals as goal
 
 pub returns-in-Some-clause-items : goal.returns-in-Some-clause-items
 returns-in-Some-clause-items c =

@@ -1,0 +1,236 @@
+//! What the steps of threads do to the rings and the buffers.
+
+ghost use Rattle.std.specs.Prelude.{◌≡◌, ◌+◌, ◌<◌, ◌≤◌, ◌^◌, IsSome, MatchResult, Some, true, length, map, nat_eq, position, take};
+ghost use Rattle.std.specs.Arc.{arc_value};
+ghost use Rattle.std.specs.Vec.{vec_capacity, vec_len};
+ghost use Rattle.rc_world.specs.Changes.{CallIsSmall, StmtIsSmall, standing_at};
+ghost use Rattle.rc_lang.specs.declared.lines.Stmt.TheVariants.{Do};
+ghost use Rattle.rc_world.specs.declared.world.Slot.TheVariants.{Closed};
+ghost use Rattle.rc_world.specs.Machine as machine;
+ghost use Rattle.rc_world.specs.WorldParts.{begun_buffers, begun_pending, view_bytes};
+ghost use Rattle.rc_run.specs.Held.{AreDistinct};
+ghost use Rattle.rc_run.specs.Machine.{IsClosedAt, IsFreshAt, IsSameRest, IsSized, datasync_by, datasync_by_call, pending_of, world_of};
+ghost use Rattle.rc_run.specs.Requests.{data_of};
+
+use super::{Machine, Pending};
+use crate::request_ring::RequestRing;
+use rc_lang::lines::{Op, Stmt};
+use rc_lang::request::{Kind, Request};
+use std::alloc::AllocError;
+
+impl Machine {
+    // What a statement of a thread does to the rings and the buffers, where a submit is answered this.
+    pub(super) fn rings(&mut self, thread: u32, stmt: Stmt, taken: i32) -> Result<(), AllocError>
+        requires exists { thread < length self.old.controls.threads }
+        requires small { StmtIsSmall (arc_value self.old.admitted) stmt }
+        requires sized { IsSized self.old }
+        requires step { IsSome (machine.in_rings (world_of self.old) (standing_at self.old.controls thread) taken stmt) }
+        requires suits { IsClosedAt self.old.ring.slot stmt }
+        requires fresh { IsFreshAt (world_of self.old) stmt }
+        requires room { self.old.ring.made + 1 < 2 ^ 64 }
+        ensures step { MatchResult result
+            (λ _. machine.in_rings (world_of self.old) (standing_at self.old.controls thread) taken stmt ≡ Some (world_of self.new))
+            (λ _. world_of self.new ≡ world_of self.old) }
+        ensures datasync { MatchResult result
+            (λ _. self.new.ring.datasync ≡ datasync_by stmt self.old.ring.datasync)
+            (λ _. self.new.ring.datasync ≡ self.old.ring.datasync) }
+        ensures rest { IsSameRest self.old self.new }
+    {
+        match stmt {
+            Stmt::Do(op) => self.call(thread, op, taken),
+            _ => Ok(()),
+        }
+    }
+
+    // What a statement without a block does to them.
+    fn call(&mut self, thread: u32, op: Op, taken: i32) -> Result<(), AllocError>
+        requires exists { thread < length self.old.controls.threads }
+        requires small { CallIsSmall (arc_value self.old.admitted) op }
+        requires sized { IsSized self.old }
+        requires step { IsSome (machine.op_in_rings (world_of self.old) (standing_at self.old.controls thread) taken op) }
+        requires suits { IsClosedAt self.old.ring.slot (Do op) }
+        requires fresh { IsFreshAt (world_of self.old) (Do op) }
+        requires room { self.old.ring.made + 1 < 2 ^ 64 }
+        ensures step { MatchResult result
+            (λ _. machine.op_in_rings (world_of self.old) (standing_at self.old.controls thread) taken op ≡ Some (world_of self.new))
+            (λ _. world_of self.new ≡ world_of self.old) }
+        ensures datasync { MatchResult result
+            (λ _. self.new.ring.datasync ≡ datasync_by_call op self.old.ring.datasync)
+            (λ _. self.new.ring.datasync ≡ self.old.ring.datasync) }
+        ensures rest { IsSameRest self.old self.new }
+    {
+        match op {
+            Op::Store(buffer, i, x) => {
+                let byte = self.controls.byte(thread, x);
+                self.store(buffer, i, byte);
+                Ok(())
+            }
+            Op::Fill(buffer, x) => {
+                let byte = self.controls.byte(thread, x);
+                self.fill(buffer, byte);
+                Ok(())
+            }
+            Op::GetSqe => {
+                self.ring.open();
+                Ok(())
+            }
+            Op::PrepRead(fd, buffer, len, off) => {
+                self.ring.prepare_read(fd as i32, buffer as u32, len, off);
+                Ok(())
+            }
+            Op::PrepWrite(fd, buffer, len, off, _) => {
+                self.ring.prepare_write(fd as i32, buffer as u32, len, off);
+                Ok(())
+            }
+            Op::PrepFsync(fd, datasync) => {
+                self.ring.prepare_fsync(fd as i32, datasync);
+                Ok(())
+            }
+            Op::PrepNop => {
+                self.ring.prepare_nop();
+                Ok(())
+            }
+            Op::SetData64(user_data) => self.ring.queue(user_data),
+            Op::Submit(_) | Op::SubmitAndWait(_, _) => self.hand_over(taken),
+            Op::CqeSeen => {
+                self.reap();
+                Ok(())
+            }
+            _ => Ok(()),
+        }
+    }
+
+    // A byte is written at a place of a buffer.
+    fn store(&mut self, buffer: usize, i: u32, byte: u8)
+        requires { IsSome (machine.stores (world_of self.old) buffer i byte (machine.bytes_of (world_of self.old) buffer)) }
+        ensures step { machine.stores (world_of self.old) buffer i byte (machine.bytes_of (world_of self.old) buffer) ≡ Some (world_of self.new) }
+        ensures rest { self.new ≡ record self.old { buffers = self.new.buffers } }
+    {
+        match &mut self.buffers[buffer] {
+            Some(bytes) => bytes[i as usize] = byte,
+            None => unreachable!(),
+        }
+    }
+
+    // A byte is written at every place of a buffer.
+    fn fill(&mut self, buffer: usize, byte: u8)
+        requires { IsSome (machine.fills (world_of self.old) buffer byte (machine.bytes_of (world_of self.old) buffer)) }
+        ensures step { machine.fills (world_of self.old) buffer byte (machine.bytes_of (world_of self.old) buffer) ≡ Some (world_of self.new) }
+        ensures rest { self.new ≡ record self.old { buffers = self.new.buffers } }
+    {
+        match &mut self.buffers[buffer] {
+            Some(bytes) => bytes.fill(byte),
+            None => unreachable!(),
+        }
+    }
+
+    // The first queued requests become pending, as many as the submit took.
+    fn hand_over(&mut self, taken: i32) -> Result<(), AllocError>
+        requires take { machine.is_take (world_of self.old) taken ≡ true }
+        requires closed { self.old.ring.slot ≡ Closed }
+        requires distinct { AreDistinct (data_of self.old.ring.queued) }
+        requires sized { IsSized self.old }
+        ensures step { MatchResult result
+            (λ _. world_of self.new ≡ machine.hands_over (world_of self.old) (machine.count_in taken))
+            (λ _. world_of self.new ≡ world_of self.old) }
+        ensures datasync { self.new.ring.datasync ≡ self.old.ring.datasync }
+        ensures rest { IsSameRest self.old self.new }
+        ensures controls { self.new.controls ≡ self.old.controls }
+    {
+        let count = count_in(taken);
+        self.pending.reserve(count as usize)?;
+        begin_all(&self.ring, &mut self.pending, &mut self.buffers, count);
+        self.ring.hand_over(count);
+        Ok(())
+    }
+
+    // The front completion goes, and its request is no longer in flight.
+    fn reap(&mut self)
+        requires step { IsSome (machine.reaps_front (world_of self.old) self.old.ring.completions) }
+        requires sized { IsSized self.old }
+        ensures step { machine.reaps_front (world_of self.old) self.old.ring.completions ≡ Some (world_of self.new) }
+        ensures datasync { self.new.ring.datasync ≡ self.old.ring.datasync }
+        ensures rest { IsSameRest self.old self.new }
+        ensures controls { self.new.controls ≡ self.old.controls }
+    {
+        let Some(completion) = self.ring.front() else {
+            unreachable!()
+        };
+        self.ring.see();
+        remove_first(&mut self.completed, completion.user_data);
+    }
+}
+
+// The first queued requests become pending, in order.
+fn begin_all(
+    ring: &RequestRing,
+    pending: &mut Vec<Pending>,
+    buffers: &mut Vec<Option<Vec<u8>>>,
+    count: u32,
+)
+    requires room { vec_len pending.old + count ≤ vec_capacity pending.old }
+    requires queued { count ≤ length ring.now.queued }
+    ensures pending { map pending_of pending.new.items
+        ≡ begun_pending (map pending_of pending.old.items) (map view_bytes buffers.old.items) (take count ring.now.queued) }
+    ensures buffers { map view_bytes buffers.new.items ≡ begun_buffers (map view_bytes buffers.old.items) (take count ring.now.queued) }
+{
+    for i in 0..count {
+        let Some(request) = ring.request(i) else {
+            unreachable!()
+        };
+        let bytes = taken_bytes(buffers, request);
+        pending.push_reserved(Pending { request, bytes });
+    }
+}
+
+// The bytes that a request takes with it as it becomes pending.
+fn taken_bytes(buffers: &mut Vec<Option<Vec<u8>>>, request: Request) -> Option<Vec<u8>>
+    ensures bytes { view_bytes result ≡ machine.taken_bytes (map view_bytes buffers.old.items) request }
+    ensures buffers { map view_bytes buffers.new.items ≡ machine.without_taken (map view_bytes buffers.old.items) request }
+{
+    if !is_read(request.kind) {
+        return None;
+    }
+    match buffers.get_mut(request.buffer as usize) {
+        Some(bytes) => bytes.take(),
+        None => None,
+    }
+}
+
+fn is_read(kind: Kind) -> bool
+    ensures { result ≡ machine.is_read kind }
+{
+    match kind {
+        Kind::Nop => false,
+        Kind::Fsync => false,
+        Kind::Read => true,
+        Kind::Write => false,
+    }
+}
+
+// The number in a count or a negative errno, which counts for 0.
+fn count_in(number: i32) -> u32
+    ensures { result ≡ machine.count_in number }
+{
+    u32::try_from(number).unwrap_or(0)
+}
+
+// The requests without the first that has this user data.
+fn remove_first(requests: &mut Vec<Request>, user_data: u64)
+    ensures items { requests.new.items ≡ machine.without_data user_data requests.old.items }
+    ensures fewer { vec_len requests.new ≤ vec_len requests.old }
+    ensures capacity { vec_capacity requests.new ≡ vec_capacity requests.old }
+{
+    if let Some(place) = place_of(requests, user_data) {
+        requests.remove(place);
+    }
+}
+
+// The place of the first request with this user data.
+fn place_of(requests: &[Request], user_data: u64) -> Option<usize>
+    ensures { result ≡ position (λ r. nat_eq r.user_data user_data) requests.now }
+{
+    requests
+        .iter()
+        .position(|request| request.user_data == user_data)
+}
