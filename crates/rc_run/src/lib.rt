@@ -11,4 +11,3 @@ mod machine;
 pub mod report;
 mod request_ring;
 pub mod runner;
-mod same;
