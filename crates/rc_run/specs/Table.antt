@@ -1,13 +1,17 @@
 -- What lies under the lock of a run, as contracts see it.
-use Rattle.std.specs.Prelude.{ℕ, ◌≡◌, ◌≢◌, ◌⊎◌, ◌<◌, Bool, true, false, ◌||◌, if◌then◌else◌, length, nat_le}
+use Rattle.std.specs.Prelude.{ℕ, ℤ, ◌≡◌, ◌≢◌, ◌⊎◌, ◌<◌, ◌≤◌, Bool, true, false, ◌||◌, if◌then◌else◌, count_by, length, nat_le}
 use Rattle.rc_lang.specs.declared.lines.Line.{Line}
+use Rattle.rc_lang.specs.Program.{Program}
 use Rattle.rc_run.specs.declared.live.Turn.{Turn}
 use Rattle.rc_run.specs.declared.live.Turn.TheVariants as turn
+use Rattle.rc_run.specs.declared.locked.Ending.{Ending}
+use Rattle.rc_run.specs.declared.locked.Ending.TheVariants as ending
 use Rattle.rc_run.specs.Lives.{Live}
-use Rattle.rc_run.specs.Reports.{AllEnded}
+use Rattle.rc_run.specs.Reports.{AllEnded, AllGiven, IsUnended, is_turn}
 use Rattle.rc_world.specs.declared.controls.Next.TheVariants.{Ready}
 use Rattle.rc_world.specs.Items.{next_of}
-use Rattle.rc_world.specs.Machine.{World}
+use Rattle.rc_world.specs.Machine.{World, start_world}
+use Rattle.rc_world.specs.Runs.{IsRun, IsSafe}
 
 -- The run, how many of its events are of threads and how many may be, whether memory was refused, and whether a thread
 -- sleeps until there is an event more.
@@ -44,13 +48,36 @@ turns_by turn.Ended = 0
 abbrev pub IsOver : Table → Type 0
 IsOver t = (is_stopped t ≡ true) ⊎ AllEnded t.run.world
 
+-- How a run stands once its threads have stopped: where a thread hasn't ended, the limit is asked for before memory.
+abbrev pub EndsAs : Table → Ending → Type 0
+EndsAs t ending.Ended = AllEnded t.run.world × (t.memory ≡ false)
+EndsAs t ending.Limit = (t.limit ≤ t.turns) × ((i : ℕ) × IsUnended t.run.world i)
+EndsAs t ending.Memory = (AllEnded t.run.world × (t.memory ≡ true)) ⊎ ((t.turns < t.limit) × ((i : ℕ) × IsUnended t.run.world i))
+
 -- Another thread than the i-th can make a step.
 abbrev pub OtherMoves : World → ℕ → Type 0
 OtherMoves w i = (j : ℕ) × (j ≢ i) × ((l : Line) × (next_of w.program w.controls j ≡ Ready l))
 
--- No event came since there were so many, the threads go on, and there is something to wait for: that a request
+-- No event came since there were so many, and another thread can make one.
+pub record OthersMayGo (t : Table) (i seen : ℕ) : Type 0 where
+  pub same : length t.run.history ≡ seen
+  pub goes_on : is_stopped t ≡ false
+  pub others : OtherMoves t.run.world i
+
+-- No event came since there were so many, the run isn't over, and there is something to wait for: that a request
 -- completes, or that another thread makes an event.
 pub record MayWait (t : Table) (i seen : ℕ) : Type 0 where
   pub same : length t.run.history ≡ seen
-  pub goes_on : is_stopped t ≡ false
+  pub goes_on : IsOver t → ⊥
   pub something : (0 < length t.run.world.pending) ⊎ OtherMoves t.run.world i
+
+-- What is kept of a run under the lock, of which the book has counted so many events: it is one of the program, which
+-- is safe, its results are given, and no more of its events are of threads than the limit says.
+pub record IsTable (gives : ℕ → ℤ → Type 0) (program : Program) (limit total : ℕ) (t : Table) : Type 0 where
+  pub run : IsRun (start_world program) t.run.history t.run.world
+  pub safe : IsSafe program
+  pub given : AllGiven gives t.run.history
+  pub counted : length t.run.history ≡ total
+  pub turns : t.turns ≡ count_by is_turn t.run.history
+  pub limit_is : t.limit ≡ limit
+  pub few : t.turns ≤ limit

@@ -11,6 +11,5 @@ mod machine;
 pub mod report;
 mod request_ring;
 pub mod runner;
-mod same;
 #[cfg(test)]
 mod stepping;

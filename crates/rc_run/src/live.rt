@@ -102,6 +102,13 @@ impl Live {
         self.machine.next(thread)
     }
 
+    /// Which thread holds the lock of the program.
+    pub fn holder(&self) -> Option<u32>
+        ensures { result ≡ self.now.world.controls.holder }
+    {
+        self.machine.controls.holder()
+    }
+
     /// The events so far.
     pub fn history(&self) -> &[Event]
         ensures { result.now ≡ self.now.history }

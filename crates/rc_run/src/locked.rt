@@ -1,18 +1,39 @@
 //! What lies under the lock of a run.
 
-ghost use Rattle.std.specs.Prelude.{◌≡◌, ◌≢◌, ◌⊎◌, ◌↔◌, ◌||◌, ◌+◌, ◌≤◌, ℕ, ℤ, negsuc, ◌≤ℤ◌, [], true, false, length, IfErr, IfNone, IfSome, IsTrue, MatchOption, OnOk};
+ghost use Rattle.std.specs.Prelude.{◌≡◌, ◌≢◌, ◌⊎◌, ◌↔◌, ◌||◌, ◌+◌, ◌≤◌, ℕ, ℤ, negsuc, ◌≤ℤ◌, [], true, false, None, length, IfErr, IfNone, IfSome, IsTrue, MatchOption, OnOk};
 ghost use Rattle.rc_run.specs.Jobs.{allows};
-ghost use Rattle.rc_run.specs.Reports.{AllEnded, AllGiven, IsUnended, is_turn};
-ghost use Rattle.rc_run.specs.Lives.{IsNotOut, Lent, Posted, Turned, free};
-ghost use Rattle.rc_run.specs.Table.{IsOver, MayWait, OtherMoves, after_no_turn, after_refusal, is_stopped, new_table, turns_by};
+ghost use Rattle.rc_run.specs.Reports.{AllEnded, IsUnended};
+ghost use Rattle.rc_run.specs.Lives.{IsNotOut, Lent, Posted, Turned, begun, free};
+ghost use Rattle.rc_run.specs.Table.{EndsAs, IsOver, IsTable, MayWait, OtherMoves, OthersMayGo, after_no_turn, after_refusal, is_stopped, new_table, turns_by};
 ghost use Rattle.rc_world.specs.Items.{next_of};
+ghost use Rattle.rc_world.specs.Runs.{IsSafe};
 
 use crate::job::Job;
 use crate::live::{Live, Turn};
 use rc_device::device::Device;
 use rc_world::controls::Next;
-use std::marker::{Model, PhantomData};
+use rc_world::event::Event;
+use std::marker::{Brand, Model, PhantomData};
 use std::sync::ledger::{Book, Ledger, Share};
+
+/// What is asked of a run: its program, and how many events of threads there may be. A type stands for both, so that
+/// whatever is found under the lock is a run of that program.
+pub trait Asked {
+    ghost use Rattle.std.specs.Prelude.{ℕ};
+    ghost use Rattle.rc_lang.specs.Program.{Program};
+
+    ghost program: { Program };
+
+    ghost limit: { ℕ };
+}
+
+impl Asked for Brand {
+    ghost use Rattle.std.specs.Prelude.{[]};
+
+    ghost program = { record { entries = 0; completion_entries = 0; left = 0; files = []; buffers = []; tokens = []; threads = [] } };
+
+    ghost limit = { 0 };
+}
 
 /// What a thread has counted, with its part of the ledger.
 #[derive(Drop)]
@@ -23,9 +44,20 @@ pub struct Counted<L: Ledger> {
     pub ghost same: { share.amount ≡ events },
 }
 
+/// How a run stands once its threads have stopped.
+#[derive(Clone, Copy)]
+pub enum Ending {
+    /// Each thread has ended, and no growth was refused.
+    Ended,
+    /// The limit is reached, and a thread hasn't ended.
+    Limit,
+    /// A growth was refused.
+    Memory,
+}
+
 /// A run that is under way, with the book of its events.
 #[derive(Drop)]
-pub struct Locked<D: Device, L: Ledger> {
+pub struct Locked<D: Device, L: Ledger + Asked> {
     live: Live,
     events: Book<L>,
     // How many events of threads there may be, and how many there are.
@@ -39,24 +71,22 @@ pub struct Locked<D: Device, L: Ledger> {
 }
 
 // Clauses see all but the book.
-impl<D: Device, L: Ledger> Model for Locked<D, L> {
-    ghost use Rattle.std.specs.Prelude.{◌≡◌, length, count_by};
-    ghost use Rattle.rc_run.specs.Reports.{AllGiven, is_turn};
-    ghost use Rattle.rc_run.specs.Table.{Table};
+impl<D: Device, L: Ledger + Asked> Model for Locked<D, L> {
+    ghost use Rattle.rc_run.specs.Table.{IsTable, Table};
 
     ghost Value = { Table };
 
     ghost view = { λ s. record { run = s.live; turns = s.turns; limit = s.limit; memory = s.memory; awaited = s.awaited } };
 
-    ghost invariant = { λ s.
-        (length s.live.history ≡ s.events.total) × AllGiven D.gives s.live.history
-        × (s.turns ≡ count_by is_turn s.live.history) };
+    ghost invariant = { λ s. IsTable D.gives L.program L.limit s.events.total (record { run = s.live; turns = s.turns; limit = s.limit; memory = s.memory; awaited = s.awaited }) };
 }
 
-impl<D: Device, L: Ledger> Locked<D, L> {
+impl<D: Device, L: Ledger + Asked> Locked<D, L> {
     /// A run with no event, and a book of none.
     pub fn new(live: Live, events: Book<L>, limit: u64) -> Locked<D, L>
-        requires live { live.history ≡ [] }
+        requires live { live ≡ begun L.program }
+        requires safe { IsSafe L.program }
+        requires limit { limit ≡ L.limit }
         requires total { events.total ≡ 0 }
         ensures { result ≡ new_table live limit }
     {
@@ -84,6 +114,13 @@ impl<D: Device, L: Ledger> Locked<D, L> {
         ensures few { result ≤ 1024 }
     {
         self.live.queued()
+    }
+
+    /// Whether no thread holds the lock of the program.
+    pub fn is_free(&self) -> bool
+        ensures { IsTrue result ↔ (self.now.run.world.controls.holder ≡ None) }
+    {
+        self.live.holder().is_none()
     }
 
     /// Makes the next statement of a thread, and counts it. None where the limit is reached or memory was refused.
@@ -165,12 +202,23 @@ impl<D: Device, L: Ledger> Locked<D, L> {
         self.memory = true;
     }
 
-    /// The run, whose events are those that were counted.
-    pub fn ledgered(self, all: &mut Share<L>) -> Live
+    /// How the run stands. Where a thread hasn't ended, the limit is asked for before memory.
+    pub fn ending(&self) -> Ending
+        ensures { EndsAs self.now result }
+    {
+        match unended(&self.live) {
+            None if self.memory => Ending::Memory,
+            None => Ending::Ended,
+            Some(_) if self.turns >= self.limit => Ending::Limit,
+            Some(_) => Ending::Memory,
+        }
+    }
+
+    /// The events, which are those that were counted.
+    pub fn close(self, all: &mut Share<L>) -> Vec<Event>
         requires { all.old.parts ≡ L.parts }
-        ensures live { result ≡ self.run }
-        ensures counted { length result.history ≡ all.old.amount }
-        ensures given { AllGiven D.gives result.history }
+        ensures history { result.items ≡ self.run.history }
+        ensures table { IsTable D.gives L.program L.limit all.old.amount self }
     {
         let Locked {
             live,
@@ -178,7 +226,7 @@ impl<D: Device, L: Ledger> Locked<D, L> {
             ..
         } = self;
         events.audit(all);
-        live
+        live.close()
     }
 
     /// Whether the threads are to stop.
@@ -192,7 +240,7 @@ impl<D: Device, L: Ledger> Locked<D, L> {
     pub fn is_idle(&self) -> bool
         ensures { IsTrue result ↔ ((free self.now.run ≡ []) × ¬ IsOver self.now) }
     {
-        self.live.free() == 0 && !self.is_over()
+        !self.is_over() && self.live.free() == 0
     }
 
     /// Whether a thread that saw so many events has something to wait for: that a request completes, or that another
@@ -201,8 +249,15 @@ impl<D: Device, L: Ledger> Locked<D, L> {
         ensures { IsTrue result ↔ MayWait self.now thread seen }
     {
         self.len() == seen
-            && !self.is_stopped()
+            && !self.is_over()
             && (self.live.pending() > 0 || self.other_moves(thread))
+    }
+
+    /// Whether another thread than this one, which saw so many events, can go on, and has made none since.
+    pub fn others_may_go(&self, thread: u32, seen: usize) -> bool
+        ensures { IsTrue result ↔ OthersMayGo self.now thread seen }
+    {
+        self.len() == seen && !self.is_stopped() && self.other_moves(thread)
     }
 
     /// Whether a thread that saw so many events has something to wait for; then it is noted that it sleeps until there is

@@ -5,7 +5,7 @@ use Rattle.rc_main.proofs.Names.{names_at_end, names_at_limit, names_at_refusal}
 use Rattle.rc_main.proofs.running.played.Goals as goal
 
 pub returns-in-Ok : goal.returns-in-Ok
-returns-in-Ok g c = (names_at_end _ (arc_value c.args.admitted) c.args.limit (search rules) c.in-Ok.report c.in-Ok.ensures, tt)
+returns-in-Ok g c = (names_at_end _ (arc_value c.args.admitted) _ (search rules) c.in-Ok.report c.in-Ok.ensures, tt)
 
 pub returns-in-Err-Limit : goal.returns-in-Err-Limit
 returns-in-Err-Limit g c = (names_at_limit _ (arc_value c.args.admitted) _ (search rules) c.in-Err-Limit.field-0 c.in-Err-Limit.report (search rules) c.in-Err-Limit.ensures, tt)

@@ -11,4 +11,4 @@ returns g c =
     let P = c.args.admitted.now in
     let F : List Event → Type 0 = λ x. AllGiven g.D.Device.gives x in
     let H : List Event → Type 0 = λ x. IsRun (start_world P) x (start_world P) in
-    (start_world P, record { run = subst H (sym none) refl; safe = c.program.ensures.safe; given = subst F (sym none) tt; counted = search rules })
+    (start_world P, record { run = subst H (sym none) refl; safe = c.program.ensures.safe; given = subst F (sym none) tt; few = search rules; counted = search rules })

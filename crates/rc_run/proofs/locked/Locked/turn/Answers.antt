@@ -13,4 +13,12 @@ invariant_of-self g c =
     let v = c.turn.new.self in
     let P : ℤ → Type 0 = λ z. Turned s c.args.thread z o.field-0 v in
     let more = turn_more g.D.Device.gives s v c.args.thread c.args.take o.field-0 o.event (search rules) (subst P (to_z-of_z c.ranges.take) o.ensures.ok) in
-    (more.long ∙ ap (λ n. n + 1) i.0 ∙ sym (c.audit.ensures.total ∙ c.add.ensures.total), more.given i.1, ap (λ n. n + 1) i.2 ∙ sym more.count)
+    record {
+      run = more.run g.L.Asked.program i.safe i.run;
+      safe = i.safe;
+      given = more.given i.given;
+      counted = more.long ∙ ap (λ n. n + 1) i.counted ∙ sym (c.audit.ensures.total ∙ c.add.ensures.total);
+      turns = ap (λ n. n + 1) i.turns ∙ sym more.count;
+      limit_is = i.limit_is;
+      few = search rules;
+    }

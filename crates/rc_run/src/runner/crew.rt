@@ -1,0 +1,124 @@
+//! Crews: the players of a run, or its workers, from their start to what they counted.
+
+ghost use Rattle.std.specs.Prelude.{◌≡◌, ◌+◌, ◌<◌, ◌≤◌, [], IfOk, sum, vec_capacity, vec_len};
+ghost use Rattle.rc_run.specs.Rooms.{HasCapacity, IsAtWork};
+
+use crate::gate::Gate;
+use crate::locked::{Asked, Counted};
+use crate::runner::player::play;
+use crate::runner::shared::Shared;
+use crate::runner::worker::work;
+use rc_device::chooser::Chooser;
+use rc_device::device::Device;
+use std::alloc::{AllocError, Global};
+use std::sync::Wait;
+use std::sync::ledger::{Ledger, Share};
+use std::thread::{JoinHandle, Scope, Threads};
+
+/// What the threads of a crew do.
+#[derive(Clone, Copy)]
+pub enum Role {
+    /// Each plays the thread of the program with its number.
+    Player,
+    /// Each serves jobs.
+    Worker,
+}
+
+// A thread that runs, or the count of one that could not be made.
+#[derive(Drop)]
+pub enum Started<L: Ledger> {
+    Running(JoinHandle<Counted<L>>),
+    Over(Counted<L>),
+}
+
+/// The threads that are started, and room for what each counts.
+#[derive(Drop)]
+pub struct Crew<L: Ledger> {
+    pub started: Vec<Started<L>>,
+    pub counts: Vec<u64>,
+}
+
+impl<L: Ledger> Crew<L> {
+    /// Nobody, with room for so many.
+    pub fn new(alloc: Global, count: u32) -> Result<Crew<L>, AllocError>
+        ensures { IfOk result (λ r. HasCapacity count r.started × HasCapacity count r.counts) }
+    {
+        Ok(Crew {
+            started: Vec::with_capacity(alloc, count as usize)?,
+            counts: Vec::with_capacity(alloc, count as usize)?,
+        })
+    }
+
+    /// Starts its threads, each with a part of the share. Where one can't be made the run is to stop, and its part is
+    /// played here.
+    pub fn start<
+        's,
+        E,
+        D: Device + Drop + Send + 's,
+        C: Chooser + Drop + Send + 's,
+        G: Gate + Sync + 's,
+        R: Threads + Wait + Sync + 's,
+    >(
+        self,
+        scope: &Scope<'s, E>,
+        rt: &'s R,
+        shared: &'s Shared<D, C, L>,
+        gate: &'s G,
+        role: Role,
+        count: u32,
+        all: &mut Share<L>,
+    ) -> Crew<L>
+    where
+        L: Asked + Send + Sync + 's,
+        requires room { HasCapacity count self.started × HasCapacity count self.counts }
+        requires parts { count ≤ all.old.parts }
+        requires amount { all.old.amount ≡ 0 }
+        ensures at_work { IsAtWork count result.started result.counts }
+        ensures parts { all.new.parts + count ≡ all.old.parts }
+        ensures amount { all.new.amount ≡ 0 }
+    {
+        let Crew {
+            mut started,
+            counts,
+        } = self;
+        for number in 0..count {
+            let mine = Counted {
+                events: 0,
+                share: all.split_off(1, 0),
+            };
+            let act = move || match role {
+                Role::Player => play(rt, shared, gate, number, mine),
+                Role::Worker => work(rt, shared, mine),
+            };
+            match scope.spawn(act) {
+                Ok(handle) => started.push_reserved(Started::Running(handle)),
+                Err(refused) => {
+                    shared.stop(rt);
+                    started.push_reserved(Started::Over((refused.value)()));
+                }
+            }
+        }
+        Crew { started, counts }
+    }
+
+    /// Waits for each thread, and answers what each counted. The shares come back into one.
+    pub fn join<R: Threads>(self, rt: &R, count: u32, all: &mut Share<L>) -> Vec<u64>
+        requires at_work { IsAtWork count self.started self.counts }
+        ensures parts { all.new.parts ≡ all.old.parts + count }
+        ensures amount { all.new.amount ≡ all.old.amount + sum result.items }
+    {
+        let Crew {
+            started,
+            mut counts,
+        } = self;
+        for one in started {
+            let Counted { events, share } = match one {
+                Started::Running(handle) => handle.join(rt),
+                Started::Over(counted) => counted,
+            };
+            all.merge(share);
+            counts.push_reserved(events);
+        }
+        counts
+    }
+}

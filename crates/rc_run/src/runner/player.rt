@@ -1,0 +1,222 @@
+//! Players: each makes the turns of one thread of the program.
+
+ghost use Rattle.std.specs.Prelude.{◌≡◌, ◌⊎◌, ◌≤◌, ℤ, pos, negsuc, ◌≤ℤ◌};
+
+use crate::gate::Gate;
+use crate::live::Turn;
+use crate::locked::{Asked, Counted};
+use crate::runner::shared::{Shared, draw};
+use rc_device::chooser::Chooser;
+use rc_device::device::Device;
+use rc_world::event::{Action, Event};
+use std::sync::Wait;
+use std::sync::ledger::Ledger;
+use std::thread;
+
+// How often a thread leaves the processor before it sleeps: mostly another has made an event by then, and neither has to
+// be woken.
+const YIELDS: u32 = 4;
+
+// After how many events in a row a thread leaves the processor, and how often at most where another thread can go on.
+const ROW: usize = 256;
+
+const ROW_YIELDS: u32 = 10000;
+
+/// Plays a thread of the program to its end, or until the run is to stop.
+pub fn play<D: Device, C: Chooser, G: Gate, L: Ledger + Asked, R: Wait>(
+    rt: &R,
+    shared: &Shared<D, C, L>,
+    gate: &G,
+    thread: u32,
+    mut mine: Counted<L>,
+) -> Counted<L> {
+    let mut pace = Pace {
+        is_idle: false,
+        seen: 0,
+        row: 0,
+    };
+    for _ in rt.forever() {
+        let turn = mine.events.saturating_add(1);
+        gate.pass(thread, turn);
+        match take_turn(rt, shared, thread, &mut mine) {
+            None | Some((Brought::End, _)) => break,
+            Some((Brought::TakenLock, _)) => {}
+            Some((brought, seen)) => {
+                tell(shared, brought);
+                gate.answered(thread, turn);
+                pause(rt, shared, thread, seen, pace.rest_after(brought, seen));
+            }
+        }
+    }
+    shared.tell_all();
+    mine
+}
+
+// What a turn of a thread brought.
+#[derive(Clone, Copy)]
+enum Brought {
+    // No event: the thread has nothing left.
+    End,
+    // No event: the thread stands at the lock of the program, which is taken.
+    TakenLock,
+    // An event that took the lock of the program.
+    Lock,
+    // An event after which the lock of the program is free.
+    FreeLock,
+    // An event that queued an entry or reaped a completion.
+    Move,
+    // An event after which this many more requests are pending, at least one.
+    Requests(i32),
+    // An event that found no completion.
+    NoCompletion,
+    // Another event.
+    Event,
+}
+
+fn brought_by(turn: Turn, is_free: bool) -> Brought {
+    let action = match turn {
+        Turn::Ended => return Brought::End,
+        Turn::Waits => return Brought::TakenLock,
+        Turn::Done(Event::ByKernel(_)) => return Brought::Event,
+        Turn::Done(Event::ByThread { action, .. }) => action,
+    };
+    match action {
+        Action::Locked => Brought::Lock,
+        Action::Released | Action::LoopLeft if is_free => Brought::FreeLock,
+        Action::DataSet(_) | Action::Reaped(_) => Brought::Move,
+        Action::Submitted(taken) if taken > 0 => Brought::Requests(taken),
+        Action::PeekedNone => Brought::NoCompletion,
+        _ => Brought::Event,
+    }
+}
+
+// What a submit is to take, where so many entries are queued: at most as many, or -11 (EAGAIN).
+fn draw_take<D: Device, C: Chooser, L: Ledger + Asked, R: Wait>(
+    rt: &R,
+    shared: &Shared<D, C, L>,
+    queued: u32,
+) -> i32
+    requires { queued ≤ 1024 }
+    ensures { (result ≡ negsuc 10) ⊎ ((pos 0 ≤ℤ result) × (result ≤ℤ pos queued)) }
+{
+    let take = draw(rt, shared, queued + 2);
+    if take <= queued { take as i32 } else { -11 }
+}
+
+// Makes a turn of a thread, and answers what it brought and how many events there are then. Who sleeps until there is one
+// more is woken. Where the thread stands at the lock of the program, which is taken, it waits until that is released.
+// None where the run is to stop.
+fn take_turn<D: Device, C: Chooser, L: Ledger + Asked, R: Wait>(
+    rt: &R,
+    shared: &Shared<D, C, L>,
+    thread: u32,
+    mine: &mut Counted<L>,
+) -> Option<(Brought, usize)> {
+    let mut guard = shared.locked.lock(rt);
+    let take = draw_take(rt, shared, guard.queued());
+    let turn = guard.turn(thread, take, mine)?;
+    let brought = brought_by(turn, guard.is_free());
+    let seen = guard.len();
+    if let Brought::TakenLock = brought {
+        shared
+            .freed
+            .wait_while(rt, guard, |l| l.may_wait(thread, seen));
+    } else if guard.is_heard() {
+        drop(guard);
+        shared.moved.notify_all();
+    }
+    Some((brought, seen))
+}
+
+// Wakes those who wait for what a turn brought. One thread takes the free lock, and its release wakes the next.
+fn tell<D: Device, C, L: Ledger + Asked>(shared: &Shared<D, C, L>, brought: Brought) {
+    match brought {
+        Brought::FreeLock => shared.freed.notify_one(),
+        Brought::Requests(1) => shared.offered.notify_one(),
+        Brought::Requests(_) => shared.offered.notify_all(),
+        _ => {}
+    }
+}
+
+// What a thread does between an event of its own and its next turn.
+#[derive(Clone, Copy)]
+enum Rest {
+    None,
+    // It sleeps until there is an event more.
+    UntilEvent,
+    // It leaves the processor to the others for a moment.
+    Shortly,
+}
+
+// What a player remembers from turn to turn.
+#[derive(Drop)]
+struct Pace {
+    // Whether its thread has moved nothing since it took the lock of the program: queued no entry, had none taken by a
+    // submit, reaped nothing.
+    is_idle: bool,
+    // How many events there were at its last one, and how many it had made in a row.
+    seen: usize,
+    row: usize,
+}
+
+impl Pace {
+    // Notes an event. A thread that found no completion sleeps, and so does one that moved nothing while it held the lock
+    // of the program: it polls, and would take the lock again before the others have woken up.
+    fn rest_after(&mut self, brought: Brought, seen: usize) -> Rest {
+        let goes_on = seen == self.seen.saturating_add(1);
+        self.row = if goes_on {
+            self.row.saturating_add(1)
+        } else {
+            1
+        };
+        self.seen = seen;
+        match brought {
+            Brought::Lock => self.is_idle = true,
+            Brought::Move | Brought::Requests(_) => self.is_idle = false,
+            Brought::NoCompletion => return Rest::UntilEvent,
+            Brought::FreeLock if self.is_idle => {
+                self.is_idle = false;
+                return Rest::UntilEvent;
+            }
+            Brought::FreeLock if self.row >= ROW => return Rest::Shortly,
+            _ => {}
+        }
+        if self.row > 0 && self.row % ROW == 0 {
+            Rest::Shortly
+        } else {
+            Rest::None
+        }
+    }
+}
+
+// Rests, where there were so many events. It ends as soon as another made one.
+fn pause<D: Device, C, L: Ledger + Asked, R: Wait>(
+    rt: &R,
+    shared: &Shared<D, C, L>,
+    thread: u32,
+    seen: usize,
+    rest: Rest,
+) {
+    if let Rest::None = rest {
+        return;
+    }
+    for _ in 0..YIELDS {
+        if !shared.locked.lock(rt).may_wait(thread, seen) {
+            return;
+        }
+        thread::yield_now();
+    }
+    if let Rest::UntilEvent = rest {
+        let guard = shared.locked.lock(rt);
+        shared
+            .moved
+            .wait_while(rt, guard, |l| l.listen(thread, seen));
+        return;
+    }
+    for _ in 0..ROW_YIELDS {
+        if !shared.locked.lock(rt).others_may_go(thread, seen) {
+            return;
+        }
+        thread::yield_now();
+    }
+}

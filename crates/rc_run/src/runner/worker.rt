@@ -1,0 +1,103 @@
+//! Workers: threads that are the modelled kernel.
+
+ghost use Rattle.std.specs.Prelude.{◌≡◌, ◌⊎◌, ◌≤◌, ℤ, pos, negsuc, ◌≤ℤ◌, true, false, drop};
+ghost use Rattle.rc_run.specs.Jobs.{allows};
+
+use crate::job::Job;
+use crate::locked::{Asked, Counted};
+use crate::runner::shared::{Shared, draw};
+use rc_device::chooser::Chooser;
+use rc_device::device::Device;
+use std::sync::Wait;
+use std::sync::ledger::Ledger;
+
+/// Serves jobs until the run is over. A job that is out is posted in any case.
+pub fn work<D: Device, C: Chooser, L: Ledger + Asked, R: Wait>(
+    rt: &R,
+    shared: &Shared<D, C, L>,
+    mut mine: Counted<L>,
+) -> Counted<L> {
+    for _ in rt.forever() {
+        let choice = draw(rt, shared, 65536);
+        let mut guard = shared.locked.lock(rt);
+        if guard.is_over() {
+            break;
+        }
+        match guard.take_job(choice) {
+            Some(job) => {
+                drop(guard);
+                let (job, res) = served(rt, shared, job);
+                post(rt, shared, job, res, &mut mine);
+            }
+            None => {
+                shared.offered.wait_while(rt, guard, |l| l.is_idle());
+            }
+        }
+    }
+    shared.tell_all();
+    mine
+}
+
+// What a device is granted for a request of this length: to move as much, or less, or to fail with -5 (EIO).
+fn draw_grant<D: Device, C: Chooser, L: Ledger + Asked, R: Wait>(
+    rt: &R,
+    shared: &Shared<D, C, L>,
+    len: u32,
+) -> i32
+    requires { len ≤ 4096 }
+    ensures { (result ≡ negsuc 4) ⊎ ((pos 0 ≤ℤ result) × (result ≤ℤ pos len)) }
+{
+    match draw(rt, shared, 8) {
+        0 => -5,
+        1 => draw(rt, shared, len + 1) as i32,
+        _ => len as i32,
+    }
+}
+
+// Has the device serve a job, with no lock of the run held. A starved job fails with -12 (ENOMEM).
+fn served<D: Device, C: Chooser, L: Ledger + Asked, R: Wait>(
+    rt: &R,
+    shared: &Shared<D, C, L>,
+    job: Job,
+) -> (Job, i32)
+    ensures allowed { allows result.0 result.1 ≡ true }
+    ensures given { D.gives result.0.request.user_data result.1 ⊎ (result.1 ≡ negsuc 11) }
+    ensures request { result.0.request ≡ job.request }
+    ensures rest { drop job.request.len result.0.bytes ≡ drop job.request.len job.bytes }
+    ensures starved { job.starved ≡ true → (result.0 ≡ job) × (result.1 ≡ negsuc 11) }
+    ensures fed { job.starved ≡ false → (result.0.starved ≡ false) × D.gives job.request.user_data result.1 }
+{
+    if job.starved() {
+        return (job, -12);
+    }
+    let grant = draw_grant(rt, shared, job.request().len);
+    let (request, mut bytes) = job.into_parts();
+    let res = shared
+        .device
+        .lock(rt)
+        .serve(&request, bytes.as_mut_slice(), grant);
+    (Job::new(request, bytes, false), res)
+}
+
+// Posts the result of a job.
+fn post<D: Device, C, L: Ledger + Asked, R: Wait>(
+    rt: &R,
+    shared: &Shared<D, C, L>,
+    job: Job,
+    res: i32,
+    mine: &mut Counted<L>,
+)
+    requires allowed { allows job res ≡ true }
+    requires given { D.gives job.request.user_data res ⊎ (res ≡ negsuc 11) }
+{
+    let mut guard = shared.locked.lock(rt);
+    let posted = guard.post(job, res, mine);
+    let heard = guard.is_heard();
+    drop(guard);
+    if heard {
+        shared.moved.notify_all();
+    }
+    if let Err(job) = posted {
+        job.give_up();
+    }
+}
