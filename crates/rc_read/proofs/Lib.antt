@@ -22,3 +22,4 @@ pub mod Streams
 pub mod Tokens
 pub mod Twice
 pub mod Among
+pub mod Differ

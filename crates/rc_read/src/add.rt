@@ -1,14 +1,17 @@
 //! What a line adds to what was read so far.
 
-ghost use Rattle.std.specs.Prelude.{◌≡◌, ◌<◌, [], None, IfOk, OnOk};
+ghost use Rattle.std.specs.Prelude.{◌≡◌, ◌<◌, ◌++◌, ◌∷◌, [], None, true, IfOk, OnOk};
+ghost use Rattle.std.specs.List.{IsDistinct};
+ghost use Rattle.std.specs.Str.{bytes_eq};
 ghost use Rattle.rc_lang.specs.Nesting as nesting;
 ghost use Rattle.rc_read.specs.Adds as spec;
-ghost use Rattle.rc_read.specs.Sheets.{headed};
+ghost use Rattle.rc_read.specs.Sheets.{buffer_names, headed};
 ghost use Rattle.rc_read.specs.Texts.{texts_of};
 ghost use Rattle.rc_read.specs.View.{view_draft, view_sheet};
 
 use crate::blocks::innermost;
 use crate::draft::held;
+use crate::names::has_buffer;
 use crate::parts::{Draft, Parts, Region};
 use crate::says::Says;
 use crate::values::Item;
@@ -101,6 +104,13 @@ impl Parts {
         Ok(())
     }
 
+    // Whether the names of the buffers are known to differ from each other and from this one.
+    fn differ_from(&self, name: &[u8]) -> bool
+        ensures { result ≡ true → IsDistinct bytes_eq (buffer_names (view_sheet self.now).buffers ++ name.now ∷ []) }
+    {
+        self.differ && !has_buffer(&self.buffers, name)
+    }
+
     // Declares a buffer.
     fn put_buffer(
         &mut self,
@@ -113,11 +123,14 @@ impl Parts {
         ensures count { self.new.count ≡ self.old.count }
     {
         let name = Vec::from_slice(alloc, second_of(words))?;
+        let differ = self.differ_from(&name);
+        self.differ = false;
         self.buffers.push(Buffer {
             name,
             bytes,
             shares,
         })?;
+        self.differ = differ;
         Ok(())
     }
 

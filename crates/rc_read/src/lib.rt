@@ -10,6 +10,7 @@ mod judge;
 pub mod laws;
 mod names;
 mod noted;
+mod numbers;
 mod parts;
 mod reader;
 mod reserved;

@@ -1,8 +1,10 @@
 //! Names, and what is declared.
 
-ghost use Rattle.std.specs.Prelude.{◌≡◌, map, IfOk, OnOk};
+ghost use Rattle.std.specs.Prelude.{◌≡◌, Some, map, IfOk, IfSome, OnOk};
+ghost use Rattle.std.specs.List.{IsDistinct};
 ghost use Rattle.std.specs.Str.{bytes_eq};
 ghost use Rattle.rc_lang.specs.Parts.{view_buffer, view_thread};
+ghost use Rattle.rc_read.specs.Quick.{second_last};
 ghost use Rattle.rc_read.specs.Sheets as spec;
 ghost use Rattle.rc_read.specs.View.{view_names};
 
@@ -10,11 +12,24 @@ use indexmap::IndexSet;
 use rc_lang::program::{Buffer, File, Thread, Token};
 use std::alloc::{AllocError, Global};
 
+// The byte before the last, and 0 where there is none.
+fn second_last(name: &[u8]) -> u8
+    ensures { result ≡ second_last name.now }
+{
+    match name {
+        [.., byte, _] => *byte,
+        _ => 0,
+    }
+}
+
 // Whether two names are the same. Their ends differ most often.
 fn is_same(name: &[u8], word: &[u8]) -> bool
     ensures { result ≡ bytes_eq name.now word.now }
 {
-    name.last() == word.last() && name == word
+    name.len() == word.len()
+        && name.last() == word.last()
+        && second_last(name) == second_last(word)
+        && name == word
 }
 
 /// The number of a buffer, which where it isn't declared is that of the next, and its shares if it is declared.
@@ -28,6 +43,22 @@ pub fn find_buffer(buffers: &[Buffer], word: &[u8]) -> (usize, Option<u32>)
         }
     }
     (buffers.len(), None)
+}
+
+/// The number and the shares of a buffer, where one is found near this place. That none is found says nothing of it.
+pub fn find_near(buffers: &[Buffer], place: usize, word: &[u8]) -> Option<(usize, u32)>
+    requires { IsDistinct bytes_eq (spec.buffer_names (map view_buffer buffers.now)) }
+    ensures number { IfSome result (λ p. p.0 ≡ spec.buffer_number (map view_buffer buffers.now) word.now) }
+    ensures shares { IfSome result (λ p. Some p.1 ≡ spec.shares_in (map view_buffer buffers.now) word.now) }
+{
+    let end = buffers.len().min(place.saturating_add(8));
+    for i in place..end {
+        let buffer = &buffers[i];
+        if is_same(&buffer.name, word) {
+            return Some((i, buffer.shares));
+        }
+    }
+    None
 }
 
 /// Whether a buffer is declared.

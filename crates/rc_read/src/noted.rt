@@ -9,7 +9,7 @@ ghost use Rattle.rc_read.specs.Texts.{view_spots};
 ghost use Rattle.rc_read.specs.Values as spec;
 ghost use Rattle.rc_read.specs.View.{view_sheet};
 
-use crate::names::{add_name, find_buffer, has_buffer, has_file, has_thread, has_token};
+use crate::names::{add_name, find_buffer, find_near, has_buffer, has_file, has_thread, has_token};
 use crate::parts::Parts;
 use crate::spots::{Spot, begins_number, comparison_of};
 use crate::table::{Part, Range};
@@ -111,12 +111,25 @@ impl Noted {
     }
 }
 
-fn look_at_buffer(parts: &Parts, noted: &mut Noted, word: &[u8]) -> Option<Value>
+// The number and the shares of a buffer, which is looked for first about the place of another.
+fn find_about(parts: &Parts, near: usize, word: &[u8]) -> (usize, Option<u32>)
+    ensures number { result.0 ≡ sheets.buffer_number (view_sheet parts.now).buffers word.now }
+    ensures shares { result.1 ≡ sheets.shares_in (view_sheet parts.now).buffers word.now }
+{
+    if parts.differ {
+        if let Some((number, shares)) = find_near(&parts.buffers, near.saturating_sub(4), word) {
+            return (number, Some(shares));
+        }
+    }
+    find_buffer(&parts.buffers, word)
+}
+
+fn look_at_buffer(parts: &Parts, near: usize, noted: &mut Noted, word: &[u8]) -> Option<Value>
     ensures value { result ≡ spec.value_at (view_sheet parts.now) noted.old.seen Part.Buffer word.now }
     ensures seen { noted.new.seen ≡ spec.seen_behind (view_sheet parts.now) noted.old.seen Part.Buffer word.now }
     ensures wrong { noted.new.wrong ≡ judging.wrong_with (view_sheet parts.now) Part.Buffer word.now noted.old.wrong }
 {
-    let (buffer, shares) = find_buffer(&parts.buffers, word);
+    let (buffer, shares) = find_about(parts, near, word);
     noted.lack(shares.is_none());
     noted.seen.buffer = buffer;
     noted.seen.shares = shares;
@@ -214,10 +227,11 @@ fn operand_of(alloc: Global, parts: &mut Parts, word: &[u8]) -> Result<Option<Va
 }
 
 // What the word of a place says. What it says of the places behind it, and what is wrong with its name, is noted, and a
-// variable is added where it is new.
+// variable is added where it is new. A buffer is looked for first near the one that was named last.
 fn look_at(
     alloc: Global,
     parts: &mut Parts,
+    near: &mut usize,
     noted: &mut Noted,
     part: Part,
     word: &[u8],
@@ -235,7 +249,11 @@ fn look_at(
         Part::Signed => signed_value(word),
         Part::Number(Range::Size) => look_at_size(noted, word),
         Part::Number(range) => small_value(number_at(parts, noted.seen, range, word)),
-        Part::Buffer => look_at_buffer(parts, noted, word),
+        Part::Buffer => {
+            let value = look_at_buffer(parts, *near, noted, word);
+            *near = noted.seen.buffer;
+            value
+        }
         Part::Token => user_data_value(look_at_token(parts, noted, word)),
         Part::File => look_at_file(parts, noted, word),
         Part::NewFile => look_at_new_file(parts, noted, word),
@@ -260,11 +278,13 @@ fn push_if_item(items: &mut Vec<Item>, value: Value) -> Result<(), AllocError>
 }
 
 /// Puts what the places of a line say there, and the items among it, and adds the line's variables, unless a word in a
-/// number's place is no number or is out of its range. The answer is what is wrong with their names.
+/// number's place is no number or is out of its range. The answer is what is wrong with their names. A buffer is looked
+/// for first near the one that was named last.
 pub fn put_values(
     alloc: Global,
     values: &mut Vec<Value>,
     items: &mut Vec<Item>,
+    near: &mut usize,
     parts: &mut Parts,
     spots: &[Spot],
 ) -> Result<Option<Wrong>, AllocError>
@@ -278,7 +298,7 @@ pub fn put_values(
     values.clear();
     items.clear();
     for spot in spots {
-        let says = look_at(alloc, parts, &mut noted, spot.part, spot.word)?;
+        let says = look_at(alloc, parts, near, &mut noted, spot.part, spot.word)?;
         let Some(value) = says else {
             return Ok(None);
         };

@@ -1,7 +1,12 @@
 //! What was read so far.
 
-ghost use Rattle.std.specs.Prelude.{◌≤◌, All};
+ghost use Rattle.std.specs.Prelude.{◌≡◌, ◌≤◌, All, true, map};
+ghost use Rattle.std.proofs.Props.{props};
+ghost use Rattle.std.specs.List.{IsDistinct};
+ghost use Rattle.std.specs.Str.{bytes_eq};
+ghost use Rattle.rc_lang.specs.Parts.{view_buffer};
 ghost use Rattle.rc_lang.specs.declared.program.Token.{Token};
+ghost use Rattle.rc_read.specs.Sheets.{buffer_names};
 
 use indexmap::IndexSet;
 use rc_lang::lines::{Block, Line};
@@ -58,10 +63,13 @@ pub struct Parts {
     pub highest: u64,
     pub threads: Vec<Thread>,
     pub draft: Draft,
+    /// Whether the names of the buffers are known to differ.
+    pub differ: bool,
     /// How many bytes the last piece of the text has.
     pub fed: usize,
     ghost none_higher: { All (λ (t : Token). t.user_data ≤ highest) tokens.items },
     ghost few_lines: { count ≤ 4096 },
+    ghost names_differ: { differ ≡ true → IsDistinct bytes_eq (buffer_names (map view_buffer buffers.items)) } by { Prim.hlevel props },
 }
 
 impl Arms {
@@ -132,6 +140,7 @@ impl Parts {
             highest: 0,
             threads: Vec::new(alloc),
             draft: Draft::new(alloc),
+            differ: true,
             fed: 0,
         }
     }

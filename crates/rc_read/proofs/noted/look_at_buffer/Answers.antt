@@ -1,4 +1,4 @@
-use Rattle.std.proofs.Common.{Bool, ◌||◌, ap, map, ◌∙◌}
+use Rattle.std.proofs.Common.{Bool, ◌||◌, ap, map, refl, ◌∙◌}
 use Rattle.rc_lang.specs.Parts.{view_buffer}
 use Rattle.rc_read.specs.declared.noted.Wrong.{Wrong}
 use Rattle.rc_read.proofs.Sizes.{undeclared}
@@ -9,5 +9,5 @@ with_unknown wrong unknown = record wrong { unknown = unknown || wrong.unknown }
 
 pub returns-clause-wrong : goal.returns-clause-wrong
 returns-clause-wrong c =
-    let bs = c.deref.result.now in
-    c.lack.ensures.wrong ∙ ap (with_unknown c.args.noted.now.wrong) (undeclared c.is_none.result c.find_buffer-buffer.result.1 (map view_buffer bs) (map view_buffer c.args.parts.now.buffers.items) c.args.word.now c.is_none.ensures c.find_buffer-buffer.ensures.shares (ap (map view_buffer) c.deref.ensures.value))
+    let bs = map view_buffer c.args.parts.now.buffers.items in
+    c.lack.ensures.wrong ∙ ap (with_unknown c.args.noted.now.wrong) (undeclared c.is_none.result c.find_about-buffer.result.1 bs bs c.args.word.now c.is_none.ensures c.find_about-buffer.ensures.shares refl)
