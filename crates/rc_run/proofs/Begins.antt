@@ -1,7 +1,7 @@
 -- Queued requests that become pending, one after another.
-use Rattle.std.proofs.Common.{◌≡◌, ℕ, zero, suc, ◌+◌, ◌<◌, List, [], ◌∷◌, ◌++◌, drop, take, map, Option, Some, slice_get, vec_len, vec_capacity, refl, sym, ap, subst, ◌∙◌, arith}
+use Rattle.std.proofs.Common.{◌≡◌, ℕ, zero, suc, ◌+◌, ◌<◌, List, [], ◌∷◌, ◌++◌, drop, take, map, Option, Some, slice_get, vec_len, vec_capacity, sym, ap, subst, ◌∙◌, arith, add-zero}
 use Rattle.std.specs.Global.{Vec}
-use Rattle.std.proofs.lemmas.List.{map-append}
+use Rattle.std.proofs.lemmas.List.{drop-take, map-append}
 use Rattle.rc_lang.specs.declared.request.Request.{Request}
 use Rattle.rc_world.specs.Machine.{taken_bytes, without_taken}
 use Rattle.rc_world.specs.WorldParts.{begun_buffers, begun_pending, view_bytes}
@@ -22,9 +22,7 @@ drop_at (suc n) (x ∷ xs) zero r lt e = let same : x ≡ r = cc in ap (λ y. y 
 drop_at (suc n) (x ∷ xs) (suc i) r lt e = drop_at n xs i r (omega arith) e
 
 pub drop_taken : (n : ℕ) (xs : List Request) → drop n (take n xs) ≡ []
-drop_taken zero xs = refl
-drop_taken (suc n) [] = refl
-drop_taken (suc n) (x ∷ xs) = drop_taken n xs
+drop_taken n xs = ap (λ m. drop n (take m xs)) (sym (add-zero n)) ∙ drop-take n 0 xs
 
 pub begun_more : (pending0 : Vec PendingPart) (buffers0 : Vec (Option (Vec ℕ))) (xs : List Request) (n i : ℕ) (pending : Vec PendingPart) (buffers : Vec (Option (Vec ℕ)))
     → IsBegun pending0 buffers0 (take n xs) i pending buffers → (r : Request) → i < n → slice_get xs i ≡ Some r

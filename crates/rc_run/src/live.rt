@@ -250,13 +250,10 @@ fn is_out(out: &[u64], request: Request) -> bool
 fn free_count(pending: &[Pending], out: &[u64]) -> usize
     ensures { result ≡ length (filter (λ p. is_free out.now p.request) pending.now) }
 {
-    let mut count = 0;
-    for item in pending {
-        if !is_out(out, item.request) {
-            count += 1;
-        }
-    }
-    count
+    pending
+        .iter()
+        .filter(|item| !is_out(out, item.request))
+        .count()
 }
 
 // The place of a free request, by its place among the free ones.

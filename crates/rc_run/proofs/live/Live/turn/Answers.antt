@@ -9,28 +9,27 @@ use Rattle.rc_world.specs.Machine.{thread_step}
 use Rattle.rc_run.proofs.Turns.{closed_at, fresh_at, has_step, ready_line, take_allowed, turned_leads}
 use Rattle.rc_run.proofs.live.Live.turn.Goals as goal
 
-pub step-requires-clause-step : goal.step-requires-clause-step
-step-requires-clause-step c =
+pub step-requires : goal.step-requires
+step-requires c =
     let m = c.self.inside.machine in
     let w = world_of m in
-    let calm = subst (λ (l : Live). IsCalm l.world) (sym c.self.view_is) c.look.ensures in
+    let i = c.args.thread in
+    let l = c.in-Ready.line in
+    let calm = subst (λ (s : Live). IsCalm s.world) (sym c.self.view_is) c.look.ensures in
     let ready = sym c.next.ensures ∙ c.in-Ready.is in
+    let line = ready_line w i l ready in
     let taken = c.taken-taken.ensures ∙ ap (submit_answer w) (to_z-of_z w32 c.args.take c.ranges.take) in
-    let step = has_step w calm c.args.thread c.in-Ready.line ready (submit_answer w c.args.take) (take_allowed w c.args.take c.requires) in
+    let step = has_step w calm i l ready (submit_answer w c.args.take) (take_allowed w c.args.take c.requires) in
     let same = to_z-of_z w32 c.taken-taken.result (record { sfits = c.taken-taken.type_inv }) ∙ taken in
-    subst (λ (r : ℤ). IsSome (thread_step w c.args.thread r)) (sym same) (ap is_some step.1)
-
-pub step-requires-clause-suits : goal.step-requires-clause-suits
-step-requires-clause-suits c =
-    let w = world_of c.self.inside.machine in
-    let calm = subst (λ (l : Live). IsCalm l.world) (sym c.self.view_is) c.look.ensures in
-    closed_at w calm c.args.thread c.in-Ready.line (ready_line w c.args.thread c.in-Ready.line (sym c.next.ensures ∙ c.in-Ready.is))
-
-pub step-requires-clause-fresh : goal.step-requires-clause-fresh
-step-requires-clause-fresh c =
-    let w = world_of c.self.inside.machine in
-    let calm = subst (λ (l : Live). IsCalm l.world) (sym c.self.view_is) c.look.ensures in
-    fresh_at w calm c.args.thread c.in-Ready.line (ready_line w c.args.thread c.in-Ready.line (sym c.next.ensures ∙ c.in-Ready.is))
+    record {
+      line = line;
+      kept = calm.kept;
+      sized = c.self.invariant.sized;
+      step = subst (λ (r : ℤ). IsSome (thread_step w i r)) (sym same) (ap is_some step.1);
+      suits = closed_at w calm i l line;
+      fresh = fresh_at w calm i l line;
+      room = search rules;
+    }
 
 pub invariant_of-self-2 : goal.invariant_of-self-2
 invariant_of-self-2 c =

@@ -10,32 +10,18 @@ use Rattle.rc_run.specs.Requests.{RequestRing}
 use Rattle.rc_run.proofs.Completes.{asks_count, brought_enough, completed_so, enough, there, view_at}
 use Rattle.rc_run.proofs.machine.Machine.complete.Goals as goal
 
-pub give_back-requires-clause-there : goal.give_back-requires-clause-there
-give_back-requires-clause-there c =
+pub give_back-requires : goal.give_back-requires
+give_back-requires c =
     let m = c.args.self.now in
-    let p = c.remove-stood.result in
-    let lt = c.requires.place in
-    let here = view_at m.pending.items c.args.place p lt c.remove-stood.ensures.value in
-    asks_buffer p.bytes p.request.buffer m.buffers.items
-    (there (world_of m) c.requires.kept c.args.place c.args.res c.args.bytes.now (pending_of p) here c.requires.step)
-
-pub give_back-requires-clause-enough : goal.give_back-requires-clause-enough
-give_back-requires-clause-enough c =
-    let m = c.args.self.now in
-    let p = c.remove-stood.result in
-    let lt = c.requires.place in
-    let here = view_at m.pending.items c.args.place p lt c.remove-stood.ensures.value in
-    asks_bytes p.bytes p.request.len p.request.len refl
-    (enough (world_of m) c.requires.kept c.args.place c.args.res c.args.bytes.now (pending_of p) here c.requires.step)
-
-pub give_back-requires-clause-brought : goal.give_back-requires-clause-brought
-give_back-requires-clause-brought c =
-    let m = c.args.self.now in
-    let p = c.remove-stood.result in
-    let lt = c.requires.place in
-    let here = view_at m.pending.items c.args.place p lt c.remove-stood.ensures.value in
-    asks_count p.bytes p.request.len c.args.bytes.now
-    (brought_enough (world_of m) c.requires.kept c.args.place c.args.res c.args.bytes.now (pending_of p) here c.requires.step (c.requires.enough (pending_of p) here))
+    let w = world_of m in
+    let r = c.remove-stood.result in
+    let p = pending_of r in
+    let here = view_at m.pending.items c.args.place r c.requires.place c.remove-stood.ensures.value in
+    record {
+      there = asks_buffer r.bytes r.request.buffer m.buffers.items (there w c.requires.kept c.args.place c.args.res c.args.bytes.now p here c.requires.step);
+      enough = asks_bytes r.bytes r.request.len r.request.len refl (enough w c.requires.kept c.args.place c.args.res c.args.bytes.now p here c.requires.step);
+      brought = asks_count r.bytes r.request.len c.args.bytes.now (brought_enough w c.requires.kept c.args.place c.args.res c.args.bytes.now p here c.requires.step (c.requires.enough p here));
+    }
 
 pub returns-clause-step : goal.returns-clause-step
 returns-clause-step c =
