@@ -4,7 +4,7 @@ use Rattle.std.proofs.lemmas.Option.{slice_get_within}
 use Rattle.std.specs.Prelude.{All, Ok, Err}
 use Rattle.rc_lang.specs.Program.{IsProgram, Program}
 use Rattle.rc_world.specs.declared.event.Event.{Event}
-use Rattle.rc_world.specs.declared.event.Event.TheVariants.{ByThread, ByKernel}
+use Rattle.rc_world.specs.declared.event.Event.TheVariants.{ByKernel}
 use Rattle.rc_world.specs.Machine.{World, completion_of, kernel_step, kernel_step_of, start_world, thread_step}
 use Rattle.rc_world.specs.Runs.{IsRun, IsStep}
 use Rattle.rc_world.proofs.LawRuns.{IsSound, run_sound, sound_at_start}

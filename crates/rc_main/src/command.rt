@@ -1,158 +1,173 @@
 //! The whole program, over any reader and writers.
 
+ghost use Rattle.std.specs.Prelude.{◌≡◌, ◌+◌, ◌<◌, ◌≤◌, ◌^◌, IfOk, OnOk};
+ghost use Rattle.std.specs.Io.KnownBytes.{Appends};
+ghost use Rattle.rc_main.specs.Answers.{AnswersCheck, AnswersStep, ReadsAsAsked, ReadsOnce, WritesOnce};
+
+use crate::fault::CommandFault;
 use crate::running::run_text;
-use crate::words::{Command, WordsFault, read_words};
+use crate::words::{Command, read_words};
+use rc_report::buffered::Buffered;
 use rc_report::check_engine::check_engine;
 use rc_report::engine_fault::EngineFault;
-use rc_report::step_engine::{StepEnd, step_engine};
-use rc_report::streams::{ReadSource, WriteSink};
-use rc_report::trace::End;
-use rc_report::verdict::Verdict;
-use rc_run::report::RunFault;
-use std::alloc::{AllocError, Global};
-use std::io::{BufWriter, Read, Write};
+use rc_report::status::{DEVICE_STATUS, GOOD_STATUS};
+use rc_report::step_engine::step_engine;
+use rc_report::streams::{DeviceFailed, ReadSource, Sink, Source, WriteSink};
+use rc_report::writing::write_piece;
+use std::alloc::Global;
+use std::io::{Read, Write};
 use std::sync::Wait;
 use std::thread::Threads;
-use thiserror::Error;
-
-/// Accepted, ended or stopped without a fault, or shown.
-pub const GOOD_STATUS: u8 = 0;
-/// Refused, or a fault was found.
-pub const FAULT_STATUS: u8 = 1;
-/// The text can't be read.
-pub const UNREADABLE_STATUS: u8 = 2;
-/// Wrong words, an unreadable schedule, an item that isn't enabled, memory, a limit, or a device that failed.
-pub const DEVICE_STATUS: u8 = 3;
-
-/// How many bytes of an answer are kept before they are written: as many as a pipe takes at once (`pipe(7)`).
-const OUTPUT_BUFFER: usize = 65536;
-
-/// Why the program has no answer.
-#[derive(Debug, Drop, Error)]
-pub enum CommandFault {
-    #[error(transparent)]
-    Words(#[from] WordsFault),
-    #[error(transparent)]
-    Engine(#[from] EngineFault),
-    #[error(transparent)]
-    Run(RunFault),
-}
-
-impl From<AllocError> for CommandFault {
-    fn from(_error: AllocError) -> CommandFault {
-        CommandFault::Engine(EngineFault::OutOfMemory)
-    }
-}
 
 /// Does what the words say, and answers the exit status. Answers go to the writer; wrong words, want of memory and
-/// devices that failed are told on one line of `errors`.
+/// devices that failed are told on one line of `errors`. Nothing is tried again (`read(2)`, `write(2)`).
 pub fn command<'a, R: Threads + Wait + Sync, I: Read + Drop, O: Write + Drop, E: Write + Drop>(
     rt: &R,
     alloc: Global,
     words: &'a [&'a str],
     reader: I,
     writer: O,
-    mut errors: E,
-) -> u8 {
+    errors: E,
+) -> u8
+    ensures { result ≤ 3 }
+{
     match answered(rt, alloc, words, reader, writer) {
         Ok(status) => status,
-        Err(fault) => {
-            let _ = writeln!(errors, "ringcheck: {fault}");
-            DEVICE_STATUS
-        }
+        Err(fault) => tell(alloc, &fault, errors),
     }
 }
 
-/// Does what the words say, over a buffer before the writer.
+/// Tells on one line why the program has no answer, and answers its exit status then, which is 3. Where there is no
+/// memory for the line it says that.
+pub fn tell<E: Write + Drop>(alloc: Global, fault: &CommandFault, errors: E) -> u8
+    ensures { result ≡ 3 }
+{
+    let mut sink = WriteSink::new(errors);
+    let _ = match format!(in alloc; "ringcheck: {fault}\n") {
+        Ok(line) => write_piece(&mut sink, line.as_bytes()),
+        Err(_) => write_piece(&mut sink, b"ringcheck: out of memory (20)\n"),
+    };
+    DEVICE_STATUS
+}
+
+/// Does what the words say. The words are read before the input.
 fn answered<'a, R: Threads + Wait + Sync, I: Read + Drop, O: Write + Drop>(
     rt: &R,
     alloc: Global,
     words: &'a [&'a str],
     reader: I,
     writer: O,
-) -> Result<u8, CommandFault> {
-    let mut buffered = BufWriter::with_capacity(alloc, OUTPUT_BUFFER, writer).map_err(
-        |_| EngineFault::OutOfMemory,
-    )?;
-    let answer = written(rt, alloc, words, reader, &mut buffered);
-    // What the writer didn't take isn't tried again.
-    let (_writer, _rest) = buffered.into_parts();
-    answer
+) -> Result<u8, CommandFault>
+    ensures { IfOk result (λ status. status ≤ 3) }
+{
+    let asked = read_words(alloc, words)?;
+    let mut source = ReadSource::new(reader);
+    let mut sink = Buffered::new(alloc, WriteSink::new(writer))?;
+    performed(rt, alloc, asked, &mut source, &mut sink)
 }
 
-/// Does what the words say, and sees that the answer is written.
-fn written<'a, R: Threads + Wait + Sync, I: Read + Drop, W: Write>(
+/// Does what is asked, and sees that the answer is written out.
+fn performed<R: Threads + Wait + Sync, I: Source, O: Write + Drop>(
     rt: &R,
     alloc: Global,
-    words: &'a [&'a str],
-    reader: I,
-    writer: &mut W,
-) -> Result<u8, CommandFault> {
-    let status = match read_words(alloc, words)? {
-        Command::Check { json } => checked(alloc, reader, json, writer)?,
-        Command::Step { schedule } => stepped(alloc, reader, schedule, writer)?,
-        Command::Run { seed, limit } => run_text(rt, alloc, reader, seed, limit, writer)?,
-        Command::Show(text) => shown(text.as_str(), writer)?,
-    };
-    match writer.flush() {
+    asked: Command<'_>,
+    source: &mut I,
+    sink: &mut Buffered<WriteSink<O>>,
+) -> Result<u8, CommandFault>
+    requires reads { I.read_count source.old + 2097152 < 2 ^ 64 }
+    requires read_failures { I.failure_count source.old + 1 < 2 ^ 64 }
+    requires write_failures { sink.old.sink.failures + 1 < 2 ^ 64 }
+    ensures bound { IfOk result (λ status. status ≤ 3) }
+    ensures reads { ReadsAsAsked asked.entry
+        (record { remaining = I.remaining source.old; reads = I.read_count source.old; ends = I.end_count source.old; failures = I.failure_count source.old })
+        (record { remaining = I.remaining source.new; reads = I.read_count source.new; ends = I.end_count source.new; failures = I.failure_count source.new })
+        result }
+    ensures writes { WritesOnce sink.old.sink.failures sink.new.sink.failures result }
+{
+    let status = done(rt, alloc, asked, source, sink)?;
+    match sink.finish() {
         Ok(()) => Ok(status),
-        Err(_) => Err(CommandFault::Engine(EngineFault::Write)),
+        Err(DeviceFailed) => Err(CommandFault::Engine(EngineFault::Write)),
+    }
+}
+
+/// Does what is asked.
+fn done<R: Threads + Wait + Sync, I: Source, S: Sink>(
+    rt: &R,
+    alloc: Global,
+    asked: Command<'_>,
+    source: &mut I,
+    sink: &mut S,
+) -> Result<u8, CommandFault>
+    requires reads { I.read_count source.old + 2097152 < 2 ^ 64 }
+    requires read_failures { I.failure_count source.old + 1 < 2 ^ 64 }
+    requires write_failures { S.failure_count sink.old + 1 < 2 ^ 64 }
+    ensures bound { IfOk result (λ status. status ≤ 3) }
+    ensures reads { ReadsAsAsked asked.entry
+        (record { remaining = I.remaining source.old; reads = I.read_count source.old; ends = I.end_count source.old; failures = I.failure_count source.old })
+        (record { remaining = I.remaining source.new; reads = I.read_count source.new; ends = I.end_count source.new; failures = I.failure_count source.new })
+        result }
+    ensures writes { WritesOnce (S.failure_count sink.old) (S.failure_count sink.new) result }
+{
+    match asked {
+        Command::Check { json } => checked(alloc, source, json, sink),
+        Command::Step { schedule } => stepped(alloc, source, schedule, sink),
+        Command::Run { seed, limit } => run_text(rt, alloc, source, seed, limit, sink),
+        Command::Show(text) => shown(text.as_str(), sink),
     }
 }
 
 /// Shows a text.
-fn shown<W: Write>(text: &str, writer: &mut W) -> Result<u8, EngineFault> {
-    match writer.write_all(text.as_bytes()) {
-        Ok(()) => Ok(GOOD_STATUS),
-        Err(_) => Err(EngineFault::Write),
-    }
+fn shown<S: Sink>(text: &str, sink: &mut S) -> Result<u8, CommandFault>
+    requires { S.failure_count sink.old + 1 < 2 ^ 64 }
+    ensures status { IfOk result (λ status. status ≡ 0) }
+    ensures text { OnOk result (Appends (S.contents sink.old) (S.contents sink.new) text.now) }
+    ensures writes { WritesOnce (S.failure_count sink.old) (S.failure_count sink.new) result }
+{
+    write_piece(sink, text.as_bytes())?;
+    Ok(GOOD_STATUS)
 }
 
-/// Checks the text that the reader gives.
-fn checked<I: Read + Drop, W: Write>(
+/// Checks the text of a source.
+fn checked<I: Source, S: Sink>(
     alloc: Global,
-    reader: I,
+    source: &mut I,
     json: bool,
-    writer: &mut W,
-) -> Result<u8, EngineFault> {
-    let mut source = ReadSource::new(reader);
-    let mut sink = WriteSink::new(writer);
-    let verdict = check_engine(alloc, &mut source, json, &mut sink)?;
-    Ok(status_of_verdict(verdict))
+    sink: &mut S,
+) -> Result<u8, CommandFault>
+    requires reads { I.read_count source.old + 2097152 < 2 ^ 64 }
+    requires read_failures { I.failure_count source.old + 1 < 2 ^ 64 }
+    requires write_failures { S.failure_count sink.old + 1 < 2 ^ 64 }
+    ensures answer { IfOk result (AnswersCheck (I.remaining source.old) json (S.contents sink.old) (S.contents sink.new)) }
+    ensures bound { IfOk result (λ status. status ≤ 3) }
+    ensures reads { ReadsOnce
+        (record { remaining = I.remaining source.old; reads = I.read_count source.old; ends = I.end_count source.old; failures = I.failure_count source.old })
+        (record { remaining = I.remaining source.new; reads = I.read_count source.new; ends = I.end_count source.new; failures = I.failure_count source.new })
+        result }
+    ensures writes { WritesOnce (S.failure_count sink.old) (S.failure_count sink.new) result }
+{
+    let verdict = check_engine(alloc, source, json, sink)?;
+    Ok(verdict.status())
 }
 
-/// The exit status of a verdict.
-fn status_of_verdict(verdict: Verdict) -> u8 {
-    match verdict {
-        Verdict::Accepted => GOOD_STATUS,
-        Verdict::Refused(_) => FAULT_STATUS,
-        Verdict::Unreadable { .. } => UNREADABLE_STATUS,
-    }
-}
-
-/// Steps the program that the reader gives.
-fn stepped<I: Read + Drop, W: Write>(
+/// Steps the program of a source through a schedule.
+fn stepped<I: Source, S: Sink>(
     alloc: Global,
-    reader: I,
+    source: &mut I,
     schedule: &str,
-    writer: &mut W,
-) -> Result<u8, EngineFault> {
-    let mut source = ReadSource::new(reader);
-    let mut sink = WriteSink::new(writer);
-    let end = step_engine(alloc, &mut source, schedule, &mut sink)?;
-    Ok(status_of(end))
-}
-
-/// The exit status of a stepped program.
-fn status_of(end: StepEnd) -> u8 {
-    match end {
-        StepEnd::Unreadable(_) => UNREADABLE_STATUS,
-        StepEnd::Schedule(_) => DEVICE_STATUS,
-        StepEnd::Trace(End::Fault(_)) => FAULT_STATUS,
-        StepEnd::Trace(End::NotEnabled(_)) => DEVICE_STATUS,
-        StepEnd::Trace(End::Ended) => GOOD_STATUS,
-        StepEnd::Trace(End::Stopped) => GOOD_STATUS,
-        StepEnd::Trace(End::Limit) => DEVICE_STATUS,
-        StepEnd::Trace(End::Memory) => DEVICE_STATUS,
-    }
+    sink: &mut S,
+) -> Result<u8, CommandFault>
+    requires reads { I.read_count source.old + 2097152 < 2 ^ 64 }
+    requires read_failures { I.failure_count source.old + 1 < 2 ^ 64 }
+    requires write_failures { S.failure_count sink.old + 1 < 2 ^ 64 }
+    ensures answer { IfOk result (AnswersStep (I.remaining source.old) schedule.now (S.contents sink.old) (S.contents sink.new)) }
+    ensures bound { IfOk result (λ status. status ≤ 3) }
+    ensures reads { ReadsOnce
+        (record { remaining = I.remaining source.old; reads = I.read_count source.old; ends = I.end_count source.old; failures = I.failure_count source.old })
+        (record { remaining = I.remaining source.new; reads = I.read_count source.new; ends = I.end_count source.new; failures = I.failure_count source.new })
+        result }
+    ensures writes { WritesOnce (S.failure_count sink.old) (S.failure_count sink.new) result }
+{
+    let end = step_engine(alloc, source, schedule, sink)?;
+    Ok(end.status())
 }

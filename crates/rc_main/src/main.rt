@@ -2,31 +2,23 @@
 #![tactic(auto)]
 
 pub mod command;
+pub mod fault;
 pub mod running;
 #[cfg(test)]
 mod tests;
 pub mod words;
 
-use command::{DEVICE_STATUS, command};
-use std::alloc::Global;
+use command::{command, tell};
+use fault::CommandFault;
 use std::process::ExitCode;
 use std::sync::Wait;
 use std::thread::Threads;
-use std::{env, io};
-
-/// The words of the command line, without the program's name.
-fn given_words(rt: &HostRuntime, alloc: Global) -> io::Result<Vec<String>> {
-    let mut words = Vec::new(alloc);
-    for word in env::args(rt)?.skip(1) {
-        words.push(word)?;
-    }
-    Ok(words)
-}
+use words::{WordsFault, given_words};
 
 /// Does what the command line says, with the threads of a handle.
-fn run<R: Threads + Wait + Sync>(rt: &HostRuntime, handle: &R) -> io::Result<u8> {
+fn run<R: Threads + Wait + Sync>(rt: &HostRuntime, handle: &R) -> Result<u8, WordsFault> {
     let alloc = rt.alloc();
-    let words = given_words(rt, alloc)?;
+    let words = given_words(rt)?;
     let mut list = Vec::new(alloc);
     for word in &words {
         list.push(word.as_str())?;
@@ -38,9 +30,9 @@ fn run<R: Threads + Wait + Sync>(rt: &HostRuntime, handle: &R) -> io::Result<u8>
 fn main(rt: HostRuntime) -> ExitCode {
     match run(&rt, &rt) {
         Ok(status) => ExitCode::from(status),
-        Err(error) => {
-            let _ = eprintln!(rt; "ringcheck: {error}");
-            ExitCode::from(DEVICE_STATUS)
+        Err(fault) => {
+            let fault = CommandFault::Words(fault);
+            ExitCode::from(tell(rt.alloc(), &fault, rt.stderr()))
         }
     }
 }

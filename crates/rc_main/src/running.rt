@@ -1,74 +1,93 @@
 //! A text is run on threads, and the trace of the run is written.
 
-ghost use Rattle.std.specs.Prelude.{◌+◌, ◌<◌, ◌^◌, IfOk};
+ghost use Rattle.std.specs.Prelude.{◌≡◌, ◌+◌, ◌<◌, ◌≤◌, ◌^◌, IfErr, IfOk, OnOk};
 ghost use Rattle.std.specs.Arc.{arc_value};
+ghost use Rattle.std.specs.Io.KnownBytes.{Appends};
+ghost use Rattle.rc_main.specs.Answers.{AnswersRun, EndsRun, ReadsNothing, ReadsOnce, RunsProgram, WritesOnce};
+ghost use Rattle.rc_main.specs.declared.fault.CommandFault.TheVariants.{OtherProgram};
+ghost use Rattle.rc_report.specs.Statuses.{status_of_verdict};
 ghost use Rattle.rc_report.specs.Traces.{NamesItsThreads};
+ghost use Rattle.rc_report.specs.Verdicts.{verdict_text};
 
-use crate::command::{CommandFault, DEVICE_STATUS, FAULT_STATUS, GOOD_STATUS, UNREADABLE_STATUS};
-use rc_admit::admitted::{Admitted, admit};
-use rc_admit::fault::AdmitFault;
+use crate::fault::CommandFault;
+use rc_admit::admitted::Admitted;
 use rc_device::chooser::Seeded;
+use rc_device::device::Device;
 use rc_device::disk::Disk;
-use rc_read::ReadFault;
-use rc_report::engine_fault::EngineFault;
+use rc_report::check_engine::judged;
 use rc_report::reading::read_text;
-use rc_report::streams::{ReadSource, Sink, WriteSink};
+use rc_report::streams::{Sink, Source};
 use rc_report::trace::{End, trace_text};
 use rc_report::verdict::{Verdict, verdict_text};
 use rc_run::gate::OpenGate;
 use rc_run::report::{RunFault, RunReport};
 use rc_run::runner::run;
 use std::alloc::{AllocError, Global};
-use std::io::{Read, Write};
 use std::sync::{Arc, Wait};
 use std::thread::Threads;
 
-/// Runs the program that the reader gives, over files in memory, with the choices of a seed. A text that can't be read
-/// or is refused is answered with its verdict.
-pub fn run_text<R: Threads + Wait + Sync, I: Read + Drop, W: Write>(
+/// Runs the program of a source, over files in memory, with the choices of a seed. A text that can't be read or is
+/// refused is answered with its verdict.
+pub fn run_text<R: Threads + Wait + Sync, I: Source, S: Sink>(
     rt: &R,
     alloc: Global,
-    reader: I,
+    source: &mut I,
     seed: u32,
     limit: u32,
-    writer: &mut W,
-) -> Result<u8, CommandFault> {
-    let mut source = ReadSource::new(reader);
-    let mut sink = WriteSink::new(writer);
-    let text = read_text(alloc, &mut source)?;
-    match admit(alloc, &text) {
-        Ok(admitted) => run_admitted(rt, alloc, admitted, seed, limit, &mut sink),
-        Err(AdmitFault::Read(ReadFault::Text { line, cause })) => {
-            verdict_text(&Verdict::Unreadable { line, cause }, &mut sink)?;
-            Ok(UNREADABLE_STATUS)
-        }
-        Err(AdmitFault::Refused(refusal)) => {
-            verdict_text(&Verdict::Refused(refusal), &mut sink)?;
-            Ok(FAULT_STATUS)
-        }
-        Err(AdmitFault::Read(ReadFault::OutOfMemory)) | Err(AdmitFault::OutOfMemory) => {
-            Err(CommandFault::Engine(EngineFault::OutOfMemory))
-        }
+    sink: &mut S,
+) -> Result<u8, CommandFault>
+    requires reads { I.read_count source.old + 2097152 < 2 ^ 64 }
+    requires read_failures { I.failure_count source.old + 1 < 2 ^ 64 }
+    requires write_failures { S.failure_count sink.old + 1 < 2 ^ 64 }
+    ensures answer { IfOk result (AnswersRun ⟦<Disk as Device>⟧.gives (I.remaining source.old) limit (S.contents sink.old) (S.contents sink.new)) }
+    ensures bound { IfOk result (λ status. status ≤ 3) }
+    ensures reads { ReadsOnce
+        (record { remaining = I.remaining source.old; reads = I.read_count source.old; ends = I.end_count source.old; failures = I.failure_count source.old })
+        (record { remaining = I.remaining source.new; reads = I.read_count source.new; ends = I.end_count source.new; failures = I.failure_count source.new })
+        result }
+    ensures writes { WritesOnce (S.failure_count sink.old) (S.failure_count sink.new) result }
+{
+    let text = read_text(alloc, source)?;
+    match judged(alloc, &text)? {
+        Ok(admitted) => run_admitted(rt, alloc, admitted, seed, limit, sink),
+        Err(verdict) => tell_verdict(verdict, sink),
     }
 }
 
+/// Writes a verdict, and answers its status.
+fn tell_verdict<S: Sink>(verdict: Verdict, sink: &mut S) -> Result<u8, CommandFault>
+    requires { S.failure_count sink.old + 1 < 2 ^ 64 }
+    ensures status { IfOk result (λ status. status ≡ status_of_verdict verdict) }
+    ensures text { OnOk result (Appends (S.contents sink.old) (S.contents sink.new) (verdict_text verdict)) }
+    ensures writes { WritesOnce (S.failure_count sink.old) (S.failure_count sink.new) result }
+    ensures no_read { IfErr result ReadsNothing }
+    ensures bound { IfOk result (λ status. status ≤ 3) }
+{
+    verdict_text(&verdict, sink)?;
+    Ok(verdict.status())
+}
+
 /// Runs an admitted program, and writes the trace.
-fn run_admitted<R: Threads + Wait + Sync, W: Sink>(
+fn run_admitted<R: Threads + Wait + Sync, S: Sink>(
     rt: &R,
     alloc: Global,
     admitted: Admitted,
     seed: u32,
     limit: u32,
-    sink: &mut W,
+    sink: &mut S,
 ) -> Result<u8, CommandFault>
-    requires { W.failure_count sink.old + 1 < 2 ^ 64 }
+    requires { S.failure_count sink.old + 1 < 2 ^ 64 }
+    ensures answer { IfOk result (RunsProgram ⟦<Disk as Device>⟧.gives admitted limit (S.contents sink.old) (S.contents sink.new)) }
+    ensures writes { WritesOnce (S.failure_count sink.old) (S.failure_count sink.new) result }
+    ensures no_read { IfErr result ReadsNothing }
+    ensures bound { IfOk result (λ status. status ≤ 3) }
 {
     let disk = Disk::new(alloc, admitted.program())?;
     let admitted = Arc::new(alloc, admitted).map_err(|_| AllocError)?;
     let theirs = Arc::try_clone(&admitted)?;
     let (report, end) = played(rt, alloc, theirs, disk, seed, limit)?;
     trace_text(admitted.program(), &report.history, end, sink)?;
-    Ok(status_of_run(end))
+    Ok(end.status())
 }
 
 /// What a run did, and how it ended.
@@ -80,7 +99,9 @@ fn played<R: Threads + Wait + Sync>(
     seed: u32,
     limit: u32,
 ) -> Result<(RunReport, End), CommandFault>
-    ensures { IfOk result (λ r. NamesItsThreads (arc_value admitted) r.0.history.items r.1) }
+    ensures end { IfOk result (λ r. EndsRun ⟦<Disk as Device>⟧.gives (arc_value admitted) limit r.0 r.1) }
+    ensures threads { IfOk result (λ r. NamesItsThreads (arc_value admitted) r.0.history.items r.1) }
+    ensures fault { IfErr result (λ e. e ≡ OtherProgram) }
 {
     let _made = admitted.program().entries();
     let chooser = Seeded::new(u64::from(seed));
@@ -96,14 +117,6 @@ fn played<R: Threads + Wait + Sync>(
         Ok(report) => Ok((report, End::Ended)),
         Err(RunFault::Limit(report)) => Ok((report, End::Limit)),
         Err(RunFault::OutOfMemory(report)) => Ok((report, End::Memory)),
-        Err(RunFault::OtherProgram) => Err(CommandFault::Run(RunFault::OtherProgram)),
-    }
-}
-
-/// The exit status of a run that ended so.
-fn status_of_run(end: End) -> u8 {
-    match end {
-        End::Ended => GOOD_STATUS,
-        _ => DEVICE_STATUS,
+        Err(RunFault::OtherProgram) => Err(CommandFault::OtherProgram),
     }
 }

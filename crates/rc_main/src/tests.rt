@@ -5,6 +5,7 @@ mod cause_texts;
 mod causes;
 mod checks;
 mod devices;
+mod limits;
 mod long;
 mod programs;
 mod refused;

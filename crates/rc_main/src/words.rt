@@ -5,7 +5,9 @@ ghost use Rattle.rc_main.specs.Words.{HasRanges};
 
 use clap::error::ErrorKind;
 use clap::{Arg, ArgAction, ArgMatches, value_parser};
-use std::alloc::{AllocError, Global};
+use std::alloc::{AllocError, AllocFailed, Global};
+use std::env::Env;
+use std::{env, io};
 use thiserror::Error;
 
 const VERSION: &str = "0.1.0";
@@ -32,6 +34,9 @@ pub enum WordsFault {
     /// Wrong words; what is wrong with them, in one line.
     #[error("{0}")]
     Wrong(String),
+    /// An argument isn't UTF-8.
+    #[error("an argument isn't UTF-8 text")]
+    NotUtf8,
     /// A growth was refused (code 20).
     #[error("out of memory (20)")]
     OutOfMemory,
@@ -39,6 +44,12 @@ pub enum WordsFault {
 
 impl From<AllocError> for WordsFault {
     fn from(_error: AllocError) -> WordsFault {
+        WordsFault::OutOfMemory
+    }
+}
+
+impl<T: Drop> From<AllocFailed<T>> for WordsFault {
+    fn from(_error: AllocFailed<T>) -> WordsFault {
         WordsFault::OutOfMemory
     }
 }
@@ -92,11 +103,29 @@ fn described<'a>(alloc: Global) -> Result<clap::Command<'a>, AllocError> {
     clap::Command::new(alloc, "ringcheck")
         .about("Checks threaded programs of liburing calls on one shared io_uring")
         .version(VERSION)
+        .bin_name("ringcheck")?
         .no_binary_name(true)
         .subcommand_required(true)
         .subcommand(described_check(alloc)?)?
         .subcommand(described_step(alloc)?)?
         .subcommand(described_run(alloc)?)
+}
+
+/// The words of the command line, without the program's name.
+pub fn given_words(rt: &(impl Env + AllocGlobal)) -> Result<Vec<String>, WordsFault> {
+    let mut words = Vec::new(rt.alloc());
+    match env::args(rt) {
+        Ok(args) => {
+            for word in args.skip(1) {
+                words.push(word)?;
+            }
+            Ok(words)
+        }
+        Err(error) => match error.kind() {
+            io::ErrorKind::InvalidData => Err(WordsFault::NotUtf8),
+            _ => Err(WordsFault::OutOfMemory),
+        },
+    }
 }
 
 /// Reads the words behind the program's name.
@@ -105,7 +134,13 @@ pub fn read_words<'a>(alloc: Global, words: &'a [&'a str]) -> Result<Command<'a>
 {
     match described(alloc)?.try_get_matches_from(words) {
         Ok(matches) => command_of(alloc, &matches),
-        Err(error) => shown_or_wrong(alloc, &error),
+        Err(error) => match error.kind() {
+            ErrorKind::DisplayHelp | ErrorKind::DisplayVersion => {
+                Ok(Command::Show(format!(in alloc; "{error}")?))
+            }
+            ErrorKind::OutOfMemory => Err(WordsFault::OutOfMemory),
+            _ => Err(wrong_words(alloc, words)?),
+        },
     }
 }
 
@@ -137,24 +172,53 @@ fn run_of<'a>(alloc: Global, run: &ArgMatches<'a>) -> Result<Command<'a>, WordsF
     Ok(Command::Run { seed, limit })
 }
 
-/// Help and the version are shown; of any other error the first line is told.
-fn shown_or_wrong<'a>(alloc: Global, error: &clap::Error) -> Result<Command<'a>, WordsFault>
-    ensures { IfOk result HasRanges }
-{
-    let text = format!(in alloc; "{error}")?;
-    match error.kind() {
-        ErrorKind::DisplayHelp | ErrorKind::DisplayVersion => Ok(Command::Show(text)),
-        ErrorKind::OutOfMemory => Err(WordsFault::OutOfMemory),
-        _ => Err(WordsFault::Wrong(first_line(alloc, text.as_str())?)),
+/// What is wrong with words, in one line. They are read again with their control characters escaped, so that none of
+/// these reaches a terminal.
+fn wrong_words(alloc: Global, words: &[&str]) -> Result<WordsFault, AllocError> {
+    let shown = escaped(alloc, words)?;
+    let mut list = Vec::new(alloc);
+    for word in &shown {
+        list.push(word.as_str())?;
+    }
+    match described(alloc)?.try_get_matches_from(&list) {
+        Ok(_) => Ok(WordsFault::Wrong(String::from_str(alloc, "wrong words")?)),
+        Err(error) => match error.kind() {
+            ErrorKind::OutOfMemory => Ok(WordsFault::OutOfMemory),
+            _ => {
+                let message = format!(in alloc; "{error}")?;
+                Ok(WordsFault::Wrong(on_one_line(alloc, message.as_str())?))
+            }
+        },
     }
 }
 
-/// The first line of a message, without the word that says that it is an error.
-fn first_line(alloc: Global, message: &str) -> Result<String, AllocError> {
-    let line = match message.split_once('\n') {
-        Some((line, _)) => line,
-        None => message,
-    };
-    let told = line.strip_prefix("error: ").unwrap_or(line);
-    format!(in alloc; "{told} (see 'ringcheck --help')")
+/// Words with each control character escaped, as `\u{1b}`.
+fn escaped(alloc: Global, words: &[&str]) -> Result<Vec<String>, AllocError> {
+    let mut shown = Vec::new(alloc);
+    for word in words {
+        let mut text = String::new(alloc);
+        for character in word.chars() {
+            if character.is_control() {
+                text.push_str(format!(in alloc; "{}", character.escape_default())?.as_str())?;
+            } else {
+                text.push(character)?;
+            }
+        }
+        shown.push(text)?;
+    }
+    Ok(shown)
+}
+
+/// The lines of a message up to the first blank one as one line, without the word that says that it is an error.
+fn on_one_line(alloc: Global, message: &str) -> Result<String, AllocError> {
+    let mut told = String::new(alloc);
+    for line in message.strip_prefix("error: ").unwrap_or(message).lines() {
+        if line.trim().is_empty() {
+            break;
+        }
+        told.push_str(line.trim())?;
+        told.push(' ')?;
+    }
+    told.push_str("(see 'ringcheck --help')")?;
+    Ok(told)
 }

@@ -29,6 +29,13 @@ abbrev pub IsVerdict : Result Program (ℕ × ℕ) → Verdict → Type 0
 IsVerdict (Ok P) verdict = IsProgramVerdict P verdict
 IsVerdict (Err (line, number)) verdict = IsFaultVerdict line number verdict
 
+-- The program is admitted; or a verdict says why it isn't.
+abbrev pub Judges : Result Program (ℕ × ℕ) → Result Program Verdict → Type 0
+Judges answer (Ok admitted) = (answer ≡ Ok admitted) × Accepts admitted
+Judges answer (Err Accepted) = ⊥
+Judges answer (Err (Refused r)) = IsVerdict answer (Refused r)
+Judges answer (Err (Unreadable line cause)) = IsVerdict answer (Unreadable line cause)
+
 -- as JSON, or as text
 abbrev pub told : Bool → Verdict → List ℕ
 told true verdict = verdict_json verdict

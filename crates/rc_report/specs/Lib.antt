@@ -1,8 +1,10 @@
+pub mod Buffers
 pub mod Checks
 pub mod Engine
 pub mod Made
 pub mod Objects
 pub mod Printed
+pub mod Statuses
 pub mod Streams
 pub mod Traces
 pub mod Verdicts

@@ -1,5 +1,5 @@
 -- What reads and writes leave, and what a text that was written in pieces means.
-use Rattle.std.specs.Prelude.{ℕ, ◌≡◌, ◌+◌, ◌<◌, ◌≤◌, List, ◌++◌, length, ◌⊎◌, Option, Result, Ok, Err}
+use Rattle.std.specs.Prelude.{ℕ, ◌≡◌, ◌+◌, ◌<◌, ◌≤◌, ◌==◌, if◌then◌else◌, List, ◌++◌, length, ◌⊎◌, Option, Result, Ok, Err}
 use Rattle.std.specs.Io.KnownBytes.{Appends, Consumes, IsAtEnd}
 use Rattle.std.specs.Global.{Vec}
 use Rattle.rc_report.specs.declared.engine_fault.EngineFault.{EngineFault}
@@ -9,6 +9,11 @@ use Rattle.rc_report.specs.declared.engine_fault.EngineFault.TheVariants.{Read, 
 abbrev pub failures_after : {X E : Type 0} → Result X E → ℕ → ℕ
 failures_after (Ok x) n = n
 failures_after (Err e) n = n + 1
+
+-- Each call that gives nothing counts, and no other.
+abbrev pub ends_after : {E : Type 0} → Result ℕ E → ℕ → ℕ
+ends_after (Ok count) n = if count == 0 then n + 1 else n
+ends_after (Err e) n = n
 
 -- A write takes at least one byte of a piece that has any.
 abbrev pub TakesSome : {E : Type 0} → Result ℕ E → List ℕ → Type 0
@@ -49,26 +54,29 @@ abbrev pub OnlyFailsToRead : {X : Type 0} → Result X EngineFault → Type 0
 OnlyFailsToRead (Ok x) = Unit {0}
 OnlyFailsToRead (Err e) = ¬ (e ≡ Write)
 
--- A source after so many reads and failures, with the bytes that it will give, where they are known.
+-- A source after so many reads, ends and failures, with the bytes that it will give, where they are known.
 pub record Given : Type 0 where
   pub remaining : Option (List ℕ)
   pub reads : ℕ
+  pub ends : ℕ
   pub failures : ℕ
 
 -- None of 2,097,152 reads failed or met the end: each gave a byte or more.
 pub record IsWithoutEnd (old new : Given) : Type 0 where
   pub reads : new.reads ≡ old.reads + 2097152
+  pub no_end : new.ends ≡ old.ends
   pub no_failure : new.failures ≡ old.failures
   pub bytes : List ℕ
   pub many : 2097152 ≤ length bytes
   pub given : Consumes old.remaining new.remaining bytes
 
--- A source's failure is answered, or that it has no end, and only these. There are never more reads than 2,097,152.
+-- A source's failure is answered, or that it has no end, and only these. There are never more reads than 2,097,152, and
+-- none behind the end of the input: where it was met, it was met once. Memory may run out before it or behind it.
 abbrev pub CountsReads : {X : Type 0} → Given → Given → Result X EngineFault → Type 0
-CountsReads old new (Ok x) = (new.failures ≡ old.failures) × (new.reads ≤ old.reads + 2097152)
-CountsReads old new (Err Read) = ((new.failures ≡ old.failures + 1) × (new.reads ≤ old.reads + 2097152)) ⊎ IsWithoutEnd old new
-CountsReads old new (Err Write) = (new.failures ≡ old.failures) × (new.reads ≤ old.reads + 2097152)
-CountsReads old new (Err OutOfMemory) = (new.failures ≡ old.failures) × (new.reads ≤ old.reads + 2097152)
+CountsReads old new (Ok x) = (new.failures ≡ old.failures) × (new.ends ≡ old.ends + 1) × (new.reads ≤ old.reads + 2097152)
+CountsReads old new (Err Read) = ((new.failures ≡ old.failures + 1) × (new.ends ≡ old.ends) × (new.reads ≤ old.reads + 2097152)) ⊎ IsWithoutEnd old new
+CountsReads old new (Err Write) = (new.failures ≡ old.failures) × (new.ends ≡ old.ends + 1) × (new.reads ≤ old.reads + 2097152)
+CountsReads old new (Err OutOfMemory) = (new.failures ≡ old.failures) × (new.ends ≤ old.ends + 1) × (new.reads ≤ old.reads + 2097152)
 
 -- A sink's failure is answered, and only that.
 abbrev pub CountsWrites : {X : Type 0} → ℕ → ℕ → Result X EngineFault → Type 0

@@ -2,7 +2,7 @@
 
 ghost use Rattle.std.specs.Prelude.{◌≡◌, ◌+◌, ◌<◌, ◌^◌, IfOk, Some};
 ghost use Rattle.rc_read.specs.Answer.{answer_of};
-ghost use Rattle.rc_report.specs.Checks.{ChecksAs, IsVerdict, told};
+ghost use Rattle.rc_report.specs.Checks.{ChecksAs, IsVerdict, Judges, told};
 ghost use Rattle.rc_report.specs.Engine.{WritesNothingOnRead};
 ghost use Rattle.rc_report.specs.Streams.{CountsReads, CountsWrites, FailsToWriteOrGrow, Wrote};
 
@@ -10,7 +10,7 @@ use crate::engine_fault::EngineFault;
 use crate::reading::read_text;
 use crate::streams::{Sink, Source};
 use crate::verdict::{Verdict, verdict_json, verdict_text};
-use rc_admit::admitted::admit;
+use rc_admit::admitted::{Admitted, admit};
 use rc_admit::fault::AdmitFault;
 use rc_read::ReadFault;
 use std::alloc::{AllocError, Global};
@@ -32,8 +32,8 @@ pub fn check_engine<R: Source, W: Sink>(
     ensures text { ChecksAs (R.remaining reader.old) json (W.contents writer.old) (W.contents writer.new) result }
     ensures nothing_on_read { WritesNothingOnRead (W.contents writer.old) (W.contents writer.new) result }
     ensures reads { CountsReads
-        (record { remaining = R.remaining reader.old; reads = R.read_count reader.old; failures = R.failure_count reader.old })
-        (record { remaining = R.remaining reader.new; reads = R.read_count reader.new; failures = R.failure_count reader.new })
+        (record { remaining = R.remaining reader.old; reads = R.read_count reader.old; ends = R.end_count reader.old; failures = R.failure_count reader.old })
+        (record { remaining = R.remaining reader.new; reads = R.read_count reader.new; ends = R.end_count reader.new; failures = R.failure_count reader.new })
         result }
     ensures writes { CountsWrites (W.failure_count writer.old) (W.failure_count writer.new) result }
 {
@@ -52,20 +52,30 @@ fn check_bytes<W: Sink>(
     ensures text { ChecksAs (Some text.now) json (W.contents writer.old) (W.contents writer.new) result }
     ensures failures { FailsToWriteOrGrow (W.failure_count writer.old) (W.failure_count writer.new) result }
 {
-    let verdict = judged(alloc, text)?;
+    let verdict = verdict_on(alloc, text)?;
     write_verdict(alloc, &verdict, json, writer)?;
     Ok(verdict)
 }
 
 /// The verdict on a text.
-fn judged(alloc: Global, text: &[u8]) -> Result<Verdict, AllocError>
+fn verdict_on(alloc: Global, text: &[u8]) -> Result<Verdict, AllocError>
     ensures { IfOk result (IsVerdict (answer_of text.now)) }
 {
-    match admit(alloc, text) {
+    match judged(alloc, text)? {
         Ok(_) => Ok(Verdict::Accepted),
-        Err(AdmitFault::Refused(refusal)) => Ok(Verdict::Refused(refusal)),
+        Err(verdict) => Ok(verdict),
+    }
+}
+
+/// The program of a text, where it is admitted, or the verdict that says why it isn't.
+pub fn judged(alloc: Global, text: &[u8]) -> Result<Result<Admitted, Verdict>, AllocError>
+    ensures { IfOk result (Judges (answer_of text.now)) }
+{
+    match admit(alloc, text) {
+        Ok(admitted) => Ok(Ok(admitted)),
+        Err(AdmitFault::Refused(refusal)) => Ok(Err(Verdict::Refused(refusal))),
         Err(AdmitFault::Read(ReadFault::Text { line, cause })) => {
-            Ok(Verdict::Unreadable { line, cause })
+            Ok(Err(Verdict::Unreadable { line, cause }))
         }
         Err(AdmitFault::Read(ReadFault::OutOfMemory)) => Err(AllocError),
         Err(AdmitFault::OutOfMemory) => Err(AllocError),

@@ -4,15 +4,17 @@
 //! answers `Read` and `Write` only where that device failed, `Read` also where 2,097,152 reads met no end of the input.
 #![tactic(auto)]
 
+pub mod buffered;
 pub mod check_engine;
 pub mod engine_fault;
 mod line_buffer;
 mod printed;
 pub mod reading;
+pub mod status;
 pub mod step_engine;
 pub mod streams;
 #[cfg(test)]
 mod tests;
 pub mod trace;
 pub mod verdict;
-mod writing;
+pub mod writing;

@@ -19,13 +19,13 @@ pub fn read_text<R: Source>(alloc: Global, reader: &mut R) -> Result<Vec<u8>, En
     requires failures { R.failure_count reader.old + 1 < 2 ^ 64 }
     ensures text { ReadsText (R.remaining reader.old) (R.remaining reader.new) result }
     ensures counts { CountsReads
-        (record { remaining = R.remaining reader.old; reads = R.read_count reader.old; failures = R.failure_count reader.old })
-        (record { remaining = R.remaining reader.new; reads = R.read_count reader.new; failures = R.failure_count reader.new })
+        (record { remaining = R.remaining reader.old; reads = R.read_count reader.old; ends = R.end_count reader.old; failures = R.failure_count reader.old })
+        (record { remaining = R.remaining reader.new; reads = R.read_count reader.new; ends = R.end_count reader.new; failures = R.failure_count reader.new })
         result }
     ensures no_write { OnlyFailsToRead result }
 {
     let mut text = Vec::new(alloc);
-    let mut buffer = [0; 4096];
+    let mut buffer = [0; 1024];
     for turn in 0..MOST_READS {
         match reader.read(&mut buffer) {
             Ok(0) => return Ok(text),

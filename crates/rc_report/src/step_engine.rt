@@ -63,8 +63,8 @@ pub fn step_engine<R: Source, W: Sink>(
     ensures text { StepsAs (R.remaining reader.old) schedule.now (W.contents writer.old) (W.contents writer.new) result }
     ensures nothing_on_read { WritesNothingOnRead (W.contents writer.old) (W.contents writer.new) result }
     ensures reads { CountsReads
-        (record { remaining = R.remaining reader.old; reads = R.read_count reader.old; failures = R.failure_count reader.old })
-        (record { remaining = R.remaining reader.new; reads = R.read_count reader.new; failures = R.failure_count reader.new })
+        (record { remaining = R.remaining reader.old; reads = R.read_count reader.old; ends = R.end_count reader.old; failures = R.failure_count reader.old })
+        (record { remaining = R.remaining reader.new; reads = R.read_count reader.new; ends = R.end_count reader.new; failures = R.failure_count reader.new })
         result }
     ensures writes { CountsWrites (W.failure_count writer.old) (W.failure_count writer.new) result }
 {

@@ -1,8 +1,8 @@
 //! What a text is read from, and what an answer is written to.
 
 ghost use Rattle.std.specs.Prelude.{◌≡◌, ◌+◌, ◌<◌, ◌≤◌, ◌^◌, ℕ, List, Option, IfOk, length};
-ghost use Rattle.std.specs.Io.KnownBytes.{ReadConsumes, WriteAppends};
-ghost use Rattle.rc_report.specs.Streams.{failures_after, TakesSome};
+ghost use Rattle.std.specs.Io.KnownBytes.{Keeps, ReadConsumes, WriteAppends};
+ghost use Rattle.rc_report.specs.Streams.{ends_after, failures_after, TakesSome};
 
 use std::io::{Read, Write};
 
@@ -18,6 +18,9 @@ pub trait Source {
     // How many reads there were, failed ones too.
     ghost read_count: { Self → ℕ };
 
+    // How many reads gave nothing: at the end of the input, or into an empty buffer.
+    ghost end_count: { Self → ℕ };
+
     // How many reads have failed.
     ghost failure_count: { Self → ℕ };
 
@@ -29,6 +32,7 @@ pub trait Source {
         ensures bound { IfOk result (λ n. n ≤ length buffer.new) }
         ensures bytes { ReadConsumes (remaining self.old) (remaining self.new) result buffer.new }
         ensures reads { read_count self.new ≡ read_count self.old + 1 }
+        ensures ends { end_count self.new ≡ ends_after result (end_count self.old) }
         ensures failures { failure_count self.new ≡ failures_after result (failure_count self.old) };
 
     /// How many reads there were, failed ones too.
@@ -68,18 +72,23 @@ pub struct ReadSource<R> {
     pub reader: R,
     /// How many reads there were, failed ones too.
     pub reads: u64,
+    /// How many reads gave nothing.
+    pub ends: u64,
     /// How many reads have failed.
     pub failures: u64,
+    ghost ends_are_reads: { ends ≤ reads },
 }
 
 impl<R: Read> ReadSource<R> {
     /// A source of which nothing was read.
     pub fn new(reader: R) -> ReadSource<R>
-        ensures { result ≡ record { reader = reader; reads = 0; failures = 0 } }
+        ensures reader { result.reader ≡ reader }
+        ensures counts { (result.reads ≡ 0) × (result.ends ≡ 0) × (result.failures ≡ 0) }
     {
         ReadSource {
             reader,
             reads: 0,
+            ends: 0,
             failures: 0,
         }
     }
@@ -90,11 +99,17 @@ impl<R: Read> Source for ReadSource<R> {
 
     ghost read_count = { λ s. s.reads };
 
+    ghost end_count = { λ s. s.ends };
+
     ghost failure_count = { λ s. s.failures };
 
     fn read(&mut self, buffer: &mut [u8]) -> Result<usize, DeviceFailed> {
         self.reads += 1;
         match self.reader.read(buffer) {
+            Ok(0) => {
+                self.ends += 1;
+                Ok(0)
+            }
             Ok(count) => Ok(count),
             Err(_) => {
                 self.failures += 1;
@@ -130,6 +145,21 @@ impl<W: Write> WriteSink<W> {
         WriteSink {
             writer,
             failures: 0,
+        }
+    }
+
+    /// Has the writer hand on what it keeps back. Nothing is tried again.
+    pub fn flush(&mut self) -> Result<(), DeviceFailed>
+        requires { self.old.failures + 1 < 2 ^ 64 }
+        ensures bytes { Keeps (W.contents self.old.writer) (W.contents self.new.writer) }
+        ensures failures { self.new.failures ≡ failures_after result self.old.failures }
+    {
+        match self.writer.flush() {
+            Ok(()) => Ok(()),
+            Err(_) => {
+                self.failures += 1;
+                Err(DeviceFailed)
+            }
         }
     }
 }

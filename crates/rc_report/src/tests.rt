@@ -1,15 +1,15 @@
 //! Printed forms, and sources and sinks at their limits.
 
 mod checks;
+mod engines;
+mod readers;
 mod traces;
+mod writers;
 
-use crate::engine_fault::EngineFault;
-use crate::reading::read_text;
-use crate::streams::{ReadSource, Sink, Source, WriteSink};
+use crate::streams::WriteSink;
 use crate::verdict::{Refusal, Verdict, verdict_json, verdict_text};
 use rc_read::ReadCause;
 use rc_rules::cause::Cause;
-use std::io::{self, ErrorKind, Read, Write};
 
 /// A verdict with its text and its JSON.
 const VERDICTS: [(Verdict, &str, &str); 6] = [
@@ -72,101 +72,5 @@ fn verdicts_have_their_texts(rt: HostRuntime) {
         let written = verdict_json(alloc, &verdict, &mut sink);
         assert!(rt; written.is_ok());
         assert_eq!(rt; sink.writer.as_slice(), json.as_bytes());
-    }
-}
-
-/// Keeps what is written, a byte at a call and so many in all, and then takes nothing.
-#[derive(Drop)]
-struct Narrow {
-    written: Vec<u8>,
-    room: usize,
-}
-
-impl Write for Narrow {
-    fn write(&mut self, piece: &[u8]) -> io::Result<usize> {
-        let count = piece.len().min(1).min(self.room);
-        self.written.extend_from_slice(&piece[..count])?;
-        self.room -= count;
-        Ok(count)
-    }
-
-    fn flush(&mut self) -> io::Result<()> {
-        Ok(())
-    }
-}
-
-#[test]
-fn a_failing_sink_has_a_beginning(rt: HostRuntime) {
-    let text = b"refused line 3 V18 OverCredits\n";
-    let verdict = Verdict::Refused(Refusal {
-        line: 3,
-        cause: Cause::OverCredits,
-    });
-    for room in 0..text.len() {
-        let mut sink = WriteSink::new(Narrow {
-            written: Vec::new(rt.alloc()),
-            room,
-        });
-        let written = verdict_text(&verdict, &mut sink);
-        assert!(rt; matches!(written, Err(EngineFault::Write)));
-        assert_eq!(rt; sink.failures(), 1);
-        assert_eq!(rt; sink.writer.written.as_slice(), &text[..room]);
-    }
-}
-
-/// Gives so many bytes, one at each read, and then fails or ends.
-#[derive(Drop)]
-struct Slow {
-    left: u32,
-    fails: bool,
-}
-
-impl Read for Slow {
-    fn read(&mut self, buffer: &mut [u8]) -> io::Result<usize> {
-        if buffer.is_empty() {
-            return Ok(0);
-        }
-        if self.left == 0 {
-            return if self.fails {
-                Err(io::Error::from(ErrorKind::ConnectionReset))
-            } else {
-                Ok(0)
-            };
-        }
-        self.left -= 1;
-        buffer[0] = b'#';
-        Ok(1)
-    }
-}
-
-#[test]
-fn a_text_ends_within_the_limit_of_reads(rt: HostRuntime) {
-    for (bytes, reads) in [(0, 1), (1, 2), (4097, 4098), (2_097_151, 2_097_152)] {
-        let mut source = ReadSource::new(Slow {
-            left: bytes,
-            fails: false,
-        });
-        match read_text(rt.alloc(), &mut source) {
-            Ok(text) => assert_eq!(rt; text.len(), bytes as usize),
-            Err(fault) => panic!(rt; "{fault}"),
-        }
-        assert_eq!(rt; source.reads(), reads);
-        assert_eq!(rt; source.failures(), 0);
-    }
-}
-
-#[test]
-fn failures_and_sources_without_end_are_told(rt: HostRuntime) {
-    for (bytes, fails, reads, failures) in [
-        (0, true, 1, 1),
-        (1, true, 2, 1),
-        (2_097_152, false, 2_097_152, 0),
-        (u32::MAX, false, 2_097_152, 0),
-    ] {
-        let mut source = ReadSource::new(Slow { left: bytes, fails });
-        let text = read_text(rt.alloc(), &mut source);
-        assert!(rt; matches!(text, Err(EngineFault::Read)));
-        assert_eq!(rt; source.reads(), reads);
-        assert_eq!(rt; source.failures(), failures);
     }
 }

@@ -277,6 +277,12 @@ const UNREADABLE: &[Checked] = &[
         status: 2,
     },
     Checked {
+        text: programs::ROOM_OF_TWO,
+        verdict: "unreadable line 2 P4 BadNumber\n",
+        json: "{\"cause\":\"BadNumber\",\"code\":4,\"line\":2,\"verdict\":\"unreadable\"}\n",
+        status: 2,
+    },
+    Checked {
         text: programs::CUT,
         verdict: "unreadable line 4 P7 Braces\n",
         json: "{\"cause\":\"Braces\",\"code\":7,\"line\":4,\"verdict\":\"unreadable\"}\n",

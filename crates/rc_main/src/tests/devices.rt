@@ -1,6 +1,8 @@
-//! Readers and writers that fail: status 3, one line on standard error, and a beginning of the answer.
+//! Readers and writers that are interrupted once and would then work: nothing is tried again. The status is 3, one line
+//! on standard error says why, and a beginning of the answer is written.
 
-use super::programs::NOP;
+use super::programs::{DRAIN, HANDOFF, NOP};
+use super::runs::COUNTS;
 use crate::command::command;
 use std::alloc::Global;
 use std::io::{self, ErrorKind, Read, Write};
@@ -8,13 +10,82 @@ use std::process::Abort;
 use std::sync::Wait;
 use std::thread::Threads;
 
-const SCHEDULE: &[&str] = &["step", "--schedule", "t0,t0,t0,t0,t0,k:7=0,t0,t0,t0"];
+/// Gives a text, so many bytes at a call. One call, counted from 0, is interrupted.
+#[derive(Drop)]
+struct Reader {
+    text: &'static [u8],
+    most: usize,
+    at: usize,
+    calls: usize,
+}
 
-const NOT_READ: &[u8] = b"ringcheck: the input can't be read\n";
+impl Read for Reader {
+    fn read(&mut self, buffer: &mut [u8]) -> io::Result<usize> {
+        let is_interrupted = self.calls == self.at;
+        self.calls = self.calls.saturating_add(1);
+        if is_interrupted {
+            return Err(io::Error::from(ErrorKind::Interrupted));
+        }
+        let count = self.text.len().min(buffer.len()).min(self.most);
+        buffer[..count].copy_from_slice(&self.text[..count]);
+        self.text = &self.text[count..];
+        Ok(count)
+    }
+}
 
-const NOT_WRITTEN: &[u8] = b"ringcheck: the output can't be written\n";
+/// Keeps what is written, five bytes at a call. One call, counted from 0 with the flushes, is interrupted.
+#[derive(Drop)]
+struct Writer {
+    written: Vec<u8>,
+    at: usize,
+    calls: usize,
+}
 
-const TRACE: &[u8] = b"1 t0 5 lock
+impl Writer {
+    fn new(alloc: Global, at: usize) -> Writer {
+        Writer {
+            written: Vec::new(alloc),
+            at,
+            calls: 0,
+        }
+    }
+
+    fn count(&mut self) -> io::Result<()> {
+        let is_interrupted = self.calls == self.at;
+        self.calls = self.calls.saturating_add(1);
+        if is_interrupted {
+            return Err(io::Error::from(ErrorKind::Interrupted));
+        }
+        Ok(())
+    }
+}
+
+impl Write for Writer {
+    fn write(&mut self, piece: &[u8]) -> io::Result<usize> {
+        self.count()?;
+        let count = piece.len().min(5);
+        self.written.extend_from_slice(&piece[..count])?;
+        Ok(count)
+    }
+
+    fn flush(&mut self) -> io::Result<()> {
+        self.count()
+    }
+}
+
+/// What the program is given, and its answer on devices that work.
+#[derive(Clone, Copy)]
+struct Answered {
+    words: &'static [&'static str],
+    text: &'static str,
+    answer: &'static [u8],
+}
+
+const ANSWERED: [Answered; 6] = [
+    Answered {
+        words: &["step", "--schedule", "t0,t0,t0,t0,t0,k:7=0,t0,t0,t0"],
+        text: NOP,
+        answer: b"1 t0 5 lock
 2 t0 6 get_sqe
 3 t0 7 prep_nop
 4 t0 8 set_data64 7
@@ -24,126 +95,167 @@ const TRACE: &[u8] = b"1 t0 5 lock
 8 t0 12 cqe_seen 7
 9 t0 19 release
 ended after 9 events
-";
-
-/// Gives the text in pieces of 100 bytes, and fails behind so many.
-#[derive(Drop)]
-struct Cut {
-    text: &'static [u8],
-    pieces: u32,
-}
-
-impl Read for Cut {
-    fn read(&mut self, buffer: &mut [u8]) -> io::Result<usize> {
-        if self.pieces == 0 {
-            return Err(io::Error::from(ErrorKind::ConnectionReset));
-        }
-        self.pieces -= 1;
-        let count = self.text.len().min(buffer.len()).min(100);
-        buffer[..count].copy_from_slice(&self.text[..count]);
-        self.text = &self.text[count..];
-        Ok(count)
-    }
-}
-
-/// Keeps what is written, at most five bytes at a call and so many in all, and then fails.
-#[derive(Drop)]
-struct Narrow {
-    written: Vec<u8>,
-    room: usize,
-    flushes: bool,
-}
-
-impl Write for Narrow {
-    fn write(&mut self, piece: &[u8]) -> io::Result<usize> {
-        let count = piece.len().min(5).min(self.room);
-        if count == 0 {
-            return Err(io::Error::from(ErrorKind::WriteZero));
-        }
-        self.written.extend_from_slice(&piece[..count])?;
-        self.room -= count;
-        Ok(count)
-    }
-
-    fn flush(&mut self) -> io::Result<()> {
-        if self.flushes {
-            Ok(())
-        } else {
-            Err(io::Error::from(ErrorKind::BrokenPipe))
-        }
-    }
-}
+",
+    },
+    Answered {
+        words: &["check"],
+        text: DRAIN,
+        answer: b"accepted\n",
+    },
+    Answered {
+        words: &["check", "--json"],
+        text: NOP,
+        answer: b"{\"cause\":\"QueueLeft\",\"code\":12,\"line\":19,\"verdict\":\"refused\"}\n",
+    },
+    Answered {
+        words: &["run", "--seed", "1", "--limit", "2"],
+        text: COUNTS,
+        answer: b"1 t0 4 loop\n2 t0 5 set 1\nlimit after 2 events\n",
+    },
+    Answered {
+        words: &["run", "--seed", "1", "--limit", "2"],
+        text: NOP,
+        answer: b"refused line 19 V12 QueueLeft\n",
+    },
+    Answered {
+        words: &["--version"],
+        text: "",
+        answer: b"ringcheck 0.1.0\n",
+    },
+];
 
 fn reader_fails(
     rt: &(impl Abort + Threads + Wait + Sync),
     alloc: Global,
-    words: &[&str],
-    pieces: u32,
+    words: &'static [&'static str],
+    at: u16,
 ) {
-    let mut writer = Vec::new(alloc);
-    let mut errors = Vec::new(alloc);
-    let reader = Cut {
-        text: NOP.as_bytes(),
-        pieces,
+    let at = usize::from(at);
+    let mut reader = Reader {
+        text: DRAIN.as_bytes(),
+        most: 100,
+        at,
+        calls: 0,
     };
-    let status = command(rt, alloc, words, reader, &mut writer, &mut errors);
-    assert_eq!(rt; status, 3, "status behind {pieces} pieces");
-    assert_eq!(rt; errors.as_slice(), NOT_READ);
-    assert!(rt; writer.is_empty(), "nothing is written");
+    let mut writer = Writer::new(alloc, usize::MAX);
+    let mut errors = Vec::new(alloc);
+    let status = command(rt, alloc, words, &mut reader, &mut writer, &mut errors);
+    assert_eq!(rt; status, 3, "status at read {at}");
+    assert_eq!(rt;
+        errors.as_slice(),
+        b"ringcheck: the input can't be read\n".as_slice()
+    );
+    assert_eq!(rt; reader.calls, at + 1, "reads");
+    assert_eq!(rt; writer.calls, 0, "writes at read {at}");
 }
 
 #[test]
-fn failing_reads_are_told(rt: HostRuntime) {
-    for pieces in [0, 1] {
-        reader_fails(&rt, rt.alloc(), SCHEDULE, pieces);
-        reader_fails(&rt, rt.alloc(), &["check"], pieces);
+fn an_interrupted_read_is_told(rt: HostRuntime) {
+    for at in [0, 1, 3] {
+        reader_fails(&rt, rt.alloc(), &["step", "--schedule", "t0"], at);
+        reader_fails(&rt, rt.alloc(), &["check"], at);
+        reader_fails(&rt, rt.alloc(), &["check", "--json"], at);
+        let run = &["run", "--seed", "1", "--limit", "5"];
+        reader_fails(&rt, rt.alloc(), run, at);
     }
 }
-
-/// The words that the program is given, and the answer that the writer doesn't take whole.
-type Answered = (&'static [&'static str], &'static [u8]);
-
-const ANSWERED: [Answered; 3] = [
-    (SCHEDULE, TRACE),
-    (&["check"], b"refused line 19 V12 QueueLeft\n"),
-    (
-        &["check", "--json"],
-        b"{\"cause\":\"QueueLeft\",\"code\":12,\"line\":19,\"verdict\":\"refused\"}\n",
-    ),
-];
 
 fn writer_fails(
     rt: &(impl Abort + Threads + Wait + Sync),
     alloc: Global,
-    words: &[&str],
-    answer: &[u8],
-    room: usize,
-    flushes: bool,
+    given: &Answered,
+    at: u16,
 ) {
-    let mut writer = Narrow {
-        written: Vec::new(alloc),
-        room,
-        flushes,
+    let at = usize::from(at);
+    let mut reader = Reader {
+        text: given.text.as_bytes(),
+        most: 100,
+        at: usize::MAX,
+        calls: 0,
     };
+    let mut writer = Writer::new(alloc, at);
     let mut errors = Vec::new(alloc);
-    let reader = NOP.as_bytes();
-    let status = command(rt, alloc, words, reader, &mut writer, &mut errors);
-    assert_eq!(rt; status, 3, "status at {room} bytes");
-    assert_eq!(rt; errors.as_slice(), NOT_WRITTEN);
-    let wanted = &answer[..room.min(answer.len())];
+    let words = given.words;
+    let status = command(rt, alloc, words, &mut reader, &mut writer, &mut errors);
+    assert_eq!(rt; status, 3, "status at write {at}");
+    assert_eq!(rt;
+        errors.as_slice(),
+        b"ringcheck: the output can't be written\n".as_slice()
+    );
+    assert_eq!(rt; writer.calls, at + 1, "writes");
+    let written = (at * 5).min(given.answer.len());
     assert_eq!(rt;
         writer.written.as_slice(),
-        wanted,
-        "written at {room} bytes"
+        &given.answer[..written],
+        "written at write {at}"
     );
 }
 
 #[test]
-fn failing_writes_are_told(rt: HostRuntime) {
-    for (words, answer) in ANSWERED {
-        for room in [0, 3, 5, answer.len() / 2, answer.len().saturating_sub(1)] {
-            writer_fails(&rt, rt.alloc(), words, answer, room, true);
+fn an_interrupted_write_or_flush_is_told(rt: HostRuntime) {
+    for given in ANSWERED {
+        for at in 0..100 {
+            // The last call is the flush.
+            if usize::from(at) <= given.answer.len().div_ceil(5) {
+                writer_fails(&rt, rt.alloc(), &given, at);
+            }
         }
-        writer_fails(&rt, rt.alloc(), words, answer, 4096, false);
+    }
+}
+
+#[test]
+fn an_interrupted_message_is_left(rt: HostRuntime) {
+    for (at, written) in [(0, b"".as_slice()), (1, b"ringc".as_slice())] {
+        let mut writer = Writer::new(rt.alloc(), usize::MAX);
+        let mut errors = Writer::new(rt.alloc(), at);
+        let reader = DRAIN.as_bytes();
+        let status = command(
+            &rt,
+            rt.alloc(),
+            &["verify"],
+            reader,
+            &mut writer,
+            &mut errors,
+        );
+        assert_eq!(rt; status, 3);
+        assert_eq!(rt; writer.calls, 0);
+        assert_eq!(rt; errors.calls, at + 1);
+        assert_eq!(rt; errors.written.as_slice(), written);
+    }
+}
+
+#[test]
+fn a_text_may_come_in_pieces(rt: HostRuntime) {
+    let words = [
+        "step",
+        "--schedule",
+        "t0,t0,t0,t0,t0,t0,t0,t0,t0,k:7=16:65,t1,t1,t1,t1,t1,t1,t1",
+    ];
+    for most in [1, 7, 320, 4096] {
+        let mut reader = Reader {
+            text: HANDOFF.as_bytes(),
+            most,
+            at: usize::MAX,
+            calls: 0,
+        };
+        let mut writer = Vec::new(rt.alloc());
+        let mut errors = Vec::new(rt.alloc());
+        let status = command(
+            &rt,
+            rt.alloc(),
+            &words,
+            &mut reader,
+            &mut writer,
+            &mut errors,
+        );
+        assert_eq!(rt; status, 0);
+        assert_eq!(rt;
+            reader.calls,
+            HANDOFF.len().div_ceil(most) + 1,
+            "calls at {most}"
+        );
+        assert!(rt;
+            writer.ends_with(b"\n16 t1 34 load 65\n17 t1 35 print 65\nended after 17 events\n")
+        );
     }
 }

@@ -605,3 +605,5 @@ ring 4 cq 3
 thread t0 holds c:4 {
 }
 ";
+
+pub const ROOM_OF_TWO: &str = "ringcheck 1\nring 4 cq 2\nthread t0 holds c:4 {\n}\n";

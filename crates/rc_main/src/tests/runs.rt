@@ -1,14 +1,17 @@
 //! Programs that are run on threads.
 
-use super::programs::{EARLY, EMPTY, EMPTY_THREAD, HANDOFF, NOP};
+use super::programs::{EARLY, EMPTY, EMPTY_THREAD, HANDOFF, NOP, SHARE};
 use super::{Case, run_as};
 use crate::command::command;
-use std::alloc::Global;
+use std::alloc::{AllocError, Global};
 use std::process::Abort;
+use std::str;
 use std::sync::Wait;
+use std::test::Fail;
 use std::thread::Threads;
 
-const COUNTS: &str = "ringcheck 1
+/// A thread that counts for ever.
+pub const COUNTS: &str = "ringcheck 1
 ring 1
 thread t0 holds {
 loop keeps {
@@ -17,126 +20,168 @@ x = x + 1
 }
 ";
 
-#[test]
-fn what_does_not_depend_on_the_order(rt: HostRuntime) {
-    run_as(
-        &rt,
-        rt.alloc(),
-        &[
-            Case {
-                words: &["run", "--seed", "1", "--limit", "1"],
-                text: EMPTY_THREAD,
-                output: "ended after 0 events\n",
-                errors: "",
-                status: 0,
-            },
-            Case {
-                words: &["run", "--seed", "4294967295", "--limit", "5"],
-                text: COUNTS,
-                output: "1 t0 4 loop
+const RUNS: &[Case] = &[
+    Case {
+        words: &["run", "--seed", "1", "--limit", "1"],
+        text: EMPTY_THREAD,
+        output: "ended after 0 events\n",
+        errors: "",
+        status: 0,
+    },
+    Case {
+        words: &["run", "--seed", "4294967295", "--limit", "5"],
+        text: COUNTS,
+        output: "1 t0 4 loop
 2 t0 5 set 1
 3 t0 4 loop
 4 t0 5 set 2
 5 t0 4 loop
 limit after 5 events
 ",
-                errors: "",
-                status: 3,
-            },
-            Case {
-                words: &["run", "--seed", "0", "--limit", "1000000"],
-                text: EMPTY,
-                output: "unreadable line 1 P2 BadHead\n",
-                errors: "",
-                status: 2,
-            },
-            Case {
-                words: &["run", "--limit", "1000000", "--seed", "1"],
-                text: EARLY,
-                output: "refused line 18 V8 NoShare\n",
-                errors: "",
-                status: 1,
-            },
-            Case {
-                words: &["run", "--seed", "1", "--limit", "1"],
-                text: NOP,
-                output: "refused line 19 V12 QueueLeft\n",
-                errors: "",
-                status: 1,
-            },
-        ],
-    );
-}
+        errors: "",
+        status: 3,
+    },
+    Case {
+        words: &["run", "--seed", "0", "--limit", "1000000"],
+        text: EMPTY,
+        output: "unreadable line 1 P2 BadHead\n",
+        errors: "",
+        status: 2,
+    },
+    Case {
+        words: &["run", "--limit", "1000000", "--seed", "1"],
+        text: EARLY,
+        output: "refused line 18 V8 NoShare\n",
+        errors: "",
+        status: 1,
+    },
+    Case {
+        words: &["run", "--seed", "1", "--limit", "1"],
+        text: NOP,
+        output: "refused line 19 V12 QueueLeft\n",
+        errors: "",
+        status: 1,
+    },
+];
 
 #[test]
-fn numbers_out_of_their_ranges_are_wrong_words(rt: HostRuntime) {
-    run_as(
-        &rt,
-        rt.alloc(),
-        &[
-            Case {
-                words: &["run", "--seed", "1", "--limit", "0"],
-                text: NOP,
-                output: "",
-                errors: "ringcheck: invalid value '0' for '--limit <N>': 0 is not in 1..=1000000 (see 'ringcheck --help')\n",
-                status: 3,
-            },
-            Case {
-                words: &["run", "--seed", "1", "--limit", "1000001"],
-                text: NOP,
-                output: "",
-                errors: "ringcheck: invalid value '1000001' for '--limit <N>': 1000001 is not in 1..=1000000 (see 'ringcheck --help')\n",
-                status: 3,
-            },
-            Case {
-                words: &["run", "--seed", "4294967296", "--limit", "1"],
-                text: NOP,
-                output: "",
-                errors: "ringcheck: invalid value '4294967296' for '--seed <N>': 4294967296 is not in 0..=4294967295 (see 'ringcheck --help')\n",
-                status: 3,
-            },
-            Case {
-                words: &["run", "--seed", "1"],
-                text: NOP,
-                output: "",
-                errors: "ringcheck: the following required arguments were not provided: (see 'ringcheck --help')\n",
-                status: 3,
-            },
-        ],
-    );
+fn what_does_not_depend_on_the_order(rt: HostRuntime) {
+    run_as(&rt, rt.alloc(), RUNS);
 }
 
-/// How often a line of this end stands in the output.
-fn lines_with(output: &str, end: &str) -> usize {
-    output.lines().filter(|line| line.ends_with(end)).count()
-}
-
-fn hand_over(rt: &(impl Abort + Threads + Wait + Sync), alloc: Global, seed: &str) {
+/// What the program writes where it has status 0 and no errors.
+fn written(
+    rt: &(impl Abort + Threads + Wait + Sync),
+    alloc: Global,
+    words: &[&str],
+    text: &str,
+) -> Vec<u8> {
     let mut writer = Vec::new(alloc);
     let mut errors = Vec::new(alloc);
+    let status = command(rt, alloc, words, text.as_bytes(), &mut writer, &mut errors);
+    assert_eq!(rt; status, 0);
+    assert!(rt; errors.is_empty());
+    writer
+}
+
+/// The item of an event's line, and none of another.
+fn item_of(alloc: Global, line: &str) -> Result<Option<String>, AllocError> {
+    let mut words = line.split(' ');
+    let _number = words.next();
+    match (words.next(), words.next(), words.next(), words.next()) {
+        (Some("after"), _, _, _) => Ok(None),
+        (Some("kernel"), Some(data), Some(res), None) => {
+            Ok(Some(format!(in alloc; "k:{data}={res}")?))
+        }
+        (Some(name), Some(_), Some("submit"), Some(taken)) => {
+            Ok(Some(format!(in alloc; "{name}={taken}")?))
+        }
+        (Some(name), _, _, _) => Ok(Some(String::from_str(alloc, name)?)),
+        _ => Ok(None),
+    }
+}
+
+/// The schedule of a trace: an item for each event.
+fn schedule_of(alloc: Global, trace: &str) -> Result<String, AllocError> {
+    let mut items = String::new(alloc);
+    for line in trace.lines() {
+        if let Some(item) = item_of(alloc, line)? {
+            if !items.as_str().is_empty() {
+                items.push(',')?;
+            }
+            items.push_str(item.as_str())?;
+        }
+    }
+    Ok(items)
+}
+
+/// Runs a program, sees that its last line counts the others, and steps its history again.
+fn run_again(
+    rt: &(impl Abort + Threads + Wait + Sync),
+    alloc: Global,
+    text: &'static str,
+    seed: &'static str,
+) -> Result<Vec<u8>, AllocError> {
     let words = ["run", "--seed", seed, "--limit", "1000000"];
-    let status = command(
-        rt,
-        alloc,
-        &words,
-        HANDOFF.as_bytes(),
-        &mut writer,
-        &mut errors,
+    let trace = written(rt, alloc, &words, text);
+    let lines = str::from_utf8(&trace).unwrap_or("");
+    let count = lines.lines().count().saturating_sub(1);
+    let last = format!(in alloc; "ended after {count} events\n")?;
+    assert!(rt; lines.ends_with(last.as_str()), "end of seed {seed}");
+    let items = schedule_of(alloc, lines)?;
+    let words = ["step", "--schedule", items.as_str()];
+    let again = written(rt, alloc, &words, text);
+    assert_eq!(rt;
+        again.as_slice(),
+        trace.as_slice(),
+        "the run of seed {seed} again"
     );
-    let output = str::from_utf8(&writer).unwrap_or("");
-    assert_eq!(rt; status, 0, "status of seed {seed}");
-    assert!(rt; errors.is_empty(), "errors of seed {seed}");
-    assert_eq!(rt; lines_with(output, " print 0"), 1, "output of seed {seed}");
-    let last = output.lines().next_back().unwrap_or("");
-    assert!(rt;
-        last.starts_with("ended after "),
-        "end of seed {seed}: {last}"
-    );
+    Ok(trace)
 }
 
 #[test]
-fn a_buffer_is_handed_over(rt: HostRuntime) {
+fn runs_are_stepped_again(rt: HostRuntime) -> Result<(), Fail> {
     for seed in ["1", "2", "3", "4", "5"] {
-        hand_over(&rt, rt.alloc(), seed);
+        let trace = run_again(&rt, rt.alloc(), HANDOFF, seed)?;
+        let lines = str::from_utf8(&trace).unwrap_or("");
+        let printed = lines
+            .lines()
+            .filter(|line| line.ends_with(" print 0"))
+            .count();
+        assert_eq!(rt; printed, 1, "output of seed {seed}");
+        run_again(&rt, rt.alloc(), SHARE, seed)?;
     }
+    Ok(())
+}
+
+/// The answer of the first submit of a run.
+fn first_answer(
+    rt: &(impl Abort + Threads + Wait + Sync),
+    alloc: Global,
+    seed: u32,
+) -> Result<i32, Fail> {
+    let seed = format!(in alloc; "{seed}")?;
+    let words = ["run", "--seed", seed.as_str(), "--limit", "1000000"];
+    let trace = written(rt, alloc, &words, HANDOFF);
+    for line in str::from_utf8(&trace).unwrap_or("").lines() {
+        if let Some((_, taken)) = line.split_once(" submit ") {
+            return Ok(taken.parse::<i32>().unwrap_or(7));
+        }
+    }
+    Ok(7)
+}
+
+#[test]
+fn the_seed_makes_the_choices(rt: HostRuntime) -> Result<(), Fail> {
+    let mut seen = [false; 3];
+    for seed in 0..30 {
+        match first_answer(&rt, rt.alloc(), seed)? {
+            -11 => seen[0] = true,
+            0 => seen[1] = true,
+            1 => seen[2] = true,
+            taken => panic!(rt; "a submit of one entry answered {taken}"),
+        }
+    }
+    assert_eq!(rt; seen, [true; 3]);
+    Ok(())
 }

@@ -1,56 +1,87 @@
-//! Words of the command line: wrong ones, help and the version.
+//! Words of the command line: wrong ones, help and the version; and what is told where there is no answer.
 
-use super::programs::NOP;
 use super::{Case, run_as};
+use crate::command::tell;
+use crate::fault::CommandFault;
+use crate::words::{WordsFault, given_words};
+use rc_report::engine_fault::EngineFault;
+use std::alloc::Global;
+use std::env::{Env, FillError};
+
+/// Words that are no command, and what is told of them.
+const WRONG: &[(&[&str], &str)] = &[
+    (
+        &[],
+        "ringcheck: 'ringcheck' requires a subcommand but one was not provided [subcommands: check, step, run, help] (see 'ringcheck --help')\n",
+    ),
+    (
+        &["verify"],
+        "ringcheck: unrecognized subcommand 'verify' (see 'ringcheck --help')\n",
+    ),
+    (
+        &["\x1b[31mred\n\n\x7f"],
+        "ringcheck: unrecognized subcommand '\\u{1b}[31mred\\n\\n\\u{7f}' (see 'ringcheck --help')\n",
+    ),
+    (
+        &["check", "--\x07"],
+        "ringcheck: unexpected argument '--\\u{7}' found (see 'ringcheck --help')\n",
+    ),
+    (
+        &["step", "--schedule"],
+        "ringcheck: a value is required for '--schedule <ITEMS>' but none was supplied (see 'ringcheck --help')\n",
+    ),
+    (
+        &["run", "--seed", "1"],
+        "ringcheck: the following required arguments were not provided: --limit <N> (see 'ringcheck --help')\n",
+    ),
+    (
+        &["run", "--limit", "5"],
+        "ringcheck: the following required arguments were not provided: --seed <N> (see 'ringcheck --help')\n",
+    ),
+    (
+        &["run"],
+        "ringcheck: the following required arguments were not provided: --seed <N> --limit <N> (see 'ringcheck --help')\n",
+    ),
+    (
+        &["run", "--seed", "1", "--limit", "0"],
+        "ringcheck: invalid value '0' for '--limit <N>': 0 is not in 1..=1000000 (see 'ringcheck --help')\n",
+    ),
+    (
+        &["run", "--seed", "1", "--limit", "1000001"],
+        "ringcheck: invalid value '1000001' for '--limit <N>': 1000001 is not in 1..=1000000 (see 'ringcheck --help')\n",
+    ),
+    (
+        &["run", "--seed", "4294967296", "--limit", "1"],
+        "ringcheck: invalid value '4294967296' for '--seed <N>': 4294967296 is not in 0..=4294967295 (see 'ringcheck --help')\n",
+    ),
+];
 
 #[test]
 fn wrong_words_are_told_on_one_line(rt: HostRuntime) {
-    run_as(
-        &rt,
-        rt.alloc(),
-        &[
-            Case {
-                words: &[],
-                text: NOP,
-                output: "",
-                errors: "ringcheck: 'ringcheck' requires a subcommand but one was not provided (see 'ringcheck --help')\n",
-                status: 3,
-            },
-            Case {
-                words: &["verify"],
-                text: NOP,
-                output: "",
-                errors: "ringcheck: unrecognized subcommand 'verify' (see 'ringcheck --help')\n",
-                status: 3,
-            },
-            Case {
-                words: &["step", "--schedule"],
-                text: NOP,
-                output: "",
-                errors: "ringcheck: a value is required for '--schedule <ITEMS>' but none was supplied (see 'ringcheck --help')\n",
-                status: 3,
-            },
-        ],
-    );
+    for (words, errors) in WRONG {
+        let case = Case {
+            words: *words,
+            text: "",
+            output: "",
+            errors: *errors,
+            status: 3,
+        };
+        run_as(&rt, rt.alloc(), &[case]);
+    }
 }
 
-#[test]
-fn help_and_version_are_shown(rt: HostRuntime) {
-    run_as(
-        &rt,
-        rt.alloc(),
-        &[
-            Case {
-                words: &["--version"],
-                text: "",
-                output: "ringcheck 0.1.0\n",
-                errors: "",
-                status: 0,
-            },
-            Case {
-                words: &["--help"],
-                text: "",
-                output: "Checks threaded programs of liburing calls on one shared io_uring
+const SHOWN: &[Case] = &[
+    Case {
+        words: &["--version"],
+        text: "",
+        output: "ringcheck 0.1.0\n",
+        errors: "",
+        status: 0,
+    },
+    Case {
+        words: &["--help"],
+        text: "",
+        output: "Checks threaded programs of liburing calls on one shared io_uring
 
 Usage: ringcheck <COMMAND>
 
@@ -64,9 +95,92 @@ Options:
   -h, --help     Print help
   -V, --version  Print version
 ",
-                errors: "",
-                status: 0,
-            },
-        ],
-    );
+        errors: "",
+        status: 0,
+    },
+    Case {
+        words: &["check", "--help"],
+        text: "",
+        output: "Check the program on standard input, and print the verdict
+
+Usage: ringcheck check [OPTIONS]
+
+Options:
+      --json  Print the verdict as one JSON object
+  -h, --help  Print help
+",
+        errors: "",
+        status: 0,
+    },
+];
+
+#[test]
+fn help_and_version_are_shown(rt: HostRuntime) {
+    run_as(&rt, rt.alloc(), SHOWN);
+}
+
+#[test]
+fn want_of_memory_is_told_in_one_way(rt: HostRuntime) {
+    for (fault, told) in [
+        (
+            CommandFault::Words(WordsFault::OutOfMemory),
+            "ringcheck: out of memory (20)\n",
+        ),
+        (
+            CommandFault::Engine(EngineFault::OutOfMemory),
+            "ringcheck: out of memory (20)\n",
+        ),
+        (
+            CommandFault::OtherProgram,
+            "ringcheck: other program (31)\n",
+        ),
+        (
+            CommandFault::Words(WordsFault::NotUtf8),
+            "ringcheck: an argument isn't UTF-8 text\n",
+        ),
+    ] {
+        let mut errors = Vec::new(rt.alloc());
+        assert_eq!(rt; tell(rt.alloc(), &fault, &mut errors), 3);
+        assert_eq!(rt; errors.as_slice(), told.as_bytes());
+    }
+}
+
+/// Has these bytes as its arguments, the first of which is the program's name.
+#[derive(Clone, Copy)]
+struct Arguments(&'static [&'static [u8]]);
+
+impl Env for Arguments {
+    fn arg(&self, i: usize, buffer: &mut [u8]) -> Result<usize, FillError> {
+        let Some(bytes) = self.0.get(i) else {
+            return Err(FillError::NotPresent);
+        };
+        if bytes.len() > buffer.len() {
+            return Err(FillError::TooLong);
+        }
+        buffer[..bytes.len()].copy_from_slice(bytes);
+        Ok(bytes.len())
+    }
+
+    fn var(&self, _name: &str, _buffer: &mut [u8]) -> Result<usize, FillError> {
+        Err(FillError::NotPresent)
+    }
+
+    fn var_at(&self, _i: usize, _buffer: &mut [u8]) -> Result<usize, FillError> {
+        Err(FillError::NotPresent)
+    }
+}
+
+#[test]
+fn arguments_are_text(rt: HostRuntime) {
+    let alloc: Global = rt.alloc();
+    match given_words(&(Arguments(&[b"ringcheck", b"check", b"--json"]), alloc)) {
+        Ok(words) => {
+            assert_eq!(rt; words.len(), 2);
+            assert_eq!(rt; words[0].as_str(), "check");
+            assert_eq!(rt; words[1].as_str(), "--json");
+        }
+        Err(fault) => panic!(rt; "{fault}"),
+    }
+    let answer = given_words(&(Arguments(&[b"ringcheck", b"\xff"]), alloc));
+    assert!(rt; matches!(answer, Err(WordsFault::NotUtf8)));
 }

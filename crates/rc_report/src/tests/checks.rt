@@ -1,6 +1,6 @@
 //! Texts that are checked, and sinks that take a beginning of the verdict.
 
-use super::Narrow;
+use super::writers::Narrow;
 use crate::check_engine::check_engine;
 use crate::engine_fault::EngineFault;
 use crate::streams::{ReadSource, Sink, WriteSink};

@@ -1,0 +1,66 @@
+-- What an engine says of a source is what the program says of it.
+use Rattle.std.proofs.Common.{◌≡◌, ℕ, ℤ, List, [], ◌∷◌, ◌++◌, Option, Some, None, Result, Ok, Err, refl, sym, ap, subst, ◌∙◌, inr, arith}
+use Rattle.std.specs.Io.KnownBytes.{Appends, Consumes, IsAtEnd}
+use Rattle.std.specs.Prelude.{IfErr, IfOk, IsErrAnd, OnOk}
+use Rattle.rc_read.specs.Answer.{answer_of}
+use Rattle.rc_report.specs.declared.engine_fault.EngineFault.{EngineFault}
+use Rattle.rc_report.specs.declared.engine_fault.EngineFault.TheVariants.{Read, Write, OutOfMemory}
+use Rattle.rc_report.specs.declared.verdict.Verdict.{Verdict}
+use Rattle.rc_report.specs.Checks.{Judges}
+use Rattle.rc_report.specs.Statuses.{status_of_verdict}
+use Rattle.rc_report.specs.Streams.{CountsReads, Given}
+use Rattle.rc_report.specs.Verdicts.{verdict_text}
+use Rattle.rc_main.specs.declared.fault.CommandFault.{CommandFault}
+use Rattle.rc_main.specs.declared.fault.CommandFault.TheVariants.{Words, Engine, OtherProgram}
+use Rattle.rc_main.specs.declared.words.Command.{Command}
+use Rattle.rc_main.specs.declared.words.Command.TheVariants.{Check, Step, Run, Show}
+use Rattle.rc_main.specs.Answers.{AnswersRun, ReadsAsAsked, ReadsNothing, ReadsOnce}
+
+-- a failure of an engine
+failed : (X : Type 0) (old new : Given) (e : EngineFault) → CountsReads {X = X} old new (Err e) → ReadsOnce old new (Err (Engine e))
+failed X old new Read h = h
+failed X old new Write h = h
+failed X old new OutOfMemory h = h
+
+append_nothing : (xs : List ℕ) → xs ++ [] ≡ xs
+append_nothing [] = refl
+append_nothing (x ∷ xs) = ap (λ ys. x ∷ ys) (append_nothing xs)
+
+pub engine_failed : (X : Type 0) (old new : Given) (r : Result ℕ CommandFault) (e : EngineFault) → IsErrAnd r (λ y. y ≡ Engine e) → CountsReads {X = X} old new (Err e) → ReadsOnce old new r
+engine_failed X old new (Ok s) e h c = absurd h
+engine_failed X old new (Err y) e h c = subst (λ z. ReadsOnce old new (Err z)) (sym h) (failed X old new e c)
+
+-- The text was read, and what followed reads nothing.
+pub text_was_read : {X : Type 0} (old new : Given) (x : X) (r : Result ℕ CommandFault) → CountsReads old new (Ok x) → IfErr r ReadsNothing → ReadsOnce old new r
+text_was_read old new x (Ok s) c h = c
+text_was_read old new x (Err (Words e)) c h = absurd h
+text_was_read old new x (Err (Engine Read)) c h = absurd h
+text_was_read old new x (Err (Engine Write)) c h = c
+text_was_read old new x (Err (Engine OutOfMemory)) c h = (c.0, omega (arith, c.1), c.2)
+text_was_read old new x (Err OtherProgram) c h = c
+
+-- The answer could not be written out.
+pub write_failed : (asked : Command) (old new : Given) (s : ℕ) → ReadsAsAsked asked old new (Ok s) → ReadsAsAsked asked old new (Err (Engine Write))
+write_failed (Check json) old new s h = h
+write_failed (Step schedule) old new s h = h
+write_failed (Run seed limit) old new s h = h
+write_failed (Show text) old new s h = tt
+
+pub passed_on : (asked : Command) (old new : Given) (r : Result ℕ CommandFault) (e : CommandFault) → IsErrAnd r (λ y. y ≡ e) → ReadsAsAsked asked old new (Err e) → ReadsAsAsked asked old new r
+passed_on asked old new (Ok s) e h c = absurd h
+passed_on asked old new (Err y) e h c = subst (λ z. ReadsAsAsked asked old new (Err z)) (sym h) c
+
+-- Memory ran out behind the end.
+pub memory_failed : {X : Type 0} (old new : Given) (x : X) (r : Result ℕ CommandFault) → CountsReads old new (Ok x) → IsErrAnd r (λ y. y ≡ Engine OutOfMemory) → ReadsOnce old new r
+memory_failed old new x (Ok s) c h = absurd h
+memory_failed old new x (Err y) c h = subst (λ z. ReadsOnce old new (Err z)) (sym h) (c.0, omega (arith, c.1), c.2)
+
+-- The verdict was written on the text that was read.
+pub verdict_told : (gives : ℕ → ℤ → Type 0) (bytes left : Option (List ℕ)) (text : List ℕ) (limit : ℕ) (old new : Option (List ℕ)) (v : Verdict) (r : Result ℕ CommandFault) →
+    Consumes bytes left text → IsAtEnd left → Judges (answer_of text) (Err v) → IfOk r (λ s. s ≡ status_of_verdict v) → OnOk r (Appends old new (verdict_text v)) → IfOk r (AnswersRun gives bytes limit old new)
+verdict_told gives None left text limit old new v (Ok s) k z j h a = tt
+verdict_told gives (Some xs) None text limit old new v (Ok s) k z j h a = absurd k
+verdict_told gives (Some xs) (Some ys) text limit old new v (Ok s) k z j h a =
+    let whole : xs ≡ text = k ∙ ap (λ us. text ++ us) z ∙ append_nothing text in
+    inr (v, subst (λ us. Judges (answer_of us) (Err v)) (sym whole) j, a, h)
+verdict_told gives bytes left text limit old new v (Err e) k z j h a = tt

@@ -1,0 +1,87 @@
+-- What the program answers: the exit status of each command, and what it says of its devices.
+use Rattle.std.specs.Prelude.{ℕ, ℤ, ◌≡◌, ◌+◌, ◌⊎◌, Bool, List, Option, Some, None, Result, Ok, Err}
+use Rattle.std.specs.Io.KnownBytes.{Appends}
+use Rattle.rc_lang.specs.Program.{Program}
+use Rattle.rc_read.specs.Answer.{answer_of}
+use Rattle.rc_run.specs.declared.report.RunFault.TheVariants as fault
+use Rattle.rc_run.specs.declared.report.RunReport.{RunReport}
+use Rattle.rc_run.specs.Reports.{Tells}
+use Rattle.rc_report.specs.declared.engine_fault.EngineFault.TheVariants.{Read, Write, OutOfMemory}
+use Rattle.rc_report.specs.declared.step_engine.StepEnd.{StepEnd}
+use Rattle.rc_report.specs.declared.trace.End.{End}
+use Rattle.rc_report.specs.declared.trace.End.TheVariants as end
+use Rattle.rc_report.specs.declared.verdict.Verdict.{Verdict}
+use Rattle.rc_report.specs.Checks.{ChecksAs, Judges}
+use Rattle.rc_report.specs.Engine.{StepsAs}
+use Rattle.rc_report.specs.Statuses.{status_of_end, status_of_step, status_of_verdict}
+use Rattle.rc_report.specs.Streams.{CountsReads, Given}
+use Rattle.rc_report.specs.Traces.{trace_text}
+use Rattle.rc_report.specs.Verdicts.{verdict_text}
+use Rattle.rc_main.specs.declared.fault.CommandFault.{CommandFault}
+use Rattle.rc_main.specs.declared.fault.CommandFault.TheVariants.{Words, Engine, OtherProgram}
+use Rattle.rc_main.specs.declared.words.Command.{Command}
+use Rattle.rc_main.specs.declared.words.Command.TheVariants.{Check, Step, Run, Show}
+
+-- The status of `check` is that of the verdict on the bytes, which was written.
+abbrev pub AnswersCheck : Option (List ℕ) → Bool → Option (List ℕ) → Option (List ℕ) → ℕ → Type 0
+AnswersCheck bytes json old new status = (verdict : Verdict) × ChecksAs bytes json old new (Ok verdict) × (status ≡ status_of_verdict verdict)
+
+-- The status of `step` is that of the end to which the program was stepped, and the trace or the verdict was written.
+abbrev pub AnswersStep : Option (List ℕ) → List ℕ → Option (List ℕ) → Option (List ℕ) → ℕ → Type 0
+AnswersStep bytes schedule old new status = (end : StepEnd) × StepsAs bytes schedule old new (Ok end) × (status ≡ status_of_step end)
+
+-- A run with this report ended so.
+abbrev pub EndsRun : (ℕ → ℤ → Type 0) → Program → ℕ → RunReport → End → Type 0
+EndsRun gives program limit report (end.Fault f) = ⊥
+EndsRun gives program limit report (end.NotEnabled i) = ⊥
+EndsRun gives program limit report end.Ended = Tells gives program limit (Ok report)
+EndsRun gives program limit report end.Stopped = ⊥
+EndsRun gives program limit report end.Limit = Tells gives program limit (Err (fault.Limit report))
+EndsRun gives program limit report end.Memory = Tells gives program limit (Err (fault.OutOfMemory report))
+
+-- The program ran, and the trace of what happened was written.
+abbrev pub RunsProgram : (ℕ → ℤ → Type 0) → Program → ℕ → Option (List ℕ) → Option (List ℕ) → ℕ → Type 0
+RunsProgram gives program limit old new status =
+    (report : RunReport) × (end : End) × EndsRun gives program limit report end × Appends old new (trace_text program report.history.items end) × (status ≡ status_of_end end)
+
+-- The verdict that says why a text isn't admitted was written.
+abbrev pub TellsVerdict : List ℕ → Option (List ℕ) → Option (List ℕ) → ℕ → Type 0
+TellsVerdict bytes old new status =
+    (verdict : Verdict) × Judges (answer_of bytes) (Err verdict) × Appends old new (verdict_text verdict) × (status ≡ status_of_verdict verdict)
+
+-- The status of `run` is that of the end of the run, or of the verdict.
+abbrev pub AnswersRun : (ℕ → ℤ → Type 0) → Option (List ℕ) → ℕ → Option (List ℕ) → Option (List ℕ) → ℕ → Type 0
+AnswersRun gives None limit old new status = Unit {0}
+AnswersRun gives (Some bytes) limit old new status =
+    ((program : Program) × (answer_of bytes ≡ Ok program) × RunsProgram gives program limit old new status) ⊎ TellsVerdict bytes old new status
+
+-- A failure of the source is answered, or that it has no end, and only these; nothing is read behind the end.
+abbrev pub ReadsOnce : Given → Given → Result ℕ CommandFault → Type 0
+ReadsOnce old new (Ok status) = CountsReads {X = ℕ} old new (Ok status)
+ReadsOnce old new (Err (Words e)) = ⊥
+ReadsOnce old new (Err (Engine e)) = CountsReads {X = ℕ} old new (Err e)
+ReadsOnce old new (Err OtherProgram) = CountsReads {X = ℕ} old new (Ok 3)
+
+-- The same of each command that reads.
+abbrev pub ReadsAsAsked : Command → Given → Given → Result ℕ CommandFault → Type 0
+ReadsAsAsked (Check json) old new r = ReadsOnce old new r
+ReadsAsAsked (Step schedule) old new r = ReadsOnce old new r
+ReadsAsAsked (Run seed limit) old new r = ReadsOnce old new r
+ReadsAsAsked (Show text) old new r = Unit {0}
+
+-- A failure of the sink is answered, and only that; there is one at most.
+abbrev pub WritesOnce : ℕ → ℕ → Result ℕ CommandFault → Type 0
+WritesOnce old new (Ok status) = new ≡ old
+WritesOnce old new (Err (Words e)) = ⊥
+WritesOnce old new (Err (Engine Read)) = new ≡ old
+WritesOnce old new (Err (Engine Write)) = new ≡ old + 1
+WritesOnce old new (Err (Engine OutOfMemory)) = new ≡ old
+WritesOnce old new (Err OtherProgram) = new ≡ old
+
+-- Of what reads nothing, no failure of a source is answered.
+abbrev pub ReadsNothing : CommandFault → Type 0
+ReadsNothing (Words e) = ⊥
+ReadsNothing (Engine Read) = ⊥
+ReadsNothing (Engine Write) = Unit {0}
+ReadsNothing (Engine OutOfMemory) = Unit {0}
+ReadsNothing OtherProgram = Unit {0}

@@ -1,0 +1,101 @@
+//! A buffer before a sink.
+
+ghost use Rattle.std.specs.Prelude.{◌≤◌, vec_capacity, vec_len};
+
+use crate::streams::{DeviceFailed, Sink, WriteSink};
+use std::alloc::{AllocError, Global};
+use std::io::Write;
+
+/// How many bytes are kept back at most: as many as a pipe takes at once (`pipe(7)`).
+const ROOM: usize = 65536;
+
+/// A sink that keeps back what it takes until its room is used or it is written out, so that the sink under it is given
+/// few pieces, and large ones. Its failures are those of the sink under it, and nothing is tried again by itself.
+#[derive(Drop)]
+pub struct Buffered<S> {
+    /// What is written to.
+    pub sink: S,
+    // What was taken. The first bytes of it, so many, are written.
+    bytes: Vec<u8>,
+    written: usize,
+    ghost within: { vec_len bytes ≤ 65536 },
+    ghost has_room: { 65536 ≤ vec_capacity bytes },
+    ghost cut: { written ≤ vec_len bytes },
+}
+
+impl<S: Sink> Buffered<S> {
+    ghost use Rattle.std.specs.Prelude.{◌≡◌, ◌+◌, ◌<◌, ◌^◌, [], IfOk, OnOk};
+    ghost use Rattle.std.specs.Io.KnownBytes.{Keeps};
+    ghost use Rattle.rc_report.specs.Buffers.{buffered_contents, kept_back};
+    ghost use Rattle.rc_report.specs.Streams.{failures_after};
+
+    /// A buffer of 65,536 bytes before this sink, with nothing kept back.
+    pub fn new(alloc: Global, sink: S) -> Result<Buffered<S>, AllocError>
+    where
+        S: Drop,
+        ensures sink { IfOk result (λ b. b.sink ≡ sink) }
+        ensures empty { IfOk result (λ b. kept_back b ≡ []) }
+    {
+        let bytes = Vec::with_capacity(alloc, ROOM)?;
+        Ok(Buffered {
+            sink,
+            bytes,
+            written: 0,
+        })
+    }
+
+    /// Writes what is kept back, in as many writes as it takes. What the sink under it didn't take stays kept back.
+    pub fn write_out(&mut self) -> Result<(), DeviceFailed>
+        requires { S.failure_count self.old.sink + 1 < 2 ^ 64 }
+        ensures empty { OnOk result (kept_back self.new ≡ []) }
+        ensures room { OnOk result (vec_len self.new.bytes ≡ 0) }
+        ensures bytes { Keeps (buffered_contents S.contents self.old) (buffered_contents S.contents self.new) }
+        ensures failures { S.failure_count self.new.sink ≡ failures_after result (S.failure_count self.old.sink) }
+    {
+        while self.written < self.bytes.len() {
+            self.written += self.sink.write(&self.bytes[self.written..])?;
+        }
+        self.bytes.clear();
+        self.written = 0;
+        Ok(())
+    }
+}
+
+impl<S: Sink> Sink for Buffered<S> {
+    ghost use Rattle.rc_report.specs.Buffers.{buffered_contents};
+
+    ghost contents = { buffered_contents S.contents };
+
+    ghost failure_count = { λ b. S.failure_count b.sink };
+
+    fn write(&mut self, piece: &[u8]) -> Result<usize, DeviceFailed> {
+        if piece.len() > ROOM - self.bytes.len() {
+            self.write_out()?;
+        }
+        let count = piece.len().min(ROOM - self.bytes.len());
+        self.bytes.extend_from_slice(&piece[..count]).unwrap();
+        Ok(count)
+    }
+
+    fn failures(&self) -> u64 {
+        self.sink.failures()
+    }
+}
+
+impl<W: Write> Buffered<WriteSink<W>> {
+    ghost use Rattle.std.specs.Prelude.{◌≡◌, ◌+◌, ◌<◌, ◌^◌, [], OnOk};
+    ghost use Rattle.std.specs.Io.KnownBytes.{Keeps};
+    ghost use Rattle.rc_report.specs.Buffers.{buffered_contents, kept_back};
+    ghost use Rattle.rc_report.specs.Streams.{failures_after};
+
+    /// Writes what is kept back, and has the writer hand on what it keeps itself.
+    pub fn finish(&mut self) -> Result<(), DeviceFailed>
+        requires { self.old.sink.failures + 1 < 2 ^ 64 }
+        ensures empty { OnOk result (kept_back self.new ≡ []) }
+        ensures bytes { Keeps (buffered_contents (λ s. W.contents s.writer) self.old) (buffered_contents (λ s. W.contents s.writer) self.new) }
+        ensures failures { self.new.sink.failures ≡ failures_after result self.old.sink.failures }
+    {
+        self.write_out()?;
+        self.sink.flush()
+    }
+}
