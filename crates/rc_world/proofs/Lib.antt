@@ -10,7 +10,7 @@ pub mod Settling
 pub mod Threads
 pub mod Jumps
 pub mod StepParts
-pub mod RingCases
+pub mod Cases
 pub mod RingSteps
 pub mod WorldSteps
 pub mod Kernel
