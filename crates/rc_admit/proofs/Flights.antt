@@ -17,8 +17,9 @@ use Rattle.rc_world.specs.Faults.{count_of, fault_of, has_data, is_in_flight}
 use Rattle.rc_world.specs.Machine.{Pending, World, completes, hands_over, in_rings, start_world, stmt_answer, thread_step, thread_step_at, with_controls, kernel_step, without_data}
 use Rattle.rc_world.specs.Runs.{IsRun}
 use Rattle.rc_admit.specs.Worlds.{DataIsOne, in_flight_with}
-use Rattle.rc_world.proofs.RingCases.{After, AfterStep, kernel_after, op_after}
+use Rattle.rc_world.proofs.Cases.{OnSome, in_rings_by}
 use Rattle.rc_admit.proofs.Flight.{agree_more, begun, completed_sum, data_in, data_of, front_is, in_flight, of_pending, taken_sum}
+use Rattle.rc_admit.proofs.Kernel.{AfterStep, kernel_after}
 use Rattle.rc_admit.proofs.Lists.{sum_over, sum_over-append, sum_over-map}
 use Rattle.rc_admit.proofs.Worlds.{none_in_flight}
 
@@ -95,22 +96,21 @@ module _ (w : World) (h : IsTidy w) where
         agree = ap data_of f.gone ∙ f.agree;
       }
 
-  line_tidy : (t : Standing) (r : ℤ) (s : Stmt) → ((u : ℕ) → s ≡ Do (SetData64 u) → is_in_flight w u ≡ false) → After IsTidy (in_rings w t r s)
-  line_tidy t r (Do op) none = op_after w IsTidy t r op (record {
-    same = h;
-    written = λ b bytes new e n. record { one_each = h.one_each; agree = h.agree };
-    opened = λ e lt. record { one_each = h.one_each; agree = h.agree };
-    prepared = λ q m e f. record { one_each = h.one_each; agree = h.agree };
-    queued = λ u q e s. record { one_each = queued_tidy u _ refl (none u (ap Do e)); agree = h.agree };
-    taken = taken_tidy;
-    reaped = reaped_tidy;
+  line_tidy : (t : Standing) (r : ℤ) (s : Stmt) → ((u : ℕ) → s ≡ Do (SetData64 u) → is_in_flight w u ≡ false) → OnSome IsTidy (in_rings w t r s)
+  line_tidy t r s none = in_rings_by IsTidy w t r s (record {
+    nothing = h;
+    bytes = λ b old new e n. record { one_each = h.one_each; agree = h.agree };
+    opens = λ e lt. record { one_each = h.one_each; agree = h.agree };
+    prepares = λ q p e fits. record { one_each = h.one_each; agree = h.agree };
+    queues = λ u q e x. record { one_each = queued_tidy u _ refl (none u e); agree = h.agree };
+    submits = taken_tidy;
+    reaps = reaped_tidy;
   })
-  line_tidy t r _ none = h
 
   thread_tidy : fault_of w ≡ None → (i : ℕ) (r : ℤ) → AfterStep IsTidy (thread_step w i r)
   thread_tidy none i r = go (slice_get w.controls.threads i) (next_line w.program w.controls i) refl
     where
-      moved : (v : Option World) → After IsTidy v → (x : Option (Event × Controls)) → AfterStep IsTidy (with_controls v x)
+      moved : (v : Option World) → OnSome IsTidy v → (x : Option (Event × Controls)) → AfterStep IsTidy (with_controls v x)
       moved None g x = tt
       moved (Some v) g None = tt
       moved (Some v) g (Some x) = record { one_each = g.one_each; agree = g.agree }

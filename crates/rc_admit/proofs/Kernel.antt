@@ -1,9 +1,10 @@
 -- A step of a thread and a step of the kernel keep what is true of each world, and the start world has it.
 use Rattle.std.proofs.Common.{◌≡◌, ℕ, ◌+◌, ◌≤◌, Bool, true, false, ◌&&◌, List, [], ◌∷◌, ◌++◌, length, Option, Some, None, refl, sym, ap, ◌∙◌, subst, arith}
-use Rattle.std.specs.Prelude.{slice_get, ℤ}
+use Rattle.std.specs.Prelude.{nat_eq, slice_get, ℤ, if◌then◌else◌}
 use Rattle.rc_lang.specs.declared.lines.Line.{Line}
 use Rattle.rc_lang.specs.declared.request.Request.{Request}
 use Rattle.rc_lang.specs.Program.{Program, lines_of, stmt_of}
+use Rattle.rc_lang.specs.Requests.{may_complete}
 use Rattle.rc_rules.specs.declared.mode.Mode.{Mode}
 use Rattle.rc_rules.specs.declared.mode.Mode.TheVariants.{Unlocked, Locked}
 use Rattle.rc_rules.specs.declared.mode.Peeked.{Peeked}
@@ -13,15 +14,34 @@ use Rattle.rc_world.specs.declared.event.Completion.{Completion}
 use Rattle.rc_world.specs.declared.event.Event.{Event}
 use Rattle.rc_world.specs.Controls.{Controls, Move, Standing, acts, acts_on, as_event, made, next_at, next_line}
 use Rattle.rc_world.specs.Faults.{is_holder}
-use Rattle.rc_world.specs.Machine.{Pending, World, completes, completion_of, in_rings, kernel_step, stmt_answer, thread_step, thread_step_at, with_controls, without}
-use Rattle.rc_world.proofs.RingCases.{AfterStep, kernel_after}
+use Rattle.rc_world.specs.Machine.{Pending, World, bytes_brought, completes, completion_of, given_back, in_rings, kernel_event, kernel_step, kernel_step_of, stmt_answer, thread_step, thread_step_at, with_controls, without}
 use Rattle.rc_admit.proofs.Flight.{agree_more, completed_sum}
 use Rattle.rc_admit.proofs.Lists.{sum_to, sum_over, Each-append, Each-without, Each-get}
 use Rattle.rc_admit.proofs.Ops.{Keeps}
 use Rattle.rc_admit.proofs.Owned.{Stand, HasEdge, EdgeAt, owns, owns_pending, unheld, FrontFits, Fits, held, HasKind, HasKindPending, WellOwned}
 use Rattle.rc_admit.proofs.Steps.{line_keeps}
 
+-- It holds of the world behind a step, where that can be made.
+abbrev pub AfterStep : (World → Type 0) → Option (Event × World) → Type 0
+AfterStep F None = Unit {0}
+AfterStep F (Some x) = F x.1
+
 -- ---- the kernel
+
+pub kernel_after : (w : World) (F : World → Type 0) (k : ℕ) (res : ℤ) (bytes : List ℕ) → ((x : Pending) (buffers : List (Option (List ℕ))) → slice_get w.pending k ≡ Some x → F (completes w k res x.request buffers)) → AfterStep F (kernel_step w k res bytes)
+kernel_after w F k res bytes done = go (slice_get w.pending k) refl
+  where
+    event : (x : Pending) → slice_get w.pending k ≡ Some x → (bs : Option (List (Option (List ℕ)))) → AfterStep F (kernel_event w k res x.request bs)
+    event x e None = tt
+    event x e (Some bs) = done x bs e
+
+    tested : (x : Pending) → slice_get w.pending k ≡ Some x → (b : Bool) → AfterStep F (if b then kernel_event w k res x.request (given_back w x.request bytes x.bytes) else None)
+    tested x e true = event x e (given_back w x.request bytes x.bytes)
+    tested x e false = tt
+
+    go : (x : Option Pending) → slice_get w.pending k ≡ x → AfterStep F (kernel_step_of w k res bytes x)
+    go None e = tt
+    go (Some x) e = tested x e (may_complete x.request res && nat_eq (length bytes) (bytes_brought x.request))
 
 front_more : (b : Bool) (cs ds : List Completion) (x : Peeked) → FrontFits b cs x → FrontFits b (cs ++ ds) x
 front_more b cs ds Unseen f = tt

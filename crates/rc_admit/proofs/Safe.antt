@@ -10,11 +10,10 @@ use Rattle.rc_world.specs.declared.event.Event.{Event}
 use Rattle.rc_world.specs.Machine.{World, start_world}
 use Rattle.rc_world.specs.Runs.{IsRun, IsSafe, IsStep}
 use Rattle.rc_admit.specs.Laws.{AcceptedIsSafe}
-use Rattle.rc_world.proofs.RingCases.{AfterStep}
 use Rattle.rc_admit.proofs.Excludes.{no_fault}
 use Rattle.rc_admit.proofs.Flat.{Labelled, labelled_edge}
 use Rattle.rc_admit.proofs.FlatStart.{headers_within, labelled_start}
-use Rattle.rc_admit.proofs.Kernel.{kernel_keeps, thread_keeps}
+use Rattle.rc_admit.proofs.Kernel.{AfterStep, kernel_keeps, thread_keeps}
 use Rattle.rc_admit.proofs.Owned.{Stand, HasEdge, HasStart, WellOwned}
 use Rattle.rc_admit.proofs.Start.{start_has}
 

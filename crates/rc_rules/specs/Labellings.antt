@@ -49,8 +49,8 @@ abbrev pub break_ends : List Line → List Label → ℕ → List Label
 break_ends [] labels o = []
 break_ends (l ∷ lines) labels o = break_end l.stmt o (label_at labels 0) ++ break_ends lines (drop 1 labels) o
 
--- The labels that lead to the place behind this line of a thread, from the lines before it and the labels so far. Behind a peek, before its arms, stands what was known before it. Behind an arm, and behind a break,
--- nothing comes from above.
+-- The labels that lead to the place behind this line of a thread, from the lines before it and the labels so far. Behind
+-- a peek, before its arms, stands what was known before it. Behind an arm, and behind a break, nothing comes from above.
 abbrev pub befores : Program → Thread → List Line → List Label → Stmt → List Label
 befores P thread lines known (Do op) = brings (λ s. goes s (λ bag m. op_effect P bag m op)) lines known
 befores P thread lines known Lock = entered P (here lines known) ∷ []

@@ -11,7 +11,6 @@ pub mod Threads
 pub mod Jumps
 pub mod StepParts
 pub mod Cases
-pub mod RingCases
 pub mod RingSteps
 pub mod WorldSteps
 pub mod Kernel
