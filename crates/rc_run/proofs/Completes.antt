@@ -17,7 +17,7 @@ use Rattle.rc_world.proofs.Memory.{read_has_buffer}
 use Rattle.rc_run.specs.declared.machine.Pending.{Pending as PendingPart}
 use Rattle.rc_run.specs.Machine.{brought, completed_at, completed_by, given_to, pending_of}
 
-pub both : (a b : Bool) → (a && b) ≡ true → (a ≡ true) × (b ≡ true)
+both : (a b : Bool) → (a && b) ≡ true → (a ≡ true) × (b ≡ true)
 both true b e = (refl, e)
 both false b e = absurd (cc)
 

@@ -18,13 +18,16 @@ use Rattle.rc_world.proofs.Lists.{found, get_none, get_of}
 use Rattle.rc_run.specs.Calm.{IsCalm}
 use Rattle.rc_run.specs.Jobs.{IsJob, Job}
 use Rattle.rc_run.specs.Lives.{IsJobOf, bytes_by}
-use Rattle.rc_run.proofs.Completes.{both}
 
 buffer_small : (P : Program) → IsProgram P → (b : ℕ) → bytes_at P.buffers b ≤ 4096
 buffer_small P made b = elim (cases_lt b (length P.buffers)) [
   | inl lt ↦ (made.buffers b no_buffer lt).bytes.1
   | inr le ↦ let e : bytes_at P.buffers b ≡ 0 = ap (λ (x : Buffer). x.bytes) (get_or_past P.buffers b no_buffer le) in omega arith
 ]
+
+both : (a b : Bool) → (a && b) ≡ true → (a ≡ true) × (b ≡ true)
+both true b e = (refl, e)
+both false b e = absurd (cc)
 
 read_kind : (k : Kind) → is_read k ≡ true → k ≡ Read
 read_kind Nop e = absurd (cc)
