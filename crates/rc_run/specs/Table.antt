@@ -1,5 +1,5 @@
 -- What lies under the lock of a run, as contracts see it.
-use Rattle.std.specs.Prelude.{ℕ, ℤ, ◌≡◌, ◌≢◌, ◌⊎◌, ◌<◌, ◌≤◌, Bool, true, false, ◌||◌, if◌then◌else◌, count_by, length, nat_le}
+use Rattle.std.specs.Prelude.{ℕ, ℤ, pos, negsuc, ◌≡◌, ◌≢◌, ◌⊎◌, ◌<◌, ◌≤◌, Bool, true, false, ◌||◌, if◌then◌else◌, List, count_by, length, nat_le, nat_lt, slice_get, Some}
 use Rattle.rc_lang.specs.declared.lines.Line.{Line}
 use Rattle.rc_lang.specs.Program.{Program}
 use Rattle.rc_run.specs.declared.live.Turn.{Turn}
@@ -9,6 +9,10 @@ use Rattle.rc_run.specs.declared.locked.Ending.TheVariants as ending
 use Rattle.rc_run.specs.Lives.{Live}
 use Rattle.rc_run.specs.Reports.{AllEnded, AllGiven, IsUnended, is_turn}
 use Rattle.rc_world.specs.declared.controls.Next.TheVariants.{Ready}
+use Rattle.rc_world.specs.declared.event.Action.{Action}
+use Rattle.rc_world.specs.declared.event.Action.TheVariants.{DataSet, Reaped, Submitted}
+use Rattle.rc_world.specs.declared.event.Event.{Event}
+use Rattle.rc_world.specs.declared.event.Event.TheVariants.{ByThread, ByKernel}
 use Rattle.rc_world.specs.Items.{next_of}
 use Rattle.rc_world.specs.Machine.{World, start_world}
 use Rattle.rc_world.specs.Runs.{IsRun, IsSafe}
@@ -70,6 +74,33 @@ pub record MayWait (t : Table) (i seen : ℕ) : Type 0 where
   pub same : length t.run.history ≡ seen
   pub goes_on : IsOver t → ⊥
   pub something : (0 < length t.run.world.pending) ⊎ OtherMoves t.run.world i
+
+abbrev pub took : ℤ → Bool
+took (pos n) = nat_lt 0 n
+took (negsuc n) = false
+
+-- an entry was queued or taken, or a completion reaped
+abbrev pub acts_on_rings : Action → Bool
+acts_on_rings (DataSet u) = true
+acts_on_rings (Submitted r) = took r
+acts_on_rings (Reaped u) = true
+acts_on_rings _ = false
+
+-- The event changed what a look at the rings finds.
+abbrev pub changes_rings : Event → Bool
+changes_rings (ByThread i line action) = acts_on_rings action
+changes_rings (ByKernel completion) = true
+
+-- No event since there were so many changed what a look at the rings finds.
+abbrev pub AreRingsSame : List Event → ℕ → Type 0
+AreRingsSame history seen = (k : ℕ) (e : Event) → seen ≤ k → slice_get history k ≡ Some e → changes_rings e ≡ false
+
+-- A thread that looked at the rings when there were so many events, and made its last one then, would find nothing new;
+-- the run isn't over, and there is something to wait for: a completion, or the next event of another thread.
+pub record MaySleep (t : Table) (i looked seen : ℕ) : Type 0 where
+  pub same : AreRingsSame t.run.history looked
+  pub goes_on : IsOver t → ⊥
+  pub something : (0 < length t.run.world.pending) ⊎ ((length t.run.history ≡ seen) × OtherMoves t.run.world i)
 
 -- What is kept of a run under the lock, of which the book has counted so many events: it is one of the program, which
 -- is safe, its results are given, and no more of its events are of threads than the limit says.

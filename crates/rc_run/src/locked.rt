@@ -1,10 +1,10 @@
 //! What lies under the lock of a run.
 
-ghost use Rattle.std.specs.Prelude.{◌≡◌, ◌≢◌, ◌⊎◌, ◌↔◌, ◌||◌, ◌+◌, ◌≤◌, ℕ, ℤ, negsuc, ◌≤ℤ◌, [], true, false, None, length, IfErr, IfNone, IfSome, IsTrue, MatchOption, OnOk};
+ghost use Rattle.std.specs.Prelude.{◌≡◌, ◌≢◌, ◌⊎◌, ◌↔◌, ◌||◌, ◌+◌, ◌<◌, ◌≤◌, ℕ, ℤ, negsuc, ◌≤ℤ◌, [], true, false, None, length, IfErr, IfNone, IfSome, IsTrue, MatchOption, OnOk};
 ghost use Rattle.rc_run.specs.Jobs.{allows};
 ghost use Rattle.rc_run.specs.Reports.{AllEnded, IsUnended};
 ghost use Rattle.rc_run.specs.Lives.{IsNotOut, Lent, Posted, Turned, begun, free};
-ghost use Rattle.rc_run.specs.Table.{EndsAs, IsOver, IsTable, MayWait, OtherMoves, OthersMayGo, after_no_turn, after_refusal, is_stopped, new_table, turns_by};
+ghost use Rattle.rc_run.specs.Table.{AreRingsSame, EndsAs, IsOver, IsTable, MaySleep, MayWait, OtherMoves, OthersMayGo, changes_rings, after_no_turn, after_refusal, is_stopped, new_table, turns_by};
 ghost use Rattle.rc_world.specs.Items.{next_of};
 ghost use Rattle.rc_world.specs.Runs.{IsSafe};
 
@@ -12,7 +12,7 @@ use crate::job::Job;
 use crate::live::{Live, Turn};
 use rc_device::device::Device;
 use rc_world::controls::Next;
-use rc_world::event::Event;
+use rc_world::event::{Action, Event};
 use std::marker::{Brand, Model, PhantomData};
 use std::sync::ledger::{Book, Ledger, Share};
 
@@ -114,6 +114,13 @@ impl<D: Device, L: Ledger + Asked> Locked<D, L> {
         ensures few { result ≤ 1024 }
     {
         self.live.queued()
+    }
+
+    /// Whether a request is pending.
+    pub fn has_pending(&self) -> bool
+        ensures { IsTrue result ↔ (0 < length self.now.run.world.pending) }
+    {
+        self.live.pending() > 0
     }
 
     /// Whether no thread holds the lock of the program.
@@ -248,9 +255,7 @@ impl<D: Device, L: Ledger + Asked> Locked<D, L> {
     pub fn may_wait(&self, thread: u32, seen: usize) -> bool
         ensures { IsTrue result ↔ MayWait self.now thread seen }
     {
-        self.len() == seen
-            && !self.is_over()
-            && (self.live.pending() > 0 || self.other_moves(thread))
+        self.len() == seen && !self.is_over() && (self.has_pending() || self.other_moves(thread))
     }
 
     /// Whether another thread than this one, which saw so many events, can go on, and has made none since.
@@ -260,13 +265,23 @@ impl<D: Device, L: Ledger + Asked> Locked<D, L> {
         self.len() == seen && !self.is_stopped() && self.other_moves(thread)
     }
 
-    /// Whether a thread that saw so many events has something to wait for; then it is noted that it sleeps until there is
-    /// an event more. Who is woken before that asks again, so that the note stands whenever it sleeps.
-    pub fn listen(&mut self, thread: u32, seen: usize) -> bool
-        ensures value { IsTrue result ↔ MayWait self.old thread seen }
+    /// Whether a thread that looked at the rings when there were so many events, and then made its last one, would find
+    /// nothing new and has something to wait for: a completion, or the next event of another thread.
+    pub fn may_sleep(&self, thread: u32, looked: usize, seen: usize) -> bool
+        ensures { IsTrue result ↔ MaySleep self.now thread looked seen }
+    {
+        !self.is_over()
+            && are_rings_same(self.live.history(), looked)
+            && (self.has_pending() || (self.len() == seen && self.other_moves(thread)))
+    }
+
+    /// The same; if so it is noted that the thread sleeps until it is told. Who is woken before that asks again, so that
+    /// the note stands whenever it sleeps.
+    pub fn listen(&mut self, thread: u32, looked: usize, seen: usize) -> bool
+        ensures value { IsTrue result ↔ MaySleep self.old thread looked seen }
         ensures noted { self.new ≡ record self.old { awaited = self.old.awaited || result } }
     {
-        let waits = self.may_wait(thread, seen);
+        let waits = self.may_sleep(thread, looked, seen);
         self.awaited = self.awaited || waits;
         waits
     }
@@ -319,4 +334,30 @@ pub fn unended(live: &Live) -> Option<u32>
         }
     }
     None
+}
+
+fn changes_rings(event: &Event) -> bool
+    ensures { result ≡ changes_rings event.now }
+{
+    match event {
+        Event::ByKernel(_) => true,
+        Event::ByThread { action, .. } => match action {
+            Action::DataSet(_) => true,
+            Action::Submitted(taken) => *taken > 0,
+            Action::Reaped(_) => true,
+            _ => false,
+        },
+    }
+}
+
+// Whether no event since there were so many changed what a look at the rings finds.
+fn are_rings_same(history: &[Event], seen: usize) -> bool
+    ensures { IsTrue result ↔ AreRingsSame history.now seen }
+{
+    for k in seen..history.len() {
+        if changes_rings(&history[k]) {
+            return false;
+        }
+    }
+    true
 }

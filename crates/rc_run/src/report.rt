@@ -23,7 +23,7 @@ pub enum RunFault {
     /// The limit was reached; the run so far.
     #[error("limit (30)")]
     Limit(RunReport),
-    /// What ran was another program.
+    /// What ran was another program. No run answers it.
     #[error("other program (31)")]
     OtherProgram,
 }

@@ -193,7 +193,8 @@ fn run_in<
 /// each of its threads has ended, memory ran out, or its threads have made as many events as the limit says.
 ///
 /// What a submit takes, which request is served next and what the device is granted is chosen by the chooser. The
-/// history is that of a run of the program, which is safe: no world of it has a fault. That it ends is not promised.
+/// history is that of a run of the program, which is safe: no world of it has a fault. A growth that was refused is told,
+/// also where each thread has ended. That it ends is not promised.
 pub fn run<
     D: Device + Drop + Send,
     C: Chooser + Drop + Send,

@@ -18,7 +18,7 @@ use std::thread;
 const YIELDS: u32 = 4;
 
 // After how many events in a row a thread leaves the processor, and how often at most where another thread can go on.
-const ROW: usize = 256;
+const ROW: usize = 64;
 
 const ROW_YIELDS: u32 = 10000;
 
@@ -32,19 +32,21 @@ pub fn play<D: Device, C: Chooser, G: Gate, L: Ledger + Asked, R: Wait>(
 ) -> Counted<L> {
     let mut pace = Pace {
         is_idle: false,
+        rest: Rest::None,
+        looked: 0,
         seen: 0,
         row: 0,
     };
     for _ in rt.forever() {
         let turn = mine.events.saturating_add(1);
         gate.pass(thread, turn);
-        match take_turn(rt, shared, thread, &mut mine) {
-            None | Some((Brought::End, _)) => break,
-            Some((Brought::TakenLock, _)) => {}
-            Some((brought, seen)) => {
+        match take_turn(rt, shared, thread, &mut mine, &mut pace) {
+            None | Some(Brought::End) => break,
+            Some(Brought::TakenLock) => {}
+            Some(brought) => {
                 tell(shared, brought);
                 gate.answered(thread, turn);
-                pause(rt, shared, thread, seen, pace.rest_after(brought, seen));
+                pause(rt, shared, thread, &pace);
             }
         }
     }
@@ -103,15 +105,16 @@ fn draw_take<D: Device, C: Chooser, L: Ledger + Asked, R: Wait>(
     if take <= queued { take as i32 } else { -11 }
 }
 
-// Makes a turn of a thread, and answers what it brought and how many events there are then. Who sleeps until there is one
-// more is woken. Where the thread stands at the lock of the program, which is taken, it waits until that is released.
-// None where the run is to stop.
+// Makes a turn of a thread, and answers what it brought. Who sleeps is woken where the rings changed, and by any event
+// where no request is pending. Where the thread stands at the lock of the program, which is taken, it waits until that is
+// released. None where the run is to stop.
 fn take_turn<D: Device, C: Chooser, L: Ledger + Asked, R: Wait>(
     rt: &R,
     shared: &Shared<D, C, L>,
     thread: u32,
     mine: &mut Counted<L>,
-) -> Option<(Brought, usize)> {
+    pace: &mut Pace,
+) -> Option<Brought> {
     let mut guard = shared.locked.lock(rt);
     let take = draw_take(rt, shared, guard.queued());
     let turn = guard.turn(thread, take, mine)?;
@@ -121,11 +124,20 @@ fn take_turn<D: Device, C: Chooser, L: Ledger + Asked, R: Wait>(
         shared
             .freed
             .wait_while(rt, guard, |l| l.may_wait(thread, seen));
-    } else if guard.is_heard() {
+        return Some(brought);
+    }
+    pace.note(brought, seen);
+    let wakes = changes_rings(brought) || !guard.has_pending();
+    if wakes && guard.is_heard() {
         drop(guard);
         shared.moved.notify_all();
     }
-    Some((brought, seen))
+    Some(brought)
+}
+
+// Whether a look at the rings may find something new.
+fn changes_rings(brought: Brought) -> bool {
+    matches!(brought, Brought::Move | Brought::Requests(_))
 }
 
 // Wakes those who wait for what a turn brought. One thread takes the free lock, and its release wakes the next.
@@ -142,8 +154,8 @@ fn tell<D: Device, C, L: Ledger + Asked>(shared: &Shared<D, C, L>, brought: Brou
 #[derive(Clone, Copy)]
 enum Rest {
     None,
-    // It sleeps until there is an event more.
-    UntilEvent,
+    // It sleeps until a look at the rings may find something new.
+    UntilChange,
     // It leaves the processor to the others for a moment.
     Shortly,
 }
@@ -154,15 +166,19 @@ struct Pace {
     // Whether its thread has moved nothing since it took the lock of the program: queued no entry, had none taken by a
     // submit, reaped nothing.
     is_idle: bool,
-    // How many events there were at its last one, and how many it had made in a row.
+    // How it rests before its next turn.
+    rest: Rest,
+    // How many events there were when it last took that lock or found no completion: when it looked at the rings.
+    looked: usize,
+    // How many there were at its last one, and how many it had made in a row.
     seen: usize,
     row: usize,
 }
 
 impl Pace {
     // Notes an event. A thread that found no completion sleeps, and so does one that moved nothing while it held the lock
-    // of the program: it polls, and would take the lock again before the others have woken up.
-    fn rest_after(&mut self, brought: Brought, seen: usize) -> Rest {
+    // of the program: it would take the lock again before the others have woken up.
+    fn note(&mut self, brought: Brought, seen: usize) {
         let goes_on = seen == self.seen.saturating_add(1);
         self.row = if goes_on {
             self.row.saturating_add(1)
@@ -170,47 +186,52 @@ impl Pace {
             1
         };
         self.seen = seen;
+        let is_long = self.row % ROW == 0
+            || (self.row > ROW && matches!(brought, Brought::FreeLock));
+        self.rest = if is_long { Rest::Shortly } else { Rest::None };
         match brought {
-            Brought::Lock => self.is_idle = true,
+            Brought::Lock => {
+                self.is_idle = true;
+                self.looked = seen;
+            }
             Brought::Move | Brought::Requests(_) => self.is_idle = false,
-            Brought::NoCompletion => return Rest::UntilEvent,
+            Brought::NoCompletion => {
+                self.rest = Rest::UntilChange;
+                self.looked = seen;
+            }
             Brought::FreeLock if self.is_idle => {
                 self.is_idle = false;
-                return Rest::UntilEvent;
+                self.rest = Rest::UntilChange;
             }
-            Brought::FreeLock if self.row >= ROW => return Rest::Shortly,
             _ => {}
-        }
-        if self.row > 0 && self.row % ROW == 0 {
-            Rest::Shortly
-        } else {
-            Rest::None
         }
     }
 }
 
-// Rests, where there were so many events. It ends as soon as another made one.
+// Rests as its last event says.
 fn pause<D: Device, C, L: Ledger + Asked, R: Wait>(
     rt: &R,
     shared: &Shared<D, C, L>,
     thread: u32,
-    seen: usize,
-    rest: Rest,
+    pace: &Pace,
 ) {
-    if let Rest::None = rest {
-        return;
-    }
+    let seen = pace.seen;
+    let looked = match pace.rest {
+        Rest::None => return,
+        Rest::UntilChange => pace.looked,
+        Rest::Shortly => seen,
+    };
     for _ in 0..YIELDS {
-        if !shared.locked.lock(rt).may_wait(thread, seen) {
+        if !shared.locked.lock(rt).may_sleep(thread, looked, seen) {
             return;
         }
         thread::yield_now();
     }
-    if let Rest::UntilEvent = rest {
+    if let Rest::UntilChange = pace.rest {
         let guard = shared.locked.lock(rt);
         shared
             .moved
-            .wait_while(rt, guard, |l| l.listen(thread, seen));
+            .wait_while(rt, guard, |l| l.listen(thread, looked, seen));
         return;
     }
     for _ in 0..ROW_YIELDS {
