@@ -98,12 +98,12 @@ next_is w i l e = go (slice_get w.controls.threads i) refl e
     go (Some t) f h = record { thread = t; stands = f; line = ap stmt_of h }
 
 -- The names of its line are resolved.
-resolved_at : (P : Program) → IsProgram P → (i k : ℕ) (s : Stmt) → stmt_at (lines_of P i) k ≡ Some s → (n : ℕ) × (loops : ℕ) × IsResolved P n loops s
+resolved_at : (P : Program) → IsProgram P → (i k : ℕ) (s : Stmt) → stmt_at (lines_of P i) k ≡ Some s → (n : ℕ) × (lists : ℕ) × IsResolved P n lists s
 resolved_at P made i k s e = go (slice_get P.threads i) refl e
   where
-    go : (x : Option Thread) → slice_get P.threads i ≡ x → stmt_at (lines_in x) k ≡ Some s → (n : ℕ) × (loops : ℕ) × IsResolved P n loops s
+    go : (x : Option Thread) → slice_get P.threads i ≡ x → stmt_at (lines_in x) k ≡ Some s → (n : ℕ) × (lists : ℕ) × IsResolved P n lists s
     go None f h = absurd (cc)
-    go (Some t) f h = (t.variables, length t.loops, (made.each i t f).resolved k s h)
+    go (Some t) f h = (t.variables, length t.lists, (made.each i t f).resolved k s h)
 
 -- ---- the faults, each alone
 

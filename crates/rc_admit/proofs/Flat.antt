@@ -293,7 +293,7 @@ module _ (P : Program) (wf : IsProgram P) (i : ℕ) (thread : Thread) (labels : 
     loop_edge : (n : ℕ) → stmt_at lines k ≡ Some (Loop n) → EdgeAt P (Labelled P) i b m vars k (Some (Loop n))
     loop_edge n e =
         let g = good_at k (Loop n) e in
-        let items = items_at thread.loops n in
+        let items = items_at thread.lists n in
         let w = comes (Loop n) (λ bag o. Live (bag_on items) (top_mode P items o)) (label_at labels (k + 1)) e g.after.0 in
         into b m vars (k + 1) (InLoop k n ∷ []) (blocks_next lines k (Loop n) e) refl (entered, tt) refl (weaker_trans (label_at labels (k + 1)) (Live (bag_on items) (top_mode P items m)) (Live b m) w (covered P 13 items b m (asked (Loop n) (λ bag o. may_loop P 13 items bag o) e g.meets)))
 
@@ -302,7 +302,7 @@ module _ (P : Program) (wf : IsProgram P) (i : ℕ) (thread : Thread) (labels : 
     again_edge o n e =
         let c = closes_loop lines laid.each k o n e in
         let h : Entered lines labels o = opener (blocks_at lines o) (InLoop o n) [] c.within in
-        let items = items_at thread.loops n in
+        let items = items_at thread.lists n in
         let w = subst (λ s. Weaker (label_at labels (o + 1)) (goes s (λ bag l. Live (bag_on items) (top_mode P items l)))) (here_is o (Loop n) c.stands ∙ h.label) (good_at o (Loop n) c.stands).after.0 in
         let s : is_locked h.mode ≡ is_locked m = h.locked ∙ sym (a.locked ∙ ap in_lock c.within ∙ same_lock (blocks_at lines o) (InLoop o n) refl) in
         let v = subst (λ l. Weaker (label_at labels (o + 1)) (Live (bag_on items) l)) (top_same P items h.mode m s) w in

@@ -34,13 +34,14 @@ pub record Items : Type 0 where
   pub credits : ℕ
   pub queue : Option ℕ
 
--- A thread: its name and the line of its header, what it holds as it begins, the items of its loops, its lines, for
--- the lines that a jump starts from the place that it leads to, and how many variables it has.
+-- A thread: its name and the line of its header, what it holds as it begins, its lists of items (what it holds at the
+-- tops of its loops), its lines, for the lines that a jump starts from the place that it leads to, and how many variables
+-- it has.
 pub record Thread : Type 0 where
   pub name : List ℕ
   pub line : ℕ
   pub items : Items
-  pub loops : List Items
+  pub lists : List Items
   pub lines : List Line
   pub ends : List ℕ
   pub variables : ℕ
@@ -91,7 +92,7 @@ abbrev pub no_items : Items
 no_items = record { shares = []; tokens = []; credits = 0; queue = None }
 
 abbrev pub items_at : List Items → ℕ → Items
-items_at loops k = slice_index_or loops k no_items
+items_at lists k = slice_index_or lists k no_items
 
 -- how many bytes and shares a buffer has
 abbrev pub no_buffer : Buffer
@@ -162,22 +163,22 @@ IsResolvedTest program variables (Compare x c n) = x < variables
 IsResolvedTest program variables ReadyZero = Unit {0}
 IsResolvedTest program variables (SpaceAtLeast n) = n ≤ program.entries
 
-abbrev pub IsResolved : Program → (variables loops : ℕ) → Stmt → Type 0
-IsResolved program variables loops (Do op) = IsResolvedOp program variables op
-IsResolved program variables loops Lock = Unit {0}
-IsResolved program variables loops (EndLock o) = Unit {0}
-IsResolved program variables loops (If test) = IsResolvedTest program variables test
-IsResolved program variables loops (Else o) = Unit {0}
-IsResolved program variables loops (EndIf o) = Unit {0}
-IsResolved program variables loops (Peek x) = x < variables
-IsResolved program variables loops (Case o u) = DeclaresToken program u
-IsResolved program variables loops (Other o) = Unit {0}
-IsResolved program variables loops (Nothing o) = Unit {0}
-IsResolved program variables loops (EndArm o) = Unit {0}
-IsResolved program variables loops (EndPeek o) = Unit {0}
-IsResolved program variables loops (Loop k) = k < loops
-IsResolved program variables loops (EndLoop o k) = k < loops
-IsResolved program variables loops (Break o releases leaves) = Unit {0}
+abbrev pub IsResolved : Program → (variables lists : ℕ) → Stmt → Type 0
+IsResolved program variables lists (Do op) = IsResolvedOp program variables op
+IsResolved program variables lists Lock = Unit {0}
+IsResolved program variables lists (EndLock o) = Unit {0}
+IsResolved program variables lists (If test) = IsResolvedTest program variables test
+IsResolved program variables lists (Else o) = Unit {0}
+IsResolved program variables lists (EndIf o) = Unit {0}
+IsResolved program variables lists (Peek x) = x < variables
+IsResolved program variables lists (Case o u) = DeclaresToken program u
+IsResolved program variables lists (Other o) = Unit {0}
+IsResolved program variables lists (Nothing o) = Unit {0}
+IsResolved program variables lists (EndArm o) = Unit {0}
+IsResolved program variables lists (EndPeek o) = Unit {0}
+IsResolved program variables lists (Loop k) = k < lists
+IsResolved program variables lists (EndLoop o k) = k < lists
+IsResolved program variables lists (Break o releases leaves) = Unit {0}
 
 -- ---- links
 
@@ -237,7 +238,7 @@ pub record IsItems (program : Program) (items : Items) : Type 0 where
 
 -- A bound on queued entries is said of loops in a lock alone.
 abbrev pub MaySayQueue : Thread → ℕ → ℕ → Type 0
-MaySayQueue thread j k = in_lock (blocks_at thread.lines j) ≡ false → (items_at thread.loops k).queue ≡ None
+MaySayQueue thread j k = in_lock (blocks_at thread.lines j) ≡ false → (items_at thread.lists k).queue ≡ None
 
 -- A thread of a made program: at most 4,096 lines, with numbers from 1 to 4,096, and 64 variables.
 pub record IsThread (program : Program) (thread : Thread) : Type 0 where
@@ -245,12 +246,12 @@ pub record IsThread (program : Program) (thread : Thread) : Type 0 where
   pub line : (1 ≤ thread.line) × (thread.line ≤ 4096)
   pub items : IsItems program thread.items
   pub no_queue : thread.items.queue ≡ None
-  pub loops : All (IsItems program) thread.loops
+  pub lists : All (IsItems program) thread.lists
   pub few_lines : length thread.lines ≤ 4096
   pub numbers : All (λ (l : Line). (1 ≤ l.number) × (l.number ≤ 4096)) thread.lines
   pub few_variables : thread.variables ≤ 64
   pub nested : IsNested thread.lines
-  pub resolved : (j : ℕ) (s : Stmt) → stmt_at thread.lines j ≡ Some s → IsResolved program thread.variables (length thread.loops) s
+  pub resolved : (j : ℕ) (s : Stmt) → stmt_at thread.lines j ≡ Some s → IsResolved program thread.variables (length thread.lists) s
   pub linked : (j : ℕ) (s : Stmt) → stmt_at thread.lines j ≡ Some s → IsLinked thread.lines thread.ends j s
   pub queues : (j k : ℕ) → stmt_at thread.lines j ≡ Some (Loop k) → MaySayQueue thread j k
 

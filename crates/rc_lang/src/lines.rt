@@ -117,9 +117,9 @@ pub enum Stmt {
     EndArm(usize),
     /// The closing brace of the peek at this place.
     EndPeek(usize),
-    /// `loop keeps ITEMS {`: the number of its items among those of the thread's loops.
+    /// `loop keeps ITEMS {`: the number of its items among the thread's lists.
     Loop(usize),
-    /// The closing brace of the loop at this place, and the number of that loop's items.
+    /// The closing brace of the loop at this place, and the number of its items among the thread's lists.
     EndLoop(usize, usize),
     /// `break` out of the loop at this place; whether it releases the lock, and whether it leaves an arm of a peek.
     Break(usize, bool, bool),

@@ -96,8 +96,8 @@ pub struct Thread {
     pub line: u32,
     /// What it holds as it begins.
     pub items: Items,
-    /// What it holds at the tops of its loops, in text order.
-    pub loops: Vec<Items>,
+    /// Its lists of items, in text order: what it holds at the tops of its loops.
+    pub lists: Vec<Items>,
     /// Its lines, without the header and its closing brace.
     pub lines: Vec<Line>,
     /// For the place of an if that of its else or its closing brace, for the place of an else, a peek and a loop that

@@ -67,8 +67,8 @@ module _ (ts : List ThreadOf) where
     room : nat_le 31 (length s.draft.blocks) ≡ false → length s.draft.blocks < 31
     room e = leb-false 31 (length s.draft.blocks) e
 
-    longer : length s.draft.loops < length (s.draft.loops ++ held its ∷ [])
-    longer = let a : length (s.draft.loops ++ held its ∷ []) ≡ length s.draft.loops + 1 = length-append s.draft.loops (held its ∷ []) in omega arith
+    longer : length s.draft.lists < length (s.draft.lists ++ held its ∷ [])
+    longer = let a : length (s.draft.lists ++ held its ∷ []) ≡ length s.draft.lists + 1 = length-append s.draft.lists (held its ∷ []) in omega arith
 
     header : (s.region ≡ Declarations) ⊎ (s.region ≡ Between) → AreThreads (made ts s) s.threads × RiseTo s.count (line_numbers s.threads)
     header h = elim h [

@@ -15,7 +15,7 @@ use Rattle.rc_lang.specs.Program.{IsItems, IsResolved, IsThread, Items, Program,
 use Rattle.rc_lang.proofs.Lookups.{EachNested, blocks_new, blocks_old, nested_more, nested_start, stands_within, stmt_push}
 use Rattle.rc_lang.proofs.Placed.{ArePlaced, placed, placed_innermost}
 use Rattle.rc_read.specs.declared.values.Item.{Item}
-use Rattle.rc_read.specs.Adds.{ends_behind, held, loops_behind, whole_thread, with_stmt}
+use Rattle.rc_read.specs.Adds.{ends_behind, held, lists_behind, whole_thread, with_stmt}
 use Rattle.rc_read.specs.Sheets.{Draft, headed, names_behind, naming}
 use Rattle.rc_read.specs.Spots.{Spot}
 use Rattle.rc_read.proofs.KeptArms.{AreSeen, IsNewArm, may_stand, seen_more}
@@ -29,17 +29,17 @@ pub record IsDraft (p : Program) (d : Draft) : Type 0 where
   pub line : (1 ≤ d.line) × (d.line ≤ 4096)
   pub items : IsItems p d.items
   pub no_queue : d.items.queue ≡ None
-  pub loops : All (IsItems p) d.loops
+  pub lists : All (IsItems p) d.lists
   pub numbers : All (λ (l : Line). (1 ≤ l.number) × (l.number ≤ 4096)) d.lines
   pub few_names : length d.names ≤ 64
   pub stand : blocks_at d.lines (length d.lines) ≡ d.blocks
   pub each : EachNested d.lines
   pub depth : (j : ℕ) → length (blocks_at d.lines j) ≤ 31
-  pub resolved : (j : ℕ) (s : Stmt) → stmt_at d.lines j ≡ Some s → IsResolved p (length d.names) (length d.loops) s
+  pub resolved : (j : ℕ) (s : Stmt) → stmt_at d.lines j ≡ Some s → IsResolved p (length d.names) (length d.lists) s
   pub long : length d.ends ≡ length d.lines
   pub kept : AreKept d.blocks d.lines d.ends
   pub seen : AreSeen d.blocks d.lines d.arms
-  pub queues : (j k : ℕ) → stmt_at d.lines j ≡ Some (Loop k) → in_lock (blocks_at d.lines j) ≡ false → (items_at d.loops k).queue ≡ None
+  pub queues : (j k : ℕ) → stmt_at d.lines j ≡ Some (Loop k) → in_lock (blocks_at d.lines j) ≡ false → (items_at d.lists k).queue ≡ None
 
 pub draft_start : (p : Program) (name : List ℕ) (line : ℕ) (items : Items) → is_name name ≡ true → 1 ≤ line → line ≤ 4096 → IsItems p items → items.queue ≡ None → IsDraft p (headed name line items)
 draft_start p name line items is some few held none = record {
@@ -47,7 +47,7 @@ draft_start p name line items is some few held none = record {
   line = (some, few);
   items = held;
   no_queue = none;
-  loops = All-nil (IsItems p);
+  lists = All-nil (IsItems p);
   numbers = All-nil (λ (l : Line). (1 ≤ l.number) × (l.number ≤ 4096));
   few_names = omega arith;
   stand = refl;
@@ -72,13 +72,13 @@ draft_named p d ps few k = record {
   line = k.line;
   items = k.items;
   no_queue = k.no_queue;
-  loops = k.loops;
+  lists = k.lists;
   numbers = k.numbers;
   few_names = few;
   stand = k.stand;
   each = k.each;
   depth = k.depth;
-  resolved = λ j s e. resolved_on p (length d.names) (length (names_behind d.names ps)) (length d.loops) (length d.loops) (names_grow d.names ps) (omega arith) s (k.resolved j s e);
+  resolved = λ j s e. resolved_on p (length d.names) (length (names_behind d.names ps)) (length d.lists) (length d.lists) (names_grow d.names ps) (omega arith) s (k.resolved j s e);
   long = k.long;
   kept = k.kept;
   seen = k.seen;
@@ -100,7 +100,7 @@ HasRoom bs s = Unit {0}
 
 -- The items of a loop are fine.
 abbrev pub IsFineLoop : Program → Draft → List Item → Stmt → Type 0
-IsFineLoop p d items (Loop k) = (k ≡ length d.loops) × IsItems p (held items) × (in_lock d.blocks ≡ false → (held items).queue ≡ None)
+IsFineLoop p d items (Loop k) = (k ≡ length d.lists) × IsItems p (held items) × (in_lock d.blocks ≡ false → (held items).queue ≡ None)
 IsFineLoop p d items s = Unit {0}
 
 -- Such a line may be the next.
@@ -108,7 +108,7 @@ pub record MayFollow (p : Program) (d : Draft) (items : List Item) (s : Stmt) : 
   pub nested : IsNestedIn d.blocks s
   pub room : HasRoom d.blocks s
   pub arm : IsNewArm d.arms s
-  pub resolved : IsResolved p (length d.names) (length (loops_behind d.loops items s)) s
+  pub resolved : IsResolved p (length d.names) (length (lists_behind d.lists items s)) s
   pub loop : IsFineLoop p d items s
 
 module _ (bs : List Block) (n : ℕ) (few : length bs ≤ 31) where
@@ -143,30 +143,30 @@ module _ (bs : List Block) (n : ℕ) (few : length bs ≤ 31) where
   depth_behind (Break o releases leaves) e r = few
 
 module _ (p : Program) (d : Draft) (items : List Item) where
-  loops_fine : (s : Stmt) → IsFineLoop p d items s → All (IsItems p) d.loops → All (IsItems p) (loops_behind d.loops items s)
-  loops_fine (Loop k) f h = All-push (IsItems p) d.loops (held items) h f.1
-  loops_fine s f h = h
+  lists_fine : (s : Stmt) → IsFineLoop p d items s → All (IsItems p) d.lists → All (IsItems p) (lists_behind d.lists items s)
+  lists_fine (Loop k) f h = All-push (IsItems p) d.lists (held items) h f.1
+  lists_fine s f h = h
 
-  loops_grow : (s : Stmt) → length d.loops ≤ length (loops_behind d.loops items s)
-  loops_grow (Loop k) = let a : length (d.loops ++ held items ∷ []) ≡ length d.loops + 1 = length-append d.loops (held items ∷ []) in omega arith
-  loops_grow s = omega arith
+  lists_grow : (s : Stmt) → length d.lists ≤ length (lists_behind d.lists items s)
+  lists_grow (Loop k) = let a : length (d.lists ++ held items ∷ []) ≡ length d.lists + 1 = length-append d.lists (held items ∷ []) in omega arith
+  lists_grow s = omega arith
 
-  old_items : (s : Stmt) (k : ℕ) → k < length d.loops → items_at (loops_behind d.loops items s) k ≡ items_at d.loops k
-  old_items (Loop i) k lt = get_or_append_left d.loops (held items ∷ []) no_items k lt
+  old_items : (s : Stmt) (k : ℕ) → k < length d.lists → items_at (lists_behind d.lists items s) k ≡ items_at d.lists k
+  old_items (Loop i) k lt = get_or_append_left d.lists (held items ∷ []) no_items k lt
   old_items s k lt = refl
 
-  new_queue : (s : Stmt) → IsFineLoop p d items s → (k : ℕ) → s ≡ Loop k → in_lock d.blocks ≡ false → (items_at (loops_behind d.loops items s) k).queue ≡ None
+  new_queue : (s : Stmt) → IsFineLoop p d items s → (k : ℕ) → s ≡ Loop k → in_lock d.blocks ≡ false → (items_at (lists_behind d.lists items s) k).queue ≡ None
   new_queue (Loop i) f k e n =
       let q : i ≡ k = cc in
-      let g : length d.loops ≡ k = sym f.0 ∙ q in
-      ap (λ (x : Items). x.queue) (get_or_push d.loops (held items) no_items k g) ∙ f.2 n
+      let g : length d.lists ≡ k = sym f.0 ∙ q in
+      ap (λ (x : Items). x.queue) (get_or_push d.lists (held items) no_items k g) ∙ f.2 n
   new_queue s f k e n = absurd (cc)
 
 module _ (p : Program) (d : Draft) (k : IsDraft p d) where
   places : ArePlaced d.lines (length d.lines) d.blocks
   places = subst (λ bs. ArePlaced d.lines (length d.lines) bs) k.stand (placed d.lines k.each (length d.lines))
 
-  pub open_loop : (o i : ℕ) → innermost d.blocks ≡ Some (InLoop o i) → i < length d.loops
+  pub open_loop : (o i : ℕ) → innermost d.blocks ≡ Some (InLoop o i) → i < length d.lists
   open_loop o i e = let h = placed_innermost d.lines (length d.lines) d.blocks (InLoop o i) e places in k.resolved o (Loop i) h.stands
 
   pub draft_more : (number : ℕ) (items : List Item) (s : Stmt) → 1 ≤ number → number ≤ 4096 → MayFollow p d items s → IsDraft p (with_stmt d number items s)
@@ -181,7 +181,7 @@ module _ (p : Program) (d : Draft) (k : IsDraft p d) where
         line = k.line;
         items = k.items;
         no_queue = k.no_queue;
-        loops = loops_fine p d items s may.loop k.loops;
+        lists = lists_fine p d items s may.loop k.lists;
         numbers = All-push (λ (m : Line). (1 ≤ m.number) × (m.number ≤ 4096)) d.lines line k.numbers (some, few);
         few_names = k.few_names;
         stand = behind (length (d.lines ++ line ∷ [])) (omega arith);
@@ -191,8 +191,8 @@ module _ (p : Program) (d : Draft) (k : IsDraft p d) where
           | inr le ↦ subst (λ bs. length bs ≤ 31) (sym (blocks_old d.lines line j le)) (k.depth j)
         ];
         resolved = λ j t e. elim (stmt_push d.lines line j t e) [
-          | inl h ↦ resolved_on p (length d.names) (length d.names) (length d.loops) (length (loops_behind d.loops items s)) (omega arith) (loops_grow p d items s) t (k.resolved j t h)
-          | inr h ↦ subst (λ x. IsResolved p (length d.names) (length (loops_behind d.loops items s)) x) h.1 may.resolved
+          | inl h ↦ resolved_on p (length d.names) (length d.names) (length d.lists) (length (lists_behind d.lists items s)) (omega arith) (lists_grow p d items s) t (k.resolved j t h)
+          | inr h ↦ subst (λ x. IsResolved p (length d.names) (length (lists_behind d.lists items s)) x) h.1 may.resolved
         ];
         long = let a : length (ends_behind d.ends n s) ≡ length d.ends + 1 = as_long d.ends n s in let b : length d.ends ≡ length d.lines = k.long in omega arith;
         kept = kept_more d.lines line d.ends d.blocks places k.long s refl may.nested (may_stand d.blocks d.lines d.arms s k.seen may.nested may.arm) k.kept;
@@ -216,7 +216,7 @@ module _ (p : Program) (d : Draft) (k : IsDraft p d) where
     line = k.line;
     items = k.items;
     no_queue = k.no_queue;
-    loops = k.loops;
+    lists = k.lists;
     numbers = k.numbers;
     few_variables = k.few_names;
     nested = record { each = k.each; depth = k.depth; closed = k.stand ∙ e };

@@ -9,7 +9,7 @@ use Rattle.rc_lang.specs.declared.lines.Stmt.TheVariants.{Do, If, Peek, Loop, En
 use Rattle.rc_lang.specs.declared.lines.Test.TheVariants.{Compare}
 use Rattle.rc_lang.specs.Program.{IsOperand, IsResolved, IsResolvedOp, Program}
 
-module _ (p : Program) (m n a b : ℕ) (more : m ≤ n) (loops : a ≤ b) where
+module _ (p : Program) (m n a b : ℕ) (more : m ≤ n) (lists : a ≤ b) where
   below : (x : ℕ) → x < m → x < n
   below x lt = omega arith
 

@@ -70,14 +70,14 @@ arms_behind arms (stmt.Other o) = record arms { other = true }
 arms_behind arms (stmt.Nothing o) = record arms { none = true }
 arms_behind arms _ = arms
 
-abbrev pub loops_behind : List Items → List Item → Stmt → List Items
-loops_behind loops items (stmt.Loop k) = loops ++ held items ∷ []
-loops_behind loops items _ = loops
+abbrev pub lists_behind : List Items → List Item → Stmt → List Items
+lists_behind lists items (stmt.Loop k) = lists ++ held items ∷ []
+lists_behind lists items _ = lists
 
 -- the thread with one more line
 abbrev pub with_stmt : Draft → ℕ → List Item → Stmt → Draft
 with_stmt d number items s = record d {
-  loops = loops_behind d.loops items s;
+  lists = lists_behind d.lists items s;
   blocks = blocks_behind d.blocks (length d.lines) s;
   lines = d.lines ++ record { number = number; stmt = s } ∷ [];
   ends = ends_behind d.ends (length d.lines) s;
@@ -117,13 +117,13 @@ stmt_in d (Peek x) = stmt.Peek x
 stmt_in d (Case u) = stmt.Case (block_place (innermost d.blocks)) u
 stmt_in d Other = stmt.Other (block_place (innermost d.blocks))
 stmt_in d Nothing = stmt.Nothing (block_place (innermost d.blocks))
-stmt_in d Loop = stmt.Loop (length d.loops)
+stmt_in d Loop = stmt.Loop (length d.lists)
 stmt_in d Break = stmt.Break (unwrap_or (way_out d.blocks).loop 0) (way_out d.blocks).releases (way_out d.blocks).leaves
 stmt_in d _ = closing_of (innermost d.blocks)
 
 -- the thread that is complete
 abbrev pub whole_thread : Draft → ThreadOf
-whole_thread d = record { name = d.name; line = d.line; items = d.items; loops = d.loops; lines = d.lines; ends = d.ends; variables = length d.names }
+whole_thread d = record { name = d.name; line = d.line; items = d.items; lists = d.lists; lines = d.lines; ends = d.ends; variables = length d.names }
 
 -- ---- lines
 

@@ -20,14 +20,14 @@ pub record Arms : Type 0 where
   pub other : Bool
   pub none : Bool
 
--- A thread so far: its name, the line of its header and what it holds, the items of its loops, its variables in the
+-- A thread so far: its name, the line of its header and what it holds, its lists of items, its variables in the
 -- order of their first uses, the blocks that are open in it (the innermost last), its lines, where the lines that a
 -- jump starts from lead to, and the arms of the open peek.
 pub record Draft : Type 0 where
   pub name : List ℕ
   pub line : ℕ
   pub items : Items
-  pub loops : List Items
+  pub lists : List Items
   pub names : List (List ℕ)
   pub blocks : List Block
   pub lines : List Line
@@ -51,7 +51,7 @@ no_arms = record { cases = []; other = false; none = false }
 
 -- a thread's header, before its first line
 abbrev pub headed : List ℕ → ℕ → Items → Draft
-headed name line items = record { name = name; line = line; items = items; loops = []; names = []; blocks = []; lines = []; ends = []; arms = no_arms }
+headed name line items = record { name = name; line = line; items = items; lists = []; names = []; blocks = []; lines = []; ends = []; arms = no_arms }
 
 abbrev pub no_draft : Draft
 no_draft = headed [] 0 no_items

@@ -100,24 +100,24 @@ fn put_end(ends: &mut Vec<usize>, place: usize, stmt: Stmt) -> Result<(), AllocE
 }
 
 // Adds the items of a loop.
-fn push_items(alloc: Global, loops: &mut Vec<Items>, items: &[Item]) -> Result<(), AllocError>
-    ensures { OnOk result (map view_items loops.new.items ≡ map view_items loops.old.items ++ spec.held items.now ∷ []) }
+fn push_items(alloc: Global, lists: &mut Vec<Items>, items: &[Item]) -> Result<(), AllocError>
+    ensures { OnOk result (map view_items lists.new.items ≡ map view_items lists.old.items ++ spec.held items.now ∷ []) }
 {
-    loops.push(held(alloc, items)?)?;
+    lists.push(held(alloc, items)?)?;
     Ok(())
 }
 
 // Keeps the items of a loop.
 fn put_loop(
     alloc: Global,
-    loops: &mut Vec<Items>,
+    lists: &mut Vec<Items>,
     items: &[Item],
     stmt: Stmt,
 ) -> Result<(), AllocError>
-    ensures { OnOk result (map view_items loops.new.items ≡ spec.loops_behind (map view_items loops.old.items) items.now stmt) }
+    ensures { OnOk result (map view_items lists.new.items ≡ spec.lists_behind (map view_items lists.old.items) items.now stmt) }
 {
     match stmt {
-        Stmt::Loop(_) => push_items(alloc, loops, items),
+        Stmt::Loop(_) => push_items(alloc, lists, items),
         Stmt::Do(_) | Stmt::Lock | Stmt::EndLock(_) | Stmt::If(_) => Ok(()),
         Stmt::Else(_) | Stmt::EndIf(_) | Stmt::Peek(_) | Stmt::Case(_, _) => Ok(()),
         Stmt::Other(_) | Stmt::Nothing(_) | Stmt::EndArm(_) | Stmt::EndPeek(_) => Ok(()),
@@ -210,7 +210,7 @@ impl Draft {
             Says::Case(user_data) => Stmt::Case(block_place(block), user_data),
             Says::Other => Stmt::Other(block_place(block)),
             Says::Nothing => Stmt::Nothing(block_place(block)),
-            Says::Loop => Stmt::Loop(self.loops.len()),
+            Says::Loop => Stmt::Loop(self.lists.len()),
             Says::Break => break_out(&self.blocks),
             Says::Version | Says::Ring(_) | Says::File(_) => closing_of(block),
             Says::Buffer(_, _) | Says::Token(_) | Says::Thread => closing_of(block),
@@ -229,7 +229,7 @@ impl Draft {
         ensures { OnOk result (view_draft self.new ≡ spec.with_stmt (view_draft self.old) number items.now stmt) }
     {
         let place = self.lines.len();
-        put_loop(alloc, &mut self.loops, items, stmt)?;
+        put_loop(alloc, &mut self.lists, items, stmt)?;
         put_block(&mut self.blocks, place, stmt)?;
         put_end(&mut self.ends, place, stmt)?;
         self.arms.put(stmt)?;
@@ -267,7 +267,7 @@ impl Draft {
             name: self.name,
             line: self.line,
             items: self.items,
-            loops: self.loops,
+            lists: self.lists,
             lines: self.lines,
             ends: self.ends,
             variables: self.names.len(),

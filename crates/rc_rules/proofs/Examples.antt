@@ -66,7 +66,7 @@ is_thread = record {
     queue = tt;
   };
   no_queue = refl;
-  loops = none _;
+  lists = none _;
   few_lines = lit≤ tt;
   numbers = none _;
   few_variables = lit≤ tt;

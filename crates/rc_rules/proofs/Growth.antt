@@ -294,8 +294,8 @@ module _ (P : Program) (thread : Thread) (lines : List Line) (known more : List 
   premises_grow (Nothing o) = tt
   premises_grow (EndArm o) = tt
   premises_grow (EndPeek o) = join_less _ _ (arms_grow lines known more o g)
-  premises_grow (Loop k) = here_grows (λ b m. may_loop P 13 (items_at thread.loops k) b m) (loop_less P 13 (items_at thread.loops k))
-  premises_grow (EndLoop o k) = here_grows (λ b m. may_loop P 14 (items_at thread.loops k) b m) (loop_less P 14 (items_at thread.loops k))
+  premises_grow (Loop k) = here_grows (λ b m. may_loop P 13 (items_at thread.lists k) b m) (loop_less P 13 (items_at thread.lists k))
+  premises_grow (EndLoop o k) = here_grows (λ b m. may_loop P 14 (items_at thread.lists k) b m) (loop_less P 14 (items_at thread.lists k))
   premises_grow (Break o r l) = here_grows (λ b m. may_break P r m) (break_less P r)
 
   -- and gives stronger states
@@ -312,7 +312,7 @@ module _ (P : Program) (thread : Thread) (lines : List Line) (known more : List 
   befores_grow (Nothing o) h = (peek_grows Unseen _ _ (g (o + 1)), tt)
   befores_grow (EndArm o) h = tt
   befores_grow (EndPeek o) h = arms_grow lines known more o g
-  befores_grow (Loop k) h = (top_grows P (items_at thread.loops k) _ _ (g (length lines)), tt)
+  befores_grow (Loop k) h = (top_grows P (items_at thread.lists k) _ _ (g (length lines)), tt)
   befores_grow (EndLoop o k) h = breaks_grow lines known more o g
   befores_grow (Break o r l) h = tt
 

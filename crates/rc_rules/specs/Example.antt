@@ -11,7 +11,7 @@ share_thread = record {
   name = codes "t0";
   line = 6;
   items = record { shares = record { buffer = 0; count = 2 } ∷ []; tokens = 9 ∷ []; credits = 1; queue = None };
-  loops = [];
+  lists = [];
   lines = [];
   ends = [];
   variables = 0;

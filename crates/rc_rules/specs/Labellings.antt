@@ -64,7 +64,7 @@ befores P thread lines known (Other o) = peek_at SeesOther (label_at known (o + 
 befores P thread lines known (Nothing o) = peek_at Unseen (label_at known (o + 1)) ∷ []
 befores P thread lines known (EndArm o) = []
 befores P thread lines known (EndPeek o) = arm_ends lines known o
-befores P thread lines known (Loop k) = brings (λ s. top P (items_at thread.loops k) s) lines known
+befores P thread lines known (Loop k) = brings (λ s. top P (items_at thread.lists k) s) lines known
 befores P thread lines known (EndLoop o k) = break_ends lines known o
 befores P thread lines known (Break o releases leaves) = []
 
@@ -85,8 +85,8 @@ premises P thread lines known (Other o) = []
 premises P thread lines known (Nothing o) = []
 premises P thread lines known (EndArm o) = []
 premises P thread lines known (EndPeek o) = may_join (befores P thread lines known (EndPeek o))
-premises P thread lines known (Loop k) = on_here lines known (λ bag m. may_loop P 13 (items_at thread.loops k) bag m)
-premises P thread lines known (EndLoop o k) = on_here lines known (λ bag m. may_loop P 14 (items_at thread.loops k) bag m)
+premises P thread lines known (Loop k) = on_here lines known (λ bag m. may_loop P 13 (items_at thread.lists k) bag m)
+premises P thread lines known (EndLoop o k) = on_here lines known (λ bag m. may_loop P 14 (items_at thread.lists k) bag m)
 premises P thread lines known (Break o releases leaves) = on_here lines known (λ bag m. may_break P releases m)
 
 -- ---- labellings

@@ -85,11 +85,11 @@ module _ (P : Program) (t : Thread) (j : ℕ) (w : Walk) (r : Reaches P t j w) w
       let n : length (blocks_at t.lines (j + 1)) ≡ length (blocks_at t.lines j ++ InLoop j k ∷ []) = ap length (blocks_next t.lines j (Loop k) e) in
       omega (arith, n, length-append (blocks_at t.lines j) (InLoop j k ∷ []), few_loops_kept, r.thread.nested.depth (j + 1))
 
-  loop_items : (k : ℕ) → k < length t.loops → IsItems P (items_at t.loops k)
-  loop_items k lt = r.thread.loops k no_items lt
+  loop_items : (k : ℕ) → k < length t.lists → IsItems P (items_at t.lists k)
+  loop_items k lt = r.thread.lists k no_items lt
 
-  pub loop_names : (k : ℕ) (items : Items) → k < length t.loops → items ≡ items_at t.loops k → AreDeclared (program_of w.state) items
-  loop_names k items lt q = subst (λ (p : Program). AreDeclared p items) (sym r.at.here.of) (subst (λ (i : Items). AreDeclared P i) (sym q) (names_declared P (items_at t.loops k) (loop_items k lt)))
+  pub loop_names : (k : ℕ) (items : Items) → k < length t.lists → items ≡ items_at t.lists k → AreDeclared (program_of w.state) items
+  loop_names k items lt q = subst (λ (p : Program). AreDeclared p items) (sym r.at.here.of) (subst (λ (i : Items). AreDeclared P i) (sym q) (names_declared P (items_at t.lists k) (loop_items k lt)))
 
   none_broken : (k : ℕ) (new : Label) → stmt_at t.lines j ≡ Some (Loop k) → break_ends (take (j + 1) t.lines) (r.labels ++ new ∷ []) j ≡ []
   none_broken k new e = breaks_next P t j w r (Loop k) e new j ∙ nothing_more (break_ends (take j t.lines) r.labels j) ∙ no_breaks (take j t.lines) r.labels j before
@@ -112,10 +112,10 @@ module _ (P : Program) (t : Thread) (j : ℕ) (w : Walk) (r : Reaches P t j w) w
     closed = dead_closed (label_of s) d;
   }
 
-  pub loop_turns : {X : Type 0} (k : ℕ) (items : Items) (new : State) (kept : ArrayVec (Option State)) (x : Result X Cause) → stmt_at t.lines j ≡ Some (Loop k) → items ≡ items_at t.loops k → Gives w.state new x (asks (label_of w.state) (λ bag m. may_loop (program_of w.state) 13 items bag m)) (top (program_of w.state) items (label_of w.state) ∷ []) → OnOk x (KeepsDead w.state w.loops.items kept.items) → Turns P t j (record { state = new; branches = w.branches; peek = w.peek; loops = kept }) x
+  pub loop_turns : {X : Type 0} (k : ℕ) (items : Items) (new : State) (kept : ArrayVec (Option State)) (x : Result X Cause) → stmt_at t.lines j ≡ Some (Loop k) → items ≡ items_at t.lists k → Gives w.state new x (asks (label_of w.state) (λ bag m. may_loop (program_of w.state) 13 items bag m)) (top (program_of w.state) items (label_of w.state) ∷ []) → OnOk x (KeepsDead w.state w.loops.items kept.items) → Turns P t j (record { state = new; branches = w.branches; peek = w.peek; loops = kept }) x
   loop_turns k items new kept x e q g d =
       let w' : Walk = record { state = new; branches = w.branches; peek = w.peek; loops = kept } in
-      let i = items_at t.loops k in
+      let i = items_at t.lists k in
       let g' : Gives w.state new x (asks (label_of w.state) (λ bag m. may_loop (program_of w.state) 13 i bag m)) (top (program_of w.state) i (label_of w.state) ∷ []) = subst (λ (y : Items). Gives w.state new x (asks (label_of w.state) (λ bag m. may_loop (program_of w.state) 13 y bag m)) (top (program_of w.state) y (label_of w.state) ∷ [])) q g in
       let F : Program → Label → List (ℕ × Premise) = λ p l. asks l (λ bag m. may_loop p 13 i bag m) in
       let B : Program → Label → List Label = λ p l. top p i l ∷ [] in
@@ -123,7 +123,7 @@ module _ (P : Program) (t : Thread) (j : ℕ) (w : Walk) (r : Reaches P t j w) w
       let bs = blocks_at t.lines j in
       let n : blocks_at t.lines (j + 1) ≡ bs ++ InLoop j k ∷ [] = blocks_next t.lines j (Loop k) e in
       let same = opens_none t j bs (InLoop j k) refl n in
-      let lt : k < length t.loops = r.thread.resolved j (Loop k) e in
+      let lt : k < length t.lists = r.thread.resolved j (Loop k) e in
       let f : Fits (in_lock bs) (most_at j + 18) (top P i (here (take j t.lines) r.labels)) = top_fits P i (in_lock bs) (most_at j) (most_at j + 18) _ (loop_items k lt) (omega arith) (fits_known P t j w r (Loop k) e) in
       turns P t j w r (Loop k) e w' x gave
       (λ b. fits_behind P t j w r (Loop k) e (label_of new) (strongest_fits (in_lock bs) (most_at j + 18) (label_of new) _ (f, tt) b))
@@ -148,14 +148,14 @@ module _ (P : Program) (t : Thread) (j : ℕ) (w : Walk) (r : Reaches P t j w) w
   pub end_loop_some : (o k : ℕ) → stmt_at t.lines j ≡ Some (EndLoop o k) → IsSome (last_of w.loops.items)
   end_loop_some o k e = some_last (IsLoop P t j r.labels) _ o w.loops.items (end_kept o k e)
 
-  pub end_loop_turns : {X : Type 0} (o k : ℕ) (items : Items) (new : State) (kept : ArrayVec (Option State)) (x : Result X Cause) → stmt_at t.lines j ≡ Some (EndLoop o k) → items ≡ items_at t.loops k → ClosesLoop (asks (label_of w.state) (λ bag m. may_loop (program_of w.state) 14 items bag m)) w.loops.items kept.items new x → Turns P t j (record { state = new; branches = w.branches; peek = w.peek; loops = kept }) x
+  pub end_loop_turns : {X : Type 0} (o k : ℕ) (items : Items) (new : State) (kept : ArrayVec (Option State)) (x : Result X Cause) → stmt_at t.lines j ≡ Some (EndLoop o k) → items ≡ items_at t.lists k → ClosesLoop (asks (label_of w.state) (λ bag m. may_loop (program_of w.state) 14 items bag m)) w.loops.items kept.items new x → Turns P t j (record { state = new; branches = w.branches; peek = w.peek; loops = kept }) x
   end_loop_turns o k items new kept x e q g = go x (subst (λ ps. ClosesLoop ps w.loops.items kept.items new x) asked g)
     where
       asked : asks (label_of w.state) (λ bag m. may_loop (program_of w.state) 14 items bag m) ≡ asked_at P t j r.labels (EndLoop o k)
       asked =
           ap (λ (i : Items). asks (label_of w.state) (λ bag m. may_loop (program_of w.state) 14 i bag m)) q
-          ∙ ap (λ (p : Program). asks (label_of w.state) (λ bag m. may_loop p 14 (items_at t.loops k) bag m)) r.at.here.of
-          ∙ ap (λ l. asks l (λ bag m. may_loop P 14 (items_at t.loops k) bag m)) (here_is P t j w r (EndLoop o k) e)
+          ∙ ap (λ (p : Program). asks (label_of w.state) (λ bag m. may_loop p 14 (items_at t.lists k) bag m)) r.at.here.of
+          ∙ ap (λ l. asks l (λ bag m. may_loop P 14 (items_at t.lists k) bag m)) (here_is P t j w r (EndLoop o k) e)
 
       same : (f : Block → List ℕ) → f (InLoop o k) ≡ [] → places f (blocks_at t.lines (j + 1)) ≡ places f (blocks_at t.lines j)
       same f n = let c = closes_loop t.lines r.thread.nested.each j o k e in ap (places f) c.behind ∙ sym (ap (places f) c.within ∙ pushed_none f (blocks_at t.lines o) (InLoop o k) n)

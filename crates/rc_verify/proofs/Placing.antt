@@ -14,8 +14,8 @@ stands lines j l s lt e f = ap stmt_of (slice_get-get_or lines j l lt ∙ ap Som
 pub at : {A : Type 0} {o : Option A} {s t : A} → o ≡ Some s → s ≡ t → o ≡ Some t
 at e f = e ∙ ap Some f
 
-pub loop_there : (loops : List ItemsPart) (k : ℕ) → k < length (map view_items loops) → k < length loops
-loop_there loops k lt = subst (λ n. k < n) (length-map loops view_items) lt
+pub loop_there : (lists : List ItemsPart) (k : ℕ) → k < length (map view_items lists) → k < length lists
+loop_there lists k lt = subst (λ n. k < n) (length-map lists view_items) lt
 
-pub items_here : (loops : List ItemsPart) (k : ℕ) (i : ItemsPart) → k < length (map view_items loops) → i ≡ get_or loops k i → view_items i ≡ items_at (map view_items loops) k
-items_here loops k i lt e = ap view_items e ∙ sym (get_or-map view_items loops k i no_items (loop_there loops k lt))
+pub items_here : (lists : List ItemsPart) (k : ℕ) (i : ItemsPart) → k < length (map view_items lists) → i ≡ get_or lists k i → view_items i ≡ items_at (map view_items lists) k
+items_here lists k i lt e = ap view_items e ∙ sym (get_or-map view_items lists k i no_items (loop_there lists k lt))

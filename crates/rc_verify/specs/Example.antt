@@ -15,7 +15,7 @@ example_thread credits calls = record {
   name = codes "t0";
   line = 3;
   items = record { shares = []; tokens = []; credits = credits; queue = None };
-  loops = [];
+  lists = [];
   lines = example_lines calls;
   ends = [];
   variables = 0;

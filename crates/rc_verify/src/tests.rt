@@ -37,7 +37,7 @@ fn thread(alloc: Global, credits: u8, calls: bool) -> Result<Thread, AllocError>
             credits: credits as u32,
             queue: None,
         },
-        loops: Vec::new(alloc),
+        lists: Vec::new(alloc),
         lines,
         ends: Vec::new(alloc),
         variables: 0,

@@ -86,8 +86,8 @@ fn pass<'a>(walk: &mut Walk<'a>, thread: &Thread, place: usize, stmt: Stmt) -> R
             Ok(())
         }
         Stmt::EndPeek(_) => close_peek(&mut walk.state, &mut walk.peek),
-        Stmt::Loop(k) => open_loop(&mut walk.state, &mut walk.loops, &thread.loops[k]),
-        Stmt::EndLoop(_, k) => close_loop(&mut walk.state, &mut walk.loops, &thread.loops[k]),
+        Stmt::Loop(k) => open_loop(&mut walk.state, &mut walk.loops, &thread.lists[k]),
+        Stmt::EndLoop(_, k) => close_loop(&mut walk.state, &mut walk.loops, &thread.lists[k]),
         Stmt::Break(_, releases, _) => leave_loop(&mut walk.state, &mut walk.loops, releases),
     }
 }

@@ -33,8 +33,8 @@ in_thread P made i j s h = go (slice_get P.threads i) refl h
     go (Some t) e h = (t, made.each i t e, h)
 
 -- the names of a line are resolved
-pub resolved_in : (P : Program) → IsProgram P → (i j : ℕ) (s : Stmt) → stmt_at (lines_of P i) j ≡ Some s → (n loops : ℕ) × (n ≤ 64) × IsResolved P n loops s
-resolved_in P made i j s h = let t = in_thread P made i j s h in (t.0.variables, length t.0.loops, t.1.few_variables, t.1.resolved j s t.2)
+pub resolved_in : (P : Program) → IsProgram P → (i j : ℕ) (s : Stmt) → stmt_at (lines_of P i) j ≡ Some s → (n lists : ℕ) × (n ≤ 64) × IsResolved P n lists s
+resolved_in P made i j s h = let t = in_thread P made i j s h in (t.0.variables, length t.0.lists, t.1.few_variables, t.1.resolved j s t.2)
 
 -- The place e stands below place j, and a line is there.
 pub record IsBelow (lines : List Line) (j e : ℕ) : Type 0 where

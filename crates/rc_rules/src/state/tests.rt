@@ -61,7 +61,7 @@ fn thread(alloc: Global) -> Result<Thread, AllocError>
             credits: 1,
             queue: None,
         },
-        loops: Vec::new(alloc),
+        lists: Vec::new(alloc),
         lines: Vec::new(alloc),
         ends: Vec::new(alloc),
         variables: 0,

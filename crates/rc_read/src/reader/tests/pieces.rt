@@ -20,7 +20,7 @@ fn same_threads(a: &Thread, b: &Thread) -> bool {
         && a.items.tokens.as_slice() == b.items.tokens.as_slice()
         && a.items.credits == b.items.credits
         && a.items.shares.len() == b.items.shares.len()
-        && a.loops.len() == b.loops.len()
+        && a.lists.len() == b.lists.len()
         && a.lines.len() == b.lines.len()
         && a.lines.iter().zip(b.lines.iter()).all(|(l, m)| {
             l.number == m.number && mark_of(l.stmt) == mark_of(m.stmt)

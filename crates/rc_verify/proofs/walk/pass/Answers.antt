@@ -98,25 +98,25 @@ pub returns-in-EndPeek : goal.returns-in-EndPeek
 returns-in-EndPeek c = end_peek_turns _ _ _ _ c.requires.reaches c.in-EndPeek.field-0 c.close_peek.new.state c.close_peek.new.peek c.close_peek.result (at c.requires.stands c.in-EndPeek.is) c.close_peek.ensures.closes c.close_peek.ensures.none
 
 pub index-requires : goal.index-requires
-index-requires c = omega (arith, c.args.thread.now.loops.ok.0, loop_there c.args.thread.now.loops.items c.in-Loop.k (c.requires.reaches.thread.resolved c.args.place (Loop c.in-Loop.k) (at c.requires.stands c.in-Loop.is)))
+index-requires c = omega (arith, c.args.thread.now.lists.ok.0, loop_there c.args.thread.now.lists.items c.in-Loop.k (c.requires.reaches.thread.resolved c.args.place (Loop c.in-Loop.k) (at c.requires.stands c.in-Loop.is)))
 
 pub open_loop-requires-clause-few : goal.open_loop-requires-clause-few
 open_loop-requires-clause-few c = loop_room _ _ _ _ c.requires.reaches c.in-Loop.k (at c.requires.stands c.in-Loop.is)
 
 pub open_loop-requires-clause-names : goal.open_loop-requires-clause-names
-open_loop-requires-clause-names c = loop_names _ _ _ _ c.requires.reaches c.in-Loop.k _ (c.requires.reaches.thread.resolved c.args.place (Loop c.in-Loop.k) (at c.requires.stands c.in-Loop.is)) (items_here c.args.thread.now.loops.items c.in-Loop.k c.index.result.now (c.requires.reaches.thread.resolved c.args.place (Loop c.in-Loop.k) (at c.requires.stands c.in-Loop.is)) c.index.ensures)
+open_loop-requires-clause-names c = loop_names _ _ _ _ c.requires.reaches c.in-Loop.k _ (c.requires.reaches.thread.resolved c.args.place (Loop c.in-Loop.k) (at c.requires.stands c.in-Loop.is)) (items_here c.args.thread.now.lists.items c.in-Loop.k c.index.result.now (c.requires.reaches.thread.resolved c.args.place (Loop c.in-Loop.k) (at c.requires.stands c.in-Loop.is)) c.index.ensures)
 
 pub returns-in-Loop : goal.returns-in-Loop
-returns-in-Loop c = loop_turns _ _ _ _ c.requires.reaches c.in-Loop.k _ c.open_loop.new.state c.open_loop.new.loops c.open_loop.result (at c.requires.stands c.in-Loop.is) (items_here c.args.thread.now.loops.items c.in-Loop.k c.index.result.now (c.requires.reaches.thread.resolved c.args.place (Loop c.in-Loop.k) (at c.requires.stands c.in-Loop.is)) c.index.ensures) c.open_loop.ensures.gives c.open_loop.ensures.kept
+returns-in-Loop c = loop_turns _ _ _ _ c.requires.reaches c.in-Loop.k _ c.open_loop.new.state c.open_loop.new.loops c.open_loop.result (at c.requires.stands c.in-Loop.is) (items_here c.args.thread.now.lists.items c.in-Loop.k c.index.result.now (c.requires.reaches.thread.resolved c.args.place (Loop c.in-Loop.k) (at c.requires.stands c.in-Loop.is)) c.index.ensures) c.open_loop.ensures.gives c.open_loop.ensures.kept
 
 pub index-requires-in-EndLoop : goal.index-requires-in-EndLoop
-index-requires-in-EndLoop c = omega (arith, c.args.thread.now.loops.ok.0, loop_there c.args.thread.now.loops.items c.in-EndLoop.k (c.requires.reaches.thread.resolved c.args.place (EndLoop c.in-EndLoop.field-0 c.in-EndLoop.k) (at c.requires.stands c.in-EndLoop.is)))
+index-requires-in-EndLoop c = omega (arith, c.args.thread.now.lists.ok.0, loop_there c.args.thread.now.lists.items c.in-EndLoop.k (c.requires.reaches.thread.resolved c.args.place (EndLoop c.in-EndLoop.field-0 c.in-EndLoop.k) (at c.requires.stands c.in-EndLoop.is)))
 
 pub close_loop-requires : goal.close_loop-requires
 close_loop-requires c = end_loop_some _ _ _ _ c.requires.reaches c.in-EndLoop.field-0 c.in-EndLoop.k (at c.requires.stands c.in-EndLoop.is)
 
 pub returns-in-EndLoop : goal.returns-in-EndLoop
-returns-in-EndLoop c = end_loop_turns _ _ _ _ c.requires.reaches c.in-EndLoop.field-0 c.in-EndLoop.k _ c.close_loop.new.state c.close_loop.new.loops c.close_loop.result (at c.requires.stands c.in-EndLoop.is) (items_here c.args.thread.now.loops.items c.in-EndLoop.k c.index-in-EndLoop.result.now (c.requires.reaches.thread.resolved c.args.place (EndLoop c.in-EndLoop.field-0 c.in-EndLoop.k) (at c.requires.stands c.in-EndLoop.is)) c.index-in-EndLoop.ensures) c.close_loop.ensures
+returns-in-EndLoop c = end_loop_turns _ _ _ _ c.requires.reaches c.in-EndLoop.field-0 c.in-EndLoop.k _ c.close_loop.new.state c.close_loop.new.loops c.close_loop.result (at c.requires.stands c.in-EndLoop.is) (items_here c.args.thread.now.lists.items c.in-EndLoop.k c.index-in-EndLoop.result.now (c.requires.reaches.thread.resolved c.args.place (EndLoop c.in-EndLoop.field-0 c.in-EndLoop.k) (at c.requires.stands c.in-EndLoop.is)) c.index-in-EndLoop.ensures) c.close_loop.ensures
 
 pub leave_loop-requires-clause-locked : goal.leave_loop-requires-clause-locked
 leave_loop-requires-clause-locked c = break_locked _ _ _ _ c.requires.reaches c.in-Break.field-0 c.in-Break.releases c.in-Break.field-2 (at c.requires.stands c.in-Break.is)
