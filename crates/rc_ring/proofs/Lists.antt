@@ -53,11 +53,6 @@ slot_count-open place there NoSlot h = cc
 slot_count-open place there VacantSlot h = (refl, cc)
 slot_count-open place there (PreparedSlot bytes) h = (refl, cc)
 
-place_if_open-one : (place : ℕ) (slot : OpenSlot) → slot_count slot ≡ 1 → place_if_open place slot ≡ Some place
-place_if_open-one place NoSlot h = cc
-place_if_open-one place VacantSlot h = refl
-place_if_open-one place (PreparedSlot bytes) h = refl
-
 slot_bytes-slot_of : (bytes : List ℕ) (stage : Stage) → is_prepared_slot (slot_of bytes stage) ≡ true → slot_bytes (slot_of bytes stage) ≡ bytes
 slot_bytes-slot_of bytes Closed h = cc
 slot_bytes-slot_of bytes Vacant h = cc

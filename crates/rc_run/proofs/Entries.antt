@@ -49,13 +49,6 @@ request_with_data none serials e u bytes more h m =
     request_spelled serials (entry_with_data u e) more m ∙ with_data none serials e u
     ∙ ap (λ (q : Request). record q { serial = serial_of u serials; user_data = u }) (sym (request_spelled none e bytes h))
 
--- a buffer's address is that of the buffer
-pub buffer_back : (b : ℕ) → b < 4294967296 → buffer_at (address_of b) ≡ b
-buffer_back b lt =
-    let q : 4096 * (b + 1) / 4096 ≡ b + 1 = omega arith in
-    let r : (4096 * (b + 1) / 4096 - 1) ≡ b = omega arith in
-    ap (λ n. n % 4294967296) r ∙ (let s : b % 4294967296 ≡ b = omega arith in s)
-
 -- ---- serial numbers
 
 abbrev data_in : List Serial → List ℕ

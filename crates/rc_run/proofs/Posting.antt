@@ -104,12 +104,6 @@ module _ (s : Live) (c : IsCalm s.world) (k n : ℕ) (job : Job) (is : IsJob job
   at_request : (res : ℤ) → completed_by s.world k res job.bytes ≡ kernel_step s.world k res (brought out.pending.request job.bytes)
   at_request res = ap (completed_at s.world k res job.bytes) out.here
 
-  pub completes : (res : ℤ) → allows job res ≡ true → IsSome (completed_by s.world k res job.bytes)
-  completes res may =
-      let allowed = (and_parts (may_complete job.request res) (not job.starved || is_errno res) may).0 in
-      let step = c.completes k out.pending res (brought out.pending.request job.bytes) out.here (subst (λ (q : Request). may_complete q res ≡ true) (sym out.same) allowed) (length-take-le (bytes_brought out.pending.request) job.bytes (enough out.pending out.here)) in
-      ap is_some (at_request res ∙ step.1)
-
   pub posted_leads : (P Q : Program) (v : World) (old new : List Event) (res : ℤ) (e : Event) → IsRun (start_world P) old s.world → completed_by s.world k res job.bytes ≡ Some (e, v) → Q ≡ P → new ≡ old ++ e ∷ []
       → IsRun (start_world Q) new v
   posted_leads P Q v old new res e run step are more =

@@ -52,15 +52,6 @@ forgets old new (Err c) g = subst (λ (s : State). IsStrongest (label_of s) (pee
 
 -- ---- a release behind a break's test
 
-may_too : (P : Program) (s : Label) → Meets (asks s (λ bag m. may_break P true m)) → Meets (asks s (λ bag m. may_release P m))
-may_too P Dead h = tt
-may_too P (Live b Unlocked) h = tt
-may_too P (Live b (Locked i)) h = h
-
-pub releases : {X : Type 0} (old new : State) (x : Result X Cause) → Meets (asks (label_of old) (λ bag m. may_break (program_of old) true m)) → Gives old new x (asks (label_of old) (λ bag m. may_release (program_of old) m)) (released (label_of old) ∷ []) → IsStrongest (label_of new) (released (label_of old) ∷ []) × (program_of new ≡ program_of old)
-releases old new (Ok x) h g = (g.1, g.2)
-releases old new (Err c) h g = absurd (not_both (premise_number c) _ (may_too (program_of old) (label_of old) h) g.0)
-
 -- ---- two that join
 
 agree_two : (s t : Label) → Meets (may_join (s ∷ t ∷ [])) → agree s t ≡ true

@@ -8,9 +8,6 @@ use Rattle.rc_lang.specs.declared.program.Items.{Items as ItemsPart}
 use Rattle.rc_lang.specs.Parts.{view_items}
 use Rattle.rc_lang.specs.Program.{items_at, no_items, stmt_at, stmt_of}
 
-pub stands : (lines : List Line) (j : ℕ) (l : Line) (s : Stmt) → j < length lines → l ≡ get_or lines j l → l.stmt ≡ s → stmt_at lines j ≡ Some s
-stands lines j l s lt e f = ap stmt_of (slice_get-get_or lines j l lt ∙ ap Some (sym e)) ∙ ap Some f
-
 pub at : {A : Type 0} {o : Option A} {s t : A} → o ≡ Some s → s ≡ t → o ≡ Some t
 at e f = e ∙ ap Some f
 

@@ -119,10 +119,3 @@ prefix_map f test (x ∷ xs) = ap (λ (k : ℕ). cond (test (f x)) (1 + k) 0) (p
 
 pub position_map : {A B : Type 0} (f : A → B) (test : B → Bool) (xs : List A) → position test (map f xs) ≡ position (λ x. test (f x)) xs
 position_map f test xs = rw (prefix_map f (λ y. not (test y)) xs, length-map xs f) refl
-
--- a list whose first n elements have become x
-pub refill : {A : Type 0} (x : A) (n : ℕ) (xs : List A) → n < length xs → slice_set (replicate n x ++ drop n xs) n x ≡ replicate (suc n) x ++ drop (suc n) xs
-refill x zero [] lt = absurd (omega arith)
-refill x zero (y ∷ xs) lt = refl
-refill x (suc n) [] lt = absurd (omega arith)
-refill x (suc n) (y ∷ xs) lt = ap (λ ys. x ∷ ys) (refill x n xs (omega arith))
