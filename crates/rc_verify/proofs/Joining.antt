@@ -1,14 +1,13 @@
 -- Labels that say the same, and where they join.
 use Rattle.std.proofs.Common.{◌≡◌, ℕ, ◌+◌, Bool, true, false, ◌&&◌, List, [], ◌∷◌, ◌++◌, Option, Some, Result, Ok, Err, refl, sym, ap, subst, ◌∙◌}
 use Rattle.std.specs.Result.{is_ok}
-use Rattle.rc_lang.specs.Program.{Program}
 use Rattle.rc_rules.specs.declared.cause.Cause.{Cause}
 use Rattle.rc_rules.specs.declared.mode.Mode.TheVariants.{Unlocked, Locked}
 use Rattle.rc_rules.specs.declared.mode.Peeked.TheVariants.{Unseen}
 use Rattle.rc_rules.specs.Causes.{premise_number}
 use Rattle.rc_rules.specs.Labels.{Label, Dead, Live, Weaker, IsStrongest}
 use Rattle.rc_rules.specs.Premises.{Meets, FailsFirst}
-use Rattle.rc_rules.specs.Rules.{same_slot, agree, asks, broken, may_break, may_join, may_release, peek_at, peek_premises, released}
+use Rattle.rc_rules.specs.Rules.{agree, asks, broken, may_break, may_join, peek_at, peek_premises}
 use Rattle.rc_rules.specs.States.{State, label_of, program_of, AgreeOnLock, Gives}
 use Rattle.rc_rules.proofs.Growth.{agree_grows}
 use Rattle.rc_rules.proofs.Weaker.{not_both, only_itself, weaker_refl}

@@ -6,7 +6,7 @@ use Rattle.rc_lang.specs.declared.lines.Line.{Line}
 use Rattle.rc_lang.specs.declared.lines.Stmt.{Stmt}
 use Rattle.rc_lang.specs.Nesting.{blocks_at, in_lock}
 use Rattle.rc_lang.specs.Program.{Program, Thread, stmt_at}
-use Rattle.rc_lang.proofs.Lookups.{EachNested, get_new, get_old, get_push, line_with, stands_within}
+use Rattle.rc_lang.proofs.Lookups.{get_new, get_old, get_push, line_with, stands_within}
 use Rattle.rc_rules.specs.declared.cause.Cause.{Cause}
 use Rattle.rc_rules.specs.Causes.{premise_number}
 use Rattle.rc_rules.specs.Labels.{Label, Dead, IsStrongest}
