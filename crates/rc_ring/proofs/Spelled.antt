@@ -1,10 +1,8 @@
 -- Entries and the bytes that spell them, side by side.
-use Rattle.std.proofs.Common.{◌≡◌, ℕ, zero, suc, List, [], ◌∷◌, ◌++◌, length, drop, Some, None, refl, ap, subst, arith}
+use Rattle.std.proofs.Common.{◌≡◌, ℕ, List, [], Some, subst}
 use Rattle.std.specs.Prelude.{slice_get, All}
-use Rattle.std.proofs.lemmas.Option.{same_Some, get_or_from_slice_get, slice_get_within}
-use Rattle.rc_entry.specs.declared.Entry.{Entry}
-use Rattle.rc_entry.specs.Spelling.{SpellsEntry}
-use Rattle.rc_ring.specs.Spelled.{AreSpelled, IsSpelling}
+use Rattle.std.proofs.lemmas.Option.{get_or_from_slice_get, slice_get_within}
+use Rattle.rc_ring.specs.Spelled.{IsSpelling}
 
 -- the bytes at a place, of a list that spells entries alone
 pub IsSpelling-get : (bs : List (List ℕ)) (i : ℕ) (b : List ℕ) → All IsSpelling bs → slice_get bs i ≡ Some b → IsSpelling b

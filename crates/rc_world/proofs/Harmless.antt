@@ -88,17 +88,9 @@ module _ (w : World) (e : has_harm w ≡ false) where
   calm = or_parts _ _ (or_parts _ _ e).0
 
   none_in_kernel : (kind : FaultKind) → in_kernel w kind ≡ false
-  none_in_kernel WriteOfPending = refl
-  none_in_kernel ReadOfFilling = refl
   none_in_kernel KernelClash = calm.0
-  none_in_kernel ThreadRace = refl
-  none_in_kernel RingFull = refl
   none_in_kernel Overflow = calm.1
-  none_in_kernel AmbiguousData = refl
-  none_in_kernel UnknownReap = refl
-  none_in_kernel NoLock = refl
-  none_in_kernel RawEntry = refl
-  none_in_kernel OutOfBuffer = refl
+  none_in_kernel _ = refl
 
   none_of : (kind : FaultKind) → faults_of w kind ≡ []
   none_of kind =

@@ -62,7 +62,7 @@ none_from w kind j (t ∷ ts) zero i e lt q =
     subst (λ n. fault_at w kind n (next_line w.program w.controls n) ≡ []) h (front_empty (fault_at w kind j (next_line w.program w.controls j)) _ e)
 none_from w kind j (t ∷ ts) (suc k) i e lt q = none_from w kind (j + 1) ts k i (back_empty (fault_at w kind j (next_line w.program w.controls j)) _ e) (omega arith) (omega arith)
 
-standing_within : (w : World) (i : ℕ) (l : Line) → next_line w.program w.controls i ≡ Some l → i < length w.controls.threads
+pub standing_within : (w : World) (i : ℕ) (l : Line) → next_line w.program w.controls i ≡ Some l → i < length w.controls.threads
 standing_within w i l e = go (slice_get w.controls.threads i) refl
   where
     go : (t : Option Standing) → slice_get w.controls.threads i ≡ t → i < length w.controls.threads
