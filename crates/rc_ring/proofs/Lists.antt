@@ -1,5 +1,5 @@
 -- The lists of a `Ring`, as its bytes and ring lists change.
-use Rattle.std.proofs.Common.{◌≡◌, ◌≢◌, ℕ, suc, ◌+◌, ◌*◌, ◌%◌, ◌<◌, ℤ, Bool, true, List, [], ◌∷◌, ◌++◌, length, drop, get_or, set, map, Some, Option, option_map, sym, refl, ap, subst, ◌∙◌, arith, get_or-set_same, get_or-set_other, length-set, length-drop, ◌^◌, ◌≤◌, false}
+use Rattle.std.proofs.Common.{◌≡◌, ◌≢◌, ℕ, suc, ◌+◌, ◌*◌, ◌%◌, ◌<◌, ℤ, Bool, true, List, [], ◌∷◌, ◌++◌, length, drop, get_or, set, map, Some, Option, option_map, sym, refl, ap, subst, ◌∙◌, arith, get_or-set_same, get_or-set_other, length-set, length-drop, ◌^◌, ◌≤◌, false, ap₂}
 use Rattle.std.specs.Prelude.{slice_get, All, Contains}
 use Rattle.std.specs.Int.{IsPowerOfTwo}
 use Rattle.std.proofs.lemmas.List.{length-map, map_push, drop-map, get_or_default, get_or-drop}

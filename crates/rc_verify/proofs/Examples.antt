@@ -30,9 +30,11 @@ single e x = (tt, tt)
 -- ---- the lines
 
 no_blocks : (calls : Bool) (j : ℕ) → blocks_at (example_lines calls) j ≡ []
+no_blocks true zero = refl
+no_blocks true (suc zero) = refl
+no_blocks true (suc (suc j)) = refl
 no_blocks false zero = refl
 no_blocks false (suc j) = refl
-no_blocks true _ = refl
 
 stands : (calls : Bool) (j : ℕ) (l : Line) → slice_get (example_lines calls) j ≡ Some l → IsNestedIn (blocks_at (example_lines calls) j) l.stmt
 stands true zero l e = let f : record { number = 4; stmt = Do GetSqe } ≡ l = cc in subst (λ (m : Line). IsNestedIn [] m.stmt) f refl
