@@ -1,7 +1,7 @@
 -- Queued requests that become pending, one after another.
-use Rattle.std.proofs.Common.{◌≡◌, ℕ, zero, suc, ◌+◌, ◌<◌, List, [], ◌∷◌, ◌++◌, drop, take, map, Option, Some, slice_get, vec_len, vec_capacity, sym, ap, subst, ◌∙◌, arith, add-zero}
+use Rattle.std.proofs.Common.{◌≡◌, ℕ, zero, suc, ◌+◌, ◌<◌, List, [], ◌∷◌, ◌++◌, drop, take, map, Option, Some, slice_get, vec_len, vec_capacity, sym, ap, subst, ◌∙◌, arith}
 use Rattle.std.specs.Global.{Vec}
-use Rattle.std.proofs.lemmas.List.{drop-take, map-append}
+use Rattle.std.proofs.lemmas.List.{map-append}
 use Rattle.rc_lang.specs.declared.request.Request.{Request}
 use Rattle.rc_world.specs.Machine.{taken_bytes, without_taken}
 use Rattle.rc_world.specs.WorldParts.{begun_buffers, begun_pending, view_bytes}

@@ -1,5 +1,5 @@
 -- Requests behind entries, and their serial numbers in the table.
-use Rattle.std.proofs.Common.{◌≡◌, ◌≢◌, ℕ, zero, suc, ◌+◌, ◌-◌, ◌*◌, ◌/◌, ◌%◌, ◌<◌, ℤ, negsuc, List, [], ◌∷◌, ◌++◌, map, drop, Some, None, false, if◌then◌else◌, nat_eq, slice_get, option_map, Result, Ok, Err, ◌↔◌, refl, sym, ap, subst, ◌∙◌, arith, eq-eqb}
+use Rattle.std.proofs.Common.{◌≡◌, ◌≢◌, ℕ, zero, suc, ◌+◌, ◌-◌, ℤ, negsuc, List, [], ◌∷◌, ◌++◌, map, drop, Some, None, false, if◌then◌else◌, nat_eq, slice_get, option_map, Result, Ok, Err, ◌↔◌, refl, sym, ap, subst, ◌∙◌, arith, eq-eqb}
 use Rattle.std.proofs.lemmas.Bool.Decides.{nat_tests}
 use Rattle.std.proofs.lemmas.List.{map-append}
 use Rattle.std.proofs.lemmas.Option.{same_Some, slice_get-map}
@@ -12,7 +12,7 @@ use Rattle.rc_ring.specs.Rings.{NoSlot, OpenSlot, PreparedSlot, Rings, SubmitCal
 use Rattle.rc_ring.specs.Spelled.{HoldEntries, IsSpelledSlot, IsSpelling}
 use Rattle.rc_run.specs.declared.request_ring.Serial.{Serial}
 use Rattle.rc_run.specs.Held.{AreDistinct, IsHeld, ring_of}
-use Rattle.rc_run.specs.Requests.{address_of, after_data, buffer_at, data_of, kind_of_opcode, request_in, request_of, serial_of, slot_in}
+use Rattle.rc_run.specs.Requests.{after_data, buffer_at, data_of, kind_of_opcode, request_in, request_of, serial_of, slot_in}
 use Rattle.rc_world.specs.declared.world.Slot.TheVariants.{Closed, Prepared}
 
 -- ---- the fields of an entry
