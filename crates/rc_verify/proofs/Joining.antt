@@ -49,8 +49,6 @@ pub forgets : {X : Type 0} (old new : State) (x : Result X Cause) → Gives old 
 forgets old new (Ok x) g = (g.1, g.2)
 forgets old new (Err c) g = subst (λ (s : State). IsStrongest (label_of s) (peek_at Unseen (label_of old) ∷ []) × (program_of s ≡ program_of old)) (sym g.1) (not_peeked (label_of old) (premise_number c) g.0, refl)
 
--- ---- a release behind a break's test
-
 -- ---- two that join
 
 agree_two : (s t : Label) → Meets (may_join (s ∷ t ∷ [])) → agree s t ≡ true

@@ -77,7 +77,6 @@ module _ (P : Program) (t : Thread) (j : ℕ) (labels : List Label) (new : Label
 -- ---- at a line
 
 module _ (P : Program) (t : Thread) (j : ℕ) (w : Walk) (r : Reaches P t j w) (s : Stmt) (e : stmt_at t.lines j ≡ Some s) where
-
   pub front : length (take j t.lines) ≡ j
   front = let lt : j < length t.lines = stands_within t.lines j s e in omega (arith, length-take j t.lines)
 

@@ -1,4 +1,4 @@
--- A world without harm has no fault of any kind.
+-- A thread whose next statement does no harm has no fault of any kind.
 use Rattle.std.proofs.Common.{◌≡◌, ℕ, ◌+◌, ◌<◌, ◌≤◌, Bool, true, false, ◌&&◌, ◌||◌, not, if◌then◌else◌, [], drop, length, Option, Some, None, refl, ◌∙◌, subst, inl, inr, arith}
 use Rattle.std.proofs.lemmas.Bool.{or_parts, and_left, and_right, cases_lt}
 use Rattle.std.proofs.lemmas.Option.{same_Some}

@@ -1,4 +1,4 @@
--- Whether a world has a fault at all, read off in one pass over its threads.
+-- Whether a statement does any harm, and that a thread has no fault, as one pass over the threads asks.
 use Rattle.std.specs.Prelude.{◌≡◌, ℕ, Bool, false, ◌||◌, if◌then◌else◌, Option, Some, None}
 use Rattle.rc_lang.specs.declared.lines.Line.{Line}
 use Rattle.rc_lang.specs.declared.lines.Stmt.{Stmt}
