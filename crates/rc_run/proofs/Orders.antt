@@ -13,7 +13,7 @@ use Rattle.rc_world.specs.declared.event.Event.{Event}
 use Rattle.rc_world.specs.declared.world.Slot.{Slot}
 use Rattle.rc_world.specs.declared.world.Slot.TheVariants.{Closed, Vacant, Prepared}
 use Rattle.rc_world.specs.Controls.{Standing}
-use Rattle.rc_world.specs.Machine.{Pending, World, hands_over, in_rings, prepares, queues, start_world, without}
+use Rattle.rc_world.specs.Machine.{Pending, World, hands_over, in_rings, start_world, without}
 use Rattle.rc_world.specs.Runs.{IsRun, IsStep}
 use Rattle.rc_admit.proofs.Flight.{begun}
 use Rattle.rc_run.specs.Calm.{IsPlain}
