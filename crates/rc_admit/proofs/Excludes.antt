@@ -1,5 +1,5 @@
 -- A world of which those facts are true has no fault.
-use Rattle.std.proofs.Common.{◌≡◌, ℕ, ◌+◌, ◌<◌, ◌≤◌, Bool, true, false, ◌&&◌, ◌||◌, List, [], ◌∷◌, ◌++◌, length, drop, Option, Some, None, refl, sym, ap, ◌∙◌, subst, inl, inr, arith}
+use Rattle.std.proofs.Common.{◌≡◌, ℕ, ◌+◌, ◌<◌, ◌≤◌, Bool, true, false, ◌&&◌, ◌||◌, List, [], ◌∷◌, length, drop, Option, Some, None, refl, sym, ap, ◌∙◌, subst, inl, inr, arith}
 use Rattle.std.proofs.lemmas.Option.{same_Some, slice_get_within}
 use Rattle.std.proofs.lemmas.Bool.{and_from, and_parts, and_right, eq-eqb, eqb-true, false_from_ne_true, leb-true, lt-leb, ltb-true, not_from_true, not-true, or_cases, or_from}
 use Rattle.std.proofs.lemmas.List.{length-map}
@@ -7,7 +7,7 @@ use Rattle.std.specs.List.{list_any}
 use Rattle.std.specs.Prelude.{nat_eq, nat_le, not, slice_get, ℤ, if◌then◌else◌}
 use Rattle.rc_lang.specs.declared.lines.Line.{Line}
 use Rattle.rc_lang.specs.declared.lines.Op.{Op}
-use Rattle.rc_lang.specs.declared.lines.Op.TheVariants.{Set, Assign, Add, Subtract, Load, Store, Fill, Print, GetSqe, PrepRead, PrepWrite, PrepFsync, PrepNop, SetData64, Submit, SubmitAndWait, CqeSeen}
+use Rattle.rc_lang.specs.declared.lines.Op.TheVariants.{Load, Store, Fill, GetSqe, PrepRead, PrepWrite, PrepFsync, PrepNop, SetData64, Submit, SubmitAndWait, CqeSeen}
 use Rattle.rc_lang.specs.declared.lines.Stmt.{Stmt}
 use Rattle.rc_lang.specs.declared.lines.Stmt.TheVariants.{Do, EndLock, If, Peek, Break}
 use Rattle.rc_lang.specs.declared.lines.Test.TheVariants.{Compare, ReadyZero, SpaceAtLeast}
@@ -15,7 +15,7 @@ use Rattle.rc_lang.specs.declared.request.Request.{Request}
 use Rattle.rc_lang.specs.Program.{IsProgram, IsResolved, Program, Thread, bytes_at, lines_in, lines_of, shares_at, stmt_at, stmt_of}
 use Rattle.rc_rules.specs.declared.mode.Inside.{Inside}
 use Rattle.rc_rules.specs.declared.mode.Mode.{Mode}
-use Rattle.rc_rules.specs.declared.mode.Mode.TheVariants.{Unlocked, Locked}
+use Rattle.rc_rules.specs.declared.mode.Mode.TheVariants.{Locked}
 use Rattle.rc_rules.specs.declared.mode.Peeked.{Peeked}
 use Rattle.rc_rules.specs.declared.mode.Peeked.TheVariants.{Unseen, Sees, SeesOther}
 use Rattle.rc_rules.specs.declared.mode.Slot.TheVariants.{Closed, Vacant}
@@ -29,7 +29,7 @@ use Rattle.rc_world.specs.declared.fault.FaultKind.{FaultKind}
 use Rattle.rc_world.specs.declared.fault.FaultKind.TheVariants.{WriteOfPending, ReadOfFilling, KernelClash, ThreadRace, RingFull, Overflow, AmbiguousData, UnknownReap, NoLock, RawEntry, OutOfBuffer}
 use Rattle.rc_world.specs.declared.world.Slot.TheVariants as entries
 use Rattle.rc_world.specs.Controls.{Standing, next_at, next_line}
-use Rattle.rc_world.specs.Faults.{Access, access_at, access_by, access_of, all_kinds, clashes, conflicts, count_of, fault_at, fault_of, faults_by, faults_from, faults_of, front_is_one, has_data, has_fault, in_kernel, is_closed, is_filling, is_full_at, is_holder, is_in_flight, is_named, is_ambiguous_at, is_out_at, is_prepared, is_raw_at, is_ring_call, is_ring_op, is_unknown_at, is_vacant, names, op_is_out, op_is_raw, overflows, races_from, reads_filling, reads_into, writes_pending}
+use Rattle.rc_world.specs.Faults.{Access, access_at, access_by, access_of, clashes, conflicts, count_of, fault_of, front_is_one, has_data, has_fault, is_closed, is_filling, is_full_at, is_holder, is_in_flight, is_named, is_ambiguous_at, is_out_at, is_prepared, is_raw_at, is_ring_call, is_ring_op, is_unknown_at, is_vacant, names, op_is_out, op_is_raw, overflows, races_from, reads_filling, reads_into, writes_pending}
 use Rattle.rc_world.specs.Machine.{Pending, World, is_read, slot_len, used_entries}
 use Rattle.rc_world.proofs.Lists.{found}
 use Rattle.rc_admit.proofs.Flight.{data_in, front_is}
@@ -40,26 +40,7 @@ use Rattle.rc_admit.proofs.Owned.{Stand, EdgeAt, HasEdge, owns, owns_pending, un
 use Rattle.rc_admit.proofs.Rule.{InRing, asks_lock, in_ring, inside_of, met, prepared_as}
 use Rattle.rc_admit.proofs.Shares.{buffer_shared, credits_owned, data_owned, data_pending, fills_all, names_one, no_clash}
 use Rattle.rc_admit.proofs.Steps.{breaks_as_released, token_owned}
-
--- ---- a world without a fault
-
-none_at : (w : World) (kind : FaultKind) (i : ℕ) (x : Option Line) → ((l : Line) → x ≡ Some l → has_fault w kind i l.stmt ≡ false) → fault_at w kind i x ≡ []
-none_at w kind i None h = refl
-none_at w kind i (Some l) h = rw (h l refl) refl
-
-none_from : (w : World) (kind : FaultKind) (ts : List Standing) (i : ℕ) → ((j : ℕ) (l : Line) → next_line w.program w.controls j ≡ Some l → has_fault w kind j l.stmt ≡ false) → faults_from w kind i ts ≡ []
-none_from w kind [] i h = refl
-none_from w kind (t ∷ ts) i h = ap (λ xs. xs ++ faults_from w kind (i + 1) ts) (none_at w kind i (next_line w.program w.controls i) (h i)) ∙ none_from w kind ts (i + 1) h
-
-none_of : (w : World) (kind : FaultKind) → in_kernel w kind ≡ false → ((j : ℕ) (l : Line) → next_line w.program w.controls j ≡ Some l → has_fault w kind j l.stmt ≡ false) → faults_of w kind ≡ []
-none_of w kind k h = rw k (none_from w kind w.controls.threads 0 h)
-
-none_by : (w : World) (kinds : List FaultKind) → ((kind : FaultKind) → faults_of w kind ≡ []) → faults_by w kinds ≡ []
-none_by w [] h = refl
-none_by w (kind ∷ kinds) h = ap (λ xs. xs ++ faults_by w kinds) (h kind) ∙ none_by w kinds h
-
-without_fault : (w : World) → ((kind : FaultKind) → in_kernel w kind ≡ false) → ((kind : FaultKind) (j : ℕ) (l : Line) → next_line w.program w.controls j ≡ Some l → has_fault w kind j l.stmt ≡ false) → fault_of w ≡ None
-without_fault w k h = ap (λ xs. slice_get xs 0) (none_by w all_kinds (λ kind. none_of w kind (k kind) (h kind)))
+use Rattle.rc_world.proofs.LawFaultless.{without_fault}
 
 -- ---- what the rules ask of an access
 
@@ -372,11 +353,6 @@ module _ (w : World) (made : IsProgram w.program) (S : Stand) (edge : HasEdge w.
 
   -- ---- all of them
 
-  none_in_kernel : (kind : FaultKind) → in_kernel w kind ≡ false
-  none_in_kernel KernelClash = no_kernel_clash
-  none_in_kernel Overflow = no_overflow w.pending refl
-  none_in_kernel _ = refl
-
   none_here : (kind : FaultKind) (i : ℕ) (s : Stmt) → Next w i s → has_fault w kind i s ≡ false
   none_here WriteOfPending i s n = no_write_of_pending i s n (access_of s) refl
   none_here ReadOfFilling i s n = no_read_of_filling i s n (access_of s) refl
@@ -391,7 +367,7 @@ module _ (w : World) (made : IsProgram w.program) (S : Stand) (edge : HasEdge w.
   none_here OutOfBuffer i s n = no_out_of_buffer i s _ _ (edge_at i s n)
 
   pub own_no_fault : fault_of w ≡ None
-  own_no_fault = without_fault w none_in_kernel (λ kind j l e. none_here kind j l.stmt (next_is w j l e))
+  own_no_fault = without_fault w no_kernel_clash (no_overflow w.pending refl) (λ kind j l e. none_here kind j l.stmt (next_is w j l e))
 
 -- A world that is well owned has no fault.
 pub no_fault : (P : Program) → IsProgram P → (S : Stand) → HasEdge P S → (w : World) → WellOwned P S w → fault_of w ≡ None

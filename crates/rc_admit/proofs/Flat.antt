@@ -3,6 +3,7 @@ use Rattle.std.proofs.Common.{◌≡◌, ℕ, ◌+◌, ◌<◌, ◌≤◌, Bool,
 use Rattle.std.specs.Prelude.{nat_lt, slice_get, slice_set, ℤ}
 use Rattle.std.proofs.lemmas.Bool.{ltb-true, or_cases}
 use Rattle.std.proofs.lemmas.List.{get_or-take}
+use Rattle.std.proofs.Math.Bool.{or-false, or-true}
 use Rattle.rc_lang.specs.declared.lines.Block.{Block}
 use Rattle.rc_lang.specs.declared.lines.Block.TheVariants.{InLock, InIf, InElse, InPeek, InArm, InLoop}
 use Rattle.rc_lang.specs.declared.lines.Line.{Line}
@@ -35,7 +36,7 @@ use Rattle.rc_world.specs.Controls.{arm_for, none_arm}
 use Rattle.rc_admit.proofs.FlatLooks.{arm_in, arm_is, break_in, get_take, len_take, none_is_at}
 use Rattle.rc_admit.proofs.FlatRules.{IsBelow, behind_break, behind_op, below, covered, top_same, unlocked_of}
 use Rattle.rc_admit.proofs.Lists.{Each, Each-append}
-use Rattle.rc_admit.proofs.Owned.{EdgeAt, HasEdge, Leads, MayPass, Stand}
+use Rattle.rc_admit.proofs.Owned.{EdgeAt, HasEdge, Leads, Stand}
 use Rattle.rc_admit.proofs.Rule.{asks_lock}
 
 -- ---- how a thread stands
@@ -50,12 +51,9 @@ pub record Entered (lines : List Line) (labels : List Label) (o : ℕ) : Type 0 
 
 -- A loop and a peek were entered with a live label.
 abbrev pub Enters : List Line → List Label → Block → Type 0
-Enters lines labels (InLock o) = Unit {0}
-Enters lines labels (InIf o) = Unit {0}
-Enters lines labels (InElse o) = Unit {0}
 Enters lines labels (InPeek o) = Entered lines labels o
-Enters lines labels (InArm o) = Unit {0}
 Enters lines labels (InLoop o k) = Entered lines labels o
+Enters lines labels _ = Unit {0}
 
 -- A thread stands at a place with its label, which is live, in blocks that were entered so.
 pub record At (lines : List Line) (labels : List Label) (b : Part → ℕ) (m : Mode) (vars : List ℤ) (k : ℕ) : Type 0 where
@@ -76,14 +74,6 @@ Each-left P (x ∷ xs) ys h = (h.0, Each-left P xs ys h.1)
 Each-right : {A : Type 0} (P : A → Type 0) (xs ys : List A) → Each P (xs ++ ys) → Each P ys
 Each-right P [] ys h = h
 Each-right P (x ∷ xs) ys h = Each-right P xs ys h.1
-
-or_nothing : (a : Bool) → (a || false) ≡ a
-or_nothing true = refl
-or_nothing false = refl
-
-or_true : (a : Bool) → (a || true) ≡ true
-or_true true = refl
-or_true false = refl
 
 or_first : (a b : Bool) → a ≡ true → (a || b) ≡ true
 or_first true b e = refl
@@ -143,7 +133,7 @@ module _ (P : Program) (wf : IsProgram P) (i : ℕ) (thread : Thread) (labels : 
     -- into blocks that are opened here, none of them a lock
     into : (c : Part → ℕ) (n : Mode) (new : List ℤ) (j : ℕ) (bs : List Block) → blocks_at lines j ≡ blocks_at lines k ++ bs → in_lock bs ≡ false → Each (Enters lines labels) bs → is_locked n ≡ is_locked m → Weaker (label_at labels j) (Live c n) → Leads (Labelled P) i c n new j
     into c n new j bs e f os l w =
-        let s : in_lock (blocks_at lines k ++ bs) ≡ in_lock (blocks_at lines k) = in_lock_more (blocks_at lines k) bs ∙ ap (λ x. in_lock (blocks_at lines k) || x) f ∙ or_nothing (in_lock (blocks_at lines k)) in
+        let s : in_lock (blocks_at lines k ++ bs) ≡ in_lock (blocks_at lines k) = in_lock_more (blocks_at lines k) bs ∙ ap (λ x. in_lock (blocks_at lines k) || x) f ∙ or-false (in_lock (blocks_at lines k)) in
         lead c n new j (blocks_at lines k ++ bs) e (l ∙ a.locked ∙ sym s) (Each-append (Enters lines labels) (blocks_at lines k) bs a.openers os) w
 
     -- out of blocks
@@ -153,7 +143,7 @@ module _ (P : Program) (wf : IsProgram P) (i : ℕ) (thread : Thread) (labels : 
     -- of which none is a lock
     out_same : (c : Part → ℕ) (n : Mode) (new : List ℤ) (j : ℕ) (bs cs : List Block) → blocks_at lines k ≡ bs ++ cs → blocks_at lines j ≡ bs → in_lock cs ≡ false → is_locked n ≡ is_locked m → Weaker (label_at labels j) (Live c n) → Leads (Labelled P) i c n new j
     out_same c n new j bs cs d e f l w =
-        let s : in_lock (blocks_at lines k) ≡ in_lock bs = ap in_lock d ∙ in_lock_more bs cs ∙ ap (λ x. in_lock bs || x) f ∙ or_nothing (in_lock bs) in
+        let s : in_lock (blocks_at lines k) ≡ in_lock bs = ap in_lock d ∙ in_lock_more bs cs ∙ ap (λ x. in_lock bs || x) f ∙ or-false (in_lock bs) in
         out c n new j bs cs d e (l ∙ a.locked ∙ s) w
 
     -- the opener of a block that is open here was entered
@@ -183,7 +173,7 @@ module _ (P : Program) (wf : IsProgram P) (i : ℕ) (thread : Thread) (labels : 
     lock_edge : stmt_at lines k ≡ Some Lock → EdgeAt P (Labelled P) i b m vars k (Some Lock)
     lock_edge e =
         let inside : Mode = Locked (record { queued = P.left; slot = Closed; peeked = Unseen }) in
-        let l : true ≡ in_lock (blocks_at lines k ++ InLock k ∷ []) = sym (in_lock_pushed (blocks_at lines k) (InLock k) ∙ or_true (in_lock (blocks_at lines k))) in (
+        let l : true ≡ in_lock (blocks_at lines k ++ InLock k ∷ []) = sym (in_lock_pushed (blocks_at lines k) (InLock k) ∙ or-true (in_lock (blocks_at lines k))) in (
           unlocked_of m (a.locked ∙ (nested_here lines laid.each k Lock e).0),
           lead b inside vars (k + 1) (blocks_at lines k ++ InLock k ∷ []) (blocks_next lines k Lock e) l (Each-append (Enters lines labels) (blocks_at lines k) (InLock k ∷ []) a.openers (tt, tt)) (comes Lock (λ bag m. Live bag inside) (label_at labels (k + 1)) e (good_at k Lock e).after.0),
         )
@@ -192,7 +182,7 @@ module _ (P : Program) (wf : IsProgram P) (i : ℕ) (thread : Thread) (labels : 
     unlock_edge o e =
         let g = good_at k (EndLock o) e in
         let c = closes_lock lines laid.each k o e in
-        let l : in_lock (blocks_at lines k) ≡ true = ap in_lock c.within ∙ in_lock_pushed (blocks_at lines o) (InLock o) ∙ or_true (in_lock (blocks_at lines o)) in
+        let l : in_lock (blocks_at lines k) ≡ true = ap in_lock c.within ∙ in_lock_pushed (blocks_at lines o) (InLock o) ∙ or-true (in_lock (blocks_at lines o)) in
         let f : in_lock (blocks_at lines o) ≡ false = (nested_here lines laid.each o Lock c.stands).0 in
         (a.locked ∙ l, asked (EndLock o) (λ bag m. may_release P m) e g.meets, out b Unlocked vars (k + 1) (blocks_at lines o) (InLock o ∷ []) c.within c.behind (sym f) (comes (EndLock o) (λ bag m. Live bag Unlocked) (label_at labels (k + 1)) e g.after.0))
 

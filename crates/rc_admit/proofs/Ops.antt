@@ -1,9 +1,9 @@
 -- Statements without a block keep what is true of each world.
 use Rattle.std.proofs.Common.{◌≡◌, ℕ, ◌+◌, ◌-◌, ◌≤◌, ◌<◌, Bool, true, false, cond, List, [], ◌∷◌, ◌++◌, length, take, drop, map, Option, Some, None, refl, sym, ap, ◌∙◌, subst, inl, inr, arith, length-append, length-drop}
 use Rattle.std.proofs.lemmas.Bool.{leb-true, ltb-true}
-use Rattle.std.specs.Prelude.{slice_get, slice_set, nat_eq, nat_lt, ℤ, if◌then◌else◌}
+use Rattle.std.specs.Prelude.{slice_get, slice_set, nat_lt, ℤ, if◌then◌else◌}
 use Rattle.rc_lang.specs.declared.lines.Op.{Op}
-use Rattle.rc_lang.specs.declared.lines.Op.TheVariants.{Set, Assign, Add, Subtract, Load, Store, Fill, Print, GetSqe, PrepRead, PrepWrite, PrepFsync, PrepNop, SetData64, Submit, SubmitAndWait, CqeSeen}
+use Rattle.rc_lang.specs.declared.lines.Op.TheVariants.{Set, Load, Store, Fill, Print, GetSqe, PrepRead, PrepWrite, PrepFsync, PrepNop, SetData64, Submit, SubmitAndWait, CqeSeen}
 use Rattle.rc_lang.specs.declared.program.TokenKind.{TokenKind}
 use Rattle.rc_lang.specs.declared.program.TokenKind.TheVariants as tokens
 use Rattle.rc_lang.specs.declared.request.Request.{Request}
@@ -20,7 +20,7 @@ use Rattle.rc_rules.specs.Premises.{Meets}
 use Rattle.rc_rules.proofs.Weaker.{same_slot_is}
 use Rattle.rc_split.specs.Bags.{Part, ShareOf, TokenOf, Credit, shares_bag, token_bag, credits_bag, minus, plus}
 use Rattle.rc_world.specs.declared.controls.Answer.{Answer}
-use Rattle.rc_world.specs.declared.controls.Answer.TheVariants.{Plain, Number, Byte, Front}
+use Rattle.rc_world.specs.declared.controls.Answer.TheVariants.{Byte}
 use Rattle.rc_world.specs.declared.event.Action.{Action}
 use Rattle.rc_world.specs.declared.event.Completion.{Completion}
 use Rattle.rc_world.specs.declared.world.Slot.{Slot as Entry}
@@ -29,7 +29,7 @@ use Rattle.rc_world.specs.Controls.{Controls, Move, Standing, does, goes_on, loa
 use Rattle.rc_world.specs.Faults.{is_holder, is_ring_op}
 use Rattle.rc_world.specs.Machine.{Pending, World, bytes_of, byte_of, count_in, fills, fits_buffer, front_of, hands_over, is_take, op_answer, op_in_rings, opens_entry, prepares, queues, reaps_front, slot_len, stores, submits_by, with_bytes, without_data}
 use Rattle.rc_admit.proofs.Flight.{FrontOf, begun, data_in, data_of, front_is, taken_sum}
-use Rattle.rc_admit.proofs.Lists.{sum_over, sum_over-append, sum_over-cut, sum_over-map, nat_eq_cases, Each, Each-append, Each-take, Each-drop, Each-map}
+use Rattle.rc_admit.proofs.Lists.{sum_over, sum_over-append, nat_eq_cases, Each, Each-append, Each-take, Each-drop, Each-map}
 use Rattle.rc_admit.proofs.Moves.{Moved, moves, put, rung_moved, fits_parts}
 use Rattle.rc_admit.proofs.Owned.{Stand, Leads, MayBecome, HasEdge, slot_bag, owns, owns_pending, FitsKind, SlotFits, StartsWith, IsNonempty, FrontFits, Fits, HasKind, HasKindPending, Owned, WellOwned}
 use Rattle.rc_admit.proofs.Rule.{AtLive, Claim, InRing, in_ring, prepared_as}
@@ -237,10 +237,8 @@ module _ (P : Program) (S : Stand) (edge : HasEdge P S) (w : World) (bags : ℕ 
   quietly bs vars l = goes _ vars (bags i) (modes i) (quiet P S w bs bags modes i o) l
 
   load_keeps : (x : ℕ) (a : Answer) → ((v : ℤ) → Leads S i (bags i) (modes i) (slice_set t.variables x v) (t.place + 1)) → Keeps P S w.controls i (Some w) (loads w.controls t x a)
-  load_keeps x Plain h = tt
-  load_keeps x (Number n) h = tt
   load_keeps x (Byte b) h = quietly w.buffers _ (h _)
-  load_keeps x (Front c) h = tt
+  load_keeps x _ h = tt
 
   store_keeps : (b j byte : ℕ) (action : Action) (bytes : Option (List ℕ)) → Leads S i (bags i) (modes i) t.variables (t.place + 1) → Keeps P S w.controls i (stores w b j byte bytes) (Some (goes_on w.controls t action))
   store_keeps b j byte action None h = tt
@@ -324,9 +322,6 @@ module _ (P : Program) (S : Stand) (edge : HasEdge P S) (w : World) (bags : ℕ 
 
   pub op_keeps : (op : Op) → Meets (op_premises P (bags i) (modes i) op) × AtLive (op_effect P (bags i) (modes i) op) (λ b m. (new : List ℤ) → MayBecome op t.variables new → Leads S i b m new (t.place + 1)) → Keeps P S w.controls i (op_in_rings w t r op) (does w.controls t op (op_answer w r op))
   op_keeps (Set x n) h = quietly w.buffers _ (h.1 _ refl)
-  op_keeps (Assign x y) h = quietly w.buffers _ (h.1 _ (_, refl))
-  op_keeps (Add x y z) h = quietly w.buffers _ (h.1 _ (_, refl))
-  op_keeps (Subtract x y z) h = quietly w.buffers _ (h.1 _ (_, refl))
   op_keeps (Load x b j) h = load_keeps x (byte_of j (bytes_of w b)) (λ v. h.1 _ (v, refl))
   op_keeps (Store b j x) h = store_keeps b j (low_byte (variable t x)) _ (bytes_of w b) (h.1 t.variables refl)
   op_keeps (Fill b x) h = fill_keeps b (low_byte (variable t x)) _ (bytes_of w b) (h.1 t.variables refl)
@@ -354,3 +349,4 @@ module _ (P : Program) (S : Stand) (edge : HasEdge P S) (w : World) (bags : ℕ 
   op_keeps (Submit x) h = let s = ring (Submit x) refl h in submit_keeps s.0.inside x _ s.0.is (s.1 _ (_, refl))
   op_keeps (SubmitAndWait x n) h = let s = ring (SubmitAndWait x n) refl h in submit_keeps s.0.inside x _ s.0.is (s.1 _ (_, refl))
   op_keeps CqeSeen h = let s = ring CqeSeen refl h in reap_keeps s.0.inside s.0.inside.peeked refl s.0.is (s.0.asked 11) (s.1 t.variables refl)
+  op_keeps _ h = quietly w.buffers _ (h.1 _ (_, refl))

@@ -1,11 +1,11 @@
 -- What is true of each world of an accepted program, over any claim of how a thread may stand.
-use Rattle.std.proofs.Common.{◌≡◌, ℕ, zero, suc, ◌+◌, ◌≤◌, Bool, true, false, ◌||◌, List, [], ◌∷◌, length, map, Option, Some, None, refl, sym, ◌∙◌, subst, ◌⊎◌, inl, inr, arith}
+use Rattle.std.proofs.Common.{◌≡◌, ℕ, zero, suc, ◌+◌, ◌≤◌, Bool, true, false, ◌||◌, List, [], ◌∷◌, length, Option, Some, None, refl, sym, ◌∙◌, subst, ◌⊎◌, inl, inr, arith}
 use Rattle.std.specs.Prelude.{replicate, slice_get, slice_set, slice_index_or, ℤ, pos}
 use Rattle.rc_lang.specs.Comparisons.{compares}
 use Rattle.rc_lang.specs.declared.lines.Op.{Op}
 use Rattle.rc_lang.specs.declared.lines.Op.TheVariants.{Set, Assign, Add, Subtract, Load, Submit, SubmitAndWait}
 use Rattle.rc_lang.specs.declared.lines.Stmt.{Stmt}
-use Rattle.rc_lang.specs.declared.lines.Stmt.TheVariants.{Do, Lock, EndLock, If, Else, EndIf, Peek, Case, Other, Nothing, EndArm, EndPeek, Loop, EndLoop, Break}
+use Rattle.rc_lang.specs.declared.lines.Stmt.TheVariants.{Do, Lock, EndLock, If, Else, EndIf, Peek, EndArm, Loop, EndLoop, Break}
 use Rattle.rc_lang.specs.declared.lines.Test.{Test}
 use Rattle.rc_lang.specs.declared.lines.Test.TheVariants.{Compare, ReadyZero, SpaceAtLeast}
 use Rattle.rc_lang.specs.declared.program.TokenKind.{TokenKind}
@@ -13,7 +13,6 @@ use Rattle.rc_lang.specs.declared.program.TokenKind.TheVariants as tokens
 use Rattle.rc_lang.specs.declared.request.Kind.TheVariants.{Nop, Fsync, Read, Write}
 use Rattle.rc_lang.specs.declared.request.Request.{Request}
 use Rattle.rc_lang.specs.Program.{Program, Thread, end_at, lines_of, stmt_at}
-use Rattle.rc_rules.specs.declared.mode.Inside.{Inside}
 use Rattle.rc_rules.specs.declared.mode.Mode.{Mode}
 use Rattle.rc_rules.specs.declared.mode.Mode.TheVariants.{Unlocked, Locked}
 use Rattle.rc_rules.specs.declared.mode.Peeked.{Peeked}
@@ -33,7 +32,7 @@ use Rattle.rc_world.specs.Controls.{Standing, arm_for, ends_arm, hop_of, is_arm_
 use Rattle.rc_world.specs.Faults.{is_holder}
 use Rattle.rc_world.specs.Machine.{Pending, World, slot_len}
 use Rattle.rc_admit.proofs.Flight.{data_in, data_of, in_flight, of_pending}
-use Rattle.rc_admit.proofs.Lists.{sum_to, sum_over, Each}
+use Rattle.rc_admit.proofs.Lists.{sum_to, Each}
 use Rattle.rc_admit.proofs.Rule.{AtLive}
 
 -- ---- claims of how a thread may stand
@@ -228,7 +227,6 @@ module _ (P : Program) (S : Stand) (i : ℕ) (vars : List ℤ) (n k : ℕ) (b : 
       record { leads = record { bag = s.leads.bag; mode = s.leads.mode; less = λ p. omega (arith, s.leads.less p, l.less p); weaker = mode_trans s.leads.mode l.mode m s.leads.weaker l.weaker; stands = s.leads.stands }; unseen = s.unseen }
 
   pub settle_at : (x : Option Stmt) → EdgeAt P S i l.bag l.mode vars k x → Settled S i b m vars (or_from k (λ j. settled P i n j) (hop_of P i k x)) (is_arm_end x || or_from false (λ j. ends_arm P i n j) (hop_of P i k x))
-  settle_at None h = stays false refl
   settle_at (Some (Else o)) h = hops (end_at P i k + 1) h
   settle_at (Some (EndIf o)) h = hops (k + 1) h
   settle_at (Some (EndArm o)) h =
@@ -239,18 +237,7 @@ module _ (P : Program) (S : Stand) (i : ℕ) (vars : List ℤ) (n k : ℕ) (b : 
         leads = record { bag = s.leads.bag; mode = s.leads.mode; less = λ p. omega (arith, s.leads.less p, l.less p); weaker = mode_trans s.leads.mode l.mode m w l.weaker; stands = s.leads.stands };
         unseen = λ e. unseen_weaker s.leads.mode past s.leads.weaker (unseen_in l.mode h.0);
       }
-  settle_at (Some (Do op)) h = stays false refl
-  settle_at (Some Lock) h = stays false refl
-  settle_at (Some (EndLock o)) h = stays false refl
-  settle_at (Some (If test)) h = stays false refl
-  settle_at (Some (Peek x)) h = stays false refl
-  settle_at (Some (Case o u)) h = stays false refl
-  settle_at (Some (Other o)) h = stays false refl
-  settle_at (Some (Nothing o)) h = stays false refl
-  settle_at (Some (EndPeek o)) h = stays false refl
-  settle_at (Some (Loop items)) h = stays false refl
-  settle_at (Some (EndLoop o items)) h = stays false refl
-  settle_at (Some (Break o r l)) h = stays false refl
+  settle_at _ h = stays false refl
 
 -- Lines that are no event go with the step before them.
 pub settle : (P : Program) (S : Stand) → HasEdge P S → (i : ℕ) (vars : List ℤ) (n k : ℕ) (b : Part → ℕ) (m : Mode) → Leads S i b m vars k → Settled S i b m vars (settled P i n k) (ends_arm P i n k)

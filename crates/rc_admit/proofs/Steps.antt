@@ -3,11 +3,11 @@ use Rattle.std.proofs.Common.{◌≡◌, ℕ, ◌+◌, ◌-◌, ◌≤◌, Bool,
 use Rattle.std.specs.Prelude.{slice_set, slice_get, slice_index_or, nat_eq, min, ℤ, pos, int_le, if◌then◌else◌}
 use Rattle.std.specs.Ordering.{int_eq}
 use Rattle.std.proofs.lemmas.Option.{slice_get_within}
-use Rattle.std.proofs.lemmas.Bool.{leb-true}
+use Rattle.std.proofs.lemmas.Bool.{leb-true, eq-eqb}
 use Rattle.std.proofs.lemmas.Bool.Decides.{Decides-int_eq}
 use Rattle.rc_lang.specs.Comparisons.{compares}
 use Rattle.rc_lang.specs.declared.lines.Stmt.{Stmt}
-use Rattle.rc_lang.specs.declared.lines.Stmt.TheVariants.{Do, Lock, EndLock, If, Else, EndIf, Peek, Case, Other, Nothing, EndArm, EndPeek, Loop, EndLoop, Break}
+use Rattle.rc_lang.specs.declared.lines.Stmt.TheVariants.{Do, Lock, EndLock, If, Peek, Loop, EndLoop, Break}
 use Rattle.rc_lang.specs.declared.lines.Test.{Test}
 use Rattle.rc_lang.specs.declared.lines.Test.TheVariants.{Compare, ReadyZero, SpaceAtLeast}
 use Rattle.rc_lang.specs.Program.{Program, end_at}
@@ -30,7 +30,7 @@ use Rattle.rc_world.specs.Controls.{Standing, acts, arm_for, breaks, decides, lo
 use Rattle.rc_world.specs.Faults.{is_holder}
 use Rattle.rc_world.specs.Machine.{World, front_of, in_rings, slot_len, stmt_answer, test_answer, used_entries}
 use Rattle.rc_admit.proofs.Flight.{data_in, front_is}
-use Rattle.rc_admit.proofs.Lists.{sum_to, sum_over, sum_to_one, nat_eq_cases}
+use Rattle.rc_admit.proofs.Lists.{sum_to, sum_over, sum_to_one}
 use Rattle.rc_admit.proofs.Moves.{Moved, moves, put, rung_moved, fits_parts, fits_made, holder_one, with_lock}
 use Rattle.rc_admit.proofs.Ops.{Keeps, slot_closed, op_keeps, quiet, has}
 use Rattle.rc_admit.proofs.Owned.{Stand, Leads, MayPass, EdgeAt, HasEdge, slot_bag, owns, unheld, SlotFits, StartsWith, IsNonempty, FrontFits, Fits, held, Owned, WellOwned}
@@ -41,12 +41,9 @@ outside_any w w1 false Unlocked e f = tt
 outside_any w w1 false (Locked s) e f = f
 outside_any w w1 true m e f = absurd (cc)
 
-pub same_holder : (i : ℕ) → nat_eq i i ≡ true
-same_holder i = elim (nat_eq_cases i i) [ inl h ↦ h.1 | inr h ↦ absurd (h.0 refl) ]
-
 -- A request owns its token.
 pub token_owned : (P : Program) (u : ℕ) → 1 ≤ owned P u (TokenOf u)
-token_owned P u = let h : nat_eq u u ≡ true = same_holder u in let y : token_bag u (TokenOf u) ≡ 1 = ap (λ t. cond t 1 0) h in omega arith
+token_owned P u = let h : nat_eq u u ≡ true = eq-eqb u u refl in let y : token_bag u (TokenOf u) ≡ 1 = ap (λ t. cond t 1 0) h in omega arith
 
 module _ (P : Program) (S : Stand) (w : World) (bags : ℕ → Part → ℕ) (modes : ℕ → Mode) (i : ℕ) (o : Owned P S w bags modes) where
   -- The thread's label knows less of the ring than before, in the same world but for what is peeked.
@@ -97,8 +94,8 @@ module _ (P : Program) (S : Stand) (w : World) (bags : ℕ → Part → ℕ) (mo
         same = refl;
         local = λ p. omega arith;
         free = λ x. absurd (cc);
-        mine = fits_made w1 (is_holder (Some i) i) (record { queued = P.left; slot = Closed; peeked = Unseen }) (same_holder i) (omega (arith, f.0)) (subst (λ s. SlotFits s Closed) (sym f.1) tt) tt;
-        others = λ k ne. subst (λ b. Fits w1 b (modes k)) (sym (holder_one (Some i) i k (same_holder i) ne)) (outside_any w w1 (is_holder w.controls.holder k) (modes k) (ap (λ (x : Option ℕ). is_holder x k) n) (o.each k));
+        mine = fits_made w1 (is_holder (Some i) i) (record { queued = P.left; slot = Closed; peeked = Unseen }) (eq-eqb i i refl) (omega (arith, f.0)) (subst (λ s. SlotFits s Closed) (sym f.1) tt) tt;
+        others = λ k ne. subst (λ b. Fits w1 b (modes k)) (sym (holder_one (Some i) i k (eq-eqb i i refl) ne)) (outside_any w w1 (is_holder w.controls.holder k) (modes k) (ap (λ (x : Option ℕ). is_holder x k) n) (o.each k));
         queued = o.queued;
         pending = o.pending;
         completed = o.completed;
@@ -196,13 +193,6 @@ module _ (P : Program) (S : Stand) (edge : HasEdge P S) (w : World) (bags : ℕ 
       go (Locked s) e v l = arm_keeps (if v then false else w.controls.peeked) s Unseen _ _ e tt a
 
   pub line_keeps : (s : Stmt) → EdgeAt P S i (bags i) (modes i) t.variables t.place (Some s) → Keeps P S w.controls i (in_rings w t r s) (acts P w.controls i t s (stmt_answer w r s))
-  line_keeps (Else p) h = tt
-  line_keeps (EndIf p) h = tt
-  line_keeps (Case p u) h = tt
-  line_keeps (Other p) h = tt
-  line_keeps (Nothing p) h = tt
-  line_keeps (EndArm p) h = tt
-  line_keeps (EndPeek p) h = tt
   line_keeps (EndLock p) h = release_keeps w.controls.peeked (t.place + 1) h.0 h.1 h.2
   line_keeps (EndLoop p k) h = goes _ _ _ _ _ still h
   line_keeps (Do op) h = op_keeps P S edge w bags modes i t r o get op h
@@ -211,3 +201,4 @@ module _ (P : Program) (S : Stand) (edge : HasEdge P S) (w : World) (bags : ℕ 
   line_keeps (Peek x) h = let s = inside_of (modes i) (asks_lock (modes i) _ h.0) in peek_keeps w.completions s.0 x refl s.1 h.1 h.2
   line_keeps (Loop k) h = goes _ _ _ _ _ still h
   line_keeps (Break p releases leaves) h = break_keeps releases leaves p h.0 h.1 h.2
+  line_keeps _ h = tt

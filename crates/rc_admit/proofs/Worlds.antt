@@ -1,7 +1,7 @@
 -- What a world without a fault is like, and so each world of a run of a safe program.
 use Rattle.std.proofs.Common.{◌≡◌, ℕ, zero, suc, ◌+◌, ◌-◌, ◌<◌, ◌⊎◌, Bool, true, false, ◌&&◌, ◌||◌, List, [], ◌∷◌, length, drop, Option, Some, None, refl, sym, ap, ◌∙◌, subst, inl, inr, arith, length-drop}
 use Rattle.std.proofs.lemmas.Option.{slice_get_within}
-use Rattle.std.proofs.lemmas.Bool.{and_cases, and_from, and_parts, cases_order, eq-eqb, eqb-true, leb-false, leb-true, not-false, or_left, or_parts, or_right}
+use Rattle.std.proofs.lemmas.Bool.{and_from, and_parts, cases_order, eq-eqb, eqb-true, leb-false, leb-true, not-false, or_left, or_parts, or_right}
 use Rattle.std.specs.List.{list_any}
 use Rattle.std.specs.Prelude.{nat_eq, nat_le, not, slice_get, ℤ, if◌then◌else◌}
 use Rattle.rc_lang.specs.declared.lines.Op.{Op}
@@ -23,13 +23,10 @@ use Rattle.rc_world.specs.Machine.{Pending, World, in_rings, is_read, reaps_fron
 use Rattle.rc_world.proofs.LawFaultless.{none_at, none_in_kernel, none_of_kind}
 use Rattle.rc_admit.specs.Worlds.{DataIsFresh, CallsUnderLock, EachReapsOne, EntrySuits, Fills, FindsEntry, HasRoom, IsNext, IsPending, IsRingCall, Names, NoKernelClash, NoReadOfFilling, NoThreadRace, NoWriteOfPending, OfSafeWorlds, ReadsBuffer, StaysWithinBuffers, Suits, WritesBuffer}
 use Rattle.rc_admit.proofs.Excludes.{next_is}
+use Rattle.rc_world.proofs.Lists.{any_at}
+use Rattle.rc_world.proofs.LawGoes.{and_false}
 
 -- ---- words of the definitions
-
-any_there : {A : Type 0} (test : A → Bool) (xs : List A) (k : ℕ) (x : A) → slice_get xs k ≡ Some x → test x ≡ true → list_any test xs ≡ true
-any_there test [] k x e h = absurd (cc)
-any_there test (y ∷ xs) zero x e h = let q : y ≡ x = cc in or_left (test y) (list_any test xs) (ap test q ∙ h)
-any_there test (y ∷ xs) (suc k) x e h = or_right (test y) (list_any test xs) (any_there test xs k x e h)
 
 fills : (r : Request) (b : ℕ) → Fills r b → reads_into b r ≡ true
 fills r b f = and_from (is_read r.kind) (nat_eq r.buffer b) (ap is_read f.0) (eq-eqb r.buffer b f.1)
@@ -48,8 +45,6 @@ is_the_holder : (o : Option ℕ) (i : ℕ) → o ≡ Some i → is_holder o i �
 is_the_holder o i e = ap (λ (x : Option ℕ). is_holder x i) e ∙ eq-eqb i i refl
 
 -- of a test of two parts that fails, the second does where the first doesn't
-second_fails : (a b : Bool) → (a && b) ≡ false → a ≡ true → b ≡ false
-second_fails a b e h = elim (and_cases a b e) [ inl x ↦ absurd (cc) | inr x ↦ x ]
 
 closed_is : (x : Slot) → not (is_closed x) ≡ false → x ≡ Closed
 closed_is Closed e = refl
@@ -87,7 +82,7 @@ clash_there [] j k p q lt e f h = absurd (cc)
 clash_there (x ∷ ps) j zero p q lt e f h = absurd (omega arith)
 clash_there (x ∷ ps) zero (suc k) p q lt e f h =
     let s : x ≡ p = cc in
-    or_left (clashes_with x.request ps) (clashes ps) (any_there (λ (y : Pending). clash x.request y.request) ps k q f (ap (λ (y : Pending). clash y.request q.request) s ∙ h))
+    or_left (clashes_with x.request ps) (clashes ps) (any_at (λ (y : Pending). clash x.request y.request) ps k q f (ap (λ (y : Pending). clash y.request q.request) s ∙ h))
 clash_there (x ∷ ps) (suc j) (suc k) p q lt e f h = or_right (clashes_with x.request ps) (clashes ps) (clash_there ps j k p q (omega arith) e f h)
 
 -- a statement that writes a buffer, and one that goes to it
@@ -141,7 +136,7 @@ module _ (w : World) (none : fault_of w ≡ None) where
   in_the_kernel kind = none_in_kernel w kind (none_of_kind w none kind)
 
   there : (k b : ℕ) (r : Request) → IsPending w k r → (test : Request → Bool) → test r ≡ true → list_any (λ (p : Pending). test p.request) w.pending ≡ true
-  there k b r p test h = any_there (λ (p : Pending). test p.request) w.pending k p.0 p.1 (ap test p.2 ∙ h)
+  there k b r p test h = any_at (λ (p : Pending). test p.request) w.pending k p.0 p.1 (ap test p.2 ∙ h)
 
   -- ---- buffers
 
@@ -230,14 +225,14 @@ module _ (w : World) (none : fault_of w ≡ None) where
   -- ---- the rings
 
   under_lock : (i : ℕ) (s : Stmt) → IsNext w i s → IsRingCall s → is_holder w.controls.holder i ≡ true
-  under_lock i s n c = not-false (is_holder w.controls.holder i) (second_fails (is_ring_call s) (not (is_holder w.controls.holder i)) (at NoLock i s n) (is_called s c))
+  under_lock i s n c = not-false (is_holder w.controls.holder i) (and_false (is_ring_call s) (not (is_holder w.controls.holder i)) (at NoLock i s n) (is_called s c))
 
   pub calls_under_lock : CallsUnderLock w
   calls_under_lock i s n c = holder_is w.controls.holder i (under_lock i s n c)
 
   -- what is wrong of the holder's next statement alone
   of_holder : (i : ℕ) (b : Bool) → is_holder w.controls.holder i ≡ true → (is_holder w.controls.holder i && b) ≡ false → b ≡ false
-  of_holder i b h e = second_fails (is_holder w.controls.holder i) b e h
+  of_holder i b h e = and_false (is_holder w.controls.holder i) b e h
 
   pub finds_entry : FindsEntry w
   finds_entry i n =
@@ -256,7 +251,7 @@ module _ (w : World) (none : fault_of w ≡ None) where
   suits_at i (Do (Submit x)) e = closed_is w.slot e
   suits_at i (Do (SubmitAndWait x n)) e = closed_is w.slot e
   suits_at i (EndLock o) e = closed_is w.slot e
-  suits_at i (Break o releases leaves) e = λ r. closed_is w.slot (second_fails releases (not (is_closed w.slot)) e r)
+  suits_at i (Break o releases leaves) e = λ r. closed_is w.slot (and_false releases (not (is_closed w.slot)) e r)
   suits_at i _ e = tt
 
   pub entry_suits : EntrySuits w
@@ -275,7 +270,7 @@ module _ (w : World) (none : fault_of w ≡ None) where
   none_in_flight i u n =
       let h = under_lock i (Do (SetData64 u)) n tt in
       let prepared : is_prepared w.slot ≡ true = not-false (is_prepared w.slot) (of_holder i (not (is_prepared w.slot)) h (at RawEntry i (Do (SetData64 u)) n)) in
-      second_fails (is_prepared w.slot) (is_in_flight w u) (of_holder i (is_prepared w.slot && is_in_flight w u) h (at AmbiguousData i (Do (SetData64 u)) n)) prepared
+      and_false (is_prepared w.slot) (is_in_flight w u) (of_holder i (is_prepared w.slot && is_in_flight w u) h (at AmbiguousData i (Do (SetData64 u)) n)) prepared
 
   pub data_is_fresh : DataIsFresh w
   data_is_fresh i u k r n inside e =
@@ -283,10 +278,10 @@ module _ (w : World) (none : fault_of w ≡ None) where
       let first = or_parts (list_any (has_data u) w.queued) (list_any (λ (p : Pending). has_data u p.request) w.pending) two.0 in
       let mine : has_data u r ≡ true = eq-eqb r.user_data u e in
       elim inside [
-        | inl q ↦ let t = any_there (has_data u) w.queued k r q mine in let f = first.0 in absurd (cc)
+        | inl q ↦ let t = any_at (has_data u) w.queued k r q mine in let f = first.0 in absurd (cc)
         | inr o ↦ elim o [
           | inl p ↦ let t = there k u r p (has_data u) mine in let f = first.1 in absurd (cc)
-          | inr q ↦ let t = any_there (has_data u) w.completed k r q mine in let f = two.1 in absurd (cc)
+          | inr q ↦ let t = any_at (has_data u) w.completed k r q mine in let f = two.1 in absurd (cc)
         ]
       ]
 

@@ -7,10 +7,7 @@ use Rattle.rc_entry.specs.Spelling.{sqe_opcode, IsKnown, HasZeros, IsFaultOfEntr
 
 none_below : (bytes : List ℕ) → IsKnown (sqe_opcode bytes) → (other : EntryFault) → fault_number other < 2 → ¬ IsFaultOfEntry other bytes
 none_below bytes known UnknownOpcode lt = λ unknown. unknown known
-none_below bytes known NonZeroField lt = absurd (omega arith)
-none_below bytes known NopFd lt = absurd (omega arith)
-none_below bytes known FsyncFlags lt = absurd (omega arith)
-none_below bytes known CompletionFlags lt = absurd (omega arith)
+none_below bytes known _ lt = absurd (omega arith)
 
 nonzero_is_least : (bytes : List ℕ) → IsKnown (sqe_opcode bytes) → ¬ HasZeros bytes → IsLeastEntryFault IsFaultOfEntry bytes NonZeroField
 nonzero_is_least bytes known nonzero = record { holds = nonzero; least = none_below bytes known }

@@ -1,6 +1,6 @@
 -- What a line that closes a block, or leads out of one, says of the line that opened it.
 use Rattle.std.proofs.Common.{◌≡◌, ℕ, ◌+◌, ◌<◌, Bool, true, false, cond, ◌||◌, List, [], ◌∷◌, ◌++◌, append_assoc, Some, None, refl, sym, ap, ◌∙◌, ◌⊎◌, inl, inr}
-use Rattle.std.proofs.Math.Bool.{or-false}
+use Rattle.std.proofs.Math.Bool.{or-false, or-true}
 use Rattle.std.proofs.lemmas.Bool.{or_right}
 use Rattle.rc_lang.specs.declared.lines.Block.{Block}
 use Rattle.rc_lang.specs.declared.lines.Block.TheVariants.{InLock, InIf, InElse, InPeek, InArm, InLoop}
@@ -37,8 +37,6 @@ pub record ClosesElse (lines : List Line) (j o : ℕ) : Type 0 where
   pub test : Test
   pub before : o < j
   pub stands : stmt_at lines o ≡ Some (Else opener)
-  pub opener_before : opener < o
-  pub opener_stands : stmt_at lines opener ≡ Some (If test)
   pub turned : blocks_at lines o ≡ blocks_at lines opener ++ InIf opener ∷ []
   pub within : blocks_at lines j ≡ blocks_at lines opener ++ InElse o ∷ []
   pub behind : blocks_at lines (j + 1) ≡ blocks_at lines opener
@@ -60,12 +58,8 @@ pub record ClosesArm (lines : List Line) (j o : ℕ) : Type 0 where
   pub behind : blocks_at lines (j + 1) ≡ blocks_at lines o ++ InPeek o ∷ []
 
 abbrev pub is_loop : Block → Bool
-is_loop (InLock o) = false
-is_loop (InIf o) = false
-is_loop (InElse o) = false
-is_loop (InPeek o) = false
-is_loop (InArm o) = false
 is_loop (InLoop o k) = true
+is_loop _ = false
 
 abbrev pub in_loop : List Block → Bool
 in_loop [] = false
@@ -88,20 +82,13 @@ pub record LeavesLoop (lines : List Line) (j o : ℕ) (releases leaves : Bool) :
   pub before : o < j
   pub stands : stmt_at lines o ≡ Some (Loop number)
   pub within : blocks_at lines j ≡ blocks_at lines o ++ InLoop o number ∷ inner
-  pub lock_between : in_lock inner ≡ releases
-  pub peek_between : in_peek inner ≡ leaves
   pub no_loop_between : in_loop inner ≡ false
   pub lock_outside : in_lock (blocks_at lines o) ≡ cond releases false (in_lock (blocks_at lines j))
   pub locked : releases ≡ true → in_lock (blocks_at lines j) ≡ true
-  pub no_peek_outside : in_peek (blocks_at lines o) ≡ false
   pub peeked : in_peek (blocks_at lines j) ≡ leaves
   pub behind : blocks_at lines (j + 1) ≡ blocks_at lines j
 
 -- ---- the way out
-
-or_true : (a : Bool) → true ≡ (a || true)
-or_true true = refl
-or_true false = refl
 
 -- where no loop was passed
 pub record IsWayPast (way : Way) (bs : List Block) (o : ℕ) (releases leaves : Bool) : Type 0 where
@@ -114,6 +101,13 @@ module _ (o : ℕ) (releases leaves : Bool) where
   behind_more : (b : Block) (bs : List Block) → IsWayOut bs o releases leaves → IsWayOut (b ∷ bs) o releases leaves
   behind_more b bs w = record { number = w.number; outer = b ∷ w.outer; inner = w.inner; split = ap (λ xs. b ∷ xs) w.split; lock = w.lock; peek = w.peek; no_loop = w.no_loop }
 
+  -- one more block on the way
+  passed : (way : Way) (b : Block) (bs : List Block) → IsWayPast (way_past way b) bs o releases leaves → IsWayPast way (b ∷ bs) o releases leaves ⊎ IsWayOut (b ∷ bs) o releases leaves
+  passed way (InLock p) bs h = inl (record { loop = h.loop; lock = h.lock ∙ sym (or-true way.releases); peek = h.peek; no_loop = h.no_loop })
+  passed way (InPeek p) bs h = inl (record { loop = h.loop; lock = h.lock; peek = h.peek ∙ sym (or-true way.leaves); no_loop = h.no_loop })
+  passed way (InLoop p k) bs h = let q : p ≡ o = cc (h.loop) in inr (record { number = k; outer = []; inner = bs; split = ap (λ n. InLoop n k ∷ bs) q; lock = sym h.lock; peek = sym h.peek; no_loop = h.no_loop })
+  passed way _ bs h = inl (record { loop = h.loop; lock = h.lock; peek = h.peek; no_loop = h.no_loop })
+
   pub way_found : (way : Way) (bs : List Block) → way_through way bs ≡ record { loop = Some o; releases = releases; leaves = leaves } → IsWayPast way bs o releases leaves ⊎ IsWayOut bs o releases leaves
   way_found way [] e = inl (record {
     loop = ap (λ (w : Way). w.loop) e;
@@ -121,29 +115,9 @@ module _ (o : ℕ) (releases leaves : Bool) where
     peek = sym (ap (λ (w : Way). w.leaves) e) ∙ sym (or-false way.leaves);
     no_loop = refl;
   })
-  way_found way (InLock p ∷ bs) e = elim (way_found (way_past way (InLock p)) bs e) [
-    | inl h ↦ inl (record { loop = h.loop; lock = h.lock ∙ or_true way.releases; peek = h.peek; no_loop = h.no_loop })
-    | inr w ↦ inr (behind_more (InLock p) bs w)
-  ]
-  way_found way (InIf p ∷ bs) e = elim (way_found way bs e) [
-    | inl h ↦ inl (record { loop = h.loop; lock = h.lock; peek = h.peek; no_loop = h.no_loop })
-    | inr w ↦ inr (behind_more (InIf p) bs w)
-  ]
-  way_found way (InElse p ∷ bs) e = elim (way_found way bs e) [
-    | inl h ↦ inl (record { loop = h.loop; lock = h.lock; peek = h.peek; no_loop = h.no_loop })
-    | inr w ↦ inr (behind_more (InElse p) bs w)
-  ]
-  way_found way (InPeek p ∷ bs) e = elim (way_found (way_past way (InPeek p)) bs e) [
-    | inl h ↦ inl (record { loop = h.loop; lock = h.lock; peek = h.peek ∙ or_true way.leaves; no_loop = h.no_loop })
-    | inr w ↦ inr (behind_more (InPeek p) bs w)
-  ]
-  way_found way (InArm p ∷ bs) e = elim (way_found way bs e) [
-    | inl h ↦ inl (record { loop = h.loop; lock = h.lock; peek = h.peek; no_loop = h.no_loop })
-    | inr w ↦ inr (behind_more (InArm p) bs w)
-  ]
-  way_found way (InLoop p k ∷ bs) e = elim (way_found (way_past way (InLoop p k)) bs e) [
-    | inl h ↦ let q : p ≡ o = cc (h.loop) in inr (record { number = k; outer = []; inner = bs; split = ap (λ n. InLoop n k ∷ bs) q; lock = sym h.lock; peek = sym h.peek; no_loop = h.no_loop })
-    | inr w ↦ inr (behind_more (InLoop p k) bs w)
+  way_found way (b ∷ bs) e = elim (way_found (way_past way b) bs e) [
+    | inl h ↦ passed way b bs h
+    | inr w ↦ inr (behind_more b bs w)
   ]
 
   pub way_out_found : (bs : List Block) → way_out bs ≡ record { loop = Some o; releases = releases; leaves = leaves } → IsWayOut bs o releases leaves
@@ -201,8 +175,6 @@ module _ (lines : List Line) (each : EachNested lines) (j : ℕ) where
       test = h.test;
       before = h.turns.before;
       stands = h.turns.stands;
-      opener_before = h.opens.before;
-      opener_stands = h.opens.stands;
       turned = h.turns.blocks ∙ ap (λ x. x ++ InIf h.opener ∷ []) (sym h.opens.blocks);
       within = innermost_split (blocks_at lines j) (InElse o) n ∙ ap (λ x. x ++ InElse o ∷ []) (sym h.opens.blocks);
       behind = blocks_next lines j (EndIf o) e ∙ sym h.opens.blocks;
@@ -257,12 +229,9 @@ module _ (lines : List Line) (each : EachNested lines) (j : ℕ) where
         before = h.before;
         stands = h.stands;
         within = s;
-        lock_between = w.lock;
-        peek_between = w.peek;
         no_loop_between = w.no_loop;
         lock_outside = or_parts_false (in_lock (blocks_at lines o)) releases (λ t. sym w.lock ∙ lock_in_one lines each j (blocks_at lines o) (InLoop o w.number ∷ w.inner) s t) ∙ ap (λ x. cond releases false x) (sym l);
         locked = λ t. l ∙ or_right (in_lock (blocks_at lines o)) releases t;
-        no_peek_outside = f;
         peeked = p ∙ ap (λ x. x || leaves) f;
         behind = blocks_next lines j (Break o releases leaves) e;
       }

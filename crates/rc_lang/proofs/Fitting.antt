@@ -23,12 +23,8 @@ FitsIn outer (InLoop o k) = in_peek outer ≡ false
 
 pub peek_found : (bs : List Block) → in_peek bs ≡ true → (outer : List Block) × (o : ℕ) × (inner : List Block) × (bs ≡ outer ++ InPeek o ∷ inner)
 peek_found [] e = absurd (cc)
-peek_found (InLock o ∷ bs) e = let h = peek_found bs e in (InLock o ∷ h.0, h.1, h.2, ap (λ xs. InLock o ∷ xs) h.3)
-peek_found (InIf o ∷ bs) e = let h = peek_found bs e in (InIf o ∷ h.0, h.1, h.2, ap (λ xs. InIf o ∷ xs) h.3)
-peek_found (InElse o ∷ bs) e = let h = peek_found bs e in (InElse o ∷ h.0, h.1, h.2, ap (λ xs. InElse o ∷ xs) h.3)
 peek_found (InPeek o ∷ bs) e = ([], o, bs, refl)
-peek_found (InArm o ∷ bs) e = let h = peek_found bs e in (InArm o ∷ h.0, h.1, h.2, ap (λ xs. InArm o ∷ xs) h.3)
-peek_found (InLoop o k ∷ bs) e = let h = peek_found bs e in (InLoop o k ∷ h.0, h.1, h.2, ap (λ xs. InLoop o k ∷ xs) h.3)
+peek_found (b ∷ bs) e = let h = peek_found bs e in (b ∷ h.0, h.1, h.2, ap (λ xs. b ∷ xs) h.3)
 
 module _ (lines : List Line) (each : EachNested lines) where
   nested_in : (j o : ℕ) (s : Stmt) (outer : List Block) → OpensAt lines j o s outer → IsNestedIn outer s
@@ -49,11 +45,7 @@ module _ (lines : List Line) (each : EachNested lines) where
     where
       go : (c : Block) → FitsIn outer c → in_lock bs ≡ false → (is_lock c || in_lock bs) ≡ false
       go (InLock o) f h = absurd (cc (f.0, e))
-      go (InIf o) f h = h
-      go (InElse o) f h = h
-      go (InPeek o) f h = h
-      go (InArm o) f h = h
-      go (InLoop o k) f h = h
+      go _ f h = h
 
   -- in a peek stand neither a lock nor another peek
   none_within_peek : (j : ℕ) (outer bs : List Block) → EachPlaced lines j outer bs → in_peek outer ≡ true → (in_lock bs ≡ false) × (in_peek bs ≡ false)
@@ -62,11 +54,9 @@ module _ (lines : List Line) (each : EachNested lines) where
     where
       go : (c : Block) → FitsIn outer c → (in_lock bs ≡ false) × (in_peek bs ≡ false) → ((is_lock c || in_lock bs) ≡ false) × ((is_peek c || in_peek bs) ≡ false)
       go (InLock o) f h = absurd (cc (f.1, e))
-      go (InIf o) f h = h
-      go (InElse o) f h = h
       go (InPeek o) f h = absurd (cc (f, e))
-      go (InArm o) f h = h
       go (InLoop o k) f h = absurd (cc (f, e))
+      go _ f h = h
 
   -- A block that is open at a place, in these and around those.
   pub placed_at : (j : ℕ) (outer : List Block) (b : Block) (inner : List Block) → blocks_at lines j ≡ outer ++ b ∷ inner → IsPlaced lines j outer b

@@ -4,7 +4,7 @@ use Rattle.rc_lang.specs.declared.lines.Block.{Block}
 use Rattle.rc_lang.specs.declared.lines.Block.TheVariants.{InLock, InIf, InElse, InPeek, InArm, InLoop}
 use Rattle.rc_lang.specs.declared.lines.Line.{Line}
 use Rattle.rc_lang.specs.declared.lines.Stmt.{Stmt}
-use Rattle.rc_lang.specs.declared.lines.Stmt.TheVariants.{Do, Lock, EndLock, If, Else, EndIf, Peek, Case, Other, Nothing, EndArm, EndPeek, Loop, EndLoop, Break}
+use Rattle.rc_lang.specs.declared.lines.Stmt.TheVariants.{Do, EndLock, If, Else, EndIf, Peek, Case, Other, Nothing, EndArm, EndPeek, Loop, EndLoop, Break}
 use Rattle.rc_lang.specs.declared.lines.Test.{Test}
 use Rattle.rc_lang.specs.Nesting.{blocks_at, blocks_behind, directly_in_peek, innermost, IsNestedIn, without_innermost}
 use Rattle.rc_lang.specs.Program.{HasArms, HasEnd, IsLinked, stmt_at}
@@ -47,21 +47,9 @@ pub record IsOpen (lines : List Line) (j : ℕ) : Type 0 where
 
 -- A thread may go behind such a line: it opens no peek and ends no arm.
 abbrev pub leads_open : Stmt → Bool
-leads_open (Do op) = true
-leads_open Lock = true
-leads_open (EndLock o) = true
-leads_open (If test) = true
-leads_open (Else o) = true
-leads_open (EndIf o) = true
 leads_open (Peek x) = false
-leads_open (Case o u) = true
-leads_open (Other o) = true
-leads_open (Nothing o) = true
 leads_open (EndArm o) = false
-leads_open (EndPeek o) = true
-leads_open (Loop k) = true
-leads_open (EndLoop o k) = true
-leads_open (Break o releases leaves) = true
+leads_open _ = true
 
 -- ---- the next place
 
@@ -71,20 +59,14 @@ module _ (lines : List Line) (each : EachNested lines) where
 
   outside_behind : (j : ℕ) (s : Stmt) → leads_open s ≡ true → IsNestedIn (blocks_at lines j) s → directly_in_peek (blocks_behind (blocks_at lines j) j s) ≡ false
   outside_behind j (Do op) g n = n
-  outside_behind j Lock g n = directly_pushed (blocks_at lines j) (InLock j)
   outside_behind j (EndLock o) g n = not_directly (without_innermost (blocks_at lines j)) (popped_fits j (InLock o) n).1
-  outside_behind j (If test) g n = directly_pushed (blocks_at lines j) (InIf j)
-  outside_behind j (Else o) g n = directly_pushed (without_innermost (blocks_at lines j)) (InElse j)
   outside_behind j (EndIf o) g n = elim n [ inl h ↦ popped_fits j (InIf o) h | inr h ↦ popped_fits j (InElse o) h ]
   outside_behind j (Peek x) g n = absurd (cc)
-  outside_behind j (Case o u) g n = directly_pushed (blocks_at lines j) (InArm o)
-  outside_behind j (Other o) g n = directly_pushed (blocks_at lines j) (InArm o)
-  outside_behind j (Nothing o) g n = directly_pushed (blocks_at lines j) (InArm o)
   outside_behind j (EndArm o) g n = absurd (cc)
   outside_behind j (EndPeek o) g n = not_directly (without_innermost (blocks_at lines j)) (popped_fits j (InPeek o) n)
-  outside_behind j (Loop k) g n = directly_pushed (blocks_at lines j) (InLoop j k)
   outside_behind j (EndLoop o k) g n = not_directly (without_innermost (blocks_at lines j)) (popped_fits j (InLoop o k) n)
   outside_behind j (Break o releases leaves) g n = n.0
+  outside_behind j _ g n = rw directly_pushed
 
   pub open_behind : (j : ℕ) (s : Stmt) → stmt_at lines j ≡ Some s → leads_open s ≡ true → IsOpen lines (j + 1)
   open_behind j s e g = record {

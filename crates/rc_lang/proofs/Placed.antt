@@ -7,7 +7,7 @@ use Rattle.rc_lang.specs.declared.lines.Block.{Block}
 use Rattle.rc_lang.specs.declared.lines.Block.TheVariants.{InLock, InIf, InElse, InPeek, InArm, InLoop}
 use Rattle.rc_lang.specs.declared.lines.Line.{Line}
 use Rattle.rc_lang.specs.declared.lines.Stmt.{Stmt}
-use Rattle.rc_lang.specs.declared.lines.Stmt.TheVariants.{Do, Lock, EndLock, If, Else, EndIf, Peek, Case, Other, Nothing, EndArm, EndPeek, Loop, EndLoop, Break}
+use Rattle.rc_lang.specs.declared.lines.Stmt.TheVariants.{Do, Lock, If, Else, EndIf, Peek, Case, Other, Nothing, Loop, Break}
 use Rattle.rc_lang.specs.declared.lines.Test.{Test}
 use Rattle.rc_lang.specs.Nesting.{blocks_at, blocks_behind, innermost, IsNestedIn, without_innermost}
 use Rattle.rc_lang.specs.Program.{stmt_at}
@@ -128,7 +128,6 @@ module _ (lines : List Line) (j : ℕ) (bs : List Block) (here : blocks_at lines
   placed_behind : (s : Stmt) → stmt_at lines j ≡ Some s → IsNestedIn bs s → ArePlaced lines (suc j) (blocks_behind bs j s)
   placed_behind (Do op) e n = kept
   placed_behind Lock e n = pushed (InLock j) (opened Lock e)
-  placed_behind (EndLock o) e n = popped (InLock o) n
   placed_behind (If test) e n = pushed (InIf j) (test, opened (If test) e)
   placed_behind (Else o) e n = turned o e n
   placed_behind (EndIf o) e n = elim n [ inl h ↦ popped (InIf o) h | inr h ↦ popped (InElse o) h ]
@@ -136,11 +135,9 @@ module _ (lines : List Line) (j : ℕ) (bs : List Block) (here : blocks_at lines
   placed_behind (Case o u) e n = armed o n
   placed_behind (Other o) e n = armed o n
   placed_behind (Nothing o) e n = armed o n
-  placed_behind (EndArm o) e n = popped (InArm o) n
-  placed_behind (EndPeek o) e n = popped (InPeek o) n
   placed_behind (Loop k) e n = pushed (InLoop j k) (opened (Loop k) e)
-  placed_behind (EndLoop o k) e n = popped (InLoop o k) n
   placed_behind (Break o releases leaves) e n = kept
+  placed_behind _ e n = popped _ n
 
 module _ (lines : List Line) (each : EachNested lines) where
   -- The blocks that are open at a place are placed.

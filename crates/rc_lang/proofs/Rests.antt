@@ -1,60 +1,33 @@
 -- Where a thread comes to rest: past the lines that are no events.
-use Rattle.std.proofs.Common.{◌≡◌, ℕ, zero, suc, ◌+◌, ◌<◌, ◌≤◌, Bool, true, false, cond, ◌||◌, List, [], ◌∷◌, length, Option, Some, None, refl, sym, ap, ◌∙◌, subst, slice_get, slice_index, inl, inr, arith}
-use Rattle.std.proofs.Math.Bool.{or-false}
-use Rattle.rc_lang.specs.declared.lines.Block.TheVariants.{InIf, InPeek, InArm}
+use Rattle.std.proofs.Common.{◌≡◌, ℕ, zero, suc, ◌+◌, ◌<◌, ◌≤◌, Bool, true, false, List, [], length, Option, Some, None, refl, ap, ◌∙◌, subst, slice_get, slice_index, inl, inr, arith}
+use Rattle.rc_lang.specs.declared.lines.Block.TheVariants.{InPeek}
 use Rattle.rc_lang.specs.declared.lines.Line.{Line}
 use Rattle.rc_lang.specs.declared.lines.Stmt.{Stmt}
-use Rattle.rc_lang.specs.declared.lines.Stmt.TheVariants.{Do, Lock, EndLock, If, Else, EndIf, Peek, Case, Other, Nothing, EndArm, EndPeek, Loop, EndLoop, Break}
-use Rattle.rc_lang.specs.Nesting.{blocks_at, directly_in_peek, in_lock, in_peek, innermost, is_some_peek}
+use Rattle.rc_lang.specs.declared.lines.Stmt.TheVariants.{Else, EndIf, Case, Other, Nothing, EndArm, EndPeek}
+use Rattle.rc_lang.specs.Nesting.{blocks_at, directly_in_peek, innermost, is_some_peek}
 use Rattle.rc_lang.specs.Program.{IsProgram, IsThread, Program, Thread, ends_in, lines_in, lines_of, stmt_at}
-use Rattle.rc_lang.proofs.Along.{lock_next, peek_next, same_lock, same_peek}
 use Rattle.rc_lang.proofs.Closing.{closes_arm, closes_if, turns}
 use Rattle.rc_lang.proofs.Jumps.{IsLaid, IsOpen, arm_leads, arm_open, else_leads, else_open, open_behind, open_start}
-use Rattle.rc_lang.proofs.Lookups.{in_lock_more, nested_here, past_the_end}
+use Rattle.rc_lang.proofs.Lookups.{nested_here, past_the_end}
 
 -- Where a thread goes on from a line that is no event: from an else behind the end of its if, from the end of an if to
 -- the next line, from the end of an arm behind its peek.
 abbrev pub passed_to : List ℕ → ℕ → Option Stmt → Option ℕ
-passed_to ends j None = None
-passed_to ends j (Some (Do op)) = None
-passed_to ends j (Some Lock) = None
-passed_to ends j (Some (EndLock o)) = None
-passed_to ends j (Some (If test)) = None
 passed_to ends j (Some (Else o)) = Some (slice_index ends j + 1)
 passed_to ends j (Some (EndIf o)) = Some (j + 1)
-passed_to ends j (Some (Peek x)) = None
-passed_to ends j (Some (Case o u)) = None
-passed_to ends j (Some (Other o)) = None
-passed_to ends j (Some (Nothing o)) = None
 passed_to ends j (Some (EndArm o)) = Some (slice_index ends o + 1)
-passed_to ends j (Some (EndPeek o)) = None
-passed_to ends j (Some (Loop k)) = None
-passed_to ends j (Some (EndLoop o k)) = None
-passed_to ends j (Some (Break o releases leaves)) = None
-
-abbrev pub ends_arm : Option Stmt → Bool
-ends_arm None = false
-ends_arm (Some (EndArm o)) = true
-ends_arm (Some _) = false
+passed_to ends j _ = None
 
 -- The line is an event, or there is none.
 abbrev pub may_rest : Option Stmt → Bool
-may_rest None = true
-may_rest (Some (Do op)) = true
-may_rest (Some Lock) = true
-may_rest (Some (EndLock o)) = true
-may_rest (Some (If test)) = true
 may_rest (Some (Else o)) = false
 may_rest (Some (EndIf o)) = false
-may_rest (Some (Peek x)) = true
 may_rest (Some (Case o u)) = false
 may_rest (Some (Other o)) = false
 may_rest (Some (Nothing o)) = false
 may_rest (Some (EndArm o)) = false
 may_rest (Some (EndPeek o)) = false
-may_rest (Some (Loop k)) = true
-may_rest (Some (EndLoop o k)) = true
-may_rest (Some (Break o releases leaves)) = true
+may_rest _ = true
 
 -- A thread that stands at this place has an event next, or stands at the end.
 pub record IsRest (lines : List Line) (j : ℕ) : Type 0 where
@@ -63,11 +36,9 @@ pub record IsRest (lines : List Line) (j : ℕ) : Type 0 where
   pub rests : may_rest (stmt_at lines j) ≡ true
 
 -- A thread passes the line at j and goes on to place k.
-pub record Passes (lines : List Line) (j k : ℕ) (ends_one : Bool) : Type 0 where
+pub record Passes (lines : List Line) (j k : ℕ) : Type 0 where
   pub ahead : j < k
   pub goes_on : IsOpen lines k
-  pub lock : in_lock (blocks_at lines k) ≡ in_lock (blocks_at lines j)
-  pub peek : in_peek (blocks_at lines k) ≡ cond ends_one false (in_peek (blocks_at lines j))
 
 -- the first place from j on, past at most n lines, that isn't passed
 abbrev pub or_on : (ℕ → ℕ) → ℕ → Option ℕ → ℕ
@@ -78,21 +49,6 @@ abbrev pub settled : List Line → List ℕ → ℕ → ℕ → ℕ
 settled lines ends zero j = j
 settled lines ends (suc n) j = or_on (λ k. settled lines ends n k) j (passed_to ends j (stmt_at lines j))
 
--- whether an arm ends on the way
-abbrev pub if_on : (ℕ → Bool) → Option ℕ → Bool
-if_on f None = false
-if_on f (Some k) = f k
-
-abbrev pub passes_arm_end : List Line → List ℕ → ℕ → ℕ → Bool
-passes_arm_end lines ends zero j = false
-passes_arm_end lines ends (suc n) j = ends_arm (stmt_at lines j) || if_on (λ k. passes_arm_end lines ends n k) (passed_to ends j (stmt_at lines j))
-
--- A thread that goes to place j comes to place k: the same lock is open there, and no peek where an arm ended.
-pub record ComesTo (lines : List Line) (j k : ℕ) (ends_one : Bool) : Type 0 where
-  pub not_before : j ≤ k
-  pub lock : in_lock (blocks_at lines k) ≡ in_lock (blocks_at lines j)
-  pub peek : in_peek (blocks_at lines k) ≡ cond ends_one false (in_peek (blocks_at lines j))
-
 -- Functions that go on in the same way come to the same.
 or_on_same : (f g : ℕ → ℕ) (j : ℕ) → ((k : ℕ) → f k ≡ g k) → (x : Option ℕ) → or_on f j x ≡ or_on g j x
 or_on_same f g j e None = refl
@@ -102,64 +58,13 @@ pub same_settled : (lines : List Line) (ends : List ℕ) (f : ℕ → ℕ → �
 same_settled lines ends f at_zero at_suc zero j = at_zero j
 same_settled lines ends f at_zero at_suc (suc n) j = at_suc n j ∙ or_on_same (λ k. f n k) (λ k. settled lines ends n k) j (λ k. same_settled lines ends f at_zero at_suc n k) (passed_to ends j (stmt_at lines j))
 
-if_on_same : (f g : ℕ → Bool) → ((k : ℕ) → f k ≡ g k) → (x : Option ℕ) → if_on f x ≡ if_on g x
-if_on_same f g e None = refl
-if_on_same f g e (Some k) = e k
-
-pub same_passes_arm_end : (lines : List Line) (ends : List ℕ) (f : ℕ → ℕ → Bool) → ((j : ℕ) → f zero j ≡ false) → ((n j : ℕ) → f (suc n) j ≡ (ends_arm (stmt_at lines j) || if_on (λ k. f n k) (passed_to ends j (stmt_at lines j)))) → (n j : ℕ) → f n j ≡ passes_arm_end lines ends n j
-same_passes_arm_end lines ends f at_zero at_suc zero j = at_zero j
-same_passes_arm_end lines ends f at_zero at_suc (suc n) j =
-    at_suc n j ∙ ap (λ b. ends_arm (stmt_at lines j) || b) (if_on_same (λ k. f n k) (λ k. passes_arm_end lines ends n k) (λ k. same_passes_arm_end lines ends f at_zero at_suc n k) (passed_to ends j (stmt_at lines j)))
-
 module _ (lines : List Line) (ends : List ℕ) (laid : IsLaid lines ends) where
   -- a line that is passed
-  passes_else : (j o : ℕ) → stmt_at lines j ≡ Some (Else o) → Passes lines j (slice_index ends j + 1) false
-  passes_else j o e =
-      let h = else_leads lines ends laid j o e in
-      let c = turns lines laid.each j o e in
-      record {
-        ahead = h.lands.ahead;
-        goes_on = else_open lines ends laid j o e;
-        lock = ap in_lock h.lands.blocks ∙ sym (same_lock (blocks_at lines o) (InIf o) refl) ∙ sym (ap in_lock c.within);
-        peek = ap in_peek h.lands.blocks ∙ sym (same_peek (blocks_at lines o) (InIf o) refl) ∙ sym (ap in_peek c.within);
-      }
-
-  passes_if : (j o : ℕ) → stmt_at lines j ≡ Some (EndIf o) → Passes lines j (j + 1) false
-  passes_if j o e = record {
-    ahead = omega arith;
-    goes_on = open_behind lines laid.each j (EndIf o) e refl;
-    lock = lock_next lines laid.each j (EndIf o) e;
-    peek = peek_next lines laid.each j (EndIf o) e;
-  }
-
-  passes_arm : (j o : ℕ) → stmt_at lines j ≡ Some (EndArm o) → Passes lines j (slice_index ends o + 1) true
-  passes_arm j o e =
-      let h = arm_leads lines ends laid j o e in
-      let c = closes_arm lines laid.each j o e in
-      record {
-        ahead = h.lands.ahead;
-        goes_on = arm_open lines ends laid j o e;
-        lock = ap in_lock h.lands.blocks ∙ sym (or-false (in_lock (blocks_at lines o))) ∙ sym (in_lock_more (blocks_at lines o) (InPeek o ∷ InArm o ∷ [])) ∙ sym (ap in_lock c.within);
-        peek = ap in_peek h.lands.blocks ∙ nested_here lines laid.each o (Peek c.variable) c.stands;
-      }
-
-  pub passes : (j k : ℕ) (x : Option Stmt) → stmt_at lines j ≡ x → passed_to ends j x ≡ Some k → Passes lines j k (ends_arm x)
-  passes j k None e h = absurd (cc)
-  passes j k (Some (Do op)) e h = absurd (cc)
-  passes j k (Some Lock) e h = absurd (cc)
-  passes j k (Some (EndLock o)) e h = absurd (cc)
-  passes j k (Some (If test)) e h = absurd (cc)
-  passes j k (Some (Else o)) e h = let q : slice_index ends j + 1 ≡ k = cc in subst (λ n. Passes lines j n false) q (passes_else j o e)
-  passes j k (Some (EndIf o)) e h = let q : j + 1 ≡ k = cc in subst (λ n. Passes lines j n false) q (passes_if j o e)
-  passes j k (Some (Peek x)) e h = absurd (cc)
-  passes j k (Some (Case o u)) e h = absurd (cc)
-  passes j k (Some (Other o)) e h = absurd (cc)
-  passes j k (Some (Nothing o)) e h = absurd (cc)
-  passes j k (Some (EndArm o)) e h = let q : slice_index ends o + 1 ≡ k = cc in subst (λ n. Passes lines j n true) q (passes_arm j o e)
-  passes j k (Some (EndPeek o)) e h = absurd (cc)
-  passes j k (Some (Loop n)) e h = absurd (cc)
-  passes j k (Some (EndLoop o n)) e h = absurd (cc)
-  passes j k (Some (Break o releases leaves)) e h = absurd (cc)
+  pub passes : (j k : ℕ) (x : Option Stmt) → stmt_at lines j ≡ x → passed_to ends j x ≡ Some k → Passes lines j k
+  passes j k (Some (Else o)) e h = let q : slice_index ends j + 1 ≡ k = cc in subst (Passes lines j) q (record { ahead = (else_leads lines ends laid j o e).lands.ahead; goes_on = else_open lines ends laid j o e })
+  passes j k (Some (EndIf o)) e h = let q : j + 1 ≡ k = cc in subst (Passes lines j) q (record { ahead = omega arith; goes_on = open_behind lines laid.each j (EndIf o) e refl })
+  passes j k (Some (EndArm o)) e h = let q : slice_index ends o + 1 ≡ k = cc in subst (Passes lines j) q (record { ahead = (arm_leads lines ends laid j o e).lands.ahead; goes_on = arm_open lines ends laid j o e })
+  passes j k _ e h = absurd (cc)
 
   -- what stands directly in a peek is none that a thread goes to
   not_here : (j o : ℕ) → IsOpen lines j → innermost (blocks_at lines j) ≡ Some (InPeek o) → ⊥
@@ -167,22 +72,14 @@ module _ (lines : List Line) (ends : List ℕ) (laid : IsLaid lines ends) where
 
   -- a line that a thread goes to is an event, or passed
   pub rests_here : (j : ℕ) (x : Option Stmt) → stmt_at lines j ≡ x → IsOpen lines j → passed_to ends j x ≡ None → may_rest x ≡ true
-  rests_here j None e o n = refl
-  rests_here j (Some (Do op)) e o n = refl
-  rests_here j (Some Lock) e o n = refl
-  rests_here j (Some (EndLock p)) e o n = refl
-  rests_here j (Some (If test)) e o n = refl
   rests_here j (Some (Else p)) e o n = absurd (cc)
   rests_here j (Some (EndIf p)) e o n = absurd (cc)
-  rests_here j (Some (Peek x)) e o n = refl
   rests_here j (Some (Case p u)) e o n = absurd (not_here j p o (nested_here lines laid.each j (Case p u) e))
   rests_here j (Some (Other p)) e o n = absurd (not_here j p o (nested_here lines laid.each j (Other p) e))
   rests_here j (Some (Nothing p)) e o n = absurd (not_here j p o (nested_here lines laid.each j (Nothing p) e))
   rests_here j (Some (EndArm p)) e o n = absurd (cc)
   rests_here j (Some (EndPeek p)) e o n = absurd (not_here j p o (nested_here lines laid.each j (EndPeek p) e))
-  rests_here j (Some (Loop k)) e o n = refl
-  rests_here j (Some (EndLoop p k)) e o n = refl
-  rests_here j (Some (Break p releases leaves)) e o n = refl
+  rests_here j _ e o n = refl
 
   rest : (j : ℕ) → IsOpen lines j → passed_to ends j (stmt_at lines j) ≡ None → IsRest lines j
   rest j o n = record { within = o.within; outside = o.outside; rests = rests_here j (stmt_at lines j) refl o n }
@@ -196,33 +93,6 @@ module _ (lines : List Line) (ends : List ℕ) (laid : IsLaid lines ends) where
       go on None e = rest j o e
       go on (Some k) e = let p = passes j k (stmt_at lines j) refl e in on k p.ahead p.goes_on
 
-  pub comes_to : (n j : ℕ) → ComesTo lines j (settled lines ends n j) (passes_arm_end lines ends n j)
-  comes_to zero j = record { not_before = omega arith; lock = refl; peek = refl }
-  comes_to (suc n) j = go (λ k. comes_to n k) (stmt_at lines j) refl (passed_to ends j (stmt_at lines j)) refl
-    where
-      both : (a b c : Bool) → cond b false (cond a false c) ≡ cond (a || b) false c
-      both true true c = refl
-      both true false c = refl
-      both false b c = refl
-
-      nothing_ends : (x : Option Stmt) → passed_to ends j x ≡ None → (ends_arm x || false) ≡ false
-      nothing_ends None e = refl
-      nothing_ends (Some (EndArm o)) e = absurd (cc)
-      nothing_ends (Some _) e = refl
-
-      go : ((k : ℕ) → ComesTo lines k (settled lines ends n k) (passes_arm_end lines ends n k)) → (s : Option Stmt) → stmt_at lines j ≡ s → (x : Option ℕ) → passed_to ends j s ≡ x → ComesTo lines j (or_on (λ k. settled lines ends n k) j x) (ends_arm s || if_on (λ k. passes_arm_end lines ends n k) x)
-      go on s e None h = let f = nothing_ends s h in record { not_before = omega arith; lock = refl; peek = ap (λ b. cond b false (in_peek (blocks_at lines j))) (sym f) }
-      go on s e (Some k) h =
-          let p = passes j k s e h in
-          let c = on k in
-          let lt : j < k = p.ahead in
-          let le : k ≤ settled lines ends n k = c.not_before in
-          record {
-            not_before = omega arith;
-            lock = c.lock ∙ p.lock;
-            peek = c.peek ∙ ap (λ b. cond (passes_arm_end lines ends n k) false b) p.peek ∙ both (ends_arm s) (passes_arm_end lines ends n k) (in_peek (blocks_at lines j));
-          }
-
   -- No line is passed at the start.
   pub start_rests : IsRest lines 0
   start_rests = rest 0 (open_start lines laid.each) (stands (stmt_at lines 0) refl)
@@ -231,22 +101,10 @@ module _ (lines : List Line) (ends : List ℕ) (laid : IsLaid lines ends) where
       before_none o lt = omega arith
 
       stands : (x : Option Stmt) → stmt_at lines 0 ≡ x → passed_to ends 0 x ≡ None
-      stands None e = refl
-      stands (Some (Do op)) e = refl
-      stands (Some Lock) e = refl
-      stands (Some (EndLock o)) e = refl
-      stands (Some (If test)) e = refl
       stands (Some (Else o)) e = absurd (before_none o (turns lines laid.each 0 o e).before)
       stands (Some (EndIf o)) e = elim (closes_if lines laid.each 0 o e) [ inl c ↦ absurd (before_none o c.1.before) | inr c ↦ absurd (before_none o c.before) ]
-      stands (Some (Peek x)) e = refl
-      stands (Some (Case o u)) e = refl
-      stands (Some (Other o)) e = refl
-      stands (Some (Nothing o)) e = refl
       stands (Some (EndArm o)) e = absurd (before_none o (closes_arm lines laid.each 0 o e).before)
-      stands (Some (EndPeek o)) e = refl
-      stands (Some (Loop k)) e = refl
-      stands (Some (EndLoop o k)) e = refl
-      stands (Some (Break o releases leaves)) e = refl
+      stands _ e = refl
 
 -- The lines of a thread of a made program are laid so.
 pub laid_in : (program : Program) → IsProgram program → (i : ℕ) → IsLaid (lines_of program i) (ends_in (slice_get program.threads i))

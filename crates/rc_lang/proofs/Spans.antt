@@ -15,21 +15,15 @@ use Rattle.rc_lang.proofs.Lookups.{EachNested, blocks_past, blocks_suc, get_new,
 
 -- the block that a line at place j opens
 abbrev pub opened_by : ℕ → Stmt → Option Block
-opened_by j (Do op) = None
 opened_by j Lock = Some (InLock j)
-opened_by j (EndLock o) = None
 opened_by j (If test) = Some (InIf j)
 opened_by j (Else o) = Some (InElse j)
-opened_by j (EndIf o) = None
 opened_by j (Peek x) = Some (InPeek j)
 opened_by j (Case o u) = Some (InArm o)
 opened_by j (Other o) = Some (InArm o)
 opened_by j (Nothing o) = Some (InArm o)
-opened_by j (EndArm o) = None
-opened_by j (EndPeek o) = None
 opened_by j (Loop k) = Some (InLoop j k)
-opened_by j (EndLoop o k) = None
-opened_by j (Break o releases leaves) = None
+opened_by j _ = None
 
 get_taken : {A : Type 0} (xs : List A) (n d : ℕ) (x : A) → slice_get (take n xs) d ≡ Some x → slice_get xs d ≡ Some x
 get_taken xs zero d x e = absurd (cc)
@@ -47,41 +41,22 @@ module _ (bs : List Block) (j d : ℕ) (b : Block) where
 
   pub open_before : (s : Stmt) → slice_get (blocks_behind bs j s) d ≡ Some b → (slice_get bs d ≡ Some b) ⊎ (opened_by j s ≡ Some b)
   open_before (Do op) e = inl e
-  open_before Lock e = old_or_new (InLock j) e
   open_before (EndLock o) e = inl (older (length bs - 1) e)
-  open_before (If test) e = old_or_new (InIf j) e
   open_before (Else o) e = elim (get_push (without_innermost bs) (InElse j) d b e) [ inl h ↦ inl (older (length bs - 1) h) | inr h ↦ inr (ap Some h.1) ]
   open_before (EndIf o) e = inl (older (length bs - 1) e)
-  open_before (Peek x) e = old_or_new (InPeek j) e
-  open_before (Case o u) e = old_or_new (InArm o) e
-  open_before (Other o) e = old_or_new (InArm o) e
-  open_before (Nothing o) e = old_or_new (InArm o) e
   open_before (EndArm o) e = inl (older (length bs - 1) e)
   open_before (EndPeek o) e = inl (older (length bs - 1) e)
-  open_before (Loop k) e = old_or_new (InLoop j k) e
   open_before (EndLoop o k) e = inl (older (length bs - 1) e)
   open_before (Break o releases leaves) e = inl e
+  open_before _ e = old_or_new _ e
 
 -- Only the line at o opens the block.
 abbrev pub OpenedAt : ℕ → Block → Type 0
 OpenedAt o b = (j : ℕ) (s : Stmt) → opened_by j s ≡ Some b → j ≡ o
 
 pub peek_opened_at : (o : ℕ) → OpenedAt o (InPeek o)
-peek_opened_at o j (Do op) e = absurd (cc)
-peek_opened_at o j Lock e = absurd (cc)
-peek_opened_at o j (EndLock p) e = absurd (cc)
-peek_opened_at o j (If test) e = absurd (cc)
-peek_opened_at o j (Else p) e = absurd (cc)
-peek_opened_at o j (EndIf p) e = absurd (cc)
 peek_opened_at o j (Peek x) e = cc
-peek_opened_at o j (Case p u) e = absurd (cc)
-peek_opened_at o j (Other p) e = absurd (cc)
-peek_opened_at o j (Nothing p) e = absurd (cc)
-peek_opened_at o j (EndArm p) e = absurd (cc)
-peek_opened_at o j (EndPeek p) e = absurd (cc)
-peek_opened_at o j (Loop k) e = absurd (cc)
-peek_opened_at o j (EndLoop p k) e = absurd (cc)
-peek_opened_at o j (Break p releases leaves) e = absurd (cc)
+peek_opened_at o j _ e = absurd (cc)
 
 module _ (lines : List Line) (o : ℕ) (b : Block) (opened : OpenedAt o b) where
   -- A block that is open at a place was open at each place from behind the line that opened it.

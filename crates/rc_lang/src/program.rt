@@ -35,7 +35,7 @@ pub struct Buffer {
 }
 
 /// What a token's request is, and what it owns while it is in flight.
-#[derive(Clone, Copy)]
+#[derive(Clone, Copy, PartialEq)]
 pub enum TokenKind {
     /// A read into the buffer with this number; all of its shares.
     Read(usize),

@@ -1,7 +1,7 @@
 //! What a program asks of the kernel.
 
 /// What a request asks for (`io_uring_enter(2)`, the operation codes).
-#[derive(Clone, Copy)]
+#[derive(Clone, Copy, PartialEq)]
 pub enum Kind {
     /// Nothing at all: `IORING_OP_NOP`.
     Nop,
@@ -16,7 +16,7 @@ pub enum Kind {
 /// A request, from `io_uring_sqe_set_data64(3)` until its completion is reaped.
 ///
 /// What a kind doesn't use is 0, and the file number of a nop is -1 (`io_uring_prep_nop(3)`).
-#[derive(Clone, Copy)]
+#[derive(Clone, Copy, PartialEq)]
 pub struct Request {
     /// The number of the request among all that the program made, from 1.
     pub serial: u64,

@@ -5,20 +5,18 @@ use Rattle.std.specs.Option.{is_some}
 use Rattle.rc_entry.specs.declared.Entry.{Entry}
 use Rattle.rc_entry.specs.declared.Cqe.{Cqe}
 use Rattle.rc_entry.proofs.OneSpelling.{same-entry}
-use Rattle.rc_ring.specs.Rings.{empty_rings, Rings, OpenSlot, NoSlot, VacantSlot, PreparedSlot, RingCall, GetSqeCall, PrepCall, SetData64Call, AbandonCall, ParkCall, ResumeCall, SubmitCall, PostCall, CqeSeenCall, after_call, Prepares, slot_bytes, bytes_with_data, slot_count, is_prepared_slot, place_if_open}
+use Rattle.rc_ring.specs.Rings.{empty_rings, Rings, OpenSlot, NoSlot, VacantSlot, PreparedSlot, RingCall, PrepCall, SetData64Call, ParkCall, ResumeCall, SubmitCall, PostCall, CqeSeenCall, after_call, Prepares, slot_bytes, bytes_with_data, slot_count, is_prepared_slot, place_if_open}
 use Rattle.rc_ring.specs.Alike.{AreAlike, after_calls, call_answers}
 
 -- a call
 after_one : (call : RingCall) (a b : Rings) → AreAlike a b → AreAlike (after_call call a) (after_call call b)
-after_one GetSqeCall a b h = record { entries = h.entries; completion_entries = h.completion_entries; queued = h.queued; completions = h.completions; slot = refl; parked = h.parked }
-after_one (PrepCall bytes) a b h = record { entries = h.entries; completion_entries = h.completion_entries; queued = h.queued; completions = h.completions; slot = refl; parked = h.parked }
 after_one (SetData64Call user_data) a b h = record { entries = h.entries; completion_entries = h.completion_entries; queued = λ i. h.queued i ++ bytes_with_data user_data (slot_bytes (h.slot i)) ∷ []; completions = h.completions; slot = refl; parked = h.parked }
-after_one AbandonCall a b h = record { entries = h.entries; completion_entries = h.completion_entries; queued = h.queued; completions = h.completions; slot = refl; parked = h.parked }
 after_one ParkCall a b h = record { entries = h.entries; completion_entries = h.completion_entries; queued = h.queued; completions = h.completions; slot = h.slot; parked = refl }
 after_one ResumeCall a b h = record { entries = h.entries; completion_entries = h.completion_entries; queued = h.queued; completions = h.completions; slot = h.slot; parked = refl }
 after_one (SubmitCall count) a b h = record { entries = h.entries; completion_entries = h.completion_entries; queued = ap (λ (xs : List (List ℕ)). drop count xs) h.queued; completions = h.completions; slot = h.slot; parked = h.parked }
 after_one (PostCall cqe) a b h = record { entries = h.entries; completion_entries = h.completion_entries; queued = h.queued; completions = ap (λ (cs : List Cqe). cs ++ cqe ∷ []) h.completions; slot = h.slot; parked = h.parked }
 after_one CqeSeenCall a b h = record { entries = h.entries; completion_entries = h.completion_entries; queued = h.queued; completions = ap (λ (cs : List Cqe). drop 1 cs) h.completions; slot = h.slot; parked = h.parked }
+after_one _ a b h = record { entries = h.entries; completion_entries = h.completion_entries; queued = h.queued; completions = h.completions; slot = refl; parked = h.parked }
 
 pub alike_after : (call : RingCall) (a b c d : Rings) → AreAlike a b → c ≡ after_call call a → d ≡ after_call call b → AreAlike c d
 alike_after call a b c d h left right =

@@ -1,5 +1,5 @@
 -- The lists of a `Ring`, as its bytes and ring lists change.
-use Rattle.std.proofs.Common.{◌≡◌, ◌≢◌, ℕ, suc, ◌+◌, ◌*◌, ◌%◌, ◌<◌, ℤ, Bool, true, List, [], ◌∷◌, ◌++◌, length, drop, get_or, set, map, Some, Option, option_map, sym, refl, ap, ap₂, subst, ◌∙◌, arith, get_or-set_same, get_or-set_other, length-set, length-drop, ◌^◌, ◌≤◌, false}
+use Rattle.std.proofs.Common.{◌≡◌, ◌≢◌, ℕ, suc, ◌+◌, ◌*◌, ◌%◌, ◌<◌, ℤ, Bool, true, List, [], ◌∷◌, ◌++◌, length, drop, get_or, set, map, Some, Option, option_map, sym, refl, ap, subst, ◌∙◌, arith, get_or-set_same, get_or-set_other, length-set, length-drop, ◌^◌, ◌≤◌, false, ap₂}
 use Rattle.std.specs.Prelude.{slice_get, All, Contains}
 use Rattle.std.specs.Int.{IsPowerOfTwo}
 use Rattle.std.proofs.lemmas.List.{length-map, map_push, drop-map, get_or_default, get_or-drop}
@@ -52,11 +52,6 @@ slot_count-open : (place there : ℕ) (slot : OpenSlot) → place_if_open place 
 slot_count-open place there NoSlot h = cc
 slot_count-open place there VacantSlot h = (refl, cc)
 slot_count-open place there (PreparedSlot bytes) h = (refl, cc)
-
-place_if_open-one : (place : ℕ) (slot : OpenSlot) → slot_count slot ≡ 1 → place_if_open place slot ≡ Some place
-place_if_open-one place NoSlot h = cc
-place_if_open-one place VacantSlot h = refl
-place_if_open-one place (PreparedSlot bytes) h = refl
 
 slot_bytes-slot_of : (bytes : List ℕ) (stage : Stage) → is_prepared_slot (slot_of bytes stage) ≡ true → slot_bytes (slot_of bytes stage) ≡ bytes
 slot_bytes-slot_of bytes Closed h = cc

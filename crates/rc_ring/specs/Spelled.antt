@@ -1,15 +1,8 @@
--- That bytes spell entries (io_uring_enter(2)), of lists and of the rings.
-use Rattle.std.specs.Prelude.{ℕ, List, [], ◌∷◌, All}
+-- That bytes spell entries (io_uring_enter(2)), in a slot and in the rings.
+use Rattle.std.specs.Prelude.{ℕ, List, [], All}
 use Rattle.rc_entry.specs.declared.Entry.{Entry}
 use Rattle.rc_entry.specs.Spelling.{SpellsEntry}
 use Rattle.rc_ring.specs.Rings.{Rings, OpenSlot, NoSlot, VacantSlot, PreparedSlot}
-
--- the entries and the bytes are as many, and each bytes spell the entry that stands where they do
-abbrev pub AreSpelled : List Entry → List (List ℕ) → Type 0
-AreSpelled [] [] = Unit {0}
-AreSpelled [] (bytes ∷ spellings) = ⊥
-AreSpelled (entry ∷ entries) [] = ⊥
-AreSpelled (entry ∷ entries) (bytes ∷ spellings) = SpellsEntry entry bytes × AreSpelled entries spellings
 
 -- the bytes spell some entry
 abbrev pub IsSpelling : List ℕ → Type 0

@@ -283,20 +283,15 @@ module _ (P : Program) (thread : Thread) (lines : List Line) (known more : List 
   -- a stronger labelling asks for less
   pub premises_grow : (s : Stmt) → Less (premises P thread lines known s) (premises P thread lines more s)
   premises_grow (Do op) = here_grows (λ b m. op_premises P b m op) (asks_less P op)
-  premises_grow Lock = tt
   premises_grow (EndLock o) = here_grows (λ b m. may_release P m) (release_less P)
   premises_grow (If test) = here_grows (λ b m. test_premises m test) (test_less test)
-  premises_grow (Else o) = tt
   premises_grow (EndIf o) = join_less (here lines known ∷ skipped lines known o ∷ []) (here lines more ∷ skipped lines more o ∷ []) (g (length lines), (g o, tt))
   premises_grow (Peek x) = here_grows (λ b m. peek_premises m) peek_less
-  premises_grow (Case o u) = tt
-  premises_grow (Other o) = tt
-  premises_grow (Nothing o) = tt
-  premises_grow (EndArm o) = tt
   premises_grow (EndPeek o) = join_less _ _ (arms_grow lines known more o g)
   premises_grow (Loop k) = here_grows (λ b m. may_loop P 13 (items_at thread.lists k) b m) (loop_less P 13 (items_at thread.lists k))
   premises_grow (EndLoop o k) = here_grows (λ b m. may_loop P 14 (items_at thread.lists k) b m) (loop_less P 14 (items_at thread.lists k))
   premises_grow (Break o r l) = here_grows (λ b m. may_break P r m) (break_less P r)
+  premises_grow _ = tt
 
   -- and gives stronger states
   pub befores_grow : (s : Stmt) → Meets (premises P thread lines known s) → EachWeaker (befores P thread lines known s) (befores P thread lines more s)

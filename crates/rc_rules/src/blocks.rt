@@ -126,12 +126,7 @@ pub fn top_mode(program: &Program, items: &Items, mode: Mode) -> Mode
 pub fn same_peeked(a: Peeked, b: Peeked) -> bool
     ensures { result ≡ states.same_peeked a b }
 {
-    match (a, b) {
-        (Peeked::Unseen, Peeked::Unseen) => true,
-        (Peeked::Sees(a), Peeked::Sees(b)) => a == b,
-        (Peeked::SeesOther, Peeked::SeesOther) => true,
-        _ => false,
-    }
+    a == b
 }
 
 /// What is known of both, where their slots are at one stage.

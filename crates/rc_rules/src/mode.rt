@@ -6,7 +6,7 @@ ghost use Rattle.rc_rules.specs.Rules as spec;
 use rc_lang::program::TokenKind;
 
 /// The submission entry that `io_uring_get_sqe(3)` opened last.
-#[derive(Clone, Copy)]
+#[derive(Clone, Copy, PartialEq)]
 pub enum Slot {
     /// None is open.
     Closed,
@@ -17,7 +17,7 @@ pub enum Slot {
 }
 
 /// The front completion, as `io_uring_peek_cqe(3)` showed it.
-#[derive(Clone, Copy)]
+#[derive(Clone, Copy, PartialEq)]
 pub enum Peeked {
     /// It wasn't looked at, or there was none.
     Unseen,
@@ -43,29 +43,11 @@ pub enum Mode {
     Locked(Inside),
 }
 
-/// The same kind of request, with the same shares of one buffer.
-pub fn same_kind(a: TokenKind, b: TokenKind) -> bool
-    ensures { result ≡ spec.same_kind a b }
-{
-    match (a, b) {
-        (TokenKind::Read(a), TokenKind::Read(b)) => a == b,
-        (TokenKind::Write(a, k), TokenKind::Write(b, l)) => a == b && k == l,
-        (TokenKind::Fsync, TokenKind::Fsync) => true,
-        (TokenKind::Nop, TokenKind::Nop) => true,
-        _ => false,
-    }
-}
-
 /// The same stage, with the same kind of request.
 pub fn same_slot(a: Slot, b: Slot) -> bool
     ensures { result ≡ spec.same_slot a b }
 {
-    match (a, b) {
-        (Slot::Closed, Slot::Closed) => true,
-        (Slot::Vacant, Slot::Vacant) => true,
-        (Slot::Prepared(a), Slot::Prepared(b)) => same_kind(a, b),
-        _ => false,
-    }
+    a == b
 }
 
 pub fn has_kind(slot: Slot) -> bool

@@ -1,7 +1,7 @@
 -- Queued requests that become pending, one after another.
-use Rattle.std.proofs.Common.{◌≡◌, ℕ, zero, suc, ◌+◌, ◌<◌, List, [], ◌∷◌, ◌++◌, drop, take, map, Option, Some, slice_get, vec_len, vec_capacity, sym, ap, subst, ◌∙◌, arith, add-zero}
+use Rattle.std.proofs.Common.{◌≡◌, ℕ, zero, suc, ◌+◌, ◌<◌, List, [], ◌∷◌, ◌++◌, drop, take, map, Option, Some, slice_get, vec_len, vec_capacity, sym, ap, subst, ◌∙◌, arith}
 use Rattle.std.specs.Global.{Vec}
-use Rattle.std.proofs.lemmas.List.{drop-take, map-append}
+use Rattle.std.proofs.lemmas.List.{map-append}
 use Rattle.rc_lang.specs.declared.request.Request.{Request}
 use Rattle.rc_world.specs.Machine.{taken_bytes, without_taken}
 use Rattle.rc_world.specs.WorldParts.{begun_buffers, begun_pending, view_bytes}
@@ -20,9 +20,6 @@ drop_at zero xs i r lt e = absurd (omega arith)
 drop_at (suc n) [] i r lt e = absurd (cc)
 drop_at (suc n) (x ∷ xs) zero r lt e = let same : x ≡ r = cc in ap (λ y. y ∷ take n xs) same
 drop_at (suc n) (x ∷ xs) (suc i) r lt e = drop_at n xs i r (omega arith) e
-
-pub drop_taken : (n : ℕ) (xs : List Request) → drop n (take n xs) ≡ []
-drop_taken n xs = ap (λ m. drop n (take m xs)) (sym (add-zero n)) ∙ drop-take n 0 xs
 
 pub begun_more : (pending0 : Vec PendingPart) (buffers0 : Vec (Option (Vec ℕ))) (xs : List Request) (n i : ℕ) (pending : Vec PendingPart) (buffers : Vec (Option (Vec ℕ)))
     → IsBegun pending0 buffers0 (take n xs) i pending buffers → (r : Request) → i < n → slice_get xs i ≡ Some r
@@ -50,12 +47,3 @@ begun_more pending0 buffers0 xs n i pending buffers h r lt at bytes more less it
       len = omega arith;
       capacity = capacity ∙ h.capacity;
     })
-
-pub begun_all : (pending0 : Vec PendingPart) (buffers0 : Vec (Option (Vec ℕ))) (xs : List Request) (n : ℕ) (pending : Vec PendingPart) (buffers : Vec (Option (Vec ℕ)))
-    → IsBegun pending0 buffers0 (take n xs) n pending buffers → map pending_of pending.items ≡ begun_pending (map pending_of pending0.items) (map view_bytes buffers0.items) (take n xs)
-begun_all pending0 buffers0 xs n pending buffers h =
-    sym (ap (begun_pending (map pending_of pending.items) (map view_bytes buffers.items)) (drop_taken n xs)) ∙ h.pending_is
-
-pub taken_all : (pending0 : Vec PendingPart) (buffers0 : Vec (Option (Vec ℕ))) (xs : List Request) (n : ℕ) (pending : Vec PendingPart) (buffers : Vec (Option (Vec ℕ)))
-    → IsBegun pending0 buffers0 (take n xs) n pending buffers → map view_bytes buffers.items ≡ begun_buffers (map view_bytes buffers0.items) (take n xs)
-taken_all pending0 buffers0 xs n pending buffers h = sym (ap (begun_buffers (map view_bytes buffers.items)) (drop_taken n xs)) ∙ h.buffers_is

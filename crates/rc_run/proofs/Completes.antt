@@ -16,10 +16,7 @@ use Rattle.rc_world.specs.WorldParts.{view_bytes}
 use Rattle.rc_world.proofs.Memory.{read_has_buffer}
 use Rattle.rc_run.specs.declared.machine.Pending.{Pending as PendingPart}
 use Rattle.rc_run.specs.Machine.{brought, completed_at, completed_by, given_to, pending_of}
-
-some_if : {A : Type 0} (b : Bool) (x : Option A) → IsSome (if b then x else None) → (b ≡ true) × IsSome x
-some_if true x h = (refl, h)
-some_if false x h = absurd (cc)
+use Rattle.rc_world.proofs.Kernel.{if_some}
 
 pub view_at : (items : List PendingPart) (n : ℕ) (r : PendingPart) → n < length items → r ≡ get_or items n r → slice_get (map pending_of items) n ≡ Some (pending_of r)
 view_at items n r lt e = slice_get-map pending_of items n ∙ ap (option_map pending_of) (slice_get-get_or items n r lt ∙ ap Some (sym e))
@@ -37,7 +34,7 @@ module _ (w : World) (k : IsKept w) (n : ℕ) (res : ℤ) (bytes : List ℕ) (p 
 
   allowed : (may_complete p.request res ≡ true) × (nat_eq (length (brought p.request bytes)) (bytes_brought p.request) ≡ true) × IsSome (kernel_event w n res p.request (given_back w p.request (brought p.request bytes) p.bytes))
   allowed =
-      let h = some_if (may_complete p.request res && nat_eq (length (brought p.request bytes)) (bytes_brought p.request)) _ (subst IsSome step_is some) in
+      let h = if_some (may_complete p.request res && nat_eq (length (brought p.request bytes)) (bytes_brought p.request)) _ (subst IsSome step_is some) in
       let b = and_parts _ _ h.0 in
       (b.0, b.1, h.1)
 

@@ -1,5 +1,5 @@
 -- Requests behind entries, and their serial numbers in the table.
-use Rattle.std.proofs.Common.{◌≡◌, ◌≢◌, ℕ, zero, suc, ◌+◌, ◌-◌, ◌*◌, ◌/◌, ◌%◌, ◌<◌, ℤ, negsuc, List, [], ◌∷◌, ◌++◌, map, drop, Some, None, false, if◌then◌else◌, nat_eq, slice_get, option_map, Result, Ok, Err, ◌↔◌, refl, sym, ap, subst, ◌∙◌, arith, eq-eqb}
+use Rattle.std.proofs.Common.{◌≡◌, ◌≢◌, ℕ, zero, suc, ◌+◌, ◌-◌, ℤ, negsuc, List, [], ◌∷◌, ◌++◌, map, drop, Some, None, false, if◌then◌else◌, nat_eq, slice_get, option_map, Result, Ok, Err, ◌↔◌, refl, sym, ap, subst, ◌∙◌, arith, eq-eqb}
 use Rattle.std.proofs.lemmas.Bool.Decides.{nat_tests}
 use Rattle.std.proofs.lemmas.List.{map-append}
 use Rattle.std.proofs.lemmas.Option.{same_Some, slice_get-map}
@@ -12,7 +12,7 @@ use Rattle.rc_ring.specs.Rings.{NoSlot, OpenSlot, PreparedSlot, Rings, SubmitCal
 use Rattle.rc_ring.specs.Spelled.{HoldEntries, IsSpelledSlot, IsSpelling}
 use Rattle.rc_run.specs.declared.request_ring.Serial.{Serial}
 use Rattle.rc_run.specs.Held.{AreDistinct, IsHeld, ring_of}
-use Rattle.rc_run.specs.Requests.{address_of, after_data, buffer_at, data_of, kind_of_opcode, request_in, request_of, serial_of, slot_in}
+use Rattle.rc_run.specs.Requests.{after_data, buffer_at, data_of, kind_of_opcode, request_in, request_of, serial_of, slot_in}
 use Rattle.rc_world.specs.declared.world.Slot.TheVariants.{Closed, Prepared}
 
 -- ---- the fields of an entry
@@ -48,13 +48,6 @@ pub request_with_data : (none serials : List Serial) (e : Entry) (u : ℕ) (byte
 request_with_data none serials e u bytes more h m =
     request_spelled serials (entry_with_data u e) more m ∙ with_data none serials e u
     ∙ ap (λ (q : Request). record q { serial = serial_of u serials; user_data = u }) (sym (request_spelled none e bytes h))
-
--- a buffer's address is that of the buffer
-pub buffer_back : (b : ℕ) → b < 4294967296 → buffer_at (address_of b) ≡ b
-buffer_back b lt =
-    let q : 4096 * (b + 1) / 4096 ≡ b + 1 = omega arith in
-    let r : (4096 * (b + 1) / 4096 - 1) ≡ b = omega arith in
-    ap (λ n. n % 4294967296) r ∙ (let s : b % 4294967296 ≡ b = omega arith in s)
 
 -- ---- serial numbers
 

@@ -24,10 +24,8 @@ buffer_small P made b = elim (cases_lt b (length P.buffers)) [
 ]
 
 read_kind : (k : Kind) → is_read k ≡ true → k ≡ Read
-read_kind Nop e = absurd (cc)
-read_kind Fsync e = absurd (cc)
 read_kind Read e = refl
-read_kind Write e = absurd (cc)
+read_kind _ e = absurd (cc)
 
 module _ (w : World) (c : IsCalm w) (k : ℕ) (p : Pending) (here : slice_get w.pending k ≡ Some p) where
   held : IsKeptPending w.program w.pending p

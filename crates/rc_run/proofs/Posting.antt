@@ -1,21 +1,19 @@
 -- Jobs that are taken, and their results.
-use Rattle.std.proofs.Common.{◌≡◌, ◌≢◌, ℕ, ℤ, zero, suc, ◌%◌, ◌<◌, ◌≤◌, inr, Bool, true, false, ◌||◌, not, cond, if◌then◌else◌, List, [], ◌∷◌, ◌++◌, filter, length, map, Option, Some, None, IsSome, is_some, option_map, slice_get, refl, sym, ap, subst, ◌∙◌, arith}
+use Rattle.std.proofs.Common.{◌≡◌, ◌≢◌, ℕ, ℤ, zero, suc, ◌%◌, ◌<◌, ◌≤◌, inr, Bool, true, false, cond, if◌then◌else◌, List, [], ◌∷◌, ◌++◌, filter, length, map, Option, Some, None, option_map, slice_get, refl, sym, ap, subst, ◌∙◌, arith}
 use Rattle.std.proofs.Math.Nat.{mod-lt}
-use Rattle.std.proofs.lemmas.Bool.{and_parts}
-use Rattle.std.proofs.lemmas.List.{length-map, length-take-le, nil_from_length}
+use Rattle.std.proofs.lemmas.List.{length-map, nil_from_length}
 use Rattle.std.proofs.lemmas.Option.{same_Some, slice_get-map}
 use Rattle.rc_lang.specs.declared.request.Kind.{Kind}
 use Rattle.rc_lang.specs.declared.request.Kind.TheVariants.{Nop, Fsync, Read, Write}
 use Rattle.rc_lang.specs.declared.request.Request.{Request}
 use Rattle.rc_lang.specs.Program.{Program}
-use Rattle.rc_lang.specs.Requests.{may_complete}
 use Rattle.rc_world.specs.declared.event.Event.{Event}
 use Rattle.rc_world.specs.Machine.{Pending, World, bytes_brought, is_read, kernel_step, start_world}
 use Rattle.rc_world.specs.Runs.{IsRun}
 use Rattle.rc_world.proofs.LawLists.{get_at, get_past}
 use Rattle.rc_run.specs.declared.machine.Pending.{Pending as PendingPart}
 use Rattle.rc_run.specs.Calm.{IsCalm}
-use Rattle.rc_run.specs.Jobs.{IsJob, Job, allows, is_errno}
+use Rattle.rc_run.specs.Jobs.{IsJob, Job}
 use Rattle.rc_run.specs.Lives.{IsAsked, IsJobOf, IsOut, Lent, Live, free, is_free}
 use Rattle.rc_run.specs.Machine.{brought, completed_at, completed_by, pending_of}
 use Rattle.rc_run.proofs.Turns.{goes_one_on}
@@ -103,12 +101,6 @@ module _ (s : Live) (c : IsCalm s.world) (k n : ℕ) (job : Job) (is : IsJob job
 
   at_request : (res : ℤ) → completed_by s.world k res job.bytes ≡ kernel_step s.world k res (brought out.pending.request job.bytes)
   at_request res = ap (completed_at s.world k res job.bytes) out.here
-
-  pub completes : (res : ℤ) → allows job res ≡ true → IsSome (completed_by s.world k res job.bytes)
-  completes res may =
-      let allowed = (and_parts (may_complete job.request res) (not job.starved || is_errno res) may).0 in
-      let step = c.completes k out.pending res (brought out.pending.request job.bytes) out.here (subst (λ (q : Request). may_complete q res ≡ true) (sym out.same) allowed) (length-take-le (bytes_brought out.pending.request) job.bytes (enough out.pending out.here)) in
-      ap is_some (at_request res ∙ step.1)
 
   pub posted_leads : (P Q : Program) (v : World) (old new : List Event) (res : ℤ) (e : Event) → IsRun (start_world P) old s.world → completed_by s.world k res job.bytes ≡ Some (e, v) → Q ≡ P → new ≡ old ++ e ∷ []
       → IsRun (start_world Q) new v

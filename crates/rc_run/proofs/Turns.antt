@@ -1,17 +1,17 @@
 -- What a turn of a thread asks of the world, and what it makes of a run.
-use Rattle.std.proofs.Common.{◌≡◌, ◌≢◌, ℕ, ℤ, pos, negsuc, ◌≤ℤ◌, zero, suc, ◌<◌, ◌≤◌, inl, inr, true, if◌then◌else◌, List, [], ◌∷◌, ◌++◌, length, min, nat_eq, Option, Some, None, slice_get, refl, sym, ap, subst, ◌∙◌, arith, eq-eqb}
+use Rattle.std.proofs.Common.{◌≡◌, ◌≢◌, ℕ, ℤ, pos, negsuc, ◌≤ℤ◌, zero, suc, ◌≤◌, inl, inr, true, if◌then◌else◌, List, [], ◌∷◌, ◌++◌, length, min, nat_eq, Option, Some, None, slice_get, refl, sym, ap, subst, ◌∙◌, arith, eq-eqb}
 use Rattle.std.proofs.lemmas.Bool.{le-leb, lt-ltb}
 use Rattle.std.proofs.lemmas.Int.{ints}
-use Rattle.std.proofs.lemmas.Option.{same_Some, slice_get_past, slice_get_within}
+use Rattle.std.proofs.lemmas.Option.{same_Some, slice_get_past}
 use Rattle.rc_lang.specs.declared.lines.Line.{Line}
 use Rattle.rc_lang.specs.declared.lines.Op.TheVariants.{SetData64, Submit, SubmitAndWait}
 use Rattle.rc_lang.specs.declared.lines.Stmt.{Stmt}
-use Rattle.rc_lang.specs.declared.lines.Stmt.TheVariants.{Do, Lock, EndLock, If, Else, EndIf, Peek, Case, Other, Nothing, EndArm, EndPeek, Loop, EndLoop, Break}
+use Rattle.rc_lang.specs.declared.lines.Stmt.TheVariants.{Do, Lock, Else, EndIf, Case, Other, Nothing, EndArm, EndPeek}
 use Rattle.rc_lang.specs.declared.request.Request.{Request}
 use Rattle.rc_lang.specs.Program.{Program, lines_of}
 use Rattle.rc_world.specs.declared.controls.Next.TheVariants.{Ready, TakenLock}
 use Rattle.rc_world.specs.declared.event.Event.{Event}
-use Rattle.rc_world.specs.Controls.{Standing, next_at, next_line}
+use Rattle.rc_world.specs.Controls.{next_at, next_line}
 use Rattle.rc_world.specs.Faults.{count_of, fault_of}
 use Rattle.rc_world.specs.Items.{next_by, next_of, ready_or_taken}
 use Rattle.rc_world.specs.Laws.{GoesOn, HasStep}
@@ -21,6 +21,7 @@ use Rattle.rc_run.specs.Calm.{IsCalm}
 use Rattle.rc_run.specs.Held.{AreDistinct}
 use Rattle.rc_run.specs.Machine.{IsClosedAt, IsFreshAt, submit_answer}
 use Rattle.rc_run.specs.Requests.{data_of}
+use Rattle.rc_world.proofs.LawFaultless.{standing_within}
 
 -- ---- the next line
 
@@ -28,22 +29,16 @@ same_ready : (x l : Line) → Ready x ≡ Ready l → x ≡ l
 same_ready x l e = cc
 
 ready_same : (h : Option ℕ) (x l : Line) (s : Stmt) → ready_or_taken h x s ≡ Ready l → x ≡ l
-ready_same h x l (Do op) e = same_ready x l e
 ready_same None x l Lock e = same_ready x l e
 ready_same (Some j) x l Lock e = absurd (cc)
-ready_same h x l (EndLock o) e = same_ready x l e
-ready_same h x l (If test) e = same_ready x l e
 ready_same h x l (Else o) e = absurd (cc)
 ready_same h x l (EndIf o) e = absurd (cc)
-ready_same h x l (Peek v) e = same_ready x l e
 ready_same h x l (Case o u) e = absurd (cc)
 ready_same h x l (Other o) e = absurd (cc)
 ready_same h x l (Nothing o) e = absurd (cc)
 ready_same h x l (EndArm o) e = absurd (cc)
 ready_same h x l (EndPeek o) e = absurd (cc)
-ready_same h x l (Loop k) e = same_ready x l e
-ready_same h x l (EndLoop o k) e = same_ready x l e
-ready_same h x l (Break o releases leaves) e = same_ready x l e
+ready_same h x l _ e = same_ready x l e
 
 ready_by : (h : Option ℕ) (o : Option Line) (l : Line) → next_by h o ≡ Ready l → o ≡ Some l
 ready_by h None l e = absurd (cc)
@@ -51,13 +46,6 @@ ready_by h (Some x) l e = ap Some (ready_same h x l x.stmt e)
 
 pub ready_line : (w : World) (i : ℕ) (l : Line) → next_of w.program w.controls i ≡ Ready l → next_line w.program w.controls i ≡ Some l
 ready_line w i l e = ready_by w.controls.holder (next_line w.program w.controls i) l e
-
-standing_within : (w : World) (i : ℕ) (l : Line) → next_line w.program w.controls i ≡ Some l → i < length w.controls.threads
-standing_within w i l e = go (slice_get w.controls.threads i) refl
-  where
-    go : (t : Option Standing) → slice_get w.controls.threads i ≡ t → i < length w.controls.threads
-    go None g = let d : next_line w.program w.controls i ≡ None = ap (next_at w.program i) g in absurd (cc)
-    go (Some t) g = slice_get_within w.controls.threads i t g
 
 -- a thread that is ready has a step
 pub has_step : (w : World) → IsCalm w → (i : ℕ) (l : Line) → next_of w.program w.controls i ≡ Ready l → HasStep w i

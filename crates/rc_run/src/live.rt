@@ -15,7 +15,7 @@ use crate::job::Job;
 use crate::machine::{Machine, Pending};
 use rc_admit::admitted::Admitted;
 use rc_admit::laws::safe_worlds;
-use rc_lang::request::{Kind, Request};
+use rc_lang::request::Request;
 use rc_world::controls::Next;
 use rc_world::event::Event;
 use std::alloc::{AllocError, Global};
@@ -304,24 +304,7 @@ fn number_of(out: &[u64], serial: u64) -> Option<usize>
 fn same_request(a: Request, b: Request) -> bool
     ensures { IsTrue result ↔ (a ≡ b) }
 {
-    a.serial == b.serial
-        && same_kind(a.kind, b.kind)
-        && a.fd == b.fd
-        && a.buffer == b.buffer
-        && a.len == b.len
-        && a.off == b.off
-        && a.user_data == b.user_data
-}
-
-fn same_kind(a: Kind, b: Kind) -> bool
-    ensures { IsTrue result ↔ (a ≡ b) }
-{
-    match a {
-        Kind::Nop => matches!(b, Kind::Nop),
-        Kind::Fsync => matches!(b, Kind::Fsync),
-        Kind::Read => matches!(b, Kind::Read),
-        Kind::Write => matches!(b, Kind::Write),
-    }
+    a == b
 }
 
 #[cfg(test)]

@@ -9,9 +9,6 @@ pub data Part : Type 0 where
   TokenOf : (user_data : ℕ) → Part
   Credit : Part
 
-abbrev pub Bag : Type 0
-Bag = Part → ℕ
-
 abbrev pub nothing : Part → ℕ
 nothing p = 0
 

@@ -1,14 +1,13 @@
 -- Labels that say the same, and where they join.
 use Rattle.std.proofs.Common.{◌≡◌, ℕ, ◌+◌, Bool, true, false, ◌&&◌, List, [], ◌∷◌, ◌++◌, Option, Some, Result, Ok, Err, refl, sym, ap, subst, ◌∙◌}
 use Rattle.std.specs.Result.{is_ok}
-use Rattle.rc_lang.specs.Program.{Program}
 use Rattle.rc_rules.specs.declared.cause.Cause.{Cause}
 use Rattle.rc_rules.specs.declared.mode.Mode.TheVariants.{Unlocked, Locked}
 use Rattle.rc_rules.specs.declared.mode.Peeked.TheVariants.{Unseen}
 use Rattle.rc_rules.specs.Causes.{premise_number}
 use Rattle.rc_rules.specs.Labels.{Label, Dead, Live, Weaker, IsStrongest}
 use Rattle.rc_rules.specs.Premises.{Meets, FailsFirst}
-use Rattle.rc_rules.specs.Rules.{same_slot, agree, asks, broken, may_break, may_join, may_release, peek_at, peek_premises, released}
+use Rattle.rc_rules.specs.Rules.{agree, asks, broken, may_break, may_join, peek_at, peek_premises}
 use Rattle.rc_rules.specs.States.{State, label_of, program_of, AgreeOnLock, Gives}
 use Rattle.rc_rules.proofs.Growth.{agree_grows}
 use Rattle.rc_rules.proofs.Weaker.{not_both, only_itself, weaker_refl}
@@ -49,17 +48,6 @@ not_peeked (Live b (Locked i)) n f = absurd (f.fails tt)
 pub forgets : {X : Type 0} (old new : State) (x : Result X Cause) → Gives old new x (asks (label_of old) (λ bag m. peek_premises m)) (peek_at Unseen (label_of old) ∷ []) → IsStrongest (label_of new) (peek_at Unseen (label_of old) ∷ []) × (program_of new ≡ program_of old)
 forgets old new (Ok x) g = (g.1, g.2)
 forgets old new (Err c) g = subst (λ (s : State). IsStrongest (label_of s) (peek_at Unseen (label_of old) ∷ []) × (program_of s ≡ program_of old)) (sym g.1) (not_peeked (label_of old) (premise_number c) g.0, refl)
-
--- ---- a release behind a break's test
-
-may_too : (P : Program) (s : Label) → Meets (asks s (λ bag m. may_break P true m)) → Meets (asks s (λ bag m. may_release P m))
-may_too P Dead h = tt
-may_too P (Live b Unlocked) h = tt
-may_too P (Live b (Locked i)) h = h
-
-pub releases : {X : Type 0} (old new : State) (x : Result X Cause) → Meets (asks (label_of old) (λ bag m. may_break (program_of old) true m)) → Gives old new x (asks (label_of old) (λ bag m. may_release (program_of old) m)) (released (label_of old) ∷ []) → IsStrongest (label_of new) (released (label_of old) ∷ []) × (program_of new ≡ program_of old)
-releases old new (Ok x) h g = (g.1, g.2)
-releases old new (Err c) h g = absurd (not_both (premise_number c) _ (may_too (program_of old) (label_of old) h) g.0)
 
 -- ---- two that join
 

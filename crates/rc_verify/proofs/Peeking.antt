@@ -1,8 +1,8 @@
 -- Peeks and their arms.
-use Rattle.std.proofs.Common.{◌≡◌, ℕ, zero, suc, ◌+◌, ◌<◌, Bool, true, false, cond, ◌||◌, nat_eq, List, [], ◌∷◌, ◌++◌, drop, take, Option, Some, Result, Ok, Err, refl, sym, ap, subst, ◌∙◌, arith, slice_get}
+use Rattle.std.proofs.Common.{◌≡◌, ℕ, suc, ◌+◌, ◌<◌, Bool, true, false, cond, nat_eq, List, [], ◌∷◌, ◌++◌, drop, take, Option, Some, Result, Ok, Err, refl, sym, ap, subst, ◌∙◌, arith, slice_get}
 use Rattle.std.proofs.lemmas.Bool.{eqb-true, or_parts}
 use Rattle.rc_lang.specs.declared.lines.Block.{Block}
-use Rattle.rc_lang.specs.declared.lines.Block.TheVariants.{InLock, InIf, InElse, InPeek, InArm, InLoop}
+use Rattle.rc_lang.specs.declared.lines.Block.TheVariants.{InPeek}
 use Rattle.rc_lang.specs.declared.lines.Line.{Line}
 use Rattle.rc_lang.specs.declared.lines.Stmt.{Stmt}
 use Rattle.rc_lang.specs.declared.lines.Stmt.TheVariants.{Peek, EndArm}
@@ -45,12 +45,8 @@ no_arms [] labels o n = refl
 no_arms (l ∷ lines) labels o n = ap (λ xs. xs ++ arm_ends lines (drop 1 labels) o) (no_arm l.stmt o (label_at labels 0) (n 0 l refl)) ∙ no_arms lines (drop 1 labels) o (λ k m e. n (suc k) m e)
 
 no_peek_place : (b : Block) → is_peek b ≡ false → peek_place b ≡ []
-no_peek_place (InLock o) e = refl
-no_peek_place (InIf o) e = refl
-no_peek_place (InElse o) e = refl
 no_peek_place (InPeek o) e = absurd (cc)
-no_peek_place (InArm o) e = refl
-no_peek_place (InLoop o k) e = refl
+no_peek_place _ e = refl
 
 pub no_peeks : (bs : List Block) → in_peek bs ≡ false → places peek_place bs ≡ []
 no_peeks [] e = refl

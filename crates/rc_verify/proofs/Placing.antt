@@ -1,15 +1,9 @@
 -- What stands at a place of a thread in the code.
 use Rattle.std.proofs.Common.{◌≡◌, ℕ, ◌<◌, List, length, map, Option, Some, get_or, sym, ap, subst, ◌∙◌}
 use Rattle.std.proofs.lemmas.List.{get_or-map, length-map}
-use Rattle.std.proofs.lemmas.Option.{slice_get-get_or}
-use Rattle.rc_lang.specs.declared.lines.Line.{Line}
-use Rattle.rc_lang.specs.declared.lines.Stmt.{Stmt}
 use Rattle.rc_lang.specs.declared.program.Items.{Items as ItemsPart}
 use Rattle.rc_lang.specs.Parts.{view_items}
-use Rattle.rc_lang.specs.Program.{items_at, no_items, stmt_at, stmt_of}
-
-pub stands : (lines : List Line) (j : ℕ) (l : Line) (s : Stmt) → j < length lines → l ≡ get_or lines j l → l.stmt ≡ s → stmt_at lines j ≡ Some s
-stands lines j l s lt e f = ap stmt_of (slice_get-get_or lines j l lt ∙ ap Some (sym e)) ∙ ap Some f
+use Rattle.rc_lang.specs.Program.{items_at, no_items}
 
 pub at : {A : Type 0} {o : Option A} {s t : A} → o ≡ Some s → s ≡ t → o ≡ Some t
 at e f = e ∙ ap Some f

@@ -1,5 +1,6 @@
 -- Lines that change the state alone.
-use Rattle.std.proofs.Common.{◌≡◌, ℕ, ◌+◌, ◌^◌, ◌<◌, ◌≤◌, Bool, true, false, ◌||◌, List, [], ◌∷◌, ◌++◌, length, take, Some, Result, refl, sym, ap, subst, ◌∙◌, arith}
+use Rattle.std.proofs.Common.{◌≡◌, ℕ, ◌+◌, ◌^◌, ◌<◌, ◌≤◌, true, false, List, [], ◌∷◌, ◌++◌, length, take, Some, Result, refl, sym, ap, subst, ◌∙◌, arith}
+use Rattle.std.proofs.Math.Bool.{or-true}
 use Rattle.rc_lang.specs.declared.lines.Block.{Block}
 use Rattle.rc_lang.specs.declared.lines.Block.TheVariants.{InLock}
 use Rattle.rc_lang.specs.declared.lines.Op.{Op}
@@ -101,12 +102,8 @@ module _ (P : Program) (t : Thread) (j : ℕ) (w : Walk) (r : Reaches P t j w) w
   pub locked_here : (o : ℕ) → stmt_at t.lines j ≡ Some (EndLock o) → IsLocked (label_of w.state)
   locked_here o e =
       let c = closes_lock t.lines r.thread.nested.each j o e in
-      let b : in_lock (blocks_at t.lines j) ≡ true = ap in_lock c.within ∙ in_lock_pushed (blocks_at t.lines o) (InLock o) ∙ or_true (in_lock (blocks_at t.lines o)) in
+      let b : in_lock (blocks_at t.lines j) ≡ true = ap in_lock c.within ∙ in_lock_pushed (blocks_at t.lines o) (InLock o) ∙ or-true (in_lock (blocks_at t.lines o)) in
       fits_locked (most_at j) (label_of w.state) (subst (λ b. Fits b (most_at j) (label_of w.state)) b (fits_here P t j w r (EndLock o) e))
-    where
-      or_true : (a : Bool) → (a || true) ≡ true
-      or_true true = refl
-      or_true false = refl
 
   pub release_turns : {X : Type 0} (o : ℕ) (new : State) (x : Result X Cause) → stmt_at t.lines j ≡ Some (EndLock o) → Gives w.state new x (asks (label_of w.state) (λ bag m. may_release (program_of w.state) m)) (released (label_of w.state) ∷ []) → Turns P t j (record { state = new; branches = w.branches; peek = w.peek; loops = w.loops }) x
   release_turns o new x e g =

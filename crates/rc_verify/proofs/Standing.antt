@@ -6,7 +6,7 @@ use Rattle.rc_lang.specs.declared.lines.Line.{Line}
 use Rattle.rc_lang.specs.declared.lines.Stmt.{Stmt}
 use Rattle.rc_lang.specs.Nesting.{blocks_at, in_lock}
 use Rattle.rc_lang.specs.Program.{Program, Thread, stmt_at}
-use Rattle.rc_lang.proofs.Lookups.{EachNested, get_new, get_old, get_push, line_with, stands_within}
+use Rattle.rc_lang.proofs.Lookups.{get_new, get_old, get_push, line_with, stands_within}
 use Rattle.rc_rules.specs.declared.cause.Cause.{Cause}
 use Rattle.rc_rules.specs.Causes.{premise_number}
 use Rattle.rc_rules.specs.Labels.{Label, Dead, IsStrongest}
@@ -77,9 +77,6 @@ module _ (P : Program) (t : Thread) (j : ℕ) (labels : List Label) (new : Label
 -- ---- at a line
 
 module _ (P : Program) (t : Thread) (j : ℕ) (w : Walk) (r : Reaches P t j w) (s : Stmt) (e : stmt_at t.lines j ≡ Some s) where
-  pub each : EachNested t.lines
-  each = r.thread.nested.each
-
   pub front : length (take j t.lines) ≡ j
   front = let lt : j < length t.lines = stands_within t.lines j s e in omega (arith, length-take j t.lines)
 

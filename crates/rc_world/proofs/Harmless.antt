@@ -1,18 +1,17 @@
--- A world without harm has no fault of any kind.
-use Rattle.std.proofs.Common.{◌≡◌, ℕ, ◌+◌, ◌<◌, ◌≤◌, Bool, true, false, ◌&&◌, ◌||◌, not, if◌then◌else◌, List, [], ◌∷◌, ◌++◌, drop, length, Option, Some, None, slice_get, refl, ap, ◌∙◌}
-use Rattle.std.proofs.lemmas.Bool.{or_parts, and_left, and_right}
-use Rattle.std.proofs.lemmas.List.{drop_all}
+-- A thread whose next statement does no harm has no fault of any kind.
+use Rattle.std.proofs.Common.{◌≡◌, ℕ, ◌+◌, ◌<◌, ◌≤◌, Bool, true, false, ◌&&◌, ◌||◌, not, if◌then◌else◌, [], drop, length, Option, Some, None, refl, ◌∙◌, subst, inl, inr, arith}
+use Rattle.std.proofs.lemmas.Bool.{or_parts, and_left, and_right, cases_lt}
+use Rattle.std.proofs.lemmas.Option.{same_Some}
 use Rattle.rc_lang.specs.declared.lines.Line.{Line}
 use Rattle.rc_lang.specs.declared.lines.Stmt.{Stmt}
-use Rattle.rc_world.specs.declared.fault.Fault.{Fault}
 use Rattle.rc_world.specs.declared.fault.FaultKind.{FaultKind}
 use Rattle.rc_world.specs.declared.fault.FaultKind.TheVariants.{WriteOfPending, ReadOfFilling, KernelClash, ThreadRace, RingFull, Overflow, AmbiguousData, UnknownReap, NoLock, RawEntry, OutOfBuffer}
-use Rattle.rc_world.specs.declared.fault.Party.TheVariants.{At, InKernel}
-use Rattle.rc_world.specs.Controls.{Standing, next_line}
-use Rattle.rc_world.specs.Faults.{Access, access_of, all_kinds, clashes, fault_at, fault_of, faults_by, faults_from, faults_of, has_fault, in_kernel, is_ambiguous_at, is_full_at, is_holder, is_out_at, is_raw_at, is_ring_call, is_unknown_at, overflows, races, reads_filling, writes_pending}
-use Rattle.rc_world.specs.Harm.{harms_at, harms_buffer, harms_from, harms_rings, has_harm, is_harmful}
+use Rattle.rc_world.specs.Controls.{next_line}
+use Rattle.rc_world.specs.Faults.{Access, access_of, has_fault, is_ambiguous_at, is_full_at, is_holder, is_out_at, is_raw_at, is_ring_call, is_unknown_at, races, reads_filling, writes_pending}
+use Rattle.rc_world.specs.Harm.{IsHarmless, harms_buffer, harms_rings, is_harmful}
 use Rattle.rc_world.specs.Machine.{World}
-use Rattle.rc_world.proofs.Heads.{drop_next, no_races}
+use Rattle.rc_world.proofs.Heads.{no_races}
+use Rattle.rc_world.proofs.LawFaultless.{standing_within}
 
 -- ---- one thread
 
@@ -69,59 +68,16 @@ module _ (w : World) (i : ℕ) (s : Stmt) (e : is_harmful w i s ≡ false) where
   harmless RawEntry = rings.raw
   harmless OutOfBuffer = places.1
 
--- ---- all threads
-
-none_at : (w : World) (kind : FaultKind) (i : ℕ) (l : Option Line) → harms_at w i l ≡ false → fault_at w kind i l ≡ []
-none_at w kind i None e = refl
-none_at w kind i (Some l) e = ap (λ b. if b then record { kind = kind; party = At i l.number } ∷ [] else []) (harmless w i l.stmt e kind)
-
-none_from : (w : World) (kind : FaultKind) (i : ℕ) (threads : List Standing) → harms_from w i threads ≡ false → faults_from w kind i threads ≡ []
-none_from w kind i [] e = refl
-none_from w kind i (t ∷ ts) e =
-    let n = or_parts (harms_at w i (next_line w.program w.controls i)) (harms_from w (i + 1) ts) e in
-    ap (λ (fs : List Fault). fs ++ faults_from w kind (i + 1) ts) (none_at w kind i (next_line w.program w.controls i) n.0) ∙ none_from w kind (i + 1) ts n.1
-
--- ---- the world
-
-module _ (w : World) (e : has_harm w ≡ false) where
-  calm : (clashes w.pending ≡ false) × (overflows w w.pending ≡ false)
-  calm = or_parts _ _ (or_parts _ _ e).0
-
-  none_in_kernel : (kind : FaultKind) → in_kernel w kind ≡ false
-  none_in_kernel WriteOfPending = refl
-  none_in_kernel ReadOfFilling = refl
-  none_in_kernel KernelClash = calm.0
-  none_in_kernel ThreadRace = refl
-  none_in_kernel RingFull = refl
-  none_in_kernel Overflow = calm.1
-  none_in_kernel AmbiguousData = refl
-  none_in_kernel UnknownReap = refl
-  none_in_kernel NoLock = refl
-  none_in_kernel RawEntry = refl
-  none_in_kernel OutOfBuffer = refl
-
-  none_of : (kind : FaultKind) → faults_of w kind ≡ []
-  none_of kind =
-      ap (λ b. (if b then record { kind = kind; party = InKernel } ∷ [] else []) ++ faults_from w kind 0 w.controls.threads) (none_in_kernel kind)
-      ∙ none_from w kind 0 w.controls.threads (or_parts _ _ e).1
-
-  none_by : (kinds : List FaultKind) → faults_by w kinds ≡ []
-  none_by [] = refl
-  none_by (kind ∷ kinds) = ap (λ (fs : List Fault). fs ++ faults_by w kinds) (none_of kind) ∙ none_by kinds
-
-  pub faultless : fault_of w ≡ None
-  faultless = ap (λ fs. slice_get fs 0) (none_by all_kinds)
-
 -- ---- the pass
 
-harms_here : (w : World) (threads : List Standing) (i : ℕ) → i < length threads → harms_from w i (drop i threads) ≡ (harms_at w i (next_line w.program w.controls i) || harms_from w (i + 1) (drop (i + 1) threads))
-harms_here w threads i lt = let d = drop_next threads i lt in ap (harms_from w i) d.1
+pub harmless_next : (w : World) (i : ℕ) (line : Line) → Some line ≡ next_line w.program w.controls i → is_harmful w i line.stmt ≡ false → IsHarmless w i
+harmless_next w i line n e kind l m = subst (λ (x : Line). has_fault w kind i x.stmt ≡ false) (same_Some line l (n ∙ m)) (harmless w i line.stmt e kind)
 
-pub harms_found : (w : World) (threads : List Standing) (i : ℕ) → i < length threads → harms_at w i (next_line w.program w.controls i) ≡ true → harms_from w i (drop i threads) ≡ true
-harms_found w threads i lt e = harms_here w threads i lt ∙ ap (λ b. b || harms_from w (i + 1) (drop (i + 1) threads)) e
+pub harmless_more : (w : World) (n : ℕ) → ((i : ℕ) → i < n → IsHarmless w i) → IsHarmless w n → (i : ℕ) → i < n + 1 → IsHarmless w i
+harmless_more w n h here i lt = elim (cases_lt i n) [
+  | inl before ↦ h i before
+  | inr not_before ↦ let q : n ≡ i = omega arith in subst (IsHarmless w) q here
+]
 
-pub harms_more : (w : World) (threads : List Standing) (i : ℕ) → i < length threads → harms_at w i (next_line w.program w.controls i) ≡ false → harms_from w i (drop i threads) ≡ harms_from w (i + 1) (drop (i + 1) threads)
-harms_more w threads i lt e = harms_here w threads i lt ∙ ap (λ b. b || harms_from w (i + 1) (drop (i + 1) threads)) e
-
-pub harms_end : (w : World) (threads : List Standing) (i : ℕ) → length threads ≤ i → harms_from w i (drop i threads) ≡ false
-harms_end w threads i le = ap (harms_from w i) (drop_all i threads le)
+pub harmless_all : (w : World) (n : ℕ) → length w.controls.threads ≤ n → ((i : ℕ) → i < n → IsHarmless w i) → (i : ℕ) → IsHarmless w i
+harmless_all w n le h i kind l e = let lt : i < length w.controls.threads = standing_within w i l e in h i (omega arith) kind l e

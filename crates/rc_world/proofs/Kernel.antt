@@ -20,7 +20,7 @@ use Rattle.rc_world.specs.WorldParts.{given_in}
 use Rattle.rc_world.proofs.Keeping.{memory_given}
 use Rattle.rc_world.proofs.Memory.{read_has_buffer}
 
-if_some : {A : Type 0} (b : Bool) (x : Option A) → IsSome (if b then x else None) → (b ≡ true) × IsSome x
+pub if_some : {A : Type 0} (b : Bool) (x : Option A) → IsSome (if b then x else None) → (b ≡ true) × IsSome x
 if_some true x h = (refl, h)
 if_some false x h = absurd (cc)
 

@@ -1,7 +1,7 @@
 -- Where the jumps of a made program lead.
 use Rattle.std.proofs.Common.{ℕ, suc, ◌≡◌, ◌<◌, ◌≤◌, ◌⊎◌, inl, inr, List, [], ◌∷◌, length, Option, Some, None, slice_get, slice_index, refl, ap, lit≤, arith}
 use Rattle.rc_lang.specs.declared.lines.Block.{Block}
-use Rattle.rc_lang.specs.declared.lines.Block.TheVariants.{InLock, InIf, InElse, InPeek, InArm, InLoop}
+use Rattle.rc_lang.specs.declared.lines.Block.TheVariants.{InArm, InLoop}
 use Rattle.rc_lang.specs.declared.lines.Line.{Line}
 use Rattle.rc_lang.specs.declared.lines.Stmt.{Stmt}
 use Rattle.rc_lang.specs.declared.lines.Stmt.TheVariants.{If, Else, EndIf, Peek, EndArm, EndPeek, Loop, EndLoop}
@@ -51,12 +51,8 @@ loop_among way (b ∷ bs) o e = elim (loop_among (way_past way b) bs o e) [
 ]
   where
     here : (b : Block) → (way_past way b).loop ≡ Some o → (way.loop ≡ Some o) ⊎ ((d : ℕ) × (k : ℕ) × (slice_get (b ∷ bs) d ≡ Some (InLoop o k)))
-    here (InLock p) h = inl h
-    here (InIf p) h = inl h
-    here (InElse p) h = inl h
-    here (InPeek p) h = inl h
-    here (InArm p) h = inl h
     here (InLoop p k) h = let q : p ≡ o = cc in inr (0, k, ap (λ x. Some (InLoop x k)) q)
+    here _ h = inl h
 
 module _ (lines : List Line) (ends : List ℕ) (l : IsLaid lines ends) where
   below : (j k : ℕ) (s : Stmt) → HasEnd lines ends k s → j < slice_index ends k → IsBelow lines j (slice_index ends k)

@@ -5,7 +5,7 @@ use Rattle.rc_lang.specs.declared.lines.Line.{Line}
 use Rattle.rc_world.specs.declared.fault.FaultKind.{FaultKind}
 use Rattle.rc_world.specs.declared.fault.FaultKind.TheVariants.{WriteOfPending, ReadOfFilling, KernelClash, ThreadRace, RingFull, Overflow, AmbiguousData, UnknownReap, NoLock, RawEntry, OutOfBuffer}
 use Rattle.rc_world.specs.Controls.{Standing, next_at, next_line}
-use Rattle.rc_world.specs.Faults.{all_kinds, fault_at, fault_of, faults, faults_by, faults_from, faults_of, has_fault, in_kernel, kernel_faults}
+use Rattle.rc_world.specs.Faults.{all_kinds, fault_at, fault_of, faults, faults_by, faults_from, faults_of, has_fault, in_kernel, kernel_faults, clashes, overflows}
 use Rattle.rc_world.specs.Machine.{World}
 
 nothing_first : {A : Type 0} (xs : List A) → slice_get xs 0 ≡ None → xs ≡ []
@@ -62,7 +62,7 @@ none_from w kind j (t ∷ ts) zero i e lt q =
     subst (λ n. fault_at w kind n (next_line w.program w.controls n) ≡ []) h (front_empty (fault_at w kind j (next_line w.program w.controls j)) _ e)
 none_from w kind j (t ∷ ts) (suc k) i e lt q = none_from w kind (j + 1) ts k i (back_empty (fault_at w kind j (next_line w.program w.controls j)) _ e) (omega arith) (omega arith)
 
-standing_within : (w : World) (i : ℕ) (l : Line) → next_line w.program w.controls i ≡ Some l → i < length w.controls.threads
+pub standing_within : (w : World) (i : ℕ) (l : Line) → next_line w.program w.controls i ≡ Some l → i < length w.controls.threads
 standing_within w i l e = go (slice_get w.controls.threads i) refl
   where
     go : (t : Option Standing) → slice_get w.controls.threads i ≡ t → i < length w.controls.threads
@@ -73,3 +73,26 @@ pub none_at : (w : World) (kind : FaultKind) → faults_of w kind ≡ [] → (i 
 none_at w kind e i l n =
     let h = back_empty (kernel_faults w kind) _ e in
     none_here w kind i l (sym (ap (fault_at w kind i) n) ∙ none_from w kind 0 w.controls.threads i i h (standing_within w i l n) (omega arith))
+
+-- ---- and what has none of any kind
+
+none_next : (w : World) (kind : FaultKind) (i : ℕ) (x : Option Line) → ((l : Line) → x ≡ Some l → has_fault w kind i l.stmt ≡ false) → fault_at w kind i x ≡ []
+none_next w kind i None h = refl
+none_next w kind i (Some l) h = rw (h l refl) refl
+
+none_on : (w : World) (kind : FaultKind) (ts : List Standing) (i : ℕ) → ((j : ℕ) (l : Line) → next_line w.program w.controls j ≡ Some l → has_fault w kind j l.stmt ≡ false) → faults_from w kind i ts ≡ []
+none_on w kind [] i h = refl
+none_on w kind (t ∷ ts) i h = ap (λ xs. xs ++ faults_from w kind (i + 1) ts) (none_next w kind i (next_line w.program w.controls i) (h i)) ∙ none_on w kind ts (i + 1) h
+
+all_none : (w : World) (kinds : List FaultKind) → ((kind : FaultKind) → faults_of w kind ≡ []) → faults_by w kinds ≡ []
+all_none w [] h = refl
+all_none w (kind ∷ kinds) h = ap (λ xs. xs ++ faults_by w kinds) (h kind) ∙ all_none w kinds h
+
+-- A world without a fault in the kernel and at the next line of each thread has none.
+pub without_fault : (w : World) → clashes w.pending ≡ false → overflows w w.pending ≡ false → ((kind : FaultKind) (j : ℕ) (l : Line) → next_line w.program w.controls j ≡ Some l → has_fault w kind j l.stmt ≡ false) → fault_of w ≡ None
+without_fault w clash over h = ap (λ xs. slice_get xs 0) (all_none w all_kinds (λ kind. rw (in_none kind) (none_on w kind w.controls.threads 0 (h kind))))
+  where
+    in_none : (kind : FaultKind) → in_kernel w kind ≡ false
+    in_none KernelClash = clash
+    in_none Overflow = over
+    in_none _ = refl

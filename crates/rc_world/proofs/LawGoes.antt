@@ -3,9 +3,9 @@ use Rattle.std.proofs.Common.{◌≡◌, ℕ, ◌+◌, ◌<◌, ◌≤◌, Bool,
 use Rattle.std.proofs.lemmas.Bool.{le-leb, and_parts, and_from, or_cases, or_left, or_right, not-false}
 use Rattle.rc_lang.specs.declared.lines.Line.{Line}
 use Rattle.rc_lang.specs.declared.lines.Op.{Op}
-use Rattle.rc_lang.specs.declared.lines.Op.TheVariants.{Set, Assign, Add, Subtract, Load, Store, Fill, Print, GetSqe, PrepRead, PrepWrite, PrepFsync, PrepNop, SetData64, Submit, SubmitAndWait, CqeSeen}
+use Rattle.rc_lang.specs.declared.lines.Op.TheVariants.{Load, Store, Fill, GetSqe, PrepRead, PrepWrite, PrepFsync, PrepNop, SetData64, Submit, SubmitAndWait, CqeSeen}
 use Rattle.rc_lang.specs.declared.lines.Stmt.{Stmt}
-use Rattle.rc_lang.specs.declared.lines.Stmt.TheVariants.{Do, Lock, EndLock, If, Else, EndIf, Peek, Case, Other, Nothing, EndArm, EndPeek, Loop, EndLoop, Break}
+use Rattle.rc_lang.specs.declared.lines.Stmt.TheVariants.{Do, Lock, EndLock, If, Peek, Loop, EndLoop, Break}
 use Rattle.rc_lang.specs.declared.lines.Test.{Test}
 use Rattle.rc_lang.specs.declared.lines.Test.TheVariants.{Compare, ReadyZero, SpaceAtLeast}
 use Rattle.rc_lang.specs.declared.request.Kind.TheVariants.{Fsync, Read, Write}
@@ -37,7 +37,7 @@ use Rattle.rc_world.proofs.LawSteps.{StandsAt, next_of_standing, step_is}
 
 -- ---- tests
 
-and_false : (a b : Bool) → (a && b) ≡ false → a ≡ true → b ≡ false
+pub and_false : (a b : Bool) → (a && b) ≡ false → a ≡ true → b ≡ false
 and_false true b e h = e
 and_false false b e h = absurd (cc)
 
@@ -137,10 +137,6 @@ module _ (w : World) (i : ℕ) (t : Standing) (r : ℤ) where
         lt-ltb k (length s.bytes) (omega arith)
 
     can_do : (n : ℕ) (op : Op) → IsResolvedOp w.program n op → HasNoFault w i (Do op) → (is_submit (Do op) ≡ true → is_take w r ≡ true) → CanDo w i t r (Do op)
-    can_do n (Set x v) a f u = record { rings = w; move = _; in_the_rings = refl; acted = refl }
-    can_do n (Assign x y) a f u = record { rings = w; move = _; in_the_rings = refl; acted = refl }
-    can_do n (Add x y z) a f u = record { rings = w; move = _; in_the_rings = refl; acted = refl }
-    can_do n (Subtract x y z) a f u = record { rings = w; move = _; in_the_rings = refl; acted = refl }
     can_do n (Load x b k) a f u =
         let s = stands b a.1 (f ReadOfFilling) in
         record {
@@ -160,7 +156,6 @@ module _ (w : World) (i : ℕ) (t : Standing) (r : ℤ) where
     can_do n (Fill b x) a f u =
         let s = stands b a.0 (not_named b (f WriteOfPending)) in
         record { rings = with_bytes w b (replicate (length s.bytes) (low_byte (variable t x))); move = _; in_the_rings = ap (fills w b (low_byte (variable t x))) s.there; acted = refl }
-    can_do n (Print x) a f u = record { rings = w; move = _; in_the_rings = refl; acted = refl }
     can_do n GetSqe a f u =
         let h = holds (Do GetSqe) refl f in
         let v = opens w w.slot (and_false (is_holder w.controls.holder i) _ (f RawEntry) h) (and_false (is_holder w.controls.holder i) _ (f RingFull) h) in
@@ -177,6 +172,7 @@ module _ (w : World) (i : ℕ) (t : Standing) (r : ℤ) where
     can_do n CqeSeen a f u =
         let c = has_front w w.controls.peeked w.completions (and_false (is_holder w.controls.holder i) _ (f UnknownReap) (holds (Do CqeSeen) refl f)) in
         record { rings = _; move = _; in_the_rings = ap (reaps_front w) c.2; acted = ap (λ cs. reaps w.controls t (front_of cs)) c.2 }
+    can_do n _ a f u = record { rings = w; move = _; in_the_rings = refl; acted = refl }
 
   can_decide : (test : Test) → CanDo w i t r (If test)
   can_decide (Compare x comparison n) = record { rings = w; move = _; in_the_rings = refl; acted = refl }
@@ -225,17 +221,11 @@ module _ (w : World) (safe : fault_of w ≡ None) (kept : IsKept w) (i : ℕ) (t
   line_goes l a Lock e h = lock_goes l a e w.controls.holder refl
   line_goes l a (EndLock o) e h = ready l a (EndLock o) e (λ r u. record { rings = w; move = _; in_the_rings = refl; acted = refl })
   line_goes l a (If test) e h = ready l a (If test) e (λ r u. can_decide w i t r test)
-  line_goes l a (Else o) e h = absurd (cc)
-  line_goes l a (EndIf o) e h = absurd (cc)
   line_goes l a (Peek x) e h = ready l a (Peek x) e (λ r u. can_peek w i t r x)
-  line_goes l a (Case o u) e h = absurd (cc)
-  line_goes l a (Other o) e h = absurd (cc)
-  line_goes l a (Nothing o) e h = absurd (cc)
-  line_goes l a (EndArm o) e h = absurd (cc)
-  line_goes l a (EndPeek o) e h = absurd (cc)
   line_goes l a (Loop k) e h = ready l a (Loop k) e (λ r u. record { rings = w; move = _; in_the_rings = refl; acted = refl })
   line_goes l a (EndLoop o k) e h = ready l a (EndLoop o k) e (λ r u. record { rings = w; move = _; in_the_rings = refl; acted = refl })
   line_goes l a (Break o releases leaves) e h = ready l a (Break o releases leaves) e (λ r u. record { rings = w; move = _; in_the_rings = refl; acted = refl })
+  line_goes l a _ e h = absurd (cc)
 
 module _ (program : Program) (w : World) (safe : fault_of w ≡ None) (sound : IsSound program w) (i : ℕ) (t : Standing) (c : slice_get w.controls.threads i ≡ Some t) where
   -- no thread of a run stands at a line that is no event

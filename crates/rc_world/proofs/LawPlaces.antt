@@ -11,7 +11,7 @@ use Rattle.rc_lang.specs.declared.lines.Line.{Line}
 use Rattle.rc_lang.specs.declared.lines.Op.{Op}
 use Rattle.rc_lang.specs.declared.lines.Op.TheVariants.{Set, Assign, Add, Subtract, Load, Store, Fill, Print, GetSqe, PrepRead, PrepWrite, PrepFsync, PrepNop, SetData64, Submit, SubmitAndWait, CqeSeen}
 use Rattle.rc_lang.specs.declared.lines.Stmt.{Stmt}
-use Rattle.rc_lang.specs.declared.lines.Stmt.TheVariants.{Do, Lock, EndLock, If, Else, EndIf, Peek, Case, Other, Nothing, EndArm, EndPeek, Loop, EndLoop, Break}
+use Rattle.rc_lang.specs.declared.lines.Stmt.TheVariants.{Do, Lock, EndLock, If, Else, EndIf, Peek, Case, Other, Nothing, EndArm, Loop, EndLoop, Break}
 use Rattle.rc_lang.specs.declared.lines.Test.{Test}
 use Rattle.rc_lang.specs.declared.lines.Test.TheVariants.{Compare, ReadyZero, SpaceAtLeast}
 use Rattle.rc_lang.specs.Program.{HasArms, IsProgram, Program, end_at, ends_in, lines_of, stmt_at, stmt_of}
@@ -136,27 +136,19 @@ module _ (program : Program) (is : IsProgram program) (i : ℕ) where
 
     plain_place : (n : Move) (b : Answer) → plainly n b ≡ Some m → m.place ≡ n.place
     plain_place n Plain e = same_place n e
-    plain_place n (Number v) e = absurd (cc)
-    plain_place n (Byte v) e = absurd (cc)
-    plain_place n (Front v) e = absurd (cc)
+    plain_place n _ e = absurd (cc)
 
     load_place : (x : ℕ) (b : Answer) → loads c t x b ≡ Some m → m.place ≡ t.place + 1
-    load_place x Plain e = absurd (cc)
-    load_place x (Number v) e = absurd (cc)
     load_place x (Byte v) e = same_place _ e
-    load_place x (Front v) e = absurd (cc)
+    load_place x _ e = absurd (cc)
 
     submit_place : (x : ℕ) (b : Answer) → submits c t x b ≡ Some m → m.place ≡ t.place + 1
-    submit_place x Plain e = absurd (cc)
     submit_place x (Number v) e = same_place _ e
-    submit_place x (Byte v) e = absurd (cc)
-    submit_place x (Front v) e = absurd (cc)
+    submit_place x _ e = absurd (cc)
 
     reap_place : (b : Answer) → reaps c t b ≡ Some m → m.place ≡ t.place + 1
-    reap_place Plain e = absurd (cc)
-    reap_place (Number v) e = absurd (cc)
-    reap_place (Byte v) e = absurd (cc)
     reap_place (Front v) e = same_place _ e
+    reap_place _ e = absurd (cc)
 
     assign_place : (x : ℕ) (v : ℤ) → assigns c t x v a ≡ Some m → m.place ≡ t.place + 1
     assign_place x v e = plain_place (sets_variable c t x v (VariableSet v)) a e
@@ -214,14 +206,8 @@ module _ (program : Program) (is : IsProgram program) (i : ℕ) where
     acts_open Lock h e = behind Lock h refl (lock_place c.holder e)
     acts_open (EndLock o) h e = behind (EndLock o) h refl (plain_place (releases_lock c t) a e)
     acts_open (If test) h e = decide_open test h test a e
-    acts_open (Else o) h e = absurd (cc)
-    acts_open (EndIf o) h e = absurd (cc)
     acts_open (Peek x) h e = peek_open x h a e
-    acts_open (Case o u) h e = absurd (cc)
-    acts_open (Other o) h e = absurd (cc)
-    acts_open (Nothing o) h e = absurd (cc)
-    acts_open (EndArm o) h e = absurd (cc)
-    acts_open (EndPeek o) h e = absurd (cc)
     acts_open (Loop k) h e = behind (Loop k) h refl (plain_place (goes_on c t Looped) a e)
     acts_open (EndLoop o k) h e = goes_to (o + 1) (plain_place (returns_to c t o) a e) (back_open (lines_of program i) _ lines_laid t.place o k h)
     acts_open (Break o releases leaves) h e = goes_to (end_at program i o + 1) (plain_place (breaks program c i t o releases leaves) a e) (break_open (lines_of program i) _ lines_laid t.place o releases leaves h)
+    acts_open _ h e = absurd (cc)

@@ -5,7 +5,7 @@ use Rattle.std.proofs.lemmas.List.{length-replicate, length-take}
 use Rattle.std.proofs.lemmas.Option.{slice_get_past}
 use Rattle.rc_lang.specs.declared.lines.Line.{Line}
 use Rattle.rc_lang.specs.declared.lines.Stmt.{Stmt}
-use Rattle.rc_lang.specs.declared.lines.Stmt.TheVariants.{Do, Lock, EndLock, If, Else, EndIf, Peek, Case, Other, Nothing, EndArm, EndPeek, Loop, EndLoop, Break}
+use Rattle.rc_lang.specs.declared.lines.Stmt.TheVariants.{Lock, Else, EndIf, Case, Other, Nothing, EndArm, EndPeek}
 use Rattle.rc_lang.specs.Program.{bytes_at, line_at, lines_of}
 use Rattle.rc_lang.specs.Requests.{may_complete}
 use Rattle.rc_world.specs.declared.controls.Next.{Next}
@@ -40,21 +40,14 @@ take_allowed w take Ended e = absurd (cc)
 
 -- what is enabled stands at an event
 ready_rests : (w : World) (take : Option ℤ) (l : Line) (s : Stmt) → is_ready w take (ready_or_taken w.controls.holder l s) ≡ true → may_rest (Some s) ≡ true
-ready_rests w take l (Do op) e = refl
-ready_rests w take l Lock e = refl
-ready_rests w take l (EndLock o) e = refl
-ready_rests w take l (If test) e = refl
 ready_rests w take l (Else o) e = absurd (cc)
 ready_rests w take l (EndIf o) e = absurd (cc)
-ready_rests w take l (Peek x) e = refl
 ready_rests w take l (Case o u) e = absurd (cc)
 ready_rests w take l (Other o) e = absurd (cc)
 ready_rests w take l (Nothing o) e = absurd (cc)
 ready_rests w take l (EndArm o) e = absurd (cc)
 ready_rests w take l (EndPeek o) e = absurd (cc)
-ready_rests w take l (Loop k) e = refl
-ready_rests w take l (EndLoop o k) e = refl
-ready_rests w take l (Break o releases leaves) e = refl
+ready_rests w take l _ e = refl
 
 module _ (w : World) (safe : fault_of w ≡ None) (kept : IsKept w) (i : ℕ) (take : Option ℤ) (ready : is_ready w take (next_of w.program w.controls i) ≡ true) where
   -- it isn't enabled where the thread has ended, nor at a taken lock

@@ -1,9 +1,10 @@
 -- Lists with an element more, less, or changed.
-use Rattle.std.proofs.Common.{◌≡◌, ◌≢◌, ℕ, zero, suc, ◌+◌, ◌<◌, ◌⊎◌, inl, inr, Bool, true, false, ◌||◌, cond, not, List, [], ◌∷◌, ◌++◌, drop, length, map, take, Option, Some, None, replicate, refl, ap, ◌∙◌, slice_get, slice_set, slice_index_or, arith}
+use Rattle.std.proofs.Common.{◌≡◌, ◌≢◌, ℕ, zero, suc, ◌+◌, ◌<◌, ◌⊎◌, inl, inr, Bool, true, false, ◌||◌, cond, not, List, [], ◌∷◌, ◌++◌, drop, length, map, take, Option, Some, None, refl, ap, ◌∙◌, slice_get, slice_set, slice_index_or, arith, sym}
 use Rattle.std.proofs.lemmas.Bool.{or_cases, or_left, or_parts, or_right}
 use Rattle.std.specs.List.{list_any, position, prefix_len}
 use Rattle.std.proofs.lemmas.List.{length-map}
 use Rattle.std.proofs.lemmas.Option.{same_Some}
+use Rattle.std.proofs.Math.Bool.{or-false, or_assoc}
 use Rattle.rc_world.specs.Machine.{without}
 
 -- an element of a list with another element in one place
@@ -57,21 +58,13 @@ get_none (y ∷ xs) (suc i) lt e = get_none xs i (omega arith) e
 
 -- ---- tests
 
-pub or_false : (b : Bool) → (b || false) ≡ b
-or_false true = refl
-or_false false = refl
-
 pub any_map : {A B : Type 0} (f : A → B) (test : B → Bool) (xs : List A) → list_any test (map f xs) ≡ list_any (λ x. test (f x)) xs
 any_map f test [] = refl
 any_map f test (x ∷ xs) = ap (λ b. test (f x) || b) (any_map f test xs)
 
 pub any_push : {A : Type 0} (test : A → Bool) (xs : List A) (y : A) → list_any test (xs ++ y ∷ []) ≡ (list_any test xs || test y)
-any_push test [] y = or_false (test y)
-any_push test (x ∷ xs) y = ap (λ b. test x || b) (any_push test xs y) ∙ grouped (test x) (list_any test xs) (test y)
-  where
-    grouped : (a b c : Bool) → (a || (b || c)) ≡ ((a || b) || c)
-    grouped true b c = refl
-    grouped false b c = refl
+any_push test [] y = or-false (test y)
+any_push test (x ∷ xs) y = ap (λ b. test x || b) (any_push test xs y) ∙ sym (or_assoc (test x) (list_any test xs) (test y))
 
 -- one that is found at a place
 pub any_at : {A : Type 0} (test : A → Bool) (xs : List A) (k : ℕ) (x : A) → slice_get xs k ≡ Some x → test x ≡ true → list_any test xs ≡ true
@@ -119,10 +112,3 @@ prefix_map f test (x ∷ xs) = ap (λ (k : ℕ). cond (test (f x)) (1 + k) 0) (p
 
 pub position_map : {A B : Type 0} (f : A → B) (test : B → Bool) (xs : List A) → position test (map f xs) ≡ position (λ x. test (f x)) xs
 position_map f test xs = rw (prefix_map f (λ y. not (test y)) xs, length-map xs f) refl
-
--- a list whose first n elements have become x
-pub refill : {A : Type 0} (x : A) (n : ℕ) (xs : List A) → n < length xs → slice_set (replicate n x ++ drop n xs) n x ≡ replicate (suc n) x ++ drop (suc n) xs
-refill x zero [] lt = absurd (omega arith)
-refill x zero (y ∷ xs) lt = refl
-refill x (suc n) [] lt = absurd (omega arith)
-refill x (suc n) (y ∷ xs) lt = ap (λ ys. x ∷ ys) (refill x n xs (omega arith))

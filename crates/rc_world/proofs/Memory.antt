@@ -4,7 +4,7 @@ use Rattle.std.proofs.lemmas.Bool.{or_parts, or_left, or_right, and_parts}
 use Rattle.std.proofs.lemmas.List.{length-set}
 use Rattle.std.proofs.lemmas.Bool.Decides.{nat_tests}
 use Rattle.rc_lang.specs.declared.request.Kind.{Kind}
-use Rattle.rc_lang.specs.declared.request.Kind.TheVariants.{Nop, Fsync, Read, Write}
+use Rattle.rc_lang.specs.declared.request.Kind.TheVariants.{Read}
 use Rattle.rc_lang.specs.declared.request.Request.{Request}
 use Rattle.rc_lang.specs.Program.{Program, bytes_at}
 use Rattle.rc_world.specs.Faults.{clash, clashes, clashes_with, has_buffer, is_filling, reads_into}
@@ -57,10 +57,8 @@ calm_without (suc k) (p ∷ ps) h =
 
 -- A read of a buffer that another one fills clashes with it.
 pub read_has_buffer : (k : Kind) → is_read k ≡ true → has_buffer k ≡ true
-read_has_buffer Nop e = absurd (cc)
-read_has_buffer Fsync e = absurd (cc)
 read_has_buffer Read e = refl
-read_has_buffer Write e = absurd (cc)
+read_has_buffer _ e = absurd (cc)
 
 clash_of_reads : (r s : Request) → is_read r.kind ≡ true → reads_into r.buffer s ≡ true → clash r s ≡ true
 clash_of_reads r s e f =
@@ -78,9 +76,6 @@ filling_clashes r ps e f =
     any_at (λ (p : Pending). clash r p.request) ps h.0 h.1 h.2 (clash_of_reads r h.1.request e h.3)
 
 -- ---- a request becomes pending
-
-itself : (n : ℕ) → nat_eq n n ≡ true
-itself n = eq-eqb n n refl
 
 module _ (program : Program) (ps : List Pending) (buffers : List (Option (List ℕ))) (m : IsMemory program ps buffers) (r : Request) (fitting : IsFitting program r) where
   new : Pending
@@ -142,7 +137,7 @@ module _ (program : Program) (ps : List Pending) (buffers : List (Option (List �
         ];
         filled = λ b q. elim (get_set buffers r.buffer b None None q) [
           | inl h ↦
-              let here : reads_into b r ≡ true = ap (λ x. x && nat_eq r.buffer b) e ∙ ap (λ n. nat_eq r.buffer n) h.0 ∙ itself r.buffer in
+              let here : reads_into b r ≡ true = ap (λ x. x && nat_eq r.buffer b) e ∙ ap (λ n. nat_eq r.buffer n) h.0 ∙ eq-eqb r.buffer r.buffer refl in
               any_push (λ (p : Pending). reads_into b p.request) ps _ ∙ or_right (is_filling ps b) _ here
           | inr h ↦ filling b (m.filled b h.1)
         ];

@@ -3,7 +3,7 @@ use Rattle.std.proofs.Common.{◌≡◌, ℕ, ℤ, ◌+◌, ◌<◌, ◌≤◌, 
 use Rattle.std.proofs.lemmas.List.{get_or-map, length-map}
 use Rattle.std.proofs.lemmas.Option.{same_Some}
 use Rattle.rc_lang.specs.declared.lines.Op.{Op}
-use Rattle.rc_lang.specs.declared.lines.Op.TheVariants.{Set, Assign, Add, Subtract, Load, Store, Fill, Print, GetSqe, PrepRead, PrepWrite, PrepFsync, PrepNop, SetData64, Submit, SubmitAndWait, CqeSeen}
+use Rattle.rc_lang.specs.declared.lines.Op.TheVariants.{Set, Assign, Add, Subtract, Load, Store, Fill, Print, PrepRead, PrepWrite, PrepFsync, PrepNop, Submit, SubmitAndWait}
 use Rattle.rc_lang.specs.declared.lines.Operand.{Operand}
 use Rattle.rc_lang.specs.declared.lines.Operand.TheVariants.{Variable, Number}
 use Rattle.rc_lang.specs.declared.lines.Stmt.{Stmt}
@@ -49,15 +49,12 @@ small_call program made n le (Load x b i) h = let a : x < n = h.0 in omega arith
 small_call program made n le (Store b i x) h = let lt : x < n = h.2 in omega arith
 small_call program made n le (Fill b x) h = let lt : x < n = h.1 in omega arith
 small_call program made n le (Print x) h = let a : x < n = h in omega arith
-small_call program made n le GetSqe h = tt
 small_call program made n le (PrepRead fd b len off) h = small_move program made fd b len off h
 small_call program made n le (PrepWrite fd b len off k) h = small_move program made fd b len off h.0
 small_call program made n le (PrepFsync fd datasync) h = small_file program made fd h
-small_call program made n le PrepNop h = tt
-small_call program made n le (SetData64 u) h = tt
 small_call program made n le (Submit x) h = let a : x < n = h in omega arith
 small_call program made n le (SubmitAndWait x m) h = let a : x < n = h.0 in omega arith
-small_call program made n le CqeSeen h = tt
+small_call program made n le _ h = tt
 
 pub small_stmt : (program : Program) → IsProgram program → (i j : ℕ) (s : Stmt) → stmt_at (lines_of program i) j ≡ Some s → StmtIsSmall program s
 small_stmt program made i j (Do op) e = let r = resolved_in program made i j (Do op) e in small_call program made r.0 r.2 op r.3

@@ -1,6 +1,7 @@
 -- Where a thread comes to rest: lines that are no events lead on, and no thread hops for ever.
-use Rattle.std.proofs.Common.{ℕ, zero, suc, Bool, true, false, ◌||◌, ◌≡◌, ◌+◌, ◌<◌, ◌≤◌, length, Option, Some, None, option_map, refl, sym, ap, ◌∙◌, arith}
+use Rattle.std.proofs.Common.{ℕ, zero, suc, Bool, false, ◌||◌, ◌≡◌, ◌+◌, ◌<◌, ◌≤◌, length, Option, Some, None, option_map, refl, sym, ap, ◌∙◌, arith}
 use Rattle.std.proofs.lemmas.Option.{same_Some}
+use Rattle.std.proofs.Math.Bool.{or-false, or_assoc}
 use Rattle.rc_lang.specs.declared.lines.Stmt.{Stmt}
 use Rattle.rc_lang.specs.declared.lines.Stmt.TheVariants.{Else, EndIf, EndArm}
 use Rattle.rc_lang.specs.Program.{Program, IsProgram, lines_of, end_at, stmt_at}
@@ -69,14 +70,6 @@ hop_fuel P i place next (suc m) lt le e = (
   ap (λ h. is_arm_end (stmt_at (lines_of P i) place) || or_from false (λ k. ends_arm P i m k) h) e,
 )
 
-or_grouped : (a b c : Bool) → (a || (b || c)) ≡ ((a || b) || c)
-or_grouped true b c = refl
-or_grouped false b c = refl
-
-or_false : (b : Bool) → (b || false) ≡ b
-or_false true = refl
-or_false false = refl
-
 pub record Hops (P : Program) (i start place next : ℕ) (ended : Bool) : Type 0 where
   pub way : IsOnTheWay P i start next ended
   pub here : place < length (lines_of P i)
@@ -96,7 +89,7 @@ hops P made i start place next ended ends w e =
         fuel = m.0;
         enough = omega arith;
         goes = sym m.2 ∙ w.goes;
-        ends = sym (or_grouped ended ends (ends_arm P i m.0 next)) ∙ ap (λ b. ended || (b || ends_arm P i m.0 next)) (sym h.1) ∙ ap (λ b. ended || b) (sym m.3) ∙ w.ends;
+        ends = or_assoc ended ends (ends_arm P i m.0 next) ∙ ap (λ b. ended || (b || ends_arm P i m.0 next)) (sym h.1) ∙ ap (λ b. ended || b) (sym m.3) ∙ w.ends;
       };
       here = here;
       falls = below;
@@ -113,4 +106,4 @@ rests_by P i place (suc m) e = (
 pub rests : (P : Program) (i start place : ℕ) (ended : Bool) → IsOnTheWay P i start place ended → hop_at P i place ≡ None → (place ≡ rest_at P i start) × (ended ≡ passes_arm P i start)
 rests P i start place ended w e =
     let r = rests_by P i place w.fuel (no_hop_at _ _ e) in
-    (sym r.0 ∙ w.goes, sym (ap (λ b. ended || b) r.1 ∙ or_false ended) ∙ w.ends)
+    (sym r.0 ∙ w.goes, sym (ap (λ b. ended || b) r.1 ∙ or-false ended) ∙ w.ends)

@@ -1,6 +1,7 @@
 //! The least fault of a world.
 
-ghost use Rattle.std.specs.Prelude.{◌≡◌, ◌+◌, ◌&&◌, ◌<◌, ◌≤◌, drop, length, map, not, option_map, slice_get, true};
+ghost use Rattle.std.specs.Prelude.{◌≡◌, ◌+◌, ◌&&◌, ◌<◌, ◌≤◌, ℕ, None, drop, length, map, not, option_map, slice_get, true};
+ghost use Rattle.std.specs.Bool.{OnFalse};
 ghost use Rattle.std.specs.List.{list_any};
 ghost use Rattle.rc_world.specs.Controls.{next_line};
 ghost use Rattle.rc_world.specs.Faults as spec;
@@ -31,15 +32,15 @@ impl<'a> World<'a> {
         }
     }
 
-    // Whether there is a fault at all, by one pass over the threads.
+    // Whether there may be a fault at all, by one pass over the threads.
     fn has_harm(&self) -> bool
-        ensures { result ≡ harm.has_harm self.now }
+        ensures { OnFalse result (spec.fault_of self.now ≡ None) }
     {
         self.has_clash || self.overflows() || self.has_harmful_thread()
     }
 
     fn has_harmful_thread(&self) -> bool
-        ensures { result ≡ harm.harms_from self.now 0 self.now.controls.threads }
+        ensures { OnFalse result ((thread : ℕ) → harm.IsHarmless self.now thread) }
     {
         for thread in 0..self.controls.count() {
             if self.harms_next(thread) {
@@ -52,7 +53,7 @@ impl<'a> World<'a> {
     // Whether the next statement of a thread is harmful.
     fn harms_next(&self, thread: u32) -> bool
         requires { thread ≤ 16 }
-        ensures { result ≡ harm.harms_at self.now thread (next_line self.now.program self.now.controls thread) }
+        ensures { OnFalse result (harm.IsHarmless self.now thread) }
     {
         match self.controls.line(self.program, thread) {
             Some(line) => self.is_harmful(thread, line.stmt),

@@ -47,11 +47,6 @@ impl<'a> World<'a> {
             (λ _. self.new ≡ self.old) }
     {
         match op {
-            Op::Set(_, _) => Ok(()),
-            Op::Assign(_, _) => Ok(()),
-            Op::Add(_, _, _) => Ok(()),
-            Op::Subtract(_, _, _) => Ok(()),
-            Op::Load(_, _, _) => Ok(()),
             Op::Store(buffer, i, x) => {
                 let byte = self.controls.byte(thread, x);
                 self.store(buffer, i, byte)
@@ -60,7 +55,6 @@ impl<'a> World<'a> {
                 let byte = self.controls.byte(thread, x);
                 self.fill(buffer, byte)
             }
-            Op::Print(_) => Ok(()),
             Op::GetSqe => {
                 self.open();
                 Ok(())
@@ -82,12 +76,12 @@ impl<'a> World<'a> {
                 Ok(())
             }
             Op::SetData64(user_data) => self.queue(user_data),
-            Op::Submit(_) => self.hand_over(taken),
-            Op::SubmitAndWait(_, _) => self.hand_over(taken),
+            Op::Submit(_) | Op::SubmitAndWait(_, _) => self.hand_over(taken),
             Op::CqeSeen => {
                 self.reap();
                 Ok(())
             }
+            _ => Ok(()),
         }
     }
 
