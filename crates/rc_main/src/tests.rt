@@ -1,7 +1,5 @@
 //! The program on words and texts, with everything that it writes and its status.
 
-mod cause_checks;
-mod cause_texts;
 mod causes;
 mod checks;
 mod devices;
@@ -10,6 +8,7 @@ mod long;
 mod programs;
 mod refused;
 mod runs;
+mod step_faults;
 mod steps;
 mod walks;
 mod words;
@@ -22,11 +21,11 @@ use std::thread::Threads;
 
 /// What the program is run on, and what it must write.
 #[derive(Clone, Copy)]
-struct Case {
-    words: &'static [&'static str],
-    text: &'static str,
-    output: &'static str,
-    errors: &'static str,
+struct Case<'a> {
+    words: &'a [&'a str],
+    text: &'a str,
+    output: &'a str,
+    errors: &'a str,
     status: u8,
 }
 

@@ -1,5 +1,5 @@
 -- The numbers and the names of causes, as they are printed.
-use Rattle.std.specs.Prelude.{ℕ, List, ◌++◌, codes}
+use Rattle.std.specs.Prelude.{ℕ, ◌-◌, List, [], ◌∷◌, ◌++◌, codes, slice_index_or}
 use Rattle.std.specs.Fmt.{decimal}
 use Rattle.rc_read.specs.declared.fault.ReadCause.{ReadCause}
 use Rattle.rc_read.specs.declared.fault.ReadCause.TheVariants.{NotAscii, BadHead, BadLine, BadNumber, UnknownName, DoubleName, Braces, TooLarge, BadNesting, BadCase}
@@ -16,17 +16,18 @@ number_of_cause TooLarge = 8
 number_of_cause BadNesting = 9
 number_of_cause BadCase = 10
 
+-- the names, in the order of the numbers
+abbrev pub cause_names : List (List ℕ)
+cause_names =
+    codes "NotAscii" ∷ codes "BadHead" ∷ codes "BadLine" ∷ codes "BadNumber" ∷ codes "UnknownName" ∷ codes "DoubleName" ∷ codes "Braces"
+    ∷ codes "TooLarge" ∷ codes "BadNesting" ∷ codes "BadCase" ∷ []
+
+-- the name of the cause with this number
+abbrev pub name_numbered : ℕ → List ℕ
+name_numbered number = slice_index_or cause_names (number - 1) []
+
 abbrev pub name_of_cause : ReadCause → List ℕ
-name_of_cause NotAscii = codes "NotAscii"
-name_of_cause BadHead = codes "BadHead"
-name_of_cause BadLine = codes "BadLine"
-name_of_cause BadNumber = codes "BadNumber"
-name_of_cause UnknownName = codes "UnknownName"
-name_of_cause DoubleName = codes "DoubleName"
-name_of_cause Braces = codes "Braces"
-name_of_cause TooLarge = codes "TooLarge"
-name_of_cause BadNesting = codes "BadNesting"
-name_of_cause BadCase = codes "BadCase"
+name_of_cause cause = name_numbered (number_of_cause cause)
 
 -- the message of a cause, as `P4 BadNumber`
 abbrev pub text_of_cause : ReadCause → List ℕ

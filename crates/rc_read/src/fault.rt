@@ -11,7 +11,7 @@ use std::fmt;
 #[derive(Clone, Copy, PartialEq, Eq, Debug)]
 pub enum ReadCause {
     /// Among the line's first 256 bytes is one above 126, or below 32 other than tab and carriage return.
-    NotAscii,
+    NotAscii = 1,
     /// The text doesn't begin with `ringcheck 1` and a line that begins with `ring`.
     BadHead,
     /// The words are no form, or one that may not stand in this part of the text.
@@ -40,18 +40,7 @@ impl ReadCause {
     pub fn number(self) -> u8
         ensures { result ≡ number_of_cause self }
     {
-        match self {
-            ReadCause::NotAscii => 1,
-            ReadCause::BadHead => 2,
-            ReadCause::BadLine => 3,
-            ReadCause::BadNumber => 4,
-            ReadCause::UnknownName => 5,
-            ReadCause::DoubleName => 6,
-            ReadCause::Braces => 7,
-            ReadCause::TooLarge => 8,
-            ReadCause::BadNesting => 9,
-            ReadCause::BadCase => 10,
-        }
+        self as u8
     }
 
     /// The name that is printed.

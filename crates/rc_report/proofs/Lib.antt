@@ -1,5 +1,4 @@
 pub mod Buffers
-pub mod Causes
 pub mod Grows
 pub mod Lines
 pub mod Names

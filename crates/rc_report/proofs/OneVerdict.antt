@@ -1,9 +1,9 @@
--- There is one verdict on a text.
-use Rattle.std.proofs.Common.{◌≡◌, ℕ, ◌-◌, List, [], ◌∷◌, Option, Some, Result, Ok, Err, Bool, refl, sym, ap, ◌∙◌, subst}
+-- One verdict is told of a text.
+use Rattle.std.proofs.Common.{◌≡◌, ℕ, ◌-◌, List, [], ◌∷◌, ◌++◌, codes, Option, Some, Result, Ok, Err, Bool, true, false, refl, sym, ap, ◌∙◌, subst}
 use Rattle.std.specs.Prelude.{slice_index_or}
 use Rattle.rc_lang.specs.Program.{Program}
 use Rattle.rc_read.specs.Answer.{answer_of}
-use Rattle.rc_read.specs.Causes.{number_of_cause}
+use Rattle.rc_read.specs.Causes.{name_numbered, number_of_cause}
 use Rattle.rc_read.specs.declared.fault.ReadCause.{ReadCause}
 use Rattle.rc_rules.specs.declared.cause.Cause.{Cause}
 use Rattle.rc_rules.specs.declared.cause.Cause.TheVariants.{Unlocked, NoCredit, QueueFull, SlotOpen, NoSlot, WrongKind, NotWhole, NoShare, OutOfBuffer, NoToken, NoEntry, QueueLeft, LoopEntry, LoopBody, JoinMismatch, OverShares, TokenTwice, OverCredits}
@@ -14,9 +14,8 @@ use Rattle.rc_report.specs.declared.engine_fault.EngineFault.{EngineFault}
 use Rattle.rc_report.specs.declared.verdict.Verdict.{Verdict}
 use Rattle.rc_report.specs.declared.verdict.Verdict.TheVariants.{Accepted, Refused, Unreadable}
 use Rattle.rc_report.specs.Checks.{IsVerdict, ChecksAs, told}
-use Rattle.rc_report.specs.Engine.{cause_numbered}
 use Rattle.rc_report.specs.Streams.{Began}
-use Rattle.rc_report.proofs.Causes.{cause_numbered-number}
+use Rattle.rc_report.specs.Verdicts.{line_json, unreadable_text}
 
 -- ---- causes have their numbers alone
 
@@ -49,10 +48,7 @@ numbered OverCredits = refl
 same_cause : (c d : Cause) → premise_number c ≡ premise_number d → c ≡ d
 same_cause c d e = sym (numbered c) ∙ ap premise_numbered e ∙ numbered d
 
-same_fault : (c d : ReadCause) → number_of_cause c ≡ number_of_cause d → c ≡ d
-same_fault c d e = sym (cause_numbered-number c) ∙ ap cause_numbered e ∙ cause_numbered-number d
-
--- ---- one verdict
+-- ---- what is told of a program
 
 abbrev refusal_of : ℕ → Cause → Refusal
 refusal_of line cause = record { line = line; cause = cause }
@@ -69,20 +65,26 @@ of_program P (Refused r) (Refused s) a b = ap Refused (same_refusal r s (one_ref
 of_program P (Refused r) (Unreadable l c) a b = absurd b
 of_program P (Unreadable l c) w a b = absurd a
 
-of_fault : (line number : ℕ) (v w : Verdict) → IsVerdict (Err (line, number)) v → IsVerdict (Err (line, number)) w → v ≡ w
-of_fault line number Accepted w a b = absurd a
-of_fault line number (Refused r) w a b = absurd a
-of_fault line number (Unreadable k c) Accepted a b = absurd b
-of_fault line number (Unreadable k c) (Refused s) a b = absurd b
-of_fault line number (Unreadable k c) (Unreadable l d) a b =
-    let e : k ≡ l = a.0 ∙ sym b.0 in
-    let f : c ≡ d = same_fault c d (a.1 ∙ sym b.1) in
-    cc (e, f)
+-- ---- what is told of a text that can't be read
 
-pub one_verdict : (answer : Result Program (ℕ × ℕ)) (v w : Verdict) → IsVerdict answer v → IsVerdict answer w → v ≡ w
-one_verdict (Ok P) v w a b = of_program P v w a b
-one_verdict (Err (line, number)) v w a b = of_fault line number v w a b
+-- of a cause no more is told than its number
+abbrev told_unreadable : Bool → ℕ → ℕ → List ℕ
+told_unreadable true line number = line_json (name_numbered number) number line (codes "unreadable") ++ codes "\n"
+told_unreadable false line number = unreadable_text line number
 
--- what was begun is the one verdict
+told_by_number : (json : Bool) (line : ℕ) (cause : ReadCause) → told json (Unreadable line cause) ≡ told_unreadable json line (number_of_cause cause)
+told_by_number true line cause = refl
+told_by_number false line cause = refl
+
+of_fault : (json : Bool) (line number : ℕ) (v : Verdict) → IsVerdict (Err (line, number)) v → told json v ≡ told_unreadable json line number
+of_fault json line number Accepted a = absurd a
+of_fault json line number (Refused r) a = absurd a
+of_fault json line number (Unreadable l c) a = told_by_number json l c ∙ ap (λ l. told_unreadable json l (number_of_cause c)) a.0 ∙ ap (told_unreadable json line) a.1
+
+one_text : (json : Bool) (answer : Result Program (ℕ × ℕ)) (v w : Verdict) → IsVerdict answer v → IsVerdict answer w → told json v ≡ told json w
+one_text json (Ok P) v w a b = ap (told json) (of_program P v w a b)
+one_text json (Err (line, number)) v w a b = of_fault json line number v a ∙ sym (of_fault json line number w b)
+
+-- what was begun is the one text
 pub begins : (bytes : List ℕ) (json : Bool) (old new : Option (List ℕ)) (v : Verdict) (r : Result Verdict EngineFault) (e : EngineFault) → r ≡ Err e → IsVerdict (answer_of bytes) v → Began old new (told json v) → ChecksAs (Some bytes) json old new r
-begins bytes json old new v r e is a h = subst (ChecksAs (Some bytes) json old new) (sym is) (λ w b. subst (λ x. Began old new (told json x)) (one_verdict (answer_of bytes) v w a b) h)
+begins bytes json old new v r e is a h = subst (ChecksAs (Some bytes) json old new) (sym is) (λ w b. subst (Began old new) (one_text json (answer_of bytes) v w a b) h)

@@ -1,11 +1,10 @@
 -- What a stepped program is answered with.
-use Rattle.std.specs.Prelude.{ℕ, ◌≡◌, ◌-◌, List, [], ◌∷◌, Option, Some, None, Result, Ok, Err, slice_index_or}
+use Rattle.std.specs.Prelude.{ℕ, ◌≡◌, List, Option, Some, None, Result, Ok, Err}
 use Rattle.std.specs.Io.KnownBytes.{Appends, Keeps}
 use Rattle.rc_lang.specs.Program.{Program}
 use Rattle.rc_read.specs.Answer.{answer_of}
 use Rattle.rc_read.specs.Causes.{number_of_cause}
 use Rattle.rc_read.specs.declared.fault.ReadCause.{ReadCause}
-use Rattle.rc_read.specs.declared.fault.ReadCause.TheVariants.{NotAscii, BadHead, BadLine, BadNumber, UnknownName, DoubleName, Braces, TooLarge, BadNesting, BadCase}
 use Rattle.rc_read.specs.declared.fault.ReadFault.TheVariants.{Text}
 use Rattle.rc_world.specs.declared.event.Item.{Item}
 use Rattle.rc_world.specs.Schedule.{items_of}
@@ -16,11 +15,10 @@ use Rattle.rc_report.specs.declared.step_engine.StepEnd.{StepEnd}
 use Rattle.rc_report.specs.declared.step_engine.StepEnd.TheVariants.{Unreadable, Schedule, Trace as OfTrace}
 use Rattle.rc_report.specs.declared.trace.End.{End}
 use Rattle.rc_report.specs.declared.trace.End.TheVariants.{Fault, NotEnabled, Ended, Stopped}
-use Rattle.rc_report.specs.declared.verdict.Verdict.TheVariants.{Unreadable as NoProgram}
 use Rattle.rc_report.specs.Printed.{schedule_line}
 use Rattle.rc_report.specs.Streams.{Began}
 use Rattle.rc_report.specs.Traces.{trace_text}
-use Rattle.rc_report.specs.Verdicts.{verdict_text}
+use Rattle.rc_report.specs.Verdicts.{unreadable_text}
 
 -- How a stepped trace ends.
 abbrev pub end_of : Ending → End
@@ -37,17 +35,10 @@ abbrev pub items_text : Program → Result (List Item) ℕ → List ℕ
 items_text program (Ok items) = text_of_trace program (trace_of program items)
 items_text program (Err i) = schedule_line i
 
--- the cause with this number, from 1
-abbrev pub causes : List ReadCause
-causes = NotAscii ∷ BadHead ∷ BadLine ∷ BadNumber ∷ UnknownName ∷ DoubleName ∷ Braces ∷ TooLarge ∷ BadNesting ∷ BadCase ∷ []
-
-abbrev pub cause_numbered : ℕ → ReadCause
-cause_numbered n = slice_index_or causes (n - 1) NotAscii
-
 -- The text for what a text reads as: an unreadable one is answered with its verdict.
 abbrev pub answer_text : Result Program (ℕ × ℕ) → List ℕ → List ℕ
 answer_text (Ok program) schedule = items_text program (items_of program schedule)
-answer_text (Err (line, number)) schedule = verdict_text (NoProgram line (cause_numbered number))
+answer_text (Err (line, number)) schedule = unreadable_text line number
 
 -- The text that is written for the bytes of a program and a schedule.
 abbrev pub stepped_text : List ℕ → List ℕ → List ℕ

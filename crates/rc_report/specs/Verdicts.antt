@@ -11,10 +11,14 @@ abbrev pub line_text : List ℕ → ℕ → List ℕ → ℕ → List ℕ → Li
 line_text word line letter number name =
     joined (word ∷ codes " line " ∷ decimal line ∷ codes " " ∷ letter ∷ decimal number ∷ codes " " ∷ name ∷ codes "\n" ∷ [])
 
+-- a text whose line can't be read, for the cause with this number
+abbrev pub unreadable_text : ℕ → ℕ → List ℕ
+unreadable_text line number = line_text (codes "unreadable") line (codes "P") number (reading.name_numbered number)
+
 abbrev pub verdict_text : Verdict → List ℕ
 verdict_text Accepted = codes "accepted\n"
 verdict_text (Refused r) = line_text (codes "refused") r.line (codes "V") (rules_of.premise_number r.cause) (rules_of.name_of r.cause)
-verdict_text (Unreadable line cause) = line_text (codes "unreadable") line (codes "P") (reading.number_of_cause cause) (reading.name_of_cause cause)
+verdict_text (Unreadable line cause) = unreadable_text line (reading.number_of_cause cause)
 
 -- one JSON object without spaces, its keys in order
 abbrev pub line_json : List ℕ → ℕ → ℕ → List ℕ → List ℕ

@@ -1,296 +1,133 @@
 //! Texts that are checked, with the verdict on each as text and as JSON.
 
-use super::programs;
-use crate::command::command;
+use super::{Case, programs, run_as};
+use rc_examples::programs as examples;
 use std::alloc::Global;
 use std::process::Abort;
 use std::sync::Wait;
+use std::test::Fail;
 use std::thread::Threads;
 
-/// What the program is run on, and what it must write.
-#[derive(Clone, Copy)]
-struct Checked {
-    text: &'static str,
-    verdict: &'static str,
-    json: &'static str,
-    status: u8,
-}
-
-fn check_as(
+/// Checks a text both ways.
+fn check_both(
     rt: &(impl Abort + Threads + Wait + Sync),
     alloc: Global,
-    words: &[&str],
     text: &str,
-    output: &str,
-    wanted: u8,
+    verdict: &str,
+    json: &str,
+    status: u8,
 ) {
-    let mut writer = Vec::new(alloc);
-    let mut errors = Vec::new(alloc);
-    let status = command(rt, alloc, words, text.as_bytes(), &mut writer, &mut errors);
-    assert_eq!(rt; writer.as_slice(), output.as_bytes(), "output for {output}");
-    assert!(rt; errors.is_empty(), "errors at {output}");
-    assert_eq!(rt; status, wanted, "status at {output}");
-}
-
-fn check_all(rt: &(impl Abort + Threads + Wait + Sync), alloc: Global, rows: &[Checked]) {
-    for row in rows {
-        check_as(rt, alloc, &["check"], row.text, row.verdict, row.status);
-        check_as(
-            rt,
-            alloc,
-            &["check", "--json"],
-            row.text,
-            row.json,
-            row.status,
-        );
-    }
+    let case = |words, output| Case {
+        words,
+        text,
+        output,
+        errors: "",
+        status,
+    };
+    run_as(
+        rt,
+        alloc,
+        &[case(&["check"], verdict), case(&["check", "--json"], json)],
+    );
 }
 
 /// Programs that keep the rules.
-const ACCEPTED: &[Checked] = &[
-    Checked {
-        text: programs::DRAIN,
-        verdict: "accepted\n",
-        json: "{\"verdict\":\"accepted\"}\n",
-        status: 0,
-    },
-    Checked {
-        text: programs::EMPTY_THREAD,
-        verdict: "accepted\n",
-        json: "{\"verdict\":\"accepted\"}\n",
-        status: 0,
-    },
-    Checked {
-        text: programs::HANDOFF,
-        verdict: "accepted\n",
-        json: "{\"verdict\":\"accepted\"}\n",
-        status: 0,
-    },
-    Checked {
-        text: programs::SHARE,
-        verdict: "accepted\n",
-        json: "{\"verdict\":\"accepted\"}\n",
-        status: 0,
-    },
-    Checked {
-        text: programs::CREDITS_OF_FOUR,
-        verdict: "accepted\n",
-        json: "{\"verdict\":\"accepted\"}\n",
-        status: 0,
-    },
-    Checked {
-        text: programs::CREDITS_OF_THREE,
-        verdict: "accepted\n",
-        json: "{\"verdict\":\"accepted\"}\n",
-        status: 0,
-    },
-    Checked {
-        text: programs::DEAD,
-        verdict: "accepted\n",
-        json: "{\"verdict\":\"accepted\"}\n",
-        status: 0,
-    },
-    Checked {
-        text: programs::CREDITS_OF_ROOM,
-        verdict: "accepted\n",
-        json: "{\"verdict\":\"accepted\"}\n",
-        status: 0,
-    },
-    Checked {
-        text: programs::ROOM_OF_THREE,
-        verdict: "accepted\n",
-        json: "{\"verdict\":\"accepted\"}\n",
-        status: 0,
-    },
+const ACCEPTED: &[&str] = &[
+    examples::DRAIN,
+    examples::EMPTY_THREAD,
+    examples::HANDOFF,
+    examples::SHARE,
+    programs::CREDITS_OF_FOUR,
+    programs::CREDITS_OF_THREE,
+    examples::DEAD,
+    programs::CREDITS_OF_ROOM,
+    programs::ROOM_OF_THREE,
 ];
 
 #[test]
 fn accepted_programs_are_told(rt: HostRuntime) {
-    check_all(&rt, rt.alloc(), ACCEPTED);
+    for text in ACCEPTED {
+        let json = "{\"verdict\":\"accepted\"}\n";
+        check_both(&rt, rt.alloc(), text, "accepted\n", json, 0);
+    }
+}
+
+/// A text, and the line, the code and the name of its cause.
+type Told<'a> = (&'a str, u32, u32, &'a str);
+
+fn tell_all(
+    rt: &(impl Abort + Threads + Wait + Sync),
+    alloc: Global,
+    (word, letter, status): (&str, &str, u8),
+    rows: &[Told],
+) -> Result<(), Fail> {
+    for (text, line, code, name) in rows {
+        let verdict = format!(in alloc; "{word} line {line} {letter}{code} {name}\n")?;
+        let json = format!(in alloc;
+            "{{\"cause\":\"{name}\",\"code\":{code},\"line\":{line},\"verdict\":\"{word}\"}}\n"
+        )?;
+        check_both(rt, alloc, text, verdict.as_str(), json.as_str(), status);
+    }
+    Ok(())
 }
 
 /// Programs with a line that is refused.
-const REFUSED: &[Checked] = &[
-    Checked {
-        text: programs::NOP,
-        verdict: "refused line 19 V12 QueueLeft\n",
-        json: "{\"cause\":\"QueueLeft\",\"code\":12,\"line\":19,\"verdict\":\"refused\"}\n",
-        status: 1,
-    },
-    Checked {
-        text: programs::EARLY,
-        verdict: "refused line 18 V8 NoShare\n",
-        json: "{\"cause\":\"NoShare\",\"code\":8,\"line\":18,\"verdict\":\"refused\"}\n",
-        status: 1,
-    },
-    Checked {
-        text: programs::SHARE_STORED,
-        verdict: "refused line 18 V7 NotWhole\n",
-        json: "{\"cause\":\"NotWhole\",\"code\":7,\"line\":18,\"verdict\":\"refused\"}\n",
-        status: 1,
-    },
-    Checked {
-        text: programs::SHORT,
-        verdict: "refused line 11 V12 QueueLeft\n",
-        json: "{\"cause\":\"QueueLeft\",\"code\":12,\"line\":11,\"verdict\":\"refused\"}\n",
-        status: 1,
-    },
-    Checked {
-        text: programs::TWICE,
-        verdict: "refused line 17 V17 TokenTwice\n",
-        json: "{\"cause\":\"TokenTwice\",\"code\":17,\"line\":17,\"verdict\":\"refused\"}\n",
-        status: 1,
-    },
-    Checked {
-        text: programs::CREDITS_OVER,
-        verdict: "refused line 3 V18 OverCredits\n",
-        json: "{\"cause\":\"OverCredits\",\"code\":18,\"line\":3,\"verdict\":\"refused\"}\n",
-        status: 1,
-    },
-    Checked {
-        text: programs::NOP_SEEN_TWICE,
-        verdict: "refused line 13 V11 NoEntry\n",
-        json: "{\"cause\":\"NoEntry\",\"code\":11,\"line\":13,\"verdict\":\"refused\"}\n",
-        status: 1,
-    },
-    Checked {
-        text: programs::KEEPS,
-        verdict: "refused line 5 V13 LoopEntry\n",
-        json: "{\"cause\":\"LoopEntry\",\"code\":13,\"line\":5,\"verdict\":\"refused\"}\n",
-        status: 1,
-    },
-    Checked {
-        text: programs::LOSES,
-        verdict: "refused line 12 V14 LoopBody\n",
-        json: "{\"cause\":\"LoopBody\",\"code\":14,\"line\":12,\"verdict\":\"refused\"}\n",
-        status: 1,
-    },
-    Checked {
-        text: programs::FULL,
-        verdict: "refused line 9 V3 QueueFull\n",
-        json: "{\"cause\":\"QueueFull\",\"code\":3,\"line\":9,\"verdict\":\"refused\"}\n",
-        status: 1,
-    },
-    Checked {
-        text: programs::FLOOD,
-        verdict: "refused line 6 V18 OverCredits\n",
-        json: "{\"cause\":\"OverCredits\",\"code\":18,\"line\":6,\"verdict\":\"refused\"}\n",
-        status: 1,
-    },
-    Checked {
-        text: programs::STORED_IN_LOCK,
-        verdict: "refused line 11 V7 NotWhole\n",
-        json: "{\"cause\":\"NotWhole\",\"code\":7,\"line\":11,\"verdict\":\"refused\"}\n",
-        status: 1,
-    },
-    Checked {
-        text: programs::STORED_WHEN_SEEN,
-        verdict: "refused line 16 V11 NoEntry\n",
-        json: "{\"cause\":\"NoEntry\",\"code\":11,\"line\":16,\"verdict\":\"refused\"}\n",
-        status: 1,
-    },
-    Checked {
-        text: programs::PREPARED_OUTSIDE,
-        verdict: "refused line 6 V1 Unlocked\n",
-        json: "{\"cause\":\"Unlocked\",\"code\":1,\"line\":6,\"verdict\":\"refused\"}\n",
-        status: 1,
-    },
-    Checked {
-        text: programs::PEEKED_OUTSIDE,
-        verdict: "refused line 4 V1 Unlocked\n",
-        json: "{\"cause\":\"Unlocked\",\"code\":1,\"line\":4,\"verdict\":\"refused\"}\n",
-        status: 1,
-    },
-    Checked {
-        text: programs::KERNEL_CLASH,
-        verdict: "refused line 9 V2 NoCredit\n",
-        json: "{\"cause\":\"NoCredit\",\"code\":2,\"line\":9,\"verdict\":\"refused\"}\n",
-        status: 1,
-    },
-    Checked {
-        text: programs::THREAD_RACE,
-        verdict: "refused line 8 V7 NotWhole\n",
-        json: "{\"cause\":\"NotWhole\",\"code\":7,\"line\":8,\"verdict\":\"refused\"}\n",
-        status: 1,
-    },
-    Checked {
-        text: programs::NO_LOCK,
-        verdict: "refused line 4 V1 Unlocked\n",
-        json: "{\"cause\":\"Unlocked\",\"code\":1,\"line\":4,\"verdict\":\"refused\"}\n",
-        status: 1,
-    },
-    Checked {
-        text: programs::RAW_ENTRY,
-        verdict: "refused line 6 V4 SlotOpen\n",
-        json: "{\"cause\":\"SlotOpen\",\"code\":4,\"line\":6,\"verdict\":\"refused\"}\n",
-        status: 1,
-    },
-    Checked {
-        text: programs::OUT_OF_BUFFER,
-        verdict: "refused line 5 V9 OutOfBuffer\n",
-        json: "{\"cause\":\"OutOfBuffer\",\"code\":9,\"line\":5,\"verdict\":\"refused\"}\n",
-        status: 1,
-    },
-    Checked {
-        text: programs::OPEN_IN_ONE_BRANCH,
-        verdict: "refused line 8 V15 JoinMismatch\n",
-        json: "{\"cause\":\"JoinMismatch\",\"code\":15,\"line\":8,\"verdict\":\"refused\"}\n",
-        status: 1,
-    },
-    Checked {
-        text: programs::FSYNC_AS_NOP,
-        verdict: "refused line 9 V6 WrongKind\n",
-        json: "{\"cause\":\"WrongKind\",\"code\":6,\"line\":9,\"verdict\":\"refused\"}\n",
-        status: 1,
-    },
-    Checked {
-        text: programs::NO_TOKEN,
-        verdict: "refused line 8 V10 NoToken\n",
-        json: "{\"cause\":\"NoToken\",\"code\":10,\"line\":8,\"verdict\":\"refused\"}\n",
-        status: 1,
-    },
-    Checked {
-        text: programs::CREDITS_OVER_ROOM,
-        verdict: "refused line 3 V18 OverCredits\n",
-        json: "{\"cause\":\"OverCredits\",\"code\":18,\"line\":3,\"verdict\":\"refused\"}\n",
-        status: 1,
-    },
-    Checked {
-        text: programs::FLOOD_OF_FOUR,
-        verdict: "refused line 12 V3 QueueFull\n",
-        json: "{\"cause\":\"QueueFull\",\"code\":3,\"line\":12,\"verdict\":\"refused\"}\n",
-        status: 1,
-    },
+const REFUSED: &[Told] = &[
+    (examples::NOP, 19, 12, "QueueLeft"),
+    (examples::EARLY, 18, 8, "NoShare"),
+    (examples::SHARE_STORED, 18, 7, "NotWhole"),
+    (examples::SHORT, 11, 12, "QueueLeft"),
+    (examples::TWICE, 17, 17, "TokenTwice"),
+    (programs::CREDITS_OVER, 3, 18, "OverCredits"),
+    (examples::NOP_SEEN_TWICE, 13, 11, "NoEntry"),
+    (examples::KEEPS, 5, 13, "LoopEntry"),
+    (examples::LOSES, 12, 14, "LoopBody"),
+    (examples::FULL, 9, 3, "QueueFull"),
+    (examples::FLOOD, 6, 18, "OverCredits"),
+    (programs::STORED_WHEN_SEEN, 16, 11, "NoEntry"),
+    (programs::PREPARED_OUTSIDE, 6, 1, "Unlocked"),
+    (programs::PEEKED_OUTSIDE, 4, 1, "Unlocked"),
+    (examples::KERNEL_CLASH, 9, 2, "NoCredit"),
+    (examples::THREAD_RACE, 8, 7, "NotWhole"),
+    (examples::NO_LOCK, 4, 1, "Unlocked"),
+    (examples::RAW_ENTRY, 6, 4, "SlotOpen"),
+    (examples::OUT_OF_BUFFER, 5, 9, "OutOfBuffer"),
+    (programs::OPEN_IN_ONE_BRANCH, 8, 15, "JoinMismatch"),
+    (programs::CREDITS_OVER_ROOM, 3, 18, "OverCredits"),
 ];
 
 #[test]
-fn refused_programs_are_told(rt: HostRuntime) {
-    check_all(&rt, rt.alloc(), REFUSED);
+fn refused_programs_are_told(rt: HostRuntime) -> Result<(), Fail> {
+    tell_all(&rt, rt.alloc(), ("refused", "V", 1), REFUSED)
+}
+
+#[test]
+fn changed_programs_are_refused(rt: HostRuntime) -> Result<(), Fail> {
+    let alloc = rt.alloc();
+    let four = examples::FLOOD.replacen(alloc, "ring 1\n", "ring 1 cq 4\n", 1)?;
+    let stored = examples::SHARE.replacen(alloc, "loop ", "store a 3 v\nloop ", 1)?;
+    let fsync = examples::NOP.replacen(alloc, "prep_nop", "prep_fsync 3 0", 1)?;
+    let fsync = fsync
+        .as_str()
+        .replacen(alloc, "token", "file 3 0\ntoken", 1)?;
+    let none = examples::NOP.replacen(alloc, " t:7", "", 1)?;
+    let rows = [
+        (four.as_str(), 12, 3, "QueueFull"),
+        (stored.as_str(), 11, 7, "NotWhole"),
+        (fsync.as_str(), 9, 6, "WrongKind"),
+        (none.as_str(), 8, 10, "NoToken"),
+    ];
+    tell_all(&rt, alloc, ("refused", "V", 1), &rows)
 }
 
 /// Texts that are no programs.
-const UNREADABLE: &[Checked] = &[
-    Checked {
-        text: programs::EMPTY,
-        verdict: "unreadable line 1 P2 BadHead\n",
-        json: "{\"cause\":\"BadHead\",\"code\":2,\"line\":1,\"verdict\":\"unreadable\"}\n",
-        status: 2,
-    },
-    Checked {
-        text: programs::ROOM_OF_TWO,
-        verdict: "unreadable line 2 P4 BadNumber\n",
-        json: "{\"cause\":\"BadNumber\",\"code\":4,\"line\":2,\"verdict\":\"unreadable\"}\n",
-        status: 2,
-    },
-    Checked {
-        text: programs::CUT,
-        verdict: "unreadable line 4 P7 Braces\n",
-        json: "{\"cause\":\"Braces\",\"code\":7,\"line\":4,\"verdict\":\"unreadable\"}\n",
-        status: 2,
-    },
+const UNREADABLE: &[Told] = &[
+    ("", 1, 2, "BadHead"),
+    (programs::ROOM_OF_TWO, 2, 4, "BadNumber"),
+    (programs::CUT, 4, 7, "Braces"),
 ];
 
 #[test]
-fn unreadable_texts_are_told(rt: HostRuntime) {
-    check_all(&rt, rt.alloc(), UNREADABLE);
+fn unreadable_texts_are_told(rt: HostRuntime) -> Result<(), Fail> {
+    tell_all(&rt, rt.alloc(), ("unreadable", "P", 2), UNREADABLE)
 }

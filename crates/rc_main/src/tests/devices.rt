@@ -1,9 +1,9 @@
 //! Readers and writers that are interrupted once and would then work: nothing is tried again. The status is 3, one line
 //! on standard error says why, and a beginning of the answer is written.
 
-use super::programs::{DRAIN, HANDOFF, NOP};
-use super::runs::COUNTS;
+use super::programs::COUNTS;
 use crate::command::command;
+use rc_examples::programs::{DRAIN, HANDOFF, NOP};
 use std::alloc::Global;
 use std::io::{self, ErrorKind, Read, Write};
 use std::process::Abort;

@@ -1,7 +1,7 @@
 //! Texts at the limits of the notation, and each beginning of a text.
 
-use super::programs::NOP;
 use crate::command::command;
+use rc_examples::programs::NOP;
 use std::alloc::Global;
 use std::process::Abort;
 use std::sync::Wait;
@@ -100,8 +100,8 @@ fn few_beginnings_are_programs(rt: HostRuntime) {
     for len in 0..NOP.len() + 1 {
         let (status, _) = checked(&rt, rt.alloc(), &NOP.as_bytes()[..len]);
         let wanted = match len {
-            18 | 19 | 30 | 31 => 0,
-            162 | 163 => 1,
+            71 | 72 | 83 | 84 => 0,
+            215 | 216 => 1,
             _ => 2,
         };
         assert_eq!(rt; status, wanted, "status of the first {len} bytes");

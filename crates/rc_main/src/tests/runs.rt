@@ -1,24 +1,15 @@
 //! Programs that are run on threads.
 
-use super::programs::{EARLY, EMPTY, EMPTY_THREAD, HANDOFF, NOP, SHARE};
+use super::programs::COUNTS;
 use super::{Case, run_as};
 use crate::command::command;
+use rc_examples::programs::{EARLY, EMPTY_THREAD, HANDOFF, NOP, SHARE};
 use std::alloc::{AllocError, Global};
 use std::process::Abort;
 use std::str;
 use std::sync::Wait;
 use std::test::Fail;
 use std::thread::Threads;
-
-/// A thread that counts for ever.
-pub const COUNTS: &str = "ringcheck 1
-ring 1
-thread t0 holds {
-loop keeps {
-x = x + 1
-}
-}
-";
 
 const RUNS: &[Case] = &[
     Case {
@@ -43,7 +34,7 @@ limit after 5 events
     },
     Case {
         words: &["run", "--seed", "0", "--limit", "1000000"],
-        text: EMPTY,
+        text: "",
         output: "unreadable line 1 P2 BadHead\n",
         errors: "",
         status: 2,

@@ -1,8 +1,8 @@
 //! Accepted programs, walked at random.
 
-use super::programs;
 use rc_admit::admitted::{Admitted, admit};
 use rc_device::chooser::{Chooser, Seeded};
+use rc_examples::programs;
 use rc_world::controls::Next;
 use rc_world::event::Item;
 use rc_world::world::World;

@@ -1,6 +1,7 @@
 //! Texts and their answers.
 
 use super::*;
+use rc_examples::programs::{HANDOFF, NOP};
 use std::process::Abort;
 use std::test::Fail;
 
@@ -8,12 +9,6 @@ mod faults;
 mod limits;
 mod pieces;
 mod programs;
-
-const NOP: &str =
-    "ringcheck 1\nring 1\ntoken 7 nop\nthread t0 holds t:7 c:1 {\nlock {\nget_sqe\nprep_nop\nset_data64 7\nr = submit\npeek_cqe r {\ncase 7 {\ncqe_seen\n}\nother {\n}\nnone {\n}\n}\n}\n}\n";
-
-const HANDOFF: &str =
-    "ringcheck 1\nring 4\nfile 3 64\nbuffer a 16 1\ntoken 7 read a\nthread t0 holds a:1 t:7 c:1 {\nlock {\nget_sqe\nprep_read 3 a 16 0\nset_data64 7\nloop keeps q:1 {\nr = submit\nif sq_ready == 0 {\nbreak\n}\n}\n}\n}\nthread t1 holds {\nloop keeps {\nlock {\npeek_cqe r {\ncase 7 {\ncqe_seen\nbreak\n}\nother {\n}\nnone {\n}\n}\n}\n}\nv = load a 0\nprint v\n}\n";
 
 // The line and the number of the fault of an answer, (0, 0) of a program, and (0, 20) where memory ran out.
 fn place_of(answer: Result<Program, ReadFault>) -> (u32, u8) {

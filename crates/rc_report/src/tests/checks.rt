@@ -5,53 +5,9 @@ use crate::check_engine::check_engine;
 use crate::engine_fault::EngineFault;
 use crate::streams::{ReadSource, Sink, WriteSink};
 use crate::verdict::verdict_text;
+use rc_examples::programs::{DRAIN, FULL};
 use std::alloc::Global;
 use std::process::Abort;
-
-/// A submit that is tried until nothing is queued, and a completion that is waited for.
-const DRAIN: &str = "ringcheck 1
-ring 1
-token 7 nop
-thread t0 holds t:7 c:1 {
-lock {
-get_sqe
-prep_nop
-set_data64 7
-loop keeps q:1 {
-r = submit
-if sq_ready == 0 {
-break
-}
-}
-loop keeps q:0 {
-peek_cqe r {
-case 7 {
-cqe_seen
-break
-}
-other {
-}
-none {
-}
-}
-}
-}
-}
-";
-
-/// A second entry of a ring of one.
-const FULL: &str = "ringcheck 1
-ring 1
-token 7 nop
-thread t0 holds t:7 c:2 {
-lock {
-get_sqe
-prep_nop
-set_data64 7
-get_sqe
-}
-}
-";
 
 /// A text, and its verdict as text and as JSON.
 const CHECKED: [(&str, &str, &str); 4] = [

@@ -6,31 +6,10 @@ use crate::check_engine::check_engine;
 use crate::engine_fault::EngineFault;
 use crate::step_engine::step_engine;
 use crate::streams::{ReadSource, Sink, Source, WriteSink};
+use rc_examples::programs::NOP;
 use std::alloc::Global;
 use std::io::{self, ErrorKind, Read};
 use std::process::Abort;
-
-const NOP: &str = "ringcheck 1
-ring 1
-token 7 nop
-thread t0 holds t:7 c:1 {
-lock {
-get_sqe
-prep_nop
-set_data64 7
-r = submit
-peek_cqe r {
-case 7 {
-cqe_seen
-}
-other {
-}
-none {
-}
-}
-}
-}
-";
 
 const SCHEDULE: &str = "t0,t0,t0,t0,t0,k:7=0,t0,t0,t0";
 

@@ -5,6 +5,7 @@ ghost use Rattle.rc_report.specs.Traces.{EndsAtItsThread, NamesItsThread};
 
 use crate::streams::WriteSink;
 use crate::trace::{End, trace_text};
+use rc_examples::programs::EMPTY_THREAD;
 use rc_lang::program::Program;
 use rc_read::read_program;
 use rc_world::event::{Action, Completion, Event};
@@ -48,7 +49,7 @@ const STEPS: [(Action, &str); 21] = [
 ];
 
 fn one_thread(rt: &impl Abort, alloc: Global) -> Program {
-    match read_program(alloc, b"ringcheck 1\nring 1\nthread t0 holds {\n}\n") {
+    match read_program(alloc, EMPTY_THREAD.as_bytes()) {
         Ok(program) => program,
         Err(fault) => panic!(rt; "{fault}"),
     }
@@ -115,17 +116,6 @@ fn each_end_has_its_line(rt: HostRuntime) {
     let alloc = rt.alloc();
     let program = one_thread(&rt, alloc);
     assert!(rt; has_thread(&program));
-    let overflow = Fault {
-        kind: FaultKind::Overflow,
-        party: Party::InKernel,
-    };
-    let out_of_buffer = Fault {
-        kind: FaultKind::OutOfBuffer,
-        party: Party::At {
-            thread: 0,
-            line: 4096,
-        },
-    };
     ends(&rt, alloc, &program, End::Ended, "ended after 0 events\n");
     ends(
         &rt,
@@ -149,6 +139,24 @@ fn each_end_has_its_line(rt: HostRuntime) {
         End::NotEnabled(3),
         "item 3 not enabled\n",
     );
+}
+
+#[test]
+fn each_fault_ends_a_trace(rt: HostRuntime) {
+    let alloc = rt.alloc();
+    let program = one_thread(&rt, alloc);
+    assert!(rt; has_thread(&program));
+    let overflow = Fault {
+        kind: FaultKind::Overflow,
+        party: Party::InKernel,
+    };
+    let out_of_buffer = Fault {
+        kind: FaultKind::OutOfBuffer,
+        party: Party::At {
+            thread: 0,
+            line: 4096,
+        },
+    };
     ends(
         &rt,
         alloc,

@@ -348,7 +348,7 @@ fn handoff_with_a_reserved_name_is_not_read(rt: HostRuntime) {
 #[test]
 fn beginnings_of_nop_are_read_or_not(rt: HostRuntime) {
     let text = NOP.as_bytes();
-    assert_eq!(rt; text.len(), 163);
+    assert_eq!(rt; text.len(), 216);
     assert_eq!(rt;
         fault_of(
             &rt,
@@ -356,10 +356,10 @@ fn beginnings_of_nop_are_read_or_not(rt: HostRuntime) {
         ),
         (4, 7)
     );
-    for length in 0..164 {
+    for length in 0..217 {
         if length <= text.len() {
             let whole = match length {
-                18 | 19 | 30 | 31 | 162 | 163 => true,
+                71 | 72 | 83 | 84 | 215 | 216 => true,
                 _ => false,
             };
             let read = fault_of(&rt, &text[..length]) == (0, 0);

@@ -1,11 +1,10 @@
-use Rattle.std.proofs.Common.{◌≡◌, ◌∙◌, Err, ap, subst, sym}
+use Rattle.std.proofs.Common.{◌≡◌, Err, ap, subst, sym}
 use Rattle.rc_read.specs.Answer.{answer_of}
 use Rattle.rc_read.specs.Causes.{number_of_cause}
 use Rattle.rc_read.specs.Stream.{IsAnswer}
 use Rattle.rc_report.specs.declared.verdict.Verdict.TheVariants.{Unreadable}
 use Rattle.rc_report.specs.Engine.{answer_text, stepped_text}
 use Rattle.rc_report.specs.Verdicts.{verdict_text}
-use Rattle.rc_report.proofs.Causes.{cause_numbered-number}
 use Rattle.rc_report.proofs.Pieces.{appends_along}
 use Rattle.rc_report.proofs.step_engine.step_bytes.Goals as goal
 
@@ -14,7 +13,6 @@ returns-in_ok-verdict_text-in-Err-Text-clause-text g c =
     let answer : answer_of c.args.text.items ≡ Err (c.in-Err-Text.line, number_of_cause c.in-Err-Text.cause) =
     subst (λ f. IsAnswer c.args.text.items (Err f)) c.in-Err-Text.field-0-is c.in-Err-Text.ensures in
     let same : verdict_text (Unreadable c.in-Err-Text.line c.in-Err-Text.cause) ≡ stepped_text c.args.text.items c.args.schedule.now =
-    ap (λ cause. verdict_text (Unreadable c.in-Err-Text.line cause)) (sym (cause_numbered-number c.in-Err-Text.cause))
-    ∙ sym (ap (λ answer. answer_text answer c.args.schedule.now) answer) in
+    sym (ap (λ answer. answer_text answer c.args.schedule.now) answer) in
     let written = rw (c.in-Err-Text.line-is, c.in-Err-Text.cause-is) at c.in_ok-verdict_text-in-Err-Text.ensures.text in
     appends_along _ _ _ _ same written

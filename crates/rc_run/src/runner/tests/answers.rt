@@ -1,7 +1,7 @@
 //! What a run answers.
 
 use super::prints;
-use crate::examples::{HANDOFF, admitted};
+use crate::examples::{EMPTY_THREAD, HANDOFF, admitted};
 use crate::gate::OpenGate;
 use crate::report::{RunFault, RunReport};
 use crate::runner::run;
@@ -12,13 +12,6 @@ use std::alloc::Global;
 use std::sync::Wait;
 use std::test::*;
 use std::thread::Threads;
-
-/// A thread with nothing to do.
-const EMPTY: &str = "ringcheck 1
-ring 1
-thread t0 holds {
-}
-";
 
 /// A thread that counts for ever.
 const COUNTS: &str = "ringcheck 1
@@ -87,7 +80,9 @@ fn run_of_another_program(rt: HostRuntime) -> Result<(), Fail> {
 
 #[test]
 fn an_empty_thread_ends(rt: HostRuntime) -> Result<(), Fail> {
-    let report = seeded(&rt, rt.alloc(), EMPTY, 1, 1)?.ok().ok_or("ends")?;
+    let report = seeded(&rt, rt.alloc(), EMPTY_THREAD, 1, 1)?
+        .ok()
+        .ok_or("ends")?;
     assert_eq!(rt; report.history.len(), 0);
     assert_eq!(rt; report.turns.as_slice(), [0u64].as_slice());
     Ok(())

@@ -1,0 +1,77 @@
+#!/usr/bin/env python3
+"""Holds the texts of the crate rc_examples against the files of examples/, or writes them.
+
+usage: audit/examples.py [--write]
+
+The crate has a constant for each program of examples/, named as its file, and a row for each text of examples/causes,
+besides what the file expected there says. Without --write nothing is changed, and the status is 1 where a text of the
+crate differs from its file by so much as a byte, or one is missing on either side.
+"""
+
+import difflib
+import sys
+from pathlib import Path
+
+TOP = Path(__file__).resolve().parent.parent
+EXAMPLES = TOP / "examples"
+CAUSES = EXAMPLES / "causes"
+SOURCES = TOP / "crates" / "rc_examples" / "src"
+
+
+def written(character):
+    """A character as it is written in a text of the crate."""
+    if character in '\\"':
+        return "\\" + character
+    if character == "\t":
+        return "\\t"
+    return character if character == "\n" or " " <= character <= "~" else f"\\u{{{ord(character):x}}}"
+
+
+def literal(path):
+    """The bytes of a file as a text of the crate. Its lines begin at the left, as in the file."""
+    text = path.read_bytes().decode()
+    # Behind a backslash at a line's end blanks are no part of a text.
+    start = "" if text[:1].isspace() else "\\\n"
+    return '"' + start + "".join(map(written, text)) + '"'
+
+
+def programs():
+    """The file of the crate with the programs."""
+    constants = [f"\npub const {path.stem.upper()}: &str = {literal(path)};\n" for path in sorted(EXAMPLES.glob("*.rc"))]
+    return "//! The programs of examples/, each as its file has it.\n" + "".join(constants)
+
+
+def causes():
+    """The file of the crate with the texts of the causes."""
+    row = "    Example {{\n        name: \"{}\",\n        text: {},\n    }},\n"
+    rows = [row.format(path.name, literal(path)) for path in sorted(CAUSES.glob("*.rc"))]
+    return (
+        "//! The texts of examples/causes, each with a mistake, and what is printed for them.\n\n"
+        "use crate::example::Example;\n\n"
+        "pub const CAUSES: &[Example] = &[\n" + "".join(rows) + "];\n\n"
+        "pub const EXPECTED: &str = " + literal(CAUSES / "expected") + ";\n"
+    )
+
+
+def differences(path, wanted):
+    """How the file of the crate differs from what the examples make of it, line by line."""
+    found = path.read_bytes().decode() if path.is_file() else ""
+    lines = found.split("\n"), wanted.split("\n")
+    return list(difflib.unified_diff(*lines, str(path.relative_to(TOP)), "examples", lineterm=""))
+
+
+def main():
+    if sys.argv[1:] not in ([], ["--write"]):
+        sys.exit(__doc__)
+    status = 0
+    for name, wanted in (("programs.rt", programs()), ("causes.rt", causes())):
+        if sys.argv[1:]:
+            (SOURCES / name).write_bytes(wanted.encode())
+        elif found := differences(SOURCES / name, wanted):
+            print("\n".join(["the texts of rc_examples differ from examples/:", *found]), file=sys.stderr)
+            status = 1
+    return status
+
+
+if __name__ == "__main__":
+    sys.exit(main())
