@@ -6,7 +6,7 @@ use Rattle.rc_read.specs.Answer.{answer_of}
 use Rattle.rc_report.specs.declared.engine_fault.EngineFault.{EngineFault}
 use Rattle.rc_report.specs.declared.engine_fault.EngineFault.TheVariants.{Read, Write, OutOfMemory}
 use Rattle.rc_report.specs.declared.verdict.Verdict.{Verdict}
-use Rattle.rc_report.specs.Checks.{Judges}
+use Rattle.rc_report.specs.Checks.{GivesVerdict}
 use Rattle.rc_report.specs.Statuses.{status_of_verdict}
 use Rattle.rc_report.specs.Streams.{CountsReads, Given}
 use Rattle.rc_report.specs.Verdicts.{verdict_text}
@@ -57,10 +57,10 @@ memory_failed old new x (Err y) c h = subst (λ z. ReadsOnce old new (Err z)) (s
 
 -- The verdict was written on the text that was read.
 pub verdict_told : (gives : ℕ → ℤ → Type 0) (bytes left : Option (List ℕ)) (text : List ℕ) (limit : ℕ) (old new : Option (List ℕ)) (v : Verdict) (r : Result ℕ CommandFault) →
-    Consumes bytes left text → IsAtEnd left → Judges (answer_of text) (Err v) → IfOk r (λ s. s ≡ status_of_verdict v) → OnOk r (Appends old new (verdict_text v)) → IfOk r (AnswersRun gives bytes limit old new)
+    Consumes bytes left text → IsAtEnd left → GivesVerdict (answer_of text) (Err v) → IfOk r (λ s. s ≡ status_of_verdict v) → OnOk r (Appends old new (verdict_text v)) → IfOk r (AnswersRun gives bytes limit old new)
 verdict_told gives None left text limit old new v (Ok s) k z j h a = tt
 verdict_told gives (Some xs) None text limit old new v (Ok s) k z j h a = absurd k
 verdict_told gives (Some xs) (Some ys) text limit old new v (Ok s) k z j h a =
     let whole : xs ≡ text = k ∙ ap (λ us. text ++ us) z ∙ append_nothing text in
-    inr (v, subst (λ us. Judges (answer_of us) (Err v)) (sym whole) j, a, h)
+    inr (v, subst (λ us. GivesVerdict (answer_of us) (Err v)) (sym whole) j, a, h)
 verdict_told gives bytes left text limit old new v (Err e) k z j h a = tt

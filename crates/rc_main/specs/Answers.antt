@@ -11,7 +11,7 @@ use Rattle.rc_report.specs.declared.step_engine.StepEnd.{StepEnd}
 use Rattle.rc_report.specs.declared.trace.End.{End}
 use Rattle.rc_report.specs.declared.trace.End.TheVariants as end
 use Rattle.rc_report.specs.declared.verdict.Verdict.{Verdict}
-use Rattle.rc_report.specs.Checks.{ChecksAs, Judges}
+use Rattle.rc_report.specs.Checks.{ChecksAs, GivesVerdict}
 use Rattle.rc_report.specs.Engine.{StepsAs}
 use Rattle.rc_report.specs.Statuses.{status_of_end, status_of_step, status_of_verdict}
 use Rattle.rc_report.specs.Streams.{CountsReads, Given}
@@ -47,7 +47,7 @@ RunsProgram gives program limit old new status =
 -- The verdict that says why a text isn't admitted was written.
 abbrev pub TellsVerdict : List ℕ → Option (List ℕ) → Option (List ℕ) → ℕ → Type 0
 TellsVerdict bytes old new status =
-    (verdict : Verdict) × Judges (answer_of bytes) (Err verdict) × Appends old new (verdict_text verdict) × (status ≡ status_of_verdict verdict)
+    (verdict : Verdict) × GivesVerdict (answer_of bytes) (Err verdict) × Appends old new (verdict_text verdict) × (status ≡ status_of_verdict verdict)
 
 -- The status of `run` is that of the end of the run, or of the verdict.
 abbrev pub AnswersRun : (ℕ → ℤ → Type 0) → Option (List ℕ) → ℕ → Option (List ℕ) → Option (List ℕ) → ℕ → Type 0

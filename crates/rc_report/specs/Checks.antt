@@ -30,11 +30,11 @@ IsVerdict (Ok P) verdict = IsProgramVerdict P verdict
 IsVerdict (Err (line, number)) verdict = IsFaultVerdict line number verdict
 
 -- The program is admitted; or a verdict says why it isn't.
-abbrev pub Judges : Result Program (ℕ × ℕ) → Result Program Verdict → Type 0
-Judges answer (Ok admitted) = (answer ≡ Ok admitted) × Accepts admitted
-Judges answer (Err Accepted) = ⊥
-Judges answer (Err (Refused r)) = IsVerdict answer (Refused r)
-Judges answer (Err (Unreadable line cause)) = IsVerdict answer (Unreadable line cause)
+abbrev pub GivesVerdict : Result Program (ℕ × ℕ) → Result Program Verdict → Type 0
+GivesVerdict answer (Ok admitted) = (answer ≡ Ok admitted) × Accepts admitted
+GivesVerdict answer (Err Accepted) = ⊥
+GivesVerdict answer (Err (Refused r)) = IsVerdict answer (Refused r)
+GivesVerdict answer (Err (Unreadable line cause)) = IsVerdict answer (Unreadable line cause)
 
 -- as JSON, or as text
 abbrev pub told : Bool → Verdict → List ℕ

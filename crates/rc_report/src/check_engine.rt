@@ -2,7 +2,7 @@
 
 ghost use Rattle.std.specs.Prelude.{◌≡◌, ◌+◌, ◌<◌, ◌^◌, IfOk, Some};
 ghost use Rattle.rc_read.specs.Answer.{answer_of};
-ghost use Rattle.rc_report.specs.Checks.{ChecksAs, IsVerdict, Judges, told};
+ghost use Rattle.rc_report.specs.Checks.{ChecksAs, IsVerdict, GivesVerdict, told};
 ghost use Rattle.rc_report.specs.Engine.{WritesNothingOnRead};
 ghost use Rattle.rc_report.specs.Streams.{CountsReads, CountsWrites, FailsToWriteOrGrow, Wrote};
 
@@ -69,7 +69,7 @@ fn verdict_on(alloc: Global, text: &[u8]) -> Result<Verdict, AllocError>
 
 /// The program of a text, where it is admitted, or the verdict that says why it isn't.
 pub fn judged(alloc: Global, text: &[u8]) -> Result<Result<Admitted, Verdict>, AllocError>
-    ensures { IfOk result (Judges (answer_of text.now)) }
+    ensures { IfOk result (GivesVerdict (answer_of text.now)) }
 {
     match admit(alloc, text) {
         Ok(admitted) => Ok(Ok(admitted)),
