@@ -12,9 +12,9 @@ use Rattle.rc_lang.specs.declared.lines.Stmt.{Stmt}
 use Rattle.rc_lang.specs.declared.lines.Stmt.TheVariants.{Do, Lock, EndLock, If, Else, EndIf, Peek, Case, Other, Nothing, EndArm, EndPeek, Loop, EndLoop, Break}
 use Rattle.rc_lang.specs.declared.lines.Test.{Test}
 use Rattle.rc_lang.specs.Nesting.{blocks_at, in_lock, in_peek}
-use Rattle.rc_lang.specs.Program.{HasArms, IsProgram, Program, Thread, end_at, ends_in, items_at, lines_of, stmt_at}
+use Rattle.rc_lang.specs.Program.{HasArms, IsProgram, Program, Thread, end_at, ends_in, items_at, lines_of, stmt_at, stmt_of}
 use Rattle.rc_lang.proofs.Along.{same_lock}
-use Rattle.rc_lang.proofs.Closing.{closes_arm, closes_if, closes_lock, closes_loop, leaves_loop, turns}
+use Rattle.rc_lang.proofs.Closing.{closes_arm, closes_if, closes_lock, closes_loop, leaves_loop, turns as turns_here}
 use Rattle.rc_lang.proofs.Fitting.{peek_found, placed_at}
 use Rattle.rc_lang.proofs.Jumps.{IsLaid, arm_leads, back_leads, break_leads, case_lands, else_leads, false_leads, nothing_lands, other_lands}
 use Rattle.rc_lang.proofs.Lookups.{blocks_next, in_lock_more, in_lock_pushed, line_with, nested_here}
@@ -25,45 +25,48 @@ use Rattle.rc_rules.specs.declared.mode.Mode.TheVariants.{Unlocked, Locked}
 use Rattle.rc_rules.specs.declared.mode.Peeked.{Peeked}
 use Rattle.rc_rules.specs.declared.mode.Peeked.TheVariants.{Unseen, Sees, SeesOther}
 use Rattle.rc_rules.specs.declared.mode.Slot.TheVariants.{Closed}
-use Rattle.rc_rules.specs.Labels.{Label, Dead, Live, Weaker}
-use Rattle.rc_rules.specs.Labellings.{IsGood, IsGoodAt, here, label_at}
+use Rattle.rc_rules.specs.Labels.{Label, Dead, Live, Weaker, WeakerThanEach}
+use Rattle.rc_rules.specs.Labellings.{IsGood, IsGoodAt, here, label_at, skipped}
+use Rattle.rc_rules.specs.Sides.{Anything, Sides, brings, forgets, may_skip, nowhere, on, test_goes, turns, write_of, write_to}
 use Rattle.rc_rules.specs.Premises.{Meets, Premise}
-use Rattle.rc_rules.specs.Rules.{asks, bag_on, broken, case_at, goes, may_break, may_loop, may_release, op_effect, op_premises, peek_at, peek_premises, test_effect, test_mode, test_premises, top_mode, with_peeked}
+use Rattle.rc_rules.specs.Rules.{asks, asks_both, broken, case_at, goes, may_break, may_loop, may_release, op_effect, op_premises, peek_at, peek_premises, test_effect, test_mode, test_premises, top_mode, with_peeked}
 use Rattle.rc_rules.specs.States.{is_locked}
 use Rattle.rc_rules.proofs.Weaker.{locked_same, peeked_grows, peeked_locked, test_locked, weaker_trans}
-use Rattle.rc_split.specs.Bags.{Part, TokenOf}
+use Rattle.rc_split.specs.Bags.{Part, TokenOf, bag_on}
 use Rattle.rc_world.specs.Controls.{arm_for, none_arm}
 use Rattle.rc_admit.proofs.FlatLooks.{arm_in, arm_is, break_in, get_take, len_take, none_is_at}
-use Rattle.rc_admit.proofs.FlatRules.{IsBelow, behind_break, behind_op, below, covered, top_same, unlocked_of}
+use Rattle.rc_admit.proofs.FlatRules.{IsBelow, behind_break, behind_op, below, covered, for_each, top_same, unlocked_of}
 use Rattle.rc_admit.proofs.Lists.{Each, Each-append}
-use Rattle.rc_admit.proofs.Owned.{EdgeAt, HasEdge, Leads, Stand}
-use Rattle.rc_admit.proofs.Rule.{asks_lock}
+use Rattle.rc_admit.proofs.Owned.{EdgeAt, HasEdge, Leads, MayBecome, MayPass, Stand}
+use Rattle.rc_admit.proofs.Rule.{AtLive, asks_lock}
+use Rattle.rc_admit.proofs.Sides.{IsStored, any_turns, brought, loop_turns, meets_side, op_turns, side_of, stored_set, test_may, ungate}
 
 -- ---- how a thread stands
 
--- With some variables, a label that is live, in a lock exactly where its place is.
-pub record Entered (lines : List Line) (labels : List Label) (o : ℕ) : Type 0 where
+-- With some variables, a label on their side that is live, in a lock exactly where its place is.
+pub record Entered (flag : Option ℕ) (lines : List Line) (labels : List Sides) (o : ℕ) : Type 0 where
   pub variables : List ℤ
   pub bag : Part → ℕ
   pub mode : Mode
-  pub label : label_at labels o ≡ Live bag mode
+  pub label : label_at labels o (side_of flag variables) ≡ Live bag mode
   pub locked : is_locked mode ≡ in_lock (blocks_at lines o)
 
 -- A loop and a peek were entered with a live label.
-abbrev pub Enters : List Line → List Label → Block → Type 0
-Enters lines labels (InPeek o) = Entered lines labels o
-Enters lines labels (InLoop o k) = Entered lines labels o
-Enters lines labels _ = Unit {0}
+abbrev pub Enters : Option ℕ → List Line → List Sides → Block → Type 0
+Enters flag lines labels (InPeek o) = Entered flag lines labels o
+Enters flag lines labels (InLoop o k) = Entered flag lines labels o
+Enters flag lines labels _ = Unit {0}
 
--- A thread stands at a place with its label, which is live, in blocks that were entered so.
-pub record At (lines : List Line) (labels : List Label) (b : Part → ℕ) (m : Mode) (vars : List ℤ) (k : ℕ) : Type 0 where
-  pub label : label_at labels k ≡ Live b m
+-- A thread stands at a place with the label on the side of its flag, which is live, in blocks that were entered so.
+pub record At (flag : Option ℕ) (lines : List Line) (labels : List Sides) (b : Part → ℕ) (m : Mode) (vars : List ℤ) (k : ℕ) : Type 0 where
+  pub label : label_at labels k (side_of flag vars) ≡ Live b m
+  pub stored : IsStored flag vars
   pub locked : is_locked m ≡ in_lock (blocks_at lines k)
-  pub openers : Each (Enters lines labels) (blocks_at lines k)
+  pub openers : Each (Enters flag lines labels) (blocks_at lines k)
 
 -- with the labels of some labelling that obeys the rules
 abbrev pub Labelled : Program → Stand
-Labelled P i b m vars k = (thread : Thread) × (labels : List Label) × IsGood P thread (lines_of P i) labels × At (lines_of P i) labels b m vars k
+Labelled P i b m vars k = (thread : Thread) × (labels : List Sides) × IsGood P thread (lines_of P i) labels × At thread.flag (lines_of P i) labels b m vars k
 
 -- ---- lists
 
@@ -81,12 +84,18 @@ or_first false b e = absurd (cc)
 
 -- ---- the edges
 
-module _ (P : Program) (wf : IsProgram P) (i : ℕ) (thread : Thread) (labels : List Label) (good : IsGood P thread (lines_of P i) labels) where
+module _ (P : Program) (wf : IsProgram P) (i : ℕ) (thread : Thread) (labels : List Sides) (good : IsGood P thread (lines_of P i) labels) where
+  abbrev flag : Option ℕ
+  flag = thread.flag
+
   abbrev lines : List Line
   lines = lines_of P i
 
   abbrev ends : List ℕ
   ends = ends_in (slice_get P.threads i)
+
+  abbrev In : Block → Type 0
+  In o = Enters flag lines labels o
 
   laid : IsLaid lines ends
   laid = laid_in P wf i
@@ -95,16 +104,24 @@ module _ (P : Program) (wf : IsProgram P) (i : ℕ) (thread : Thread) (labels : 
   good_at j s e = let l = line_with lines j s e in subst (λ x. IsGoodAt P thread lines labels j x) l.2 (good.each j l.0 l.1)
 
   -- the label of a place before a line, as the rule of that line sees it
-  known_is : (k j : ℕ) → k ≤ j → label_at (take (j + 1) labels) k ≡ label_at labels k
-  known_is k j le = get_or-take (j + 1) labels k Dead (omega arith)
+  known_is : (k j : ℕ) (z : Bool) → k ≤ j → label_at (take (j + 1) labels) k z ≡ label_at labels k z
+  known_is k j z le = ap (on z) (get_or-take (j + 1) labels k nowhere (omega arith))
 
-  here_is : (k : ℕ) (s : Stmt) → stmt_at lines k ≡ Some s → here (take k lines) (take (k + 1) labels) ≡ label_at labels k
-  here_is k s e = let l = line_with lines k s e in ap (λ n. label_at (take (k + 1) labels) n) (len_take k lines l.0 l.1) ∙ known_is k k (omega arith)
+  here_is : (k : ℕ) (z : Bool) (s : Stmt) → stmt_at lines k ≡ Some s → here (take k lines) (take (k + 1) labels) z ≡ label_at labels k z
+  here_is k z s e = let l = line_with lines k s e in ap (λ n. label_at (take (k + 1) labels) n z) (len_take k lines l.0 l.1) ∙ known_is k k z (omega arith)
+
+  -- what the rule of a later line sees on this one
+  stmt_is : (k j : ℕ) (s : Stmt) → k < j → stmt_at lines k ≡ Some s → stmt_at (take j lines) k ≡ Some s
+  stmt_is k j s lt e = let l = line_with lines k s e in ap stmt_of (get_take j k lines l.0 lt l.1) ∙ ap Some l.2
+
+  -- the end of a branch that is read at the line at k, as a later line sees it
+  skipped_is : (k j : ℕ) (z : Bool) (s : Stmt) (t : Label) → k < j → stmt_at lines k ≡ Some s → may_skip flag z (Some s) ≡ true → Weaker t (skipped thread (take j lines) (take (j + 1) labels) k z) → Weaker t (label_at (take (j + 1) labels) k z)
+  skipped_is k j z s t lt e may w = ungate (may_skip flag z (stmt_at (take j lines) k)) t _ (ap (may_skip flag z) (stmt_is k j s lt e) ∙ may) w
 
   -- to a place where these blocks are open
-  pub lead : (b : Part → ℕ) (m : Mode) (new : List ℤ) (k : ℕ) (bs : List Block) → blocks_at lines k ≡ bs → is_locked m ≡ in_lock bs → Each (Enters lines labels) bs → Weaker (label_at labels k) (Live b m) → Leads (Labelled P) i b m new k
-  lead b m new k bs n l os w =
-      let s = below (label_at labels k) b m w in
+  pub lead : (b : Part → ℕ) (m : Mode) (new : List ℤ) (k : ℕ) (bs : List Block) → blocks_at lines k ≡ bs → is_locked m ≡ in_lock bs → IsStored flag new → Each (Enters flag lines labels) bs → Weaker (label_at labels k (side_of flag new)) (Live b m) → Leads (Labelled P) i b m new k
+  lead b m new k bs n l h os w =
+      let s = below (label_at labels k (side_of flag new)) b m w in
       record {
         bag = s.bag;
         mode = s.mode;
@@ -116,66 +133,85 @@ module _ (P : Program) (wf : IsProgram P) (i : ℕ) (thread : Thread) (labels : 
           good,
           record {
             label = s.is;
+            stored = h;
             locked = locked_same s.mode m s.weaker ∙ l ∙ ap in_lock (sym n);
-            openers = subst (λ x. Each (Enters lines labels) x) (sym n) os;
+            openers = subst (λ x. Each In x) (sym n) os;
           },
         );
       }
 
-  module _ (b : Part → ℕ) (m : Mode) (vars : List ℤ) (k : ℕ) (a : At lines labels b m vars k) where
-    entered : Entered lines labels k
+  module _ (b : Part → ℕ) (m : Mode) (vars : List ℤ) (k : ℕ) (a : At thread.flag lines labels b m vars k) where
+    -- the side on which the thread stands
+    abbrev side : Bool
+    side = side_of flag vars
+
+    -- its side behind a peek into x that brings v
+    abbrev turned : ℕ → ℤ → Bool
+    turned x v = side_of flag (slice_set vars x v)
+
+    entered : Entered flag lines labels k
     entered = record { variables = vars; bag = b; mode = m; label = a.label; locked = a.locked }
 
     -- to a place that stands in the same blocks
-    same : (c : Part → ℕ) (n : Mode) (new : List ℤ) (j : ℕ) → blocks_at lines j ≡ blocks_at lines k → is_locked n ≡ is_locked m → Weaker (label_at labels j) (Live c n) → Leads (Labelled P) i c n new j
-    same c n new j e l w = lead c n new j (blocks_at lines k) e (l ∙ a.locked) a.openers w
+    same : (c : Part → ℕ) (n : Mode) (new : List ℤ) (j : ℕ) → blocks_at lines j ≡ blocks_at lines k → is_locked n ≡ is_locked m → IsStored flag new → Weaker (label_at labels j (side_of flag new)) (Live c n) → Leads (Labelled P) i c n new j
+    same c n new j e l h w = lead c n new j (blocks_at lines k) e (l ∙ a.locked) h a.openers w
 
     -- into blocks that are opened here, none of them a lock
-    into : (c : Part → ℕ) (n : Mode) (new : List ℤ) (j : ℕ) (bs : List Block) → blocks_at lines j ≡ blocks_at lines k ++ bs → in_lock bs ≡ false → Each (Enters lines labels) bs → is_locked n ≡ is_locked m → Weaker (label_at labels j) (Live c n) → Leads (Labelled P) i c n new j
-    into c n new j bs e f os l w =
+    into : (c : Part → ℕ) (n : Mode) (new : List ℤ) (j : ℕ) (bs : List Block) → blocks_at lines j ≡ blocks_at lines k ++ bs → in_lock bs ≡ false → IsStored flag new → Each (Enters flag lines labels) bs → is_locked n ≡ is_locked m → Weaker (label_at labels j (side_of flag new)) (Live c n) → Leads (Labelled P) i c n new j
+    into c n new j bs e f h os l w =
         let s : in_lock (blocks_at lines k ++ bs) ≡ in_lock (blocks_at lines k) = in_lock_more (blocks_at lines k) bs ∙ ap (λ x. in_lock (blocks_at lines k) || x) f ∙ or-false (in_lock (blocks_at lines k)) in
-        lead c n new j (blocks_at lines k ++ bs) e (l ∙ a.locked ∙ sym s) (Each-append (Enters lines labels) (blocks_at lines k) bs a.openers os) w
+        lead c n new j (blocks_at lines k ++ bs) e (l ∙ a.locked ∙ sym s) h (Each-append In (blocks_at lines k) bs a.openers os) w
 
-    -- out of blocks
-    out : (c : Part → ℕ) (n : Mode) (new : List ℤ) (j : ℕ) (bs cs : List Block) → blocks_at lines k ≡ bs ++ cs → blocks_at lines j ≡ bs → is_locked n ≡ in_lock bs → Weaker (label_at labels j) (Live c n) → Leads (Labelled P) i c n new j
-    out c n new j bs cs d e l w = lead c n new j bs e l (Each-left (Enters lines labels) bs cs (subst (λ x. Each (Enters lines labels) x) d a.openers)) w
+    -- out of blocks, with the same variables
+    out : (c : Part → ℕ) (n : Mode) (j : ℕ) (bs cs : List Block) → blocks_at lines k ≡ bs ++ cs → blocks_at lines j ≡ bs → is_locked n ≡ in_lock bs → Weaker (label_at labels j (side_of flag vars)) (Live c n) → Leads (Labelled P) i c n vars j
+    out c n j bs cs d e l w = lead c n vars j bs e l a.stored (Each-left In bs cs (subst (λ x. Each In x) d a.openers)) w
 
     -- of which none is a lock
-    out_same : (c : Part → ℕ) (n : Mode) (new : List ℤ) (j : ℕ) (bs cs : List Block) → blocks_at lines k ≡ bs ++ cs → blocks_at lines j ≡ bs → in_lock cs ≡ false → is_locked n ≡ is_locked m → Weaker (label_at labels j) (Live c n) → Leads (Labelled P) i c n new j
-    out_same c n new j bs cs d e f l w =
+    out_same : (c : Part → ℕ) (n : Mode) (j : ℕ) (bs cs : List Block) → blocks_at lines k ≡ bs ++ cs → blocks_at lines j ≡ bs → in_lock cs ≡ false → is_locked n ≡ is_locked m → Weaker (label_at labels j (side_of flag vars)) (Live c n) → Leads (Labelled P) i c n vars j
+    out_same c n j bs cs d e f l w =
         let s : in_lock (blocks_at lines k) ≡ in_lock bs = ap in_lock d ∙ in_lock_more bs cs ∙ ap (λ x. in_lock bs || x) f ∙ or-false (in_lock bs) in
-        out c n new j bs cs d e (l ∙ a.locked ∙ s) w
+        out c n j bs cs d e (l ∙ a.locked ∙ s) w
 
     -- the opener of a block that is open here was entered
-    opener : (outer : List Block) (o : Block) (inner : List Block) → blocks_at lines k ≡ outer ++ o ∷ inner → Enters lines labels o
-    opener outer o inner e = (Each-right (Enters lines labels) outer (o ∷ inner) (subst (λ x. Each (Enters lines labels) x) e a.openers)).0
+    opener : (outer : List Block) (o : Block) (inner : List Block) → blocks_at lines k ≡ outer ++ o ∷ inner → Enters flag lines labels o
+    opener outer o inner e = (Each-right In outer (o ∷ inner) (subst (λ x. Each In x) e a.openers)).0
 
-    here_at : (s : Stmt) → stmt_at lines k ≡ Some s → here (take k lines) (take (k + 1) labels) ≡ Live b m
-    here_at s e = here_is k s e ∙ a.label
+    here_at : (s : Stmt) → stmt_at lines k ≡ Some s → here (take k lines) (take (k + 1) labels) side ≡ Live b m
+    here_at s e = here_is k side s e ∙ a.label
 
-    known_at : (j : ℕ) → k ≤ j → label_at (take (j + 1) labels) k ≡ Live b m
-    known_at j le = known_is k j le ∙ a.label
+    known_at : (j : ℕ) → k ≤ j → label_at (take (j + 1) labels) k side ≡ Live b m
+    known_at j le = known_is k j side le ∙ a.label
 
     -- what the rule of the line asks of the state here
-    asked : (s : Stmt) (F : (Part → ℕ) → Mode → List (ℕ × Premise)) → stmt_at lines k ≡ Some s → Meets (asks (here (take k lines) (take (k + 1) labels)) F) → Meets (F b m)
-    asked s F e h = subst (λ t. Meets (asks t F)) (here_at s e) h
+    asked : (s : Stmt) (F : Bool → (Part → ℕ) → Mode → List (ℕ × Premise)) → stmt_at lines k ≡ Some s → Meets (asks_both (here (take k lines) (take (k + 1) labels)) F) → Meets (F side b m)
+    asked s F e h = subst (λ t. Meets (asks t (F side))) (here_at s e) (meets_side (λ z. asks (here (take k lines) (take (k + 1) labels) z) (F z)) side h)
 
     -- what the label behind the line is weaker than
-    comes : (s : Stmt) (F : (Part → ℕ) → Mode → Label) (t : Label) → stmt_at lines k ≡ Some s → Weaker t (goes (here (take k lines) (take (k + 1) labels)) F) → Weaker t (F b m)
+    comes : (s : Stmt) (F : (Part → ℕ) → Mode → Label) (t : Label) → stmt_at lines k ≡ Some s → Weaker t (goes (here (take k lines) (take (k + 1) labels) side) F) → Weaker t (F b m)
     comes s F t e w = subst (λ x. Weaker t (goes x F)) (here_at s e) w
 
+    -- where it comes from both sides
+    comes_by : (s : Stmt) (may : Bool → Bool) (F : (Part → ℕ) → Mode → Label) (t : Label) → stmt_at lines k ≡ Some s → may side ≡ true → WeakerThanEach t (brings may (λ l. goes l F) (here (take k lines) (take (k + 1) labels))) → Weaker t (F b m)
+    comes_by s may F t e y h = comes s F t e (brought may (λ l. goes l F) (here (take k lines) (take (k + 1) labels)) t side y h)
+
     do_edge : (op : Op) → stmt_at lines k ≡ Some (Do op) → EdgeAt P (Labelled P) i b m vars k (Some (Do op))
-    do_edge op e =
-        let g = good_at k (Do op) e in
-        let w = comes (Do op) (λ bag m. op_effect P bag m op) (label_at labels (k + 1)) e g.after.0 in
-        (asked (Do op) (λ bag m. op_premises P bag m op) e g.meets, behind_op P wf b m op _ (label_at labels (k + 1)) w (λ c n l w new may. same c n new (k + 1) (blocks_next lines k (Do op) e) l w))
+    do_edge op e = (asked (Do op) (λ z bag m. op_premises P bag m op) e g.meets, for_each (op_effect P b m op) (λ new may c n. Leads (Labelled P) i c n new (k + 1)) to)
+      where
+        g : IsGoodAt P thread lines labels k (Do op)
+        g = good_at k (Do op) e
+
+        to : (new : List ℤ) → MayBecome op vars new → AtLive (op_effect P b m op) (λ c n. Leads (Labelled P) i c n new (k + 1))
+        to new may =
+            let h = op_turns flag op vars new a.stored may in
+            let w = comes_by (Do op) (λ y. turns (write_of flag op) y (side_of flag new)) (λ bag m. op_effect P bag m op) (label_at labels (k + 1) (side_of flag new)) e h.turns_to (g.after (side_of flag new)) in
+            behind_op P wf b m op (λ c n. Leads (Labelled P) i c n new (k + 1)) (label_at labels (k + 1) (side_of flag new)) w (λ c n l w. same c n new (k + 1) (blocks_next lines k (Do op) e) l h.stored w)
 
     lock_edge : stmt_at lines k ≡ Some Lock → EdgeAt P (Labelled P) i b m vars k (Some Lock)
     lock_edge e =
         let inside : Mode = Locked (record { queued = P.left; slot = Closed; peeked = Unseen }) in
         let l : true ≡ in_lock (blocks_at lines k ++ InLock k ∷ []) = sym (in_lock_pushed (blocks_at lines k) (InLock k) ∙ or-true (in_lock (blocks_at lines k))) in (
           unlocked_of m (a.locked ∙ (nested_here lines laid.each k Lock e).0),
-          lead b inside vars (k + 1) (blocks_at lines k ++ InLock k ∷ []) (blocks_next lines k Lock e) l (Each-append (Enters lines labels) (blocks_at lines k) (InLock k ∷ []) a.openers (tt, tt)) (comes Lock (λ bag m. Live bag inside) (label_at labels (k + 1)) e (good_at k Lock e).after.0),
+          lead b inside vars (k + 1) (blocks_at lines k ++ InLock k ∷ []) (blocks_next lines k Lock e) l a.stored (Each-append In (blocks_at lines k) (InLock k ∷ []) a.openers (tt, tt)) (comes Lock (λ bag m. Live bag inside) (label_at labels (k + 1) side) e ((good_at k Lock e).after side).0),
         )
 
     unlock_edge : (o : ℕ) → stmt_at lines k ≡ Some (EndLock o) → EdgeAt P (Labelled P) i b m vars k (Some (EndLock o))
@@ -184,46 +220,52 @@ module _ (P : Program) (wf : IsProgram P) (i : ℕ) (thread : Thread) (labels : 
         let c = closes_lock lines laid.each k o e in
         let l : in_lock (blocks_at lines k) ≡ true = ap in_lock c.within ∙ in_lock_pushed (blocks_at lines o) (InLock o) ∙ or-true (in_lock (blocks_at lines o)) in
         let f : in_lock (blocks_at lines o) ≡ false = (nested_here lines laid.each o Lock c.stands).0 in
-        (a.locked ∙ l, asked (EndLock o) (λ bag m. may_release P m) e g.meets, out b Unlocked vars (k + 1) (blocks_at lines o) (InLock o ∷ []) c.within c.behind (sym f) (comes (EndLock o) (λ bag m. Live bag Unlocked) (label_at labels (k + 1)) e g.after.0))
+        (a.locked ∙ l, asked (EndLock o) (λ z bag m. may_release P m) e g.meets, out b Unlocked (k + 1) (blocks_at lines o) (InLock o ∷ []) c.within c.behind (sym f) (comes (EndLock o) (λ bag m. Live bag Unlocked) (label_at labels (k + 1) side) e (g.after side).0))
 
     -- a false if
-    false_edge : (test : Test) → stmt_at lines k ≡ Some (If test) → Leads (Labelled P) i b m vars (end_at P i k + 1)
-    false_edge test e = elim (false_leads lines ends laid k test e) [
+    false_edge : (test : Test) → stmt_at lines k ≡ Some (If test) → MayPass test vars false → Leads (Labelled P) i b m vars (end_at P i k + 1)
+    false_edge test e may = elim (false_leads lines ends laid k test e) [
       | inl h ↦
-          let lt : k < end_at P i k + 1 = h.lands.ahead in
-          into b m vars (end_at P i k + 1) (InElse (end_at P i k) ∷ []) h.lands.blocks refl (tt, tt) refl (subst (λ x. Weaker (label_at labels (end_at P i k + 1)) x) (known_at (end_at P i k) (omega arith)) (good_at (end_at P i k) (Else k) h.stands).after.0)
+          into b m vars (end_at P i k + 1) (InElse (end_at P i k) ∷ []) h.lands.blocks refl a.stored (tt, tt) refl (weaker (Else k) h.stands (((good_at (end_at P i k) (Else k) h.stands).after side).0))
       | inr h ↦
-          let lt : k < end_at P i k + 1 = h.lands.ahead in
-          same b m vars (end_at P i k + 1) h.lands.blocks refl (subst (λ x. Weaker (label_at labels (end_at P i k + 1)) x) (known_at (end_at P i k) (omega arith)) (good_at (end_at P i k) (EndIf k) h.stands).after.1.0)
+          same b m vars (end_at P i k + 1) h.lands.blocks refl a.stored (weaker (EndIf k) h.stands (((good_at (end_at P i k) (EndIf k) h.stands).after side).1.0))
     ]
+      where
+        weaker : (s : Stmt) → stmt_at lines (end_at P i k) ≡ Some s → Weaker (label_at labels (end_at P i k + 1) side) (skipped thread (take (end_at P i k) lines) (take (end_at P i k + 1) labels) k side) → Weaker (label_at labels (end_at P i k + 1) side) (Live b m)
+        weaker s d w = let lt : k < end_at P i k = later in subst (λ x. Weaker (label_at labels (end_at P i k + 1) side) x) (known_at (end_at P i k) (omega arith)) (skipped_is k (end_at P i k) side (If test) (label_at labels (end_at P i k + 1) side) later e (test_may flag test vars false may) w)
+          where
+            later : k < end_at P i k
+            later = elim (laid.linked k (If test) e) [ inl h ↦ h.behind | inr h ↦ h.behind ]
 
     if_edge : (test : Test) → stmt_at lines k ≡ Some (If test) → EdgeAt P (Labelled P) i b m vars k (Some (If test))
     if_edge test e =
-        let g = good_at k (If test) e in
-        let w = comes (If test) (λ bag n. test_effect P bag n test) (label_at labels (k + 1)) e g.after.0 in (
-          asked (If test) (λ bag n. test_premises n test) e g.meets,
-          λ may. into b (test_mode P test m) vars (k + 1) (InIf k ∷ []) (blocks_next lines k (If test) e) refl (tt, tt) (test_locked P test m) w,
-          λ may. false_edge test e,
+        let g = good_at k (If test) e in (
+          asked (If test) (λ z bag n. test_premises n test) e g.meets,
+          λ may. into b (test_mode P test m) vars (k + 1) (InIf k ∷ []) (blocks_next lines k (If test) e) refl a.stored (tt, tt) (test_locked P test m)
+              (comes (If test) (λ bag n. test_effect P bag n test) (label_at labels (k + 1) side) e (ungate (test_goes flag test side true) (label_at labels (k + 1) side) _ (test_may flag test vars true may) (g.after side).0)),
+          λ may. false_edge test e may,
         )
-
     -- an else that is reached from above
     else_edge : (o : ℕ) → stmt_at lines k ≡ Some (Else o) → EdgeAt P (Labelled P) i b m vars k (Some (Else o))
     else_edge o e =
         let h = else_leads lines ends laid k o e in
         let lt : k < end_at P i k + 1 = h.lands.ahead in
-        out_same b m vars (end_at P i k + 1) (blocks_at lines o) (InIf o ∷ []) (turns lines laid.each k o e).within h.lands.blocks refl refl (subst (λ x. Weaker (label_at labels (end_at P i k + 1)) x) (known_at (end_at P i k) (omega arith)) (good_at (end_at P i k) (EndIf k) h.stands).after.1.0)
+        out_same b m (end_at P i k + 1) (blocks_at lines o) (InIf o ∷ []) (turns_here lines laid.each k o e).within h.lands.blocks refl refl (subst (λ x. Weaker (label_at labels (end_at P i k + 1) side) x) (known_at (end_at P i k) (omega arith)) (skipped_is k (end_at P i k) side (Else o) (label_at labels (end_at P i k + 1) side) later e refl (((good_at (end_at P i k) (EndIf k) h.stands).after side).1.0)))
+      where
+        later : k < end_at P i k
+        later = (laid.linked k (Else o) e).behind
 
     end_if_edge : (o : ℕ) → stmt_at lines k ≡ Some (EndIf o) → EdgeAt P (Labelled P) i b m vars k (Some (EndIf o))
     end_if_edge o e =
-        let w : Weaker (label_at labels (k + 1)) (Live b m) = subst (λ x. Weaker (label_at labels (k + 1)) x) (here_at (EndIf o) e) (good_at k (EndIf o) e).after.0 in
+        let w : Weaker (label_at labels (k + 1) side) (Live b m) = subst (λ x. Weaker (label_at labels (k + 1) side) x) (here_at (EndIf o) e) (((good_at k (EndIf o) e).after side).0) in
         elim (closes_if lines laid.each k o e) [
-          | inl c ↦ out_same b m vars (k + 1) (blocks_at lines o) (InIf o ∷ []) c.1.within c.1.behind refl refl w
-          | inr c ↦ out_same b m vars (k + 1) (blocks_at lines c.opener) (InElse o ∷ []) c.within c.behind refl refl w
+          | inl c ↦ out_same b m (k + 1) (blocks_at lines o) (InIf o ∷ []) c.1.within c.1.behind refl refl w
+          | inr c ↦ out_same b m (k + 1) (blocks_at lines c.opener) (InElse o ∷ []) c.within c.behind refl refl w
         ]
 
     -- into an arm of the peek that stands here
     peek_edge : (x : ℕ) → stmt_at lines k ≡ Some (Peek x) → EdgeAt P (Labelled P) i b m vars k (Some (Peek x))
-    peek_edge x e = (asked (Peek x) (λ bag n. peek_premises n) e g.meets, λ u v. to_arm u (slice_set vars x v), λ v. to_none (slice_set vars x v))
+    peek_edge x e = (asked (Peek x) (λ z bag n. peek_premises n) e g.meets, λ u v. to_arm u v, λ v. to_none v)
       where
         g : IsGoodAt P thread lines labels k (Peek x)
         g = good_at k (Peek x) e
@@ -231,43 +273,45 @@ module _ (P : Program) (wf : IsProgram P) (i : ℕ) (thread : Thread) (labels : 
         arms : HasArms lines ends k
         arms = laid.linked k (Peek x) e
 
-        s : IsBelow (label_at labels (k + 1)) b m
-        s = below (label_at labels (k + 1)) b m (subst (λ t. Weaker (label_at labels (k + 1)) t) (here_at (Peek x) e) g.after.0)
+        behind : (v : ℤ) → IsBelow (label_at labels (k + 1) (turned x v)) b m
+        behind v = below (label_at labels (k + 1) (turned x v)) b m (subst (λ t. Weaker (label_at labels (k + 1) (turned x v)) t) (here_at (Peek x) e) (brought (λ y. turns (write_to flag x Anything) y (turned x v)) (λ l. l) (here (take k lines) (take (k + 1) labels)) (label_at labels (k + 1) (turned x v)) side (any_turns flag vars x v a.stored) (g.after (turned x v))))
 
-        behind_is : (c : ℕ) → k < c → label_at (take (c + 1) labels) (k + 1) ≡ Live s.bag s.mode
-        behind_is c lt = known_is (k + 1) c (omega arith) ∙ s.is
+        behind_is : (v : ℤ) (c : ℕ) → k < c → label_at (take (c + 1) labels) (k + 1) (turned x v) ≡ Live (behind v).bag (behind v).mode
+        behind_is v c lt = known_is (k + 1) c (turned x v) (omega arith) ∙ (behind v).is
 
         -- what leads into an arm is no stronger than what stands here
-        lands : (c : ℕ) (f : Peeked) (new : List ℤ) → blocks_at lines (c + 1) ≡ blocks_at lines k ++ InPeek k ∷ InArm k ∷ [] → Weaker (label_at labels (c + 1)) (Live s.bag (with_peeked f s.mode)) → Leads (Labelled P) i b (with_peeked f m) new (c + 1)
-        lands c f new n w =
-            into b (with_peeked f m) new (c + 1) (InPeek k ∷ InArm k ∷ []) n refl (entered, (tt, tt)) (peeked_locked f m) (weaker_trans (label_at labels (c + 1)) (Live s.bag (with_peeked f s.mode)) (Live b (with_peeked f m)) w (s.less, peeked_grows f s.mode m s.weaker))
+        lands : (v : ℤ) (c : ℕ) (f : Peeked) → blocks_at lines (c + 1) ≡ blocks_at lines k ++ InPeek k ∷ InArm k ∷ [] → Weaker (label_at labels (c + 1) (turned x v)) (Live (behind v).bag (with_peeked f (behind v).mode)) → Leads (Labelled P) i b (with_peeked f m) (slice_set vars x v) (c + 1)
+        lands v c f n w =
+            into b (with_peeked f m) (slice_set vars x v) (c + 1) (InPeek k ∷ InArm k ∷ []) n refl (stored_set flag vars x v a.stored) (entered, (tt, tt)) (peeked_locked f m) (weaker_trans (label_at labels (c + 1) (turned x v)) (Live (behind v).bag (with_peeked f (behind v).mode)) (Live b (with_peeked f m)) w ((behind v).less, peeked_grows f (behind v).mode m (behind v).weaker))
 
-        to_case : (u : ℕ) (new : List ℤ) (c : ℕ) → stmt_at lines c ≡ Some (Case k u) → (1 ≤ b (TokenOf u)) ⊎ Leads (Labelled P) i b (with_peeked (Sees u) m) new (c + 1)
-        to_case u new c d =
-            let w : Weaker (label_at labels (c + 1)) (cond (nat_lt 0 (s.bag (TokenOf u))) Dead (Live s.bag (with_peeked (Sees u) s.mode))) = subst (λ t. Weaker (label_at labels (c + 1)) (case_at u t)) (behind_is c (case_between lines ends laid k c u d).0) (good_at c (Case k u) d).after.0 in
-            held (nat_lt 0 (s.bag (TokenOf u))) refl w
+        to_case : (u : ℕ) (v : ℤ) (c : ℕ) → stmt_at lines c ≡ Some (Case k u) → (1 ≤ b (TokenOf u)) ⊎ Leads (Labelled P) i b (with_peeked (Sees u) m) (slice_set vars x v) (c + 1)
+        to_case u v c d =
+            let w : Weaker (label_at labels (c + 1) (turned x v)) (cond (nat_lt 0 ((behind v).bag (TokenOf u))) Dead (Live (behind v).bag (with_peeked (Sees u) (behind v).mode))) = subst (λ t. Weaker (label_at labels (c + 1) (turned x v)) (case_at u t)) (behind_is v c (case_between lines ends laid k c u d).0) (((good_at c (Case k u) d).after (turned x v)).0) in
+            held (nat_lt 0 ((behind v).bag (TokenOf u))) refl w
           where
-            held : (z : Bool) → nat_lt 0 (s.bag (TokenOf u)) ≡ z → Weaker (label_at labels (c + 1)) (cond z Dead (Live s.bag (with_peeked (Sees u) s.mode))) → (1 ≤ b (TokenOf u)) ⊎ Leads (Labelled P) i b (with_peeked (Sees u) m) new (c + 1)
-            held true h w = let lt : 0 < s.bag (TokenOf u) = ltb-true 0 (s.bag (TokenOf u)) h in inl (omega (arith, s.less (TokenOf u)))
-            held false h w = inr (lands c (Sees u) new (case_lands lines ends laid k c u d).blocks w)
+            held : (h : Bool) → nat_lt 0 ((behind v).bag (TokenOf u)) ≡ h → Weaker (label_at labels (c + 1) (turned x v)) (cond h Dead (Live (behind v).bag (with_peeked (Sees u) (behind v).mode))) → (1 ≤ b (TokenOf u)) ⊎ Leads (Labelled P) i b (with_peeked (Sees u) m) (slice_set vars x v) (c + 1)
+            held true h w = let lt : 0 < (behind v).bag (TokenOf u) = ltb-true 0 ((behind v).bag (TokenOf u)) h in inl (omega (arith, (behind v).less (TokenOf u)))
+            held false h w = inr (lands v c (Sees u) (case_lands lines ends laid k c u d).blocks w)
 
-        to_other : (new : List ℤ) (c : ℕ) → stmt_at lines c ≡ Some (Other k) → Leads (Labelled P) i b (with_peeked SeesOther m) new (c + 1)
-        to_other new c d = lands c SeesOther new (other_lands lines ends laid k c d).blocks (subst (λ t. Weaker (label_at labels (c + 1)) (peek_at SeesOther t)) (behind_is c (other_between lines ends laid k c d).0) (good_at c (Other k) d).after.0)
+        to_other : (v : ℤ) (c : ℕ) → stmt_at lines c ≡ Some (Other k) → Leads (Labelled P) i b (with_peeked SeesOther m) (slice_set vars x v) (c + 1)
+        to_other v c d = lands v c SeesOther (other_lands lines ends laid k c d).blocks (subst (λ t. Weaker (label_at labels (c + 1) (turned x v)) (peek_at SeesOther t)) (behind_is v c (other_between lines ends laid k c d).0) (((good_at c (Other k) d).after (turned x v)).0))
 
-        to_none : (new : List ℤ) → Leads (Labelled P) i b (with_peeked Unseen m) new (none_arm P i k + 1)
-        to_none new =
+        to_none : (v : ℤ) → Leads (Labelled P) i b (with_peeked Unseen m) (slice_set vars x v) (none_arm P i k + 1)
+        to_none v =
             let d = none_is_at P i k arms.none.place (record { stands = arms.none.stands; behind = arms.none.behind; before = (nothing_between lines ends laid k arms.none.place arms.none.stands).1 }) in
-            lands (none_arm P i k) Unseen new (nothing_lands lines ends laid k (none_arm P i k) d).blocks (subst (λ t. Weaker (label_at labels (none_arm P i k + 1)) (peek_at Unseen t)) (behind_is (none_arm P i k) (nothing_between lines ends laid k (none_arm P i k) d).0) (good_at (none_arm P i k) (Nothing k) d).after.0)
+            lands v (none_arm P i k) Unseen (nothing_lands lines ends laid k (none_arm P i k) d).blocks (subst (λ t. Weaker (label_at labels (none_arm P i k + 1) (turned x v)) (peek_at Unseen t)) (behind_is v (none_arm P i k) (nothing_between lines ends laid k (none_arm P i k) d).0) (((good_at (none_arm P i k) (Nothing k) d).after (turned x v)).0))
 
-        to_arm : (u : ℕ) (new : List ℤ) → (1 ≤ b (TokenOf u)) ⊎ (Leads (Labelled P) i b (with_peeked (Sees u) m) new (arm_for P i k u + 1) ⊎ Leads (Labelled P) i b (with_peeked SeesOther m) new (arm_for P i k u + 1))
-        to_arm u new = elim (arm_is P i k u arms.other.place (record { stands = arms.other.stands; behind = arms.other.behind; before = (other_between lines ends laid k arms.other.place arms.other.stands).1 })) [
-          | inl d ↦ elim (to_case u new (arm_for P i k u) d) [ inl h ↦ inl h | inr h ↦ inr (inl h) ]
-          | inr d ↦ inr (inr (to_other new (arm_for P i k u) d))
+        to_arm : (u : ℕ) (v : ℤ) → (1 ≤ b (TokenOf u)) ⊎ (Leads (Labelled P) i b (with_peeked (Sees u) m) (slice_set vars x v) (arm_for P i k u + 1) ⊎ Leads (Labelled P) i b (with_peeked SeesOther m) (slice_set vars x v) (arm_for P i k u + 1))
+        to_arm u v = elim (arm_is P i k u arms.other.place (record { stands = arms.other.stands; behind = arms.other.behind; before = (other_between lines ends laid k arms.other.place arms.other.stands).1 })) [
+          | inl d ↦ elim (to_case u v (arm_for P i k u) d) [ inl h ↦ inl h | inr h ↦ inr (inl h) ]
+          | inr d ↦ inr (inr (to_other v (arm_for P i k u) d))
         ]
 
     -- a peek that was entered was entered in a lock
-    peek_inside : (o x : ℕ) → stmt_at lines o ≡ Some (Peek x) → Entered lines labels o → in_lock (blocks_at lines o) ≡ true
-    peek_inside o x e h = sym h.locked ∙ asks_lock h.mode _ (subst (λ s. Meets (asks s (λ bag n. peek_premises n))) (here_is o (Peek x) e ∙ h.label) (good_at o (Peek x) e).meets)
+    peek_inside : (o x : ℕ) → stmt_at lines o ≡ Some (Peek x) → Entered flag lines labels o → in_lock (blocks_at lines o) ≡ true
+    peek_inside o x e h =
+        let z : Bool = side_of flag h.variables in
+        sym h.locked ∙ asks_lock h.mode _ (subst (λ s. Meets (asks s (λ bag n. peek_premises n))) (here_is o z (Peek x) e ∙ h.label) (meets_side (λ y. asks (here (take o lines) (take (o + 1) labels) y) (λ bag n. peek_premises n)) z (good_at o (Peek x) e).meets))
 
     arm_edge : (o : ℕ) → stmt_at lines k ≡ Some (EndArm o) → EdgeAt P (Labelled P) i b m vars k (Some (EndArm o))
     arm_edge o e =
@@ -277,26 +321,28 @@ module _ (P : Program) (wf : IsProgram P) (i : ℕ) (thread : Thread) (labels : 
         let l = line_with lines k (EndArm o) e in
         let inside : in_lock (blocks_at lines o) ≡ true = peek_inside o c.variable c.stands (opener (blocks_at lines o) (InPeek o) (InArm o ∷ []) c.within) in
         let here_inside : in_lock (blocks_at lines k) ≡ true = ap in_lock c.within ∙ in_lock_more (blocks_at lines o) (InPeek o ∷ InArm o ∷ []) ∙ or_first (in_lock (blocks_at lines o)) false inside in
-        let w = arm_in (take (end_at P i o) lines) (take (end_at P i o + 1) labels) (label_at labels (end_at P i o + 1)) k o l.0 (get_take (end_at P i o) k lines l.0 lt l.1) l.2 (good_at (end_at P i o) (EndPeek o) h.stands).after in
-        (a.locked ∙ here_inside, out_same b (with_peeked Unseen m) vars (end_at P i o + 1) (blocks_at lines o) (InPeek o ∷ InArm o ∷ []) c.within h.lands.blocks refl (peeked_locked Unseen m) (subst (λ s. Weaker (label_at labels (end_at P i o + 1)) (peek_at Unseen s)) (known_at (end_at P i o) (omega arith)) w))
+        let w = arm_in side (take (end_at P i o) lines) (take (end_at P i o + 1) labels) (label_at labels (end_at P i o + 1) side) k o l.0 (get_take (end_at P i o) k lines l.0 lt l.1) l.2 ((good_at (end_at P i o) (EndPeek o) h.stands).after side) in
+        (a.locked ∙ here_inside, out_same b (with_peeked Unseen m) (end_at P i o + 1) (blocks_at lines o) (InPeek o ∷ InArm o ∷ []) c.within h.lands.blocks refl (peeked_locked Unseen m) (subst (λ s. Weaker (label_at labels (end_at P i o + 1) side) (peek_at Unseen s)) (known_at (end_at P i o) (omega arith)) w))
 
     loop_edge : (n : ℕ) → stmt_at lines k ≡ Some (Loop n) → EdgeAt P (Labelled P) i b m vars k (Some (Loop n))
     loop_edge n e =
         let g = good_at k (Loop n) e in
         let items = items_at thread.lists n in
-        let w = comes (Loop n) (λ bag o. Live (bag_on items) (top_mode P items o)) (label_at labels (k + 1)) e g.after.0 in
-        into b m vars (k + 1) (InLoop k n ∷ []) (blocks_next lines k (Loop n) e) refl (entered, tt) refl (weaker_trans (label_at labels (k + 1)) (Live (bag_on items) (top_mode P items m)) (Live b m) w (covered P 13 items b m (asked (Loop n) (λ bag o. may_loop P 13 items bag o) e g.meets)))
+        let w = comes_by (Loop n) (λ y. turns (forgets flag) y side) (λ bag o. Live (bag_on side items) (top_mode P items o)) (label_at labels (k + 1) side) e (loop_turns flag vars vars) (g.after side) in
+        into b m vars (k + 1) (InLoop k n ∷ []) (blocks_next lines k (Loop n) e) refl a.stored (entered, tt) refl (weaker_trans (label_at labels (k + 1) side) (Live (bag_on side items) (top_mode P items m)) (Live b m) w (covered P 13 items side b m (asked (Loop n) (λ z bag o. may_loop P 13 items z bag o) e g.meets)))
 
     -- back to the line behind the top of a loop: its opener was entered, so the label there is of exactly the items
     again_edge : (o n : ℕ) → stmt_at lines k ≡ Some (EndLoop o n) → EdgeAt P (Labelled P) i b m vars k (Some (EndLoop o n))
     again_edge o n e =
         let c = closes_loop lines laid.each k o n e in
-        let h : Entered lines labels o = opener (blocks_at lines o) (InLoop o n) [] c.within in
+        let h : Entered flag lines labels o = opener (blocks_at lines o) (InLoop o n) [] c.within in
         let items = items_at thread.lists n in
-        let w = subst (λ s. Weaker (label_at labels (o + 1)) (goes s (λ bag l. Live (bag_on items) (top_mode P items l)))) (here_is o (Loop n) c.stands ∙ h.label) (good_at o (Loop n) c.stands).after.0 in
+        let top_of : Label → Label = λ l. goes l (λ bag q. Live (bag_on side items) (top_mode P items q)) in
+        let y = brought (λ y. turns (forgets flag) y side) top_of (here (take o lines) (take (o + 1) labels)) (label_at labels (o + 1) side) (side_of flag h.variables) (loop_turns flag h.variables vars) ((good_at o (Loop n) c.stands).after side) in
+        let w = subst (λ s. Weaker (label_at labels (o + 1) side) (top_of s)) (here_is o (side_of flag h.variables) (Loop n) c.stands ∙ h.label) y in
         let s : is_locked h.mode ≡ is_locked m = h.locked ∙ sym (a.locked ∙ ap in_lock c.within ∙ same_lock (blocks_at lines o) (InLoop o n) refl) in
-        let v = subst (λ l. Weaker (label_at labels (o + 1)) (Live (bag_on items) l)) (top_same P items h.mode m s) w in
-        same b m vars (o + 1) (back_leads lines ends laid k o n e).1 refl (weaker_trans (label_at labels (o + 1)) (Live (bag_on items) (top_mode P items m)) (Live b m) v (covered P 14 items b m (asked (EndLoop o n) (λ bag l. may_loop P 14 items bag l) e (good_at k (EndLoop o n) e).meets)))
+        let v = subst (λ l. Weaker (label_at labels (o + 1) side) (Live (bag_on side items) l)) (top_same P items h.mode m s) w in
+        same b m vars (o + 1) (back_leads lines ends laid k o n e).1 refl a.stored (weaker_trans (label_at labels (o + 1) side) (Live (bag_on side items) (top_mode P items m)) (Live b m) v (covered P 14 items side b m (asked (EndLoop o n) (λ z bag l. may_loop P 14 items z bag l) e (good_at k (EndLoop o n) e).meets)))
 
     break_edge : (o : ℕ) (releases leaves : Bool) → stmt_at lines k ≡ Some (Break o releases leaves) → EdgeAt P (Labelled P) i b m vars k (Some (Break o releases leaves))
     break_edge o releases leaves e =
@@ -304,11 +350,11 @@ module _ (P : Program) (wf : IsProgram P) (i : ℕ) (thread : Thread) (labels : 
         let h = break_leads lines ends laid k o releases leaves e in
         let lt : k < end_at P i o = laid.linked k (Break o releases leaves) e in
         let l = line_with lines k (Break o releases leaves) e in
-        let w = break_in (take (end_at P i o) lines) (take (end_at P i o + 1) labels) (label_at labels (end_at P i o + 1)) k o releases leaves l.0 (get_take (end_at P i o) k lines l.0 lt l.1) l.2 (good_at (end_at P i o) (EndLoop o h.0) h.1.stands).after in (
+        let w = break_in side (take (end_at P i o) lines) (take (end_at P i o + 1) labels) (label_at labels (end_at P i o + 1) side) k o releases leaves l.0 (get_take (end_at P i o) k lines l.0 lt l.1) l.2 ((good_at (end_at P i o) (EndLoop o h.0) h.1.stands).after side) in (
           λ t. elim (or_cases releases leaves t) [ inl r ↦ a.locked ∙ c.locked r | inr r ↦ a.locked ∙ in_peek_locked (c.peeked ∙ r) ],
-          asked (Break o releases leaves) (λ bag n. may_break P releases n) e (good_at k (Break o releases leaves) e).meets,
-          behind_break b m releases (λ d n. Leads (Labelled P) i d n vars (end_at P i o + 1)) (label_at labels (end_at P i o + 1)) (subst (λ s. Weaker (label_at labels (end_at P i o + 1)) (broken releases s)) (known_at (end_at P i o) (omega arith)) w)
-              (λ n s v. out b n vars (end_at P i o + 1) (blocks_at lines o) (InLoop o c.number ∷ c.inner) c.within h.1.lands.blocks (s ∙ ap (λ x. cond releases false x) a.locked ∙ sym c.lock_outside) v),
+          asked (Break o releases leaves) (λ z bag n. may_break P releases n) e (good_at k (Break o releases leaves) e).meets,
+          behind_break b m releases (λ d n. Leads (Labelled P) i d n vars (end_at P i o + 1)) (label_at labels (end_at P i o + 1) side) (subst (λ s. Weaker (label_at labels (end_at P i o + 1) side) (broken releases s)) (known_at (end_at P i o) (omega arith)) w)
+              (λ n s v. out b n (end_at P i o + 1) (blocks_at lines o) (InLoop o c.number ∷ c.inner) c.within h.1.lands.blocks (s ∙ ap (λ x. cond releases false x) a.locked ∙ sym c.lock_outside) v),
         )
       where
         in_peek_locked : in_peek (blocks_at lines k) ≡ true → in_lock (blocks_at lines k) ≡ true

@@ -15,6 +15,7 @@ use Rattle.rc_rules.specs.declared.mode.Peeked.TheVariants.{Unseen}
 use Rattle.rc_rules.specs.Labels.{Label, Weaker, WeakerThanEach}
 use Rattle.rc_rules.specs.Labellings.{arm_end, arm_ends, break_end, break_ends, label_at}
 use Rattle.rc_rules.specs.Rules.{broken, peek_at}
+use Rattle.rc_rules.specs.Sides.{Sides}
 use Rattle.rc_world.specs.Controls.{arm_for, arms_of, first_place, is_case, is_none_arm, is_other, none_arm}
 use Rattle.rc_rules.proofs.Weaker.{label_drop}
 use Rattle.rc_world.proofs.Lists.{get_take as get_taken}
@@ -129,21 +130,21 @@ each_right t [] ys h = h
 each_right t (x ∷ xs) ys h = each_right t xs ys h.1
 
 -- The end of an arm is among those of its peek.
-pub arm_in : (lines : List Line) (labels : List Label) (t : Label) (k o : ℕ) (l : Line) → slice_get lines k ≡ Some l → l.stmt ≡ EndArm o → WeakerThanEach t (arm_ends lines labels o) → Weaker t (peek_at Unseen (label_at labels k))
-arm_in [] labels t k o l e s h = absurd (cc)
-arm_in (m ∷ lines) labels t zero o l e s h =
+pub arm_in : (z : Bool) (lines : List Line) (labels : List Sides) (t : Label) (k o : ℕ) (l : Line) → slice_get lines k ≡ Some l → l.stmt ≡ EndArm o → WeakerThanEach t (arm_ends lines labels o z) → Weaker t (peek_at Unseen (label_at labels k z))
+arm_in z [] labels t k o l e s h = absurd (cc)
+arm_in z (m ∷ lines) labels t zero o l e s h =
     let x : m.stmt ≡ EndArm o = cc in
-    let y : arm_end m.stmt o (label_at labels 0) ≡ peek_at Unseen (label_at labels 0) ∷ [] = ap (λ z. arm_end z o (label_at labels 0)) x ∙ ap (λ b. cond b (peek_at Unseen (label_at labels 0) ∷ []) []) (eq-eqb o o refl) in
-    (subst (λ ss. WeakerThanEach t ss) y (each_left t (arm_end m.stmt o (label_at labels 0)) (arm_ends lines (drop 1 labels) o) h)).0
-arm_in (m ∷ lines) labels t (suc k) o l e s h =
-    subst (λ s. Weaker t (peek_at Unseen s)) (label_drop labels k) (arm_in lines (drop 1 labels) t k o l e s (each_right t (arm_end m.stmt o (label_at labels 0)) (arm_ends lines (drop 1 labels) o) h))
+    let y : arm_end m.stmt o (label_at labels 0 z) ≡ peek_at Unseen (label_at labels 0 z) ∷ [] = ap (λ s. arm_end s o (label_at labels 0 z)) x ∙ ap (λ b. cond b (peek_at Unseen (label_at labels 0 z) ∷ []) []) (eq-eqb o o refl) in
+    (subst (λ ss. WeakerThanEach t ss) y (each_left t (arm_end m.stmt o (label_at labels 0 z)) (arm_ends lines (drop 1 labels) o z) h)).0
+arm_in z (m ∷ lines) labels t (suc k) o l e s h =
+    subst (λ s. Weaker t (peek_at Unseen s)) (label_drop labels k z) (arm_in z lines (drop 1 labels) t k o l e s (each_right t (arm_end m.stmt o (label_at labels 0 z)) (arm_ends lines (drop 1 labels) o z) h))
 
 -- A break is among those of its loop.
-pub break_in : (lines : List Line) (labels : List Label) (t : Label) (k o : ℕ) (releases leaves : Bool) (l : Line) → slice_get lines k ≡ Some l → l.stmt ≡ Break o releases leaves → WeakerThanEach t (break_ends lines labels o) → Weaker t (broken releases (label_at labels k))
-break_in [] labels t k o r v l e s h = absurd (cc)
-break_in (m ∷ lines) labels t zero o r v l e s h =
+pub break_in : (z : Bool) (lines : List Line) (labels : List Sides) (t : Label) (k o : ℕ) (releases leaves : Bool) (l : Line) → slice_get lines k ≡ Some l → l.stmt ≡ Break o releases leaves → WeakerThanEach t (break_ends lines labels o z) → Weaker t (broken releases (label_at labels k z))
+break_in z [] labels t k o r v l e s h = absurd (cc)
+break_in z (m ∷ lines) labels t zero o r v l e s h =
     let x : m.stmt ≡ Break o r v = cc in
-    let y : break_end m.stmt o (label_at labels 0) ≡ broken r (label_at labels 0) ∷ [] = ap (λ z. break_end z o (label_at labels 0)) x ∙ ap (λ b. cond b (broken r (label_at labels 0) ∷ []) []) (eq-eqb o o refl) in
-    (subst (λ ss. WeakerThanEach t ss) y (each_left t (break_end m.stmt o (label_at labels 0)) (break_ends lines (drop 1 labels) o) h)).0
-break_in (m ∷ lines) labels t (suc k) o r v l e s h =
-    subst (λ s. Weaker t (broken r s)) (label_drop labels k) (break_in lines (drop 1 labels) t k o r v l e s (each_right t (break_end m.stmt o (label_at labels 0)) (break_ends lines (drop 1 labels) o) h))
+    let y : break_end m.stmt o (label_at labels 0 z) ≡ broken r (label_at labels 0 z) ∷ [] = ap (λ s. break_end s o (label_at labels 0 z)) x ∙ ap (λ b. cond b (broken r (label_at labels 0 z) ∷ []) []) (eq-eqb o o refl) in
+    (subst (λ ss. WeakerThanEach t ss) y (each_left t (break_end m.stmt o (label_at labels 0 z)) (break_ends lines (drop 1 labels) o z) h)).0
+break_in z (m ∷ lines) labels t (suc k) o r v l e s h =
+    subst (λ s. Weaker t (broken r s)) (label_drop labels k z) (break_in z lines (drop 1 labels) t k o r v l e s (each_right t (break_end m.stmt o (label_at labels 0 z)) (break_ends lines (drop 1 labels) o z) h))

@@ -10,11 +10,11 @@ use Rattle.rc_rules.specs.declared.mode.Peeked.TheVariants.{Unseen}
 use Rattle.rc_rules.specs.declared.mode.Slot.TheVariants.{Closed}
 use Rattle.rc_rules.specs.Labels.{Label, Dead, Live, Weaker, WeakerMode}
 use Rattle.rc_rules.specs.Premises.{Meets}
-use Rattle.rc_rules.specs.Rules.{bag_on, broken, keeps_queue, may_loop, op_effect, queue_on, same_slot, top_mode, with_peeked}
+use Rattle.rc_rules.specs.Rules.{broken, keeps_queue, may_loop, op_effect, queue_on, same_slot, top_mode, with_peeked}
 use Rattle.rc_rules.specs.States.{is_locked}
 use Rattle.rc_rules.proofs.Lines.{effect_by}
 use Rattle.rc_rules.proofs.Weaker.{peeked_locked, same_slot_is}
-use Rattle.rc_split.specs.Bags.{Part, IsWithin}
+use Rattle.rc_split.specs.Bags.{Part, IsWithin, bag_on}
 use Rattle.rc_admit.proofs.Rule.{AtLive, Claim}
 
 -- A label that says no more than a live one is live.
@@ -37,6 +37,11 @@ unlocked_of (Locked s) e = absurd (cc)
 
 -- ---- what a label that leads behind a line claims
 
+-- what is claimed for each of some ways behind a line
+pub for_each : {A : Type 0} {B : A → Type 0} (l : Label) (K : (x : A) → B x → (Part → ℕ) → Mode → Type 0) → ((x : A) (h : B x) → AtLive l (K x h)) → AtLive l (λ c n. (x : A) (h : B x) → K x h c n)
+for_each Dead K f = tt
+for_each (Live b m) K f = f
+
 pub behind_op : (P : Program) → IsProgram P → (b : Part → ℕ) (m : Mode) (op : Op) (K : Claim) (t : Label) → Weaker t (op_effect P b m op) → ((c : Part → ℕ) (n : Mode) → is_locked n ≡ is_locked m → Weaker t (Live c n) → K c n) → AtLive (op_effect P b m op) K
 behind_op P made b m op K t w f = effect_by P b m op made (λ s. Weaker t s → AtLive s K) (λ v. tt) (λ c n l few v. f c n l v) w
 
@@ -55,8 +60,8 @@ queue_less P items (Locked s) e = record {
   peeked = inr refl;
 }
 
-pub covered : (P : Program) (v : ℕ) (items : Items) (b : Part → ℕ) (m : Mode) → Meets (may_loop P v items b m) → Weaker (Live (bag_on items) (top_mode P items m)) (Live b m)
-covered P v items b m h = (h.1.0, queue_less P items m h.0)
+pub covered : (P : Program) (v : ℕ) (items : Items) (z : Bool) (b : Part → ℕ) (m : Mode) → Meets (may_loop P v items z b m) → Weaker (Live (bag_on z items) (top_mode P items m)) (Live b m)
+covered P v items z b m h = (h.1.0, queue_less P items m h.0)
 
 pub top_same : (P : Program) (items : Items) (m n : Mode) → is_locked m ≡ is_locked n → top_mode P items m ≡ top_mode P items n
 top_same P items Unlocked Unlocked e = refl

@@ -1,8 +1,12 @@
 -- The threads of an accepted program start as their labellings say, and hold together no more than there is.
-use Rattle.std.proofs.Common.{◌≡◌, suc, ◌+◌, ◌≤◌, List, [], ◌∷◌, length, take_all, Some, refl, sym, ap, ◌∙◌, subst, arith}
-use Rattle.std.specs.Prelude.{pos, replicate, slice_get}
+use Rattle.std.proofs.Common.{◌≡◌, ℕ, suc, ◌+◌, ◌<◌, ◌≤◌, true, List, [], ◌∷◌, length, take_all, Option, Some, None, refl, sym, ap, ◌∙◌, subst, arith}
+use Rattle.std.specs.Prelude.{ℤ, pos, IfSome, replicate, slice_get}
+use Rattle.std.specs.Ordering.{int_eq}
+use Rattle.std.proofs.lemmas.List.{get_or-replicate, length-replicate}
 use Rattle.rc_lang.specs.Program.{IsProgram, Program, Thread, lines_in, lines_of}
 use Rattle.rc_rules.specs.declared.mode.Mode.TheVariants.{Unlocked}
+use Rattle.rc_rules.specs.Labels.{Live, Weaker}
+use Rattle.rc_rules.specs.Sides.{on}
 use Rattle.rc_rules.specs.Labellings.{Accepts, IsGood, header_premises, headers_bag, label_at, start_of}
 use Rattle.rc_rules.specs.Premises.{Meets}
 use Rattle.rc_rules.specs.Rules.{limit}
@@ -10,13 +14,29 @@ use Rattle.rc_split.specs.Bags.{Part, ShareOf, TokenOf, Credit, bag_of}
 use Rattle.rc_rules.proofs.Weaker.{same_below}
 use Rattle.rc_admit.proofs.Flat.{Labelled, lead}
 use Rattle.rc_admit.proofs.Owned.{HasStart}
+use Rattle.rc_admit.proofs.Sides.{IsStored, side_of}
+
+-- the variables of a thread as it begins
+abbrev zeros : List ℤ
+zeros = replicate 64 (pos 0)
+
+-- At the start the flag is 0.
+side_zero : (flag : Option ℕ) → IsStored flag zeros → side_of flag zeros ≡ true
+side_zero None h = refl
+side_zero (Some f) h = let h' : f < length zeros = h in let l : length zeros ≡ 64 = length-replicate 64 (pos 0) in ap (λ n. int_eq n (pos 0)) (get_or-replicate 64 f (pos 0) (pos 0) (omega arith))
+
+flag_stored : (flag : Option ℕ) (variables : ℕ) → IfSome flag (λ x. x < variables) → variables ≤ 64 → IsStored flag zeros
+flag_stored None variables h few = tt
+flag_stored (Some f) variables h few = let h' : f < variables = h in let l : length zeros ≡ 64 = length-replicate 64 (pos 0) in omega arith
 
 -- Each thread starts at its first place, which has the label of its header's items.
 pub labelled_start : (P : Program) → IsProgram P → Accepts P → HasStart P (Labelled P)
 labelled_start P made accepts i t e =
     let h = (accepts i t e).labels in
     let good : IsGood P t (lines_of P i) h.0 = subst (λ x. IsGood P t x h.0) (sym (ap lines_in e)) h.1 in
-    lead P made i t h.0 good (bag_of t.items) Unlocked (replicate 64 (pos 0)) 0 [] refl refl tt (same_below (label_at h.0 0) (start_of t) h.1.begins)
+    let it = made.each i t e in
+    let stored = flag_stored t.flag t.variables it.flag.variable it.few_variables in
+    lead P made i t h.0 good (bag_of t.items) Unlocked zeros 0 [] refl refl stored tt (subst (λ z. Weaker (label_at h.0 0 z) (Live (bag_of t.items) Unlocked)) (sym (side_zero t.flag stored)) (same_below (label_at h.0 0 true) (on true (start_of t)) (h.1.begins true)))
 
 last : {A : Type 0} (x : A) (xs : List A) → (y : A) × (slice_get (x ∷ xs) (length xs) ≡ Some y)
 last x [] = (x, refl)

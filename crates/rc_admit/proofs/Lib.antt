@@ -9,6 +9,7 @@ pub mod Kernel
 pub mod Start
 pub mod Shares
 pub mod Excludes
+pub mod Sides
 pub mod FlatRules
 pub mod FlatLooks
 pub mod Flat

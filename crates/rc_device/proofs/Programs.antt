@@ -9,9 +9,10 @@ use Rattle.rc_lang.specs.Parts.{view_buffer, view_thread}
 use Rattle.rc_lang.specs.Program.{IsProgram}
 
 one_file_is : (len : ℕ) → len ≤ 65536
-    → IsProgram (record { entries = 1; completion_entries = 2; left = 0; files = record { number = 3; len = len } ∷ []; buffers = []; tokens = []; threads = [] })
+    → IsProgram (record { version = 1; entries = 1; completion_entries = 2; left = 0; files = record { number = 3; len = len } ∷ []; buffers = []; tokens = []; threads = [] })
 unfolding IsDistinct
 one_file_is len h = record {
+  version = (omega arith, omega arith);
   entries = record { power = (0, refl); within = omega arith };
   completion_entries = record { power = (1, refl); within = omega arith };
   room = omega arith;
@@ -34,6 +35,7 @@ one_file_is len h = record {
 pub one_file : (len : ℕ) (files : List File) (buffers : List BufferPart) (tokens : List Token) (threads : List ThreadPart)
     → len ≤ 65536 → files ≡ record { number = 3; len = len } ∷ [] → buffers ≡ [] → tokens ≡ [] → threads ≡ []
     → IsProgram (record {
+      version = 1;
       entries = 1;
       completion_entries = 2;
       left = 0;

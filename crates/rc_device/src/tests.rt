@@ -14,6 +14,7 @@ fn disk(alloc: Global, len: u32) -> Result<Disk, AllocError>
     requires { len ≤ 65536 }
 {
     let head = Head {
+        version: 1,
         entries: 1,
         completion_entries: 2,
         left: 0,

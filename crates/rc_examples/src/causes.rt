@@ -272,6 +272,23 @@ cqe_seen
 ",
     },
     Example {
+        name: "p11_other_flag.rc",
+        text: "\
+ringcheck 2 # Two loops depend on two variables.
+ring 1
+token 7 nop
+thread t0 holds t:7 {
+h = 1
+loop keeps when h t:7 {
+loop keeps when g t:7 {
+break
+}
+break
+}
+}
+",
+    },
+    Example {
         name: "p1_not_ascii.rc",
         text: "\
 ringcheck 1 # A dash that isn't ASCII stands in a comment.
@@ -841,6 +858,8 @@ p9_bad_nesting.rc\tcheck\t2\tunreadable line 5 P9 BadNesting
 p9_bad_nesting.rc\tstep\t2\tunreadable line 5 P9 BadNesting
 p10_bad_case.rc\tcheck\t2\tunreadable line 9 P10 BadCase
 p10_bad_case.rc\tstep\t2\tunreadable line 9 P10 BadCase
+p11_other_flag.rc\tcheck\t2\tunreadable line 7 P11 OtherFlag
+p11_other_flag.rc\tstep\t2\tunreadable line 7 P11 OtherFlag
 v1_unlocked.rc\tcheck\t1\trefused line 4 V1 Unlocked
 v1_unlocked.rc\tstep\t1\tfault F9 NoLock t0 line 4
 v2_no_credit.rc\tcheck\t1\trefused line 16 V2 NoCredit

@@ -292,6 +292,42 @@ v = load a 4
 }
 ";
 
+pub const PUMP: &str = "\
+ringcheck 2 # A nop stays in flight over many turns of a loop; h says that it is not out.
+ring 1
+token 7 nop
+thread t0 holds t:7 c:1 {
+h = 1
+loop keeps when h t:7 c:1 {
+lock {
+if h != 0 {
+get_sqe
+prep_nop
+set_data64 7
+loop keeps q:1 {
+r = submit
+if sq_ready == 0 {
+break
+}
+}
+h = 0
+} else {
+peek_cqe r {
+case 7 {
+cqe_seen
+h = 1
+}
+other {
+}
+none {
+}
+}
+}
+}
+}
+}
+";
+
 pub const RAW_ENTRY: &str = "\
 ringcheck 1
 ring 2

@@ -4,14 +4,18 @@ use Rattle.rc_lang.specs.declared.program.Buffer.{Buffer as BufferPart}
 use Rattle.rc_lang.specs.declared.program.Declarations.{Declarations}
 use Rattle.rc_lang.specs.declared.program.Head.{Head}
 use Rattle.rc_lang.specs.declared.program.Items.{Items as ItemsPart}
+use Rattle.rc_lang.specs.declared.program.More.{More as MorePart}
 use Rattle.rc_lang.specs.declared.program.Thread.{Thread as ThreadPart}
-use Rattle.rc_lang.specs.Program.{Buffer, Items, Thread, Program}
+use Rattle.rc_lang.specs.Program.{Buffer, Items, More, Thread, Program}
 
 abbrev pub view_buffer : BufferPart → Buffer
 view_buffer b = record { name = b.name.items; bytes = b.bytes; shares = b.shares }
 
+abbrev pub view_more : MorePart → More
+view_more m = record { shares = m.shares.items; tokens = m.tokens.items; credits = m.credits }
+
 abbrev pub view_items : ItemsPart → Items
-view_items i = record { shares = i.shares.items; tokens = i.tokens.items; credits = i.credits; queue = i.queue }
+view_items i = record { shares = i.shares.items; tokens = i.tokens.items; credits = i.credits; queue = i.queue; more = view_more i.more }
 
 abbrev pub view_thread : ThreadPart → Thread
 view_thread t = record {
@@ -22,10 +26,12 @@ view_thread t = record {
   lines = t.lines.items;
   ends = t.ends.items;
   variables = t.variables;
+  flag = t.flag;
 }
 
 abbrev pub view_program : Head → Declarations → List ThreadPart → Program
 view_program h d ts = record {
+  version = h.version;
   entries = h.entries;
   completion_entries = h.completion_entries;
   left = h.left;

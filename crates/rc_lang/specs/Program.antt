@@ -1,5 +1,5 @@
 -- Programs, and what is kept by each that was made.
-use Rattle.std.specs.Prelude.{ℕ, ◌≡◌, ◌≢◌, ◌^◌, ◌<◌, ◌≤◌, ◌⊎◌, true, false, List, [], ◌∷◌, length, map, flat_map, Option, Some, None, slice_get, slice_index, slice_index_or, nat_eq, position, All, Contains, IfSome}
+use Rattle.std.specs.Prelude.{ℕ, ◌≡◌, ◌≢◌, ◌^◌, ◌<◌, ◌≤◌, ◌⊎◌, true, false, List, [], ◌∷◌, ◌++◌, length, map, flat_map, Option, Some, None, slice_get, slice_index, slice_index_or, nat_eq, position, All, Contains, IfSome}
 use Rattle.std.specs.List.{IsDistinct}
 use Rattle.std.specs.List.Sorted.{IsStrictlyIncreasing}
 use Rattle.std.specs.Str.{bytes_eq}
@@ -26,17 +26,24 @@ pub record Buffer : Type 0 where
   pub bytes : ℕ
   pub shares : ℕ
 
+-- What a loop says behind `when` that is held besides while the thread's flag isn't 0.
+pub record More : Type 0 where
+  pub shares : List Share
+  pub tokens : List ℕ
+  pub credits : ℕ
+
 -- What a thread holds, as it begins or at the top of a loop: shares of buffers, tokens, credits for completions, and
--- how many entries may be queued at most, where that is said.
+-- how many entries may be queued at most, where that is said; and what it holds besides under its flag.
 pub record Items : Type 0 where
   pub shares : List Share
   pub tokens : List ℕ
   pub credits : ℕ
   pub queue : Option ℕ
+  pub more : More
 
 -- A thread: its name and the line of its header, what it holds as it begins, its lists of items (what it holds at the
--- tops of its loops), its lines, for the lines that a jump starts from the place that it leads to, and how many variables
--- it has.
+-- tops of its loops), its lines, for the lines that a jump starts from the place that it leads to, how many variables it
+-- has, and its flag: the one variable that a loop of it names behind `when`, wherever in the thread that loop stands.
 pub record Thread : Type 0 where
   pub name : List ℕ
   pub line : ℕ
@@ -45,10 +52,13 @@ pub record Thread : Type 0 where
   pub lines : List Line
   pub ends : List ℕ
   pub variables : ℕ
+  pub flag : Option ℕ
 
--- A program: how many entries its submission ring and its completion ring have (io_uring_setup(2)), how many entries
--- may be left queued where the lock is released, and its declarations and threads, in text order.
+-- A program: the version of the notation, how many entries its submission ring and its completion ring have
+-- (io_uring_setup(2)), how many entries may be left queued where the lock is released, and its declarations and threads,
+-- in text order.
 pub record Program : Type 0 where
+  pub version : ℕ
   pub entries : ℕ
   pub completion_entries : ℕ
   pub left : ℕ
@@ -87,9 +97,17 @@ ends_in (Some thread) = thread.ends
 abbrev pub end_at : Program → ℕ → ℕ → ℕ
 end_at program i j = slice_index (ends_in (slice_get program.threads i)) j
 
+-- nothing besides
+abbrev pub no_more : More
+no_more = record { shares = []; tokens = []; credits = 0 }
+
+-- what is held besides, as items of their own
+abbrev pub besides : Items → Items
+besides items = record { shares = items.more.shares; tokens = items.more.tokens; credits = items.more.credits; queue = None; more = no_more }
+
 -- the items of a loop, by their number
 abbrev pub no_items : Items
-no_items = record { shares = []; tokens = []; credits = 0; queue = None }
+no_items = record { shares = []; tokens = []; credits = 0; queue = None; more = no_more }
 
 abbrev pub items_at : List Items → ℕ → Items
 items_at lists k = slice_index_or lists k no_items
@@ -236,20 +254,35 @@ pub record IsItems (program : Program) (items : Items) : Type 0 where
   pub credits : items.credits ≤ 2048
   pub queue : IfSome items.queue (λ k. k ≤ program.entries)
 
+-- The items of a loop: both lists, and no token in both.
+pub record IsList (program : Program) (items : Items) : Type 0 where
+  pub first : IsItems program items
+  pub more : IsItems program (besides items)
+  pub apart : IsDistinct nat_eq (items.tokens ++ items.more.tokens)
+
 -- A bound on queued entries is said of loops in a lock alone.
 abbrev pub MaySayQueue : Thread → ℕ → ℕ → Type 0
 MaySayQueue thread j k = in_lock (blocks_at thread.lines j) ≡ false → (items_at thread.lists k).queue ≡ None
 
--- A thread of a made program: at most 4,096 lines, with numbers from 1 to 4,096, and 64 variables.
+-- The flag is a variable, of a program of version 2; a thread without one holds nothing besides at any loop.
+pub record IsFlag (program : Program) (thread : Thread) : Type 0 where
+  pub variable : IfSome thread.flag (λ x. x < thread.variables)
+  pub version : program.version ≡ 1 → thread.flag ≡ None
+  pub without : thread.flag ≡ None → All (λ (i : Items). i.more ≡ no_more) thread.lists
+
+-- A thread of a made program: at most 4,096 lines, with numbers from 1 to 4,096, and 64 variables. Its header says
+-- neither how many entries may be queued nor what is held besides.
 pub record IsThread (program : Program) (thread : Thread) : Type 0 where
   pub name : is_name thread.name ≡ true
   pub line : (1 ≤ thread.line) × (thread.line ≤ 4096)
   pub items : IsItems program thread.items
   pub no_queue : thread.items.queue ≡ None
-  pub lists : All (IsItems program) thread.lists
+  pub no_more : thread.items.more ≡ no_more
+  pub lists : All (IsList program) thread.lists
   pub few_lines : length thread.lines ≤ 4096
   pub numbers : All (λ (l : Line). (1 ≤ l.number) × (l.number ≤ 4096)) thread.lines
   pub few_variables : thread.variables ≤ 64
+  pub flag : IsFlag program thread
   pub nested : IsNested thread.lines
   pub resolved : (j : ℕ) (s : Stmt) → stmt_at thread.lines j ≡ Some s → IsResolved program thread.variables (length thread.lists) s
   pub linked : (j : ℕ) (s : Stmt) → stmt_at thread.lines j ≡ Some s → IsLinked thread.lines thread.ends j s
@@ -282,6 +315,7 @@ line_numbers threads = flat_map (λ (t : Thread). numbers_from t.line t.lines) t
 -- What each made program keeps: the limits, nesting, resolved names, and that from the first header on each line has a
 -- higher number than the one before.
 pub record IsProgram (program : Program) : Type 0 where
+  pub version : (1 ≤ program.version) × (program.version ≤ 2)
   pub entries : IsRingSize 1024 program.entries
   pub completion_entries : IsRingSize 2048 program.completion_entries
   pub room : program.entries ≤ program.completion_entries

@@ -3,9 +3,12 @@
 use crate::lines::Line;
 use std::marker::Model;
 
-/// The head of a program: the numbers of entries of its rings, powers of two (`io_uring_setup(2)`).
+/// The head of a program: the version of the notation, and the numbers of entries of its rings, powers of two
+/// (`io_uring_setup(2)`).
 #[derive(Clone, Copy)]
 pub struct Head {
+    /// The version of the notation, 1 or 2. A thread of version 2 may have a flag.
+    pub version: u32,
     /// Entries of the submission ring, 1 to 1024.
     pub entries: u32,
     /// Entries of the completion ring, from those of the submission ring to 2048.
@@ -74,6 +77,17 @@ pub struct Share {
     pub count: u32,
 }
 
+/// What a loop says behind `when` that is held besides while the thread's flag isn't 0.
+#[derive(Drop)]
+pub struct More {
+    /// Shares of buffers, each buffer once.
+    pub shares: Vec<Share>,
+    /// The user data of tokens, each once, and none that is held without the flag.
+    pub tokens: Vec<u64>,
+    /// How many completions it may still cause besides, 0 to 2048.
+    pub credits: u32,
+}
+
 /// What a thread holds, as it begins or at the top of a loop.
 #[derive(Drop)]
 pub struct Items {
@@ -85,6 +99,8 @@ pub struct Items {
     pub credits: u32,
     /// How many entries may be queued at most, 0 to those of the submission ring; said of loops in a lock alone.
     pub queue: Option<u32>,
+    /// What is held besides while the flag isn't 0; said of loops in a thread with a flag alone.
+    pub more: More,
 }
 
 /// A thread.
@@ -105,6 +121,21 @@ pub struct Thread {
     pub ends: Vec<usize>,
     /// How many variables it has, at most 64.
     pub variables: usize,
+    /// The variable that its loops name behind `when`, in a program of version 2.
+    pub flag: Option<usize>,
+}
+
+impl Thread {
+    ghost use Rattle.std.specs.Prelude.{◌≡◌};
+    ghost use Rattle.rc_lang.specs.Parts.{view_thread};
+
+    /// The number of its flag: the variable that its loops name behind `when`. None: they name none, and what is held
+    /// depends on no variable.
+    pub fn flag(&self) -> Option<usize>
+        ensures { result ≡ (view_thread self.now).flag }
+    {
+        self.flag
+    }
 }
 
 /// A program, whose limits, nesting and names were tested as it was made.
@@ -143,6 +174,14 @@ impl Program {
             declarations,
             threads,
         }
+    }
+
+    /// The version of the notation: 1 or 2.
+    pub fn version(&self) -> u32
+        ensures value { result ≡ self.now.version }
+        ensures made { IsProgram self.now }
+    {
+        self.head.version
     }
 
     /// The entries of the submission ring: a power of two, 1 to 1024.
@@ -269,6 +308,7 @@ mod tests {
     fn a_program_without_threads_is_made_of_its_head(rt: HostRuntime) {
         let alloc = rt.alloc();
         let head = Head {
+            version: 1,
             entries: 4,
             completion_entries: 8,
             left: 3,
@@ -281,7 +321,7 @@ mod tests {
         let program = Program::new(head, declarations, Vec::new(alloc));
         let sizes = (program.entries(), program.completion_entries());
         assert_eq!(rt; sizes, (4, 8));
-        assert_eq!(rt; program.left(), 3);
+        assert_eq!(rt; (program.version(), program.left()), (1, 3));
         assert_eq!(rt; program.threads().len(), 0);
         assert_eq!(rt; program.files().len(), 0);
         assert!(rt; program.line_at(0, 0).is_none());

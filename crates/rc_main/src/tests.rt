@@ -3,6 +3,7 @@
 mod causes;
 mod checks;
 mod devices;
+mod flags;
 mod limits;
 mod long;
 mod programs;

@@ -5,12 +5,11 @@ use Rattle.std.specs.Prelude.{slice_get, ◌⊎◌, Contains}
 use Rattle.rc_lang.specs.Nesting.{innermost}
 use Rattle.rc_lang.specs.Program.{Program}
 use Rattle.rc_lang.specs.declared.lines.Block.{Block}
-use Rattle.rc_read.specs.Adds.{added, closed, with_words, with_line, items, says}
+use Rattle.rc_read.specs.Adds.{added, closed, with_words, with_line, items, places_in, says}
 use Rattle.rc_read.specs.Answer.{on_line, judged, ended, at_end, answer_of}
 use Rattle.rc_read.specs.OneAnswer.{sheet_behind, IsTrueOf, IsFirstFault, IsEnd, HasAnswer}
 use Rattle.rc_read.specs.Sentences.{sentences, word_sentences, first_true}
 use Rattle.rc_read.specs.Sheets.{Sheet, empty, with_names}
-use Rattle.rc_read.specs.Spots.{spots_in}
 use Rattle.rc_read.specs.Words.{text_lines, words_of}
 use Rattle.rc_read.specs.declared.says.Says.{Says}
 use Rattle.rc_read.specs.declared.says.Says.TheVariants.{Close}
@@ -55,7 +54,7 @@ least_by l n m ((k, false) ∷ ps) r e h =
 
 words_rise : (s : Sheet) (line : List ℕ) (ws : List (List ℕ)) → Rise 1 (word_sentences s line ws)
 words_rise s line [] = (omega arith, tt)
-words_rise s line (w ∷ ws) = (omega arith, (omega arith, (omega arith, (omega arith, (omega arith, (omega arith, (omega arith, (omega arith, (omega arith, tt)))))))))
+words_rise s line (w ∷ ws) = (omega arith, (omega arith, (omega arith, (omega arith, (omega arith, (omega arith, (omega arith, (omega arith, (omega arith, (omega arith, tt))))))))))
 
 sentences_rise : (s : Sheet) (line : List ℕ) → Rise 0 (sentences s line)
 sentences_rise s line = (omega arith, words_rise s line (words_of line))
@@ -72,7 +71,7 @@ added_count s ws items _ = refl
 
 words_count : (s : Sheet) (ws : List (List ℕ)) → (with_words s ws).count ≡ s.count
 words_count s [] = refl
-words_count s (w ∷ ws) = added_count (with_names s (spots_in (w ∷ ws))) (w ∷ ws) (items s (w ∷ ws)) (says s (w ∷ ws))
+words_count s (w ∷ ws) = added_count (with_names s (places_in s (w ∷ ws))) (w ∷ ws) (items s (w ∷ ws)) (says s (w ∷ ws))
 
 line_count : (s : Sheet) (line : List ℕ) → (with_line s line).count ≡ s.count + 1
 line_count s line = ap (λ (n : ℕ). n + 1) (words_count s (words_of line))

@@ -1,5 +1,5 @@
 -- What the sentences keep of a sheet, line by line, and that what was read of a text without a fault is a program.
-use Rattle.std.proofs.Common.{◌≡◌, ℕ, ◌+◌, ◌<◌, Bool, true, false, cond, not, ◌&&◌, ◌==◌, max, nat_le, List, [], ◌∷◌, ◌++◌, length, length-append, take, Option, Some, None, Result, Ok, Err, is_none, unwrap_or, slice_get, refl, sym, ap, ◌∙◌, subst, ◌⊎◌, inl, inr, arith}
+use Rattle.std.proofs.Common.{◌≡◌, ℕ, ◌+◌, ◌<◌, Bool, true, false, cond, not, ◌&&◌, ◌||◌, ◌==◌, max, nat_le, List, [], ◌∷◌, ◌++◌, length, length-append, take, Option, Some, None, Result, Ok, Err, is_none, unwrap_or, slice_get, refl, sym, ap, ◌∙◌, subst, ◌⊎◌, inl, inr, arith}
 use Rattle.std.specs.List.{list_any}
 use Rattle.std.proofs.lemmas.Bool.{and_cases, and_parts, leb-false, not-false, or_parts}
 use Rattle.rc_lang.specs.declared.lines.Block.{Block}
@@ -16,19 +16,19 @@ use Rattle.rc_read.specs.declared.table.Row.{Row}
 use Rattle.rc_read.specs.declared.table.Stand.{Stand}
 use Rattle.rc_read.specs.declared.table.Stand.TheVariants as stand
 use Rattle.rc_read.specs.declared.values.Item.{Item}
-use Rattle.rc_read.specs.Adds.{added, block_place, counted, held, said, second_of, stmt_in, values, with_line, with_words}
+use Rattle.rc_read.specs.Adds.{added, block_place, counted, form_in, held, held_in_loop, said, second_of, stmt_in, values, with_line, with_words}
 use Rattle.rc_read.specs.Answer.{at_end, judged, lacks_head, on_line, program_in}
 use Rattle.rc_read.specs.Says.{says_by, says_of}
 use Rattle.rc_read.specs.Sentences.{any_queue, any_strange, bad_brace, bad_case, bad_nesting, first_true, is_first_branch, is_inside, is_too_deep, sentences, word_sentences}
 use Rattle.rc_read.specs.Sheets.{Sheet, empty, naming, with_names}
-use Rattle.rc_read.specs.Spots.{Spot, matches, row_of, spots_by, spots_of}
+use Rattle.rc_read.specs.Spots.{Spot, any_reserved, spots_by, spots_of}
 use Rattle.rc_read.specs.Stream.{IsReached}
-use Rattle.rc_read.specs.Table.{parts_of, rows, stand_of}
-use Rattle.rc_read.specs.Values.{start}
+use Rattle.rc_read.specs.Table.{parts_of, stand_of, version_of}
+use Rattle.rc_read.specs.Values.{behind_when, start}
 use Rattle.rc_read.specs.Words.{words_of}
 use Rattle.rc_read.proofs.KeptDraft.{MayFollow, draft_start}
-use Rattle.rc_read.proofs.KeptForms.{AreFalse, IsRegion, are_false, few_lines, first_matches, inside, items_by, none_alone, none_else, region_is}
-use Rattle.rc_read.proofs.KeptItems.{no_queue}
+use Rattle.rc_read.proofs.KeptForms.{AreFalse, IsRegion, are_false, few_lines, HasForm, has_form, inside, items_by, none_alone, none_else, region_is}
+use Rattle.rc_read.proofs.KeptLists.{no_queue, no_queue_before}
 use Rattle.rc_read.proofs.KeptParts.{AreThreads, RiseTo, buffers_more, files_more, no_threads, rise_more, rise_none, tokens_more, tokens_on}
 use Rattle.rc_read.proofs.KeptRows.{IsKind, IsTold, has_more, told}
 use Rattle.rc_read.proofs.KeptSheet.{IsKept, ThreadsAt, at, kept_brace, kept_counted, kept_named, kept_said, kept_start}
@@ -54,8 +54,8 @@ module _ (ts : List ThreadOf) where
       some None h = absurd (cc)
       some (Some n) h = refl
 
-  no_queue_outside : (its : List Item) (locked : Bool) → any_queue its && not locked ≡ false → locked ≡ false → any_queue its ≡ false
-  no_queue_outside its locked e n = elim (and_cases (any_queue its) (not locked) e) [ inl h ↦ h | inr h ↦ absurd (cc (h, n)) ]
+  no_queue_outside : (its : List Item) (locked behind : Bool) → any_queue its && (not locked || behind) ≡ false → locked ≡ false → any_queue its ≡ false
+  no_queue_outside its locked behind e n = elim (and_cases (any_queue its) (not locked || behind) e) [ inl h ↦ h | inr h ↦ let k = (or_parts (not locked) behind h).0 in absurd (cc (k, n)) ]
 
   module _ (s : Sheet) (ps : List Spot) (ws : List (List ℕ)) (its : List Item) (st : Stand) (region : IsRegion st s.region) (lt : s.count < 4096) (k : IsKept ts (with_names s ps)) where
     stands : (st' : Stand) → st ≡ st' → IsRegion st' s.region
@@ -67,8 +67,8 @@ module _ (ts : List ThreadOf) where
     room : nat_le 31 (length s.draft.blocks) ≡ false → length s.draft.blocks < 31
     room e = leb-false 31 (length s.draft.blocks) e
 
-    longer : length s.draft.lists < length (s.draft.lists ++ held its ∷ [])
-    longer = let a : length (s.draft.lists ++ held its ∷ []) ≡ length s.draft.lists + 1 = length-append s.draft.lists (held its ∷ []) in omega arith
+    longer : length s.draft.lists < length (s.draft.lists ++ held_in_loop its ∷ [])
+    longer = let a : length (s.draft.lists ++ held_in_loop its ∷ []) ≡ length s.draft.lists + 1 = length-append s.draft.lists (held_in_loop its ∷ []) in omega arith
 
     header : (s.region ≡ Declarations) ⊎ (s.region ≡ Between) → AreThreads (made ts s) s.threads × RiseTo s.count (line_numbers s.threads)
     header h = elim h [
@@ -81,8 +81,12 @@ module _ (ts : List ThreadOf) where
     declares t e r h = subst (λ q. ThreadsAt (made ts t) (s.count + 1) t.draft t.threads q) (sym (r ∙ e)) (h ∙ at ts (with_names s ps) lt k Declarations e)
 
     kept_what : (what : Says) → IsTold ts s (naming s.draft ps) ws its st what → bad_brace s what ≡ false → is_too_deep s what ≡ false → bad_nesting s.draft.blocks its what ≡ false → bad_case s.draft what ≡ false → IsKept ts (counted (added (with_names s ps) ws its what))
-    kept_what says.Version t b d n c = record { few_lines = omega arith; declared = k.declared; threads = at ts (with_names s ps) lt k Start (stands stand.First t) }
-    kept_what (says.Ring h) t b d n c = record { few_lines = omega arith; declared = record { sizes = t.1; known_files = k.declared.known_files; known_buffers = k.declared.known_buffers; known_tokens = k.declared.known_tokens }; threads = at ts (with_names s ps) lt k Second (stands stand.Second t.0) }
+    kept_what (says.Version v) t b d n c = record {
+      few_lines = omega arith;
+      declared = record { sizes = record { version = (t.1, t.2); rings = k.declared.sizes.rings }; known_files = k.declared.known_files; known_buffers = k.declared.known_buffers; known_tokens = k.declared.known_tokens };
+      threads = at ts (with_names s ps) lt k Start (stands stand.First t.0);
+    }
+    kept_what (says.Ring h) t b d n c = record { few_lines = omega arith; declared = record { sizes = record { version = k.declared.sizes.version; rings = t.1 }; known_files = k.declared.known_files; known_buffers = k.declared.known_buffers; known_tokens = k.declared.known_tokens }; threads = at ts (with_names s ps) lt k Second (stands stand.Second t.0) }
     kept_what (says.File f) t b d n c = record {
       few_lines = omega arith;
       declared = record { sizes = k.declared.sizes; known_files = files_more s.files f k.declared.known_files t.1 t.2 t.3; known_buffers = k.declared.known_buffers; known_tokens = k.declared.known_tokens };
@@ -109,7 +113,7 @@ module _ (ts : List ThreadOf) where
         new = t.2.1;
         few_lines = omega arith;
         numbers = rise_more s.count (line_numbers s.threads) (header (stands stand.Header t.0 b)).1;
-        draft = draft_start (made ts s) (second_of ws) (s.count + 1) (held its) t.2.0 (omega arith) (omega arith) t.3 (no_queue its n);
+        draft = draft_start (made ts s) (second_of ws) (s.count + 1) (held its []) t.2.0 (omega arith) (omega arith) t.3 (no_queue its n) refl;
       };
     }
     kept_what (says.Op op) t b d n c = follows (says.Op op) (stands stand.Inside t.0) (record { nested = c; room = tt; arm = tt; resolved = t.1; loop = tt })
@@ -129,29 +133,31 @@ module _ (ts : List ThreadOf) where
         let h = or_parts (not (directly_in_peek s.draft.blocks)) s.draft.arms.none c in
         follows says.Nothing (stands stand.Inside t) (record { nested = peeked (innermost s.draft.blocks) (not-false (directly_in_peek s.draft.blocks) h.0); room = room d; arm = h.1; resolved = tt; loop = tt })
     kept_what says.Loop t b d n c =
-        let h = or_parts (in_peek s.draft.blocks) (any_queue its && not (in_lock s.draft.blocks)) n in
-        follows says.Loop (stands stand.Inside t.0) (record { nested = h.0; room = room d; arm = tt; resolved = longer; loop = (refl, t.1, λ locked. no_queue its (no_queue_outside its (in_lock s.draft.blocks) h.1 locked)) })
+        let h = or_parts (in_peek s.draft.blocks) (any_queue its && (not (in_lock s.draft.blocks) || any_queue (behind_when its))) n in
+        follows says.Loop (stands stand.Inside t.0) (record { nested = h.0; room = room d; arm = tt; resolved = longer; loop = (refl, t.1, λ locked. no_queue_before its (no_queue_outside its (in_lock s.draft.blocks) (any_queue (behind_when its)) h.1 locked)) })
     kept_what says.Break t b d n c = follows says.Break (stands stand.Inside t) (record { nested = (c, out_of_loop (way_out s.draft.blocks) n); room = tt; arm = tt; resolved = tt; loop = tt })
     kept_what says.Close t b d n c = kept_brace ts (with_names s ps) lt k (inside s.region b) (innermost s.draft.blocks) refl c
 
   -- ---- a line
 
-  kept_row : (s : Sheet) (ws : List (List ℕ)) (r : Row) → matches (parts_of r) ws ≡ true → AreFalse s ws (Some r) → IsKept ts s → IsKept ts (counted (added (with_names s (spots_of (parts_of r) ws)) ws (items_by s ws (Some r)) (says_of r (values s (spots_of (parts_of r) ws)))))
-  kept_row s ws r m a k =
+  kept_row : (s : Sheet) (ws : List (List ℕ)) (r : Row) → HasForm s.head.version ws r → AreFalse s ws (Some r) → IsKept ts s → IsKept ts (counted (added (with_names s (spots_of (parts_of r) ws)) ws (items_by s ws (Some r)) (says_of r (values s (spots_of (parts_of r) ws)))))
+  kept_row s ws r has a k =
       let ps = spots_of (parts_of r) ws in
+      let m = has.matches in
+      let v = (and_parts (nat_le (version_of r) s.head.version) (not (any_reserved s.head.version ps)) has.holds).0 in
       let vs = values s ps in
       let d = naming s.draft ps in
       let right : AreRight ts s d vs 0 start ps = record { numbers = a.numbers; known = a.known; new = a.new; room = a.room; named = all_named s.draft.names ps; values = λ i. let n : 0 + i ≡ i = omega arith in ap (λ j. slice_get vs j) n } in
-      let t = told ts s d ws (items_by s ws (Some r)) r vs (fine_line ts s d vs (parts_of r) ps (are_of (parts_of r) ws m) right) (has_more ts s d ws r m a.numbers a.known a.new a.once) in
+      let t = told ts s d ws (items_by s ws (Some r)) r vs (fine_line ts s d vs (parts_of r) ps (are_of (parts_of r) ws m) right) (has_more ts s d ws r m v (record { numbers = a.numbers; known = a.known; new = a.new; once = a.once; named = all_named s.draft.names ps })) in
       kept_what s ps ws (items_by s ws (Some r)) (stand_of r) (region_is (stand_of r) s.region a.line) a.few_lines (kept_named ts s ps a.few_names k) (says_of r vs) t a.braces a.depth a.nesting a.arms
 
   kept_words : (s : Sheet) (line : List ℕ) (ws : List (List ℕ)) → first_true (word_sentences s line ws) ≡ None → IsKept ts s → IsKept ts (counted (with_words s ws))
   kept_words s line [] e k = kept_counted ts s (few_lines s line (none_alone 8 _ e)) k
-  kept_words s line (w ∷ ws) e k = go (row_of (w ∷ ws)) refl (are_false s line (w ∷ ws) e)
+  kept_words s line (w ∷ ws) e k = go (form_in s (w ∷ ws)) refl (are_false s line (w ∷ ws) e)
     where
-      go : (form : Option Row) → row_of (w ∷ ws) ≡ form → AreFalse s (w ∷ ws) form → IsKept ts (counted (added (with_names s (spots_by form (w ∷ ws))) (w ∷ ws) (items_by s (w ∷ ws) form) (says_by form (values s (spots_by form (w ∷ ws))))))
+      go : (form : Option Row) → form_in s (w ∷ ws) ≡ form → AreFalse s (w ∷ ws) form → IsKept ts (counted (added (with_names s (spots_by form (w ∷ ws))) (w ∷ ws) (items_by s (w ∷ ws) form) (says_by form (values s (spots_by form (w ∷ ws))))))
       go None f a = absurd (cc (a.line))
-      go (Some r) f a = kept_row s (w ∷ ws) r (first_matches rows (w ∷ ws) r f) a k
+      go (Some r) f a = kept_row s (w ∷ ws) r (has_form s.head.version (w ∷ ws) r f) a k
 
   kept_line : (s : Sheet) (line : List ℕ) → first_true (sentences s line) ≡ None → IsKept ts s → IsKept ts (with_line s line)
   kept_line s line e k = kept_words s line (words_of line) (none_else (any_strange (take 256 line)) (word_sentences s line (words_of line)) e) k
@@ -174,10 +180,11 @@ token_kind p kind.Nop h = tt
 
 program_made : (s : Sheet) → IsKept s.threads s → AreThreads (program_in s) s.threads × RiseTo s.count (line_numbers s.threads) → IsProgram (program_in s)
 program_made s k threads = record {
-  entries = k.declared.sizes.entries;
-  completion_entries = k.declared.sizes.completion_entries;
-  room = k.declared.sizes.room;
-  left = k.declared.sizes.left;
+  version = k.declared.sizes.version;
+  entries = k.declared.sizes.rings.entries;
+  completion_entries = k.declared.sizes.rings.completion_entries;
+  room = k.declared.sizes.rings.room;
+  left = k.declared.sizes.rings.left;
   few_files = k.declared.known_files.few;
   files = k.declared.known_files.each;
   distinct_files = k.declared.known_files.distinct;

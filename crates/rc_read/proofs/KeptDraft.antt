@@ -1,5 +1,6 @@
 -- What is kept of the open thread, and what one more line does to it.
-use Rattle.std.proofs.Common.{◌≡◌, ℕ, zero, suc, ◌+◌, ◌-◌, ◌<◌, ◌≤◌, min, true, false, List, [], ◌∷◌, ◌++◌, length, length-append, length-take, take, Some, None, refl, sym, ap, ◌∙◌, subst, inl, inr, All, arith}
+use Rattle.std.proofs.Common.{◌≡◌, ℕ, zero, suc, ◌+◌, ◌-◌, ◌<◌, ◌≤◌, min, true, false, List, [], ◌∷◌, ◌++◌, length, length-append, length-take, take, Option, Some, None, IfSome, refl, sym, ap, ◌∙◌, subst, inl, inr, All, arith}
+use Rattle.std.specs.Option.{option_or}
 use Rattle.std.proofs.lemmas.Bool.{cases_lt}
 use Rattle.std.proofs.lemmas.List.{get_or_append_left, get_or_push}
 use Rattle.std.proofs.lemmas.List.Elements.{All-nil, All-push}
@@ -11,15 +12,17 @@ use Rattle.rc_lang.specs.declared.lines.Stmt.{Stmt}
 use Rattle.rc_lang.specs.declared.lines.Stmt.TheVariants.{Do, Lock, EndLock, If, Else, EndIf, Peek, Case, Other, Nothing, EndArm, EndPeek, Loop, EndLoop, Break}
 use Rattle.rc_lang.specs.Names.{is_name}
 use Rattle.rc_lang.specs.Nesting.{blocks_at, blocks_behind, in_lock, innermost, IsNestedIn, without_innermost}
-use Rattle.rc_lang.specs.Program.{IsItems, IsResolved, IsThread, Items, Program, items_at, no_items, stmt_at}
+use Rattle.rc_lang.specs.Program.{IsFlag, IsItems, IsList, IsResolved, IsThread, Items, Program, items_at, no_items, no_more, stmt_at}
 use Rattle.rc_lang.proofs.Lookups.{EachNested, blocks_new, blocks_old, nested_more, nested_start, stands_within, stmt_push}
 use Rattle.rc_lang.proofs.Placed.{ArePlaced, placed, placed_innermost}
 use Rattle.rc_read.specs.declared.values.Item.{Item}
-use Rattle.rc_read.specs.Adds.{ends_behind, held, lists_behind, whole_thread, with_stmt}
+use Rattle.rc_read.specs.Adds.{ends_behind, held_in_loop, lists_behind, whole_thread, with_stmt}
 use Rattle.rc_read.specs.Sheets.{Draft, headed, names_behind, naming}
 use Rattle.rc_read.specs.Spots.{Spot}
+use Rattle.rc_read.specs.Values.{flag_in}
 use Rattle.rc_read.proofs.KeptArms.{AreSeen, IsNewArm, may_stand, seen_more}
 use Rattle.rc_read.proofs.KeptLinks.{AreKept, all_linked, as_long, kept_more}
+use Rattle.rc_read.proofs.KeptLists.{IsLoopOf, nothing_besides}
 use Rattle.rc_read.proofs.KeptResolved.{resolved_on}
 use Rattle.rc_read.proofs.KeptSpots.{names_grow}
 
@@ -29,9 +32,11 @@ pub record IsDraft (p : Program) (d : Draft) : Type 0 where
   pub line : (1 ≤ d.line) × (d.line ≤ 4096)
   pub items : IsItems p d.items
   pub no_queue : d.items.queue ≡ None
-  pub lists : All (IsItems p) d.lists
+  pub no_more : d.items.more ≡ no_more
+  pub lists : All (IsList p) d.lists
   pub numbers : All (λ (l : Line). (1 ≤ l.number) × (l.number ≤ 4096)) d.lines
   pub few_names : length d.names ≤ 64
+  pub flag : IsFlag p (whole_thread d)
   pub stand : blocks_at d.lines (length d.lines) ≡ d.blocks
   pub each : EachNested d.lines
   pub depth : (j : ℕ) → length (blocks_at d.lines j) ≤ 31
@@ -41,15 +46,17 @@ pub record IsDraft (p : Program) (d : Draft) : Type 0 where
   pub seen : AreSeen d.blocks d.lines d.arms
   pub queues : (j k : ℕ) → stmt_at d.lines j ≡ Some (Loop k) → in_lock (blocks_at d.lines j) ≡ false → (items_at d.lists k).queue ≡ None
 
-pub draft_start : (p : Program) (name : List ℕ) (line : ℕ) (items : Items) → is_name name ≡ true → 1 ≤ line → line ≤ 4096 → IsItems p items → items.queue ≡ None → IsDraft p (headed name line items)
-draft_start p name line items is some few held none = record {
+pub draft_start : (p : Program) (name : List ℕ) (line : ℕ) (items : Items) → is_name name ≡ true → 1 ≤ line → line ≤ 4096 → IsItems p items → items.queue ≡ None → items.more ≡ no_more → IsDraft p (headed name line items)
+draft_start p name line items is some few held none nothing = record {
   name = is;
   line = (some, few);
   items = held;
   no_queue = none;
-  lists = All-nil (IsItems p);
+  no_more = nothing;
+  lists = All-nil (IsList p);
   numbers = All-nil (λ (l : Line). (1 ≤ l.number) × (l.number ≤ 4096));
   few_names = omega arith;
+  flag = record { variable = tt; version = λ e. refl; without = λ e. All-nil (λ (i : Items). i.more ≡ no_more) };
   stand = refl;
   each = nested_start;
   depth = shallow;
@@ -66,15 +73,21 @@ draft_start p name line items is some few held none = record {
 
 -- ---- more variables
 
+below_more : (o : Option ℕ) (m n : ℕ) → m ≤ n → IfSome o (λ x. x < m) → IfSome o (λ x. x < n)
+below_more None m n le h = tt
+below_more (Some x) m n le h = let lt : x < m = h in omega arith
+
 pub draft_named : (p : Program) (d : Draft) (ps : List Spot) → length (names_behind d.names ps) ≤ 64 → IsDraft p d → IsDraft p (naming d ps)
 draft_named p d ps few k = record {
   name = k.name;
   line = k.line;
   items = k.items;
   no_queue = k.no_queue;
+  no_more = k.no_more;
   lists = k.lists;
   numbers = k.numbers;
   few_names = few;
+  flag = record { variable = below_more d.flag (length d.names) (length (names_behind d.names ps)) (names_grow d.names ps) k.flag.variable; version = k.flag.version; without = k.flag.without };
   stand = k.stand;
   each = k.each;
   depth = k.depth;
@@ -100,7 +113,7 @@ HasRoom bs s = Unit {0}
 
 -- The items of a loop are fine.
 abbrev pub IsFineLoop : Program → Draft → List Item → Stmt → Type 0
-IsFineLoop p d items (Loop k) = (k ≡ length d.lists) × IsItems p (held items) × (in_lock d.blocks ≡ false → (held items).queue ≡ None)
+IsFineLoop p d items (Loop k) = (k ≡ length d.lists) × IsLoopOf p (length d.names) items × (in_lock d.blocks ≡ false → (held_in_loop items).queue ≡ None)
 IsFineLoop p d items s = Unit {0}
 
 -- Such a line may be the next.
@@ -143,24 +156,42 @@ module _ (bs : List Block) (n : ℕ) (few : length bs ≤ 31) where
   depth_behind (Break o releases leaves) e r = few
 
 module _ (p : Program) (d : Draft) (items : List Item) where
-  lists_fine : (s : Stmt) → IsFineLoop p d items s → All (IsItems p) d.lists → All (IsItems p) (lists_behind d.lists items s)
-  lists_fine (Loop k) f h = All-push (IsItems p) d.lists (held items) h f.1
+  lists_fine : (s : Stmt) → IsFineLoop p d items s → All (IsList p) d.lists → All (IsList p) (lists_behind d.lists items s)
+  lists_fine (Loop k) f h = All-push (IsList p) d.lists (held_in_loop items) h f.1.list
   lists_fine s f h = h
 
   lists_grow : (s : Stmt) → length d.lists ≤ length (lists_behind d.lists items s)
-  lists_grow (Loop k) = let a : length (d.lists ++ held items ∷ []) ≡ length d.lists + 1 = length-append d.lists (held items ∷ []) in omega arith
+  lists_grow (Loop k) = let a : length (d.lists ++ held_in_loop items ∷ []) ≡ length d.lists + 1 = length-append d.lists (held_in_loop items ∷ []) in omega arith
   lists_grow s = omega arith
 
   old_items : (s : Stmt) (k : ℕ) → k < length d.lists → items_at (lists_behind d.lists items s) k ≡ items_at d.lists k
-  old_items (Loop i) k lt = get_or_append_left d.lists (held items ∷ []) no_items k lt
+  old_items (Loop i) k lt = get_or_append_left d.lists (held_in_loop items ∷ []) no_items k lt
   old_items s k lt = refl
 
   new_queue : (s : Stmt) → IsFineLoop p d items s → (k : ℕ) → s ≡ Loop k → in_lock d.blocks ≡ false → (items_at (lists_behind d.lists items s) k).queue ≡ None
   new_queue (Loop i) f k e n =
       let q : i ≡ k = cc in
       let g : length d.lists ≡ k = sym f.0 ∙ q in
-      ap (λ (x : Items). x.queue) (get_or_push d.lists (held items) no_items k g) ∙ f.2 n
+      ap (λ (x : Items). x.queue) (get_or_push d.lists (held_in_loop items) no_items k g) ∙ f.2 n
   new_queue s f k e n = absurd (cc)
+
+  -- ---- the flag
+
+  neither : (a b : Option ℕ) → option_or a b ≡ None → (a ≡ None) × (b ≡ None)
+  neither None b e = (refl, e)
+  neither (Some x) b e = absurd (cc)
+
+  either : (a b : Option ℕ) → IfSome a (λ x. x < length d.names) → IfSome b (λ x. x < length d.names) → IfSome (option_or a b) (λ x. x < length d.names)
+  either None b f g = g
+  either (Some x) b f g = f
+
+  flag_more : (number : ℕ) (s : Stmt) → IsFineLoop p d items s → IsFlag p (whole_thread d) → IsFlag p (whole_thread (with_stmt d number items s))
+  flag_more number (Loop k) f h = record {
+    variable = either d.flag (flag_in items) h.variable f.1.flag;
+    version = λ first. ap (λ o. option_or o (flag_in items)) (h.version first) ∙ f.1.version first;
+    without = λ none. let n = neither d.flag (flag_in items) none in All-push (λ (i : Items). i.more ≡ no_more) d.lists (held_in_loop items) (h.without n.0) (nothing_besides items n.1);
+  }
+  flag_more number s f h = record { variable = h.variable; version = h.version; without = h.without }
 
 module _ (p : Program) (d : Draft) (k : IsDraft p d) where
   places : ArePlaced d.lines (length d.lines) d.blocks
@@ -181,9 +212,11 @@ module _ (p : Program) (d : Draft) (k : IsDraft p d) where
         line = k.line;
         items = k.items;
         no_queue = k.no_queue;
+        no_more = k.no_more;
         lists = lists_fine p d items s may.loop k.lists;
         numbers = All-push (λ (m : Line). (1 ≤ m.number) × (m.number ≤ 4096)) d.lines line k.numbers (some, few);
         few_names = k.few_names;
+        flag = flag_more p d items number s may.loop k.flag;
         stand = behind (length (d.lines ++ line ∷ [])) (omega arith);
         each = nested_more d.lines line k.each (subst (λ bs. IsNestedIn bs s) (sym k.stand) may.nested);
         depth = λ j. elim (cases_lt n j) [
@@ -216,9 +249,11 @@ module _ (p : Program) (d : Draft) (k : IsDraft p d) where
     line = k.line;
     items = k.items;
     no_queue = k.no_queue;
+    no_more = k.no_more;
     lists = k.lists;
     numbers = k.numbers;
     few_variables = k.few_names;
+    flag = k.flag;
     nested = record { each = k.each; depth = k.depth; closed = k.stand ∙ e };
     resolved = k.resolved;
     linked = all_linked d.lines d.ends (subst (λ bs. AreKept bs d.lines d.ends) e k.kept);

@@ -7,12 +7,12 @@ use Rattle.rc_read.specs.declared.table.Row.{Row}
 use Rattle.rc_read.specs.declared.table.Stand.{Stand}
 use Rattle.rc_read.specs.declared.table.Stand.TheVariants as stand
 use Rattle.rc_read.specs.declared.values.Item.{Item}
-use Rattle.rc_read.specs.Adds.{values}
+use Rattle.rc_read.specs.Adds.{form_in, values}
 use Rattle.rc_read.specs.Says.{says_by}
-use Rattle.rc_read.specs.Sentences.{any_double, any_full, any_twice, any_unknown, bad_brace, bad_case, bad_head, bad_line, bad_nesting, first_true, form_sentences, has_too_many_names, is_inside, is_too_deep, is_too_long, may_stand}
+use Rattle.rc_read.specs.Sentences.{any_double, any_full, any_named_twice, any_unknown, bad_brace, bad_case, bad_head, bad_line, bad_nesting, first_true, form_sentences, has_too_many_names, is_inside, is_too_deep, is_too_long, may_stand}
 use Rattle.rc_read.specs.Sheets.{Sheet, names_behind, with_names}
-use Rattle.rc_read.specs.Spots.{first_row, matches, row_of, spots_by}
-use Rattle.rc_read.specs.Table.{parts_of}
+use Rattle.rc_read.specs.Spots.{first_row, form_by, is_form, matches, row_of, spots_by, spots_of}
+use Rattle.rc_read.specs.Table.{parts_of, rows}
 use Rattle.rc_read.specs.Values.{any_lacks, items_in, start}
 
 none_true : (n : ℕ) (b : Bool) (others : Option ℕ) → cond b (Some n) others ≡ None → (b ≡ false) × (others ≡ None)
@@ -39,7 +39,7 @@ pub record AreFalse (s : Sheet) (ws : List (List ℕ)) (form : Option Row) : Typ
   pub numbers : any_lacks (with_names s (spots_by form ws)) start (spots_by form ws) ≡ false
   pub known : any_unknown s (spots_by form ws) ≡ false
   pub new : any_double s (spots_by form ws) ≡ false
-  pub once : any_twice (items_by s ws form) ≡ false
+  pub once : any_named_twice (items_by s ws form) ≡ false
   pub braces : bad_brace s (says_by form (values s (spots_by form ws))) ≡ false
   pub few_lines : s.count < 4096
   pub depth : is_too_deep s (says_by form (values s (spots_by form ws))) ≡ false
@@ -48,20 +48,20 @@ pub record AreFalse (s : Sheet) (ws : List (List ℕ)) (form : Option Row) : Typ
   pub nesting : bad_nesting s.draft.blocks (items_by s ws form) (says_by form (values s (spots_by form ws))) ≡ false
   pub arms : bad_case s.draft (says_by form (values s (spots_by form ws))) ≡ false
 
-pub are_false : (s : Sheet) (line : List ℕ) (ws : List (List ℕ)) → first_true (form_sentences s line ws) ≡ None → AreFalse s ws (row_of ws)
+pub are_false : (s : Sheet) (line : List ℕ) (ws : List (List ℕ)) → first_true (form_sentences s line ws) ≡ None → AreFalse s ws (form_in s ws)
 are_false s line ws e =
-    let spots = spots_by (row_of ws) ws in
-    let what = says_by (row_of ws) (values s spots) in
-    let p2 = (none_true 2 (bad_head s.region ws) _ e).1 in
-    let p3 = none_true 3 (bad_line s.region (row_of ws)) _ p2 in
+    let spots = spots_by (form_in s ws) ws in
+    let what = says_by (form_in s ws) (values s spots) in
+    let p2 = (none_true 2 (bad_head s.region (form_in s ws) ws) _ e).1 in
+    let p3 = none_true 3 (bad_line s.region (form_in s ws)) _ p2 in
     let p4 = none_true 4 (any_lacks (with_names s spots) start spots) _ p3.1 in
     let p5 = none_true 5 (any_unknown s spots) _ p4.1 in
-    let p6 = none_true 6 (any_double s spots || any_twice (items_by s ws (row_of ws))) _ p5.1 in
+    let p6 = none_true 6 (any_double s spots || any_named_twice (items_by s ws (form_in s ws))) _ p5.1 in
     let p7 = none_true 7 (bad_brace s what) _ p6.1 in
     let p8 = none_true 8 (is_too_long s line || is_too_deep s what || any_full s spots || has_too_many_names s spots) _ p7.1 in
-    let p9 = none_true 9 (bad_nesting s.draft.blocks (items_by s ws (row_of ws)) what) _ p8.1 in
+    let p9 = none_true 9 (bad_nesting s.draft.blocks (items_by s ws (form_in s ws)) what) _ p8.1 in
     let p10 = none_true 10 (bad_case s.draft what) _ p9.1 in
-    let double = or_parts (any_double s spots) (any_twice (items_by s ws (row_of ws))) p6.0 in
+    let double = or_parts (any_double s spots) (any_named_twice (items_by s ws (form_in s ws))) p6.0 in
     let names = or_parts (is_too_long s line || is_too_deep s what || any_full s spots) (has_too_many_names s spots) p8.0 in
     let full = or_parts (is_too_long s line || is_too_deep s what) (any_full s spots) names.0 in
     let deep = or_parts (is_too_long s line) (is_too_deep s what) full.0 in
@@ -81,13 +81,29 @@ are_false s line ws e =
     }
 
 -- the words are those of the form's parts
-pub first_matches : (rows : List Row) (ws : List (List ℕ)) (row : Row) → first_row rows ws ≡ Some row → matches (parts_of row) ws ≡ true
+first_matches : (rows : List Row) (ws : List (List ℕ)) (row : Row) → first_row rows ws ≡ Some row → matches (parts_of row) ws ≡ true
 first_matches [] ws row e = absurd (cc)
 first_matches (r ∷ rows) ws row e = go (matches (parts_of r) ws) refl e (λ h. first_matches rows ws row h)
   where
     go : (b : Bool) → matches (parts_of r) ws ≡ b → cond b (Some r) (first_row rows ws) ≡ Some row → (first_row rows ws ≡ Some row → matches (parts_of row) ws ≡ true) → matches (parts_of row) ws ≡ true
     go true f h rest = let q : r ≡ row = cc in subst (λ x. matches (parts_of x) ws ≡ true) q f
     go false f h rest = rest h
+
+-- The words have a form in a text of this version.
+pub record HasForm (version : ℕ) (ws : List (List ℕ)) (row : Row) : Type 0 where
+  pub matches : matches (parts_of row) ws ≡ true
+  pub holds : is_form version row (spots_of (parts_of row) ws) ≡ true
+
+pub has_form : (version : ℕ) (ws : List (List ℕ)) (row : Row) → row_of version ws ≡ Some row → HasForm version ws row
+has_form version ws row e = go (first_row rows ws) refl e
+  where
+    some : (r : Row) (b : Bool) → first_row rows ws ≡ Some r → is_form version r (spots_of (parts_of r) ws) ≡ b → cond b (Some r) None ≡ Some row → HasForm version ws row
+    some r true f g h = let q : r ≡ row = cc in subst (HasForm version ws) q (record { matches = first_matches rows ws r f; holds = g })
+    some r false f g h = absurd (cc)
+
+    go : (o : Option Row) → first_row rows ws ≡ o → form_by version o ws ≡ Some row → HasForm version ws row
+    go None f h = absurd (cc)
+    go (Some r) f h = some r (is_form version r (spots_of (parts_of r) ws)) f refl h
 
 -- ---- the parts of a text
 

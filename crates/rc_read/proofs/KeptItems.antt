@@ -1,35 +1,34 @@
--- The items of a line, where no sentence is true of it.
-use Rattle.std.proofs.Common.{◌≡◌, ℕ, ◌<◌, ◌≤◌, Bool, true, false, cond, ◌==◌, nat_eq, List, [], ◌∷◌, ◌++◌, map, length, Option, Some, None, is_none, option_map, unwrap_or, codes, bytes_eq, take, drop, ◌+◌, refl, arith}
-use Rattle.std.specs.List.{IsDistinct, AllByRecursion, list_any}
+-- The items of a line in their places, where no sentence is true of it.
+use Rattle.std.proofs.Common.{◌≡◌, ℕ, ◌<◌, ◌≤◌, Bool, true, false, cond, List, [], ◌∷◌, ◌++◌, length, Option, Some, None, is_none, option_map, unwrap_or, codes, bytes_eq, take, drop, ◌+◌, refl, sym, subst, append_assoc, append-nil, arith}
+use Rattle.std.specs.List.{IsDistinct}
 use Rattle.std.proofs.lemmas.Bool.{or_parts, not-false}
-use Rattle.std.proofs.lemmas.List.Elements.{All-nil, All-cons}
-use Rattle.std.proofs.lemmas.Map.Keys.{IsDistinct-cons, IsDistinct-from_apart}
-use Rattle.rc_lang.specs.Program.{DeclaresToken, IsItems, Thread as ThreadOf}
-use Rattle.rc_lang.specs.declared.program.Share.{Share}
+use Rattle.std.proofs.lemmas.Map.Keys.{IsDistinct-from_apart}
+use Rattle.rc_lang.specs.Program.{DeclaresToken, Thread as ThreadOf}
 use Rattle.rc_lang.specs.Numbers.{number_of}
-use Rattle.rc_read.specs.declared.table.Part.TheVariants.{Buffer, HeldShares, HeldToken, Credits as CreditsPart, Queued as QueuedPart}
+use Rattle.rc_read.specs.declared.table.Part.TheVariants.{Buffer, Flag, HeldShares, HeldToken, Credits as CreditsPart, Queued as QueuedPart}
 use Rattle.rc_read.specs.declared.values.Item.{Item}
-use Rattle.rc_read.specs.declared.values.Item.TheVariants.{Shares, Token, Credits, Queued}
+use Rattle.rc_read.specs.declared.values.Item.TheVariants.{Shares, Token, Credits, Queued, When}
 use Rattle.rc_read.specs.declared.values.Seen.{Seen}
 use Rattle.rc_read.specs.declared.values.Value.TheVariants as value
-use Rattle.rc_read.specs.Adds.{held, queue_held, shares_held, tokens_held}
-use Rattle.rc_read.specs.Sentences.{any_queue, any_twice, any_unknown, is_unknown, lacks_token, names_same}
-use Rattle.rc_read.specs.Sheets.{Draft, Sheet, buffer_number, has_token}
+use Rattle.rc_read.specs.Sentences.{any_unknown, is_unknown, lacks_token}
+use Rattle.rc_read.specs.Sheets.{Draft, Sheet, buffer_number, has_token, is_among, number_in}
 use Rattle.rc_read.specs.Spots.{Spot, colon_in, is_item, spots_cut, spots_of_item, spots_of_items}
 use Rattle.rc_read.specs.Values.{any_lacks, items_in, seen_behind, user_data_of, value_at, values_of}
+use Rattle.rc_read.proofs.KeptSpots.{number_below}
 use Rattle.rc_read.proofs.KeptValues.{buffer_below, in_range, made, token_declared}
 
 -- no numbers are distinct
 pub none_distinct : {K : Type 0} (e : K → K → Bool) → IsDistinct e []
 none_distinct e = IsDistinct-from_apart e [] (λ i j d lt l. absurd (omega arith))
 
-module _ (threads : List ThreadOf) (s : Sheet) where
+module _ (threads : List ThreadOf) (s : Sheet) (MayBeFlag : ℕ → Type 0) where
   -- An item names what is declared, and its number is in its range.
   abbrev pub IsFine : Item → Type 0
   IsFine (Shares b k) = (b < length s.buffers) × (1 ≤ k) × (k ≤ 16)
   IsFine (Token u) = DeclaresToken (made threads s) u
   IsFine (Credits n) = n ≤ 2048
   IsFine (Queued k) = k ≤ s.head.entries
+  IsFine (When x) = MayBeFlag x
 
   abbrev pub AreFine : List Item → Type 0
   AreFine [] = Unit {0}
@@ -94,74 +93,23 @@ module _ (threads : List ThreadOf) (s : Sheet) where
     cut_more w None ps more = more
     cut_more w (Some i) ps more = item_more (take i w) (drop (i + 1) w) (bytes_eq (take i w) (codes "t")) (bytes_eq (take i w) (codes "c")) (bytes_eq (take i w) (codes "q")) ps more
 
-    pub items_fine : (ws : List (List ℕ)) → SayFine (spots_of_items ws)
-    items_fine [] = λ seen l u. tt
-    items_fine (w ∷ ws) = go (is_item w) (cut_more w (colon_in w) (spots_of_items ws) (items_fine ws))
+    flag_more : (w : List ℕ) (ps : List Spot) → is_among d.names w ≡ true → ((x : ℕ) → x < length d.names → MayBeFlag x) → SayFine ps → SayFine (record { part = Flag; word = w } ∷ ps)
+    flag_more w ps named may more seen l u =
+        let a = or_parts (is_none (value_at sheet seen Flag w)) (any_lacks sheet seen ps) l in
+        let b = or_parts (is_unknown s Flag w) (any_unknown s ps) u in
+        (may (number_in d.names w) (number_below d.names w named), more seen a.1 b.1)
+
+    items_then : (ws : List (List ℕ)) (ps : List Spot) → SayFine ps → SayFine (spots_of_items ws ++ ps)
+    items_then [] ps more = more
+    items_then (w ∷ ws) ps more = go (is_item w) (subst SayFine (sym (append_assoc (spots_of_item w) (spots_of_items ws) ps)) (cut_more w (colon_in w) (spots_of_items ws ++ ps) (items_then ws ps more)))
       where
-        go : (b : Bool) → SayFine (spots_of_item w ++ spots_of_items ws) → SayFine (cond b (spots_of_item w ++ spots_of_items ws) [])
+        go : (b : Bool) → SayFine ((spots_of_item w ++ spots_of_items ws) ++ ps) → SayFine (cond b (spots_of_item w ++ spots_of_items ws) [] ++ ps)
         go true h = h
-        go false h = λ seen l u. tt
+        go false h = more
 
-  -- ---- what a thread or a loop holds
+    pub items_fine : (ws : List (List ℕ)) → SayFine (spots_of_items ws)
+    items_fine ws = subst SayFine (append-nil (spots_of_items ws)) (items_then ws [] (λ seen l u. tt))
 
-  other_buffers : (b k : ℕ) (is : List Item) → list_any (names_same (Shares b k)) is ≡ false → AllByRecursion (λ c. nat_eq b c ≡ false) (map (λ (h : Share). h.buffer) (shares_held is))
-  other_buffers b k [] e = tt
-  other_buffers b k (Shares c l ∷ is) e = let h = or_parts (b == c) (list_any (names_same (Shares b k)) is) e in (h.0, other_buffers b k is h.1)
-  other_buffers b k (Token u ∷ is) e = other_buffers b k is e
-  other_buffers b k (Credits n ∷ is) e = other_buffers b k is e
-  other_buffers b k (Queued n ∷ is) e = other_buffers b k is e
-
-  other_tokens : (u : ℕ) (is : List Item) → list_any (names_same (Token u)) is ≡ false → AllByRecursion (λ v. nat_eq u v ≡ false) (tokens_held is)
-  other_tokens u [] e = tt
-  other_tokens u (Shares c l ∷ is) e = other_tokens u is e
-  other_tokens u (Token v ∷ is) e = let h = or_parts (u == v) (list_any (names_same (Token u)) is) e in (h.0, other_tokens u is h.1)
-  other_tokens u (Credits n ∷ is) e = other_tokens u is e
-  other_tokens u (Queued n ∷ is) e = other_tokens u is e
-
-  pub items_held : (is : List Item) → AreFine is → any_twice is ≡ false → IsItems (made threads s) (held is)
-  items_held [] f e = record {
-    buffers = All-nil (λ (h : Share). h.buffer < length s.buffers);
-    counts = All-nil (λ (h : Share). (1 ≤ h.count) × (h.count ≤ 16));
-    distinct_buffers = none_distinct nat_eq;
-    tokens = All-nil (DeclaresToken (made threads s));
-    distinct_tokens = none_distinct nat_eq;
-    credits = omega arith;
-    queue = tt;
-  }
-  items_held (Shares b k ∷ is) f e =
-      let h = or_parts (list_any (names_same (Shares b k)) is) (any_twice is) e in
-      let t = items_held is f.1 h.1 in
-      record {
-        buffers = All-cons (λ (x : Share). x.buffer < length s.buffers) (record { buffer = b; count = k }) (shares_held is) f.0.0 t.buffers;
-        counts = All-cons (λ (x : Share). (1 ≤ x.count) × (x.count ≤ 16)) (record { buffer = b; count = k }) (shares_held is) (f.0.1, f.0.2) t.counts;
-        distinct_buffers = IsDistinct-cons nat_eq b (map (λ (x : Share). x.buffer) (shares_held is)) (other_buffers b k is h.0) t.distinct_buffers;
-        tokens = t.tokens;
-        distinct_tokens = t.distinct_tokens;
-        credits = t.credits;
-        queue = t.queue;
-      }
-  items_held (Token u ∷ is) f e =
-      let h = or_parts (list_any (names_same (Token u)) is) (any_twice is) e in
-      let t = items_held is f.1 h.1 in
-      record {
-        buffers = t.buffers;
-        counts = t.counts;
-        distinct_buffers = t.distinct_buffers;
-        tokens = All-cons (DeclaresToken (made threads s)) u (tokens_held is) f.0 t.tokens;
-        distinct_tokens = IsDistinct-cons nat_eq u (tokens_held is) (other_tokens u is h.0) t.distinct_tokens;
-        credits = t.credits;
-        queue = t.queue;
-      }
-  items_held (Credits n ∷ is) f e =
-      let t = items_held is f.1 (or_parts (list_any (names_same (Credits n)) is) (any_twice is) e).1 in
-      record { buffers = t.buffers; counts = t.counts; distinct_buffers = t.distinct_buffers; tokens = t.tokens; distinct_tokens = t.distinct_tokens; credits = f.0; queue = t.queue }
-  items_held (Queued k ∷ is) f e =
-      let t = items_held is f.1 (or_parts (list_any (names_same (Queued k)) is) (any_twice is) e).1 in
-      record { buffers = t.buffers; counts = t.counts; distinct_buffers = t.distinct_buffers; tokens = t.tokens; distinct_tokens = t.distinct_tokens; credits = t.credits; queue = f.0 }
-
-pub no_queue : (is : List Item) → any_queue is ≡ false → queue_held is ≡ None
-no_queue [] e = refl
-no_queue (Shares b k ∷ is) e = no_queue is e
-no_queue (Token u ∷ is) e = no_queue is e
-no_queue (Credits n ∷ is) e = no_queue is e
-no_queue (Queued k ∷ is) e = absurd (cc)
+    -- Two lists, with a flag between.
+    pub both_fine : (ws : List (List ℕ)) (w : List ℕ) (vs : List (List ℕ)) → is_among d.names w ≡ true → ((x : ℕ) → x < length d.names → MayBeFlag x) → SayFine (spots_of_items ws ++ record { part = Flag; word = w } ∷ spots_of_items vs)
+    both_fine ws w vs named may = items_then ws (record { part = Flag; word = w } ∷ spots_of_items vs) (flag_more w (spots_of_items vs) named may (items_fine vs))

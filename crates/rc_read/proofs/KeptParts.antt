@@ -112,7 +112,7 @@ pub record AreDeclared (head : Head) (files : List File) (buffers : List Buffer)
   pub known_buffers : AreBuffers buffers
   pub known_tokens : AreTokens buffers tokens
 
-pub nothing_declared : AreDeclared (record { entries = 1; completion_entries = 2; left = 0 }) [] [] []
+pub nothing_declared : AreDeclared (record { version = 1; entries = 1; completion_entries = 2; left = 0 }) [] [] []
 nothing_declared = record { sizes = head_start; known_files = no_files; known_buffers = no_buffers; known_tokens = no_tokens [] }
 
 -- ---- the numbers of lines

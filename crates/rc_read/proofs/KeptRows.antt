@@ -1,6 +1,6 @@
 -- What a line says, form by form, where no sentence is true of it.
 use Rattle.std.proofs.Common.{◌≡◌, ℕ, suc, ◌+◌, ◌*◌, ◌^◌, ◌<◌, ◌≤◌, Bool, true, false, cond, bytes_eq, nat_le, List, [], ◌∷◌, length, None, is_none, refl, sym, ap, ◌∙◌, subst, pow-suc, arith}
-use Rattle.std.proofs.lemmas.Bool.{or_parts, leb-false}
+use Rattle.std.proofs.lemmas.Bool.{or_parts, leb-false, leb-true}
 use Rattle.rc_lang.specs.declared.lines.Operand.{Operand as OperandOf}
 use Rattle.rc_lang.specs.declared.lines.Operand.TheVariants as operand
 use Rattle.rc_lang.specs.declared.program.Head.{Head}
@@ -8,9 +8,10 @@ use Rattle.rc_lang.specs.declared.program.TokenKind.{TokenKind}
 use Rattle.rc_lang.specs.declared.program.TokenKind.TheVariants as kind
 use Rattle.rc_lang.specs.Names.{is_name}
 use Rattle.rc_lang.specs.Program.{Buffer as BufferOf, DeclaresToken, IsFile, IsItems, IsOperand, IsResolvedOp, IsResolvedTest, IsRingSize, Thread as ThreadOf, shares_at}
+use Rattle.rc_read.specs.declared.says.Rings.{Rings}
 use Rattle.rc_read.specs.declared.says.Says.{Says}
 use Rattle.rc_read.specs.declared.says.Says.TheVariants as says
-use Rattle.rc_read.specs.declared.table.Part.TheVariants.{Fixed, Number, NewBuffer, NewThread, Items}
+use Rattle.rc_read.specs.declared.table.Part.TheVariants.{Fixed, Number, NewBuffer, NewThread, Items, Flag}
 use Rattle.rc_read.specs.declared.table.Range.TheVariants.{Within}
 use Rattle.rc_read.specs.declared.table.Row.{Row}
 use Rattle.rc_read.specs.declared.table.Row.TheVariants as row
@@ -21,13 +22,14 @@ use Rattle.rc_read.specs.declared.values.Item.{Item}
 use Rattle.rc_read.specs.declared.values.Value.{Value}
 use Rattle.rc_read.specs.Adds.{held, second_of}
 use Rattle.rc_read.specs.Says.{says_of, sets, small}
-use Rattle.rc_read.specs.Sentences.{any_double, any_twice, any_unknown, is_double, is_unknown}
+use Rattle.rc_read.specs.Sentences.{any_double, any_named_twice, any_unknown, is_double, is_unknown}
 use Rattle.rc_read.specs.Sheets.{Draft, Sheet, buffer_names, has_file, has_token, is_among, thread_names}
 use Rattle.rc_read.specs.Spots.{Spot, matches, spots_of, spots_of_items}
-use Rattle.rc_read.specs.Table.{parts_of, stand_of}
+use Rattle.rc_read.specs.Table.{parts_of, stand_of, version_of}
 use Rattle.rc_read.specs.Values.{any_lacks, items_in, rounded_up, start, value_at, values_of}
-use Rattle.rc_read.proofs.KeptItems.{SayFine, items_fine, items_held}
-use Rattle.rc_read.proofs.KeptSpots.{is_second, items_after, items_between}
+use Rattle.rc_read.proofs.KeptItems.{SayFine, both_fine, items_fine}
+use Rattle.rc_read.proofs.KeptLists.{IsLoopOf, NoFlag, header_held, loop_held, loop_when_held}
+use Rattle.rc_read.proofs.KeptSpots.{AllNamed, has_flag, is_second, items_after, items_between, named_behind}
 use Rattle.rc_read.proofs.KeptValues.{Fine, made}
 
 -- ---- sizes of rings
@@ -72,12 +74,17 @@ few_entries n le =
     few (nat_le n 512) 512 _ (omega arith) (λ j.
     few (nat_le n 1024) 1024 2048 (omega arith) (λ k. let lt : 1024 < n = leb-false n 1024 k in absurd (omega arith))))))))))))
 
--- The head's rings have the sizes that rings have.
+-- Rings have the sizes that rings have.
+pub record AreRings (rings : Rings) : Type 0 where
+  pub entries : IsRingSize 1024 rings.entries
+  pub completion_entries : IsRingSize 2048 rings.completion_entries
+  pub room : rings.entries ≤ rings.completion_entries
+  pub left : rings.left ≤ rings.entries
+
+-- The head says a version and such rings.
 pub record IsHead (h : Head) : Type 0 where
-  pub entries : IsRingSize 1024 h.entries
-  pub completion_entries : IsRingSize 2048 h.completion_entries
-  pub room : h.entries ≤ h.completion_entries
-  pub left : h.left ≤ h.entries
+  pub version : (1 ≤ h.version) × (h.version ≤ 2)
+  pub rings : AreRings (record { entries = h.entries; completion_entries = h.completion_entries; left = h.left })
 
 submission : (size : ℕ) → size ≤ 1024 → IsRingSize 1024 (rounded_up size)
 submission size le = record { power = (ring_size size).power; within = few_entries size le }
@@ -91,14 +98,14 @@ twice n h = record {
   within = let le : n ≤ 1024 = h.within in omega arith;
 }
 
-one_size : (size left : ℕ) → size ≤ 1024 → left ≤ rounded_up size → IsHead (record { entries = rounded_up size; completion_entries = 2 * rounded_up size; left = left })
+one_size : (size left : ℕ) → size ≤ 1024 → left ≤ rounded_up size → AreRings (record { entries = rounded_up size; completion_entries = 2 * rounded_up size; left = left })
 one_size size left le few = record { entries = submission size le; completion_entries = twice (rounded_up size) (submission size le); room = omega arith; left = few }
 
-two_sizes : (size completion left : ℕ) → size ≤ 1024 → rounded_up size ≤ rounded_up completion → left ≤ rounded_up size → IsHead (record { entries = rounded_up size; completion_entries = rounded_up completion; left = left })
+two_sizes : (size completion left : ℕ) → size ≤ 1024 → rounded_up size ≤ rounded_up completion → left ≤ rounded_up size → AreRings (record { entries = rounded_up size; completion_entries = rounded_up completion; left = left })
 two_sizes size completion left le room few = record { entries = submission size le; completion_entries = ring_size completion; room = room; left = few }
 
-pub head_start : IsHead (record { entries = 1; completion_entries = 2; left = 0 })
-head_start = one_size 0 0 (omega arith) (omega arith)
+pub head_start : IsHead (record { version = 1; entries = 1; completion_entries = 2; left = 0 })
+head_start = record { version = (omega arith, omega arith); rings = one_size 0 0 (omega arith) (omega arith) }
 
 -- ---- what is said
 
@@ -116,12 +123,12 @@ IsNewName names w = (is_name w ≡ true) × (is_among names w ≡ false)
 module _ (threads : List ThreadOf) (s : Sheet) (d : Draft) (ws : List (List ℕ)) (its : List Item) where
   -- A line says this, in a form that stands there.
   abbrev pub IsTold : Stand → Says → Type 0
-  IsTold st says.Version = st ≡ stand.First
-  IsTold st (says.Ring h) = (st ≡ stand.Second) × IsHead h
+  IsTold st (says.Version n) = (st ≡ stand.First) × (1 ≤ n) × (n ≤ 2)
+  IsTold st (says.Ring rings) = (st ≡ stand.Second) × AreRings rings
   IsTold st (says.File f) = (st ≡ stand.Declaration) × IsFile f × (has_file s.files f.number ≡ false) × (length s.files < 16)
   IsTold st (says.Buffer bytes shares) = (st ≡ stand.Declaration) × ((1 ≤ bytes) × (bytes ≤ 4096)) × ((1 ≤ shares) × (shares ≤ 16)) × (length s.buffers < 64) × IsNewName (buffer_names s.buffers) (second_of ws)
   IsTold st (says.Token t) = (st ≡ stand.Declaration) × IsKind s.buffers t.kind × (has_token s.tokens t.user_data ≡ false) × (length s.tokens < 256)
-  IsTold st says.Thread = (st ≡ stand.Header) × (length s.threads < 16) × IsNewName (thread_names s.threads) (second_of ws) × IsItems (made threads s) (held its)
+  IsTold st says.Thread = (st ≡ stand.Header) × (length s.threads < 16) × IsNewName (thread_names s.threads) (second_of ws) × IsItems (made threads s) (held its [])
   IsTold st (says.Op op) = (st ≡ stand.Inside) × IsResolvedOp (made threads s) (length d.names) op
   IsTold st says.Lock = st ≡ stand.Inside
   IsTold st (says.If test) = (st ≡ stand.Inside) × IsResolvedTest (made threads s) (length d.names) test
@@ -130,15 +137,16 @@ module _ (threads : List ThreadOf) (s : Sheet) (d : Draft) (ws : List (List ℕ)
   IsTold st (says.Case u) = (st ≡ stand.Inside) × DeclaresToken (made threads s) u
   IsTold st says.Other = st ≡ stand.Inside
   IsTold st says.Nothing = st ≡ stand.Inside
-  IsTold st says.Loop = (st ≡ stand.Inside) × IsItems (made threads s) (held its)
+  IsTold st says.Loop = (st ≡ stand.Inside) × IsLoopOf (made threads s) (length d.names) its
   IsTold st says.Break = st ≡ stand.Inside
   IsTold st says.Close = Unit {0}
 
   -- What a line says besides its values: the name that it declares, and its items.
   abbrev pub HasMore : Row → Type 0
   HasMore row.Buffer = IsNewName (buffer_names s.buffers) (second_of ws)
-  HasMore row.Thread = IsNewName (thread_names s.threads) (second_of ws) × IsItems (made threads s) (held its)
-  HasMore row.Loop = IsItems (made threads s) (held its)
+  HasMore row.Thread = IsNewName (thread_names s.threads) (second_of ws) × IsItems (made threads s) (held its [])
+  HasMore row.Loop = IsLoopOf (made threads s) (length d.names) its
+  HasMore row.LoopWhen = IsLoopOf (made threads s) (length d.names) its
   HasMore r = Unit {0}
 
   set_told : (x : ℕ) (o : OperandOf) → x < length d.names → IsOperand (length d.names) o → IsTold stand.Inside (sets x o)
@@ -146,7 +154,8 @@ module _ (threads : List ThreadOf) (s : Sheet) (d : Draft) (ws : List (List ℕ)
   set_told x (operand.Number n) a b = (refl, a)
 
   pub told : (r : Row) (vs : List Value) → Fine threads s d vs 0 1 None (parts_of r) → HasMore r → IsTold (stand_of r) (says_of r vs)
-  told row.Version vs f m = refl
+  told row.Version vs f m = (refl, omega arith, omega arith)
+  told row.SecondVersion vs f m = (refl, omega arith, omega arith)
   told row.Ring vs f m = (refl, one_size _ 0 f.0 (omega arith))
   told row.RingCq vs f m = (refl, two_sizes (small vs 0) (small vs 1) 0 f.0 f.1.0 (omega arith))
   told row.RingLeft vs f m = (refl, one_size _ _ f.0 f.1.0)
@@ -184,6 +193,7 @@ module _ (threads : List ThreadOf) (s : Sheet) (d : Draft) (ws : List (List ℕ)
   told row.IfSpace vs f m = (refl, f.0)
   told row.Else vs f m = tt
   told row.Loop vs f m = (refl, m)
+  told row.LoopWhen vs f m = (refl, m)
   told row.Break vs f m = refl
   told row.Close vs f m = tt
 
@@ -193,32 +203,52 @@ module _ (threads : List ThreadOf) (s : Sheet) (d : Draft) (ws : List (List ℕ)
   abbrev sheet : Sheet
   sheet = record s { draft = d }
 
-  thread_more : (w : List ℕ) (ps : List Spot) → SayFine threads s d ps → SayFine threads s d (record { part = NewThread; word = w } ∷ ps)
+  -- where no flag is named
+  abbrev SayItems : List Spot → Type 0
+  SayItems ps = SayFine threads s (NoFlag threads s) d ps
+
+  thread_more : (w : List ℕ) (ps : List Spot) → SayItems ps → SayItems (record { part = NewThread; word = w } ∷ ps)
   thread_more w ps more seen l u =
       let a = or_parts (is_none (value_at sheet seen NewThread w)) (any_lacks sheet seen ps) l in
       let b = or_parts (is_unknown s NewThread w) (any_unknown s ps) u in
       more seen a.1 b.1
 
-  thread_items : matches (parts_of row.Thread) ws ≡ true → SayFine threads s d (spots_of (parts_of row.Thread) ws)
+  thread_items : matches (parts_of row.Thread) ws ≡ true → SayItems (spots_of (parts_of row.Thread) ws)
   thread_items e =
       let k = is_second words.Thread NewThread (Fixed words.Holds ∷ Items ∷ Fixed words.Open ∷ []) ws refl refl e in
       let h = items_between words.Holds words.Open k.rest k.matches in
-      subst (λ ps. SayFine threads s d ps) (sym (k.spots ∙ ap (λ ps. record { part = NewThread; word = second_of ws } ∷ ps) h.1)) (thread_more (second_of ws) (spots_of_items h.0) (items_fine threads s d h.0))
+      subst SayItems (sym (k.spots ∙ ap (λ ps. record { part = NewThread; word = second_of ws } ∷ ps) h.1)) (thread_more (second_of ws) (spots_of_items h.0) (items_fine threads s (NoFlag threads s) d h.0))
 
-  loop_items : matches (parts_of row.Loop) ws ≡ true → SayFine threads s d (spots_of (parts_of row.Loop) ws)
-  loop_items e = let h = items_after words.Loop words.Keeps words.Open ws e in subst (λ ps. SayFine threads s d ps) (sym h.1) (items_fine threads s d h.0)
+  loop_items : matches (parts_of row.Loop) ws ≡ true → SayItems (spots_of (parts_of row.Loop) ws)
+  loop_items e = let h = items_after words.Loop words.Keeps words.Open ws e in subst SayItems (sym h.1) (items_fine threads s (NoFlag threads s) d h.0)
 
-  more_items : (ps : List Spot) → SayFine threads s d ps → any_lacks sheet start ps ≡ false → any_unknown s ps ≡ false → any_twice (items_in (values_of sheet start ps)) ≡ false → IsItems (made threads s) (held (items_in (values_of sheet start ps)))
-  more_items ps fine l u t = items_held threads s (items_in (values_of sheet start ps)) (fine start l u) t
+  -- where one is
+  abbrev SayBoth : List Spot → Type 0
+  SayBoth ps = SayFine threads s (λ x. x < length d.names) d ps
 
-  pub has_more : (r : Row) → matches (parts_of r) ws ≡ true → any_lacks sheet start (spots_of (parts_of r) ws) ≡ false → any_unknown s (spots_of (parts_of r) ws) ≡ false → any_double s (spots_of (parts_of r) ws) ≡ false → any_twice (items_in (values_of sheet start (spots_of (parts_of r) ws))) ≡ false → HasMore threads s d ws (items_in (values_of sheet start (spots_of (parts_of r) ws))) r
-  has_more row.Buffer e l u n t =
+  loop_when_items : matches (parts_of row.LoopWhen) ws ≡ true → AllNamed d.names (spots_of (parts_of row.LoopWhen) ws) → SayBoth (spots_of (parts_of row.LoopWhen) ws)
+  loop_when_items e named =
+      let h = has_flag words.Loop words.Keeps words.When words.Open ws e in
+      let n = named_behind d.names (spots_of_items h.before) (record { part = Flag; word = h.flag } ∷ spots_of_items h.behind) (subst (AllNamed d.names) h.places named) in
+      subst SayBoth (sym h.places) (both_fine threads s (λ x. x < length d.names) d h.before h.flag h.behind (n.0 refl) (λ x lt. lt))
+
+  -- No sentence is true of these places of the line.
+  pub record HaveNone (ps : List Spot) : Type 0 where
+    pub numbers : any_lacks sheet start ps ≡ false
+    pub known : any_unknown s ps ≡ false
+    pub new : any_double s ps ≡ false
+    pub once : any_named_twice (items_in (values_of sheet start ps)) ≡ false
+    pub named : AllNamed d.names ps
+
+  pub has_more : (r : Row) → matches (parts_of r) ws ≡ true → nat_le (version_of r) s.head.version ≡ true → HaveNone (spots_of (parts_of r) ws) → HasMore threads s d ws (items_in (values_of sheet start (spots_of (parts_of r) ws))) r
+  has_more row.Buffer e v h =
       let k = is_second words.Buffer NewBuffer (Number (Within 1 4096) ∷ Number (Within 1 16) ∷ []) ws refl refl e in
-      let double = or_parts (is_double s NewBuffer (second_of ws)) (any_double s (spots_of (Number (Within 1 4096) ∷ Number (Within 1 16) ∷ []) k.rest)) (subst (λ ps. any_double s ps ≡ false) k.spots n) in
+      let double = or_parts (is_double s NewBuffer (second_of ws)) (any_double s (spots_of (Number (Within 1 4096) ∷ Number (Within 1 16) ∷ []) k.rest)) (subst (λ ps. any_double s ps ≡ false) k.spots h.new) in
       (k.fits, double.0)
-  has_more row.Thread e l u n t =
+  has_more row.Thread e v h =
       let k = is_second words.Thread NewThread (Fixed words.Holds ∷ Items ∷ Fixed words.Open ∷ []) ws refl refl e in
-      let double = or_parts (is_double s NewThread (second_of ws)) (any_double s (spots_of (Fixed words.Holds ∷ Items ∷ Fixed words.Open ∷ []) k.rest)) (subst (λ ps. any_double s ps ≡ false) k.spots n) in
-      ((k.fits, (or_parts (is_among (thread_names s.threads) (second_of ws)) (bytes_eq s.draft.name (second_of ws)) double.0).0), more_items (spots_of (parts_of row.Thread) ws) (thread_items e) l u t)
-  has_more row.Loop e l u n t = more_items (spots_of (parts_of row.Loop) ws) (loop_items e) l u t
-  has_more r e l u n t = tt
+      let double = or_parts (is_double s NewThread (second_of ws)) (any_double s (spots_of (Fixed words.Holds ∷ Items ∷ Fixed words.Open ∷ []) k.rest)) (subst (λ ps. any_double s ps ≡ false) k.spots h.new) in
+      ((k.fits, (or_parts (is_among (thread_names s.threads) (second_of ws)) (bytes_eq s.draft.name (second_of ws)) double.0).0), header_held threads s _ (thread_items e start h.numbers h.known) h.once)
+  has_more row.Loop e v h = loop_held threads s (length d.names) _ (loop_items e start h.numbers h.known) h.once
+  has_more row.LoopWhen e v h = loop_when_held threads s (length d.names) _ (loop_when_items e h.named start h.numbers h.known) h.once (leb-true 2 s.head.version v)
+  has_more r e v h = tt

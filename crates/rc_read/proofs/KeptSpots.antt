@@ -4,7 +4,7 @@ use Rattle.std.proofs.lemmas.Bool.{or_left, or_right}
 use Rattle.std.proofs.lemmas.List.Folds.{list_any-append}
 use Rattle.std.proofs.lemmas.Cmp.{nat_list_eq_equiv}
 use Rattle.rc_read.specs.declared.table.Part.{Part}
-use Rattle.rc_read.specs.declared.table.Part.TheVariants.{Fixed, Items}
+use Rattle.rc_read.specs.declared.table.Part.TheVariants.{Fixed, Flag, Items}
 use Rattle.rc_read.specs.declared.fixed.Word.{Word}
 use Rattle.rc_read.specs.Adds.{second_of}
 use Rattle.rc_read.specs.Sheets.{is_among, is_variable, names_behind, number_in, with_name}
@@ -89,6 +89,30 @@ items_after e f g ws m =
     let k = items_between f g h.rest h.matches in
     (k.0, spots_step (Fixed e) (Fixed f ∷ Items ∷ Fixed g ∷ []) ws h ∙ k.1)
 
+-- Around a flag stand the places of two lists of items.
+pub record HasFlag (spots : List Spot) : Type 0 where
+  pub before : List (List ℕ)
+  pub flag : List ℕ
+  pub behind : List (List ℕ)
+  pub places : spots ≡ spots_of_items before ++ record { part = Flag; word = flag } ∷ spots_of_items behind
+
+pub has_flag : (e f g h : Word) (ws : List (List ℕ)) → matches (Fixed e ∷ Fixed f ∷ Items ∷ Fixed g ∷ Flag ∷ Items ∷ Fixed h ∷ []) ws ≡ true → HasFlag (spots_of (Fixed e ∷ Fixed f ∷ Items ∷ Fixed g ∷ Flag ∷ Items ∷ Fixed h ∷ []) ws)
+has_flag e f g h ws m =
+    let last : List Part = Items ∷ Fixed h ∷ [] in
+    let a = has_word (Fixed e) (Fixed f ∷ Items ∷ Fixed g ∷ Flag ∷ last) ws refl m in
+    let b = has_word (Fixed f) (Items ∷ Fixed g ∷ Flag ∷ last) a.rest refl a.matches in
+    let c = has_word (Fixed g) (Flag ∷ last) (behind_items b.rest) refl b.matches in
+    let d = has_word Flag last c.rest refl c.matches in
+    let end : spots_of last d.rest ≡ spots_of_items d.rest = ap (λ ps. spots_of_items d.rest ++ (ps ++ [])) (no_spot h (behind_items d.rest)) ∙ append-nil (spots_of_items d.rest) in
+    let more : spots_of (Fixed g ∷ Flag ∷ last) (behind_items b.rest) ≡ record { part = Flag; word = d.word } ∷ spots_of_items d.rest =
+    spots_step (Fixed g) (Flag ∷ last) (behind_items b.rest) c ∙ spots_step Flag last c.rest d ∙ ap (λ ps. record { part = Flag; word = d.word } ∷ ps) end in
+    record {
+      before = b.rest;
+      flag = d.word;
+      behind = d.rest;
+      places = spots_step (Fixed e) (Fixed f ∷ Items ∷ Fixed g ∷ Flag ∷ last) ws a ∙ spots_step (Fixed f) (Items ∷ Fixed g ∷ Flag ∷ last) a.rest b ∙ ap (λ ps. spots_of_items b.rest ++ ps) more;
+    }
+
 -- ---- names
 
 among_push : (ns : List (List ℕ)) (w v : List ℕ) → is_among ns v ≡ true → is_among (ns ++ w ∷ []) v ≡ true
@@ -117,6 +141,10 @@ names_more ns (p ∷ ps) v e = names_more (cond (is_variable p.part p.word) (wit
 abbrev pub AllNamed : List (List ℕ) → List Spot → Type 0
 AllNamed ns [] = Unit {0}
 AllNamed ns (p ∷ ps) = (is_variable p.part p.word ≡ true → is_among ns p.word ≡ true) × AllNamed ns ps
+
+pub named_behind : (ns : List (List ℕ)) (ps qs : List Spot) → AllNamed ns (ps ++ qs) → AllNamed ns qs
+named_behind ns [] qs h = h
+named_behind ns (p ∷ ps) qs h = named_behind ns ps qs h.1
 
 pub all_named : (ns : List (List ℕ)) (ps : List Spot) → AllNamed (names_behind ns ps) ps
 all_named ns [] = tt

@@ -25,6 +25,7 @@ use Rattle.rc_read.proofs.KeptSpots.{AllNamed, AreOf, number_below}
 -- The program of a sheet, with these threads.
 abbrev pub made : List ThreadOf → Sheet → Program
 made threads s = record {
+  version = s.head.version;
   entries = s.head.entries;
   completion_entries = s.head.completion_entries;
   left = s.head.left;

@@ -7,6 +7,7 @@ pub mod KeptDraft
 pub mod KeptForms
 pub mod KeptItems
 pub mod KeptLinks
+pub mod KeptLists
 pub mod KeptParts
 pub mod KeptResolved
 pub mod KeptRows
@@ -21,5 +22,6 @@ pub mod Sizes
 pub mod Streams
 pub mod Tokens
 pub mod Twice
+pub mod Versions
 pub mod Among
 pub mod Differ

@@ -11,9 +11,10 @@ use Rattle.rc_read.specs.View.{view_names}
 use Rattle.rc_read.specs.declared.table.Part.{Part}
 use Rattle.rc_read.specs.declared.table.Part.TheVariants as part
 use Rattle.rc_read.specs.declared.table.Range.TheVariants as range
+use Rattle.rc_read.specs.declared.values.Item.TheVariants.{When}
 use Rattle.rc_read.specs.declared.values.Seen.{Seen}
 use Rattle.rc_read.specs.declared.values.Value.{Value}
-use Rattle.rc_read.specs.declared.values.Value.TheVariants.{Nothing, Named, Operand}
+use Rattle.rc_read.specs.declared.values.Value.TheVariants.{Item, Nothing, Named, Operand}
 use Rattle.rc_read.proofs.KeptSpots.{all_named, number_below, names_grow}
 use Rattle.rc_read.specs.Sheets.{Sheet, number_in, is_among, with_name, is_variable, names_behind, with_names}
 use Rattle.rc_read.specs.Spots.{Spot, begins_number}
@@ -75,6 +76,7 @@ operand_kept false ns w ps = ap (λ (n : ℕ). Some (Operand (operand.Variable n
 
 value_kept : (part : Part) (w : List ℕ) (s : Sheet) (seen : Seen) (ps : List Spot) → value_at (with_names s (record { part = part; word = w } ∷ ps)) seen part w ≡ value_at s seen part w
 value_kept part.Variable w s seen ps = ap (λ (n : ℕ). Some (Named n)) (number_kept s.draft.names w ps)
+value_kept part.Flag w s seen ps = ap (λ (n : ℕ). Some (Item (When n))) (number_kept s.draft.names w ps)
 value_kept part.Operand w s seen ps = operand_kept (begins_number w) s.draft.names w ps
 value_kept (part.Number (range.Within low high)) w s seen ps = refl
 value_kept (part.Number _) w s seen ps = refl

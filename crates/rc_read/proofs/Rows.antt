@@ -8,8 +8,8 @@ use Rattle.rc_read.specs.declared.table.Part.{Part}
 use Rattle.rc_read.specs.declared.table.Part.TheVariants.{Fixed}
 use Rattle.rc_read.specs.declared.table.Row.{Row}
 use Rattle.rc_read.specs.Quick.{starts_with, may_begin, beginning, first_byte}
-use Rattle.rc_read.specs.Spots.{matches, first_row, row_of}
-use Rattle.rc_read.specs.Table.{assignments, fixed_rows, parts_of, text_of}
+use Rattle.rc_read.specs.Spots.{matches, first_row}
+use Rattle.rc_read.specs.Table.{assignments, fixed_rows, parts_of, rows, text_of}
 
 -- ---- the first word of a line begins as its form does
 
@@ -52,6 +52,6 @@ rows_then (row ∷ all) more ws o e = one (matches (parts_of row) ws) e (rows_th
     one true f h = rw (← f) refl
     one false f h = h f
 
-pub rows_found : (n : ℕ) (ws : List (List ℕ)) (o : Option Row) → n ≡ first_byte ws → o ≡ first_row (beginning n fixed_rows) ws → option_or o (first_row assignments ws) ≡ row_of ws
+pub rows_found : (n : ℕ) (ws : List (List ℕ)) (o : Option Row) → n ≡ first_byte ws → o ≡ first_row (beginning n fixed_rows) ws → option_or o (first_row assignments ws) ≡ first_row rows ws
 rows_found n ws o e f =
     sym (rows_then fixed_rows assignments ws o (sym (f ∙ ap (λ (k : ℕ). first_row (beginning k fixed_rows) ws) e ∙ rows_by fixed_rows ws)))

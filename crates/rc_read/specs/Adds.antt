@@ -1,22 +1,26 @@
 -- What a line adds to the sheet.
 use Rattle.std.specs.Prelude.{ℕ, ◌+◌, List, [], ◌∷◌, ◌++◌, length, slice_get, slice_set, Option, Some, None, true, unwrap_or}
+use Rattle.std.specs.Option.{option_or}
 use Rattle.rc_lang.specs.Nesting.{innermost, blocks_behind, way_out}
-use Rattle.rc_lang.specs.Program.{Items, Thread as ThreadOf}
+use Rattle.rc_lang.specs.Program.{Items, More, Thread as ThreadOf}
 use Rattle.rc_lang.specs.declared.lines.Block.{Block}
 use Rattle.rc_lang.specs.declared.lines.Block.TheVariants.{InLock, InIf, InElse, InPeek, InArm, InLoop}
 use Rattle.rc_lang.specs.declared.lines.Stmt.{Stmt}
 use Rattle.rc_lang.specs.declared.lines.Stmt.TheVariants as stmt
+use Rattle.rc_lang.specs.declared.program.Head.{Head}
 use Rattle.rc_lang.specs.declared.program.Share.{Share}
 use Rattle.rc_read.specs.declared.parts.Region.TheVariants as region
+use Rattle.rc_read.specs.declared.says.Rings.{Rings}
 use Rattle.rc_read.specs.declared.says.Says.{Says}
 use Rattle.rc_read.specs.declared.says.Says.TheVariants.{Version, Ring, File, Buffer, Token, Thread, Op, Lock, If, Else, Peek, Case, Other, Nothing, Loop, Break, Close}
+use Rattle.rc_read.specs.declared.table.Row.{Row}
 use Rattle.rc_read.specs.declared.values.Item.{Item}
 use Rattle.rc_read.specs.declared.values.Item.TheVariants as item
 use Rattle.rc_read.specs.declared.values.Value.{Value}
 use Rattle.rc_read.specs.Says.{says_by}
 use Rattle.rc_read.specs.Sheets.{Sheet, Draft, Arms, no_arms, headed, no_draft, with_names}
 use Rattle.rc_read.specs.Spots.{Spot, row_of, spots_in}
-use Rattle.rc_read.specs.Values.{items_in, start, values_of}
+use Rattle.rc_read.specs.Values.{before_when, behind_when, flag_in, items_in, start, values_of}
 use Rattle.rc_read.specs.Words.{words_of}
 
 -- ---- items
@@ -41,8 +45,15 @@ queue_held [] = None
 queue_held (item.Queued k ∷ items) = Some k
 queue_held (i ∷ items) = queue_held items
 
-abbrev pub held : List Item → Items
-held items = record { shares = shares_held items; tokens = tokens_held items; credits = credits_held items; queue = queue_held items }
+abbrev pub more_held : List Item → More
+more_held items = record { shares = shares_held items; tokens = tokens_held items; credits = credits_held items }
+
+-- What two lists say: what is held, and what is held besides under the flag.
+abbrev pub held : (items more : List Item) → Items
+held items more = record { shares = shares_held items; tokens = tokens_held items; credits = credits_held items; queue = queue_held items; more = more_held more }
+
+abbrev pub held_in_loop : List Item → Items
+held_in_loop items = held (before_when items) (behind_when items)
 
 -- ---- a thread's lines
 
@@ -71,8 +82,13 @@ arms_behind arms (stmt.Nothing o) = record arms { none = true }
 arms_behind arms _ = arms
 
 abbrev pub lists_behind : List Items → List Item → Stmt → List Items
-lists_behind lists items (stmt.Loop k) = lists ++ held items ∷ []
+lists_behind lists items (stmt.Loop k) = lists ++ held_in_loop items ∷ []
 lists_behind lists items _ = lists
+
+-- A thread's flag is the variable of its first `when`.
+abbrev pub flag_behind : Option ℕ → List Item → Stmt → Option ℕ
+flag_behind flag items (stmt.Loop k) = option_or flag (flag_in items)
+flag_behind flag items _ = flag
 
 -- the thread with one more line
 abbrev pub with_stmt : Draft → ℕ → List Item → Stmt → Draft
@@ -82,6 +98,7 @@ with_stmt d number items s = record d {
   lines = d.lines ++ record { number = number; stmt = s } ∷ [];
   ends = ends_behind d.ends (length d.lines) s;
   arms = arms_behind d.arms s;
+  flag = flag_behind d.flag items s;
 }
 
 -- the place that a block belongs to
@@ -123,7 +140,7 @@ stmt_in d _ = closing_of (innermost d.blocks)
 
 -- the thread that is complete
 abbrev pub whole_thread : Draft → ThreadOf
-whole_thread d = record { name = d.name; line = d.line; items = d.items; lists = d.lists; lines = d.lines; ends = d.ends; variables = length d.names }
+whole_thread d = record { name = d.name; line = d.line; items = d.items; lists = d.lists; lines = d.lines; ends = d.ends; variables = length d.names; flag = d.flag }
 
 -- ---- lines
 
@@ -140,13 +157,17 @@ closed s (Some b) = said s [] Close
 abbrev pub second_of : List (List ℕ) → List ℕ
 second_of ws = unwrap_or (slice_get ws 1) []
 
+-- the head with the rings that a line asks for
+abbrev pub with_rings : ℕ → Rings → Head
+with_rings version rings = record { version = version; entries = rings.entries; completion_entries = rings.completion_entries; left = rings.left }
+
 abbrev pub added : Sheet → List (List ℕ) → List Item → Says → Sheet
-added s ws items Version = record s { region = region.Second }
-added s ws items (Ring head) = record s { region = region.Declarations; head = head }
+added s ws items (Version n) = record s { region = region.Second; head = record s.head { version = n } }
+added s ws items (Ring rings) = record s { region = region.Declarations; head = with_rings s.head.version rings }
 added s ws items (File f) = record s { files = s.files ++ f ∷ [] }
 added s ws items (Buffer bytes shares) = record s { buffers = s.buffers ++ record { name = second_of ws; bytes = bytes; shares = shares } ∷ [] }
 added s ws items (Token t) = record s { tokens = s.tokens ++ t ∷ [] }
-added s ws items Thread = record s { region = region.InThread; draft = headed (second_of ws) (s.count + 1) (held items) }
+added s ws items Thread = record s { region = region.InThread; draft = headed (second_of ws) (s.count + 1) (held items []) }
 added s ws items Close = closed s (innermost s.draft.blocks)
 added s ws items what = said s items what
 
@@ -154,16 +175,23 @@ added s ws items what = said s items what
 abbrev pub values : Sheet → List Spot → List Value
 values s spots = values_of (with_names s spots) start spots
 
+-- the form of a line, its places, what it says and its items, in a text of the sheet's version
+abbrev pub form_in : Sheet → List (List ℕ) → Option Row
+form_in s ws = row_of s.head.version ws
+
+abbrev pub places_in : Sheet → List (List ℕ) → List Spot
+places_in s ws = spots_in s.head.version ws
+
 abbrev pub says : Sheet → List (List ℕ) → Says
-says s ws = says_by (row_of ws) (values s (spots_in ws))
+says s ws = says_by (form_in s ws) (values s (places_in s ws))
 
 abbrev pub items : Sheet → List (List ℕ) → List Item
-items s ws = items_in (values s (spots_in ws))
+items s ws = items_in (values s (places_in s ws))
 
 -- The sheet behind a line, where no sentence is true of it.
 abbrev pub with_words : Sheet → List (List ℕ) → Sheet
 with_words s [] = s
-with_words s (w ∷ ws) = added (with_names s (spots_in (w ∷ ws))) (w ∷ ws) (items s (w ∷ ws)) (says s (w ∷ ws))
+with_words s (w ∷ ws) = added (with_names s (places_in s (w ∷ ws))) (w ∷ ws) (items s (w ∷ ws)) (says s (w ∷ ws))
 
 abbrev pub counted : Sheet → Sheet
 counted s = record s { count = s.count + 1 }

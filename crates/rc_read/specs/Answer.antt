@@ -20,6 +20,7 @@ judged s (line ∷ lines) = on_line (first_true (sentences s line)) (s.count + 1
 -- What was read is a program.
 abbrev pub program_in : Sheet → Program
 program_in s = record {
+  version = s.head.version;
   entries = s.head.entries;
   completion_entries = s.head.completion_entries;
   left = s.head.left;

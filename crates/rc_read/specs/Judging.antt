@@ -9,11 +9,11 @@ use Rattle.rc_read.specs.declared.table.Row.{Row}
 use Rattle.rc_read.specs.declared.values.Item.{Item}
 use Rattle.rc_read.specs.declared.noted.Wrong.{Wrong}
 use Rattle.rc_read.specs.Says.{says_of}
-use Rattle.rc_read.specs.Sentences.{is_unknown, any_unknown, is_double, any_double, any_twice, bad_brace, is_too_long, is_too_deep, is_full, any_full, bad_nesting, bad_case, word_sentences, first_true}
+use Rattle.rc_read.specs.Sentences.{is_unknown, any_unknown, is_double, any_double, any_named_twice, bad_brace, is_too_long, is_too_deep, is_full, any_full, bad_nesting, bad_case, other_flag, word_sentences, first_true}
 use Rattle.rc_read.specs.Sheets.{Sheet, with_names}
 use Rattle.rc_read.specs.Spots.{Spot, spots_of}
 use Rattle.rc_read.specs.Table.{parts_of}
-use Rattle.rc_read.specs.Values.{any_lacks, values_of, items_in, start}
+use Rattle.rc_read.specs.Values.{any_lacks, values_of, items_in, flag_in, start}
 
 -- What is wrong with the name in a place or is wrong already, and with one in these places.
 abbrev pub wrong_with : Sheet → Part → List ℕ → Wrong → Wrong
@@ -26,11 +26,12 @@ wrong_in s spots = record { unknown = any_unknown s spots; double = any_double s
 abbrev pub later_sentences : Sheet → List ℕ → Wrong → List Item → Says → List (ℕ × Bool)
 later_sentences s line wrong items what =
     (5, wrong.unknown)
-    ∷ (6, wrong.double || any_twice items)
+    ∷ (6, wrong.double || any_named_twice items)
     ∷ (7, bad_brace s what)
     ∷ (8, is_too_long s line || is_too_deep s what || wrong.full || nat_lt 64 (length s.draft.names))
     ∷ (9, bad_nesting s.draft.blocks items what)
     ∷ (10, bad_case s.draft what)
+    ∷ (11, other_flag s.draft.flag (flag_in items))
     ∷ []
 
 -- A line of this form, on a sheet that has its variables.

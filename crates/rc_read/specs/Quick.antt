@@ -42,14 +42,17 @@ taken_one part (w ∷ ws) = if fits part w then Some 1 else None
 abbrev pub taken_by : Part → List (List ℕ) → Option ℕ
 taken_by part ws = if are_items part then Some (items_in_front ws) else taken_one part ws
 
--- Items in an order: shares by the numbers of their buffers, tokens by their user data, credits and queued entries.
+-- Items in an order: shares by the numbers of their buffers, tokens by their user data, credits, queued entries and `when`.
 abbrev pub comes_before : Item → Item → Bool
 comes_before (item.Shares b k) (item.Shares c l) = nat_lt b c
 comes_before (item.Shares b k) _ = true
 comes_before (item.Token u) (item.Token v) = nat_lt u v
 comes_before (item.Token u) (item.Credits n) = true
 comes_before (item.Token u) (item.Queued k) = true
+comes_before (item.Token u) (item.When x) = true
 comes_before (item.Credits n) (item.Queued k) = true
+comes_before (item.Credits n) (item.When x) = true
+comes_before (item.Queued k) (item.When x) = true
 comes_before _ _ = false
 
 abbrev pub ascend_from : Item → List Item → Bool

@@ -58,7 +58,7 @@ signed v i = as_signed (slice_get v i)
 abbrev pub comparison : List Value → ℕ → Comparison
 comparison v i = as_comparison (slice_get v i)
 
--- A head with rings of these sizes. Without a size of its own a completion ring has twice as many entries as the
+-- Rings of these sizes. Without a size of its own a completion ring has twice as many entries as the
 -- submission ring (io_uring_setup(2)).
 abbrev pub with_rings : (size left : ℕ) → Says
 with_rings size left = says.Ring (record { entries = rounded_up size; completion_entries = 2 * rounded_up size; left = left })
@@ -72,7 +72,8 @@ sets x (Variable y) = says.Op (op.Assign x y)
 sets x (Number n) = says.Op (op.Set x n)
 
 abbrev pub says_of : Row → List Value → Says
-says_of row.Version v = says.Version
+says_of row.Version v = says.Version 1
+says_of row.SecondVersion v = says.Version 2
 says_of row.Ring v = with_rings (small v 0) 0
 says_of row.RingCq v = with_both (small v 0) (small v 1) 0
 says_of row.RingLeft v = with_rings (small v 0) (small v 1)
@@ -110,6 +111,7 @@ says_of row.IfReady v = says.If test.ReadyZero
 says_of row.IfSpace v = says.If (test.SpaceAtLeast (small v 0))
 says_of row.Else v = says.Else
 says_of row.Loop v = says.Loop
+says_of row.LoopWhen v = says.Loop
 says_of row.Break v = says.Break
 says_of row.Close v = says.Close
 

@@ -16,11 +16,11 @@ use Rattle.rc_read.specs.declared.table.Stand.{Stand}
 use Rattle.rc_read.specs.declared.table.Stand.TheVariants as stand
 use Rattle.rc_read.specs.declared.values.Item.{Item}
 use Rattle.rc_read.specs.declared.values.Item.TheVariants as item
-use Rattle.rc_read.specs.Adds.{items, says}
+use Rattle.rc_read.specs.Adds.{form_in, places_in, items, says}
 use Rattle.rc_read.specs.Sheets.{Sheet, Draft, with_names, names_behind, is_among, buffer_names, thread_names, has_file, has_token}
-use Rattle.rc_read.specs.Spots.{Spot, row_of, spots_in}
+use Rattle.rc_read.specs.Spots.{Spot}
 use Rattle.rc_read.specs.Table.{stand_of}
-use Rattle.rc_read.specs.Values.{any_lacks, start, user_data_of, file_number_of}
+use Rattle.rc_read.specs.Values.{any_lacks, start, user_data_of, file_number_of, before_when, behind_when, flag_in}
 use Rattle.rc_read.specs.Words.{words_of}
 
 -- ---- P1: among the first 256 bytes is one above 126, or below 32 other than tab and carriage return
@@ -31,7 +31,7 @@ is_strange b = nat_lt 126 b || (nat_lt b 32 && not (b == 9) && not (b == 13))
 abbrev pub any_strange : List ℕ → Bool
 any_strange bytes = list_any is_strange bytes
 
--- ---- P2: the first line with words isn't `ringcheck 1`, the second doesn't begin with `ring`
+-- ---- P2: the first line with words isn't `ringcheck 1` or `ringcheck 2`, the second doesn't begin with `ring`
 
 abbrev pub is_version : Option Row → Bool
 is_version None = false
@@ -45,10 +45,10 @@ abbrev pub first_of : List (List ℕ) → List ℕ
 first_of [] = []
 first_of (w ∷ ws) = w
 
-abbrev pub bad_head : Region → List (List ℕ) → Bool
-bad_head Start ws = not (is_version (row_of ws))
-bad_head Second ws = not (bytes_eq (first_of ws) (codes "ring"))
-bad_head _ ws = false
+abbrev pub bad_head : Region → Option Row → List (List ℕ) → Bool
+bad_head Start row ws = not (is_version row)
+bad_head Second row ws = not (bytes_eq (first_of ws) (codes "ring"))
+bad_head _ row ws = false
 
 -- ---- P3: no form, or a form in a wrong part of the text
 
@@ -89,7 +89,7 @@ is_unknown s _ w = false
 abbrev pub any_unknown : Sheet → List Spot → Bool
 any_unknown s ps = list_any (λ (p : Spot). is_unknown s p.part p.word) ps
 
--- ---- P6: a file, a buffer, a token or a thread declared twice, an item named twice
+-- ---- P6: a file, a buffer, a token or a thread declared twice, an item named twice in a list, a token in both
 
 abbrev pub repeats_file : Sheet → Option ℕ → Bool
 repeats_file s None = false
@@ -117,9 +117,21 @@ names_same (item.Credits n) (item.Credits m) = true
 names_same (item.Queued k) (item.Queued l) = true
 names_same _ _ = false
 
+-- in one list
 abbrev pub any_twice : List Item → Bool
 any_twice [] = false
 any_twice (i ∷ is) = list_any (names_same i) is || any_twice is
+
+abbrev pub is_token : Item → Bool
+is_token (item.Token u) = true
+is_token _ = false
+
+-- A token of the one list stands in the other.
+abbrev pub any_in_both : List Item → List Item → Bool
+any_in_both more is = list_any (λ i. is_token i && list_any (names_same i) is) more
+
+abbrev pub any_named_twice : List Item → Bool
+any_named_twice is = any_twice (before_when is) || any_twice (behind_when is) || any_in_both (behind_when is) (before_when is)
 
 -- ---- P7: a closing brace without an open block, an else that closes no first branch, a thread in a thread
 
@@ -169,7 +181,7 @@ any_full s ps = list_any (λ (p : Spot). is_full s p.part) ps
 abbrev pub has_too_many_names : Sheet → List Spot → Bool
 has_too_many_names s spots = nat_lt 64 (length (names_behind s.draft.names spots))
 
--- ---- P9: a lock in a lock or in a peek, a peek or a loop in a peek, a break outside a loop, queued entries outside a lock
+-- ---- P9: a lock in a lock or in a peek, a peek or a loop in a peek, a break outside a loop, queued entries outside a lock or behind `when`
 
 abbrev pub says_queue : Item → Bool
 says_queue (item.Queued k) = true
@@ -181,7 +193,7 @@ any_queue is = list_any says_queue is
 abbrev pub bad_nesting : List Block → List Item → Says → Bool
 bad_nesting blocks is Lock = in_lock blocks || in_peek blocks
 bad_nesting blocks is (Peek x) = in_peek blocks
-bad_nesting blocks is Loop = in_peek blocks || (any_queue is && not (in_lock blocks))
+bad_nesting blocks is Loop = in_peek blocks || (any_queue is && (not (in_lock blocks) || any_queue (behind_when is)))
 bad_nesting blocks is Thread = any_queue is
 bad_nesting blocks is Break = is_none (way_out blocks).loop
 bad_nesting blocks is _ = false
@@ -201,19 +213,26 @@ bad_case d Loop = directly_in_peek d.blocks
 bad_case d Break = directly_in_peek d.blocks
 bad_case d _ = false
 
+-- ---- P11: behind `when` stands another variable than behind the thread's first
+
+abbrev pub other_flag : Option ℕ → Option ℕ → Bool
+other_flag (Some x) (Some y) = not (x == y)
+other_flag _ _ = false
+
 -- ---- the sentences about a line, by their numbers
 
 abbrev pub form_sentences : Sheet → List ℕ → List (List ℕ) → List (ℕ × Bool)
 form_sentences s line ws =
-    (2, bad_head s.region ws)
-    ∷ (3, bad_line s.region (row_of ws))
-    ∷ (4, any_lacks (with_names s (spots_in ws)) start (spots_in ws))
-    ∷ (5, any_unknown s (spots_in ws))
-    ∷ (6, any_double s (spots_in ws) || any_twice (items s ws))
+    (2, bad_head s.region (form_in s ws) ws)
+    ∷ (3, bad_line s.region (form_in s ws))
+    ∷ (4, any_lacks (with_names s (places_in s ws)) start (places_in s ws))
+    ∷ (5, any_unknown s (places_in s ws))
+    ∷ (6, any_double s (places_in s ws) || any_named_twice (items s ws))
     ∷ (7, bad_brace s (says s ws))
-    ∷ (8, is_too_long s line || is_too_deep s (says s ws) || any_full s (spots_in ws) || has_too_many_names s (spots_in ws))
+    ∷ (8, is_too_long s line || is_too_deep s (says s ws) || any_full s (places_in s ws) || has_too_many_names s (places_in s ws))
     ∷ (9, bad_nesting s.draft.blocks (items s ws) (says s ws))
     ∷ (10, bad_case s.draft (says s ws))
+    ∷ (11, other_flag s.draft.flag (flag_in (items s ws)))
     ∷ []
 
 -- A line without words is too long, or nothing is wrong with it but strange bytes.

@@ -11,7 +11,7 @@ use Rattle.rc_lang.specs.Program.{Buffer, Items, Thread, no_items}
 use Rattle.rc_read.specs.declared.parts.Region.{Region}
 use Rattle.rc_read.specs.declared.parts.Region.TheVariants.{Start}
 use Rattle.rc_read.specs.declared.table.Part.{Part}
-use Rattle.rc_read.specs.declared.table.Part.TheVariants.{Variable, Operand}
+use Rattle.rc_read.specs.declared.table.Part.TheVariants.{Variable, Operand, Flag}
 use Rattle.rc_read.specs.Spots.{Spot, begins_number}
 
 -- The arms that the open peek has so far.
@@ -22,7 +22,7 @@ pub record Arms : Type 0 where
 
 -- A thread so far: its name, the line of its header and what it holds, its lists of items, its variables in the
 -- order of their first uses, the blocks that are open in it (the innermost last), its lines, where the lines that a
--- jump starts from lead to, and the arms of the open peek.
+-- jump starts from lead to, the arms of the open peek, and the variable of its first `when`.
 pub record Draft : Type 0 where
   pub name : List ℕ
   pub line : ℕ
@@ -33,6 +33,7 @@ pub record Draft : Type 0 where
   pub lines : List Line
   pub ends : List ℕ
   pub arms : Arms
+  pub flag : Option ℕ
 
 -- What stands above a line: how many lines, in which part of the text it stands, what the head says, what is declared,
 -- the finished threads and the open one.
@@ -51,7 +52,7 @@ no_arms = record { cases = []; other = false; none = false }
 
 -- a thread's header, before its first line
 abbrev pub headed : List ℕ → ℕ → Items → Draft
-headed name line items = record { name = name; line = line; items = items; lists = []; names = []; blocks = []; lines = []; ends = []; arms = no_arms }
+headed name line items = record { name = name; line = line; items = items; lists = []; names = []; blocks = []; lines = []; ends = []; arms = no_arms; flag = None }
 
 abbrev pub no_draft : Draft
 no_draft = headed [] 0 no_items
@@ -61,7 +62,7 @@ abbrev pub empty : Sheet
 empty = record {
   count = 0;
   region = Start;
-  head = record { entries = 1; completion_entries = 2; left = 0 };
+  head = record { version = 1; entries = 1; completion_entries = 2; left = 0 };
   files = [];
   buffers = [];
   tokens = [];
@@ -107,6 +108,7 @@ has_token tokens u = list_any (λ (t : Token). t.user_data == u) tokens
 
 abbrev pub is_variable : Part → List ℕ → Bool
 is_variable Variable w = true
+is_variable Flag w = true
 is_variable Operand w = not (begins_number w)
 is_variable _ w = false
 

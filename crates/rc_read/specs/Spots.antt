@@ -1,14 +1,15 @@
 -- Which form a line has, and the places of its words.
-use Rattle.std.specs.Prelude.{ℕ, ◌+◌, List, [], ◌∷◌, ◌++◌, take, drop, position, Option, Some, None, Bool, true, false, ◌||◌, ◌==◌, is_some, option_map, unwrap_or, if◌then◌else◌, codes}
+use Rattle.std.specs.Prelude.{ℕ, ◌+◌, List, [], ◌∷◌, ◌++◌, take, drop, position, Option, Some, None, Bool, true, false, ◌||◌, ◌&&◌, not, ◌==◌, nat_le, is_some, option_map, unwrap_or, if◌then◌else◌, codes}
+use Rattle.std.specs.List.{list_any}
 use Rattle.std.specs.Str.{bytes_eq}
 use Rattle.rc_lang.specs.declared.lines.Comparison.{Comparison}
 use Rattle.rc_lang.specs.declared.lines.Comparison.TheVariants.{Equal, NotEqual, Less, AtMost, Greater, AtLeast}
-use Rattle.rc_lang.specs.Names.{is_name}
+use Rattle.rc_lang.specs.Names.{is_name, is_reserved_by}
 use Rattle.rc_lang.specs.Numbers.{is_digit}
 use Rattle.rc_read.specs.declared.table.Part.{Part}
-use Rattle.rc_read.specs.declared.table.Part.TheVariants.{Fixed, Variable, Operand, Comparison as Compare, Buffer, NewBuffer, NewThread, Items, HeldShares, HeldToken, Credits, Queued}
+use Rattle.rc_read.specs.declared.table.Part.TheVariants.{Fixed, Variable, Operand, Comparison as Compare, Buffer, NewBuffer, NewThread, Items, Flag, HeldShares, HeldToken, Credits, Queued}
 use Rattle.rc_read.specs.declared.table.Row.{Row}
-use Rattle.rc_read.specs.Table.{text_of, parts_of, rows}
+use Rattle.rc_read.specs.Table.{text_of, parts_of, rows, version_of}
 
 -- ---- which words stand in a place
 
@@ -30,6 +31,7 @@ begins_number (b ∷ bytes) = is_digit b || b == 45
 abbrev pub fits : Part → List ℕ → Bool
 fits (Fixed fixed) w = bytes_eq w (text_of fixed)
 fits Variable w = is_name w
+fits Flag w = is_name w
 fits Buffer w = is_name w
 fits NewBuffer w = is_name w
 fits NewThread w = is_name w
@@ -105,14 +107,6 @@ abbrev pub matches : List Part → List (List ℕ) → Bool
 matches [] ws = is_end ws
 matches (part ∷ parts) ws = unwrap_or (option_map (λ rest. matches parts rest) (behind part ws)) false
 
--- The form of a line with these words: the first row whose parts they are.
-abbrev pub first_row : List Row → List (List ℕ) → Option Row
-first_row [] ws = None
-first_row (row ∷ rows) ws = if matches (parts_of row) ws then Some row else first_row rows ws
-
-abbrev pub row_of : List (List ℕ) → Option Row
-row_of ws = first_row rows ws
-
 -- The places of a part's words. A fixed word has none.
 abbrev pub is_fixed : Part → Bool
 is_fixed (Fixed fixed) = true
@@ -130,10 +124,45 @@ abbrev pub spots_of : List Part → List (List ℕ) → List Spot
 spots_of [] ws = []
 spots_of (part ∷ parts) ws = spots_at part ws ++ spots_of parts (unwrap_or (behind part ws) [])
 
+-- ---- versions
+
+-- In these places stand names.
+abbrev pub has_name : Part → Bool
+has_name Variable = true
+has_name Operand = true
+has_name Flag = true
+has_name Buffer = true
+has_name NewBuffer = true
+has_name NewThread = true
+has_name _ = false
+
+-- In the place of a name stands a word that this version reserves.
+abbrev pub any_reserved : ℕ → List Spot → Bool
+any_reserved version ps = list_any (λ (p : Spot). has_name p.part && is_reserved_by version p.word) ps
+
+-- A text of this version has such a form, with these places.
+abbrev pub is_form : ℕ → Row → List Spot → Bool
+is_form version row ps = nat_le (version_of row) version && not (any_reserved version ps)
+
+-- ---- the form of a line
+
+-- The first row whose parts these words are.
+abbrev pub first_row : List Row → List (List ℕ) → Option Row
+first_row [] ws = None
+first_row (row ∷ rows) ws = if matches (parts_of row) ws then Some row else first_row rows ws
+
+abbrev pub form_by : ℕ → Option Row → List (List ℕ) → Option Row
+form_by version None ws = None
+form_by version (Some row) ws = if is_form version row (spots_of (parts_of row) ws) then Some row else None
+
+-- The form of a line with these words in a text of this version.
+abbrev pub row_of : ℕ → List (List ℕ) → Option Row
+row_of version ws = form_by version (first_row rows ws) ws
+
 abbrev pub spots_by : Option Row → List (List ℕ) → List Spot
 spots_by None ws = []
 spots_by (Some row) ws = spots_of (parts_of row) ws
 
 -- The places of a line, and none where it has no form.
-abbrev pub spots_in : List (List ℕ) → List Spot
-spots_in ws = spots_by (row_of ws) ws
+abbrev pub spots_in : ℕ → List (List ℕ) → List Spot
+spots_in version ws = spots_by (row_of version ws) ws

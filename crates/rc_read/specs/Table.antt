@@ -1,8 +1,8 @@
--- The notation's forms: one row for each, with the parts that stand in it, from the left, and where in a text it may
--- stand.
+-- The notation's forms: one row for each, with the parts that stand in it, from the left, from which version on it is a
+-- form, and where in a text it may stand.
 use Rattle.std.specs.Prelude.{ℕ, List, [], ◌∷◌, ◌++◌, codes}
 use Rattle.rc_read.specs.declared.table.Part.{Part}
-use Rattle.rc_read.specs.declared.table.Part.TheVariants.{Fixed, Variable, Operand, Comparison, Signed, Number, File, Buffer, Token, NewFile, NewBuffer, NewToken, NewThread, Items}
+use Rattle.rc_read.specs.declared.table.Part.TheVariants.{Fixed, Variable, Operand, Comparison, Signed, Number, File, Buffer, Token, NewFile, NewBuffer, NewToken, NewThread, Items, Flag}
 use Rattle.rc_read.specs.declared.table.Range.TheVariants.{Within, Size, CompletionSize, Rounded, Entries, Shares}
 use Rattle.rc_read.specs.declared.table.Row.{Row}
 use Rattle.rc_read.specs.declared.table.Row.TheVariants as row
@@ -16,6 +16,7 @@ use Rattle.rc_read.specs.declared.fixed.Word.TheVariants as words
 abbrev pub text_of : Word → List ℕ
 text_of words.Ringcheck = codes "ringcheck"
 text_of words.One = codes "1"
+text_of words.Two = codes "2"
 text_of words.Ring = codes "ring"
 text_of words.Cq = codes "cq"
 text_of words.Left = codes "left"
@@ -60,12 +61,14 @@ text_of words.AtLeast = codes ">="
 text_of words.Else = codes "else"
 text_of words.Loop = codes "loop"
 text_of words.Keeps = codes "keeps"
+text_of words.When = codes "when"
 text_of words.Break = codes "break"
 
 -- ---- the table
 
 abbrev pub parts_of : Row → List Part
 parts_of row.Version = Fixed words.Ringcheck ∷ Fixed words.One ∷ []
+parts_of row.SecondVersion = Fixed words.Ringcheck ∷ Fixed words.Two ∷ []
 parts_of row.Ring = Fixed words.Ring ∷ Number Size ∷ []
 parts_of row.RingCq = Fixed words.Ring ∷ Number Size ∷ Fixed words.Cq ∷ Number CompletionSize ∷ []
 parts_of row.RingLeft = Fixed words.Ring ∷ Number Size ∷ Fixed words.Left ∷ Number Rounded ∷ []
@@ -103,11 +106,18 @@ parts_of row.IfReady = Fixed words.If ∷ Fixed words.SqReady ∷ Fixed words.Eq
 parts_of row.IfSpace = Fixed words.If ∷ Fixed words.SqSpaceLeft ∷ Fixed words.AtLeast ∷ Number Entries ∷ Fixed words.Open ∷ []
 parts_of row.Else = Fixed words.Close ∷ Fixed words.Else ∷ Fixed words.Open ∷ []
 parts_of row.Loop = Fixed words.Loop ∷ Fixed words.Keeps ∷ Items ∷ Fixed words.Open ∷ []
+parts_of row.LoopWhen = Fixed words.Loop ∷ Fixed words.Keeps ∷ Items ∷ Fixed words.When ∷ Flag ∷ Items ∷ Fixed words.Open ∷ []
 parts_of row.Break = Fixed words.Break ∷ []
 parts_of row.Close = Fixed words.Close ∷ []
 
+-- The version of the notation from which on a form stands in texts.
+abbrev pub version_of : Row → ℕ
+version_of row.LoopWhen = 2
+version_of _ = 1
+
 abbrev pub stand_of : Row → Stand
 stand_of row.Version = stand.First
+stand_of row.SecondVersion = stand.First
 stand_of row.Ring = stand.Second
 stand_of row.RingCq = stand.Second
 stand_of row.RingLeft = stand.Second
@@ -127,9 +137,9 @@ stand_of _ = stand.Inside
 abbrev pub fixed_rows : List Row
 fixed_rows =
     row.Close ∷ row.Else ∷ row.Break ∷ row.GetSqe ∷ row.CqeSeen ∷ row.Case ∷ row.PrepNop ∷ row.Peek ∷ row.Print ∷ row.PrepRead ∷ row.PrepWrite
-    ∷ row.PrepFsync ∷ row.Lock ∷ row.Loop ∷ row.Other ∷ row.Nothing ∷ row.SetData64 ∷ row.Store ∷ row.Fill ∷ row.IfReady ∷ row.If ∷ row.IfSpace
+    ∷ row.PrepFsync ∷ row.Lock ∷ row.Loop ∷ row.LoopWhen ∷ row.Other ∷ row.Nothing ∷ row.SetData64 ∷ row.Store ∷ row.Fill ∷ row.IfReady ∷ row.If ∷ row.IfSpace
     ∷ row.Thread ∷ row.TokenRead ∷ row.TokenWrite ∷ row.TokenFsync ∷ row.TokenNop ∷ row.File ∷ row.Buffer ∷ row.Ring ∷ row.RingCq ∷ row.RingLeft
-    ∷ row.RingCqLeft ∷ row.Version ∷ []
+    ∷ row.RingCqLeft ∷ row.Version ∷ row.SecondVersion ∷ []
 
 abbrev pub assignments : List Row
 assignments = row.Submit ∷ row.Set ∷ row.Add ∷ row.Subtract ∷ row.Load ∷ row.SubmitAndWait ∷ []

@@ -1,5 +1,5 @@
 -- What the words of a line say in their places.
-use Rattle.std.specs.Prelude.{ℕ, ◌-◌, ◌^◌, List, [], ◌∷◌, Option, Some, None, Bool, false, ◌||◌, ◌&&◌, not, nat_le, is_none, option_map, unwrap_or, if◌then◌else◌, ℤ, pos, negsuc, codes}
+use Rattle.std.specs.Prelude.{ℕ, ◌+◌, ◌-◌, ◌^◌, List, [], ◌∷◌, take, drop, position, Option, Some, None, Bool, true, false, ◌||◌, ◌&&◌, not, nat_le, is_none, option_map, unwrap_or, if◌then◌else◌, ℤ, pos, negsuc, codes}
 use Rattle.std.specs.Str.{bytes_eq}
 use Rattle.rc_lang.specs.declared.lines.Comparison.{Comparison}
 use Rattle.rc_lang.specs.declared.lines.Operand.TheVariants as operand
@@ -85,6 +85,7 @@ value_at s seen part.NewFile w = small_value (file_number_of w)
 value_at s seen part.Buffer w = Some (Named (buffer_number s.buffers w))
 value_at s seen part.Token w = option_map (λ u. UserData u) (user_data_of w)
 value_at s seen part.NewToken w = option_map (λ u. UserData u) (user_data_of w)
+value_at s seen part.Flag w = Some (Item (item.When (number_in s.draft.names w)))
 value_at s seen part.HeldShares w = option_map (λ k. Item (item.Shares seen.buffer k)) (number_of 1 16 w)
 value_at s seen part.HeldToken w = option_map (λ u. Item (item.Token u)) (user_data_of w)
 value_at s seen part.Credits w = option_map (λ n. Item (item.Credits n)) (number_of 0 2048 w)
@@ -115,8 +116,34 @@ abbrev pub values_of : Sheet → Seen → List Spot → List Value
 values_of s seen [] = []
 values_of s seen (p ∷ ps) = unwrap_or (value_at s seen p.part p.word) Nothing ∷ values_of s (seen_behind s seen p.part p.word) ps
 
--- The items of a line.
+-- The items of a line, and among them the variable that it names behind `when`.
 abbrev pub items_in : List Value → List ItemOf
 items_in [] = []
 items_in (Item i ∷ vs) = i ∷ items_in vs
 items_in (v ∷ vs) = items_in vs
+
+-- ---- the two lists of a line, before `when` and behind it
+
+abbrev pub is_when : ItemOf → Bool
+is_when (item.When x) = true
+is_when _ = false
+
+abbrev pub before_at : List ItemOf → Option ℕ → List ItemOf
+before_at is None = is
+before_at is (Some i) = take i is
+
+abbrev pub behind_at : List ItemOf → Option ℕ → List ItemOf
+behind_at is None = []
+behind_at is (Some i) = drop (i + 1) is
+
+abbrev pub before_when : List ItemOf → List ItemOf
+before_when is = before_at is (position is_when is)
+
+abbrev pub behind_when : List ItemOf → List ItemOf
+behind_when is = behind_at is (position is_when is)
+
+-- The variable that a line names behind `when`.
+abbrev pub flag_in : List ItemOf → Option ℕ
+flag_in [] = None
+flag_in (item.When x ∷ is) = Some x
+flag_in (i ∷ is) = flag_in is

@@ -26,6 +26,7 @@ view_draft d = record {
   lines = d.lines.items;
   ends = d.ends.items;
   arms = view_arms d.arms;
+  flag = d.flag;
 }
 
 abbrev pub view_sheet : Parts → Sheet

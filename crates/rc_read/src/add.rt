@@ -13,9 +13,9 @@ use crate::blocks::innermost;
 use crate::draft::held;
 use crate::names::has_buffer;
 use crate::parts::{Draft, Parts, Region};
-use crate::says::Says;
+use crate::says::{Rings, Says};
 use crate::values::Item;
-use rc_lang::program::{Buffer, Thread, Token};
+use rc_lang::program::{Buffer, Head, Thread, Token};
 use std::alloc::{AllocError, Global};
 use std::mem;
 
@@ -26,6 +26,18 @@ fn second_of<'a>(words: &[&'a [u8]]) -> &'a [u8]
     match words.get(1) {
         Some(word) => word,
         None => &[],
+    }
+}
+
+// The head with the rings that a line asks for.
+fn with_rings(version: u32, rings: Rings) -> Head
+    ensures { result ≡ spec.with_rings version rings }
+{
+    Head {
+        version,
+        entries: rings.entries,
+        completion_entries: rings.completion_entries,
+        left: rings.left,
     }
 }
 
@@ -46,7 +58,7 @@ fn open_thread(
     line: u32,
     size: usize,
 ) -> Result<Draft, AllocError>
-    ensures { IfOk result (λ d. view_draft d ≡ headed (spec.second_of (texts_of words.now)) line (spec.held items.now)) }
+    ensures { IfOk result (λ d. view_draft d ≡ headed (spec.second_of (texts_of words.now)) line (spec.held items.now [])) }
 {
     Ok(Draft {
         name: Vec::from_slice(alloc, second_of(words))?,
@@ -156,13 +168,14 @@ impl Parts {
         ensures count { self.new.count ≡ self.old.count }
     {
         match *says {
-            Says::Version => {
+            Says::Version(version) => {
                 self.region = Region::Second;
+                self.head.version = version;
                 Ok(())
             }
-            Says::Ring(head) => {
+            Says::Ring(rings) => {
                 self.region = Region::Declarations;
-                self.head = head;
+                self.head = with_rings(self.head.version, rings);
                 Ok(())
             }
             Says::File(file) => Ok(self.files.push(file)?),

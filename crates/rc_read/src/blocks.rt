@@ -3,10 +3,10 @@
 ghost use Rattle.std.specs.Prelude.{◌≡◌, ◌==◌};
 ghost use Rattle.std.specs.List.{list_any};
 ghost use Rattle.rc_lang.specs.Nesting as nesting;
-ghost use Rattle.rc_read.specs.Quick as quick;
 ghost use Rattle.rc_read.specs.Sentences as spec;
 ghost use Rattle.rc_read.specs.View.{view_arms, view_draft, view_sheet, view_way};
 
+use crate::lists::{any_queue, parted};
 use crate::parts::{Arms, Draft, Parts, Region};
 use crate::says::Says;
 use crate::table::Stand;
@@ -122,77 +122,6 @@ pub fn may_stand(stand: Stand, region: Region) -> bool
     }
 }
 
-fn names_same(i: Item, j: Item) -> bool
-    ensures { result ≡ spec.names_same i j }
-{
-    match (i, j) {
-        (Item::Shares(b, _), Item::Shares(c, _)) => b == c,
-        (Item::Token(u), Item::Token(v)) => u == v,
-        (Item::Credits(_), Item::Credits(_)) | (Item::Queued(_), Item::Queued(_)) => true,
-        _ => false,
-    }
-}
-
-fn any_same(item: Item, items: &[Item]) -> bool
-    ensures { result ≡ list_any (spec.names_same item) items.now }
-{
-    items.iter().any(|other| names_same(item, *other))
-}
-
-fn comes_before(i: Item, j: Item) -> bool
-    ensures { result ≡ quick.comes_before i j }
-{
-    match (i, j) {
-        (Item::Token(u), Item::Token(v)) => u < v,
-        (Item::Shares(b, _), Item::Shares(c, _)) => b < c,
-        (Item::Shares(_, _), Item::Token(_) | Item::Credits(_) | Item::Queued(_)) => true,
-        (Item::Token(_), Item::Credits(_) | Item::Queued(_)) => true,
-        (Item::Credits(_), Item::Queued(_)) => true,
-        _ => false,
-    }
-}
-
-fn ascend_from(first: Item, items: &[Item]) -> bool
-    ensures { result ≡ quick.ascend_from first items.now }
-{
-    let mut last = first;
-    for item in items {
-        if !comes_before(last, *item) {
-            return false;
-        }
-        last = *item;
-    }
-    true
-}
-
-// Whether each item comes before the next. Then none is named twice.
-fn ascend(items: &[Item]) -> bool
-    ensures { result ≡ quick.ascend items.now }
-{
-    match items {
-        [] => true,
-        [first, rest @ ..] => ascend_from(*first, rest),
-    }
-}
-
-fn any_repeated(items: &[Item]) -> bool
-    ensures { result ≡ spec.any_twice items.now }
-{
-    for (i, item) in items.iter().enumerate() {
-        if any_same(*item, &items[i + 1..]) {
-            return true;
-        }
-    }
-    false
-}
-
-/// Whether an item is named twice.
-pub fn any_twice(items: &[Item]) -> bool
-    ensures { result ≡ spec.any_twice items.now }
-{
-    !ascend(items) && any_repeated(items)
-}
-
 fn is_inside(region: Region) -> bool
     ensures { result ≡ spec.is_inside region }
 {
@@ -223,7 +152,7 @@ pub fn bad_brace(parts: &Parts, says: Says) -> bool
             !(is_inside(parts.region) && is_first_branch(innermost(&parts.draft.blocks)))
         }
         Says::Thread => is_inside(parts.region),
-        Says::Version | Says::Ring(_) | Says::File(_) | Says::Buffer(_, _) => false,
+        Says::Version(_) | Says::Ring(_) | Says::File(_) | Says::Buffer(_, _) => false,
         Says::Token(_) | Says::Op(_) | Says::Lock | Says::If(_) | Says::Peek(_) => false,
         Says::Case(_) | Says::Other | Says::Nothing | Says::Loop | Says::Break => false,
     }
@@ -242,7 +171,7 @@ fn opens_block(says: Says) -> bool
     match says {
         Says::Lock | Says::If(_) | Says::Peek(_) | Says::Loop => true,
         Says::Case(_) | Says::Other | Says::Nothing => true,
-        Says::Version | Says::Ring(_) | Says::File(_) | Says::Buffer(_, _) => false,
+        Says::Version(_) | Says::Ring(_) | Says::File(_) | Says::Buffer(_, _) => false,
         Says::Token(_) | Says::Thread | Says::Op(_) => false,
         Says::Else | Says::Break | Says::Close => false,
     }
@@ -255,22 +184,6 @@ pub fn is_too_deep(parts: &Parts, says: Says) -> bool
     opens_block(says) && parts.draft.blocks.len() >= 31
 }
 
-fn says_queue(item: Item) -> bool
-    ensures { result ≡ spec.says_queue item }
-{
-    match item {
-        Item::Queued(_) => true,
-        Item::Shares(_, _) | Item::Token(_) | Item::Credits(_) => false,
-    }
-}
-
-/// Whether an item says how many entries may be queued.
-pub fn any_queue(items: &[Item]) -> bool
-    ensures { result ≡ spec.any_queue items.now }
-{
-    items.iter().any(|item| says_queue(*item))
-}
-
 /// Whether a line stands in a block in which it may not, or needs one that isn't open.
 pub fn bad_nesting(draft: &Draft, items: &[Item], says: Says) -> bool
     ensures { result ≡ spec.bad_nesting (view_draft draft.now).blocks items.now says }
@@ -279,10 +192,13 @@ pub fn bad_nesting(draft: &Draft, items: &[Item], says: Says) -> bool
     match says {
         Says::Lock => in_lock(blocks) || in_peek(blocks),
         Says::Peek(_) => in_peek(blocks),
-        Says::Loop => in_peek(blocks) || (any_queue(items) && !in_lock(blocks)),
+        Says::Loop => {
+            in_peek(blocks)
+                || (any_queue(items) && (!in_lock(blocks) || any_queue(parted(items).1)))
+        }
         Says::Thread => any_queue(items),
         Says::Break => way_out(blocks).place.is_none(),
-        Says::Version | Says::Ring(_) | Says::File(_) | Says::Buffer(_, _) => false,
+        Says::Version(_) | Says::Ring(_) | Says::File(_) | Says::Buffer(_, _) => false,
         Says::Token(_) | Says::Op(_) | Says::If(_) | Says::Else => false,
         Says::Case(_) | Says::Other | Says::Nothing | Says::Close => false,
     }
@@ -307,7 +223,7 @@ pub fn bad_case(draft: &Draft, says: Says) -> bool
         Says::Close => directly && !(arms.other && arms.none),
         Says::Op(_) | Says::Lock | Says::If(_) | Says::Peek(_) => directly,
         Says::Loop | Says::Break => directly,
-        Says::Version | Says::Ring(_) | Says::File(_) | Says::Buffer(_, _) => false,
+        Says::Version(_) | Says::Ring(_) | Says::File(_) | Says::Buffer(_, _) => false,
         Says::Token(_) | Says::Thread | Says::Else => false,
     }
 }

@@ -7,16 +7,17 @@ ghost use Rattle.rc_read.specs.Adds as spec;
 ghost use Rattle.rc_read.specs.View.{view_arms, view_draft};
 
 use crate::blocks::{innermost, way_out};
+use crate::lists::{flag_in, parted};
 use crate::parts::{Arms, Draft};
 use crate::says::Says;
 use crate::values::Item;
 use rc_lang::lines::{Block, Line, Op, Stmt};
-use rc_lang::program::{Items, Share, Thread};
+use rc_lang::program::{Items, More, Share, Thread};
 use std::alloc::{AllocError, Global};
 
-// What a list of items holds.
+// What a list of items holds, and nothing besides.
 pub fn held(alloc: Global, items: &[Item]) -> Result<Items, AllocError>
-    ensures { IfOk result (λ i. view_items i ≡ spec.held items.now) }
+    ensures { IfOk result (λ i. view_items i ≡ spec.held items.now []) }
 {
     let mut shares = Vec::new(alloc);
     let mut tokens = Vec::with_capacity(alloc, items.len())?;
@@ -28,13 +29,37 @@ pub fn held(alloc: Global, items: &[Item]) -> Result<Items, AllocError>
             Item::Token(user_data) => tokens.push(user_data)?,
             Item::Credits(count) => credits = credits.or(Some(count)),
             Item::Queued(count) => queue = queue.or(Some(count)),
+            Item::When(_) => {}
         }
     }
+    let more = More {
+        shares: Vec::new(alloc),
+        tokens: Vec::new(alloc),
+        credits: 0,
+    };
     Ok(Items {
         shares,
         tokens,
         credits: credits.unwrap_or(0),
         queue,
+        more,
+    })
+}
+
+// What the items of a loop hold: those before `when`, and besides those behind it.
+fn held_in_loop(alloc: Global, items: &[Item]) -> Result<Items, AllocError>
+    ensures { IfOk result (λ i. view_items i ≡ spec.held_in_loop items.now) }
+{
+    let (before, behind) = parted(items);
+    let first = held(alloc, before)?;
+    let besides = held(alloc, behind)?;
+    Ok(Items {
+        more: More {
+            shares: besides.shares,
+            tokens: besides.tokens,
+            credits: besides.credits,
+        },
+        ..first
     })
 }
 
@@ -101,9 +126,9 @@ fn put_end(ends: &mut Vec<usize>, place: usize, stmt: Stmt) -> Result<(), AllocE
 
 // Adds the items of a loop.
 fn push_items(alloc: Global, lists: &mut Vec<Items>, items: &[Item]) -> Result<(), AllocError>
-    ensures { OnOk result (map view_items lists.new.items ≡ map view_items lists.old.items ++ spec.held items.now ∷ []) }
+    ensures { OnOk result (map view_items lists.new.items ≡ map view_items lists.old.items ++ spec.held_in_loop items.now ∷ []) }
 {
-    lists.push(held(alloc, items)?)?;
+    lists.push(held_in_loop(alloc, items)?)?;
     Ok(())
 }
 
@@ -122,6 +147,19 @@ fn put_loop(
         Stmt::Else(_) | Stmt::EndIf(_) | Stmt::Peek(_) | Stmt::Case(_, _) => Ok(()),
         Stmt::Other(_) | Stmt::Nothing(_) | Stmt::EndArm(_) | Stmt::EndPeek(_) => Ok(()),
         Stmt::EndLoop(_, _) | Stmt::Break(_, _, _) => Ok(()),
+    }
+}
+
+// The flag of a thread, behind a line with these items.
+fn flag_behind(flag: Option<usize>, items: &[Item], stmt: Stmt) -> Option<usize>
+    ensures { result ≡ spec.flag_behind flag items.now stmt }
+{
+    match stmt {
+        Stmt::Loop(_) => flag.or(flag_in(items)),
+        Stmt::Do(_) | Stmt::Lock | Stmt::EndLock(_) | Stmt::If(_) => flag,
+        Stmt::Else(_) | Stmt::EndIf(_) | Stmt::Peek(_) | Stmt::Case(_, _) => flag,
+        Stmt::Other(_) | Stmt::Nothing(_) | Stmt::EndArm(_) | Stmt::EndPeek(_) => flag,
+        Stmt::EndLoop(_, _) | Stmt::Break(_, _, _) => flag,
     }
 }
 
@@ -212,7 +250,7 @@ impl Draft {
             Says::Nothing => Stmt::Nothing(block_place(block)),
             Says::Loop => Stmt::Loop(self.lists.len()),
             Says::Break => break_out(&self.blocks),
-            Says::Version | Says::Ring(_) | Says::File(_) => closing_of(block),
+            Says::Version(_) | Says::Ring(_) | Says::File(_) => closing_of(block),
             Says::Buffer(_, _) | Says::Token(_) | Says::Thread => closing_of(block),
             Says::Close => closing_of(block),
         }
@@ -229,6 +267,7 @@ impl Draft {
         ensures { OnOk result (view_draft self.new ≡ spec.with_stmt (view_draft self.old) number items.now stmt) }
     {
         let place = self.lines.len();
+        self.flag = flag_behind(self.flag, items, stmt);
         put_loop(alloc, &mut self.lists, items, stmt)?;
         put_block(&mut self.blocks, place, stmt)?;
         put_end(&mut self.ends, place, stmt)?;
@@ -271,6 +310,7 @@ impl Draft {
             lines: self.lines,
             ends: self.ends,
             variables: self.names.len(),
+            flag: self.flag,
         }
     }
 }

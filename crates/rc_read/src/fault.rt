@@ -12,7 +12,7 @@ use std::fmt;
 pub enum ReadCause {
     /// Among the line's first 256 bytes is one above 126, or below 32 other than tab and carriage return.
     NotAscii = 1,
-    /// The text doesn't begin with `ringcheck 1` and a line that begins with `ring`.
+    /// The text doesn't begin with `ringcheck 1` or `ringcheck 2` and a line that begins with `ring`.
     BadHead,
     /// The words are no form, or one that may not stand in this part of the text.
     BadLine,
@@ -20,7 +20,7 @@ pub enum ReadCause {
     BadNumber,
     /// A file, a buffer or a token that isn't declared above.
     UnknownName,
-    /// A file, a buffer, a token or a thread declared twice, or an item named twice.
+    /// A file, a buffer, a token or a thread declared twice, an item named twice in a list, or a token in both of a line.
     DoubleName,
     /// A closing brace without an open block, an else that closes no first branch, a thread in a thread, or a block
     /// that is open at the end of the text.
@@ -28,15 +28,17 @@ pub enum ReadCause {
     /// One line, byte, open block, thread, buffer, token, file or variable too many.
     TooLarge,
     /// A lock in a lock or in a peek, a peek or a loop in a peek, a break outside a loop, or queued entries said
-    /// outside a lock.
+    /// outside a lock or behind `when`.
     BadNesting,
     /// An arm that doesn't stand directly in a peek, another statement that does, an arm twice, or an arm that is
     /// missing.
     BadCase,
+    /// Behind `when` stands another variable than behind the thread's first.
+    OtherFlag,
 }
 
 impl ReadCause {
-    /// The number that is printed, 1 to 10.
+    /// The number that is printed, 1 to 11.
     pub fn number(self) -> u8
         ensures { result ≡ number_of_cause self }
     {
@@ -58,6 +60,7 @@ impl ReadCause {
             ReadCause::TooLarge => "TooLarge",
             ReadCause::BadNesting => "BadNesting",
             ReadCause::BadCase => "BadCase",
+            ReadCause::OtherFlag => "OtherFlag",
         }
     }
 }
@@ -126,6 +129,7 @@ mod tests {
             (ReadCause::TooLarge, "unreadable line 3 P8 TooLarge"),
             (ReadCause::BadNesting, "unreadable line 3 P9 BadNesting"),
             (ReadCause::BadCase, "unreadable line 3 P10 BadCase"),
+            (ReadCause::OtherFlag, "unreadable line 3 P11 OtherFlag"),
         ] {
             let fault = ReadFault::Text { line: 3, cause };
             let message = format!(in rt.alloc(); "{fault}")?;

@@ -8,6 +8,7 @@ ghost use Rattle.rc_read.specs.Table as spec;
 pub enum Word {
     Ringcheck,
     One,
+    Two,
     Ring,
     Cq,
     Left,
@@ -52,6 +53,7 @@ pub enum Word {
     Else,
     Loop,
     Keeps,
+    When,
     Break,
 }
 
@@ -62,6 +64,7 @@ pub fn text_of(word: Word) -> &'static [u8]
     match word {
         Word::Ringcheck => b"ringcheck",
         Word::One => b"1",
+        Word::Two => b"2",
         Word::Ring => b"ring",
         Word::Cq => b"cq",
         Word::Left => b"left",
@@ -106,6 +109,7 @@ pub fn text_of(word: Word) -> &'static [u8]
         Word::Else => b"else",
         Word::Loop => b"loop",
         Word::Keeps => b"keeps",
+        Word::When => b"when",
         Word::Break => b"break",
     }
 }

@@ -4,17 +4,17 @@ ghost use Rattle.std.specs.Prelude.{◌≡◌, option_map};
 ghost use Rattle.rc_read.specs.Causes.{number_of_cause};
 ghost use Rattle.rc_read.specs.Judging.{JudgesRow, JudgesWords, later_sentences};
 ghost use Rattle.rc_read.specs.Sentences as spec;
-ghost use Rattle.rc_read.specs.Spots.{row_of as row_in, spots_of};
+ghost use Rattle.rc_read.specs.Spots.{spots_of};
 ghost use Rattle.rc_read.specs.Stream.{Judges};
 ghost use Rattle.rc_read.specs.Table.{parts_of};
 ghost use Rattle.rc_read.specs.Texts.{texts_of, view_spots};
+ghost use Rattle.rc_read.specs.Values.{flag_in as flag_in_list};
 ghost use Rattle.rc_read.specs.View.{view_sheet};
 ghost use Rattle.rc_read.specs.Words.{words_of};
 
-use crate::blocks::{
-    any_twice, bad_brace, bad_case, bad_nesting, is_too_deep, is_too_long, may_stand,
-};
+use crate::blocks::{bad_brace, bad_case, bad_nesting, is_too_deep, is_too_long, may_stand};
 use crate::fault::{ReadCause, ReadFault};
+use crate::lists::{any_named_twice, flag_in};
 use crate::noted::{Wrong, put_values};
 use crate::parts::{Parts, Region};
 use crate::says::{Says, says_of};
@@ -77,14 +77,26 @@ fn first_of<'a>(words: &[&'a [u8]]) -> &'a [u8]
     }
 }
 
-fn bad_head(region: Region, words: &[&[u8]], row: Option<Row>) -> bool
-    requires { row ≡ row_in (texts_of words.now) }
-    ensures { result ≡ spec.bad_head region (texts_of words.now) }
+fn bad_head(region: Region, row: Option<Row>, words: &[&[u8]]) -> bool
+    ensures { result ≡ spec.bad_head region row (texts_of words.now) }
 {
     match region {
         Region::Start => !is_version(row),
         Region::Second => !is(first_of(words), b"ring"),
         Region::Declarations | Region::InThread | Region::Between => false,
+    }
+}
+
+// Whether behind `when` stands another variable than the thread's flag, if it has one.
+fn other_flag(flag: Option<usize>, items: &[Item]) -> bool
+    ensures { result ≡ spec.other_flag flag (flag_in_list items.now) }
+{
+    match flag {
+        None => false,
+        Some(x) => match flag_in(items) {
+            None => false,
+            Some(y) => x != y,
+        },
     }
 }
 
@@ -100,7 +112,7 @@ fn later_cause(
 {
     if wrong.unknown {
         Some(ReadCause::UnknownName)
-    } else if wrong.double || any_twice(items) {
+    } else if wrong.double || any_named_twice(items) {
         Some(ReadCause::DoubleName)
     } else if bad_brace(parts, says) {
         Some(ReadCause::Braces)
@@ -114,6 +126,8 @@ fn later_cause(
         Some(ReadCause::BadNesting)
     } else if bad_case(&parts.draft, says) {
         Some(ReadCause::BadCase)
+    } else if other_flag(parts.draft.flag, items) {
+        Some(ReadCause::OtherFlag)
     } else {
         None
     }
@@ -161,8 +175,8 @@ fn judge_words<'a>(
         parts.count_line();
         return Ok(None);
     }
-    let row = put_spots(&mut found.spots, words)?;
-    if bad_head(parts.region, words, row) {
+    let row = put_spots(parts.head.version, &mut found.spots, words)?;
+    if bad_head(parts.region, row, words) {
         return Ok(Some(ReadCause::BadHead));
     }
     let Some(row) = row else {

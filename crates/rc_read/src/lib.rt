@@ -8,6 +8,7 @@ mod fault;
 mod fixed;
 mod judge;
 pub mod laws;
+mod lists;
 mod names;
 mod noted;
 mod numbers;

@@ -260,6 +260,10 @@ fn look_at(
         Part::NewBuffer => look_at_new_buffer(parts, noted, word),
         Part::NewToken => look_at_new_token(parts, noted, word),
         Part::NewThread => look_at_new_thread(parts, noted, word),
+        Part::Flag => {
+            let variable = variable_of(alloc, parts, word)?;
+            Some(Value::Item(Item::When(variable)))
+        }
         Part::HeldShares => held_shares(noted.seen.buffer, word),
         Part::HeldToken => held_token(look_at_token(parts, noted, word)),
         Part::Credits => held_credits(word),

@@ -10,7 +10,7 @@ ghost use Rattle.rc_read.specs.Sheets.{buffer_names};
 
 use indexmap::IndexSet;
 use rc_lang::lines::{Block, Line};
-use rc_lang::program::{Buffer, File, Head, Items, Thread, Token};
+use rc_lang::program::{Buffer, File, Head, Items, More, Thread, Token};
 use std::alloc::Global;
 
 /// The part of a text in which a line stands.
@@ -48,6 +48,8 @@ pub struct Draft {
     pub lines: Vec<Line>,
     pub ends: Vec<usize>,
     pub arms: Arms,
+    /// The variable of its first `when`.
+    pub flag: Option<usize>,
 }
 
 /// What was read so far.
@@ -106,6 +108,11 @@ impl Draft {
                 tokens: Vec::new(alloc),
                 credits: 0,
                 queue: None,
+                more: More {
+                    shares: Vec::new(alloc),
+                    tokens: Vec::new(alloc),
+                    credits: 0,
+                },
             },
             lists: Vec::new(alloc),
             names: IndexSet::new(alloc),
@@ -113,6 +120,7 @@ impl Draft {
             lines: Vec::new(alloc),
             ends: Vec::new(alloc),
             arms: Arms::new(alloc),
+            flag: None,
         }
     }
 }
@@ -130,6 +138,7 @@ impl Parts {
             count: 0,
             region: Region::Start,
             head: Head {
+                version: 1,
                 entries: 1,
                 completion_entries: 2,
                 left: 0,

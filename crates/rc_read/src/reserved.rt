@@ -58,6 +58,13 @@ fn is_reserved_at(first: u8, w: &[u8]) -> bool
     }
 }
 
+/// Whether a later version of the notation reserves a word besides.
+pub fn is_reserved_by(version: u32, w: &[u8]) -> bool
+    ensures { result ≡ spec.is_reserved_by version w.now }
+{
+    version >= 2 && is(w, b"when")
+}
+
 /// Whether a word is reserved.
 pub fn is_reserved(w: &[u8]) -> bool
     ensures { result ≡ spec.is_reserved w.now }

@@ -6,13 +6,21 @@ ghost use Rattle.rc_read.specs.Says as spec;
 use crate::table::Row;
 use crate::values::{Value, rounded_up};
 use rc_lang::lines::{Comparison, Op, Operand, Test};
-use rc_lang::program::{File, Head, Token, TokenKind};
+use rc_lang::program::{File, Token, TokenKind};
+
+/// The numbers of entries of the rings, and how many entries may be left queued where the lock is released.
+#[derive(Clone, Copy)]
+pub struct Rings {
+    pub entries: u32,
+    pub completion_entries: u32,
+    pub left: u32,
+}
 
 /// What a line says, but for its items and the name that it declares.
 #[derive(Clone, Copy)]
 pub enum Says {
-    Version,
-    Ring(Head),
+    Version(u32),
+    Ring(Rings),
     File(File),
     /// A buffer's bytes and shares.
     Buffer(u32, u32),
@@ -85,12 +93,12 @@ fn comparison(values: &[Value], i: usize) -> Comparison
     }
 }
 
-// A head without a size of its own for the completion ring, which then has twice the entries (`io_uring_setup(2)`).
+// Rings without a size of its own for the completion ring, which then has twice the entries (`io_uring_setup(2)`).
 fn with_rings(size: u32, left: u32) -> Says
     ensures { result ≡ spec.with_rings size left }
 {
     let entries = rounded_up(size);
-    Says::Ring(Head {
+    Says::Ring(Rings {
         entries,
         completion_entries: 2 * entries,
         left,
@@ -100,7 +108,7 @@ fn with_rings(size: u32, left: u32) -> Says
 fn with_both(size: u32, completion_size: u32, left: u32) -> Says
     ensures { result ≡ spec.with_both size completion_size left }
 {
-    Says::Ring(Head {
+    Says::Ring(Rings {
         entries: rounded_up(size),
         completion_entries: rounded_up(completion_size),
         left,
@@ -122,7 +130,8 @@ pub fn says_of(row: Row, v: &[Value]) -> Says
     ensures { result ≡ spec.says_of row v.now }
 {
     match row {
-        Row::Version => Says::Version,
+        Row::Version => Says::Version(1),
+        Row::SecondVersion => Says::Version(2),
         Row::Ring => with_rings(small(v, 0), 0),
         Row::RingCq => with_both(small(v, 0), small(v, 1), 0),
         Row::RingLeft => with_rings(small(v, 0), small(v, 1)),
@@ -180,7 +189,7 @@ pub fn says_of(row: Row, v: &[Value]) -> Says
         Row::IfReady => Says::If(Test::ReadyZero),
         Row::IfSpace => Says::If(Test::SpaceAtLeast(small(v, 0))),
         Row::Else => Says::Else,
-        Row::Loop => Says::Loop,
+        Row::Loop | Row::LoopWhen => Says::Loop,
         Row::Break => Says::Break,
         Row::Close => Says::Close,
     }

@@ -3,11 +3,12 @@
 ghost use Rattle.std.specs.Prelude.{◌≡◌, ◌≤◌, ◌++◌, ◌∷◌, [], length, true, if◌then◌else◌, IfOk, IfSome, OnOk};
 ghost use Rattle.rc_read.specs.Quick as quick;
 ghost use Rattle.rc_read.specs.Spots as spec;
-ghost use Rattle.rc_read.specs.Table.{parts_of as spec_parts_of};
+ghost use Rattle.rc_read.specs.Table.{parts_of as spec_parts_of, rows as all_rows};
 ghost use Rattle.rc_read.specs.Texts.{texts_of, view_spots};
 
 use crate::fixed::text_of;
-use crate::table::{Part, Row, assignments, parts_of, rows_of};
+use crate::reserved::is_reserved_by;
+use crate::table::{Part, Row, assignments, parts_of, rows_of, version_of};
 use crate::words::{is, is_name};
 use rc_lang::lines::Comparison;
 use std::alloc::AllocError;
@@ -55,7 +56,8 @@ fn fits(part: Part, word: &[u8]) -> bool
 {
     match part {
         Part::Fixed(fixed) => is(word, text_of(fixed)),
-        Part::Variable | Part::Buffer | Part::NewBuffer | Part::NewThread => is_name(word),
+        Part::Variable | Part::Flag => is_name(word),
+        Part::Buffer | Part::NewBuffer | Part::NewThread => is_name(word),
         Part::Operand => begins_number(word) || is_name(word),
         Part::Comparison => comparison_of(word).is_some(),
         Part::Signed | Part::Number(_) | Part::File | Part::Token => true,
@@ -202,7 +204,39 @@ fn put_places<'a>(
     Ok(at == words.len())
 }
 
-// The first of these forms that a line has with these words, whose places are put there.
+// Whether a name stands in a place.
+fn has_name(part: Part) -> bool
+    ensures { result ≡ spec.has_name part }
+{
+    match part {
+        Part::Variable | Part::Operand | Part::Flag => true,
+        Part::Buffer | Part::NewBuffer | Part::NewThread => true,
+        _ => false,
+    }
+}
+
+// Whether a word that this version reserves stands in the place of a name.
+#[inline(never)]
+fn any_reserved(version: u32, spots: &[Spot]) -> bool
+    ensures { result ≡ spec.any_reserved version (view_spots spots.now) }
+{
+    for spot in spots {
+        if has_name(spot.part) && is_reserved_by(version, spot.word) {
+            return true;
+        }
+    }
+    false
+}
+
+// Whether a text of this version has such a form, with these places.
+fn is_form(version: u32, row: Row, spots: &[Spot]) -> bool
+    ensures { result ≡ spec.is_form version row (view_spots spots.now) }
+{
+    // The first version reserves no words besides.
+    version_of(row) <= version && (version < 2 || !any_reserved(version, spots))
+}
+
+// The first of these rows whose parts the words are. Their places are put there.
 fn first_row<'a>(
     spots: &mut Vec<Spot<'a>>,
     rows: &[Row],
@@ -232,16 +266,32 @@ fn first_byte(words: &[&[u8]]) -> u8
     }
 }
 
-/// The form of a line with these words, whose places are put there. Most begin with a fixed word.
-pub fn put_spots<'a>(
-    spots: &mut Vec<Spot<'a>>,
-    words: &[&'a [u8]],
-) -> Result<Option<Row>, AllocError>
-    ensures row { IfOk result (λ o. o ≡ spec.row_of (texts_of words.now)) }
+// The first row whose parts the words are. Their places are put there. Most lines begin with a fixed word.
+fn find_row<'a>(spots: &mut Vec<Spot<'a>>, words: &[&'a [u8]]) -> Result<Option<Row>, AllocError>
+    ensures row { IfOk result (λ o. o ≡ spec.first_row all_rows (texts_of words.now)) }
     ensures spots { IfOk result (λ o. IfSome o (λ row. view_spots spots.new.items ≡ spec.spots_of (spec_parts_of row) (texts_of words.now))) }
 {
     if let Some(row) = first_row(spots, rows_of(first_byte(words)), words)? {
         return Ok(Some(row));
     }
     Ok(first_row(spots, assignments(), words)?)
+}
+
+/// The form of a line with these words in a text of this version, whose places are put there.
+pub fn put_spots<'a>(
+    version: u32,
+    spots: &mut Vec<Spot<'a>>,
+    words: &[&'a [u8]],
+) -> Result<Option<Row>, AllocError>
+    ensures row { IfOk result (λ o. o ≡ spec.row_of version (texts_of words.now)) }
+    ensures spots { IfOk result (λ o. IfSome o (λ row. view_spots spots.new.items ≡ spec.spots_of (spec_parts_of row) (texts_of words.now))) }
+{
+    let Some(row) = find_row(spots, words)? else {
+        return Ok(None);
+    };
+    if is_form(version, row, spots) {
+        Ok(Some(row))
+    } else {
+        Ok(None)
+    }
 }

@@ -45,6 +45,8 @@ pub enum Part {
     NewThread,
     /// Any number of items.
     Items,
+    /// The variable behind `when`.
+    Flag,
     /// In an item: the shares of the buffer before, a token that is declared above, credits and queued entries.
     HeldShares,
     HeldToken,
@@ -56,6 +58,7 @@ pub enum Part {
 #[derive(Clone, Copy)]
 pub enum Row {
     Version,
+    SecondVersion,
     Ring,
     RingCq,
     RingLeft,
@@ -93,6 +96,7 @@ pub enum Row {
     IfSpace,
     Else,
     Loop,
+    LoopWhen,
     Break,
     Close,
 }
@@ -120,6 +124,7 @@ pub fn parts_of(row: Row) -> &'static [Part]
 {
     match row {
         Row::Version => &[Part::Fixed(Word::Ringcheck), Part::Fixed(Word::One)],
+        Row::SecondVersion => &[Part::Fixed(Word::Ringcheck), Part::Fixed(Word::Two)],
         Row::Ring => &[Part::Fixed(Word::Ring), Part::Number(Range::Size)],
         Row::RingCq => &[
             Part::Fixed(Word::Ring),
@@ -292,8 +297,27 @@ pub fn parts_of(row: Row) -> &'static [Part]
             Part::Items,
             Part::Fixed(Word::Open),
         ],
+        Row::LoopWhen => &[
+            Part::Fixed(Word::Loop),
+            Part::Fixed(Word::Keeps),
+            Part::Items,
+            Part::Fixed(Word::When),
+            Part::Flag,
+            Part::Items,
+            Part::Fixed(Word::Open),
+        ],
         Row::Break => &[Part::Fixed(Word::Break)],
         Row::Close => &[Part::Fixed(Word::Close)],
+    }
+}
+
+/// The version of the notation from which on a form stands in texts.
+pub fn version_of(row: Row) -> u32
+    ensures { result ≡ spec.version_of row }
+{
+    match row {
+        Row::LoopWhen => 2,
+        _ => 1,
     }
 }
 
@@ -302,7 +326,7 @@ pub fn stand_of(row: Row) -> Stand
     ensures { result ≡ spec.stand_of row }
 {
     match row {
-        Row::Version => Stand::First,
+        Row::Version | Row::SecondVersion => Stand::First,
         Row::Ring | Row::RingCq | Row::RingLeft | Row::RingCqLeft => Stand::Second,
         Row::File
         | Row::Buffer
@@ -316,8 +340,8 @@ pub fn stand_of(row: Row) -> Stand
         Row::Print | Row::Lock | Row::GetSqe | Row::PrepRead | Row::PrepWrite => Stand::Inside,
         Row::PrepFsync | Row::PrepNop | Row::SetData64 | Row::Submit => Stand::Inside,
         Row::SubmitAndWait | Row::CqeSeen | Row::Peek | Row::Case | Row::Other => Stand::Inside,
-        Row::Nothing | Row::If | Row::IfReady | Row::IfSpace | Row::Loop => Stand::Inside,
-        Row::Break => Stand::Inside,
+        Row::Nothing | Row::If | Row::IfReady | Row::IfSpace => Stand::Inside,
+        Row::Loop | Row::LoopWhen | Row::Break => Stand::Inside,
     }
 }
 
@@ -338,7 +362,7 @@ pub fn rows_of(first: u8) -> &'static [Row]
             Row::PrepWrite,
             Row::PrepFsync,
         ],
-        b'l' => &[Row::Lock, Row::Loop],
+        b'l' => &[Row::Lock, Row::Loop, Row::LoopWhen],
         b'o' => &[Row::Other],
         b'n' => &[Row::Nothing],
         b's' => &[Row::SetData64, Row::Store],
@@ -357,6 +381,7 @@ pub fn rows_of(first: u8) -> &'static [Row]
             Row::RingLeft,
             Row::RingCqLeft,
             Row::Version,
+            Row::SecondVersion,
         ],
         _ => &[],
     }

@@ -12,13 +12,15 @@ use crate::words::is;
 use rc_lang::lines::{Comparison, Operand};
 use rc_lang::numbers::{is_number, signed_number_of};
 
-/// An item of a list: shares of a buffer, a token, credits or queued entries.
+/// An item of a list: shares of a buffer, a token, credits or queued entries; and `when`, which stands between two
+/// lists with a variable.
 #[derive(Clone, Copy)]
 pub enum Item {
     Shares(usize, u32),
     Token(u64),
     Credits(u32),
     Queued(u32),
+    When(usize),
 }
 
 /// What a word says in its place.

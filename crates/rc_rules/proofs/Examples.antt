@@ -1,5 +1,5 @@
 -- The program of the tests.
-use Rattle.std.proofs.Common.{◌≡◌, ℕ, zero, suc, ◌+◌, ◌≤◌, ◌<◌, List, [], ◌∷◌, ◌++◌, map, length, Some, Result, Ok, Err, refl, sym, ap, subst, ◌∙◌, arith, lit≤, cond, nat_lt, Bool, true, false}
+use Rattle.std.proofs.Common.{◌≡◌, ℕ, zero, suc, ◌+◌, ◌≤◌, ◌<◌, List, [], ◌∷◌, ◌++◌, map, length, Some, None, Result, Ok, Err, refl, sym, ap, subst, ◌∙◌, arith, lit≤, cond, nat_lt, Bool, true, false}
 use Rattle.std.specs.Prelude.{All, slice_get}
 use Rattle.rc_lang.specs.declared.lines.Op.{Op}
 use Rattle.rc_lang.specs.Nesting.{blocks_at}
@@ -8,19 +8,21 @@ use Rattle.rc_lang.specs.declared.program.Declarations.{Declarations}
 use Rattle.rc_lang.specs.declared.program.Thread.{Thread as ThreadPart}
 use Rattle.rc_lang.specs.Program.{Program, Thread, IsProgram, IsThread, IsFile, IsBuffer, IsTokenKind, DeclaresToken, line_numbers}
 use Rattle.rc_lang.proofs.Rising.{by_test}
-use Rattle.rc_split.specs.Bags.{Part, ShareOf, TokenOf, Credit, bag_of}
+use Rattle.rc_lang.specs.Program.{Items, More, IsItems, IsList, besides, no_more}
+use Rattle.rc_split.specs.Bags.{Part, ShareOf, TokenOf, Credit, bag_of, bag_on, IsWithin}
 use Rattle.rc_rules.specs.declared.cause.Cause.{Cause}
 use Rattle.rc_rules.specs.declared.mode.Mode.{Mode}
 use Rattle.rc_rules.specs.declared.mode.Mode.TheVariants.{Unlocked, Locked}
 use Rattle.rc_rules.specs.declared.mode.Peeked.TheVariants.{Sees}
-use Rattle.rc_rules.specs.Labels.{Label, Dead, Live, IsStrongest, IsSame}
+use Rattle.rc_rules.specs.Labels.{Label, Dead, Live, WeakerMode, WeakerThanEach, IsStrongest, IsSame}
 use Rattle.rc_rules.specs.Premises.{Premise}
-use Rattle.rc_rules.specs.Rules.{op_effect, goes, case_at, with_peeked, entered}
-use Rattle.rc_rules.specs.States.{State, label_of, program_of, Gives, IsStart, IsUnlocked, IsLocked}
+use Rattle.rc_rules.specs.Rules.{op_effect, goes, case_at, with_peeked, entered, top}
+use Rattle.rc_rules.specs.Sides.{on, gate, brings, turns, write_of, forgets}
+use Rattle.rc_rules.specs.States.{State, label_of, program_of, is_locked, Gives, Becomes, OnBoth, AgreeOnLock, IsStart, IsUnlocked, IsLocked}
 use Rattle.rc_rules.specs.Labellings.{start_of}
-use Rattle.rc_rules.specs.Example.{share, share_thread, IsAtMost}
+use Rattle.rc_rules.specs.Example.{share, share_thread, IsAtMost, IsOfShare}
 use Rattle.rc_rules.proofs.Lines.{effect_by}
-use Rattle.rc_rules.proofs.Headers.{few_of, count_once}
+use Rattle.rc_rules.proofs.Headers.{few, few_of, count_once}
 use Rattle.std.specs.List.{IsDistinct}
 use Rattle.std.specs.Str.{bytes_eq}
 use Rattle.std.specs.Prelude.{nat_eq, codes, IsOkAnd, IfOk}
@@ -34,6 +36,10 @@ one P x h (suc k) d lt = absurd (omega (arith, lt))
 
 none : {X : Type 0} (P : X → Type 0) → All P []
 none P k d lt = absurd (omega (arith, lt))
+
+distinct : {K : Type 0} (e : K → K → Bool) → IsDistinct e []
+unfolding IsDistinct
+distinct e = tt
 
 single : {K : Type 0} (e : K → K → Bool) (x : K) → IsDistinct e (x ∷ [])
 unfolding IsDistinct
@@ -66,10 +72,12 @@ is_thread = record {
     queue = tt;
   };
   no_queue = refl;
+  no_more = refl;
   lists = none _;
   few_lines = lit≤ tt;
   numbers = none _;
   few_variables = lit≤ tt;
+  flag = record { variable = lit≤ tt; version = λ e. absurd (cc); without = λ e. absurd (cc) };
   nested = record { each = λ j l e. absurd (cc); depth = no_blocks; closed = refl };
   resolved = λ j s e. absurd (cc);
   linked = λ j s e. absurd (cc);
@@ -78,6 +86,7 @@ is_thread = record {
 
 pub is_share : IsProgram share
 is_share = record {
+  version = (lit≤ tt, lit≤ tt);
   entries = record { power = (1, refl); within = lit≤ tt };
   completion_entries = record { power = (2, refl); within = lit≤ tt };
   room = lit≤ tt;
@@ -101,46 +110,167 @@ is_share = record {
     each zero t e = let f : share_thread ≡ t = cc in subst (IsThread share) f is_thread
     each (suc i) t e = absurd (cc)
 
+-- ---- what is true of each label that leads to one is true of it
+
+abbrev Each : (Label → Type 0) → List Label → Type 0
+Each Q [] = Unit {0}
+Each Q (t ∷ ts) = Q t × Each Q ts
+
+-- It is true of a dead label, and of one that says less than a live label of which it is.
+record IsLowered (Q : Label → Type 0) : Type 0 where
+  dead : Q Dead
+  lower : (a b : Part → ℕ) (m n : Mode) → IsWithin a b → WeakerMode m n → Q (Live b n) → Q (Live a m)
+
+led_by : (Q : Label → Type 0) → IsLowered Q → (s : Label) (ts : List Label) → IsStrongest s ts → Each Q ts → Q s
+led_by Q q Dead ts h e = q.dead
+led_by Q q (Live a m) ts h e = go ts h.weaker e (λ w. h.strongest Dead w)
+  where
+    go : (ts : List Label) → WeakerThanEach (Live a m) ts → Each Q ts → (WeakerThanEach Dead ts → ⊥) → Q (Live a m)
+    go [] w e f = absurd (f tt)
+    go (Dead ∷ ts) w e f = go ts w.1 e.1 (λ v. f (tt, v))
+    go (Live b n ∷ ts) w e f = q.lower a b m n w.0.0 w.0.1 e.0
+
+few_lowered : (n : ℕ) → IsLowered (IsAtMost n)
+few_lowered n = record { dead = tt; lower = λ a b m k w v h p. omega (arith, w p, h p) }
+
+locked_lowered : IsLowered IsLocked
+locked_lowered = record { dead = tt; lower = go }
+  where
+    go : (a b : Part → ℕ) (m n : Mode) → IsWithin a b → WeakerMode m n → IsLocked (Live b n) → IsLocked (Live a m)
+    go a b Unlocked Unlocked w v h = absurd h
+    go a b Unlocked (Locked j) w v h = absurd v
+    go a b (Locked i) n w v h = tt
+
+gate_by : (Q : Label → Type 0) → Q Dead → (g : Bool) (s : Label) → Q s → Q (gate g s)
+gate_by Q d true s h = h
+gate_by Q d false s h = d
+
+goes_by : (Q : Label → Type 0) (E : (Part → ℕ) → Mode → Label) → Q Dead → ((a : Part → ℕ) (m : Mode) → Q (Live a m) → Q (E a m)) → (s : Label) → Q s → Q (goes s E)
+goes_by Q E d f Dead h = d
+goes_by Q E d f (Live a m) h = f a m h
+
+-- a property of each label before a line, and what the line makes of it behind
+became : (R : Label → Type 0) → IsLowered R → (old new : State) (bs : Bool → List Label) → Becomes old new bs → ((z : Bool) → Each R (bs z)) → OnBoth R new
+became R q old new bs h e z = led_by R q (label_of new z) (bs z) (h.each z) (e z)
+
+gave : {X : Type 0} (R : Label → Type 0) → IsLowered R → (old new : State) (r : Result X Cause) (ps : List (ℕ × Premise)) (bs : Bool → List Label) → Gives old new r ps bs → ((z : Bool) → Each R (bs z)) → OnBoth R old → OnBoth R new
+gave R q old new (Ok x) ps bs g e h = became R q old new bs g.1 e
+gave R q old new (Err c) ps bs g e h = subst (OnBoth R) (sym g.1) h
+
+brought : (R : Label → Type 0) → R Dead → (may : Bool → Bool) (F : Label → Label) (before : Bool → Label) → ((z : Bool) → R (F (before z))) → Each R (brings may F before)
+brought R d may F before h = (gate_by R d (may true) _ (h true), (gate_by R d (may false) _ (h false), tt))
+
 -- ---- counts stay few
 
 few_more : (n k : ℕ) (s : Label) → n ≤ k → IsAtMost n s → IsAtMost k s
 few_more n k Dead l h = tt
 few_more n k (Live b m) l h = λ p. omega (arith, h p)
 
-strongest_few : (n : ℕ) (s t : Label) → IsStrongest s (t ∷ []) → IsAtMost n t → IsAtMost n s
-strongest_few n Dead t w h = tt
-strongest_few n (Live a m) Dead w h = absurd (w.strongest Dead (tt, tt))
-strongest_few n (Live a m) (Live b k) w h = λ p. omega (arith, w.weaker.0.0 p, h p)
+few_all : (n k : ℕ) (s : State) → n ≤ k → OnBoth (IsAtMost n) s → OnBoth (IsAtMost k) s
+few_all n k s l h z = few_more n k (label_of s z) l (h z)
 
-goes_few : (P : Program) (n : ℕ) (s : Label) (op : Op) → IsProgram P → IsAtMost n s → IsAtMost (n + 18) (goes s (λ b m. op_effect P b m op))
-goes_few P n Dead op h l = tt
-goes_few P n (Live a m) op h l = effect_by P a m op h (IsAtMost (n + 18)) tt (λ b k e le p. omega (arith, l p, le p))
+op_few : (P : Program) (n : ℕ) (op : Op) (s : Label) → IsProgram P → IsAtMost n s → IsAtMost (n + 18) (goes s (λ b m. op_effect P b m op))
+op_few P n op Dead h l = tt
+op_few P n op (Live a m) h l = effect_by P a m op h (IsAtMost (n + 18)) tt (λ b k e le p. omega (arith, l p, le p))
+
+op_locked : (P : Program) (op : Op) (s : Label) → IsProgram P → IsLocked s → IsLocked (goes s (λ b m. op_effect P b m op))
+op_locked P op Dead h l = tt
+op_locked P op (Live a Unlocked) h l = absurd l
+op_locked P op (Live a (Locked i)) h l = effect_by P a (Locked i) op h IsLocked tt go
+  where
+    go : (b : Part → ℕ) (n : Mode) → is_locked n ≡ true → ((p : Part) → b p ≤ a p + 18) → IsLocked (Live b n)
+    go b Unlocked e le = absurd (cc)
+    go b (Locked j) e le = tt
 
 -- ---- calls
 
-pub of : {X : Type 0} (old new : State) (r : Result X Cause) (ps : List (ℕ × Premise)) (bs : List Label) (P : Program) → program_of old ≡ P → Gives old new r ps bs → program_of new ≡ P
-of old new (Ok x) ps bs P e g = g.2 ∙ e
-of old new (Err c) ps bs P e g = ap program_of g.1 ∙ e
+pub of : {X : Type 0} (old new : State) (r : Result X Cause) (ps : List (ℕ × Premise)) (bs : Bool → List Label) → IsOfShare old → Gives old new r ps bs → IsOfShare new
+of old new (Ok x) ps bs e g = record { program = g.1.of.program ∙ e.program; flag = g.1.of.flag ∙ e.flag }
+of old new (Err c) ps bs e g = subst IsOfShare (sym g.1) e
 
-pub over_few : {X : Type 0} (old new : State) (r : Result X Cause) (ps : List (ℕ × Premise)) (op : Op) (n : ℕ) → program_of old ≡ share → Gives old new r ps (goes (label_of old) (λ b m. op_effect (program_of old) b m op) ∷ []) → IsAtMost n (label_of old) → IsAtMost (n + 18) (label_of new)
-over_few old new (Ok x) ps op n e g h = strongest_few (n + 18) _ _ g.1 (goes_few (program_of old) n (label_of old) op (subst IsProgram (sym e) is_share) h)
-over_few old new (Err c) ps op n e g h = subst (λ s. IsAtMost (n + 18) (label_of s)) (sym g.1) (few_more n (n + 18) (label_of old) (omega arith) h)
+abbrev OverOp : Op → State → Bool → List Label
+OverOp op old z = brings (λ y. turns (write_of old.flag op) y z) (λ s. goes s (λ b m. op_effect (program_of old) b m op)) (label_of old)
+
+pub over_few : {X : Type 0} (old new : State) (r : Result X Cause) (ps : List (ℕ × Premise)) (op : Op) (n : ℕ) → program_of old ≡ share → Gives old new r ps (OverOp op old) → OnBoth (IsAtMost n) old → OnBoth (IsAtMost (n + 18)) new
+over_few old new r ps op n e g h = gave (IsAtMost (n + 18)) (few_lowered (n + 18)) old new r ps (OverOp op old) g (λ z. brought (IsAtMost (n + 18)) tt (λ y. turns (write_of old.flag op) y z) (λ s. goes s (λ b m. op_effect (program_of old) b m op)) (label_of old) (λ y. op_few (program_of old) n op (label_of old y) (subst IsProgram (sym e) is_share) (h y))) (few_all n (n + 18) old (omega arith) h)
+
+pub over_locked : {X : Type 0} (old new : State) (r : Result X Cause) (ps : List (ℕ × Premise)) (op : Op) → program_of old ≡ share → Gives old new r ps (OverOp op old) → OnBoth IsLocked old → OnBoth IsLocked new
+over_locked old new r ps op e g h = gave IsLocked locked_lowered old new r ps (OverOp op old) g (λ z. brought IsLocked tt (λ y. turns (write_of old.flag op) y z) (λ s. goes s (λ b m. op_effect (program_of old) b m op)) (label_of old) (λ y. op_locked (program_of old) op (label_of old y) (subst IsProgram (sym e) is_share) (h y))) h
 
 case_at_few : (n u : ℕ) (s : Label) → IsAtMost n s → IsAtMost n (case_at u s)
 case_at_few n u Dead h = tt
 case_at_few n u (Live a m) h = elim (nat_lt 0 (a (TokenOf u))) as (λ x. IsAtMost n (cond x Dead (Live a (with_peeked (Sees u) m)))) [ true ↦ tt | false ↦ h ]
 
-pub case_few : {X : Type 0} (old new : State) (r : Result X Cause) (ps : List (ℕ × Premise)) (u n : ℕ) → Gives old new r ps (case_at u (label_of old) ∷ []) → IsAtMost n (label_of old) → IsAtMost n (label_of new)
-case_few old new (Ok x) ps u n g h = strongest_few n _ _ g.1 (case_at_few n u (label_of old) h)
-case_few old new (Err c) ps u n g h = subst (λ s. IsAtMost n (label_of s)) (sym g.1) h
+pub case_few : {X : Type 0} (old new : State) (r : Result X Cause) (ps : List (ℕ × Premise)) (u n : ℕ) → Gives old new r ps (λ z. case_at u (label_of old z) ∷ []) → OnBoth (IsAtMost n) old → OnBoth (IsAtMost n) new
+case_few old new r ps u n g h = gave (IsAtMost n) (few_lowered n) old new r ps _ g (λ z. (case_at_few n u (label_of old z) (h z), tt)) h
 
 entered_few : (P : Program) (n : ℕ) (s : Label) → IsAtMost n s → IsAtMost n (entered P s)
 entered_few P n Dead h = tt
 entered_few P n (Live a m) h = h
 
-pub lock_few : {X : Type 0} (old new : State) (r : Result X Cause) (ps : List (ℕ × Premise)) (n : ℕ) → Gives old new r ps (entered (program_of old) (label_of old) ∷ []) → IsAtMost n (label_of old) → IsAtMost n (label_of new)
-lock_few old new (Ok x) ps n g h = strongest_few n _ _ g.1 (entered_few (program_of old) n (label_of old) h)
-lock_few old new (Err c) ps n g h = subst (λ s. IsAtMost n (label_of s)) (sym g.1) h
+pub lock_few : {X : Type 0} (old new : State) (r : Result X Cause) (ps : List (ℕ × Premise)) (n : ℕ) → Gives old new r ps (λ z. entered (program_of old) (label_of old z) ∷ []) → OnBoth (IsAtMost n) old → OnBoth (IsAtMost n) new
+lock_few old new r ps n g h = gave (IsAtMost n) (few_lowered n) old new r ps _ g (λ z. (entered_few (program_of old) n (label_of old z) (h z), tt)) h
+
+entered_locked : (P : Program) (s : Label) → IsLocked (entered P s)
+entered_locked P Dead = tt
+entered_locked P (Live a m) = tt
+
+pub lock_locked : {X : Type 0} (old new : State) (r : Result X Cause) → Gives old new r [] (λ z. entered (program_of old) (label_of old z) ∷ []) → OnBoth IsLocked new
+lock_locked old new (Ok x) g = became IsLocked locked_lowered old new _ g.1 (λ z. (entered_locked (program_of old) (label_of old z), tt))
+lock_locked old new (Err c) g = absurd (g.0.fails tt)
+
+-- ---- loops
+
+list_few : (P : Program) (items : Items) (z : Bool) (p : Part) → IsList P items → bag_on z items p ≤ 4096
+list_few P items true p h = omega (arith, few P items p h.first)
+list_few P items false p h = omega (arith, few P items p h.first, few P (besides items) p h.more)
+
+top_few : (P : Program) (n : ℕ) (items : Items) (z : Bool) (s : Label) → 4096 ≤ n → IsList P items → IsAtMost n (top P items z s)
+top_few P n items z Dead l h = tt
+top_few P n items z (Live a m) l h = λ p. omega (arith, list_few P items z p h, l)
+
+pub loop_few : {X : Type 0} (old new : State) (r : Result X Cause) (ps : List (ℕ × Premise)) (items : Items) (n : ℕ) → 4096 ≤ n → program_of old ≡ share → IsList share items → Gives old new r ps (λ z. brings (λ y. turns (forgets old.flag) y z) (λ s. top (program_of old) items z s) (label_of old)) → OnBoth (IsAtMost n) old → OnBoth (IsAtMost n) new
+loop_few old new r ps items n k e l g h = gave (IsAtMost n) (few_lowered n) old new r ps _ g (λ z. brought (IsAtMost n) tt (λ y. turns (forgets old.flag) y z) (λ s. top (program_of old) items z s) (label_of old) (λ y. top_few (program_of old) n items z (label_of old y) k (subst (λ P. IsList P items) (sym e) l))) h
+
+-- lists of credits alone, and of credits, and a token or a share besides
+plain : (n : ℕ) → n ≤ 2048 → IsItems share (record { shares = []; tokens = []; credits = n; queue = None; more = no_more })
+plain n l = record { buffers = none _; counts = none _; distinct_buffers = distinct _; tokens = none _; distinct_tokens = distinct _; credits = l; queue = tt }
+
+first_plain : (n : ℕ) (more : More) → n ≤ 2048 → IsItems share (record { shares = []; tokens = []; credits = n; queue = None; more = more })
+first_plain n more l = record { buffers = none _; counts = none _; distinct_buffers = distinct _; tokens = none _; distinct_tokens = distinct _; credits = l; queue = tt }
+
+abbrev listed : ℕ → More → Items
+listed n more = record { shares = []; tokens = []; credits = n; queue = None; more = more }
+
+list_of : (n : ℕ) (i : Items) (m k : More) → i ≡ listed n m → m ≡ k → IsList share (listed n k) → IsList share i
+list_of n i m k e f h = subst (IsList share) (sym e) (subst (λ x. IsList share (listed n x)) (sym f) h)
+
+pub credits_list : (n k : ℕ) (i : Items) (m : More) → n ≤ 2048 → k ≤ 2048 → i ≡ listed n m → m ≡ record { shares = []; tokens = []; credits = k } → IsList share i
+credits_list n k i m l h e f = list_of n i m _ e f (record { first = first_plain n _ l; more = plain k h; apart = distinct _ })
+
+pub token_list : (i : Items) (m : More) → i ≡ listed 0 m → m ≡ record { shares = []; tokens = 9 ∷ []; credits = 0 } → IsList share i
+token_list i m e f = list_of 0 i m _ e f (record {
+  first = first_plain 0 _ (lit≤ tt);
+  more = record { buffers = none _; counts = none _; distinct_buffers = distinct _; tokens = tokens; distinct_tokens = single nat_eq 9; credits = lit≤ tt; queue = tt };
+  apart = single nat_eq 9;
+})
+
+pub share_list : (i : Items) (m : More) → i ≡ listed 0 m → m ≡ record { shares = record { buffer = 0; count = 1 } ∷ []; tokens = []; credits = 0 } → IsList share i
+share_list i m e f = list_of 0 i m _ e f (record {
+  first = first_plain 0 _ (lit≤ tt);
+  more = record {
+    buffers = one (λ (s : Share). s.buffer < 1) (record { buffer = 0; count = 1 }) (lit≤ tt);
+    counts = one (λ (s : Share). (1 ≤ s.count) × (s.count ≤ 16)) (record { buffer = 0; count = 1 }) (lit≤ tt, lit≤ tt);
+    distinct_buffers = single nat_eq 0;
+    tokens = none _;
+    distinct_tokens = distinct _;
+    credits = lit≤ tt;
+    queue = tt;
+  };
+  apart = distinct _;
+})
+
+-- ---- starts
 
 share_few : (p : Part) → bag_of share_thread.items p ≤ 100
 share_few (ShareOf b) = omega (arith, few_of b share_thread.items.shares (single nat_eq 0) counts)
@@ -152,24 +282,36 @@ same_few Dead t n e h = tt
 same_few (Live a m) Dead n e h = absurd e
 same_few (Live a m) (Live b k) n e h = λ p. omega (arith, e.0 p, h p)
 
-same_unlocked : (s : Label) (b : Part → ℕ) → IsSame s (Live b Unlocked) → IsUnlocked s
-same_unlocked Dead b e = tt
-same_unlocked (Live a Unlocked) b e = tt
-same_unlocked (Live a (Locked i)) b e = absurd (cc)
+same_unlocked : (s t : Label) → IsSame s t → IsUnlocked t → IsUnlocked s
+same_unlocked Dead t e h = tt
+same_unlocked (Live a Unlocked) t e h = tt
+same_unlocked (Live a (Locked i)) Dead e h = absurd e
+same_unlocked (Live a (Locked i)) (Live b Unlocked) e h = absurd (cc (e.1))
+same_unlocked (Live a (Locked i)) (Live b (Locked j)) e h = absurd h
 
-starts : (P : Program) (s : State) → P ≡ share → IsStart P 0 s → IsSame (label_of s) (start_of share_thread)
-starts P s e h = h.1 share_thread (subst (λ Q. slice_get Q.threads 0 ≡ Some share_thread) (sym e) refl)
+start_sides : (z : Bool) → IsAtMost 100 (on z (start_of share_thread)) × IsUnlocked (on z (start_of share_thread))
+start_sides true = (share_few, tt)
+start_sides false = (tt, tt)
 
-pub start_few : {E : Type 0} (P : Program) (r : Result State E) → P ≡ share → IsOkAnd r (IsStart P 0) → IfOk r (λ s. IsAtMost 100 (label_of s))
-start_few P (Ok s) e h = same_few (label_of s) (start_of share_thread) 100 (starts P s e h) share_few
+starts : (P : Program) (s : State) → P ≡ share → IsStart P 0 s → (z : Bool) → IsSame (label_of s z) (on z (start_of share_thread))
+starts P s e h = (h.1 share_thread (subst (λ Q. slice_get Q.threads 0 ≡ Some share_thread) (sym e) refl)).each
+
+pub start_of_share : {E : Type 0} (P : Program) (r : Result State E) → P ≡ share → IsOkAnd r (IsStart P 0) → IfOk r IsOfShare
+start_of_share P (Ok s) e h = record { program = h.0 ∙ e; flag = (h.1 share_thread (subst (λ Q. slice_get Q.threads 0 ≡ Some share_thread) (sym e) refl)).flag }
+start_of_share P (Err x) e h = absurd h
+
+pub start_few : {E : Type 0} (P : Program) (r : Result State E) → P ≡ share → IsOkAnd r (IsStart P 0) → IfOk r (λ s. OnBoth (IsAtMost 100) s)
+start_few P (Ok s) e h = λ z. same_few (label_of s z) (on z (start_of share_thread)) 100 (starts P s e h z) (start_sides z).0
 start_few P (Err x) e h = absurd h
 
-pub start_unlocked : {E : Type 0} (P : Program) (r : Result State E) → P ≡ share → IsOkAnd r (IsStart P 0) → IfOk r (λ s. IsUnlocked (label_of s))
-start_unlocked P (Ok s) e h = same_unlocked (label_of s) _ (starts P s e h)
+pub start_unlocked : {E : Type 0} (P : Program) (r : Result State E) → P ≡ share → IsOkAnd r (IsStart P 0) → IfOk r (λ s. OnBoth IsUnlocked s)
+start_unlocked P (Ok s) e h = λ z. same_unlocked (label_of s z) (on z (start_of share_thread)) (starts P s e h z) (start_sides z).1
 start_unlocked P (Err x) e h = absurd h
 
+-- ---- the program
+
 -- what is made of the parts of the program
-pub made_share : (d : Declarations) (ts : List ThreadPart) → d.files.items ≡ share.files → map view_buffer d.buffers.items ≡ share.buffers → d.tokens.items ≡ share.tokens → map view_thread ts ≡ share.threads → IsProgram (view_program (record { entries = 2; completion_entries = 4; left = 0 }) d ts)
+pub made_share : (d : Declarations) (ts : List ThreadPart) → d.files.items ≡ share.files → map view_buffer d.buffers.items ≡ share.buffers → d.tokens.items ≡ share.tokens → map view_thread ts ≡ share.threads → IsProgram (view_program (record { version = 2; entries = 2; completion_entries = 4; left = 0 }) d ts)
 made_share d ts e f g h =
     subst (λ x. IsProgram (record share { files = x; buffers = map view_buffer d.buffers.items; tokens = d.tokens.items; threads = map view_thread ts })) (sym e)
     (subst (λ x. IsProgram (record share { buffers = x; tokens = d.tokens.items; threads = map view_thread ts })) (sym f)
@@ -178,12 +320,13 @@ made_share d ts e f g h =
 pub one_thread : (xs ys : List ThreadPart) (t : ThreadPart) → ys ≡ [] → xs ≡ ys ++ t ∷ [] → view_thread t ≡ share_thread → map view_thread xs ≡ share.threads
 one_thread xs ys t e f g = rw (f, e) (ap (λ x. x ∷ []) g)
 
-entered_locked : (P : Program) (s t : Label) → IsUnlocked t → IsStrongest s (entered P t ∷ []) → IsLocked s
-entered_locked P Dead t u h = tt
-entered_locked P (Live a (Locked i)) t u h = tt
-entered_locked P (Live a Unlocked) Dead u h = absurd (h.strongest Dead (tt, tt))
-entered_locked P (Live a Unlocked) (Live b m) u h = absurd h.weaker.0.1
+-- ---- two states
 
-pub lock_locked : {X : Type 0} (old new : State) (r : Result X Cause) → IsUnlocked (label_of old) → Gives old new r [] (entered (program_of old) (label_of old) ∷ []) → IsLocked (label_of new)
-lock_locked old new (Ok x) u g = entered_locked (program_of old) (label_of new) (label_of old) u g.1
-lock_locked old new (Err c) u g = absurd (g.0.fails tt)
+lock_agree : (s t : Label) → IsLocked s → IsLocked t → AgreeOnLock s t
+lock_agree Dead t h g = tt
+lock_agree (Live a Unlocked) t h g = absurd h
+lock_agree (Live a (Locked i)) Dead h g = tt
+lock_agree (Live a (Locked i)) (Live b n) h g = g
+
+pub locked_agree : (x y : State) → OnBoth IsLocked x → OnBoth IsLocked y → (u v : Bool) → AgreeOnLock (label_of x u) (label_of y v)
+locked_agree x y h g u v = lock_agree (label_of x u) (label_of y v) (h u) (g v)

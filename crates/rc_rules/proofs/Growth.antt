@@ -8,7 +8,7 @@ use Rattle.rc_lang.specs.declared.lines.Stmt.{Stmt}
 use Rattle.rc_lang.specs.declared.lines.Stmt.TheVariants.{Do, Lock, EndLock, If, Else, EndIf, Peek, Case, Other, Nothing, EndArm, EndPeek, Loop, EndLoop, Break}
 use Rattle.rc_lang.specs.declared.lines.Test.{Test}
 use Rattle.rc_lang.specs.declared.lines.Test.TheVariants.{Compare, ReadyZero, SpaceAtLeast}
-use Rattle.rc_lang.specs.Program.{Program, Thread, Items, items_at}
+use Rattle.rc_lang.specs.Program.{Program, Thread, Items, items_at, stmt_at}
 use Rattle.rc_split.specs.Bags.{Part, ShareOf, TokenOf, Credit, IsWithin}
 use Rattle.rc_rules.specs.declared.mode.Inside.{Inside}
 use Rattle.rc_rules.specs.declared.mode.Mode.{Mode}
@@ -19,10 +19,12 @@ use Rattle.rc_rules.specs.declared.mode.Slot.{Slot}
 use Rattle.rc_rules.specs.declared.mode.Slot.TheVariants.{Closed, Vacant}
 use Rattle.rc_rules.specs.Labels.{Label, Dead, Live, Weaker, WeakerMode, WeakerInside}
 use Rattle.rc_rules.specs.Premises.{Premise, IsMet, Meets, MeetsBelow}
-use Rattle.rc_rules.specs.Rules.{kind_of, same_slot, has_kind, is_prepared_as, is_seen, locked, if_locked, op_premises, op_effect, reaped, asks, goes, entered, may_release, released, test_premises, test_effect, peek_premises, with_peeked, peek_at, case_at, agree_modes, agree, agree_each, agree_all, may_join, queue_on, keeps_queue, may_loop, top_mode, top, may_break, broken}
+use Rattle.rc_rules.specs.Rules.{kind_of, same_slot, has_kind, is_prepared_as, is_seen, locked, if_locked, op_premises, op_effect, reaped, asks, asks_both, joins_both, goes, entered, may_release, released, test_premises, test_effect, peek_premises, with_peeked, peek_at, case_at, agree_modes, agree, agree_each, agree_all, may_join, queue_on, keeps_queue, may_loop, top_mode, top, may_break, broken}
 use Rattle.rc_rules.specs.Labellings.{label_at, here, skipped, arm_end, arm_ends, break_end, break_ends, befores, premises}
 use Rattle.rc_rules.specs.Laws.{EachWeaker, IsStronger, GrowsAt}
-use Rattle.rc_rules.proofs.Weaker.{mode_refl, peeked_grows, label_drop}
+use Rattle.rc_rules.specs.declared.flag.Write.TheVariants.{Anything}
+use Rattle.rc_rules.specs.Sides.{Sides, gate, brings, turns, write_to, write_of, forgets, test_goes, may_skip}
+use Rattle.rc_rules.proofs.Weaker.{mode_refl, peeked_grows, label_drop, meets_append, meets_left, meets_right, below_append, below_left, below_right}
 
 -- ---- lists of premises
 
@@ -41,6 +43,23 @@ less_below : (v : ℕ) (ps qs : List (ℕ × Premise)) → Less ps qs → MeetsB
 less_below v ps [] l h = tt
 less_below v [] (q ∷ qs) l h = absurd l
 less_below v (p ∷ ps) (q ∷ qs) l h = (λ lt. l.1 (h.0 (subst (λ n. n < v) (sym l.0) lt)), less_below v ps qs l.2 h.1)
+
+-- Of appended lists: each is met where the first of its pair is.
+pub record Eases (ps qs : List (ℕ × Premise)) : Type 0 where
+  pub meets : Meets ps → Meets qs
+  pub below : (v : ℕ) → MeetsBelow v ps → MeetsBelow v qs
+
+eases : (ps qs : List (ℕ × Premise)) → Less ps qs → Eases ps qs
+eases ps qs l = record { meets = less_meets ps qs l; below = λ v. less_below v ps qs l }
+
+no_premise : Eases [] []
+no_premise = record { meets = λ h. h; below = λ v h. h }
+
+eases_both : (ps qs us vs : List (ℕ × Premise)) → Eases ps qs → Eases us vs → Eases (ps ++ us) (qs ++ vs)
+eases_both ps qs us vs l k = record {
+  meets = λ h. meets_append qs vs (l.meets (meets_left ps us h)) (k.meets (meets_right ps us h));
+  below = λ v h. below_append v qs vs (l.below v (below_left v ps us h)) (k.below v (below_right v ps us h));
+}
 
 -- ---- one state
 
@@ -168,13 +187,13 @@ queue_grows P items (Locked i) (Locked j) v h = let g = and_parts _ _ h in and_f
 queue_grows P items Unlocked (Locked j) v h = absurd v
 queue_grows P items (Locked i) Unlocked v h = absurd v
 
-loop_less : (P : Program) (k : ℕ) (items : Items) → AsksLess (λ b m. may_loop P k items b m)
-loop_less P k items b c m n w v = (refl, queue_grows P items m n v, (refl, λ h p. omega (arith, h p, w p), tt))
+loop_less : (P : Program) (k : ℕ) (items : Items) (z : Bool) → AsksLess (λ b m. may_loop P k items z b m)
+loop_less P k items z b c m n w v = (refl, queue_grows P items m n v, (refl, λ h p. omega (arith, h p, w p), tt))
 
-top_grows : (P : Program) (items : Items) (s t : Label) → Weaker s t → Weaker (top P items s) (top P items t)
-top_grows P items s Dead w = tt
-top_grows P items Dead (Live c n) w = absurd w
-top_grows P items (Live b m) (Live c n) w = (λ p. omega arith, modes m n w.1)
+top_grows : (P : Program) (items : Items) (z : Bool) (s t : Label) → Weaker s t → Weaker (top P items z s) (top P items z t)
+top_grows P items z s Dead w = tt
+top_grows P items z Dead (Live c n) w = absurd w
+top_grows P items z (Live b m) (Live c n) w = (λ p. omega arith, modes m n w.1)
   where
     modes : (m n : Mode) → WeakerMode m n → WeakerMode (top_mode P items m) (top_mode P items n)
     modes Unlocked Unlocked v = tt
@@ -249,8 +268,12 @@ join_less ss ts g = (refl, agree_all_grows ss ts g, tt)
 
 -- ---- labellings
 
-drop_grows : (known more : List Label) → IsStronger known more → IsStronger (drop 1 known) (drop 1 more)
-drop_grows known more g k = subst (λ s. Weaker s (label_at (drop 1 more) k)) (sym (label_drop known k)) (subst (λ t. Weaker (label_at known (suc k)) t) (sym (label_drop more k)) (g (suc k)))
+gate_grows : (g : Bool) (s t : Label) → Weaker s t → Weaker (gate g s) (gate g t)
+gate_grows true s t w = w
+gate_grows false s t w = tt
+
+drop_grows : (known more : List Sides) → IsStronger known more → IsStronger (drop 1 known) (drop 1 more)
+drop_grows known more g k z = subst (λ s. Weaker s (label_at (drop 1 more) k z)) (sym (label_drop known k z)) (subst (λ t. Weaker (label_at known (suc k) z) t) (sym (label_drop more k z)) (g (suc k) z))
 
 arm_grows : (l : Stmt) (o : ℕ) (s t : Label) → Weaker s t → EachWeaker (arm_end l o s) (arm_end l o t)
 arm_grows (EndArm p) o s t w = go (nat_eq p o)
@@ -268,52 +291,71 @@ break_grows (Break p r l) o s t w = go (nat_eq p o)
     go false = tt
 break_grows _ o s t w = tt
 
-arms_grow : (lines : List Line) (known more : List Label) (o : ℕ) → IsStronger known more → EachWeaker (arm_ends lines known o) (arm_ends lines more o)
-arms_grow [] known more o g = tt
-arms_grow (l ∷ lines) known more o g = each_append (arm_end l.stmt o (label_at known 0)) (arm_end l.stmt o (label_at more 0)) (arm_ends lines (drop 1 known) o) (arm_ends lines (drop 1 more) o) (arm_grows l.stmt o _ _ (g 0)) (arms_grow lines (drop 1 known) (drop 1 more) o (drop_grows known more g))
+arms_grow : (lines : List Line) (known more : List Sides) (o : ℕ) (z : Bool) → IsStronger known more → EachWeaker (arm_ends lines known o z) (arm_ends lines more o z)
+arms_grow [] known more o z g = tt
+arms_grow (l ∷ lines) known more o z g = each_append (arm_end l.stmt o (label_at known 0 z)) (arm_end l.stmt o (label_at more 0 z)) (arm_ends lines (drop 1 known) o z) (arm_ends lines (drop 1 more) o z) (arm_grows l.stmt o _ _ (g 0 z)) (arms_grow lines (drop 1 known) (drop 1 more) o z (drop_grows known more g))
 
-breaks_grow : (lines : List Line) (known more : List Label) (o : ℕ) → IsStronger known more → EachWeaker (break_ends lines known o) (break_ends lines more o)
-breaks_grow [] known more o g = tt
-breaks_grow (l ∷ lines) known more o g = each_append (break_end l.stmt o (label_at known 0)) (break_end l.stmt o (label_at more 0)) (break_ends lines (drop 1 known) o) (break_ends lines (drop 1 more) o) (break_grows l.stmt o _ _ (g 0)) (breaks_grow lines (drop 1 known) (drop 1 more) o (drop_grows known more g))
+breaks_grow : (lines : List Line) (known more : List Sides) (o : ℕ) (z : Bool) → IsStronger known more → EachWeaker (break_ends lines known o z) (break_ends lines more o z)
+breaks_grow [] known more o z g = tt
+breaks_grow (l ∷ lines) known more o z g = each_append (break_end l.stmt o (label_at known 0 z)) (break_end l.stmt o (label_at more 0 z)) (break_ends lines (drop 1 known) o z) (break_ends lines (drop 1 more) o z) (break_grows l.stmt o _ _ (g 0 z)) (breaks_grow lines (drop 1 known) (drop 1 more) o z (drop_grows known more g))
 
-module _ (P : Program) (thread : Thread) (lines : List Line) (known more : List Label) (g : IsStronger known more) where
-  here_grows : (F : (Part → ℕ) → Mode → List (ℕ × Premise)) → AsksLess F → Less (asks (here lines known) F) (asks (here lines more) F)
-  here_grows F l = asks_grow F l (here lines known) (here lines more) (g (length lines))
+module _ (P : Program) (thread : Thread) (lines : List Line) (known more : List Sides) (g : IsStronger known more) where
+  here_grows : (z : Bool) → Weaker (here lines known z) (here lines more z)
+  here_grows z = g (length lines) z
+
+  both_grow : (F : Bool → (Part → ℕ) → Mode → List (ℕ × Premise)) → ((z : Bool) → AsksLess (F z)) → Eases (asks_both (here lines known) F) (asks_both (here lines more) F)
+  both_grow F l = eases_both (asks (here lines known true) (F true)) (asks (here lines more true) (F true)) (asks (here lines known false) (F false)) (asks (here lines more false) (F false)) (eases _ _ (asks_grow (F true) (l true) _ _ (here_grows true))) (eases _ _ (asks_grow (F false) (l false) _ _ (here_grows false)))
+
+  side_met : (F : Bool → (Part → ℕ) → Mode → List (ℕ × Premise)) (z : Bool) → Meets (asks_both (here lines known) F) → Meets (asks (here lines known z) (F z))
+  side_met F true h = meets_left (asks (here lines known true) (F true)) (asks (here lines known false) (F false)) h
+  side_met F false h = meets_right (asks (here lines known true) (F true)) (asks (here lines known false) (F false)) h
+
+  brings_grow : (may : Bool → Bool) (F : Label → Label) → ((y : Bool) → Weaker (F (here lines known y)) (F (here lines more y))) → EachWeaker (brings may F (here lines known)) (brings may F (here lines more))
+  brings_grow may F h = (gate_grows (may true) _ _ (h true), (gate_grows (may false) _ _ (h false), tt))
+
+  skip_grows : (o : ℕ) (z : Bool) → Weaker (skipped thread lines known o z) (skipped thread lines more o z)
+  skip_grows o z = gate_grows (may_skip thread.flag z (stmt_at lines o)) _ _ (g o z)
+
+  ends_grow : (o : ℕ) (z : Bool) → EachWeaker (here lines known z ∷ skipped thread lines known o z ∷ []) (here lines more z ∷ skipped thread lines more o z ∷ [])
+  ends_grow o z = (here_grows z, (skip_grows o z, tt))
+
+  joins_less : (E F : Bool → List Label) → ((z : Bool) → EachWeaker (E z) (F z)) → Eases (joins_both E) (joins_both F)
+  joins_less E F h = eases _ _ (join_less (E true ++ E false) (F true ++ F false) (each_append (E true) (F true) (E false) (F false) (h true) (h false)))
 
   -- a stronger labelling asks for less
-  pub premises_grow : (s : Stmt) → Less (premises P thread lines known s) (premises P thread lines more s)
-  premises_grow (Do op) = here_grows (λ b m. op_premises P b m op) (asks_less P op)
-  premises_grow (EndLock o) = here_grows (λ b m. may_release P m) (release_less P)
-  premises_grow (If test) = here_grows (λ b m. test_premises m test) (test_less test)
-  premises_grow (EndIf o) = join_less (here lines known ∷ skipped lines known o ∷ []) (here lines more ∷ skipped lines more o ∷ []) (g (length lines), (g o, tt))
-  premises_grow (Peek x) = here_grows (λ b m. peek_premises m) peek_less
-  premises_grow (EndPeek o) = join_less _ _ (arms_grow lines known more o g)
-  premises_grow (Loop k) = here_grows (λ b m. may_loop P 13 (items_at thread.lists k) b m) (loop_less P 13 (items_at thread.lists k))
-  premises_grow (EndLoop o k) = here_grows (λ b m. may_loop P 14 (items_at thread.lists k) b m) (loop_less P 14 (items_at thread.lists k))
-  premises_grow (Break o r l) = here_grows (λ b m. may_break P r m) (break_less P r)
-  premises_grow _ = tt
+  pub premises_grow : (s : Stmt) → Eases (premises P thread lines known s) (premises P thread lines more s)
+  premises_grow (Do op) = both_grow (λ z b m. op_premises P b m op) (λ z. asks_less P op)
+  premises_grow (EndLock o) = both_grow (λ z b m. may_release P m) (λ z. release_less P)
+  premises_grow (If test) = both_grow (λ z b m. test_premises m test) (λ z. test_less test)
+  premises_grow (EndIf o) = joins_less (λ z. here lines known z ∷ skipped thread lines known o z ∷ []) (λ z. here lines more z ∷ skipped thread lines more o z ∷ []) (ends_grow o)
+  premises_grow (Peek x) = both_grow (λ z b m. peek_premises m) (λ z. peek_less)
+  premises_grow (EndPeek o) = joins_less (λ z. arm_ends lines known o z) (λ z. arm_ends lines more o z) (λ z. arms_grow lines known more o z g)
+  premises_grow (Loop k) = both_grow (λ z b m. may_loop P 13 (items_at thread.lists k) z b m) (loop_less P 13 (items_at thread.lists k))
+  premises_grow (EndLoop o k) = both_grow (λ z b m. may_loop P 14 (items_at thread.lists k) z b m) (loop_less P 14 (items_at thread.lists k))
+  premises_grow (Break o r l) = both_grow (λ z b m. may_break P r m) (λ z. break_less P r)
+  premises_grow _ = no_premise
 
   -- and gives stronger states
-  pub befores_grow : (s : Stmt) → Meets (premises P thread lines known s) → EachWeaker (befores P thread lines known s) (befores P thread lines more s)
-  befores_grow (Do op) h = (goes_grow (λ b m. op_premises P b m op) (λ b m. op_effect P b m op) (grows P op) _ _ (g (length lines)) h, tt)
-  befores_grow Lock h = (entered_grows P _ _ (g (length lines)), tt)
-  befores_grow (EndLock o) h = (released_grows _ _ (g (length lines)), tt)
-  befores_grow (If test) h = (plain_grow (λ b m. test_effect P b m test) (test_grows P test) _ _ (g (length lines)), tt)
-  befores_grow (Else o) h = (g o, tt)
-  befores_grow (EndIf o) h = (g (length lines), (g o, tt))
-  befores_grow (Peek x) h = (g (length lines), tt)
-  befores_grow (Case o u) h = (case_grows u _ _ (g (o + 1)), tt)
-  befores_grow (Other o) h = (peek_grows SeesOther _ _ (g (o + 1)), tt)
-  befores_grow (Nothing o) h = (peek_grows Unseen _ _ (g (o + 1)), tt)
-  befores_grow (EndArm o) h = tt
-  befores_grow (EndPeek o) h = arms_grow lines known more o g
-  befores_grow (Loop k) h = (top_grows P (items_at thread.lists k) _ _ (g (length lines)), tt)
-  befores_grow (EndLoop o k) h = breaks_grow lines known more o g
-  befores_grow (Break o r l) h = tt
+  pub befores_grow : (s : Stmt) (z : Bool) → Meets (premises P thread lines known s) → EachWeaker (befores P thread lines known s z) (befores P thread lines more s z)
+  befores_grow (Do op) z h = brings_grow (λ y. turns (write_of thread.flag op) y z) (λ s. goes s (λ b m. op_effect P b m op)) (λ y. goes_grow (λ b m. op_premises P b m op) (λ b m. op_effect P b m op) (grows P op) _ _ (here_grows y) (side_met (λ x b m. op_premises P b m op) y h))
+  befores_grow Lock z h = (entered_grows P _ _ (here_grows z), tt)
+  befores_grow (EndLock o) z h = (released_grows _ _ (here_grows z), tt)
+  befores_grow (If test) z h = (gate_grows (test_goes thread.flag test z true) _ _ (plain_grow (λ b m. test_effect P b m test) (test_grows P test) _ _ (here_grows z)), tt)
+  befores_grow (Else o) z h = (skip_grows o z, tt)
+  befores_grow (EndIf o) z h = ends_grow o z
+  befores_grow (Peek x) z h = brings_grow (λ y. turns (write_to thread.flag x Anything) y z) (λ s. s) here_grows
+  befores_grow (Case o u) z h = (case_grows u _ _ (g (o + 1) z), tt)
+  befores_grow (Other o) z h = (peek_grows SeesOther _ _ (g (o + 1) z), tt)
+  befores_grow (Nothing o) z h = (peek_grows Unseen _ _ (g (o + 1) z), tt)
+  befores_grow (EndArm o) z h = tt
+  befores_grow (EndPeek o) z h = arms_grow lines known more o z g
+  befores_grow (Loop k) z h = brings_grow (λ y. turns (forgets thread.flag) y z) (λ s. top P (items_at thread.lists k) z s) (λ y. top_grows P (items_at thread.lists k) z _ _ (here_grows y))
+  befores_grow (EndLoop o k) z h = breaks_grow lines known more o z g
+  befores_grow (Break o r l) z h = tt
 
-pub rules_grow : (P : Program) (thread : Thread) (lines : List Line) (known more : List Label) (stmt : Stmt) → IsStronger known more → GrowsAt P thread lines known more stmt
+pub rules_grow : (P : Program) (thread : Thread) (lines : List Line) (known more : List Sides) (stmt : Stmt) → IsStronger known more → GrowsAt P thread lines known more stmt
 rules_grow P thread lines known more stmt g = record {
-  asks_less = λ v h. less_below v _ _ (premises_grow P thread lines known more g stmt) h;
-  meets_too = λ h. less_meets _ _ (premises_grow P thread lines known more g stmt) h;
-  gives_more = λ h. befores_grow P thread lines known more g stmt h;
+  asks_less = λ v h. (premises_grow P thread lines known more g stmt).below v h;
+  meets_too = λ h. (premises_grow P thread lines known more g stmt).meets h;
+  gives_more = λ h z. befores_grow P thread lines known more g stmt z h;
 }

@@ -1,20 +1,20 @@
 -- Items of headers and loops can be held.
-use Rattle.std.proofs.Common.{◌≡◌, ℕ, suc, ◌+◌, ◌≤◌, ◌<◌, ◌^◌, Bool, true, false, cond, nat_eq, List, [], ◌∷◌, length, map, sum_by, count_by, refl, sym, ap, subst, ◌∙◌, arith, get_or}
+use Rattle.std.proofs.Common.{◌≡◌, ℕ, suc, ◌+◌, ◌≤◌, ◌<◌, ◌^◌, Bool, true, false, cond, nat_eq, List, [], ◌∷◌, ◌++◌, length, map, sum_by, count_by, refl, sym, ap, subst, ◌∙◌, arith, get_or}
 use Rattle.std.specs.Prelude.{All}
 use Rattle.std.specs.List.{IsDistinct, AllByRecursion}
 use Rattle.std.proofs.lemmas.Bool.{eqb-true, eqb-false}
-use Rattle.std.proofs.lemmas.List.Sums.{sum_by-cons}
+use Rattle.std.proofs.lemmas.List.Sums.{sum_by-append, sum_by-cons}
 use Rattle.std.proofs.lemmas.Map.Keys.{IsDistinct-head, IsDistinct-tail}
 use Rattle.rc_lang.specs.declared.program.Share.{Share}
-use Rattle.rc_lang.specs.Program.{Program, Items, IsItems}
-use Rattle.rc_split.specs.Bags.{Part, ShareOf, TokenOf, Credit, bag_of, IsWithin}
-use Rattle.rc_split.specs.Holdings.{Holding, bag, mark_at, AreDeclared}
-use Rattle.std.specs.Prelude.{Option, Some, None, slice_index_or, slice_get}
+use Rattle.rc_lang.specs.Program.{Program, Items, IsItems, IsList, besides}
+use Rattle.rc_split.specs.Bags.{Part, ShareOf, TokenOf, Credit, bag_of, bag_on}
+use Rattle.rc_split.specs.Holdings.{AreDeclared, AreDeclaredOn}
+use Rattle.std.specs.Prelude.{Some, slice_get}
 use Rattle.std.proofs.lemmas.List.{get_or-map, length-map}
 use Rattle.std.proofs.lemmas.Option.{slice_get-get_or}
 use Rattle.rc_lang.specs.Parts.{view_thread}
 use Rattle.rc_lang.specs.declared.program.Thread.{Thread as ThreadPart}
-use Rattle.rc_lang.specs.Program.{Thread, token_place}
+use Rattle.rc_lang.specs.Program.{Thread}
 
 pub names_declared : (P : Program) (items : Items) → IsItems P items → AreDeclared P items
 names_declared P items h = record { buffers = h.buffers; tokens = h.tokens }
@@ -56,26 +56,29 @@ few_of b (x ∷ xs) d h = subst (λ n. n ≤ 16) (sym (sum_by-cons (λ (s : Shar
 pub once : (P : Program) (items : Items) (u : ℕ) → IsItems P items → bag_of items (TokenOf u) ≤ 1
 once P items u h = count_once u items.tokens h.distinct_tokens
 
+pub few : (P : Program) (items : Items) (p : Part) → IsItems P items → bag_of items p ≤ 2048
+few P items (ShareOf b) h = omega (arith, few_of b items.shares h.distinct_buffers h.counts)
+few P items (TokenOf u) h = omega (arith, once P items u h)
+few P items Credit h = h.credits
+
 pub small : (P : Program) (items : Items) (p : Part) → IsItems P items → bag_of items p < 2 ^ 20
-small P items (ShareOf b) h = omega (arith, few_of b items.shares h.distinct_buffers h.counts)
-small P items (TokenOf u) h = omega (arith, once P items u h)
-small P items Credit h = omega (arith, h.credits)
+small P items p h = omega (arith, few P items p h)
 
--- ---- within a holding
+-- ---- on both sides of a flag
 
-marked_once : (marks : List Bool) (o : Option ℕ) → mark_at marks o ≤ 1
-marked_once marks None = omega arith
-marked_once marks (Some place) = go (slice_index_or marks place false)
-  where
-    go : (b : Bool) → cond b 1 0 ≤ 1
-    go true = omega arith
-    go false = omega arith
+pub declared_on : (P : Program) (items : Items) (z : Bool) → IsList P items → AreDeclaredOn P z items
+declared_on P items true h = names_declared P items h.first
+declared_on P items false h = (names_declared P items h.first, names_declared P (besides items) h.more)
 
-pub once_within : (items : Items) (h : Holding) (u : ℕ) → IsWithin (bag_of items) (bag h) → bag_of items (TokenOf u) ≤ 1
-once_within items h u w = omega (arith, w (TokenOf u), marked_once h.marks (token_place h.program.tokens u))
+pub once_on : (P : Program) (items : Items) (z : Bool) (u : ℕ) → IsList P items → bag_on z items (TokenOf u) ≤ 1
+once_on P items true u h = once P items u h.first
+once_on P items false u h = omega (arith, count_once u (items.tokens ++ items.more.tokens) h.apart, sum_by-append (λ v. cond (nat_eq v u) 1 0) items.tokens items.more.tokens)
 
-pub small_within : (a b : Part → ℕ) → IsWithin a b → ((p : Part) → b p < 2 ^ 20) → (p : Part) → a p < 2 ^ 20
-small_within a b w s p = omega (arith, w p, s p)
+pub small_on : (P : Program) (items : Items) (z : Bool) (p : Part) → IsList P items → bag_on z items p < 2 ^ 20
+small_on P items true p h = small P items p h.first
+small_on P items false p h = omega (arith, few P items p h.first, few P (besides items) p h.more)
+
+-- ---- headers
 
 -- the header of a thread
 pub thread_at : (P : Program) (parts : List ThreadPart) (i : ℕ) (d : ThreadPart) → map view_thread parts ≡ P.threads → i < length P.threads → slice_get P.threads i ≡ Some (view_thread (get_or parts i d))

@@ -4,5 +4,7 @@ pub mod Lines
 pub mod Moves
 pub mod Headers
 pub mod Meets
+pub mod Alike
+pub mod Both
 pub mod Growth
 mod Examples

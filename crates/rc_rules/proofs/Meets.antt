@@ -1,5 +1,5 @@
 -- Two states that join.
-use Rattle.std.proofs.Common.{◌≡◌, ℕ, ◌⊎◌, inl, inr, Bool, true, false, cond, [], ◌∷◌, Option, Some, None, Ok, refl, sym, ap, subst, arith}
+use Rattle.std.proofs.Common.{◌≡◌, ℕ, ◌⊎◌, inl, inr, Bool, true, false, cond, [], ◌∷◌, Option, Some, refl, sym, ap, subst, ◌∙◌, arith}
 use Rattle.std.proofs.lemmas.Bool.{eqb-true, eq-eqb}
 use Rattle.rc_lang.specs.Program.{Program}
 use Rattle.rc_split.specs.Bags.{Part, TokenOf, least}
@@ -10,9 +10,8 @@ use Rattle.rc_rules.specs.declared.mode.Mode.TheVariants.{Unlocked, Locked}
 use Rattle.rc_rules.specs.declared.mode.Peeked.{Peeked}
 use Rattle.rc_rules.specs.declared.mode.Peeked.TheVariants.{Unseen, Sees, SeesOther}
 use Rattle.rc_rules.specs.Labels.{Label, Dead, Live, Weaker, WeakerMode, WeakerInside, IsStrongest}
-use Rattle.rc_rules.specs.Rules.{same_slot, agree_modes, may_join}
-use Rattle.rc_rules.specs.Premises.{Meets}
-use Rattle.rc_rules.specs.States.{State, label_of, label_in, same_peeked, both_inside, both, IsFreeIn, IsFreeFor, AgreeOnLock, Gives}
+use Rattle.rc_rules.specs.Rules.{same_slot, agree_modes, agree}
+use Rattle.rc_rules.specs.States.{Side, side_of, side_label, label_in, live_of, same_peeked, both_inside, both, IsFreeIn, IsFreeFor, AgreeOnLock}
 use Rattle.rc_rules.proofs.Moves.{fewer_free}
 use Rattle.rc_rules.proofs.Weaker.{same_slot_is}
 
@@ -81,18 +80,17 @@ both_free P Q a b c m n k f r h q = subst (λ R. IsFreeIn R c k) (sym r) (subst 
     go (Locked i) Unlocked f = fewer_free P a c i.peeked (λ u. omega (arith, h (TokenOf u))) f
     go (Locked i) (Locked j) f = seen i j.peeked f
 
--- two live states join
-pub joined : (s t x y : State) (c : Holding) (m n k : Mode) → s ≡ x → t ≡ y → s.mode ≡ Some m → t.mode ≡ Some n → agree_modes m n ≡ true → AgreeOnLock (label_of x) (label_of y) → ((p : Part) → bag c p ≡ least (bag s.holding) (bag t.holding) p) → k ≡ both m n → c.program ≡ s.holding.program → Gives {X = Unit {0}} x (record { holding = c; mode = Some k }) (Ok tt) (may_join (label_of x ∷ label_of y ∷ [])) (label_of x ∷ label_of y ∷ [])
-joined s t x y c m n k p q e f a l h r o =
-    subst (λ x. AgreeOnLock (label_of x) (label_of y) → Gives {X = Unit {0}} x (record { holding = c; mode = Some k }) (Ok tt) (may_join (label_of x ∷ label_of y ∷ [])) (label_of x ∷ label_of y ∷ [])) p
-    (subst (λ y. AgreeOnLock (label_of s) (label_of y) → Gives {X = Unit {0}} s (record { holding = c; mode = Some k }) (Ok tt) (may_join (label_of s ∷ label_of y ∷ [])) (label_of s ∷ label_of y ∷ [])) q (λ l. go s.mode t.mode e f l)) l
+-- two live sides join
+pub joined : (h g c : Holding) (o p : Option Mode) (x y : Side) (m n k : Mode) → side_of h o ≡ x → side_of g p ≡ y → o ≡ Some m → p ≡ Some n → agree (side_label x) (side_label y) ≡ true → AgreeOnLock (side_label x) (side_label y) → ((q : Part) → bag c q ≡ least (bag h) (bag g) q) → k ≡ both m n → IsStrongest (Live (bag c) k) (side_label x ∷ side_label y ∷ [])
+joined h g c o p x y m n k e f i j a l s r = go x y (sym e) (sym f) a l
   where
-    go : (d g : Option Mode) → d ≡ Some m → g ≡ Some n → AgreeOnLock (label_in (bag s.holding) d) (label_in (bag t.holding) g) → Meets (may_join (label_in (bag s.holding) d ∷ label_in (bag t.holding) g ∷ [])) × IsStrongest (Live (bag c) k) (label_in (bag s.holding) d ∷ label_in (bag t.holding) g ∷ []) × (c.program ≡ s.holding.program)
-    go None g e f l = absurd cc
-    go (Some m') None e f l = absurd cc
-    go (Some m') (Some n') e f l =
-        let e' : m' ≡ m = cc in
-        let f' : n' ≡ n = cc in
-        let a' : agree_modes m' n' ≡ true = subst (λ z. agree_modes z n' ≡ true) (sym e') (subst (λ z. agree_modes m z ≡ true) (sym f') a) in
-        let r' : k ≡ both m' n' = subst (λ z. k ≡ both z n') (sym e') (subst (λ z. k ≡ both m z) (sym f') r) in
-        ((rw a' refl, tt), both_strongest (bag s.holding) (bag t.holding) (bag c) m' n' k a' l h r', o)
+    live : (h : Holding) (o : Option Mode) (m : Mode) (x : Side) → x ≡ side_of h o → o ≡ Some m → side_label x ≡ Live (bag h) m
+    live h o m x e i = ap side_label e ∙ ap (λ y. label_in (live_of h y)) i
+
+    go : (x y : Side) → x ≡ side_of h o → y ≡ side_of g p → agree (side_label x) (side_label y) ≡ true → AgreeOnLock (side_label x) (side_label y) → IsStrongest (Live (bag c) k) (side_label x ∷ side_label y ∷ [])
+    go x y e f a l =
+        let u = live h o m x e i in
+        let v = live g p n y f j in
+        let a' : agree_modes m n ≡ true = subst (λ t. agree (Live (bag h) m) t ≡ true) v (subst (λ s. agree s (side_label y) ≡ true) u a) in
+        let l' : AgreeOnLock (Live (bag h) m) (Live (bag g) n) = subst (λ t. AgreeOnLock (Live (bag h) m) t) v (subst (λ s. AgreeOnLock s (side_label y)) u l) in
+        rw (u, v) (both_strongest (bag h) (bag g) (bag c) m n k a' l' s r)

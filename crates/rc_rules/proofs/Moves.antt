@@ -1,9 +1,12 @@
 -- One rule's effect on a state.
-use Rattle.std.proofs.Common.{◌≡◌, ℕ, ◌≤◌, ◌^◌, [], ◌∷◌, Option, Some, Ok, refl, sym, subst, ◌∙◌, arith}
+use Rattle.std.proofs.Common.{◌≡◌, ℕ, ◌≤◌, Bool, true, false, cond, nat_lt, Option, Some, None, Ok, refl, sym, subst, ◌∙◌, arith}
+use Rattle.std.proofs.lemmas.Bool.{ltb-false}
 use Rattle.rc_lang.specs.declared.lines.Op.{Op}
 use Rattle.rc_lang.specs.declared.lines.Op.TheVariants as ops
+use Rattle.rc_lang.specs.declared.lines.Test.{Test}
+use Rattle.rc_lang.specs.declared.lines.Test.TheVariants.{Compare, ReadyZero, SpaceAtLeast}
 use Rattle.rc_lang.specs.declared.program.TokenKind.TheVariants.{Read, Write}
-use Rattle.rc_lang.specs.Program.{Program}
+use Rattle.rc_lang.specs.Program.{Program, DeclaresToken}
 use Rattle.rc_split.specs.Bags.{Part, TokenOf, credits_bag, token_bag, minus}
 use Rattle.rc_split.specs.Holdings.{Holding, bag}
 use Rattle.rc_rules.specs.declared.mode.Inside.{Inside}
@@ -11,11 +14,13 @@ use Rattle.rc_rules.specs.declared.mode.Mode.{Mode}
 use Rattle.rc_rules.specs.declared.mode.Mode.TheVariants.{Unlocked, Locked}
 use Rattle.rc_rules.specs.declared.mode.Peeked.{Peeked}
 use Rattle.rc_rules.specs.declared.mode.Peeked.TheVariants.{Unseen, Sees, SeesOther}
-use Rattle.rc_rules.specs.Labels.{Label, Dead, Live, IsStrongest, IsSame}
+use Rattle.rc_rules.specs.declared.rule.Rule.{Rule}
+use Rattle.rc_rules.specs.declared.rule.Rule.TheVariants.{Do, Lock, Release, If, Case, Other, Nothing, Break}
+use Rattle.rc_rules.specs.Labels.{Label, Dead, Live, IsSame}
+use Rattle.rc_rules.specs.OneRule.{rule_premises, rule_effect, MayFollow}
 use Rattle.rc_rules.specs.Premises.{Meets}
-use Rattle.rc_rules.specs.Rules.{kind_bag, if_locked, op_premises, op_effect, asks, goes}
-use Rattle.rc_rules.proofs.Weaker.{strongest}
-use Rattle.rc_rules.specs.States.{State, label_of, label_in, program_of, IsFree, IsFreeIn, IsFreeFor, IsSmall, Gives}
+use Rattle.rc_rules.specs.Rules.{kind_bag, if_locked, op_effect, asks, goes, test_mode, with_peeked, case_at}
+use Rattle.rc_rules.specs.States.{Side, side_of, side_label, label_in, live_of, IsFree, IsFreeIn, IsFreeFor, GivesSide}
 
 -- ---- what is peeked isn't held
 
@@ -50,24 +55,52 @@ same_free_in P a b (Locked i) (Locked j) e q f =
     let h : i ≡ j = cc in
     same_free P a b i.peeked e (subst (λ (k : Inside). IsFreeFor P b k.peeked) (sym h) f)
 
-label_free : (P : Program) (a : Part → ℕ) (m : Mode) (t : Label) → IsSame (Live a m) t → IsFree P t → IsFreeIn P a m
-label_free P a m Dead e f = absurd e
-label_free P a m (Live b n) e f = same_free_in P a b m n e.0 e.1 f
+label_free : (P : Program) (h : Holding) (o : Option Mode) (t : Label) → h.program ≡ P → IsSame (label_in (live_of h o)) t → IsFree P t → IsFree h.program (label_in (live_of h o))
+label_free P h None t q e f = tt
+label_free P h (Some m) Dead q e f = absurd e
+label_free P h (Some m) (Live b n) q e f = subst (λ R. IsFreeIn R (bag h) m) (sym q) (same_free_in P (bag h) b m n e.0 e.1 f)
 
-pub step_free : (old new : Holding) (m n : Mode) (op : Op) → IsFreeIn old.program (bag old) m → IsSame (Live (bag new) n) (op_effect old.program (bag old) m op) → new.program ≡ old.program → IsFreeIn new.program (bag new) n
-step_free old new m n op f e q = subst (λ P. IsFreeIn P (bag new) n) (sym q) (label_free old.program (bag new) n _ e (effect_free old.program (bag old) m op f))
+-- ---- one rule
 
--- ---- states
+with_free : (P : Program) (a : Part → ℕ) (pk : Peeked) (m : Mode) → IsFreeFor P a pk → IsFreeIn P a (with_peeked pk m)
+with_free P a pk Unlocked f = tt
+with_free P a pk (Locked i) f = f
 
-pub mode_free : (h : Holding) (o : Option Mode) (m : Mode) → o ≡ Some m → IsFree h.program (label_in (bag h) o) → IsFreeIn h.program (bag h) m
-mode_free h o m e f = subst (λ x. IsFree h.program (label_in (bag h) x)) e f
+test_free : (P : Program) (a : Part → ℕ) (test : Test) (m : Mode) → IsFreeIn P a m → IsFreeIn P a (test_mode P test m)
+test_free P a (Compare x c n) m f = f
+test_free P a ReadyZero Unlocked f = tt
+test_free P a ReadyZero (Locked i) f = f
+test_free P a (SpaceAtLeast n) Unlocked f = tt
+test_free P a (SpaceAtLeast n) (Locked i) f = f
 
-pub small_held : (s : State) (o : State) (m : Mode) → s ≡ o → s.mode ≡ Some m → IsSmall (label_of o) → (p : Part) → bag s.holding p ≤ 2 ^ 19
-small_held s o m q e h = subst (λ x. IsSmall (label_in (bag s.holding) x)) e (subst (λ x. IsSmall (label_of x)) (sym q) h)
-
--- a live state goes over a statement
-pub goes_over : (s o : State) (new : Holding) (m n : Mode) (op : Op) → s ≡ o → s.mode ≡ Some m → Meets (op_premises (program_of s) (bag s.holding) m op) → IsSame (Live (bag new) n) (op_effect (program_of s) (bag s.holding) m op) → new.program ≡ program_of s → Gives {X = Unit {0}} o (record { holding = new; mode = Some n }) (Ok tt) (asks (label_of o) (λ b k. op_premises (program_of o) b k op)) (goes (label_of o) (λ b k. op_effect (program_of o) b k op) ∷ [])
-goes_over s o new m n op q e h t p = subst (λ x. Gives {X = Unit {0}} x (record { holding = new; mode = Some n }) (Ok tt) (asks (label_of x) (λ b k. op_premises (program_of x) b k op)) (goes (label_of x) (λ b k. op_effect (program_of x) b k op) ∷ [])) q go
+case_free : (P : Program) (a : Part → ℕ) (u : ℕ) (m : Mode) → DeclaresToken P u → IsFree P (case_at u (Live a m))
+case_free P a u m d = go (nat_lt 0 (a (TokenOf u))) refl
   where
-    go : Gives {X = Unit {0}} s (record { holding = new; mode = Some n }) (Ok tt) (asks (label_of s) (λ b k. op_premises (program_of s) b k op)) (goes (label_of s) (λ b k. op_effect (program_of s) b k op) ∷ [])
-    go = subst (λ x. Meets (asks (label_in (bag s.holding) x) (λ b k. op_premises (program_of s) b k op)) × IsStrongest (Live (bag new) n) (goes (label_in (bag s.holding) x) (λ b k. op_effect (program_of s) b k op) ∷ []) × (new.program ≡ program_of s)) (sym e) (h, strongest _ _ t, p)
+    go : (b : Bool) → nat_lt 0 (a (TokenOf u)) ≡ b → IsFree P (cond b Dead (Live a (with_peeked (Sees u) m)))
+    go true e = tt
+    go false e = with_free P a (Sees u) m (d, let l : a (TokenOf u) ≤ 0 = ltb-false 0 (a (TokenOf u)) e in omega (arith, l))
+
+rule_free : (P : Program) (a : Part → ℕ) (m : Mode) (rule : Rule) → IsFreeIn P a m → MayFollow P rule (Live a m) → IsFree P (rule_effect P rule a m)
+rule_free P a m (Do op) f h = effect_free P a m op f
+rule_free P a m Lock f h = tt
+rule_free P a m Release f h = tt
+rule_free P a m (If test) f h = test_free P a test m f
+rule_free P a m (Case u) f h = case_free P a u m h
+rule_free P a m Other f h = with_free P a SeesOther m tt
+rule_free P a m Nothing f h = with_free P a Unseen m tt
+rule_free P a m (Break releases) f h = f
+
+pub mode_free : (h : Holding) (o : Option Mode) (m : Mode) → o ≡ Some m → IsFree h.program (label_in (live_of h o)) → IsFreeIn h.program (bag h) m
+mode_free h o m e f = subst (λ x. IsFree h.program (label_in (live_of h x))) e f
+
+may_held : (h : Holding) (o : Option Mode) (x : Side) (m : Mode) (rule : Rule) → side_of h o ≡ x → o ≡ Some m → MayFollow x.program rule (side_label x) → MayFollow h.program rule (Live (bag h) m)
+may_held h o x m rule q e f = subst (λ y. MayFollow h.program rule (label_in (live_of h y))) e (subst (λ (s : Side). MayFollow s.program rule (side_label s)) (sym q) f)
+
+-- what is peeked isn't held behind a rule either
+pub follow_free : (h new : Holding) (o p : Option Mode) (x : Side) (m : Mode) (rule : Rule) → side_of h o ≡ x → o ≡ Some m → IsFree h.program (label_in (live_of h o)) → MayFollow x.program rule (side_label x) → IsSame (label_in (live_of new p)) (rule_effect h.program rule (bag h) m) → new.program ≡ h.program → IsFree new.program (label_in (live_of new p))
+follow_free h new o p x m rule q e f g i r = label_free h.program new p (rule_effect h.program rule (bag h) m) r i (rule_free h.program (bag h) m rule (mode_free h o m e f) (may_held h o x m rule q e g))
+
+-- a live side goes over a line
+pub went : (h new : Holding) (o p : Option Mode) (x : Side) (m : Mode) (rule : Rule) → side_of h o ≡ x → o ≡ Some m → Meets (rule_premises h.program rule (bag h) m) → IsSame (label_in (live_of new p)) (rule_effect h.program rule (bag h) m) → new.program ≡ h.program → GivesSide {X = Unit {0}} x (side_of new p) (Ok tt) (asks (side_label x) (λ b k. rule_premises x.program rule b k)) (goes (side_label x) (λ b k. rule_effect x.program rule b k))
+went h new o p x m rule q e g i r = subst (λ (s : Side). GivesSide {X = Unit {0}} s (side_of new p) (Ok tt) (asks (side_label s) (λ b k. rule_premises s.program rule b k)) (goes (side_label s) (λ b k. rule_effect s.program rule b k))) q
+    (subst (λ y. Meets (asks (label_in (live_of h y)) (λ b k. rule_premises h.program rule b k)) × IsSame (label_in (live_of new p)) (goes (label_in (live_of h y)) (λ b k. rule_effect h.program rule b k)) × (new.program ≡ h.program)) (sym e) (g, i, r))

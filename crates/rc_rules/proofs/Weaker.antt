@@ -1,5 +1,5 @@
 -- Labels that say less than others or the same, and what tests of slots tell.
-use Rattle.std.proofs.Common.{◌≡◌, ℕ, ◌+◌, ◌⊎◌, inl, inr, Bool, true, false, List, [], ◌∷◌, drop, nat_eq, suc, refl, sym, ap, subst, ◌∙◌, arith}
+use Rattle.std.proofs.Common.{◌≡◌, ℕ, ◌+◌, ◌⊎◌, inl, inr, Bool, true, ◌≤◌, Result, Ok, Err, List, [], ◌∷◌, ◌++◌, drop, nat_eq, suc, refl, ap, subst, ◌∙◌, arith}
 use Rattle.std.proofs.lemmas.Bool.{and_parts, eqb-true}
 use Rattle.rc_lang.specs.declared.lines.Test.{Test}
 use Rattle.rc_lang.specs.declared.lines.Test.TheVariants.{Compare, ReadyZero, SpaceAtLeast}
@@ -14,7 +14,10 @@ use Rattle.rc_rules.specs.declared.mode.Slot.{Slot}
 use Rattle.rc_rules.specs.declared.mode.Slot.TheVariants.{Closed, Vacant, Prepared}
 use Rattle.rc_rules.specs.Labels.{Label, Dead, Live, Weaker, WeakerMode, WeakerThanEach, IsStrongest, IsSame}
 use Rattle.rc_rules.specs.Labellings.{label_at}
-use Rattle.rc_rules.specs.Premises.{Premise, Meets, MeetsBelow, FailsFirst}
+use Rattle.rc_rules.specs.Sides.{Sides}
+use Rattle.rc_rules.specs.declared.cause.Cause.{Cause}
+use Rattle.rc_rules.specs.Causes.{premise_number}
+use Rattle.rc_rules.specs.Premises.{Premise, Meets, MeetsBelow, FailsFirst, Tests}
 use Rattle.rc_rules.specs.Rules.{same_kind, same_slot, test_mode, with_peeked}
 use Rattle.rc_rules.specs.States.{is_locked}
 
@@ -85,6 +88,20 @@ same_above (Live a m) (Live b n) e = (λ p. omega (arith, e.0 p), subst (λ k. W
 pub strongest : (s t : Label) → IsSame s t → IsStrongest s (t ∷ [])
 strongest s t e = record { weaker = (same_below s t e, tt); strongest = λ u w. weaker_trans u t s w.0 (same_above s t e) }
 
+-- so of two that are the same, and of one beside a dead one
+pub strongest_both : (s t u : Label) → IsSame s t → IsSame s u → IsStrongest s (t ∷ u ∷ [])
+strongest_both s t u e f = record { weaker = (same_below s t e, (same_below s u f, tt)); strongest = λ v w. weaker_trans v t s w.0 (same_above s t e) }
+
+pub strongest_left : (s t : Label) → IsSame s t → IsStrongest s (t ∷ Dead ∷ [])
+strongest_left s t e = record { weaker = (same_below s t e, (tt, tt)); strongest = λ v w. weaker_trans v t s w.0 (same_above s t e) }
+
+pub strongest_right : (s t : Label) → IsSame s t → IsStrongest s (Dead ∷ t ∷ [])
+strongest_right s t e = record { weaker = (tt, (same_below s t e, tt)); strongest = λ v w. weaker_trans v t s w.1.0 (same_above s t e) }
+
+pub same_refl : (s : Label) → IsSame s s
+same_refl Dead = tt
+same_refl (Live bag m) = (λ p. refl, refl)
+
 pub only_itself : (s : Label) → IsStrongest s (s ∷ [])
 only_itself s = record { weaker = (weaker_refl s, tt); strongest = λ t w. w.0 }
 
@@ -94,9 +111,9 @@ peeked_grows p (Locked i) (Locked j) v = record { queued = v.queued; slot = v.sl
 peeked_grows p Unlocked (Locked j) v = absurd v
 peeked_grows p (Locked i) Unlocked v = absurd v
 
-pub label_drop : (labels : List Label) (k : ℕ) → label_at (drop 1 labels) k ≡ label_at labels (suc k)
-label_drop [] k = refl
-label_drop (s ∷ labels) k = refl
+pub label_drop : (labels : List Sides) (k : ℕ) (z : Bool) → label_at (drop 1 labels) k z ≡ label_at labels (suc k) z
+label_drop [] k z = refl
+label_drop (s ∷ labels) k z = refl
 
 -- ---- slots
 
@@ -126,3 +143,42 @@ meets_below n (p ∷ ps) h = (λ lt. h.0, meets_below n ps h.1)
 -- What is met fails nowhere.
 pub not_both : (n : ℕ) (ps : List (ℕ × Premise)) → Meets ps → FailsFirst n ps → ⊥
 not_both n ps h f = f.fails (meets_below (n + 1) ps h)
+
+pub meets_append : (ps qs : List (ℕ × Premise)) → Meets ps → Meets qs → Meets (ps ++ qs)
+meets_append [] qs h g = g
+meets_append (p ∷ ps) qs h g = (h.0, meets_append ps qs h.1 g)
+
+pub meets_left : (ps qs : List (ℕ × Premise)) → Meets (ps ++ qs) → Meets ps
+meets_left [] qs h = tt
+meets_left (p ∷ ps) qs h = (h.0, meets_left ps qs h.1)
+
+pub meets_right : (ps qs : List (ℕ × Premise)) → Meets (ps ++ qs) → Meets qs
+meets_right [] qs h = h
+meets_right (p ∷ ps) qs h = meets_right ps qs h.1
+
+pub below_append : (n : ℕ) (ps qs : List (ℕ × Premise)) → MeetsBelow n ps → MeetsBelow n qs → MeetsBelow n (ps ++ qs)
+below_append n [] qs h g = g
+below_append n (p ∷ ps) qs h g = (h.0, below_append n ps qs h.1 g)
+
+pub below_left : (n : ℕ) (ps qs : List (ℕ × Premise)) → MeetsBelow n (ps ++ qs) → MeetsBelow n ps
+below_left n [] qs h = tt
+below_left n (p ∷ ps) qs h = (h.0, below_left n ps qs h.1)
+
+pub below_right : (n : ℕ) (ps qs : List (ℕ × Premise)) → MeetsBelow n (ps ++ qs) → MeetsBelow n qs
+below_right n [] qs h = h
+below_right n (p ∷ ps) qs h = below_right n ps qs h.1
+
+pub below_fewer : (m n : ℕ) (ps : List (ℕ × Premise)) → m ≤ n → MeetsBelow n ps → MeetsBelow m ps
+below_fewer m n [] l h = tt
+below_fewer m n (p ∷ ps) l h = (λ lt. h.0 (omega (arith, lt, l)), below_fewer m n ps l h.1)
+
+-- the least that fails of two lists
+pub fails_left : (n : ℕ) (ps qs : List (ℕ × Premise)) → FailsFirst n ps → MeetsBelow n qs → FailsFirst n (ps ++ qs)
+fails_left n ps qs f h = record { below = below_append n ps qs f.below h; fails = λ m. f.fails (below_left (n + 1) ps qs m) }
+
+pub fails_right : (n : ℕ) (ps qs : List (ℕ × Premise)) → MeetsBelow n ps → FailsFirst n qs → FailsFirst n (ps ++ qs)
+fails_right n ps qs h f = record { below = below_append n ps qs h f.below; fails = λ m. f.fails (below_right (n + 1) ps qs m) }
+
+pub tests_append : (r : Result (Unit {0}) Cause) (ps qs : List (ℕ × Premise)) → Meets ps → Tests r qs → Tests r (ps ++ qs)
+tests_append (Ok x) ps qs h g = meets_append ps qs h g
+tests_append (Err c) ps qs h g = fails_right (premise_number c) ps qs (meets_below (premise_number c) ps h) g

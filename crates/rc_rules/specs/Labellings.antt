@@ -1,113 +1,107 @@
--- Labellings: a label for each place of a thread. Whether they obey the rules, which programs are accepted, and where
--- the others are refused.
-use Rattle.std.specs.Prelude.{ℕ, ◌≡◌, ◌⊎◌, ◌+◌, ◌<◌, cond, List, [], ◌∷◌, ◌++◌, Some, nat_eq, take, drop, length, slice_get, slice_index_or}
+-- Labellings: a label for each side of each place of a thread. Whether they obey the rules, which programs are
+-- accepted, and where the others are refused.
+use Rattle.std.specs.Prelude.{ℕ, Bool, true, ◌≡◌, ◌⊎◌, ◌+◌, ◌<◌, cond, List, [], ◌∷◌, ◌++◌, Some, nat_eq, take, drop, length, slice_get, slice_index_or}
 use Rattle.rc_lang.specs.declared.lines.Line.{Line}
 use Rattle.rc_lang.specs.declared.lines.Stmt.{Stmt}
 use Rattle.rc_lang.specs.declared.lines.Stmt.TheVariants.{Do, Lock, EndLock, If, Else, EndIf, Peek, Case, Other, Nothing, EndArm, EndPeek, Loop, EndLoop, Break}
-use Rattle.rc_lang.specs.Program.{Program, Thread, items_at}
-use Rattle.rc_rules.specs.declared.mode.Mode.{Mode}
+use Rattle.rc_lang.specs.Program.{Program, Thread, items_at, stmt_at}
 use Rattle.rc_rules.specs.declared.mode.Mode.TheVariants.{Unlocked}
 use Rattle.rc_rules.specs.declared.mode.Peeked.TheVariants.{Unseen, SeesOther}
+use Rattle.rc_rules.specs.declared.flag.Write.TheVariants.{Anything}
 use Rattle.rc_split.specs.Bags.{Part, ShareOf, TokenOf, Credit, bag_of}
 use Rattle.rc_rules.specs.Labels.{Label, Dead, Live, WeakerThanEach, IsSame}
+use Rattle.rc_rules.specs.Sides.{Sides, on, nowhere, gate, brings, turns, write_to, write_of, forgets, test_goes, may_skip}
 use Rattle.rc_rules.specs.Premises.{Premise, Covers, Meets, MeetsBelow}
-use Rattle.rc_rules.specs.Rules.{limit, op_premises, op_effect, asks, goes, entered, may_release, released, test_premises, test_effect, peek_premises, peek_at, case_at, may_join, may_loop, top, may_break, broken}
+use Rattle.rc_rules.specs.Rules.{limit, op_premises, op_effect, asks_both, goes, entered, may_release, released, test_premises, test_effect, peek_premises, peek_at, case_at, joins_both, may_loop, top, may_break, broken}
 
 -- ---- the labels that a line sees
 
--- A label belongs to a place. The label at j is the one before the line at j.
-abbrev pub label_at : List Label → ℕ → Label
-label_at labels k = slice_index_or labels k Dead
+-- Labels belong to a place, one to each side of it. Those at j are the ones before the line at j.
+abbrev pub label_at : List Sides → ℕ → Bool → Label
+label_at labels k z = on z (slice_index_or labels k nowhere)
 
 -- the label before the line that these lines come before
-abbrev pub here : List Line → List Label → Label
-here lines known = label_at known (length lines)
-
--- what comes from the place before a line to the place behind it
-abbrev pub brings : (Label → Label) → List Line → List Label → List Label
-brings F lines known = F (here lines known) ∷ []
+abbrev pub here : List Line → List Sides → Bool → Label
+here lines known z = label_at known (length lines) z
 
 -- the end of a branch that is read at the line at o: an else, or an if without one whose test may fail
-abbrev pub skipped : List Line → List Label → ℕ → Label
-skipped lines known o = label_at known o
+abbrev pub skipped : Thread → List Line → List Sides → ℕ → Bool → Label
+skipped thread lines known o z = gate (may_skip thread.flag z (stmt_at lines o)) (label_at known o z)
 
 -- the ends of the arms of the peek at o; behind an arm nothing is peeked any more
 abbrev pub arm_end : Stmt → ℕ → Label → List Label
 arm_end (EndArm p) o s = cond (nat_eq p o) (peek_at Unseen s ∷ []) []
 arm_end _ o s = []
 
-abbrev pub arm_ends : List Line → List Label → ℕ → List Label
-arm_ends [] labels o = []
-arm_ends (l ∷ lines) labels o = arm_end l.stmt o (label_at labels 0) ++ arm_ends lines (drop 1 labels) o
+abbrev pub arm_ends : List Line → List Sides → ℕ → Bool → List Label
+arm_ends [] labels o z = []
+arm_ends (l ∷ lines) labels o z = arm_end l.stmt o (label_at labels 0 z) ++ arm_ends lines (drop 1 labels) o z
 
 -- the breaks of the loop at o
 abbrev pub break_end : Stmt → ℕ → Label → List Label
 break_end (Break p releases leaves) o s = cond (nat_eq p o) (broken releases s ∷ []) []
 break_end _ o s = []
 
-abbrev pub break_ends : List Line → List Label → ℕ → List Label
-break_ends [] labels o = []
-break_ends (l ∷ lines) labels o = break_end l.stmt o (label_at labels 0) ++ break_ends lines (drop 1 labels) o
+abbrev pub break_ends : List Line → List Sides → ℕ → Bool → List Label
+break_ends [] labels o z = []
+break_ends (l ∷ lines) labels o z = break_end l.stmt o (label_at labels 0 z) ++ break_ends lines (drop 1 labels) o z
 
--- The labels that lead to the place behind this line of a thread, from the lines before it and the labels so far. Behind
--- a peek, before its arms, stands what was known before it. Behind an arm, and behind a break, nothing comes from above.
-abbrev pub befores : Program → Thread → List Line → List Label → Stmt → List Label
-befores P thread lines known (Do op) = brings (λ s. goes s (λ bag m. op_effect P bag m op)) lines known
-befores P thread lines known Lock = entered P (here lines known) ∷ []
-befores P thread lines known (EndLock o) = released (here lines known) ∷ []
-befores P thread lines known (If test) = goes (here lines known) (λ bag m. test_effect P bag m test) ∷ []
-befores P thread lines known (Else o) = skipped lines known o ∷ []
-befores P thread lines known (EndIf o) = here lines known ∷ skipped lines known o ∷ []
-befores P thread lines known (Peek x) = brings (λ s. s) lines known
-befores P thread lines known (Case o u) = case_at u (label_at known (o + 1)) ∷ []
-befores P thread lines known (Other o) = peek_at SeesOther (label_at known (o + 1)) ∷ []
-befores P thread lines known (Nothing o) = peek_at Unseen (label_at known (o + 1)) ∷ []
-befores P thread lines known (EndArm o) = []
-befores P thread lines known (EndPeek o) = arm_ends lines known o
-befores P thread lines known (Loop k) = brings (λ s. top P (items_at thread.lists k) s) lines known
-befores P thread lines known (EndLoop o k) = break_ends lines known o
-befores P thread lines known (Break o releases leaves) = []
+-- The labels that lead to a side of the place behind this line of a thread, from the lines before it and the labels so
+-- far. Behind a peek, before its arms, stands what was known before it; where it writes the flag, of both sides. Behind
+-- an arm, and behind a break, nothing comes from above.
+abbrev pub befores : Program → Thread → List Line → List Sides → Stmt → Bool → List Label
+befores P thread lines known (Do op) z = brings (λ y. turns (write_of thread.flag op) y z) (λ s. goes s (λ bag m. op_effect P bag m op)) (here lines known)
+befores P thread lines known Lock z = entered P (here lines known z) ∷ []
+befores P thread lines known (EndLock o) z = released (here lines known z) ∷ []
+befores P thread lines known (If test) z = gate (test_goes thread.flag test z true) (goes (here lines known z) (λ bag m. test_effect P bag m test)) ∷ []
+befores P thread lines known (Else o) z = skipped thread lines known o z ∷ []
+befores P thread lines known (EndIf o) z = here lines known z ∷ skipped thread lines known o z ∷ []
+befores P thread lines known (Peek x) z = brings (λ y. turns (write_to thread.flag x Anything) y z) (λ s. s) (here lines known)
+befores P thread lines known (Case o u) z = case_at u (label_at known (o + 1) z) ∷ []
+befores P thread lines known (Other o) z = peek_at SeesOther (label_at known (o + 1) z) ∷ []
+befores P thread lines known (Nothing o) z = peek_at Unseen (label_at known (o + 1) z) ∷ []
+befores P thread lines known (EndArm o) z = []
+befores P thread lines known (EndPeek o) z = arm_ends lines known o z
+befores P thread lines known (Loop k) z = brings (λ y. turns (forgets thread.flag) y z) (λ s. top P (items_at thread.lists k) z s) (here lines known)
+befores P thread lines known (EndLoop o k) z = break_ends lines known o z
+befores P thread lines known (Break o releases leaves) z = []
 
--- what the label before a line is asked, where it is live
-abbrev pub on_here : List Line → List Label → ((Part → ℕ) → Mode → List (ℕ × Premise)) → List (ℕ × Premise)
-on_here lines known F = asks (here lines known) F
-
-abbrev pub premises : Program → Thread → List Line → List Label → Stmt → List (ℕ × Premise)
-premises P thread lines known (Do op) = on_here lines known (λ bag m. op_premises P bag m op)
+abbrev pub premises : Program → Thread → List Line → List Sides → Stmt → List (ℕ × Premise)
+premises P thread lines known (Do op) = asks_both (here lines known) (λ z bag m. op_premises P bag m op)
 premises P thread lines known Lock = []
-premises P thread lines known (EndLock o) = on_here lines known (λ bag m. may_release P m)
-premises P thread lines known (If test) = on_here lines known (λ bag m. test_premises m test)
+premises P thread lines known (EndLock o) = asks_both (here lines known) (λ z bag m. may_release P m)
+premises P thread lines known (If test) = asks_both (here lines known) (λ z bag m. test_premises m test)
 premises P thread lines known (Else o) = []
-premises P thread lines known (EndIf o) = may_join (befores P thread lines known (EndIf o))
-premises P thread lines known (Peek x) = on_here lines known (λ bag m. peek_premises m)
+premises P thread lines known (EndIf o) = joins_both (befores P thread lines known (EndIf o))
+premises P thread lines known (Peek x) = asks_both (here lines known) (λ z bag m. peek_premises m)
 premises P thread lines known (Case o u) = []
 premises P thread lines known (Other o) = []
 premises P thread lines known (Nothing o) = []
 premises P thread lines known (EndArm o) = []
-premises P thread lines known (EndPeek o) = may_join (befores P thread lines known (EndPeek o))
-premises P thread lines known (Loop k) = on_here lines known (λ bag m. may_loop P 13 (items_at thread.lists k) bag m)
-premises P thread lines known (EndLoop o k) = on_here lines known (λ bag m. may_loop P 14 (items_at thread.lists k) bag m)
-premises P thread lines known (Break o releases leaves) = on_here lines known (λ bag m. may_break P releases m)
+premises P thread lines known (EndPeek o) = joins_both (befores P thread lines known (EndPeek o))
+premises P thread lines known (Loop k) = asks_both (here lines known) (λ z bag m. may_loop P 13 (items_at thread.lists k) z bag m)
+premises P thread lines known (EndLoop o k) = asks_both (here lines known) (λ z bag m. may_loop P 14 (items_at thread.lists k) z bag m)
+premises P thread lines known (Break o releases leaves) = asks_both (here lines known) (λ z bag m. may_break P releases m)
 
 -- ---- labellings
 
--- A thread begins with its items, without the lock.
-abbrev pub start_of : Thread → Label
-start_of thread = Live (bag_of thread.items) Unlocked
+-- A thread begins with its items, without the lock; its variables are 0, and so is its flag.
+abbrev pub start_of : Thread → Sides
+start_of thread = record { zero = Live (bag_of thread.items) Unlocked; other = Dead }
 
--- The labelling obeys the rule of the line at j: the labels up to it meet the premises, and the label behind it is
--- weaker than each that leads there.
-pub record IsGoodAt (P : Program) (thread : Thread) (lines : List Line) (labels : List Label) (j : ℕ) (stmt : Stmt) : Type 0 where
+-- The labelling obeys the rule of the line at j: the labels up to it meet the premises, and on each side the label
+-- behind it is weaker than each that leads there.
+pub record IsGoodAt (P : Program) (thread : Thread) (lines : List Line) (labels : List Sides) (j : ℕ) (stmt : Stmt) : Type 0 where
   pub meets : Meets (premises P thread (take j lines) (take (j + 1) labels) stmt)
-  pub after : WeakerThanEach (label_at labels (j + 1)) (befores P thread (take j lines) (take (j + 1) labels) stmt)
+  pub after : (z : Bool) → WeakerThanEach (label_at labels (j + 1) z) (befores P thread (take j lines) (take (j + 1) labels) stmt z)
 
 -- It does so at each of these lines of the thread, and begins as the thread does.
-pub record IsGood (P : Program) (thread : Thread) (lines : List Line) (labels : List Label) : Type 0 where
-  pub begins : IsSame (label_at labels 0) (start_of thread)
+pub record IsGood (P : Program) (thread : Thread) (lines : List Line) (labels : List Sides) : Type 0 where
+  pub begins : (z : Bool) → IsSame (label_at labels 0 z) (on z (start_of thread))
   pub each : (j : ℕ) (l : Line) → slice_get lines j ≡ Some l → IsGoodAt P thread lines labels j l.stmt
 
 abbrev pub HasLabels : Program → Thread → List Line → Type 0
-HasLabels P thread lines = (labels : List Label) × IsGood P thread lines labels
+HasLabels P thread lines = (labels : List Sides) × IsGood P thread lines labels
 
 -- ---- headers
 
@@ -154,8 +148,8 @@ pub record IsRefusedAt (P : Program) (thread : Thread) (j : ℕ) (line : Line) (
   pub line_is : slice_get thread.lines j ≡ Some line
   pub good_before : HasLabels P thread (take j thread.lines)
   pub none_up_to : HasLabels P thread (take (j + 1) thread.lines) → ⊥
-  pub met_below : (labels : List Label) × IsGood P thread (take j thread.lines) labels × MeetsBelow v (premises P thread (take j thread.lines) (take (j + 1) labels) line.stmt)
-  pub never_met : (labels : List Label) → IsGood P thread (take j thread.lines) labels → MeetsBelow (v + 1) (premises P thread (take j thread.lines) (take (j + 1) labels) line.stmt) → ⊥
+  pub met_below : (labels : List Sides) × IsGood P thread (take j thread.lines) labels × MeetsBelow v (premises P thread (take j thread.lines) (take (j + 1) labels) line.stmt)
+  pub never_met : (labels : List Sides) → IsGood P thread (take j thread.lines) labels → MeetsBelow (v + 1) (premises P thread (take j thread.lines) (take (j + 1) labels) line.stmt) → ⊥
 
 -- A header line is refused by its own premises alone.
 pub record IsHeaderRefused (P : Program) (i v : ℕ) : Type 0 where

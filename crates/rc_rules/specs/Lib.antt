@@ -1,8 +1,10 @@
 pub mod Causes
 pub mod Labels
 pub mod Premises
+pub mod Sides
 pub mod Rules
 pub mod Labellings
 pub mod States
+pub mod OneRule
 pub mod Laws
 pub mod Example

@@ -1,5 +1,5 @@
 -- The rule of each line: what it asks of the state before it, and the state behind it.
-use Rattle.std.specs.Prelude.{ℕ, ◌+◌, ◌-◌, Bool, true, false, cond, min, List, [], ◌∷◌, Option, Some, None, nat_eq, nat_lt, nat_le, not, ◌&&◌, ◌||◌, slice_get}
+use Rattle.std.specs.Prelude.{ℕ, ◌+◌, ◌-◌, Bool, true, false, cond, min, List, [], ◌∷◌, ◌++◌, Option, Some, None, nat_eq, nat_lt, nat_le, not, ◌&&◌, ◌||◌, slice_get}
 use Rattle.rc_lang.specs.declared.lines.Op.{Op}
 use Rattle.rc_lang.specs.declared.lines.Op.TheVariants as ops
 use Rattle.rc_lang.specs.declared.lines.Test.{Test}
@@ -15,7 +15,7 @@ use Rattle.rc_rules.specs.declared.mode.Peeked.{Peeked}
 use Rattle.rc_rules.specs.declared.mode.Peeked.TheVariants.{Unseen, Sees, SeesOther}
 use Rattle.rc_rules.specs.declared.mode.Slot.{Slot}
 use Rattle.rc_rules.specs.declared.mode.Slot.TheVariants.{Closed, Vacant, Prepared}
-use Rattle.rc_split.specs.Bags.{Part, ShareOf, TokenOf, Credit, shares_bag, token_bag, credits_bag, bag_of, plus, minus}
+use Rattle.rc_split.specs.Bags.{Part, ShareOf, TokenOf, Credit, shares_bag, token_bag, credits_bag, bag_on, plus, minus}
 use Rattle.rc_rules.specs.Labels.{Label, Dead, Live}
 use Rattle.rc_rules.specs.Premises.{Premise, Is, Covers}
 
@@ -137,6 +137,10 @@ abbrev pub asks : Label → ((Part → ℕ) → Mode → List (ℕ × Premise)) 
 asks Dead F = []
 asks (Live bag m) F = F bag m
 
+-- what both sides of a point are asked
+abbrev pub asks_both : (Bool → Label) → (Bool → (Part → ℕ) → Mode → List (ℕ × Premise)) → List (ℕ × Premise)
+asks_both labels F = asks (labels true) (F true) ++ asks (labels false) (F false)
+
 abbrev pub goes : Label → ((Part → ℕ) → Mode → Label) → Label
 goes Dead F = Dead
 goes (Live bag m) F = F bag m
@@ -207,12 +211,13 @@ agree_all (s ∷ ss) = agree_each s ss && agree_all ss
 abbrev pub may_join : List Label → List (ℕ × Premise)
 may_join ends = (15, Is (agree_all ends)) ∷ []
 
+-- the ends of both sides agree
+abbrev pub joins_both : (Bool → List Label) → List (ℕ × Premise)
+joins_both ends = may_join (ends true ++ ends false)
+
 -- ---- loops
 
--- what a loop keeps, and how many entries it says may be queued
-abbrev pub bag_on : Items → Part → ℕ
-bag_on items = bag_of items
-
+-- how many entries it says may be queued
 abbrev pub queue_or : Option ℕ → ℕ → ℕ
 queue_or None n = n
 queue_or (Some k) n = k
@@ -226,16 +231,16 @@ keeps_queue P items (Locked i) = same_slot i.slot Closed && nat_le i.queued (que
 
 -- At a loop's top and at its end no slot is open, the items are held, and in a lock no more entries are queued than the
 -- loop says.
-abbrev pub may_loop : Program → ℕ → Items → (Part → ℕ) → Mode → List (ℕ × Premise)
-may_loop P v items bag m = (v, Is (keeps_queue P items m)) ∷ (v, Covers bag (bag_on items)) ∷ []
+abbrev pub may_loop : Program → ℕ → Items → Bool → (Part → ℕ) → Mode → List (ℕ × Premise)
+may_loop P v items z bag m = (v, Is (keeps_queue P items m)) ∷ (v, Covers bag (bag_on z items)) ∷ []
 
 -- behind the top exactly the items are held
 abbrev pub top_mode : Program → Items → Mode → Mode
 top_mode P items Unlocked = Unlocked
 top_mode P items (Locked i) = Locked (record { queued = queue_on P items; slot = Closed; peeked = Unseen })
 
-abbrev pub top : Program → Items → Label → Label
-top P items s = goes s (λ bag m. Live (bag_on items) (top_mode P items m))
+abbrev pub top : Program → Items → Bool → Label → Label
+top P items z s = goes s (λ bag m. Live (bag_on z items) (top_mode P items m))
 
 abbrev pub may_break : Program → Bool → Mode → List (ℕ × Premise)
 may_break P releases Unlocked = []

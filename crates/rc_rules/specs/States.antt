@@ -1,5 +1,5 @@
 -- What the calls of `State` do.
-use Rattle.std.specs.Prelude.{ℕ, ◌≡◌, ◌≤◌, ◌^◌, Bool, true, false, List, Option, Some, None, Result, Ok, Err, cond, max, nat_eq, slice_get}
+use Rattle.std.specs.Prelude.{ℕ, ◌≡◌, ◌≤◌, ◌^◌, Bool, true, false, List, Option, Some, None, Result, Ok, Err, cond, max, nat_eq, slice_get, ◌||◌}
 use Rattle.rc_lang.specs.declared.program.TokenKind.{TokenKind}
 use Rattle.rc_lang.specs.Program.{Program, Thread, DeclaresToken, IsTokenKind}
 use Rattle.rc_rules.specs.declared.cause.Cause.{Cause}
@@ -13,22 +13,49 @@ use Rattle.rc_split.specs.Holdings.{Holding, bag}
 use Rattle.rc_rules.specs.Causes.{premise_number}
 use Rattle.rc_rules.specs.Labellings.{start_of}
 use Rattle.rc_rules.specs.Labels.{Label, Dead, Live, IsStrongest, IsSame}
+use Rattle.rc_rules.specs.Rules.{agree}
+use Rattle.rc_rules.specs.Sides.{Sides, on}
 use Rattle.rc_rules.specs.Premises.{Premise, Meets, FailsFirst}
 
--- a holding, and whether the lock is held; or, without the latter, a dead state
+-- One side of a state: the program, and what is held and whether the lock is, unless nothing reaches the point.
+pub record Side : Type 0 where
+  pub program : Program
+  pub live : Option (Holding × Mode)
+
+abbrev pub label_in : Option (Holding × Mode) → Label
+label_in None = Dead
+label_in (Some s) = Live (bag s.0) s.1
+
+abbrev pub side_label : Side → Label
+side_label s = label_in s.live
+
+-- a side that holds this, where something reaches its point
+abbrev pub live_of : Holding → Option Mode → Option (Holding × Mode)
+live_of h None = None
+live_of h (Some m) = Some (h, m)
+
+abbrev pub mode_in : Option (Holding × Mode) → Option Mode
+mode_in None = None
+mode_in (Some s) = Some s.1
+
+abbrev pub side_of : Holding → Option Mode → Side
+side_of h mode = record { program = h.program; live = live_of h mode }
+
+-- The flag of the thread, and what is known where it is 0, and where it isn't.
 pub record State : Type 0 where
-  pub holding : Holding
-  pub mode : Option Mode
+  pub flag : Option ℕ
+  pub zero : Side
+  pub other : Side
 
-abbrev pub label_in : (Part → ℕ) → Option Mode → Label
-label_in bag None = Dead
-label_in bag (Some m) = Live bag m
+-- the labels of both sides, and that of one
+abbrev pub sides_of : State → Sides
+sides_of s = record { zero = side_label s.zero; other = side_label s.other }
 
-abbrev pub label_of : State → Label
-label_of s = label_in (bag s.holding) s.mode
+abbrev pub label_of : State → Bool → Label
+label_of s z = on z (sides_of s)
 
 abbrev pub program_of : State → Program
-program_of s = s.holding.program
+program_of s = s.zero.program
 
 -- Where the front completion is known to have some user data, that token is declared, and not held.
 abbrev pub IsFreeFor : Program → (Part → ℕ) → Peeked → Type 0
@@ -64,6 +91,22 @@ IsUnlocked Dead = Unit {0}
 IsUnlocked (Live bag Unlocked) = Unit {0}
 IsUnlocked (Live bag (Locked i)) = ⊥
 
+-- whether something reaches one of the sides
+abbrev pub is_reached : State → Bool
+is_reached s = is_live (label_of s true) || is_live (label_of s false)
+
+-- what is known of the ring on a side that something reaches, the zero one first
+abbrev pub mode_or : Option Mode → Option Mode → Option Mode
+mode_or None n = n
+mode_or (Some m) n = Some m
+
+abbrev pub mode_of : State → Option Mode
+mode_of s = mode_or (mode_in s.zero.live) (mode_in s.other.live)
+
+-- It is so of each side.
+abbrev pub OnBoth : (Label → Type 0) → State → Type 0
+OnBoth F s = (z : Bool) → F (label_of s z)
+
 -- Unless one is dead, both are locked, or both are not.
 abbrev pub AgreeOnLock : Label → Label → Type 0
 AgreeOnLock Dead t = Unit {0}
@@ -78,16 +121,37 @@ IsSmall (Live bag m) = (p : Part) → bag p ≤ 2 ^ 19
 
 -- ---- what a call answers
 
--- Ok: the premises hold, and the state is the strongest that is weaker than each of these. A cause: the least premise
--- that fails, and nothing changes.
-abbrev pub Gives : {X : Type 0} → State → State → Result X Cause → List (ℕ × Premise) → List Label → Type 0
-Gives old new (Ok x) premises befores = Meets premises × IsStrongest (label_of new) befores × (program_of new ≡ program_of old)
+-- The state is one of the same program and thread.
+pub record IsOfSame (new old : State) : Type 0 where
+  pub program : program_of new ≡ program_of old
+  pub flag : new.flag ≡ old.flag
+
+-- On each side the state is the strongest that is weaker than each of these.
+pub record Becomes (old new : State) (befores : Bool → List Label) : Type 0 where
+  pub each : (z : Bool) → IsStrongest (label_of new z) (befores z)
+  pub of : IsOfSame new old
+
+-- Ok: the premises hold, and the state becomes these. A cause: the least premise that fails, and nothing changes.
+abbrev pub Gives : {X : Type 0} → State → State → Result X Cause → List (ℕ × Premise) → (Bool → List Label) → Type 0
+Gives old new (Ok x) premises befores = Meets premises × Becomes old new befores
 Gives old new (Err cause) premises befores = FailsFirst (premise_number cause) premises × (new ≡ old)
+
+-- Of one side: Ok, the premises hold, and its label is the same as this. A cause: the least premise that fails, and
+-- nothing changes.
+abbrev pub GivesSide : {X : Type 0} → Side → Side → Result X Cause → List (ℕ × Premise) → Label → Type 0
+GivesSide old new (Ok x) premises label = Meets premises × IsSame (side_label new) label × (new.program ≡ old.program)
+GivesSide old new (Err cause) premises label = FailsFirst (premise_number cause) premises × (new ≡ old)
 
 -- A rule of one line changes a holding and the mode to the effect, or names the least premise that fails.
 abbrev pub Steps : Holding → Holding → Result Mode Cause → List (ℕ × Premise) → Label → Type 0
 Steps old new (Ok m) premises effect = Meets premises × IsSame (Live (bag new) m) effect × (new.program ≡ old.program)
 Steps old new (Err cause) premises effect = FailsFirst (premise_number cause) premises × (new ≡ old)
+
+-- A rule of one side changes a holding, and the mode or nothing comes behind it; or it names the least premise that
+-- fails.
+abbrev pub Follows : Holding → Holding → Result (Option Mode) Cause → List (ℕ × Premise) → Label → Type 0
+Follows old new (Ok m) premises effect = Meets premises × IsSame (label_in (live_of new m)) effect × (new.program ≡ old.program)
+Follows old new (Err cause) premises effect = FailsFirst (premise_number cause) premises × (new ≡ old)
 
 -- What a token's line says is true of the program.
 abbrev pub IsLine : Program → Option TokenKind → Type 0
@@ -95,9 +159,9 @@ IsLine P None = Unit {0}
 IsLine P (Some kind) = IsTokenKind P kind
 
 -- A rule of a block changes the mode to this one, or names the least premise that fails.
-abbrev pub Becomes : Result Mode Cause → List (ℕ × Premise) → Mode → Type 0
-Becomes (Ok m) premises mode = Meets premises × (m ≡ mode)
-Becomes (Err cause) premises mode = FailsFirst (premise_number cause) premises
+abbrev pub Turns : Result Mode Cause → List (ℕ × Premise) → Mode → Type 0
+Turns (Ok m) premises mode = Meets premises × (m ≡ mode)
+Turns (Err cause) premises mode = FailsFirst (premise_number cause) premises
 
 -- ---- two states
 
@@ -118,6 +182,18 @@ both (Locked i) Unlocked = Locked i
 
 -- ---- a thread's first state
 
--- It is that of the thread's header.
+-- It has the thread's flag, and is that of its header.
+pub record BeginsAs (s : State) (thread : Thread) : Type 0 where
+  pub flag : s.flag ≡ thread.flag
+  pub each : (z : Bool) → IsSame (label_of s z) (on z (start_of thread))
+
 abbrev pub IsStart : Program → ℕ → State → Type 0
-IsStart P i s = (program_of s ≡ P) × ((thread : Thread) → slice_get P.threads i ≡ Some thread → IsSame (label_of s) (start_of thread))
+IsStart P i s = (program_of s ≡ P) × ((thread : Thread) → slice_get P.threads i ≡ Some thread → BeginsAs s thread)
+
+-- ---- what is kept
+
+-- The sides are of one program. Where both are live, both are locked or both are not, and their slots are at one stage.
+pub record IsState (s : State) : Type 0 where
+  pub program : s.other.program ≡ s.zero.program
+  pub lock : AgreeOnLock (side_label s.zero) (side_label s.other)
+  pub slot : agree (side_label s.zero) (side_label s.other) ≡ true

@@ -1,13 +1,12 @@
 //! The rules of blocks, on a mode and what a holding covers.
 
-ghost use Rattle.std.specs.Prelude.{◌≡◌, ◌∷◌, [], ◌<◌, ◌^◌, IfOk};
+ghost use Rattle.std.specs.Prelude.{◌≡◌, ◌∷◌, []};
 ghost use Rattle.rc_lang.specs.Parts.{view_items};
 ghost use Rattle.rc_rules.specs.Causes.{premise_number};
 ghost use Rattle.rc_rules.specs.Premises.{Tests, Is};
 ghost use Rattle.rc_rules.specs.Rules as rules;
 ghost use Rattle.rc_rules.specs.States as states;
 ghost use Rattle.rc_rules.specs.declared.mode.Mode.TheVariants.{Locked};
-ghost use Rattle.rc_split.specs.Bags.{Part};
 ghost use Rattle.rc_split.specs.Holdings.{bag};
 
 use crate::cause::Cause;
@@ -49,7 +48,7 @@ pub fn may_break(program: &Program, releases: bool, mode: Mode) -> Result<(), Ca
 
 /// What is known in the first branch of a test.
 pub fn behind_test(program: &Program, test: Test, mode: Mode) -> Result<Mode, Cause>
-    ensures { states.Becomes result (rules.test_premises mode test) (rules.test_mode program.now test mode) }
+    ensures { states.Turns result (rules.test_premises mode test) (rules.test_mode program.now test mode) }
 {
     match test {
         Test::Compare(_, _, _) => Ok(mode),
@@ -70,7 +69,7 @@ fn with_queued(inside: Inside, queued: u32) -> Mode
 
 /// What is known in an arm of a peek.
 pub fn in_arm(peeked: Peeked, mode: Mode) -> Result<Mode, Cause>
-    ensures { states.Becomes result (rules.peek_premises mode) (rules.with_peeked peeked mode) }
+    ensures { states.Turns result (rules.peek_premises mode) (rules.with_peeked peeked mode) }
 {
     let inside = locked(mode)?;
     Ok(Mode::Locked(Inside { peeked, ..inside }))
@@ -94,15 +93,20 @@ fn keeps_queue(program: &Program, items: &Items, mode: Mode) -> bool
     }
 }
 
-/// Whether the items of a loop are held at its top or its end; the cause says which.
-pub fn may_loop(holding: &Holding, items: &Items, mode: Mode, cause: Cause) -> Result<(), Cause>
-    ensures answer { Tests result (rules.may_loop holding.now.program (premise_number cause) (view_items items.now) (bag holding.now) mode) }
-    ensures small { IfOk result (λ _. (p : Part) → bag holding.now p < 2 ^ 20) }
+/// Whether the items of a loop are held at its top or its end on a side of the flag; the cause says at which.
+pub fn may_loop(
+    holding: &Holding,
+    items: &Items,
+    zero: bool,
+    mode: Mode,
+    cause: Cause,
+) -> Result<(), Cause>
+    ensures { Tests result (rules.may_loop holding.now.program (premise_number cause) (view_items items.now) zero (bag holding.now) mode) }
 {
     if !keeps_queue(holding.program(), items, mode) {
         return Err(cause);
     }
-    if !holding.covers(items) {
+    if !holding.covers_on(items, zero) {
         return Err(cause);
     }
     Ok(())
@@ -129,20 +133,31 @@ pub fn same_peeked(a: Peeked, b: Peeked) -> bool
     a == b
 }
 
-/// What is known of both, where their slots are at one stage.
-pub fn both(a: Mode, b: Mode) -> Result<Mode, Cause>
-    ensures { states.Becomes result ((15, Is (rules.agree_modes a b)) ∷ []) (states.both a b) }
+/// Whether both can join: where both have the lock, their slots are at one stage.
+pub fn may_join(a: Mode, b: Mode) -> Result<(), Cause>
+    ensures { Tests result ((15, Is (rules.agree_modes a b)) ∷ []) }
 {
     match (a, b) {
         (Mode::Locked(a), Mode::Locked(b)) => {
-            tested(&[(same_slot(a.slot, b.slot), Cause::JoinMismatch)])?;
+            tested(&[(same_slot(a.slot, b.slot), Cause::JoinMismatch)])
+        }
+        _ => Ok(()),
+    }
+}
+
+/// What is known of both.
+pub fn both(a: Mode, b: Mode) -> Mode
+    ensures { result ≡ states.both a b }
+{
+    match (a, b) {
+        (Mode::Locked(a), Mode::Locked(b)) => {
             let same = same_peeked(a.peeked, b.peeked);
-            Ok(Mode::Locked(Inside {
+            Mode::Locked(Inside {
                 queued: a.queued.max(b.queued),
                 slot: a.slot,
                 peeked: if same { a.peeked } else { Peeked::Unseen },
-            }))
+            })
         }
-        _ => Ok(a),
+        _ => a,
     }
 }

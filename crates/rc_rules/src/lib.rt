@@ -1,14 +1,18 @@
 //! The rules of lines: what a thread must hold for each, and what it holds behind it.
 //!
-//! Each call of a [`State`](state::State) is one rule. It answers Ok with the strongest state that the rule allows, or
-//! the least premise that fails, and then nothing changes. A dead state, which nothing reaches, meets every premise and
-//! stays dead. Nothing here takes memory.
+//! Each call of a [`State`](state::State) is one rule. A state has two sides: what holds while the thread's flag is 0,
+//! and while it isn't; without a flag the second is dead. A call answers Ok with the strongest state that the rule
+//! allows, or the least premise that fails on a side that something reaches, and then nothing changes. A dead side meets
+//! every premise and stays dead. Nothing here takes memory.
 #![tactic(auto)]
 
 mod blocks;
 pub mod cause;
+mod flag;
 pub mod laws;
 pub mod mode;
 mod ops;
 mod premises;
+mod rule;
+mod side;
 pub mod state;

@@ -1,66 +1,71 @@
 //! What holds at a point of a thread, and the rules that change it.
 
-ghost use Rattle.std.specs.Prelude.{◌≡◌, ◌<◌, ◌∷◌, [], true, IsOkAnd, IfOk, Some, slice_get, length};
+ghost use Rattle.std.specs.Prelude.{◌≡◌, ◌<◌, ◌∷◌, [], Bool, true, IsOkAnd, IfOk, Some, slice_get, length};
 ghost use Rattle.rc_lang.specs.Parts.{view_items};
-ghost use Rattle.rc_lang.specs.Program.{DeclaresToken, IsItems, Thread};
+ghost use Rattle.rc_lang.specs.Program as programs;
+ghost use Rattle.rc_lang.specs.Program.{DeclaresToken, IsItems, IsList};
 ghost use Rattle.rc_lang.specs.declared.lines.Op.{Op};
 ghost use Rattle.rc_lang.specs.declared.lines.Stmt.TheVariants as stmts;
 ghost use Rattle.rc_lang.specs.declared.lines.Test.TheVariants as tests;
+ghost use Rattle.rc_rules.specs.Causes.{premise_number};
 ghost use Rattle.rc_rules.specs.Labels.{Dead};
+ghost use Rattle.rc_rules.specs.OneRule as one;
+ghost use Rattle.rc_rules.specs.Premises.{Tests};
 ghost use Rattle.rc_rules.specs.Rules as rules;
+ghost use Rattle.rc_rules.specs.Sides as sides;
 ghost use Rattle.rc_rules.specs.States as spec;
 ghost use Rattle.rc_rules.specs.declared.mode.Peeked.TheVariants as peeks;
-ghost use Rattle.rc_split.specs.Holdings.{AreDeclared};
 
+use crate::blocks;
 use crate::cause::Cause;
-use crate::mode::{Inside, Mode, Peeked, Slot};
-use crate::{blocks, ops};
-use rc_lang::lines::{Stmt, Test};
+use crate::flag::{Write, is_zero, side_goes, write_of};
+use crate::mode::Mode;
+use crate::premises::lesser;
+use crate::rule::Rule;
+use crate::side::Side;
+use rc_lang::lines::{Comparison, Stmt, Test};
 use rc_lang::program::{Items, Program};
-use rc_split::holding::Holding;
-use rc_split::part::Part;
 use std::alloc::{AllocError, Global};
 use std::marker::Model;
 
 /// What a thread holds at a point, whether it has the lock, and then how many entries are queued at most, how far the
-/// open slot is and what is peeked. Or the state is dead: nothing reaches its point.
+/// open slot is and what is peeked: while its flag is 0, and while it isn't. Or a side is dead: nothing reaches the
+/// point with such a flag. Without a flag the second side is dead.
 #[derive(Drop)]
 pub struct State<'a> {
-    holding: Holding<'a>,
-    mode: Option<Mode>,
+    flag: Option<usize>,
+    zero: Side<'a>,
+    other: Side<'a>,
 }
 
 impl<'a> Model for State<'a> {
     ghost use Rattle.rc_rules.specs.States as spec;
-    ghost use Rattle.rc_split.specs.Holdings.{bag};
 
     ghost Value = { spec.State };
 
-    ghost view = { λ s. record { holding = s.holding; mode = s.mode } };
+    ghost view = { λ s. record { flag = s.flag; zero = s.zero; other = s.other } };
 
-    ghost invariant = { λ s. spec.IsFree s.holding.program (spec.label_in (bag s.holding) s.mode) };
+    ghost invariant = { λ s. spec.IsState (record { flag = s.flag; zero = s.zero; other = s.other }) };
 }
 
 /// Goes over a statement without a block, which is no `break`. No count is above 2^19.
 pub fn transfer(state: &mut State, stmt: &Stmt) -> Result<(), Cause>
-    requires small { spec.IsSmall (spec.label_of state.old) }
+    requires small { spec.OnBoth spec.IsSmall state.old }
     requires plain { (op : Op) × (stmt.now ≡ stmts.Do op) }
-    ensures { (op : Op) → stmt.now ≡ stmts.Do op → spec.Gives state.old state.new result (rules.asks (spec.label_of state.old) (λ bag m. rules.op_premises (spec.program_of state.old) bag m op)) (rules.goes (spec.label_of state.old) (λ bag m. rules.op_effect (spec.program_of state.old) bag m op) ∷ []) }
+    ensures { (op : Op) → stmt.now ≡ stmts.Do op → spec.Gives state.old state.new result (rules.asks_both (spec.label_of state.old) (λ z bag m. rules.op_premises (spec.program_of state.old) bag m op)) (λ z. sides.brings (λ y. sides.turns (sides.write_of state.old.flag op) y z) (λ s. rules.goes s (λ bag m. rules.op_effect (spec.program_of state.old) bag m op)) (spec.label_of state.old)) }
 {
     let Stmt::Do(op) = stmt else {
         return Ok(());
     };
-    let Some(mode) = state.mode else {
-        return Ok(());
-    };
-    state.mode = Some(ops::step(&mut state.holding, mode, op)?);
+    state.follow(Rule::Do(*op))?;
+    state.turn(write_of(state.flag, *op));
     Ok(())
 }
 
 /// The items of a thread's header.
 fn header(program: &Program, thread: u32) -> &Items
     requires { thread < length program.now.threads }
-    ensures items { (t : Thread) → slice_get program.now.threads thread ≡ Some t → view_items result.now ≡ t.items }
+    ensures items { (t : programs.Thread) → slice_get program.now.threads thread ≡ Some t → view_items result.now ≡ t.items }
     ensures made { IsItems program.now (view_items result.now) }
 {
     &program.threads()[thread as usize].items
@@ -80,11 +85,10 @@ impl<'a> State<'a> {
         requires { thread < length program.now.threads }
         ensures { spec.IsStart program.now thread result }
     {
-        let mut holding = Holding::nothing(program);
-        holding.hold(header(program, thread));
         State {
-            holding,
-            mode: Some(Mode::Unlocked),
+            flag: program.threads()[thread as usize].flag(),
+            zero: Side::first(program, header(program, thread)),
+            other: Side::dead(program),
         }
     }
 
@@ -100,159 +104,249 @@ impl<'a> State<'a> {
         ensures { result ≡ self.now }
     {
         State {
-            holding: self.holding.again(),
-            mode: self.mode,
+            flag: self.flag,
+            zero: self.zero.again(),
+            other: self.other.again(),
         }
     }
 
-    /// Becomes the same state as another, with no copy between.
+    /// Becomes the same state as another of its program, with no copy between.
     pub fn copy_from(&mut self, other: &State<'a>)
+        requires { spec.program_of other.now ≡ spec.program_of self.old }
         ensures { self.new ≡ other.now }
     {
-        self.holding.copy_from(&other.holding);
-        self.mode = other.mode;
+        self.flag = other.flag;
+        self.zero.copy_from(&other.zero);
+        self.other.copy_from(&other.other);
     }
 
-    /// A state of the program that nothing reaches.
-    pub fn dead(program: &'a Program) -> State<'a>
-        ensures dead { spec.label_of result ≡ Dead }
+    /// A state of the program, and of a thread with this flag, that nothing reaches.
+    pub fn dead(program: &'a Program, flag: Option<usize>) -> State<'a>
+        ensures dead { spec.OnBoth (λ s. s ≡ Dead) result }
         ensures of { spec.program_of result ≡ program.now }
+        ensures flag { result.flag ≡ flag }
     {
         State {
-            holding: Holding::nothing(program),
-            mode: None,
+            flag,
+            zero: Side::dead(program),
+            other: Side::dead(program),
         }
     }
 
     /// The state is dead from now on, as behind the end of an arm.
     pub fn die(&mut self)
-        ensures dead { spec.label_of self.new ≡ Dead }
-        ensures of { spec.program_of self.new ≡ spec.program_of self.old }
+        ensures dead { spec.OnBoth (λ s. s ≡ Dead) self.new }
+        ensures of { spec.IsOfSame self.new self.old }
     {
-        self.mode = None;
+        self.zero.die();
+        self.other.die();
     }
 
     /// The program of the state.
     pub fn program(&self) -> &'a Program
         ensures { result.now ≡ spec.program_of self.now }
     {
-        self.holding.program()
+        self.zero.program()
+    }
+
+    /// The flag of the state's thread.
+    pub fn flag(&self) -> Option<usize>
+        ensures { result ≡ self.now.flag }
+    {
+        self.flag
+    }
+
+    /// Whether something reaches the state.
+    fn is_live(&self) -> bool
+        ensures { result ≡ spec.is_reached self.now }
+    {
+        self.zero.is_live() || self.other.is_live()
+    }
+
+    /// What is known of the ring on a side that something reaches. On both it is known alike whether the lock is held
+    /// and at which stage the slot is.
+    fn mode(&self) -> Option<Mode>
+        ensures value { result ≡ spec.mode_of self.now }
+        ensures alike { spec.IsState self.now }
+    {
+        match self.zero.mode() {
+            Some(mode) => Some(mode),
+            None => self.other.mode(),
+        }
+    }
+
+    /// Goes over a line on each side by itself.
+    fn follow(&mut self, rule: Rule) -> Result<(), Cause>
+        requires { spec.OnBoth (one.MayFollow (spec.program_of self.old) rule) self.old }
+        ensures { spec.Gives self.old self.new result (rules.asks_both (spec.label_of self.old) (λ z bag m. one.rule_premises (spec.program_of self.old) rule bag m)) (λ z. rules.goes (spec.label_of self.old z) (λ bag m. one.rule_effect (spec.program_of self.old) rule bag m) ∷ []) }
+    {
+        if !self.other.is_live() {
+            return self.zero.follow(rule);
+        }
+        if !self.zero.is_live() {
+            return self.other.follow(rule);
+        }
+        self.follow_both(rule)
+    }
+
+    /// A rule tests and changes at once, so each side is changed on a copy until both sides meet their premises.
+    fn follow_both(&mut self, rule: Rule) -> Result<(), Cause>
+        requires { spec.OnBoth (one.MayFollow (spec.program_of self.old) rule) self.old }
+        ensures { spec.Gives self.old self.new result (rules.asks_both (spec.label_of self.old) (λ z bag m. one.rule_premises (spec.program_of self.old) rule bag m)) (λ z. rules.goes (spec.label_of self.old z) (λ bag m. one.rule_effect (spec.program_of self.old) rule bag m) ∷ []) }
+    {
+        let mut zero = self.zero.again();
+        let mut other = self.other.again();
+        let on_zero = zero.follow(rule);
+        let on_other = other.follow(rule);
+        lesser(on_zero, on_other)?;
+        self.zero = zero;
+        self.other = other;
+        Ok(())
+    }
+
+    /// What holds behind a write to the flag, or to another variable.
+    fn turn(&mut self, write: Write)
+        ensures { spec.Becomes self.old self.new (λ z. sides.brings (λ y. sides.turns write y z) (λ s. s) (spec.label_of self.old)) }
+    {
+        match write {
+            Write::Untouched => {}
+            Write::Number(n) => {
+                self.zero.meet(&self.other);
+                if is_zero(n) {
+                    self.other.die();
+                } else {
+                    self.other.copy_from(&self.zero);
+                    self.zero.die();
+                }
+            }
+            Write::Anything => {
+                self.zero.meet(&self.other);
+                self.other.copy_from(&self.zero);
+            }
+        }
+    }
+
+    /// Whatever is written to the flag: each side is what is known of both. So it is behind a `peek_cqe` into the flag,
+    /// before its arms.
+    pub fn flag_lost(&mut self)
+        ensures { spec.Becomes self.old self.new (λ z. sides.brings (λ y. true) (λ s. s) (spec.label_of self.old)) }
+    {
+        self.turn(Write::Anything);
+    }
+
+    /// A branch of a test of the flag: the first, where the test holds, or the other.
+    pub fn flag_test(&mut self, op: Comparison, n: i64, first: bool)
+        ensures { spec.Becomes self.old self.new (λ z. sides.gate (sides.side_goes op n z first) (spec.label_of self.old z) ∷ []) }
+    {
+        if !side_goes(op, n, true, first) {
+            self.zero.die();
+        }
+        if !side_goes(op, n, false, first) {
+            self.other.die();
+        }
     }
 
     /// `lock {`: as many entries may be queued as may be left. The state is dead, or unlocked.
     pub fn enter_lock(&mut self) -> Result<(), Cause>
-        requires { spec.IsUnlocked (spec.label_of self.old) }
-        ensures { spec.Gives self.old self.new result [] (rules.entered (spec.program_of self.old) (spec.label_of self.old) ∷ []) }
+        requires { spec.OnBoth spec.IsUnlocked self.old }
+        ensures { spec.Gives self.old self.new result [] (λ z. rules.entered (spec.program_of self.old) (spec.label_of self.old z) ∷ []) }
     {
-        if self.mode.is_some() {
-            self.mode = Some(Mode::Locked(Inside {
-                queued: self.holding.program().left(),
-                slot: Slot::Closed,
-                peeked: Peeked::Unseen,
-            }));
-        }
-        Ok(())
+        self.follow(Rule::Lock)
     }
 
     /// The closing brace of a lock. The state is dead, or locked.
     pub fn release(&mut self) -> Result<(), Cause>
-        requires { spec.IsLocked (spec.label_of self.old) }
-        ensures { spec.Gives self.old self.new result (rules.asks (spec.label_of self.old) (λ bag m. rules.may_release (spec.program_of self.old) m)) (rules.released (spec.label_of self.old) ∷ []) }
+        requires { spec.OnBoth spec.IsLocked self.old }
+        ensures { spec.Gives self.old self.new result (rules.asks_both (spec.label_of self.old) (λ z bag m. rules.may_release (spec.program_of self.old) m)) (λ z. rules.released (spec.label_of self.old z) ∷ []) }
     {
-        let Some(mode) = self.mode else {
-            return Ok(());
-        };
-        blocks::may_release(self.holding.program(), mode)?;
-        self.mode = Some(Mode::Unlocked);
-        Ok(())
+        self.follow(Rule::Release)
     }
 
     /// `case U {`, on the state before the arms; whether the arm can be reached. Where the token is held it can't: no
     /// request under it is in flight. The token is declared.
     pub fn arm_case(&mut self, user_data: u64) -> Result<bool, Cause>
         requires { DeclaresToken (spec.program_of self.old) user_data }
-        ensures gives { spec.Gives self.old self.new result (rules.asks (spec.label_of self.old) (λ bag m. rules.peek_premises m)) (rules.case_at user_data (spec.label_of self.old) ∷ []) }
-        ensures live { IfOk result (λ live. live ≡ spec.is_live (spec.label_of self.new)) }
+        ensures gives { spec.Gives self.old self.new result (rules.asks_both (spec.label_of self.old) (λ z bag m. rules.peek_premises m)) (λ z. rules.case_at user_data (spec.label_of self.old z) ∷ []) }
+        ensures live { IfOk result (λ live. live ≡ spec.is_reached self.new) }
     {
-        let Some(mode) = self.mode else {
-            return Ok(false);
-        };
-        let arm = blocks::in_arm(Peeked::Sees(user_data), mode)?;
-        if self.holding.holds(Part::Token(user_data)) {
-            self.die();
-            return Ok(false);
-        }
-        self.mode = Some(arm);
-        Ok(true)
+        self.follow(Rule::Case(user_data))?;
+        Ok(self.is_live())
     }
 
     /// `other {`, on the state before the arms.
     pub fn arm_other(&mut self) -> Result<(), Cause>
-        ensures { spec.Gives self.old self.new result (rules.asks (spec.label_of self.old) (λ bag m. rules.peek_premises m)) (rules.peek_at peeks.SeesOther (spec.label_of self.old) ∷ []) }
+        ensures { spec.Gives self.old self.new result (rules.asks_both (spec.label_of self.old) (λ z bag m. rules.peek_premises m)) (λ z. rules.peek_at peeks.SeesOther (spec.label_of self.old z) ∷ []) }
     {
-        let Some(mode) = self.mode else {
-            return Ok(());
-        };
-        self.mode = Some(blocks::in_arm(Peeked::SeesOther, mode)?);
-        Ok(())
+        self.follow(Rule::Other)
     }
 
     /// `none {`, on the state before the arms, and what is known behind an arm: nothing is peeked.
     pub fn arm_none(&mut self) -> Result<(), Cause>
-        ensures { spec.Gives self.old self.new result (rules.asks (spec.label_of self.old) (λ bag m. rules.peek_premises m)) (rules.peek_at peeks.Unseen (spec.label_of self.old) ∷ []) }
+        ensures { spec.Gives self.old self.new result (rules.asks_both (spec.label_of self.old) (λ z bag m. rules.peek_premises m)) (λ z. rules.peek_at peeks.Unseen (spec.label_of self.old z) ∷ []) }
     {
-        let Some(mode) = self.mode else {
-            return Ok(());
-        };
-        self.mode = Some(blocks::in_arm(Peeked::Unseen, mode)?);
-        Ok(())
+        self.follow(Rule::Nothing)
     }
 
     /// The first branch of `if sq_ready == 0`.
     pub fn ready_zero(&mut self) -> Result<(), Cause>
-        ensures { spec.Gives self.old self.new result (rules.asks (spec.label_of self.old) (λ bag m. rules.test_premises m tests.ReadyZero)) (rules.goes (spec.label_of self.old) (λ bag m. rules.test_effect (spec.program_of self.old) bag m tests.ReadyZero) ∷ []) }
+        ensures { spec.Gives self.old self.new result (rules.asks_both (spec.label_of self.old) (λ z bag m. rules.test_premises m tests.ReadyZero)) (λ z. rules.goes (spec.label_of self.old z) (λ bag m. rules.test_effect (spec.program_of self.old) bag m tests.ReadyZero) ∷ []) }
     {
-        let Some(mode) = self.mode else {
-            return Ok(());
-        };
-        let program = self.holding.program();
-        self.mode = Some(blocks::behind_test(program, Test::ReadyZero, mode)?);
-        Ok(())
+        self.follow(Rule::If(Test::ReadyZero))
     }
 
     /// The first branch of `if sq_space_left >= n`; n is at most the entries.
     pub fn space_at_least(&mut self, n: u32) -> Result<(), Cause>
-        ensures { spec.Gives self.old self.new result (rules.asks (spec.label_of self.old) (λ bag m. rules.test_premises m (tests.SpaceAtLeast n))) (rules.goes (spec.label_of self.old) (λ bag m. rules.test_effect (spec.program_of self.old) bag m (tests.SpaceAtLeast n)) ∷ []) }
+        ensures { spec.Gives self.old self.new result (rules.asks_both (spec.label_of self.old) (λ z bag m. rules.test_premises m (tests.SpaceAtLeast n))) (λ z. rules.goes (spec.label_of self.old z) (λ bag m. rules.test_effect (spec.program_of self.old) bag m (tests.SpaceAtLeast n)) ∷ []) }
     {
-        let Some(mode) = self.mode else {
-            return Ok(());
-        };
-        let program = self.holding.program();
-        self.mode = Some(blocks::behind_test(program, Test::SpaceAtLeast(n), mode)?);
+        self.follow(Rule::If(Test::SpaceAtLeast(n)))
+    }
+
+    /// Whether each side holds what a loop's items say of it; the cause says whether at the loop's top or at its end.
+    fn may_loop(&self, items: &Items, cause: Cause) -> Result<(), Cause>
+        ensures { Tests result (rules.asks_both (spec.label_of self.now) (λ z bag m. rules.may_loop (spec.program_of self.now) (premise_number cause) (view_items items.now) z bag m)) }
+    {
+        lesser(
+            self.zero.may_loop(items, true, cause),
+            self.other.may_loop(items, false, cause),
+        )
+    }
+
+    /// `loop keeps ITEMS {`: behind it exactly the items are held, on each side what they say of it. A loop is turned
+    /// back to with any flag, so where there is one both sides are there. The items are those of a loop of the thread.
+    pub fn enter_loop(&mut self, items: &Items) -> Result<(), Cause>
+        requires { IsList (spec.program_of self.old) (view_items items.now) }
+        ensures { spec.Gives self.old self.new result (rules.asks_both (spec.label_of self.old) (λ z bag m. rules.may_loop (spec.program_of self.old) 13 (view_items items.now) z bag m)) (λ z. sides.brings (λ y. sides.turns (sides.forgets self.old.flag) y z) (λ s. rules.top (spec.program_of self.old) (view_items items.now) z s) (spec.label_of self.old)) }
+    {
+        self.may_loop(items, Cause::LoopEntry)?;
+        if let Some(mode) = self.mode() {
+            self.enter(items, mode);
+        }
         Ok(())
     }
 
-    /// `loop keeps ITEMS {`: behind it exactly the items are held. They name only what the program declares.
-    pub fn enter_loop(&mut self, items: &Items) -> Result<(), Cause>
-        requires { AreDeclared (spec.program_of self.old) (view_items items.now) }
-        ensures { spec.Gives self.old self.new result (rules.asks (spec.label_of self.old) (λ bag m. rules.may_loop (spec.program_of self.old) 13 (view_items items.now) bag m)) (rules.top (spec.program_of self.old) (view_items items.now) (spec.label_of self.old) ∷ []) }
+    /// What holds at the top of a loop that a state with this known of the ring enters.
+    fn enter(&mut self, items: &Items, mode: Mode)
+        requires made { IsList (spec.program_of self.old) (view_items items.now) }
+        requires mode { spec.mode_of self.old ≡ Some mode }
+        ensures { spec.Becomes self.old self.new (λ z. sides.brings (λ y. sides.turns (sides.forgets self.old.flag) y z) (λ s. rules.top (spec.program_of self.old) (view_items items.now) z s) (spec.label_of self.old)) }
     {
-        let Some(mode) = self.mode else {
-            return Ok(());
-        };
-        blocks::may_loop(&self.holding, items, mode, Cause::LoopEntry)?;
-        self.mode = Some(blocks::top_mode(self.holding.program(), items, mode));
-        self.holding.hold(items);
-        Ok(())
+        match self.flag {
+            None => {
+                self.zero.keep(items, true);
+                self.other.keep(items, false);
+            }
+            Some(_) => {
+                self.zero.enter(items, true, mode);
+                self.other.enter(items, false, mode);
+            }
+        }
     }
 
     /// The closing brace of a loop. Nothing goes on behind it from here, so the state is dead.
     pub fn loop_end(&mut self, items: &Items) -> Result<(), Cause>
-        ensures { spec.Gives self.old self.new result (rules.asks (spec.label_of self.old) (λ bag m. rules.may_loop (spec.program_of self.old) 14 (view_items items.now) bag m)) [] }
+        ensures { spec.Gives self.old self.new result (rules.asks_both (spec.label_of self.old) (λ z bag m. rules.may_loop (spec.program_of self.old) 14 (view_items items.now) z bag m)) (λ z. []) }
     {
-        if let Some(mode) = self.mode {
-            blocks::may_loop(&self.holding, items, mode, Cause::LoopBody)?;
-        }
+        self.may_loop(items, Cause::LoopBody)?;
         self.die();
         Ok(())
     }
@@ -260,35 +354,39 @@ impl<'a> State<'a> {
     /// `break`, which may release the lock. The state is dead behind it. What goes to the loop's end is a copy made
     /// before. Unless the state is dead, it is locked where the lock is released.
     pub fn break_out(&mut self, releases: bool) -> Result<(), Cause>
-        requires { releases ≡ true → spec.IsLocked (spec.label_of self.old) }
-        ensures { spec.Gives self.old self.new result (rules.asks (spec.label_of self.old) (λ bag m. rules.may_break (spec.program_of self.old) releases m)) [] }
+        requires { releases ≡ true → spec.OnBoth spec.IsLocked self.old }
+        ensures { spec.Gives self.old self.new result (rules.asks_both (spec.label_of self.old) (λ z bag m. rules.may_break (spec.program_of self.old) releases m)) (λ z. []) }
     {
-        if let Some(mode) = self.mode {
-            blocks::may_break(self.holding.program(), releases, mode)?;
-        }
+        self.follow(Rule::Break(releases))?;
         self.die();
         Ok(())
     }
 
-    /// The state where this one and another join, both of one program. Unless one is dead, both are locked or both are
-    /// not.
-    pub fn meet(&mut self, other: &State<'a>) -> Result<(), Cause>
-        requires of { spec.program_of other.now ≡ spec.program_of self.old }
-        requires alike { spec.AgreeOnLock (spec.label_of self.old) (spec.label_of other.now) }
-        ensures { spec.Gives self.old self.new result (rules.may_join (spec.label_of self.old ∷ spec.label_of other.now ∷ [])) (spec.label_of self.old ∷ spec.label_of other.now ∷ []) }
+    /// Whether the slots of all sides of both states that something reaches are at one stage. Those of one state are.
+    fn may_meet(&self, other: &State) -> Result<(), Cause>
+        ensures { Tests result (rules.joins_both (λ z. spec.label_of self.now z ∷ spec.label_of other.now z ∷ [])) }
     {
-        let Some(theirs) = other.mode else {
-            return Ok(());
-        };
-        let Some(mine) = self.mode else {
-            self.copy_from(other);
-            return Ok(());
-        };
-        self.mode = Some(blocks::both(mine, theirs)?);
-        self.holding.meet(&other.holding);
+        match (self.mode(), other.mode()) {
+            (Some(mine), Some(theirs)) => blocks::may_join(mine, theirs),
+            _ => Ok(()),
+        }
+    }
+
+    /// The state where this one and another join, both of one program and one thread: side by side, where the slots of
+    /// all sides that something reaches are at one stage. All of those are locked, or none is.
+    pub fn meet(&mut self, other: &State<'a>) -> Result<(), Cause>
+        requires of { spec.IsOfSame other.now self.old }
+        requires alike { (y z : Bool) → spec.AgreeOnLock (spec.label_of self.old y) (spec.label_of other.now z) }
+        ensures { spec.Gives self.old self.new result (rules.joins_both (λ z. spec.label_of self.old z ∷ spec.label_of other.now z ∷ [])) (λ z. spec.label_of self.old z ∷ spec.label_of other.now z ∷ []) }
+    {
+        self.may_meet(other)?;
+        self.zero.meet(&other.zero);
+        self.other.meet(&other.other);
         Ok(())
     }
 }
 
+#[cfg(test)]
+mod flag_tests;
 #[cfg(test)]
 mod tests;

@@ -30,7 +30,7 @@ pub trait Asked {
 impl Asked for Brand {
     ghost use Rattle.std.specs.Prelude.{[]};
 
-    ghost program = { record { entries = 0; completion_entries = 0; left = 0; files = []; buffers = []; tokens = []; threads = [] } };
+    ghost program = { record { version = 1; entries = 0; completion_entries = 0; left = 0; files = []; buffers = []; tokens = []; threads = [] } };
 
     ghost limit = { 0 };
 }

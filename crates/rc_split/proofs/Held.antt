@@ -1,32 +1,31 @@
 -- Items that are given one by one.
-use Rattle.std.proofs.Common.{◌≡◌, ℕ, ◌+◌, ◌^◌, ◌<◌, ◌≤◌, List, length, take, get_or, arith}
+use Rattle.std.proofs.Common.{◌≡◌, ℕ, ◌+◌, ◌<◌, ◌≤◌, Bool, true, false, List, length, take, get_or, subst, sym, arith}
 use Rattle.rc_lang.specs.declared.program.Share.{Share}
-use Rattle.rc_lang.specs.Program.{Items}
-use Rattle.rc_split.specs.Bags.{Part, ShareOf, TokenOf, Credit, credits_bag, bag_of, shares_alone, tokens_alone}
-use Rattle.rc_split.proofs.Turns.{itself, tokens_more_le}
+use Rattle.rc_lang.specs.Program.{Program, Items}
+use Rattle.rc_split.specs.Bags.{Part, TokenOf, bag_of, bag_on, parts, tokens_alone}
+use Rattle.rc_split.specs.Holdings.{AreDeclared, AreDeclaredOn}
+use Rattle.rc_split.proofs.Turns.{itself, same_parts, tokens_more_le}
 
-pub parts_sum : (items : Items) (p : Part) → bag_of (shares_alone items.shares) p + bag_of (tokens_alone items.tokens) p + credits_bag items.credits p ≡ bag_of items p
-parts_sum items (ShareOf b) = omega arith
-parts_sum items (TokenOf u) = omega arith
-parts_sum items Credit = omega arith
+pub declared : (P Q : Program) (items : Items) (z : Bool) (ss : List Share) (ts : List ℕ) → Q ≡ P → ss ≡ items.shares → ts ≡ items.tokens → AreDeclaredOn P z items → AreDeclared Q (parts ss ts items.credits)
+declared P Q items z ss ts e f g h = subst (λ R. AreDeclared R (parts ss ts items.credits)) (sym e) (subst (λ x. AreDeclared P (parts x ts items.credits)) (sym f) (subst (λ x. AreDeclared P (parts items.shares x items.credits)) (sym g) (go z h)))
+  where
+    go : (z : Bool) → AreDeclaredOn P z items → AreDeclared P (parts items.shares items.tokens items.credits)
+    go true h = record { buffers = h.buffers; tokens = h.tokens }
+    go false h = record { buffers = h.0.buffers; tokens = h.0.tokens }
 
-pub shares_small : (items : Items) (ss : List Share) (b : Part → ℕ) → ss ≡ items.shares → ((p : Part) → b p ≡ 0) → ((p : Part) → bag_of items p < 2 ^ 20) → (p : Part) → b p + bag_of (shares_alone ss) p < 2 ^ 20
-shares_small items ss b e z s p = rw e (omega (arith, z p, s p, parts_sum items p))
+first_within : (items : Items) (z : Bool) (p : Part) → bag_of items p ≤ bag_on z items p
+first_within items true p = omega arith
+first_within items false p = omega arith
 
-pub tokens_small : (items : Items) (ss : List Share) (ts : List ℕ) (a b : Part → ℕ) → ss ≡ items.shares → ts ≡ items.tokens → ((p : Part) → a p ≡ 0) → ((p : Part) → b p ≡ a p + bag_of (shares_alone ss) p) → ((p : Part) → bag_of items p < 2 ^ 20) → (p : Part) → b p + bag_of (tokens_alone ts) p < 2 ^ 20
-tokens_small items ss ts a b e f z g s p =
-    let g' : b p ≡ a p + bag_of (shares_alone items.shares) p = rw (← e) (g p) in
-    rw f (omega (arith, z p, g', s p, parts_sum items p))
+-- what is given to nothing first, and then besides, is no more than both lists say
+pub first_few : (items : Items) (z : Bool) (ss : List Share) (ts : List ℕ) (a : Part → ℕ) (p : Part) (n : ℕ) → ss ≡ items.shares → ts ≡ items.tokens → a p ≡ 0 → bag_on z items p ≤ n → a p + bag_of (parts ss ts items.credits) p ≤ n
+first_few items z ss ts a p n e f q h = rw (e, f) (omega (arith, same_parts items p, first_within items z p, q, h))
 
-pub tokens_once : (items : Items) (ss : List Share) (ts : List ℕ) (a b : Part → ℕ) → ss ≡ items.shares → ts ≡ items.tokens → ((p : Part) → a p ≡ 0) → ((p : Part) → b p ≡ a p + bag_of (shares_alone ss) p) → ((u : ℕ) → bag_of items (TokenOf u) ≤ 1) → (u : ℕ) → b (TokenOf u) + bag_of (tokens_alone ts) (TokenOf u) ≤ 1
-tokens_once items ss ts a b e f z g s u =
-    rw f (omega (arith, z (TokenOf u), g (TokenOf u), s u, parts_sum items (TokenOf u)))
-
-pub all_given : (items : Items) (ss : List Share) (ts : List ℕ) (a b c : Part → ℕ) → ss ≡ items.shares → ts ≡ items.tokens → ((p : Part) → a p ≡ 0) → ((p : Part) → b p ≡ a p + bag_of (shares_alone ss) p) → ((p : Part) → c p ≡ b p + bag_of (tokens_alone ts) p) → (p : Part) → c p + credits_bag items.credits p ≡ bag_of items p
-all_given items ss ts a b c e f z g h p =
-    let g' : b p ≡ a p + bag_of (shares_alone items.shares) p = rw (← e) (g p) in
-    let h' : c p ≡ b p + bag_of (tokens_alone items.tokens) p = rw (← f) (h p) in
-    omega (arith, z p, g', h', parts_sum items p)
+pub both_few : (items : Items) (z : Bool) (ss us : List Share) (ts vs : List ℕ) (a b : Part → ℕ) (p : Part) (n : ℕ) → z ≡ false → ss ≡ items.shares → ts ≡ items.tokens → us ≡ items.more.shares → vs ≡ items.more.tokens → a p ≡ 0 → b p ≡ a p + bag_of (parts ss ts items.credits) p → bag_on z items p ≤ n → b p + bag_of (parts us vs items.more.credits) p ≤ n
+both_few items true ss us ts vs a b p n y e f g k q r h = absurd cc
+both_few items false ss us ts vs a b p n y e f g k q r h =
+    let r' : b p ≡ a p + bag_of (parts items.shares items.tokens items.credits) p = rw (← e, ← f) r in
+    rw (g, k) (omega (arith, same_parts items p, q, r', h))
 
 -- a token that stands once is given once
 pub not_yet : (xs : List ℕ) (i : ℕ) (a b : Part → ℕ) → i < length xs → ((p : Part) → b p ≡ a p + bag_of (tokens_alone (take i xs)) p) → ((u : ℕ) → a (TokenOf u) + bag_of (tokens_alone xs) (TokenOf u) ≤ 1) → b (TokenOf (get_or xs i 0)) ≡ 0

@@ -1,6 +1,6 @@
 -- A program that declares nothing.
-use Rattle.std.proofs.Common.{◌≡◌, Bool, ℕ, ◌+◌, ◌^◌, ◌<◌, ◌≤◌, List, [], length, map, Option, Some, None, refl, sym, subst, arith, lit≤}
-use Rattle.std.specs.Prelude.{All, slice_get}
+use Rattle.std.proofs.Common.{◌≡◌, Bool, List, [], map, refl, sym, subst, arith, lit≤}
+use Rattle.std.specs.Prelude.{All}
 use Rattle.std.specs.List.{IsDistinct}
 use Rattle.rc_lang.specs.Parts.{view_buffer, view_program, view_thread}
 use Rattle.rc_lang.specs.declared.program.Declarations.{Declarations}
@@ -14,8 +14,9 @@ distinct : {K : Type 0} (e : K → K → Bool) → IsDistinct e []
 unfolding IsDistinct
 distinct e = tt
 
-pub is_plain : IsProgram (record { entries = 1; completion_entries = 2; left = 0; files = []; buffers = []; tokens = []; threads = [] })
+pub is_plain : IsProgram (record { version = 1; entries = 1; completion_entries = 2; left = 0; files = []; buffers = []; tokens = []; threads = [] })
 is_plain = record {
+  version = (lit≤ tt, lit≤ tt);
   entries = record { power = (0, refl); within = lit≤ tt };
   completion_entries = record { power = (1, refl); within = lit≤ tt };
   room = lit≤ tt;
@@ -35,9 +36,9 @@ is_plain = record {
   numbers = λ k lt. absurd (omega arith);
 }
 
-pub made_plain : (d : Declarations) (ts : List ThreadPart) → d.files.items ≡ [] → d.buffers.items ≡ [] → d.tokens.items ≡ [] → ts ≡ [] → IsProgram (view_program (record { entries = 1; completion_entries = 2; left = 0 }) d ts)
+pub made_plain : (d : Declarations) (ts : List ThreadPart) → d.files.items ≡ [] → d.buffers.items ≡ [] → d.tokens.items ≡ [] → ts ≡ [] → IsProgram (view_program (record { version = 1; entries = 1; completion_entries = 2; left = 0 }) d ts)
 made_plain d ts e f g h =
-    subst (λ x. IsProgram (record { entries = 1; completion_entries = 2; left = 0; files = x; buffers = map view_buffer d.buffers.items; tokens = d.tokens.items; threads = map view_thread ts })) (sym e)
-    (subst (λ x. IsProgram (record { entries = 1; completion_entries = 2; left = 0; files = []; buffers = map view_buffer x; tokens = d.tokens.items; threads = map view_thread ts })) (sym f)
-    (subst (λ x. IsProgram (record { entries = 1; completion_entries = 2; left = 0; files = []; buffers = []; tokens = x; threads = map view_thread ts })) (sym g)
-    (subst (λ x. IsProgram (record { entries = 1; completion_entries = 2; left = 0; files = []; buffers = []; tokens = []; threads = map view_thread x })) (sym h) is_plain)))
+    subst (λ x. IsProgram (record { version = 1; entries = 1; completion_entries = 2; left = 0; files = x; buffers = map view_buffer d.buffers.items; tokens = d.tokens.items; threads = map view_thread ts })) (sym e)
+    (subst (λ x. IsProgram (record { version = 1; entries = 1; completion_entries = 2; left = 0; files = []; buffers = map view_buffer x; tokens = d.tokens.items; threads = map view_thread ts })) (sym f)
+    (subst (λ x. IsProgram (record { version = 1; entries = 1; completion_entries = 2; left = 0; files = []; buffers = []; tokens = x; threads = map view_thread ts })) (sym g)
+    (subst (λ x. IsProgram (record { version = 1; entries = 1; completion_entries = 2; left = 0; files = []; buffers = []; tokens = []; threads = map view_thread x })) (sym h) is_plain)))

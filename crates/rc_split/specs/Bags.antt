@@ -1,7 +1,7 @@
 -- Bags: how many of each part somebody holds.
-use Rattle.std.specs.Prelude.{ℕ, ◌≡◌, ◌+◌, ◌-◌, ◌≤◌, cond, min, nat_eq, sum_by, count_by, List, [], None}
+use Rattle.std.specs.Prelude.{ℕ, ◌≡◌, ◌+◌, ◌-◌, ◌≤◌, Bool, true, false, cond, min, nat_eq, sum_by, count_by, List, [], None}
 use Rattle.rc_lang.specs.declared.program.Share.{Share}
-use Rattle.rc_lang.specs.Program.{Items}
+use Rattle.rc_lang.specs.Program.{Items, besides, no_more}
 
 -- what holdings are made of: shares of the buffer with a number, the token with a user data, credits for completions
 pub data Part : Type 0 where
@@ -34,12 +34,15 @@ bag_of items (ShareOf b) = sum_by (λ (s : Share). cond (nat_eq s.buffer b) s.co
 bag_of items (TokenOf u) = count_by (λ v. nat_eq v u) items.tokens
 bag_of items Credit = items.credits
 
--- these shares alone, and these tokens alone
+-- items of these shares, tokens and credits; of shares alone, and of tokens alone
+abbrev pub parts : List Share → List ℕ → ℕ → Items
+parts shares tokens credits = record { shares = shares; tokens = tokens; credits = credits; queue = None; more = no_more }
+
 abbrev pub shares_alone : List Share → Items
-shares_alone shares = record { shares = shares; tokens = []; credits = 0; queue = None }
+shares_alone shares = parts shares [] 0
 
 abbrev pub tokens_alone : List ℕ → Items
-tokens_alone tokens = record { shares = []; tokens = tokens; credits = 0; queue = None }
+tokens_alone tokens = parts [] tokens 0
 
 -- part by part: the sum, what is left of the first without the second, and the least of both
 abbrev pub plus : (Part → ℕ) → (Part → ℕ) → Part → ℕ
@@ -50,6 +53,11 @@ minus a b p = a p - b p
 
 abbrev pub least : (Part → ℕ) → (Part → ℕ) → Part → ℕ
 least a b p = min (a p) (b p)
+
+-- what a loop's items say is held while the flag is 0 (true), and while it isn't
+abbrev pub bag_on : Bool → Items → Part → ℕ
+bag_on true items = bag_of items
+bag_on false items = plus (bag_of items) (bag_of (besides items))
 
 -- The second bag covers the first.
 abbrev pub IsWithin : (Part → ℕ) → (Part → ℕ) → Type 0

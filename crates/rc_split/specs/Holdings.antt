@@ -4,7 +4,7 @@ use Rattle.rc_lang.specs.Program.{Program, IsProgram, DeclaresToken, token_place
 use Rattle.rc_lang.specs.declared.program.Share.{Share}
 use Rattle.rc_split.specs.declared.part.Part.{Part as Given}
 use Rattle.rc_split.specs.declared.part.Part.TheVariants.{Shares, Token, Credits}
-use Rattle.rc_lang.specs.Program.{Items}
+use Rattle.rc_lang.specs.Program.{Items, besides}
 use Rattle.rc_split.specs.Bags.{Part, ShareOf, TokenOf, Credit, shares_bag, token_bag, credits_bag, bag_of, minus, IsWithin}
 
 -- a program's shares by the numbers of its buffers, which of its tokens are held by their places, and the credits
@@ -59,6 +59,11 @@ IsDeclared program (Credits n) = Unit {0}
 pub record AreDeclared (program : Program) (items : Items) : Type 0 where
   pub buffers : All (λ (s : Share). s.buffer < length program.buffers) items.shares
   pub tokens : All (DeclaresToken program) items.tokens
+
+-- Both lists of a loop's items do, or the first alone where what is held besides isn't asked for.
+abbrev pub AreDeclaredOn : Program → Bool → Items → Type 0
+AreDeclaredOn program true items = AreDeclared program items
+AreDeclaredOn program false items = AreDeclared program items × AreDeclared program (besides items)
 
 -- A given token isn't held.
 abbrev pub IsFresh : (Part → ℕ) → Given → Type 0

@@ -117,14 +117,34 @@ impl<'a> Holding<'a> {
         ensures answer { IsTrue result ↔ bags.IsWithin (bags.bag_of (view_items items.now)) (spec.bag self.now) }
         ensures small { (p : bags.Part) → spec.bag self.now p < 2 ^ 20 }
     {
+        self.covers_on(items, true)
+    }
+
+    /// Whether all that a loop's items say of a side of the flag is held: on the zero side what they name, on the other
+    /// what they name besides as well. Counts are always below 2^20.
+    pub fn covers_on(&self, items: &Items, zero: bool) -> bool
+        ensures answer { IsTrue result ↔ bags.IsWithin (bags.bag_on zero (view_items items.now)) (spec.bag self.now) }
+        ensures small { (p : bags.Part) → spec.bag self.now p < 2 ^ 20 }
+    {
         let mut rest = self.again();
-        if !rest.take_shares(&items.shares) {
+        if !rest.take_parts(&items.shares, &items.tokens, items.credits) {
             return false;
         }
-        if !rest.take_tokens(&items.tokens) {
+        let more = &items.more;
+        zero || rest.take_parts(&more.shares, &more.tokens, more.credits)
+    }
+
+    /// Takes all of these away. False: one of them isn't held.
+    fn take_parts(&mut self, shares: &[Share], tokens: &[u64], credits: u32) -> bool
+        ensures { spec.TakesAll self.old self.new (bags.parts shares.now tokens.now credits) result }
+    {
+        if !self.take_shares(shares) {
             return false;
         }
-        rest.holds(Part::Credits(items.credits))
+        if !self.take_tokens(tokens) {
+            return false;
+        }
+        self.take(Part::Credits(credits)).is_some()
     }
 
     fn take_shares(&mut self, shares: &[Share]) -> bool
@@ -157,10 +177,35 @@ impl<'a> Holding<'a> {
         requires small { (p : bags.Part) → bags.bag_of (view_items items.now) p < 2 ^ 20 }
         ensures { spec.Holds self.new self.old.program (bags.bag_of (view_items items.now)) }
     {
+        self.hold_on(items, true);
+    }
+
+    /// Holds exactly what a loop's items say of a side of the flag: on the zero side what they name, on the other what
+    /// they name besides as well. That names only what the program declares, each token at most once over both lists,
+    /// and no count that comes to 2^20.
+    pub fn hold_on(&mut self, items: &Items, zero: bool)
+        requires names { spec.AreDeclaredOn self.old.program zero (view_items items.now) }
+        requires once { (u : ℕ) → bags.bag_on zero (view_items items.now) (bags.TokenOf u) ≤ 1 }
+        requires small { (p : bags.Part) → bags.bag_on zero (view_items items.now) p < 2 ^ 20 }
+        ensures { spec.Holds self.new self.old.program (bags.bag_on zero (view_items items.now)) }
+    {
         self.clear();
-        self.give_shares(&items.shares);
-        self.give_tokens(&items.tokens);
-        self.give(Part::Credits(items.credits));
+        self.give_parts(&items.shares, &items.tokens, items.credits);
+        if !zero {
+            let more = &items.more;
+            self.give_parts(&more.shares, &more.tokens, more.credits);
+        }
+    }
+
+    fn give_parts(&mut self, shares: &[Share], tokens: &[u64], credits: u32)
+        requires names { spec.AreDeclared self.old.program (bags.parts shares.now tokens.now credits) }
+        requires once { (u : ℕ) → bags.plus (spec.bag self.old) (bags.bag_of (bags.parts shares.now tokens.now credits)) (bags.TokenOf u) ≤ 1 }
+        requires small { (p : bags.Part) → bags.plus (spec.bag self.old) (bags.bag_of (bags.parts shares.now tokens.now credits)) p < 2 ^ 20 }
+        ensures { spec.Holds self.new self.old.program (bags.plus (spec.bag self.old) (bags.bag_of (bags.parts shares.now tokens.now credits))) }
+    {
+        self.give_shares(shares);
+        self.give_tokens(tokens);
+        self.give(Part::Credits(credits));
     }
 
     /// Nothing is held from now on.

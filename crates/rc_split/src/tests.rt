@@ -7,12 +7,13 @@ ghost use Rattle.rc_split.specs.Holdings as spec;
 
 use crate::holding::Holding;
 use crate::part::Part;
-use rc_lang::program::{Declarations, Head, Items, Program};
+use rc_lang::program::{Declarations, Head, Items, More, Program};
 use std::alloc::Global;
 use std::test::Fail;
 
 fn program(alloc: Global) -> Program {
     let head = Head {
+        version: 1,
         entries: 1,
         completion_entries: 2,
         left: 0,
@@ -25,14 +26,19 @@ fn program(alloc: Global) -> Program {
     Program::new(head, declarations, Vec::new(alloc))
 }
 
-fn credits(alloc: Global, credits: u32) -> Items
-    ensures { view_items result ≡ record { shares = []; tokens = []; credits = credits; queue = None } }
+fn credits(alloc: Global, credits: u32, more: u32) -> Items
+    ensures { view_items result ≡ record { shares = []; tokens = []; credits = credits; queue = None; more = record { shares = []; tokens = []; credits = more } } }
 {
     Items {
         shares: Vec::new(alloc),
         tokens: Vec::new(alloc),
         credits,
         queue: None,
+        more: More {
+            shares: Vec::new(alloc),
+            tokens: Vec::new(alloc),
+            credits: more,
+        },
     }
 }
 
@@ -49,13 +55,31 @@ fn credits_are_counted(rt: HostRuntime) -> Result<(), Fail> {
     let mut other = held.copy(rt.alloc())?;
     assert!(rt; other.take(Part::Credits(1)).is_some());
     assert!(rt; other.take(Part::Credits(3)).is_none());
-    assert!(rt; other.covers(&credits(rt.alloc(), 2)));
-    assert!(rt; !other.covers(&credits(rt.alloc(), 3)));
+    assert!(rt; other.covers(&credits(rt.alloc(), 2, 0)));
+    assert!(rt; !other.covers(&credits(rt.alloc(), 3, 0)));
     held.meet(&other);
     assert!(rt; held.holds(Part::Credits(2)));
     assert!(rt; !held.holds(Part::Credits(3)));
-    held.hold(&credits(rt.alloc(), 5));
+    held.hold(&credits(rt.alloc(), 5, 0));
     assert!(rt; held.holds(Part::Credits(5)));
     assert!(rt; !other.holds(Part::Credits(5)));
+    Ok(())
+}
+
+#[test]
+fn what_is_held_besides_is_asked_of_one_side(rt: HostRuntime) -> Result<(), Fail> {
+    let program = program(rt.alloc());
+    let mut held = Holding::empty(rt.alloc(), &program)?;
+    let items = credits(rt.alloc(), 2, 3);
+    held.hold_on(&items, true);
+    assert!(rt; held.holds(Part::Credits(2)));
+    assert!(rt; !held.holds(Part::Credits(3)));
+    assert!(rt; held.covers_on(&items, true));
+    assert!(rt; !held.covers_on(&items, false));
+    held.hold_on(&items, false);
+    assert!(rt; held.holds(Part::Credits(5)));
+    assert!(rt; !held.holds(Part::Credits(6)));
+    assert!(rt; held.covers_on(&items, false));
+    assert!(rt; held.covers(&items));
     Ok(())
 }

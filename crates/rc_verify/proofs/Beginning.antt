@@ -1,18 +1,18 @@
 -- Where a walk begins, and what it answers.
-use Rattle.std.proofs.Common.{◌≡◌, ℕ, zero, suc, false, ◌<◌, ◌≤◌, List, [], ◌∷◌, length, map, take_all, Option, Some, None, get_or, refl, sym, ap, subst, ◌∙◌, arith, slice_get}
+use Rattle.std.proofs.Common.{◌≡◌, ℕ, zero, suc, Bool, false, ◌<◌, ◌≤◌, List, [], ◌∷◌, length, map, take_all, Option, Some, None, get_or, refl, sym, ap, subst, ◌∙◌, arith, slice_get}
 use Rattle.std.proofs.lemmas.Option.{slice_get-get_or}
 use Rattle.rc_lang.specs.declared.lines.Line.{Line}
 use Rattle.rc_lang.specs.declared.program.Thread.{Thread as ThreadPart}
 use Rattle.rc_lang.specs.Parts.{view_thread}
 use Rattle.rc_lang.specs.Nesting.{blocks_at, in_lock}
 use Rattle.rc_lang.specs.Program.{IsProgram, Program, Thread}
-use Rattle.rc_rules.specs.Labels.{Label}
 use Rattle.rc_rules.specs.Labellings.{HasLabels, IsGood, IsRefusedAt}
-use Rattle.rc_rules.specs.States.{State, IsStart, label_of}
+use Rattle.rc_rules.specs.Sides.{Sides, on}
+use Rattle.rc_rules.specs.States.{State, BeginsAs, IsStart, label_of, sides_of}
 use Rattle.rc_rules.proofs.Headers.{thread_at}
 use Rattle.arrayvec.specs.ArrayVec.{ArrayVec}
 use Rattle.rc_verify.specs.declared.walk.Walk.{Walk}
-use Rattle.rc_verify.specs.Walk.{AreKept, Fits, IsLoop, IsSaved, OnKept, Reaches, most_at}
+use Rattle.rc_verify.specs.Walk.{AreKept, Fits, IsBranch, IsLoop, OnKept, Reaches, most_at}
 use Rattle.rc_verify.proofs.Fit.{start_fits}
 use Rattle.rc_verify.proofs.Strongest.{begins}
 
@@ -27,24 +27,27 @@ pub starts : (P : Program) (i : ℕ) (t : Thread) (s : State) (branches loops : 
 starts P i t s branches loops made is h e f = record {
   made = made;
   thread = made.each i t is;
-  labels = label_of s ∷ [];
+  labels = sides_of s ∷ [];
   at = record {
     within = omega arith;
     size = refl;
-    strongest = begins P t (label_of s) (h.1 t is);
-    here = record { of = h.0; at = refl };
+    strongest = begins P t (sides_of s) first.each;
+    here = record { of = record { program = h.0; flag = first.flag }; at = refl };
     fits = fits;
     keeps = record {
-      branches = subst (λ xs. AreKept (OnKept (IsSaved P (label_of s ∷ []))) [] xs) (sym e) tt;
+      branches = subst (λ xs. AreKept (OnKept (IsBranch P t 0 (sides_of s ∷ []))) [] xs) (sym e) tt;
       peek = tt;
-      loops = subst (λ xs. AreKept (OnKept (IsLoop P t 0 (label_of s ∷ []))) [] xs) (sym f) tt;
+      loops = subst (λ xs. AreKept (OnKept (IsLoop P t 0 (sides_of s ∷ []))) [] xs) (sym f) tt;
     };
   };
 }
   where
-    fits : (k : ℕ) (x : Label) → slice_get (label_of s ∷ []) k ≡ Some x → Fits (in_lock (blocks_at t.lines k)) (most_at 0) x
-    fits zero x q = let g : label_of s ≡ x = cc in subst (λ y. Fits false 2048 y) g (start_fits P t (label_of s) (made.each i t is).items (h.1 t is))
-    fits (suc k) x q = absurd (cc)
+    first : BeginsAs s t
+    first = h.1 t is
+
+    fits : (k : ℕ) (x : Sides) → slice_get (sides_of s ∷ []) k ≡ Some x → (z : Bool) → Fits (in_lock (blocks_at t.lines k)) (most_at 0) (on z x)
+    fits zero x q z = let g : sides_of s ≡ x = cc in subst (λ y. Fits false 4096 (on z y)) g (start_fits P t z (label_of s z) (made.each i t is).items (first.each z))
+    fits (suc k) x q z = absurd (cc)
 
 -- ---- the answers
 

@@ -1,5 +1,5 @@
 -- Where some labels are good, there are strongest ones, and refusals can be read off them.
-use Rattle.std.proofs.Common.{◌≡◌, ℕ, zero, suc, ◌+◌, ◌≤◌, ◌↔◌, true, List, [], ◌∷◌, ◌++◌, length, take, Some, refl, sym, ap, subst, inl, inr, arith, length-append}
+use Rattle.std.proofs.Common.{◌≡◌, ℕ, zero, suc, ◌+◌, ◌≤◌, ◌↔◌, Bool, true, false, List, [], ◌∷◌, ◌++◌, length, take, Some, refl, sym, ap, inl, inr, arith, length-append}
 use Rattle.std.specs.Prelude.{slice_get}
 use Rattle.std.proofs.lemmas.Bool.{eq-eqb}
 use Rattle.std.proofs.lemmas.List.{length-take}
@@ -15,9 +15,10 @@ use Rattle.rc_rules.specs.declared.mode.Mode.{Mode}
 use Rattle.rc_rules.specs.declared.mode.Mode.TheVariants.{Unlocked, Locked}
 use Rattle.rc_rules.specs.declared.mode.Slot.{Slot}
 use Rattle.rc_rules.specs.declared.mode.Slot.TheVariants.{Closed, Vacant, Prepared}
-use Rattle.rc_rules.specs.Labels.{Label, Dead, Live, Weaker, WeakerMode, WeakerThanEach, IsStrongest}
+use Rattle.rc_rules.specs.Labels.{Label, Dead, Live, Weaker, WeakerMode, WeakerThanEach, IsSame, IsStrongest}
 use Rattle.rc_rules.specs.Labellings.{label_at, befores, premises, IsGood, HasLabels, IsRefusedAt, start_of}
 use Rattle.rc_rules.specs.Premises.{MeetsBelow, FailsFirst}
+use Rattle.rc_rules.specs.Sides.{Sides, on}
 use Rattle.rc_rules.specs.Rules.{same_kind, same_slot, agree_modes}
 use Rattle.rc_rules.specs.States.{both, AgreeOnLock}
 use Rattle.rc_rules.proofs.Growth.{modes_agree, rules_grow}
@@ -34,7 +35,7 @@ kind_same (Write b k) = rw (eq-eqb b b refl, eq-eqb k k refl) refl
 kind_same Fsync = refl
 kind_same Nop = refl
 
-slot_same : (s : Slot) → same_slot s s ≡ true
+pub slot_same : (s : Slot) → same_slot s s ≡ true
 slot_same Closed = refl
 slot_same Vacant = refl
 slot_same (Prepared k) = kind_same k
@@ -76,7 +77,7 @@ bounded_meet t (x ∷ ss) h = more (bounded_meet t ss h.1)
 
 -- strongest labels, as many as there are places
 abbrev pub Found : Program → Thread → List Line → Type 0
-Found P thread lines = (labels : List Label) × (length labels ≡ length lines + 1) × AreStrongest P thread lines labels
+Found P thread lines = (labels : List Sides) × (length labels ≡ length lines + 1) × AreStrongest P thread lines labels
 
 found_more : (P : Program) (thread : Thread) (lines : List Line) (l : Line) → Found P thread lines → HasLabels P thread (lines ++ l ∷ []) → Found P thread (lines ++ l ∷ [])
 found_more P thread lines l f h =
@@ -84,9 +85,9 @@ found_more P thread lines l f h =
     let last = last_good P thread lines l h.0 h.1 in
     let below = below_strongest P thread lines f.0 h.0 f.1 f.2 front in
     let grows = rules_grow P thread lines (take (length lines + 1) h.0) f.0 l.stmt below in
-    let bound = weaker_than_more (label_at h.0 (length lines + 1)) _ (befores P thread lines f.0 l.stmt) last.1 (grows.gives_more last.0) in
-    let m : (s : Label) × IsStrongest s (befores P thread lines f.0 l.stmt) = bounded_meet (label_at h.0 (length lines + 1)) (befores P thread lines f.0 l.stmt) bound in
-    (f.0 ++ m.0 ∷ [], omega (arith, length-append f.0 (m.0 ∷ []), length-append lines (l ∷ []), f.1), goes_on P thread lines f.0 l m.0 f.1 f.2 (grows.meets_too last.0) m.1)
+    let meet : (z : Bool) → (s : Label) × IsStrongest s (befores P thread lines f.0 l.stmt z) = λ z. bounded_meet (label_at h.0 (length lines + 1) z) (befores P thread lines f.0 l.stmt z) (weaker_than_more (label_at h.0 (length lines + 1) z) _ (befores P thread lines f.0 l.stmt z) (last.1 z) (grows.gives_more last.0 z)) in
+    let new : Sides = record { zero = (meet true).0; other = (meet false).0 } in
+    (f.0 ++ new ∷ [], omega (arith, length-append f.0 (new ∷ []), length-append lines (l ∷ []), f.1), goes_on P thread lines f.0 l new f.1 f.2 (grows.meets_too last.0) (λ z. elim z as (λ y. IsStrongest (on y new) (befores P thread lines f.0 l.stmt y)) [ true ↦ (meet true).1 | false ↦ (meet false).1 ]))
 
 take_past : {X : Type 0} (n : ℕ) (xs : List X) → length xs ≤ n → take (suc n) xs ≡ take n xs
 take_past n [] le = sym (take_nothing n)
@@ -98,7 +99,7 @@ take_past zero (x ∷ xs) le = absurd (omega (arith, le))
 take_past (suc n) (x ∷ xs) le = ap (λ ys. x ∷ ys) (take_past n xs (omega (arith, le)))
 
 found_to : (P : Program) (thread : Thread) (lines : List Line) (n : ℕ) → HasLabels P thread (take n lines) → Found P thread (take n lines)
-found_to P thread lines zero h = (start_of thread ∷ [], refl, begins P thread (start_of thread) (λ p. refl, refl))
+found_to P thread lines zero h = (start_of thread ∷ [], refl, begins P thread (start_of thread) (λ z. elim z as (λ y. IsSame (on y (start_of thread)) (on y (start_of thread))) [ true ↦ (λ p. refl, refl) | false ↦ tt ]))
 found_to P thread lines (suc n) h = elim (slice_get_cases lines n).1 [
   | inl f ↦
       let more : take (suc n) lines ≡ take n lines ++ f.0 ∷ [] = take_suc_at lines n f.0 f.2 in
@@ -109,7 +110,7 @@ found_to P thread lines (suc n) h = elim (slice_get_cases lines n).1 [
       rw more (found_to P thread lines n (rw more at h))
 ]
 
-pub one_is_strongest : (P : Program) (thread : Thread) (lines : List Line) → HasLabels P thread lines → (labels : List Label) × AreStrongest P thread lines labels
+pub one_is_strongest : (P : Program) (thread : Thread) (lines : List Line) → HasLabels P thread lines → (labels : List Sides) × AreStrongest P thread lines labels
 one_is_strongest P thread lines h =
     let all : take (length lines) lines ≡ lines = take-length lines in
     let f = found_to P thread lines (length lines) (rw all h) in
@@ -117,12 +118,12 @@ one_is_strongest P thread lines h =
 
 -- ---- refusals
 
-module _ (P : Program) (thread : Thread) (j : ℕ) (line : Line) (labels : List Label) (v : ℕ) (at : slice_get thread.lines j ≡ Some line) (s : AreStrongest P thread (take j thread.lines) labels) where
+module _ (P : Program) (thread : Thread) (j : ℕ) (line : Line) (labels : List Sides) (v : ℕ) (at : slice_get thread.lines j ≡ Some line) (s : AreStrongest P thread (take j thread.lines) labels) where
   front_is : length (take j thread.lines) ≡ j
   front_is = let lt = slice_get_within thread.lines j line at in omega (arith, length-take j thread.lines)
 
   -- what good labels meet, the strongest do
-  meets_too : (w : ℕ) (ks : List Label) → IsGood P thread (take j thread.lines) ks → MeetsBelow w (premises P thread (take j thread.lines) (take (j + 1) ks) line.stmt) → MeetsBelow w (premises P thread (take j thread.lines) (take (j + 1) labels) line.stmt)
+  meets_too : (w : ℕ) (ks : List Sides) → IsGood P thread (take j thread.lines) ks → MeetsBelow w (premises P thread (take j thread.lines) (take (j + 1) ks) line.stmt) → MeetsBelow w (premises P thread (take j thread.lines) (take (j + 1) labels) line.stmt)
   meets_too w ks g = (rules_grow P thread (take j thread.lines) (take (j + 1) ks) (take (j + 1) labels) line.stmt (rw front_is at (known_below P thread (take j thread.lines) labels ks s g))).asks_less w
 
   fails_first : IsRefusedAt P thread j line v → FailsFirst v (premises P thread (take j thread.lines) (take (j + 1) labels) line.stmt)

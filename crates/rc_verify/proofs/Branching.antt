@@ -1,39 +1,119 @@
 -- Ifs, and the ends of their branches.
-use Rattle.std.proofs.Common.{◌≡◌, ℕ, ◌+◌, ◌<◌, ◌≤◌, List, [], ◌∷◌, ◌++◌, length, length-append, take, Option, Some, Result, Ok, Err, refl, sym, ap, subst, ◌∙◌, inl, inr, arith}
-use Rattle.std.specs.Prelude.{IsSome, OnOk}
-use Rattle.std.proofs.lemmas.Option.{get_or_from_slice_get}
+use Rattle.std.proofs.Common.{◌≡◌, ℕ, zero, suc, ◌+◌, ◌<◌, ◌≤◌, ◌⊎◌, Bool, true, false, List, [], ◌∷◌, ◌++◌, length, length-append, take, Option, Some, Result, Ok, Err, refl, sym, ap, subst, ◌∙◌, inl, inr, arith, slice_index_or}
+use Rattle.std.specs.Prelude.{IsSome, OnOk, ℤ}
+use Rattle.std.proofs.lemmas.Option.{get_or_from_slice_get, slice_get-get_or}
+use Rattle.std.proofs.Math.ListN.{get_or-append}
+use Rattle.std.proofs.Math.Path.{fun_ext}
 use Rattle.rc_lang.specs.declared.lines.Block.{Block}
 use Rattle.rc_lang.specs.declared.lines.Block.TheVariants.{InIf, InElse}
+use Rattle.rc_lang.specs.declared.lines.Comparison.{Comparison}
+use Rattle.rc_lang.specs.declared.lines.Line.{Line}
 use Rattle.rc_lang.specs.declared.lines.Stmt.TheVariants.{If, Else, EndIf}
 use Rattle.rc_lang.specs.declared.lines.Test.{Test}
+use Rattle.rc_lang.specs.declared.lines.Test.TheVariants.{Compare}
 use Rattle.rc_lang.specs.Nesting.{blocks_at, in_lock}
 use Rattle.rc_lang.specs.Program.{Program, Thread, stmt_at}
 use Rattle.rc_lang.proofs.Along.{same_lock}
 use Rattle.rc_lang.proofs.Closing.{closes_if, turns as turns_at}
-use Rattle.rc_lang.proofs.Lookups.{blocks_next, get_old}
+use Rattle.rc_lang.proofs.Lookups.{blocks_next}
 use Rattle.rc_rules.specs.declared.cause.Cause.{Cause}
-use Rattle.rc_rules.specs.Labels.{Label, Dead, Live, IsStrongest}
-use Rattle.rc_rules.specs.Labellings.{here, label_at}
-use Rattle.rc_rules.specs.Premises.{Premise}
-use Rattle.rc_rules.specs.Rules.{asks, goes, may_join, test_effect, test_premises}
-use Rattle.rc_rules.specs.States.{State, AgreeOnLock, Gives, label_of, program_of}
+use Rattle.rc_rules.specs.declared.mode.Inside.{Inside}
+use Rattle.rc_rules.specs.declared.mode.Mode.{Mode}
+use Rattle.rc_rules.specs.declared.mode.Mode.TheVariants.{Unlocked, Locked}
+use Rattle.rc_rules.specs.declared.mode.Peeked.{Peeked}
+use Rattle.rc_rules.specs.declared.mode.Peeked.TheVariants.{Unseen}
+use Rattle.rc_rules.specs.Labels.{Label, Dead, Live, Weaker, WeakerInside, WeakerMode, IsStrongest}
+use Rattle.rc_rules.specs.Labellings.{here, label_at, skipped}
+use Rattle.rc_rules.specs.Premises.{Meets, Premise}
+use Rattle.rc_rules.specs.Rules.{asks, asks_both, goes, joins_both, test_effect, test_premises}
+use Rattle.rc_rules.specs.Sides.{Sides, gate, may_skip, nowhere, on, test_goes}
+use Rattle.rc_rules.specs.States.{State, AgreeOnLock, Becomes, Gives, IsOfSame, label_of, program_of, sides_of}
 use Rattle.arrayvec.specs.ArrayVec.{ArrayVec}
 use Rattle.rc_verify.specs.declared.walk.Walk.{Walk}
+use Rattle.rc_verify.specs.Arms.{two}
+use Rattle.rc_verify.specs.Branches.{KeepsOther}
 use Rattle.rc_verify.specs.Kept.{last_of, rest_of}
-use Rattle.rc_verify.specs.Walk.{Fits, Reaches, Turns, branch_place, loop_place, most_at, peek_place, places, AreKept, OnKept, IsSaved}
-use Rattle.rc_verify.proofs.Fit.{fits_alike, fits_more, strongest_fits, test_fits}
-use Rattle.rc_rules.proofs.Weaker.{only_itself}
+use Rattle.rc_verify.specs.Walk.{AreKept, Fits, IsBranch, OnKept, Reaches, Turns, branch_place, loop_place, most_at, peek_place, places}
+use Rattle.rc_verify.proofs.Fit.{fits_alike, fits_more, gate_fits, strongest_fits, test_fits}
+use Rattle.rc_verify.proofs.Joining.{above, below}
+use Rattle.rc_rules.proofs.Weaker.{meets_append, only_itself}
 use Rattle.rc_verify.proofs.Keeping.{KeepsLast, few_branches, few_places, keep_more, kept_length, last_kept, places_pushed, pushed_none, same_last, some_last}
 use Rattle.rc_verify.proofs.Plainly.{fits_behind, fits_known, loops_same, opens_none, peek_same}
-use Rattle.rc_verify.proofs.Standing.{Gave, branches_stay, fits_here, here_is, lead_at, onward, took, turns}
+use Rattle.rc_verify.proofs.Standing.{AreStrongestOf, Gave, branches_stay, fits_here, here_is, lead_at, of_same, onward, same_of, seen_at, took, turns}
 
 pub on_ok : {X : Type 0} (A : Type 0) (x : Result X Cause) (y : X) → OnOk x A → x ≡ Ok y → A
 on_ok A (Ok z) y h e = h
 on_ok A (Err c) y h e = absurd (cc)
 
+-- ---- labels that each say as much as the other
+
+same_peeked : (p q : Peeked) → (p ≡ q) ⊎ (p ≡ Unseen) → (q ≡ p) ⊎ (q ≡ Unseen) → p ≡ q
+same_peeked p q (inl e) g = e
+same_peeked p q (inr e) (inl f) = sym f
+same_peeked p q (inr e) (inr f) = e ∙ sym f
+
+same_inside : (i j : Inside) → WeakerInside i j → WeakerInside j i → i ≡ j
+same_inside i j v w =
+    let n : i.queued ≡ j.queued = omega (arith, v.queued, w.queued) in
+    ap (λ x. record { queued = x; slot = i.slot; peeked = i.peeked }) n
+    ∙ ap (λ x. record { queued = j.queued; slot = x; peeked = i.peeked }) v.slot
+    ∙ ap (λ x. record { queued = j.queued; slot = j.slot; peeked = x }) (same_peeked i.peeked j.peeked v.peeked w.peeked)
+
+same_mode : (m n : Mode) → WeakerMode m n → WeakerMode n m → m ≡ n
+same_mode Unlocked Unlocked v w = refl
+same_mode Unlocked (Locked j) v w = absurd v
+same_mode (Locked i) Unlocked v w = absurd v
+same_mode (Locked i) (Locked j) v w = ap Locked (same_inside i j v w)
+
+same_label : (s t : Label) → Weaker s t → Weaker t s → s ≡ t
+same_label Dead Dead v w = refl
+same_label Dead (Live b n) v w = absurd v
+same_label (Live a m) Dead v w = absurd w
+same_label (Live a m) (Live b n) v w = ap (λ x. Live x m) (fun_ext (λ p. omega (arith, v.0 p, w.0 p))) ∙ ap (Live b) (same_mode m n v.1 w.1)
+
+only_one : (s t : Label) → IsStrongest s (t ∷ []) → s ≡ t
+only_one s t h = same_label s t (below s t h) (above s t h)
+
+-- ---- a test of a variable
+
+same_too : (s : Label) → goes s Live ≡ s
+same_too Dead = refl
+same_too (Live a m) = refl
+
+none_asked : (s : Label) → Meets (asks s (λ bag m. []))
+none_asked Dead = tt
+none_asked (Live a m) = tt
+
+-- what a test asks and lets through, of the first branch
+abbrev pub Tested : State → State → Test → Type 0
+Tested s new test = Meets (asks_both (label_of s) (λ z bag m. test_premises m test)) × Becomes s new (λ z. gate (test_goes s.flag test z true) (goes (label_of s z) (λ bag m. test_effect (program_of s) bag m test)) ∷ [])
+
+-- A comparison asks nothing, and says nothing of what is held.
+pub compared : (s new : State) (test : Test) (x : ℕ) (c : Comparison) (n : ℤ) → test ≡ Compare x c n → Becomes s new (λ z. gate (test_goes s.flag test z true) (label_of s z) ∷ []) → Tested s new test
+compared s new test x c n e h = subst (Tested s new) (sym e) (meets_append (asks (label_of s true) (λ bag m. [])) (asks (label_of s false) (λ bag m. [])) (none_asked (label_of s true)) (none_asked (label_of s false)), record { each = each; of = h.of })
+  where
+    each : (z : Bool) → IsStrongest (label_of new z) (gate (test_goes s.flag (Compare x c n) z true) (goes (label_of s z) Live) ∷ [])
+    each z = subst (λ l. IsStrongest (label_of new z) (gate (test_goes s.flag (Compare x c n) z true) l ∷ [])) (sym (same_too (label_of s z))) (subst (λ k. IsStrongest (label_of new z) (gate (test_goes s.flag k z true) (label_of s z) ∷ [])) e (h.each z))
+
+-- ---- what a branch leaves behind it
+
+stmt_front : (lines : List Line) (j o : ℕ) → o < j → stmt_at (take j lines) o ≡ stmt_at lines o
+stmt_front lines zero o lt = absurd (omega (arith, lt))
+stmt_front [] (suc j) o lt = refl
+stmt_front (l ∷ lines) (suc j) zero lt = refl
+stmt_front (l ∷ lines) (suc j) (suc o) lt = stmt_front lines j o (omega (arith, lt))
+
+-- The lines from j on say nothing of it.
+skipped_front : (t : Thread) (j : ℕ) (labels : List Sides) (o : ℕ) (z : Bool) → o < j → skipped t t.lines labels o z ≡ skipped t (take j t.lines) labels o z
+skipped_front t j labels o z lt = ap (λ x. gate (may_skip t.flag z x) (label_at labels o z)) (sym (stmt_front t.lines j o lt))
+
 module _ (P : Program) (t : Thread) (j : ℕ) (w : Walk) (r : Reaches P t j w) where
   few_kept : length w.branches.items ≤ length (blocks_at t.lines j)
-  few_kept = omega (arith, kept_length (OnKept (IsSaved P r.labels)) (places branch_place (blocks_at t.lines j)) w.branches.items r.at.keeps.branches, few_places branch_place few_branches (blocks_at t.lines j))
+  few_kept = omega (arith, kept_length (OnKept (IsBranch P t j r.labels)) (places branch_place (blocks_at t.lines j)) w.branches.items r.at.keeps.branches, few_places branch_place few_branches (blocks_at t.lines j))
+
+  -- the label of this place, where there is one more
+  here_still : (new : Sides) (z : Bool) → label_at (r.labels ++ new ∷ []) j z ≡ label_of w.state z
+  here_still new z = ap (on z) (get_or-append r.labels (new ∷ []) nowhere j (omega (arith, r.at.size)) ∙ get_or_from_slice_get r.labels j (sides_of w.state) nowhere r.at.here.at)
 
   -- ---- if
 
@@ -42,75 +122,100 @@ module _ (P : Program) (t : Thread) (j : ℕ) (w : Walk) (r : Reaches P t j w) w
       let n : length (blocks_at t.lines (j + 1)) ≡ length (blocks_at t.lines j ++ InIf j ∷ []) = ap length (blocks_next t.lines j (If test) e) in
       omega (arith, n, length-append (blocks_at t.lines j) (InIf j ∷ []), few_kept, r.thread.nested.depth (j + 1))
 
-  pub if_turns : {X : Type 0} (test : Test) (new : State) (kept : ArrayVec (Option State)) (x : Result X Cause) → stmt_at t.lines j ≡ Some (If test) → Gives w.state new x (asks (label_of w.state) (λ bag m. test_premises m test)) (goes (label_of w.state) (λ bag m. test_effect (program_of w.state) bag m test) ∷ []) → OnOk x (kept.items ≡ w.branches.items ++ Some w.state ∷ []) → Turns P t j (record { state = new; branches = kept; peek = w.peek; loops = w.loops }) x
+  kept_other : (test : Test) (new : Sides) (kept : List (Option State)) → stmt_at t.lines j ≡ Some (If test) → (k : KeepsOther test w.state w.branches.items kept) → IsBranch P t (j + 1) (r.labels ++ new ∷ []) j k.state
+  kept_other test new kept e k = record {
+    of = of_same P t k.state w.state r.at.here.of k.other.of;
+    before = omega arith;
+    at = λ z.
+        only_one (label_of k.state z) (gate (test_goes w.state.flag test z false) (label_of w.state z)) (k.other.each z)
+        ∙ ap (λ (f : Option ℕ). gate (test_goes f test z false) (label_of w.state z)) r.at.here.of.flag
+        ∙ ap (λ x. gate (may_skip t.flag z x) (label_of w.state z)) (sym e)
+        ∙ ap (gate (may_skip t.flag z (stmt_at t.lines j))) (sym (here_still new z));
+  }
+
+  pub if_turns : {X : Type 0} (test : Test) (new : State) (kept : ArrayVec (Option State)) (x : Result X Cause) → stmt_at t.lines j ≡ Some (If test) → Gives w.state new x (asks_both (label_of w.state) (λ z bag m. test_premises m test)) (λ z. gate (test_goes w.state.flag test z true) (goes (label_of w.state z) (λ bag m. test_effect (program_of w.state) bag m test)) ∷ []) → OnOk x (KeepsOther test w.state w.branches.items kept.items) → Turns P t j (record { state = new; branches = kept; peek = w.peek; loops = w.loops }) x
   if_turns test new kept x e g k =
       let w' : Walk = record { state = new; branches = kept; peek = w.peek; loops = w.loops } in
-      let F : Program → Label → List (ℕ × Premise) = λ p l. asks l (λ bag m. test_premises m test) in
-      let B : Program → Label → List Label = λ p l. goes l (λ bag m. test_effect p bag m test) ∷ [] in
-      let gave = took P w.state new (here (take j t.lines) r.labels) x F B r.at.here.of (here_is P t j w r (If test) e) g in
+      let F : Program → Option ℕ → Sides → List (ℕ × Premise) = λ p f l. asks_both (λ z. on z l) (λ z bag m. test_premises m test) in
+      let B : Program → Option ℕ → Sides → Bool → List Label = λ p f l z. gate (test_goes f test z true) (goes (on z l) (λ bag m. test_effect p bag m test)) ∷ [] in
+      let gave = took P t w.state new (seen_at t j r.labels) x F B r.at.here.of (here_is P t j w r (If test) e) g in
       let bs = blocks_at t.lines j in
       let n : blocks_at t.lines (j + 1) ≡ bs ++ InIf j ∷ [] = blocks_next t.lines j (If test) e in
       let same = opens_none t j bs (InIf j) refl n in
-      let f : Fits (in_lock bs) (most_at j + 18) (goes (here (take j t.lines) r.labels) (λ bag m. test_effect P bag m test)) = fits_more (in_lock bs) (most_at j) (most_at j + 18) _ (omega arith) (test_fits P test (in_lock bs) (most_at j) _ (fits_known P t j w r (If test) e)) in
+      let f : (z : Bool) → Fits (in_lock bs) (most_at j + 18) (goes (here (take j t.lines) r.labels z) (λ bag m. test_effect P bag m test)) = λ z. fits_more (in_lock bs) (most_at j) (most_at j + 18) _ (omega arith) (test_fits P test (in_lock bs) (most_at j) _ (fits_known P t j w r (If test) e z)) in
       turns P t j w r (If test) e w' x gave
-      (λ b. fits_behind P t j w r (If test) e (label_of new) (strongest_fits (in_lock bs) (most_at j + 18) (label_of new) _ (f, tt) b))
+      (λ b z. fits_behind P t j w r (If test) e (label_of new z) (strongest_fits (in_lock bs) (most_at j + 18) (label_of new z) _ (gate_fits (test_goes t.flag test z true) (in_lock bs) (most_at j + 18) _ (f z), tt) (b z)))
       (λ y q. record {
-        branches = grown new kept (n) (on_ok (kept.items ≡ w.branches.items ++ Some w.state ∷ []) x y k q);
-        peek = peek_same P t j w r (If test) e (label_of new) (λ o z. refl) (same peek_place refl);
-        loops = loops_same P t j w r (If test) e (label_of new) (λ o z. refl) (same loop_place refl);
+        branches = grown new kept n (on_ok (KeepsOther test w.state w.branches.items kept.items) x y k q);
+        peek = peek_same P t j w r (If test) e (sides_of new) (λ o z. refl) (same peek_place refl);
+        loops = loops_same P t j w r (If test) e (sides_of new) (λ o z. refl) (same loop_place refl);
       })
     where
-      grown : (new : State) (kept : ArrayVec (Option State)) → blocks_at t.lines (j + 1) ≡ blocks_at t.lines j ++ InIf j ∷ [] → kept.items ≡ w.branches.items ++ Some w.state ∷ [] → AreKept (OnKept (IsSaved P (r.labels ++ label_of new ∷ []))) (places branch_place (blocks_at t.lines (j + 1))) kept.items
+      grown : (new : State) (kept : ArrayVec (Option State)) → blocks_at t.lines (j + 1) ≡ blocks_at t.lines j ++ InIf j ∷ [] → KeepsOther test w.state w.branches.items kept.items → AreKept (OnKept (IsBranch P t (j + 1) (r.labels ++ sides_of new ∷ []))) (places branch_place (blocks_at t.lines (j + 1))) kept.items
       grown new kept n k =
-          let saved : IsSaved P (r.labels ++ label_of new ∷ []) j w.state = record { of = r.at.here.of; at = get_old r.labels (label_of new ∷ []) j (label_of w.state) r.at.here.at } in
-          let more = keep_more (OnKept (IsSaved P (r.labels ++ label_of new ∷ []))) (places branch_place (blocks_at t.lines j)) w.branches.items j (Some w.state) (branches_stay P t j w r (If test) e (label_of new) (places branch_place (blocks_at t.lines j)) w.branches.items r.at.keeps.branches) saved in
-          subst (λ os. AreKept (OnKept (IsSaved P (r.labels ++ label_of new ∷ []))) os kept.items) (sym (ap (places branch_place) n ∙ places_pushed branch_place (blocks_at t.lines j) (InIf j))) (subst (λ xs. AreKept (OnKept (IsSaved P (r.labels ++ label_of new ∷ []))) (places branch_place (blocks_at t.lines j) ++ j ∷ []) xs) (sym k) more)
+          let R = OnKept (IsBranch P t (j + 1) (r.labels ++ sides_of new ∷ [])) in
+          let more = keep_more R (places branch_place (blocks_at t.lines j)) w.branches.items j (Some k.state) (branches_stay P t j w r (If test) e (sides_of new) (places branch_place (blocks_at t.lines j)) w.branches.items r.at.keeps.branches) (kept_other test (sides_of new) kept.items e k) in
+          subst (λ os. AreKept R os kept.items) (sym (ap (places branch_place) n ∙ places_pushed branch_place (blocks_at t.lines j) (InIf j))) (subst (λ xs. AreKept R (places branch_place (blocks_at t.lines j) ++ j ∷ []) xs) (sym k.kept) more)
 
   -- ---- else
 
-  -- The state that is kept last is that of the label at o.
-  kept_at : (o : ℕ) (outer : List Block) (b : Block) → branch_place b ≡ o ∷ [] → blocks_at t.lines j ≡ outer ++ b ∷ [] → KeepsLast (IsSaved P r.labels) (places branch_place outer) o w.branches.items
-  kept_at o outer b p n = last_kept (IsSaved P r.labels) (places branch_place outer) o w.branches.items (subst (λ os. AreKept (OnKept (IsSaved P r.labels)) os w.branches.items) (ap (places branch_place) n ∙ places_pushed branch_place outer b ∙ ap (λ os. places branch_place outer ++ os) p) r.at.keeps.branches)
+  -- The state that is kept last is the end of the branch that is read at the line at o.
+  kept_at : (o : ℕ) (outer : List Block) (b : Block) → branch_place b ≡ o ∷ [] → blocks_at t.lines j ≡ outer ++ b ∷ [] → KeepsLast (IsBranch P t j r.labels) (places branch_place outer) o w.branches.items
+  kept_at o outer b p n = last_kept (IsBranch P t j r.labels) (places branch_place outer) o w.branches.items (subst (λ os. AreKept (OnKept (IsBranch P t j r.labels)) os w.branches.items) (ap (places branch_place) n ∙ places_pushed branch_place outer b ∙ ap (λ os. places branch_place outer ++ os) p) r.at.keeps.branches)
 
-  else_kept : (o : ℕ) → stmt_at t.lines j ≡ Some (Else o) → KeepsLast (IsSaved P r.labels) (places branch_place (blocks_at t.lines o)) o w.branches.items
+  else_kept : (o : ℕ) → stmt_at t.lines j ≡ Some (Else o) → KeepsLast (IsBranch P t j r.labels) (places branch_place (blocks_at t.lines o)) o w.branches.items
   else_kept o e = kept_at o (blocks_at t.lines o) (InIf o) refl (turns_at t.lines r.thread.nested.each j o e).within
 
   pub else_some : (o : ℕ) → stmt_at t.lines j ≡ Some (Else o) → IsSome (last_of w.branches.items)
-  else_some o e = some_last (IsSaved P r.labels) _ o w.branches.items (else_kept o e)
+  else_some o e = some_last (IsBranch P t j r.labels) _ o w.branches.items (else_kept o e)
 
   pub few_here : length w.branches.items < 32
   few_here = omega (arith, few_kept, r.thread.nested.depth j)
+
+  -- What comes from a branch fits as the label that it is read at does.
+  branch_fits : (o : ℕ) (s : State) (z : Bool) → in_lock (blocks_at t.lines o) ≡ in_lock (blocks_at t.lines j) → IsBranch P t j r.labels o s → Fits (in_lock (blocks_at t.lines j)) (most_at j) (label_of s z)
+  branch_fits o s z l h =
+      let lt : o < length r.labels = omega (arith, h.before, r.at.size) in
+      let is = slice_get-get_or r.labels o nowhere lt in
+      let f : Fits (in_lock (blocks_at t.lines j)) (most_at j) (label_at r.labels o z) = subst (λ b. Fits b (most_at j) (label_at r.labels o z)) l (r.at.fits o (slice_index_or r.labels o nowhere) is z) in
+      subst (λ x. Fits (in_lock (blocks_at t.lines j)) (most_at j) x) (sym (h.at z)) (gate_fits (may_skip t.flag z (stmt_at t.lines o)) (in_lock (blocks_at t.lines j)) (most_at j) (label_at r.labels o z) f)
 
   pub else_turns : (o : ℕ) (new : State) (kept : ArrayVec (Option State)) → stmt_at t.lines j ≡ Some (Else o) → last_of w.branches.items ≡ Some new → kept.items ≡ rest_of w.branches.items ++ Some w.state ∷ [] → Reaches P t (j + 1) (record { state = new; branches = kept; peek = w.peek; loops = w.loops })
   else_turns o new kept e q k =
       let w' : Walk = record { state = new; branches = kept; peek = w.peek; loops = w.loops } in
       let c = turns_at t.lines r.thread.nested.each j o e in
       let last = else_kept o e in
-      let saved = same_last (IsSaved P r.labels) (places branch_place (blocks_at t.lines o)) o w.branches.items new last q in
-      let known : label_at r.labels o ≡ label_of new = get_or_from_slice_get r.labels o (label_of new) Dead saved.at in
+      let b = same_last (IsBranch P t j r.labels) (places branch_place (blocks_at t.lines o)) o w.branches.items new last q in
       let l : in_lock (blocks_at t.lines o) ≡ in_lock (blocks_at t.lines j) = sym (ap in_lock c.within ∙ same_lock (blocks_at t.lines o) (InIf o) refl) in
-      let f : Fits (in_lock (blocks_at t.lines j)) (most_at j) (label_of new) = subst (λ b. Fits b (most_at j) (label_of new)) l (r.at.fits o (label_of new) saved.at) in
-      let best : IsStrongest (label_of new) (lead_at P t j r.labels (Else o)) = subst (λ z. IsStrongest (label_of new) (z ∷ [])) (sym known) (only_itself (label_of new)) in
-      onward P t j w r (Else o) e w' tt best saved.of
-      (fits_behind P t j w r (Else o) e (label_of new) (fits_more (in_lock (blocks_at t.lines j)) (most_at j) (most_at j + 18) (label_of new) (omega arith) f))
+      let best : AreStrongestOf new (lead_at P t j r.labels (Else o)) = λ z. subst (λ x. IsStrongest (label_of new z) (x ∷ [])) (b.at z ∙ skipped_front t j r.labels o z b.before) (only_itself (label_of new z)) in
+      onward P t j w r (Else o) e w' tt best b.of
+      (λ z. fits_behind P t j w r (Else o) e (label_of new z) (fits_more (in_lock (blocks_at t.lines j)) (most_at j) (most_at j + 18) (label_of new z) (omega arith) (branch_fits o new z l b)))
       (record {
         branches = grown new kept c.behind k last.rest;
-        peek = peek_same P t j w r (Else o) e (label_of new) (λ o z. refl) (same peek_place c.within c.behind refl refl);
-        loops = loops_same P t j w r (Else o) e (label_of new) (λ o z. refl) (same loop_place c.within c.behind refl refl);
+        peek = peek_same P t j w r (Else o) e (sides_of new) (λ o z. refl) (same peek_place c.within c.behind refl refl);
+        loops = loops_same P t j w r (Else o) e (sides_of new) (λ o z. refl) (same loop_place c.within c.behind refl refl);
       })
     where
       same : (f : Block → List ℕ) → blocks_at t.lines j ≡ blocks_at t.lines o ++ InIf o ∷ [] → blocks_at t.lines (j + 1) ≡ blocks_at t.lines o ++ InElse j ∷ [] → f (InIf o) ≡ [] → f (InElse j) ≡ [] → places f (blocks_at t.lines (j + 1)) ≡ places f (blocks_at t.lines j)
       same f n m a b = ap (places f) m ∙ pushed_none f (blocks_at t.lines o) (InElse j) b ∙ sym (ap (places f) n ∙ pushed_none f (blocks_at t.lines o) (InIf o) a)
 
-      grown : (new : State) (kept : ArrayVec (Option State)) → blocks_at t.lines (j + 1) ≡ blocks_at t.lines o ++ InElse j ∷ [] → kept.items ≡ rest_of w.branches.items ++ Some w.state ∷ [] → AreKept (OnKept (IsSaved P r.labels)) (places branch_place (blocks_at t.lines o)) (rest_of w.branches.items) → AreKept (OnKept (IsSaved P (r.labels ++ label_of new ∷ []))) (places branch_place (blocks_at t.lines (j + 1))) kept.items
+      -- The end of the first branch is kept.
+      ended : (new : Sides) → IsBranch P t (j + 1) (r.labels ++ new ∷ []) j w.state
+      ended new = record {
+        of = r.at.here.of;
+        before = omega arith;
+        at = λ z. sym (here_still new z) ∙ ap (λ x. gate (may_skip t.flag z x) (label_at (r.labels ++ new ∷ []) j z)) (sym e);
+      }
+
+      grown : (new : State) (kept : ArrayVec (Option State)) → blocks_at t.lines (j + 1) ≡ blocks_at t.lines o ++ InElse j ∷ [] → kept.items ≡ rest_of w.branches.items ++ Some w.state ∷ [] → AreKept (OnKept (IsBranch P t j r.labels)) (places branch_place (blocks_at t.lines o)) (rest_of w.branches.items) → AreKept (OnKept (IsBranch P t (j + 1) (r.labels ++ sides_of new ∷ []))) (places branch_place (blocks_at t.lines (j + 1))) kept.items
       grown new kept n k rest =
-          let saved : IsSaved P (r.labels ++ label_of new ∷ []) j w.state = record { of = r.at.here.of; at = get_old r.labels (label_of new ∷ []) j (label_of w.state) r.at.here.at } in
-          let more = keep_more (OnKept (IsSaved P (r.labels ++ label_of new ∷ []))) (places branch_place (blocks_at t.lines o)) (rest_of w.branches.items) j (Some w.state) (branches_stay P t j w r (Else o) e (label_of new) (places branch_place (blocks_at t.lines o)) (rest_of w.branches.items) rest) saved in
-          subst (λ os. AreKept (OnKept (IsSaved P (r.labels ++ label_of new ∷ []))) os kept.items) (sym (ap (places branch_place) n ∙ places_pushed branch_place (blocks_at t.lines o) (InElse j))) (subst (λ xs. AreKept (OnKept (IsSaved P (r.labels ++ label_of new ∷ []))) (places branch_place (blocks_at t.lines o) ++ j ∷ []) xs) (sym k) more)
+          let R = OnKept (IsBranch P t (j + 1) (r.labels ++ sides_of new ∷ [])) in
+          let more = keep_more R (places branch_place (blocks_at t.lines o)) (rest_of w.branches.items) j (Some w.state) (branches_stay P t j w r (Else o) e (sides_of new) (places branch_place (blocks_at t.lines o)) (rest_of w.branches.items) rest) (ended (sides_of new)) in
+          subst (λ os. AreKept R os kept.items) (sym (ap (places branch_place) n ∙ places_pushed branch_place (blocks_at t.lines o) (InElse j))) (subst (λ xs. AreKept R (places branch_place (blocks_at t.lines o) ++ j ∷ []) xs) (sym k) more)
 
   -- ---- the end of an if
 
-  -- The line ends a branch of which the state at o is kept.
+  -- The line ends an if, of which the branch that is read at the line at o is kept.
   record EndsBranch (o : ℕ) : Type 0 where
     pub outer : List Block
     pub block : Block
@@ -145,50 +250,55 @@ module _ (P : Program) (t : Thread) (j : ℕ) (w : Walk) (r : Reaches P t j w) w
     }
   ]
 
-  end_kept : (o : ℕ) (e : stmt_at t.lines j ≡ Some (EndIf o)) → KeepsLast (IsSaved P r.labels) (places branch_place (ends_branch o e).outer) o w.branches.items
+  end_kept : (o : ℕ) (e : stmt_at t.lines j ≡ Some (EndIf o)) → KeepsLast (IsBranch P t j r.labels) (places branch_place (ends_branch o e).outer) o w.branches.items
   end_kept o e = let c = ends_branch o e in kept_at o c.outer c.block c.branch c.within
 
   pub end_some : (o : ℕ) → stmt_at t.lines j ≡ Some (EndIf o) → IsSome (last_of w.branches.items)
-  end_some o e = some_last (IsSaved P r.labels) _ o w.branches.items (end_kept o e)
+  end_some o e = some_last (IsBranch P t j r.labels) _ o w.branches.items (end_kept o e)
 
-  saved_last : (o : ℕ) (s : State) → stmt_at t.lines j ≡ Some (EndIf o) → last_of w.branches.items ≡ Some s → IsSaved P r.labels o s
-  saved_last o s e q = same_last (IsSaved P r.labels) _ o w.branches.items s (end_kept o e) q
+  branch_last : (o : ℕ) (s : State) → stmt_at t.lines j ≡ Some (EndIf o) → last_of w.branches.items ≡ Some s → IsBranch P t j r.labels o s
+  branch_last o s e q = same_last (IsBranch P t j r.labels) _ o w.branches.items s (end_kept o e) q
 
-  fits_last : (o : ℕ) (s : State) → stmt_at t.lines j ≡ Some (EndIf o) → last_of w.branches.items ≡ Some s → Fits (in_lock (blocks_at t.lines j)) (most_at j) (label_of s)
-  fits_last o s e q = subst (λ b. Fits b (most_at j) (label_of s)) (ends_branch o e).lock (r.at.fits o (label_of s) (saved_last o s e q).at)
+  fits_last : (o : ℕ) (s : State) (z : Bool) → stmt_at t.lines j ≡ Some (EndIf o) → last_of w.branches.items ≡ Some s → Fits (in_lock (blocks_at t.lines j)) (most_at j) (label_of s z)
+  fits_last o s z e q = branch_fits o s z (ends_branch o e).lock (branch_last o s e q)
 
-  pub end_of : (o : ℕ) (s : State) → stmt_at t.lines j ≡ Some (EndIf o) → last_of w.branches.items ≡ Some s → program_of s ≡ program_of w.state
-  end_of o s e q = (saved_last o s e q).of ∙ sym r.at.here.of
+  pub end_of : (o : ℕ) (s : State) → stmt_at t.lines j ≡ Some (EndIf o) → last_of w.branches.items ≡ Some s → IsOfSame s w.state
+  end_of o s e q = same_of P t s w.state (branch_last o s e q).of r.at.here.of
 
-  pub end_alike : (o : ℕ) (s : State) → stmt_at t.lines j ≡ Some (EndIf o) → last_of w.branches.items ≡ Some s → AgreeOnLock (label_of w.state) (label_of s)
-  end_alike o s e q = fits_alike (in_lock (blocks_at t.lines j)) (most_at j) (most_at j) (label_of w.state) (label_of s) (fits_here P t j w r (EndIf o) e) (fits_last o s e q)
+  pub end_alike : (o : ℕ) (s : State) → stmt_at t.lines j ≡ Some (EndIf o) → last_of w.branches.items ≡ Some s → (y z : Bool) → AgreeOnLock (label_of w.state y) (label_of s z)
+  end_alike o s e q y z = fits_alike (in_lock (blocks_at t.lines j)) (most_at j) (most_at j) (label_of w.state y) (label_of s z) (fits_here P t j w r (EndIf o) e y) (fits_last o s z e q)
 
-  ends : {X : Type 0} (o : ℕ) (s new : State) (kept : ArrayVec (Option State)) (x : Result X Cause) → stmt_at t.lines j ≡ Some (EndIf o) → last_of w.branches.items ≡ Some s → Gives w.state new x (may_join (label_of w.state ∷ label_of s ∷ [])) (label_of w.state ∷ label_of s ∷ []) → kept.items ≡ rest_of w.branches.items → Turns P t j (record { state = new; branches = kept; peek = w.peek; loops = w.loops }) x
+  -- the labels of both branches, with one read at the line at o
+  gave_both : {X : Type 0} (h m b : Bool → Label) (new : State) (x : Result X Cause) → ((z : Bool) → m z ≡ b z) → Gave P t new x (joins_both (two h m)) (two h m) → Gave P t new x (joins_both (two h b)) (two h b)
+  gave_both h m b new x e g = subst (λ k. Gave P t new x (joins_both (two h k)) (two h k)) (fun_ext e) g
+
+  ends : {X : Type 0} (o : ℕ) (s new : State) (kept : ArrayVec (Option State)) (x : Result X Cause) → stmt_at t.lines j ≡ Some (EndIf o) → last_of w.branches.items ≡ Some s → Gives w.state new x (joins_both (two (label_of w.state) (label_of s))) (two (label_of w.state) (label_of s)) → kept.items ≡ rest_of w.branches.items → Turns P t j (record { state = new; branches = kept; peek = w.peek; loops = w.loops }) x
   ends o s new kept x e q g k =
       let w' : Walk = record { state = new; branches = kept; peek = w.peek; loops = w.loops } in
       let c = ends_branch o e in
       let bs = blocks_at t.lines j in
-      let saved = saved_last o s e q in
-      let known : label_at r.labels o ≡ label_of s = get_or_from_slice_get r.labels o (label_of s) Dead saved.at in
+      let b = branch_last o s e q in
+      let known : (z : Bool) → label_of s z ≡ skipped t (take j t.lines) r.labels o z = λ z. b.at z ∙ skipped_front t j r.labels o z b.before in
       let h = here (take j t.lines) r.labels in
-      let gave = took P w.state new h x (λ p l. may_join (l ∷ label_of s ∷ [])) (λ p l. l ∷ label_of s ∷ []) r.at.here.of (here_is P t j w r (EndIf o) e) g in
-      let gave' = subst (λ z. Gave P new x (may_join (h ∷ z ∷ [])) (h ∷ z ∷ [])) (sym known) gave in
-      let f : Fits (in_lock bs) (most_at j + 18) h = fits_more (in_lock bs) (most_at j) (most_at j + 18) h (omega arith) (fits_known P t j w r (EndIf o) e) in
-      let f' : Fits (in_lock bs) (most_at j + 18) (label_at r.labels o) = subst (λ z. Fits (in_lock bs) (most_at j + 18) z) (sym known) (fits_more (in_lock bs) (most_at j) (most_at j + 18) (label_of s) (omega arith) (fits_last o s e q)) in
+      let gave = took P t w.state new (seen_at t j r.labels) x (λ p f l. joins_both (two (λ z. on z l) (label_of s))) (λ p f l. two (λ z. on z l) (label_of s)) r.at.here.of (here_is P t j w r (EndIf o) e) g in
+      let gave' = gave_both h (label_of s) (skipped t (take j t.lines) r.labels o) new x known gave in
+      let f : (z : Bool) → Fits (in_lock bs) (most_at j + 18) (h z) = λ z. fits_more (in_lock bs) (most_at j) (most_at j + 18) (h z) (omega arith) (fits_known P t j w r (EndIf o) e z) in
+      let f' : (z : Bool) → Fits (in_lock bs) (most_at j + 18) (skipped t (take j t.lines) r.labels o z) = λ z. subst (λ y. Fits (in_lock bs) (most_at j + 18) y) (known z) (fits_more (in_lock bs) (most_at j) (most_at j + 18) (label_of s z) (omega arith) (fits_last o s z e q)) in
       turns P t j w r (EndIf o) e w' x gave'
-      (λ b. fits_behind P t j w r (EndIf o) e (label_of new) (strongest_fits (in_lock bs) (most_at j + 18) (label_of new) _ (f, (f', tt)) b))
+      (λ b z. fits_behind P t j w r (EndIf o) e (label_of new z) (strongest_fits (in_lock bs) (most_at j + 18) (label_of new z) _ (f z, (f' z, tt)) (b z)))
       (λ y q'. record {
         branches = left new kept c.outer c.behind k (end_kept o e).rest;
-        peek = peek_same P t j w r (EndIf o) e (label_of new) (λ o z. refl) (same peek_place c.outer c.block c.within c.behind c.peek);
-        loops = loops_same P t j w r (EndIf o) e (label_of new) (λ o z. refl) (same loop_place c.outer c.block c.within c.behind c.loop);
+        peek = peek_same P t j w r (EndIf o) e (sides_of new) (λ o z. refl) (same peek_place c.outer c.block c.within c.behind c.peek);
+        loops = loops_same P t j w r (EndIf o) e (sides_of new) (λ o z. refl) (same loop_place c.outer c.block c.within c.behind c.loop);
       })
     where
       same : (f : Block → List ℕ) (outer : List Block) (b : Block) → blocks_at t.lines j ≡ outer ++ b ∷ [] → blocks_at t.lines (j + 1) ≡ outer → f b ≡ [] → places f (blocks_at t.lines (j + 1)) ≡ places f (blocks_at t.lines j)
       same f outer b n m z = ap (places f) m ∙ sym (ap (places f) n ∙ pushed_none f outer b z)
 
-      left : (new : State) (kept : ArrayVec (Option State)) (outer : List Block) → blocks_at t.lines (j + 1) ≡ outer → kept.items ≡ rest_of w.branches.items → AreKept (OnKept (IsSaved P r.labels)) (places branch_place outer) (rest_of w.branches.items) → AreKept (OnKept (IsSaved P (r.labels ++ label_of new ∷ []))) (places branch_place (blocks_at t.lines (j + 1))) kept.items
+      left : (new : State) (kept : ArrayVec (Option State)) (outer : List Block) → blocks_at t.lines (j + 1) ≡ outer → kept.items ≡ rest_of w.branches.items → AreKept (OnKept (IsBranch P t j r.labels)) (places branch_place outer) (rest_of w.branches.items) → AreKept (OnKept (IsBranch P t (j + 1) (r.labels ++ sides_of new ∷ []))) (places branch_place (blocks_at t.lines (j + 1))) kept.items
       left new kept outer n k rest =
-          subst (λ bs. AreKept (OnKept (IsSaved P (r.labels ++ label_of new ∷ []))) (places branch_place bs) kept.items) (sym n) (subst (λ xs. AreKept (OnKept (IsSaved P (r.labels ++ label_of new ∷ []))) (places branch_place outer) xs) (sym k) (branches_stay P t j w r (EndIf o) e (label_of new) (places branch_place outer) (rest_of w.branches.items) rest))
+          let R = OnKept (IsBranch P t (j + 1) (r.labels ++ sides_of new ∷ [])) in
+          subst (λ bs. AreKept R (places branch_place bs) kept.items) (sym n) (subst (λ xs. AreKept R (places branch_place outer) xs) (sym k) (branches_stay P t j w r (EndIf o) e (sides_of new) (places branch_place outer) (rest_of w.branches.items) rest))
 
-  pub end_turns : {X : Type 0} (o : ℕ) (new : State) (kept : ArrayVec (Option State)) (x : Result X Cause) → stmt_at t.lines j ≡ Some (EndIf o) → ((s : State) → last_of w.branches.items ≡ Some s → Gives w.state new x (may_join (label_of w.state ∷ label_of s ∷ [])) (label_of w.state ∷ label_of s ∷ [])) → kept.items ≡ rest_of w.branches.items → Turns P t j (record { state = new; branches = kept; peek = w.peek; loops = w.loops }) x
+  pub end_turns : {X : Type 0} (o : ℕ) (new : State) (kept : ArrayVec (Option State)) (x : Result X Cause) → stmt_at t.lines j ≡ Some (EndIf o) → ((s : State) → last_of w.branches.items ≡ Some s → Gives w.state new x (joins_both (two (label_of w.state) (label_of s))) (two (label_of w.state) (label_of s))) → kept.items ≡ rest_of w.branches.items → Turns P t j (record { state = new; branches = kept; peek = w.peek; loops = w.loops }) x
   end_turns o new kept x e g k = let h = end_kept o e in ends o h.state new kept x e h.is (g h.state h.is) k

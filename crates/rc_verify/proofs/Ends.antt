@@ -7,24 +7,25 @@ use Rattle.rc_rules.specs.declared.mode.Peeked.TheVariants.{Unseen}
 use Rattle.rc_rules.specs.Labels.{Label, Weaker, WeakerThanEach, IsStrongest}
 use Rattle.rc_rules.specs.Labellings.{label_at, arm_end, arm_ends, break_end, break_ends}
 use Rattle.rc_rules.specs.Rules.{broken, peek_at}
+use Rattle.rc_rules.specs.Sides.{Sides, on}
 use Rattle.rc_rules.proofs.Weaker.{weaker_each, weaker_trans}
 use Rattle.rc_verify.proofs.Keeping.{nothing_more}
 
-pub arms_more : (lines : List Line) (l : Line) (labels : List Label) (new : Label) (o : ℕ) → length labels ≡ length lines + 1 → arm_ends (lines ++ l ∷ []) (labels ++ new ∷ []) o ≡ arm_ends lines labels o ++ arm_end l.stmt o (label_at labels (length lines))
-arms_more [] l [] new o e = absurd (omega (arith, e))
-arms_more [] l (x ∷ labels) new o e = nothing_more (arm_end l.stmt o x)
-arms_more (m ∷ lines) l [] new o e = absurd (omega (arith, e))
-arms_more (m ∷ lines) l (x ∷ labels) new o e =
+pub arms_more : (z : Bool) (lines : List Line) (l : Line) (labels : List Sides) (new : Sides) (o : ℕ) → length labels ≡ length lines + 1 → arm_ends (lines ++ l ∷ []) (labels ++ new ∷ []) o z ≡ arm_ends lines labels o z ++ arm_end l.stmt o (label_at labels (length lines) z)
+arms_more z [] l [] new o e = absurd (omega (arith, e))
+arms_more z [] l (x ∷ labels) new o e = nothing_more (arm_end l.stmt o (on z x))
+arms_more z (m ∷ lines) l [] new o e = absurd (omega (arith, e))
+arms_more z (m ∷ lines) l (x ∷ labels) new o e =
     let n : length labels ≡ length lines + 1 = omega (arith, e) in
-    ap (λ xs. arm_end m.stmt o x ++ xs) (arms_more lines l labels new o n) ∙ sym (append_assoc (arm_end m.stmt o x) (arm_ends lines labels o) (arm_end l.stmt o (label_at labels (length lines))))
+    ap (λ xs. arm_end m.stmt o (on z x) ++ xs) (arms_more z lines l labels new o n) ∙ sym (append_assoc (arm_end m.stmt o (on z x)) (arm_ends lines labels o z) (arm_end l.stmt o (label_at labels (length lines) z)))
 
-pub breaks_more : (lines : List Line) (l : Line) (labels : List Label) (new : Label) (o : ℕ) → length labels ≡ length lines + 1 → break_ends (lines ++ l ∷ []) (labels ++ new ∷ []) o ≡ break_ends lines labels o ++ break_end l.stmt o (label_at labels (length lines))
-breaks_more [] l [] new o e = absurd (omega (arith, e))
-breaks_more [] l (x ∷ labels) new o e = nothing_more (break_end l.stmt o x)
-breaks_more (m ∷ lines) l [] new o e = absurd (omega (arith, e))
-breaks_more (m ∷ lines) l (x ∷ labels) new o e =
+pub breaks_more : (z : Bool) (lines : List Line) (l : Line) (labels : List Sides) (new : Sides) (o : ℕ) → length labels ≡ length lines + 1 → break_ends (lines ++ l ∷ []) (labels ++ new ∷ []) o z ≡ break_ends lines labels o z ++ break_end l.stmt o (label_at labels (length lines) z)
+breaks_more z [] l [] new o e = absurd (omega (arith, e))
+breaks_more z [] l (x ∷ labels) new o e = nothing_more (break_end l.stmt o (on z x))
+breaks_more z (m ∷ lines) l [] new o e = absurd (omega (arith, e))
+breaks_more z (m ∷ lines) l (x ∷ labels) new o e =
     let n : length labels ≡ length lines + 1 = omega (arith, e) in
-    ap (λ xs. break_end m.stmt o x ++ xs) (breaks_more lines l labels new o n) ∙ sym (append_assoc (break_end m.stmt o x) (break_ends lines labels o) (break_end l.stmt o (label_at labels (length lines))))
+    ap (λ xs. break_end m.stmt o (on z x) ++ xs) (breaks_more z lines l labels new o n) ∙ sym (append_assoc (break_end m.stmt o (on z x)) (break_ends lines labels o z) (break_end l.stmt o (label_at labels (length lines) z)))
 
 pub own_arm : (o : ℕ) (s : Label) → arm_end (EndArm o) o s ≡ peek_at Unseen s ∷ []
 own_arm o s = ap (λ b. cond b (peek_at Unseen s ∷ []) []) (eq-eqb o o refl)

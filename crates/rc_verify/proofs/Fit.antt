@@ -2,20 +2,20 @@
 use Rattle.std.proofs.Common.{◌≡◌, ℕ, ◌+◌, ◌^◌, ◌≤◌, Bool, true, false, cond, nat_lt, List, [], ◌∷◌, refl, sym, ap, subst, ◌∙◌, ◌⊎◌, inl, inr, arith}
 use Rattle.rc_lang.specs.declared.lines.Op.{Op}
 use Rattle.rc_lang.specs.declared.lines.Test.{Test}
-use Rattle.rc_lang.specs.Program.{Program, Items, Thread, IsProgram, IsItems}
-use Rattle.rc_split.specs.Bags.{Part, ShareOf, TokenOf, Credit, bag_of}
-use Rattle.rc_rules.specs.declared.mode.Mode.{Mode}
+use Rattle.rc_lang.specs.Program.{Program, Items, Thread, IsProgram, IsItems, IsList, besides}
+use Rattle.rc_split.specs.Bags.{Part, ShareOf, TokenOf, Credit, bag_of, bag_on}
 use Rattle.rc_rules.specs.declared.mode.Mode.TheVariants.{Unlocked, Locked}
 use Rattle.rc_rules.specs.declared.mode.Peeked.{Peeked}
 use Rattle.rc_rules.specs.declared.mode.Peeked.TheVariants.{Unseen, Sees}
 use Rattle.rc_rules.specs.declared.mode.Slot.TheVariants.{Closed}
-use Rattle.rc_rules.specs.Labels.{Label, Dead, Live, Weaker, WeakerMode, WeakerThanEach, IsStrongest, IsSame}
+use Rattle.rc_rules.specs.Labels.{Label, Dead, Live, Weaker, WeakerThanEach, IsStrongest, IsSame}
 use Rattle.rc_rules.specs.Labellings.{start_of}
-use Rattle.rc_rules.specs.Rules.{same_slot, op_effect, goes, entered, released, test_effect, with_peeked, peek_at, case_at, top, broken, asks, may_break, agree}
+use Rattle.rc_rules.specs.Sides.{brings, gate, on}
+use Rattle.rc_rules.specs.Rules.{same_slot, op_effect, goes, entered, released, test_effect, with_peeked, peek_at, case_at, top, broken, asks, may_break}
 use Rattle.rc_rules.specs.Premises.{Meets}
 use Rattle.rc_rules.specs.States.{is_locked, IsLocked, IsUnlocked, AgreeOnLock, IsSmall}
 use Rattle.rc_rules.proofs.Headers.{few_of, once}
-use Rattle.rc_rules.proofs.Weaker.{locked_same, peeked_locked, same_slot_is, test_locked}
+use Rattle.rc_rules.proofs.Weaker.{locked_same, peeked_locked, test_locked}
 use Rattle.rc_rules.proofs.Lines.{effect_by}
 use Rattle.rc_verify.specs.Walk.{Fits, IsClosed}
 
@@ -119,10 +119,14 @@ items_few P items (ShareOf b) h = omega (arith, few_of b items.shares h.distinct
 items_few P items (TokenOf u) h = omega (arith, once P items u h)
 items_few P items Credit h = h.credits
 
-pub top_fits : (P : Program) (items : Items) (b : Bool) (n k : ℕ) (s : Label) → IsItems P items → 2048 ≤ k → Fits b n s → Fits b k (top P items s)
-top_fits P items b n k Dead h l f = tt
-top_fits P items b n k (Live a Unlocked) h l f = (f.0, λ p. omega (arith, l, items_few P items p h))
-top_fits P items b n k (Live a (Locked i)) h l f = (f.0, λ p. omega (arith, l, items_few P items p h))
+kept_few : (P : Program) (items : Items) (z : Bool) (p : Part) → IsList P items → bag_on z items p ≤ 4096
+kept_few P items true p h = omega (arith, items_few P items p h.first)
+kept_few P items false p h = omega (arith, items_few P items p h.first, items_few P (besides items) p h.more)
+
+pub top_fits : (P : Program) (items : Items) (z b : Bool) (n k : ℕ) (s : Label) → IsList P items → 4096 ≤ k → Fits b n s → Fits b k (top P items z s)
+top_fits P items z b n k Dead h l f = tt
+top_fits P items z b n k (Live a Unlocked) h l f = (f.0, λ p. omega (arith, l, kept_few P items z p h))
+top_fits P items z b n k (Live a (Locked i)) h l f = (f.0, λ p. omega (arith, l, kept_few P items z p h))
 
 pub broken_fits : (releases b c : Bool) (n : ℕ) (s : Label) → c ≡ cond releases false b → Fits b n s → Fits c n (broken releases s)
 broken_fits true b c n s e f = subst (λ x. Fits x n (released s)) (sym e) (released_fits b n s f)
@@ -137,15 +141,39 @@ broken_closed P false Dead h = tt
 broken_closed P false (Live a Unlocked) h = refl
 broken_closed P false (Live a (Locked i)) h = h.0
 
-pub closed_agree : (s t : Label) → IsClosed s → IsClosed t → agree s t ≡ true
-closed_agree Dead t h g = refl
-closed_agree (Live a m) Dead h g = refl
-closed_agree (Live a Unlocked) (Live c n) h g = refl
-closed_agree (Live a (Locked i)) (Live c Unlocked) h g = refl
-closed_agree (Live a (Locked i)) (Live c (Locked j)) h g = subst (λ x. same_slot i.slot x ≡ true) (sym (same_slot_is j.slot Closed g)) h
-
 -- ---- the start
 
-pub start_fits : (P : Program) (t : Thread) (s : Label) → IsItems P t.items → IsSame s (start_of t) → Fits false 2048 s
-start_fits P t Dead h e = tt
-start_fits P t (Live a m) h e = (ap is_locked e.1, λ p. omega (arith, e.0 p, items_few P t.items p h))
+start_fits_zero : (P : Program) (t : Thread) (s : Label) → IsItems P t.items → IsSame s (start_of t).zero → Fits false 4096 s
+start_fits_zero P t Dead h e = tt
+start_fits_zero P t (Live a m) h e = (ap is_locked e.1, λ p. omega (arith, e.0 p, items_few P t.items p h))
+
+pub start_fits : (P : Program) (t : Thread) (z : Bool) (s : Label) → IsItems P t.items → IsSame s (on z (start_of t)) → Fits false 4096 s
+start_fits P t true s h e = start_fits_zero P t s h e
+start_fits P t false Dead h e = tt
+start_fits P t false (Live a m) h e = absurd e
+
+-- ---- labels that come through a gate
+
+gate_keeps : (Q : Label → Type 0) → Q Dead → (g : Bool) (s : Label) → Q s → Q (gate g s)
+gate_keeps Q d false s f = d
+gate_keeps Q d true s f = f
+
+pub gate_fits : (g b : Bool) (n : ℕ) (s : Label) → Fits b n s → Fits b n (gate g s)
+gate_fits g b n = gate_keeps (Fits b n) tt g
+
+brings_keep : (Q : Label → Type 0) → Q Dead → (may : Bool → Bool) (F : Label → Label) (before : Bool → Label) → ((y : Bool) → Q (F (before y))) → AreAll Q (brings may F before)
+brings_keep Q d may F before f = (gate_keeps Q d (may true) (F (before true)) (f true), (gate_keeps Q d (may false) (F (before false)) (f false), tt))
+
+pub brings_fit : (may : Bool → Bool) (F : Label → Label) (before : Bool → Label) (b : Bool) (n : ℕ) → ((y : Bool) → Fits b n (F (before y))) → AreAll (Fits b n) (brings may F before)
+brings_fit may F before b n = brings_keep (Fits b n) tt may F before
+
+weaker_locked : (s t : Label) → Weaker s t → (t ≡ Dead → ⊥) → IsLocked t → IsLocked s
+weaker_locked s Dead w d h = absurd (d refl)
+weaker_locked Dead (Live b n) w d h = tt
+weaker_locked (Live a m) (Live b Unlocked) w d h = absurd h
+weaker_locked (Live a Unlocked) (Live b (Locked j)) w d h = absurd w.1
+weaker_locked (Live a (Locked i)) (Live b (Locked j)) w d h = tt
+
+-- What both sides bring is locked where they are.
+pub brought_locked : (may : Bool → Bool) (F : Label → Label) (before : Bool → Label) (s : Label) → ((y : Bool) → IsLocked (F (before y))) → IsStrongest s (brings may F before) → IsLocked s
+brought_locked may F before s f b = kept_by IsLocked tt weaker_locked s (brings may F before) (brings_keep IsLocked tt may F before f) b

@@ -1,20 +1,20 @@
--- Labels that say the same, and where they join.
-use Rattle.std.proofs.Common.{◌≡◌, ℕ, ◌+◌, Bool, true, false, ◌&&◌, List, [], ◌∷◌, ◌++◌, Option, Some, Result, Ok, Err, refl, sym, ap, subst, ◌∙◌}
+-- Two states that join: arms, breaks, and the ends of branches.
+use Rattle.std.proofs.Common.{◌≡◌, ℕ, ◌<◌, Bool, true, false, ◌&&◌, List, [], ◌∷◌, ◌++◌, Option, Some, Result, Ok, Err, refl, sym, ap, subst, ◌∙◌, arith}
 use Rattle.std.specs.Result.{is_ok}
 use Rattle.rc_rules.specs.declared.cause.Cause.{Cause}
 use Rattle.rc_rules.specs.declared.mode.Mode.TheVariants.{Unlocked, Locked}
 use Rattle.rc_rules.specs.declared.mode.Peeked.TheVariants.{Unseen}
 use Rattle.rc_rules.specs.Causes.{premise_number}
 use Rattle.rc_rules.specs.Labels.{Label, Dead, Live, Weaker, IsStrongest}
-use Rattle.rc_rules.specs.Premises.{Meets, FailsFirst}
-use Rattle.rc_rules.specs.Rules.{agree, asks, broken, may_break, may_join, peek_at, peek_premises}
-use Rattle.rc_rules.specs.States.{State, label_of, program_of, AgreeOnLock, Gives}
+use Rattle.rc_rules.specs.Premises.{Premise, Meets, FailsFirst}
+use Rattle.rc_rules.specs.Rules.{agree, agree_all, asks, asks_both, joins_both, may_break, may_join, may_release, peek_at, peek_premises, released}
+use Rattle.rc_rules.specs.States.{State, Becomes, IsOfSame, IsUnlocked, label_of, program_of, AgreeOnLock, Gives}
 use Rattle.rc_rules.proofs.Growth.{agree_grows}
-use Rattle.rc_rules.proofs.Weaker.{not_both, only_itself, weaker_refl}
+use Rattle.rc_rules.proofs.Weaker.{meets_append, meets_left, meets_right, not_both, only_itself, weaker_refl}
 use Rattle.rc_verify.specs.declared.arms.Arms.{Arms}
-use Rattle.rc_verify.specs.Arms.{Joins, JoinsOn}
+use Rattle.rc_verify.specs.Arms.{Joins, JoinsOn, two}
 use Rattle.rc_verify.specs.Kept.{last_of, rest_of}
-use Rattle.rc_verify.specs.Loops.{Breaks, FitsWith, KeepsMeet, MayBreak}
+use Rattle.rc_verify.specs.Loops.{Breaks, FitsWith, KeepsMeet, MayBreak, taken}
 
 -- ---- labels that say the same
 
@@ -35,79 +35,129 @@ alike_same (Live a (Locked x)) (Live b (Locked i)) (Live c k) v w h = tt
 alike_same (Live a (Locked x)) (Live b Unlocked) (Live c Unlocked) v w h = absurd h
 alike_same (Live a (Locked x)) (Live b Unlocked) (Live c (Locked k)) v w h = absurd v.1
 
-pub agree_same : (a e t : Label) → Weaker t e → agree a t ≡ true → agree a e ≡ true
-agree_same a e t w h = agree_grows a t a e (weaker_refl a) w h
+-- ---- both sides of a state
+
+-- what both sides meet, each does
+pub each_meets : (labels : Bool → Label) (F : Label → List (ℕ × Premise)) → Meets (F (labels true) ++ F (labels false)) → (z : Bool) → Meets (F (labels z))
+each_meets labels F h true = meets_left (F (labels true)) (F (labels false)) h
+each_meets labels F h false = meets_right (F (labels true)) (F (labels false)) h
+
+same_state : (s t : State) → s ≡ t → IsOfSame s t
+same_state s t e = record { program = ap program_of e; flag = ap (λ (x : State). x.flag) e }
 
 -- ---- what is forgotten
 
-not_peeked : (s : Label) (n : ℕ) → FailsFirst n (asks s (λ bag m. peek_premises m)) → IsStrongest s (peek_at Unseen s ∷ [])
-not_peeked Dead n f = only_itself Dead
-not_peeked (Live b Unlocked) n f = only_itself (Live b Unlocked)
-not_peeked (Live b (Locked i)) n f = absurd (f.fails tt)
+-- A live side without the lock fails the test for it, and then neither side has it.
+neither_locked : (s t : Label) (n : ℕ) → AgreeOnLock s t → FailsFirst n (asks s (λ bag m. peek_premises m) ++ asks t (λ bag m. peek_premises m)) → IsUnlocked s × IsUnlocked t
+neither_locked Dead Dead n l f = (tt, tt)
+neither_locked Dead (Live b Unlocked) n l f = (tt, tt)
+neither_locked Dead (Live b (Locked j)) n l f = absurd (f.fails tt)
+neither_locked (Live a Unlocked) Dead n l f = (tt, tt)
+neither_locked (Live a Unlocked) (Live b Unlocked) n l f = (tt, tt)
+neither_locked (Live a Unlocked) (Live b (Locked j)) n l f = absurd l
+neither_locked (Live a (Locked i)) Dead n l f = absurd (f.fails tt)
+neither_locked (Live a (Locked i)) (Live b Unlocked) n l f = absurd l
+neither_locked (Live a (Locked i)) (Live b (Locked j)) n l f = absurd (f.fails tt)
 
-pub forgets : {X : Type 0} (old new : State) (x : Result X Cause) → Gives old new x (asks (label_of old) (λ bag m. peek_premises m)) (peek_at Unseen (label_of old) ∷ []) → IsStrongest (label_of new) (peek_at Unseen (label_of old) ∷ []) × (program_of new ≡ program_of old)
-forgets old new (Ok x) g = (g.1, g.2)
-forgets old new (Err c) g = subst (λ (s : State). IsStrongest (label_of s) (peek_at Unseen (label_of old) ∷ []) × (program_of s ≡ program_of old)) (sym g.1) (not_peeked (label_of old) (premise_number c) g.0, refl)
+not_peeked : (s : Label) → IsUnlocked s → IsStrongest s (peek_at Unseen s ∷ [])
+not_peeked Dead h = only_itself Dead
+not_peeked (Live b Unlocked) h = only_itself (Live b Unlocked)
+not_peeked (Live b (Locked i)) h = absurd h
+
+pub forgets : {X : Type 0} (old new : State) (x : Result X Cause) → AgreeOnLock (label_of old true) (label_of old false) → Gives old new x (asks_both (label_of old) (λ z bag m. peek_premises m)) (λ z. peek_at Unseen (label_of old z) ∷ []) → Becomes old new (λ z. peek_at Unseen (label_of old z) ∷ [])
+forgets old new (Ok x) k g = g.1
+forgets old new (Err c) k g =
+    let u = neither_locked (label_of old true) (label_of old false) (premise_number c) k g.0 in
+    record {
+      each = λ z. subst (λ (s : State). IsStrongest (label_of s z) (peek_at Unseen (label_of old z) ∷ [])) (sym g.1) (elim z as (λ y. IsStrongest (label_of old y) (peek_at Unseen (label_of old y) ∷ [])) [ true ↦ not_peeked (label_of old true) u.0 | false ↦ not_peeked (label_of old false) u.1 ]);
+      of = same_state new old g.1;
+    }
+
+-- ---- a release behind a break's test
+
+may_too : (P : Program) (s : Label) → Meets (asks s (λ bag m. may_break P true m)) → Meets (asks s (λ bag m. may_release P m))
+may_too P Dead h = tt
+may_too P (Live b Unlocked) h = tt
+may_too P (Live b (Locked i)) h = h
+
+pub releases : {X : Type 0} (old new : State) (x : Result X Cause) → Meets (asks_both (label_of old) (λ z bag m. may_break (program_of old) true m)) → Gives old new x (asks_both (label_of old) (λ z bag m. may_release (program_of old) m)) (λ z. released (label_of old z) ∷ []) → Becomes old new (λ z. released (label_of old z) ∷ [])
+releases old new (Ok x) h g = g.1
+releases old new (Err c) h g =
+    let each = each_meets (label_of old) (λ s. asks s (λ bag m. may_break (program_of old) true m)) h in
+    let met = meets_append _ _ (may_too (program_of old) (label_of old true) (each true)) (may_too (program_of old) (label_of old false) (each false)) in
+    absurd (not_both (premise_number c) _ met g.0)
 
 -- ---- two that join
 
-agree_two : (s t : Label) → Meets (may_join (s ∷ t ∷ [])) → agree s t ≡ true
-agree_two s t h = go (agree s t) h.0
-  where
-    go : (b : Bool) → ((b && true) && true) ≡ true → b ≡ true
-    go true e = refl
-    go false e = absurd (cc)
+join_all : (ends : List Label) → agree_all ends ≡ true → Meets (may_join ends)
+join_all ends e = (e, tt)
 
-join_two : (s t : Label) → agree s t ≡ true → Meets (may_join (s ∷ t ∷ []))
-join_two s t e = (ap (λ b. (b && true) && true) e, tt)
-
-differ_two : (s t : Label) (n : ℕ) → FailsFirst n (may_join (s ∷ t ∷ [])) → agree s t ≡ false
-differ_two s t n f = go (agree s t) refl
+pub differ_all : (ends : List Label) (n : ℕ) → FailsFirst n (may_join ends) → agree_all ends ≡ false
+differ_all ends n f = go (agree_all ends) refl
   where
-    go : (b : Bool) → agree s t ≡ b → b ≡ false
-    go true e = absurd (not_both n _ (join_two s t e) f)
+    go : (b : Bool) → agree_all ends ≡ b → b ≡ false
+    go true e = absurd (not_both n _ (join_all ends e) f)
     go false e = refl
 
-pub joins : {X : Type 0} (old new : State) (end : Label) (x : Result X Cause) → Gives old new x (may_join (label_of old ∷ end ∷ [])) (label_of old ∷ end ∷ []) → Joins old new end (is_ok x) × (program_of new ≡ program_of old)
-joins old new end (Ok x) g = ((agree_two (label_of old) end g.0, g.1, g.2), g.2)
-joins old new end (Err c) g = ((differ_two (label_of old) end (premise_number c) g.0, g.1), ap program_of g.1)
+pub fails_join : (ends : List Label) → agree_all ends ≡ false → FailsFirst 15 (may_join ends)
+fails_join ends e = record { below = (λ lt. absurd (not_less lt), tt); fails = λ m. absurd (cc (m.0 (omega arith), e)) }
+  where
+    not_less : 15 < 15 → ⊥
+    not_less lt = omega arith
 
-meets_always : {X : Type 0} (old new : State) (end : Label) (x : Result X Cause) → agree (label_of old) end ≡ true → Gives old new x (may_join (label_of old ∷ end ∷ [])) (label_of old ∷ end ∷ []) → IsStrongest (label_of new) (label_of old ∷ end ∷ []) × (program_of new ≡ program_of old)
-meets_always old new end (Ok x) e g = (g.1, g.2)
-meets_always old new end (Err c) e g = absurd (not_both (premise_number c) _ (join_two (label_of old) end e) g.0)
+pub joins : {X : Type 0} (old new : State) (end : Bool → Label) (x : Result X Cause) → Gives old new x (joins_both (two (label_of old) end)) (two (label_of old) end) → Joins old new end (is_ok x) × IsOfSame new old
+joins old new end (Ok x) g = (g, g.1.of)
+joins old new end (Err c) g = let ends = two (label_of old) end true ++ two (label_of old) end false in ((fails_join ends (differ_all ends (premise_number c) g.0), g.1), same_state new old g.1)
+
+meets_always : {X : Type 0} (old new : State) (end : Bool → Label) (x : Result X Cause) → Meets (joins_both (two (label_of old) end)) → Gives old new x (joins_both (two (label_of old) end)) (two (label_of old) end) → Becomes old new (two (label_of old) end)
+meets_always old new end (Ok x) m g = g.1
+meets_always old new end (Err c) m g = absurd (not_both (premise_number c) _ m g.0)
 
 -- ---- an arm's end
 
 -- It joins those before it,
-pub arm_joins : {X : Type 0} (old : Arms) (end : Label) (new : State) (x : Result X Cause) (b : Bool) → old.agree ≡ true → Gives old.ends new x (may_join (label_of old.ends ∷ end ∷ [])) (label_of old.ends ∷ end ∷ []) → b ≡ is_ok x → JoinsOn old.ends new end b old.agree
+pub arm_joins : {X : Type 0} (old : Arms) (end : Bool → Label) (new : State) (x : Result X Cause) (b : Bool) → old.agree ≡ true → Gives old.ends new x (joins_both (two (label_of old.ends) end)) (two (label_of old.ends) end) → b ≡ is_ok x → JoinsOn old.ends new end b old.agree
 arm_joins old end new x b e g f = subst (λ a. JoinsOn old.ends new end b a) (sym e) (subst (λ a. Joins old.ends new end a) (sym f) (joins old.ends new end x g).0)
 
 -- or they don't agree anyway.
-pub arm_passes : (old : Arms) (end : Label) → old.agree ≡ false → JoinsOn old.ends old.ends end old.agree old.agree
+pub arm_passes : (old : Arms) (end : Bool → Label) → old.agree ≡ false → JoinsOn old.ends old.ends end old.agree old.agree
 arm_passes old end e = subst (λ a. JoinsOn old.ends old.ends end old.agree a) (sym e) e
 
 -- ---- a break's end
 
-pub break_joins : {X : Type 0} (s t new end : State) (old rest kept : List (Option State)) (x : Result X Cause) → last_of old ≡ Some t → last_of old ≡ Some s → FitsWith s end → Gives t new x (may_join (label_of t ∷ label_of end ∷ [])) (label_of t ∷ label_of end ∷ []) → rest ≡ rest_of old → kept ≡ rest ++ Some new ∷ [] → KeepsMeet s (label_of end) old kept
+pub break_joins : {X : Type 0} (s t new end : State) (old rest kept : List (Option State)) (x : Result X Cause) → last_of old ≡ Some t → last_of old ≡ Some s → FitsWith s end → Gives t new x (joins_both (two (label_of t) (label_of end))) (two (label_of t) (label_of end)) → rest ≡ rest_of old → kept ≡ rest ++ Some new ∷ [] → KeepsMeet s (label_of end) old kept
 break_joins s t new end old rest kept x p q f g r k =
     let e : t ≡ s = cc in
-    let h = meets_always s new (label_of end) x f.agree (subst (λ (y : State). Gives y new x (may_join (label_of y ∷ label_of end ∷ [])) (label_of y ∷ label_of end ∷ [])) e g) in
-    record { state = new; kept = k ∙ ap (λ xs. xs ++ Some new ∷ []) r; meet = h.0; of = h.1 }
+    let g' : Gives s new x (joins_both (two (label_of s) (label_of end))) (two (label_of s) (label_of end)) = subst (λ (y : State). Gives y new x (joins_both (two (label_of y) (label_of end))) (two (label_of y) (label_of end))) e g in
+    record { state = new; kept = k ∙ ap (λ xs. xs ++ Some new ∷ []) r; meet = meets_always s new (label_of end) x f.agree g' }
 
-pub fits_with : (s here moved end : State) (b : Bool) → moved ≡ here → MayBreak s here b → Meets (asks (label_of here) (λ bag m. may_break (program_of here) b m)) → IsStrongest (label_of end) (broken b (label_of moved) ∷ []) → program_of end ≡ program_of moved → FitsWith s end
-fits_with s here moved end b q f h w p =
-    let w' = subst (λ (t : State). IsStrongest (label_of end) (broken b (label_of t) ∷ [])) q w in
-    let v = below (label_of end) (broken b (label_of here)) w' in
-    let u = above (label_of end) (broken b (label_of here)) w' in
+-- Ends that say the same as these agree as they do.
+agree_too : (m n x y e f : Label) → Weaker x e → Weaker y f → agree_all (m ∷ x ∷ n ∷ y ∷ []) ≡ true → agree_all (m ∷ e ∷ n ∷ f ∷ []) ≡ true
+agree_too m n x y e f v w h = more (agree m x) (agree m e) (agree m n) (agree m y) (agree m f) (agree x n) (agree e n) (agree x y) (agree e f) (agree n y) (agree n f) (agree_grows m x m e (weaker_refl m) v) (agree_grows m y m f (weaker_refl m) w) (agree_grows x n e n v (weaker_refl n)) (agree_grows x y e f v w) (agree_grows n y n f (weaker_refl n) w) h
+  where
+    more : (a a' b c c' d d' k k' l l' : Bool) → (a ≡ true → a' ≡ true) → (c ≡ true → c' ≡ true) → (d ≡ true → d' ≡ true) → (k ≡ true → k' ≡ true) → (l ≡ true → l' ≡ true) → ((a && (b && (c && true))) && ((d && (k && true)) && ((l && true) && (true && true)))) ≡ true → ((a' && (b && (c' && true))) && ((d' && (k' && true)) && ((l' && true) && (true && true)))) ≡ true
+    more true a' true true c' true d' true k' true l' p q r s t h = rw (p refl, q refl, r refl, s refl, t refl) refl
+    more false a' b c c' d d' k k' l l' p q r s t h = absurd (cc)
+    more true a' false c c' d d' k k' l l' p q r s t h = absurd (cc)
+    more true a' true false c' d d' k k' l l' p q r s t h = absurd (cc)
+    more true a' true true c' false d' k k' l l' p q r s t h = absurd (cc)
+    more true a' true true c' true d' false k' l l' p q r s t h = absurd (cc)
+    more true a' true true c' true d' true k' false l' p q r s t h = absurd (cc)
+
+pub fits_with : (s here moved end : State) (b : Bool) → moved ≡ here → MayBreak s here b → Meets (asks_both (label_of here) (λ z bag m. may_break (program_of here) b m)) → Becomes moved end (λ z. taken b moved z ∷ []) → FitsWith s end
+fits_with s here moved end b q f h w =
+    let w' : Becomes here end (λ z. taken b here z ∷ []) = subst (λ (t : State). Becomes t end (λ z. taken b t z ∷ [])) q w in
+    let v : (z : Bool) → Weaker (label_of end z) (taken b here z) = λ z. below (label_of end z) (taken b here z) (w'.each z) in
+    let u : (z : Bool) → Weaker (taken b here z) (label_of end z) = λ z. above (label_of end z) (taken b here z) (w'.each z) in
     record {
-      of = p ∙ ap program_of q ∙ f.of;
-      alike = alike_same (label_of s) (label_of end) (broken b (label_of here)) v u f.alike;
-      agree = agree_same (label_of s) (label_of end) (broken b (label_of here)) u (f.agree h);
+      of = record { program = w'.of.program ∙ f.of.program; flag = w'.of.flag ∙ f.of.flag };
+      alike = λ y z. alike_same (label_of s y) (label_of end z) (taken b here z) (v z) (u z) (f.alike y z);
+      agree = join_all (two (label_of s) (label_of end) true ++ two (label_of s) (label_of end) false) (agree_too (label_of s true) (label_of s false) (taken b here true) (taken b here false) (label_of end true) (label_of end false) (u true) (u false) (f.agree h).0);
     }
 
-pub breaks : (s here moved end : State) (b : Bool) (old new : List (Option State)) → moved ≡ here → IsStrongest (label_of end) (broken b (label_of moved) ∷ []) → KeepsMeet s (label_of end) old new → Breaks s (broken b (label_of here)) old new
+pub breaks : (s here moved end : State) (b : Bool) (old new : List (Option State)) → moved ≡ here → Becomes moved end (λ z. taken b moved z ∷ []) → KeepsMeet s (label_of end) old new → Breaks s (taken b here) old new
 breaks s here moved end b old new q w k = record {
-  taken = label_of end;
-  carries = subst (λ (t : State). IsStrongest (label_of end) (broken b (label_of t) ∷ [])) q w;
+  carried = label_of end;
+  carries = λ z. subst (λ (t : State). IsStrongest (label_of end z) (taken b t z ∷ [])) q (w.each z);
   keeps = k;
 }

@@ -8,7 +8,7 @@ use Rattle.rc_lang.specs.declared.lines.Line.{Line}
 use Rattle.rc_lang.specs.declared.lines.Stmt.{Stmt}
 use Rattle.rc_lang.specs.declared.lines.Stmt.TheVariants.{Loop, EndLoop, Break}
 use Rattle.rc_lang.specs.Nesting.{blocks_at, in_lock}
-use Rattle.rc_lang.specs.Program.{Items, IsItems, Program, Thread, items_at, no_items, stmt_at, stmt_of}
+use Rattle.rc_lang.specs.Program.{Items, IsList, Program, Thread, items_at, no_items, stmt_at, stmt_of}
 use Rattle.rc_lang.proofs.Closing.{closes_loop, in_loop, leaves_loop}
 use Rattle.rc_lang.proofs.Lookups.{blocks_next}
 use Rattle.rc_lang.proofs.Placed.{EachPlaced}
@@ -17,21 +17,20 @@ use Rattle.rc_rules.specs.Causes.{premise_number}
 use Rattle.rc_rules.specs.Labels.{Label, Dead, IsStrongest}
 use Rattle.rc_rules.specs.Labellings.{break_end, break_ends, here, label_at}
 use Rattle.rc_rules.specs.Premises.{Premise}
-use Rattle.rc_rules.specs.Rules.{asks, broken, may_loop, top}
-use Rattle.rc_rules.specs.States.{State, Gives, label_of, program_of}
-use Rattle.rc_rules.proofs.Headers.{names_declared}
-use Rattle.rc_split.specs.Holdings.{AreDeclared}
+use Rattle.rc_rules.specs.Rules.{asks_both, broken, may_loop, top}
+use Rattle.rc_rules.specs.Sides.{Sides, brings, forgets, on, turns}
+use Rattle.rc_rules.specs.States.{State, Gives, IsOfSame, OnBoth, label_of, program_of, sides_of}
 use Rattle.arrayvec.specs.ArrayVec.{ArrayVec}
 use Rattle.rc_verify.specs.declared.walk.Walk.{Walk}
 use Rattle.rc_verify.specs.Kept.{last_of, rest_of}
 use Rattle.rc_verify.specs.Loops.{ClosesLoop, KeepsDead}
 use Rattle.rc_verify.specs.Walk.{AreKept, Fits, IsClosed, IsLoop, OnKept, Reaches, Turns, branch_place, loop_place, most_at, peek_place, places}
 use Rattle.rc_verify.proofs.Branching.{on_ok}
-use Rattle.rc_verify.proofs.Fit.{fits_more, strongest_fits, top_fits}
+use Rattle.rc_verify.proofs.Fit.{brings_fit, fits_more, strongest_fits, top_fits}
 use Rattle.rc_verify.proofs.Keeping.{KeepsLast, few_loops, few_places, keep_more, kept_length, last_kept, nothing_more, places_pushed, pushed_none, same_last, some_last}
 use Rattle.rc_verify.proofs.Peeking.{dead_fits, dead_strongest}
 use Rattle.rc_verify.proofs.Plainly.{branches_same, fits_behind, fits_known, opens_none, peek_same}
-use Rattle.rc_verify.proofs.Standing.{asked_at, breaks_next, here_is, loops_stay, onward, refused, took, turns}
+use Rattle.rc_verify.proofs.Standing.{asked_at, breaks_next, here_is, loops_stay, of_same, onward, refused, seen_at, took, turns as turns_on}
 use Rattle.rc_verify.proofs.Strongest.{get_front}
 
 -- ---- lists
@@ -44,9 +43,9 @@ no_break (Break p releases leaves) o x n = go (nat_eq p o) refl
     go false e = refl
 no_break _ o x n = refl
 
-no_breaks : (lines : List Line) (labels : List Label) (o : ℕ) → ((k : ℕ) (l : Line) → slice_get lines k ≡ Some l → (releases leaves : Bool) → l.stmt ≡ Break o releases leaves → ⊥) → break_ends lines labels o ≡ []
-no_breaks [] labels o n = refl
-no_breaks (l ∷ lines) labels o n = ap (λ xs. xs ++ break_ends lines (drop 1 labels) o) (no_break l.stmt o (label_at labels 0) (n 0 l refl)) ∙ no_breaks lines (drop 1 labels) o (λ k m e. n (suc k) m e)
+no_breaks : (lines : List Line) (labels : List Sides) (o : ℕ) (z : Bool) → ((k : ℕ) (l : Line) → slice_get lines k ≡ Some l → (releases leaves : Bool) → l.stmt ≡ Break o releases leaves → ⊥) → break_ends lines labels o z ≡ []
+no_breaks [] labels o z n = refl
+no_breaks (l ∷ lines) labels o z n = ap (λ xs. xs ++ break_ends lines (drop 1 labels) o z) (no_break l.stmt o (label_at labels 0 z) (n 0 l refl)) ∙ no_breaks lines (drop 1 labels) o z (λ k m e. n (suc k) m e)
 
 pub no_loop_places : (bs : List Block) → in_loop bs ≡ false → places loop_place bs ≡ []
 no_loop_places [] e = refl
@@ -85,14 +84,14 @@ module _ (P : Program) (t : Thread) (j : ℕ) (w : Walk) (r : Reaches P t j w) w
       let n : length (blocks_at t.lines (j + 1)) ≡ length (blocks_at t.lines j ++ InLoop j k ∷ []) = ap length (blocks_next t.lines j (Loop k) e) in
       omega (arith, n, length-append (blocks_at t.lines j) (InLoop j k ∷ []), few_loops_kept, r.thread.nested.depth (j + 1))
 
-  loop_items : (k : ℕ) → k < length t.lists → IsItems P (items_at t.lists k)
+  loop_items : (k : ℕ) → k < length t.lists → IsList P (items_at t.lists k)
   loop_items k lt = r.thread.lists k no_items lt
 
-  pub loop_names : (k : ℕ) (items : Items) → k < length t.lists → items ≡ items_at t.lists k → AreDeclared (program_of w.state) items
-  loop_names k items lt q = subst (λ (p : Program). AreDeclared p items) (sym r.at.here.of) (subst (λ (i : Items). AreDeclared P i) (sym q) (names_declared P (items_at t.lists k) (loop_items k lt)))
+  pub loop_list : (k : ℕ) (items : Items) → k < length t.lists → items ≡ items_at t.lists k → IsList (program_of w.state) items
+  loop_list k items lt q = subst (λ (p : Program). IsList p items) (sym r.at.here.of.program) (subst (λ (i : Items). IsList P i) (sym q) (loop_items k lt))
 
-  none_broken : (k : ℕ) (new : Label) → stmt_at t.lines j ≡ Some (Loop k) → break_ends (take (j + 1) t.lines) (r.labels ++ new ∷ []) j ≡ []
-  none_broken k new e = breaks_next P t j w r (Loop k) e new j ∙ nothing_more (break_ends (take j t.lines) r.labels j) ∙ no_breaks (take j t.lines) r.labels j before
+  none_broken : (k : ℕ) (new : Sides) (z : Bool) → stmt_at t.lines j ≡ Some (Loop k) → break_ends (take (j + 1) t.lines) (r.labels ++ new ∷ []) j z ≡ []
+  none_broken k new z e = breaks_next P t j w r (Loop k) e new j z ∙ nothing_more (break_ends (take j t.lines) r.labels j z) ∙ no_breaks (take j t.lines) r.labels j z before
     where
       before : (i : ℕ) (l : Line) → slice_get (take j t.lines) i ≡ Some l → (releases leaves : Bool) → l.stmt ≡ Break j releases leaves → ⊥
       before i l is releases leaves f =
@@ -102,41 +101,46 @@ module _ (P : Program) (t : Thread) (j : ℕ) (w : Walk) (r : Reaches P t j w) w
           let lt : j < i = c.before in
           omega (arith, lt, h.1)
 
-  begun : (k : ℕ) (s : State) (new : Label) → stmt_at t.lines j ≡ Some (Loop k) → label_of s ≡ Dead → program_of s ≡ program_of w.state → IsLoop P t (j + 1) (r.labels ++ new ∷ []) j s
+  begun : (k : ℕ) (s : State) (new : Sides) → stmt_at t.lines j ≡ Some (Loop k) → OnBoth (λ x. x ≡ Dead) s → IsOfSame s w.state → IsLoop P t (j + 1) (r.labels ++ new ∷ []) j s
   begun k s new e d p = record {
     breaks = record {
-      of = p ∙ r.at.here.of;
-      strongest = subst (λ xs. IsStrongest (label_of s) xs) (sym (none_broken k new e)) (dead_strongest (label_of s) d);
-      fits = dead_fits (in_lock (blocks_at t.lines j)) (most_at (j + 1)) (label_of s) d;
+      of = of_same P t s w.state r.at.here.of p;
+      strongest = λ z. subst (λ xs. IsStrongest (label_of s z) xs) (sym (none_broken k new z e)) (dead_strongest (label_of s z) (d z));
+      fits = λ z. dead_fits (in_lock (blocks_at t.lines j)) (most_at (j + 1)) (label_of s z) (d z);
     };
-    closed = dead_closed (label_of s) d;
+    closed = λ z. dead_closed (label_of s z) (d z);
   }
 
-  pub loop_turns : {X : Type 0} (k : ℕ) (items : Items) (new : State) (kept : ArrayVec (Option State)) (x : Result X Cause) → stmt_at t.lines j ≡ Some (Loop k) → items ≡ items_at t.lists k → Gives w.state new x (asks (label_of w.state) (λ bag m. may_loop (program_of w.state) 13 items bag m)) (top (program_of w.state) items (label_of w.state) ∷ []) → OnOk x (KeepsDead w.state w.loops.items kept.items) → Turns P t j (record { state = new; branches = w.branches; peek = w.peek; loops = kept }) x
+  -- what the rule of a loop gives, with these items
+  abbrev pub Loops : {X : Type 0} → Items → State → Result X Cause → Type 0
+  Loops items new x = Gives w.state new x (asks_both (label_of w.state) (λ z bag m. may_loop (program_of w.state) 13 items z bag m)) (λ z. brings (λ y. turns (forgets w.state.flag) y z) (λ s. top (program_of w.state) items z s) (label_of w.state))
+
+  pub loop_turns : {X : Type 0} (k : ℕ) (items : Items) (new : State) (kept : ArrayVec (Option State)) (x : Result X Cause) → stmt_at t.lines j ≡ Some (Loop k) → items ≡ items_at t.lists k → Loops items new x → OnOk x (KeepsDead w.state w.loops.items kept.items) → Turns P t j (record { state = new; branches = w.branches; peek = w.peek; loops = kept }) x
   loop_turns k items new kept x e q g d =
       let w' : Walk = record { state = new; branches = w.branches; peek = w.peek; loops = kept } in
       let i = items_at t.lists k in
-      let g' : Gives w.state new x (asks (label_of w.state) (λ bag m. may_loop (program_of w.state) 13 i bag m)) (top (program_of w.state) i (label_of w.state) ∷ []) = subst (λ (y : Items). Gives w.state new x (asks (label_of w.state) (λ bag m. may_loop (program_of w.state) 13 y bag m)) (top (program_of w.state) y (label_of w.state) ∷ [])) q g in
-      let F : Program → Label → List (ℕ × Premise) = λ p l. asks l (λ bag m. may_loop p 13 i bag m) in
-      let B : Program → Label → List Label = λ p l. top p i l ∷ [] in
-      let gave = took P w.state new (here (take j t.lines) r.labels) x F B r.at.here.of (here_is P t j w r (Loop k) e) g' in
+      let g' : Loops i new x = subst (λ (y : Items). Loops y new x) q g in
+      let F : Program → Option ℕ → Sides → List (ℕ × Premise) = λ p f l. asks_both (λ z. on z l) (λ z bag m. may_loop p 13 i z bag m) in
+      let B : Program → Option ℕ → Sides → Bool → List Label = λ p f l z. brings (λ y. turns (forgets f) y z) (λ s. top p i z s) (λ y. on y l) in
+      let gave = took P t w.state new (seen_at t j r.labels) x F B r.at.here.of (here_is P t j w r (Loop k) e) g' in
       let bs = blocks_at t.lines j in
       let n : blocks_at t.lines (j + 1) ≡ bs ++ InLoop j k ∷ [] = blocks_next t.lines j (Loop k) e in
       let same = opens_none t j bs (InLoop j k) refl n in
       let lt : k < length t.lists = r.thread.resolved j (Loop k) e in
-      let f : Fits (in_lock bs) (most_at j + 18) (top P i (here (take j t.lines) r.labels)) = top_fits P i (in_lock bs) (most_at j) (most_at j + 18) _ (loop_items k lt) (omega arith) (fits_known P t j w r (Loop k) e) in
-      turns P t j w r (Loop k) e w' x gave
-      (λ b. fits_behind P t j w r (Loop k) e (label_of new) (strongest_fits (in_lock bs) (most_at j + 18) (label_of new) _ (f, tt) b))
+      let f : (z y : Bool) → Fits (in_lock bs) (most_at j + 18) (top P i z (here (take j t.lines) r.labels y)) = λ z y. top_fits P i z (in_lock bs) (most_at j) (most_at j + 18) _ (loop_items k lt) (omega arith) (fits_known P t j w r (Loop k) e y) in
+      turns_on P t j w r (Loop k) e w' x gave
+      (λ b z. fits_behind P t j w r (Loop k) e (label_of new z) (strongest_fits (in_lock bs) (most_at j + 18) (label_of new z) _ (brings_fit (λ y. turns (forgets t.flag) y z) (λ s. top P i z s) (here (take j t.lines) r.labels) (in_lock bs) (most_at j + 18) (f z)) (b z)))
       (λ y p. record {
-        branches = branches_same P t j w r (Loop k) e (label_of new) (same branch_place refl);
-        peek = peek_same P t j w r (Loop k) e (label_of new) (λ o z. refl) (same peek_place refl);
+        branches = branches_same P t j w r (Loop k) e (sides_of new) (same branch_place refl);
+        peek = peek_same P t j w r (Loop k) e (sides_of new) (λ o z. refl) (same peek_place refl);
         loops = grown new kept n (on_ok (KeepsDead w.state w.loops.items kept.items) x y d p);
       })
     where
-      grown : (new : State) (kept : ArrayVec (Option State)) → blocks_at t.lines (j + 1) ≡ blocks_at t.lines j ++ InLoop j k ∷ [] → KeepsDead w.state w.loops.items kept.items → AreKept (OnKept (IsLoop P t (j + 1) (r.labels ++ label_of new ∷ []))) (places loop_place (blocks_at t.lines (j + 1))) kept.items
+      grown : (new : State) (kept : ArrayVec (Option State)) → blocks_at t.lines (j + 1) ≡ blocks_at t.lines j ++ InLoop j k ∷ [] → KeepsDead w.state w.loops.items kept.items → AreKept (OnKept (IsLoop P t (j + 1) (r.labels ++ sides_of new ∷ []))) (places loop_place (blocks_at t.lines (j + 1))) kept.items
       grown new kept n d =
-          let more = keep_more (OnKept (IsLoop P t (j + 1) (r.labels ++ label_of new ∷ []))) (places loop_place (blocks_at t.lines j)) w.loops.items j (Some d.state) (loops_stay P t j w r (Loop k) e (label_of new) (λ o z. refl) (places loop_place (blocks_at t.lines j)) w.loops.items r.at.keeps.loops) (begun k d.state (label_of new) e d.dead d.of) in
-          subst (λ os. AreKept (OnKept (IsLoop P t (j + 1) (r.labels ++ label_of new ∷ []))) os kept.items) (sym (ap (places loop_place) n ∙ places_pushed loop_place (blocks_at t.lines j) (InLoop j k))) (subst (λ xs. AreKept (OnKept (IsLoop P t (j + 1) (r.labels ++ label_of new ∷ []))) (places loop_place (blocks_at t.lines j) ++ j ∷ []) xs) (sym d.kept) more)
+          let R = OnKept (IsLoop P t (j + 1) (r.labels ++ sides_of new ∷ [])) in
+          let more = keep_more R (places loop_place (blocks_at t.lines j)) w.loops.items j (Some d.state) (loops_stay P t j w r (Loop k) e (sides_of new) (λ o z. refl) (places loop_place (blocks_at t.lines j)) w.loops.items r.at.keeps.loops) (begun k d.state (sides_of new) e d.dead d.of) in
+          subst (λ os. AreKept R os kept.items) (sym (ap (places loop_place) n ∙ places_pushed loop_place (blocks_at t.lines j) (InLoop j k))) (subst (λ xs. AreKept R (places loop_place (blocks_at t.lines j) ++ j ∷ []) xs) (sym d.kept) more)
 
   -- ---- where it ends
 
@@ -148,14 +152,17 @@ module _ (P : Program) (t : Thread) (j : ℕ) (w : Walk) (r : Reaches P t j w) w
   pub end_loop_some : (o k : ℕ) → stmt_at t.lines j ≡ Some (EndLoop o k) → IsSome (last_of w.loops.items)
   end_loop_some o k e = some_last (IsLoop P t j r.labels) _ o w.loops.items (end_kept o k e)
 
-  pub end_loop_turns : {X : Type 0} (o k : ℕ) (items : Items) (new : State) (kept : ArrayVec (Option State)) (x : Result X Cause) → stmt_at t.lines j ≡ Some (EndLoop o k) → items ≡ items_at t.lists k → ClosesLoop (asks (label_of w.state) (λ bag m. may_loop (program_of w.state) 14 items bag m)) w.loops.items kept.items new x → Turns P t j (record { state = new; branches = w.branches; peek = w.peek; loops = kept }) x
+  pub end_loop_of : (o k : ℕ) (s : State) → stmt_at t.lines j ≡ Some (EndLoop o k) → last_of w.loops.items ≡ Some s → program_of s ≡ program_of w.state
+  end_loop_of o k s e q = (same_last (IsLoop P t j r.labels) _ o w.loops.items s (end_kept o k e) q).breaks.of.program ∙ sym r.at.here.of.program
+
+  pub end_loop_turns : {X : Type 0} (o k : ℕ) (items : Items) (new : State) (kept : ArrayVec (Option State)) (x : Result X Cause) → stmt_at t.lines j ≡ Some (EndLoop o k) → items ≡ items_at t.lists k → ClosesLoop (asks_both (label_of w.state) (λ z bag m. may_loop (program_of w.state) 14 items z bag m)) w.loops.items kept.items new x → Turns P t j (record { state = new; branches = w.branches; peek = w.peek; loops = kept }) x
   end_loop_turns o k items new kept x e q g = go x (subst (λ ps. ClosesLoop ps w.loops.items kept.items new x) asked g)
     where
-      asked : asks (label_of w.state) (λ bag m. may_loop (program_of w.state) 14 items bag m) ≡ asked_at P t j r.labels (EndLoop o k)
+      asked : asks_both (label_of w.state) (λ z bag m. may_loop (program_of w.state) 14 items z bag m) ≡ asked_at P t j r.labels (EndLoop o k)
       asked =
-          ap (λ (i : Items). asks (label_of w.state) (λ bag m. may_loop (program_of w.state) 14 i bag m)) q
-          ∙ ap (λ (p : Program). asks (label_of w.state) (λ bag m. may_loop p 14 (items_at t.lists k) bag m)) r.at.here.of
-          ∙ ap (λ l. asks l (λ bag m. may_loop P 14 (items_at t.lists k) bag m)) (here_is P t j w r (EndLoop o k) e)
+          ap (λ (i : Items). asks_both (label_of w.state) (λ z bag m. may_loop (program_of w.state) 14 i z bag m)) q
+          ∙ ap (λ (p : Program). asks_both (label_of w.state) (λ z bag m. may_loop p 14 (items_at t.lists k) z bag m)) r.at.here.of.program
+          ∙ ap (λ (l : Sides). asks_both (λ z. on z l) (λ z bag m. may_loop P 14 (items_at t.lists k) z bag m)) (here_is P t j w r (EndLoop o k) e)
 
       same : (f : Block → List ℕ) → f (InLoop o k) ≡ [] → places f (blocks_at t.lines (j + 1)) ≡ places f (blocks_at t.lines j)
       same f n = let c = closes_loop t.lines r.thread.nested.each j o k e in ap (places f) c.behind ∙ sym (ap (places f) c.within ∙ pushed_none f (blocks_at t.lines o) (InLoop o k) n)
@@ -167,11 +174,12 @@ module _ (P : Program) (t : Thread) (j : ℕ) (w : Walk) (r : Reaches P t j w) w
           let c = closes_loop t.lines r.thread.nested.each j o k e in
           let last = end_kept o k e in
           let m = (same_last (IsLoop P t j r.labels) _ o w.loops.items new last h.1).breaks in
-          let stay = loops_stay P t j w r (EndLoop o k) e (label_of new) (λ p z. refl) (places loop_place (blocks_at t.lines o)) (rest_of w.loops.items) last.rest in
+          let R = OnKept (IsLoop P t (j + 1) (r.labels ++ sides_of new ∷ [])) in
+          let stay = loops_stay P t j w r (EndLoop o k) e (sides_of new) (λ p z. refl) (places loop_place (blocks_at t.lines o)) (rest_of w.loops.items) last.rest in
           onward P t j w r (EndLoop o k) e w' h.0 m.strongest m.of
-          (subst (λ bs. Fits (in_lock bs) (most_at (j + 1)) (label_of new)) (sym c.behind) (fits_more (in_lock (blocks_at t.lines o)) (most_at j) (most_at (j + 1)) (label_of new) (omega arith) m.fits))
+          (λ z. subst (λ bs. Fits (in_lock bs) (most_at (j + 1)) (label_of new z)) (sym c.behind) (fits_more (in_lock (blocks_at t.lines o)) (most_at j) (most_at (j + 1)) (label_of new z) (omega arith) (m.fits z)))
           (record {
-            branches = branches_same P t j w r (EndLoop o k) e (label_of new) (same branch_place refl);
-            peek = peek_same P t j w r (EndLoop o k) e (label_of new) (λ p z. refl) (same peek_place refl);
-            loops = subst (λ bs. AreKept (OnKept (IsLoop P t (j + 1) (r.labels ++ label_of new ∷ []))) (places loop_place bs) kept.items) (sym c.behind) (subst (λ xs. AreKept (OnKept (IsLoop P t (j + 1) (r.labels ++ label_of new ∷ []))) (places loop_place (blocks_at t.lines o)) xs) (sym h.2) stay);
+            branches = branches_same P t j w r (EndLoop o k) e (sides_of new) (same branch_place refl);
+            peek = peek_same P t j w r (EndLoop o k) e (sides_of new) (λ p z. refl) (same peek_place refl);
+            loops = subst (λ bs. AreKept R (places loop_place bs) kept.items) (sym c.behind) (subst (λ xs. AreKept R (places loop_place (blocks_at t.lines o)) xs) (sym h.2) stay);
           })

@@ -1,6 +1,7 @@
 -- Peeks and their arms.
-use Rattle.std.proofs.Common.{◌≡◌, ℕ, suc, ◌+◌, ◌<◌, Bool, true, false, cond, nat_eq, List, [], ◌∷◌, ◌++◌, drop, take, Option, Some, Result, Ok, Err, refl, sym, ap, subst, ◌∙◌, arith, slice_get}
-use Rattle.std.proofs.lemmas.Bool.{eqb-true, or_parts}
+use Rattle.std.proofs.Common.{◌≡◌, ℕ, suc, ◌+◌, ◌<◌, Bool, true, false, cond, nat_eq, List, [], ◌∷◌, ◌++◌, drop, take, Option, Some, None, Result, Ok, Err, refl, sym, ap, subst, ◌∙◌, arith, slice_get}
+use Rattle.std.specs.Option.{option_eq}
+use Rattle.std.proofs.lemmas.Bool.{eq-eqb, eqb-true, or_parts}
 use Rattle.rc_lang.specs.declared.lines.Block.{Block}
 use Rattle.rc_lang.specs.declared.lines.Block.TheVariants.{InPeek}
 use Rattle.rc_lang.specs.declared.lines.Line.{Line}
@@ -11,23 +12,25 @@ use Rattle.rc_lang.specs.Program.{Program, Thread, stmt_at, stmt_of}
 use Rattle.rc_lang.proofs.Closing.{closes_arm}
 use Rattle.rc_lang.proofs.Lookups.{blocks_next, get_new, nested_here}
 use Rattle.rc_rules.specs.declared.cause.Cause.{Cause}
+use Rattle.rc_rules.specs.declared.flag.Write.TheVariants.{Anything, Untouched}
 use Rattle.rc_rules.specs.declared.mode.Mode.TheVariants.{Unlocked, Locked}
 use Rattle.rc_rules.specs.declared.mode.Peeked.TheVariants.{Unseen}
 use Rattle.rc_rules.specs.Causes.{premise_number}
 use Rattle.rc_rules.specs.Labels.{Label, Dead, Live, Weaker, IsStrongest}
 use Rattle.rc_rules.specs.Labellings.{arm_end, arm_ends, label_at}
-use Rattle.rc_rules.specs.Premises.{FailsFirst, Meets}
-use Rattle.rc_rules.specs.Rules.{agree_all, asks, peek_at, peek_premises}
-use Rattle.rc_rules.specs.States.{State, IsLocked, label_of}
+use Rattle.rc_rules.specs.Premises.{FailsFirst, Meets, Premise}
+use Rattle.rc_rules.specs.Rules.{agree_all, asks, asks_both, peek_at, peek_premises}
+use Rattle.rc_rules.specs.Sides.{Sides, brings, on, turns, write_to}
+use Rattle.rc_rules.specs.States.{State, Becomes, IsLocked, OnBoth, label_of, sides_of}
 use Rattle.rc_verify.specs.Arms.{IsOpened, OpensPeek}
 use Rattle.rc_verify.specs.declared.arms.Arms.{Arms}
 use Rattle.rc_verify.specs.declared.walk.Walk.{Walk}
-use Rattle.rc_verify.specs.Walk.{AreKept, Fits, IsPeeked, IsSaved, Reaches, Turns, branch_place, listed, loop_place, most_at, peek_place, places}
-use Rattle.rc_verify.proofs.Fit.{fits_more}
-use Rattle.rc_rules.proofs.Weaker.{only_itself}
+use Rattle.rc_verify.specs.Walk.{AreKept, Fits, IsOf, IsPeeked, IsSaved, Reaches, Turns, branch_place, listed, loop_place, most_at, peek_place, places}
+use Rattle.rc_verify.proofs.Fit.{brings_fit, brought_locked, fits_more, strongest_fits}
+use Rattle.rc_verify.proofs.Joining.{each_meets}
 use Rattle.rc_verify.proofs.Keeping.{nothing_more, places_pushed}
 use Rattle.rc_verify.proofs.Plainly.{branches_same, fits_behind, loops_same, opens_none}
-use Rattle.rc_verify.proofs.Standing.{arms_next, fits_here, here_is, onward, refused}
+use Rattle.rc_verify.proofs.Standing.{arms_next, fits_here, here_is, of_same, onward, refused, seen_at, took}
 use Rattle.rc_verify.proofs.Strongest.{get_front}
 
 -- ---- lists
@@ -40,9 +43,9 @@ no_arm (EndArm p) o x n = go (nat_eq p o) refl
     go false e = refl
 no_arm _ o x n = refl
 
-no_arms : (lines : List Line) (labels : List Label) (o : ℕ) → ((k : ℕ) (l : Line) → slice_get lines k ≡ Some l → l.stmt ≡ EndArm o → ⊥) → arm_ends lines labels o ≡ []
-no_arms [] labels o n = refl
-no_arms (l ∷ lines) labels o n = ap (λ xs. xs ++ arm_ends lines (drop 1 labels) o) (no_arm l.stmt o (label_at labels 0) (n 0 l refl)) ∙ no_arms lines (drop 1 labels) o (λ k m e. n (suc k) m e)
+no_arms : (lines : List Line) (labels : List Sides) (o : ℕ) (z : Bool) → ((k : ℕ) (l : Line) → slice_get lines k ≡ Some l → l.stmt ≡ EndArm o → ⊥) → arm_ends lines labels o z ≡ []
+no_arms [] labels o z n = refl
+no_arms (l ∷ lines) labels o z n = ap (λ xs. xs ++ arm_ends lines (drop 1 labels) o z) (no_arm l.stmt o (label_at labels 0 z) (n 0 l refl)) ∙ no_arms lines (drop 1 labels) o z (λ k m e. n (suc k) m e)
 
 no_peek_place : (b : Block) → is_peek b ≡ false → peek_place b ≡ []
 no_peek_place (InPeek o) e = absurd (cc)
@@ -59,10 +62,14 @@ met_locked Dead h = tt
 met_locked (Live b Unlocked) h = absurd (cc (h.0))
 met_locked (Live b (Locked i)) h = tt
 
-pub locked_asks : (s : Label) → IsLocked s → asks s (λ bag m. peek_premises m) ≡ []
+locked_asks : (s : Label) → IsLocked s → asks s (λ bag m. peek_premises m) ≡ []
 locked_asks Dead h = refl
 locked_asks (Live b Unlocked) h = absurd h
 locked_asks (Live b (Locked i)) h = refl
+
+-- Nothing is asked where both sides have the lock.
+pub none_asked : (s : Bool → Label) → ((z : Bool) → IsLocked (s z)) → asks_both s (λ z bag m. peek_premises m) ≡ []
+none_asked s h = ap (λ ps. ps ++ asks (s false) (λ bag m. peek_premises m)) (locked_asks (s true) (h true)) ∙ locked_asks (s false) (h false)
 
 pub dead_strongest : (s : Label) → s ≡ Dead → IsStrongest s []
 dead_strongest s e = record { weaker = tt; strongest = λ t w. subst (λ z. Weaker t z) (sym e) tt }
@@ -70,11 +77,23 @@ dead_strongest s e = record { weaker = tt; strongest = λ t w. subst (λ z. Weak
 pub dead_fits : (b : Bool) (n : ℕ) (s : Label) → s ≡ Dead → Fits b n s
 dead_fits b n s e = subst (λ z. Fits b n z) (sym e) tt
 
+-- ---- a peek into the flag
+
+is_flag_of : (f : Option ℕ) (x : ℕ) → option_eq nat_eq f (Some x) ≡ true → f ≡ Some x
+is_flag_of None x e = absurd (cc)
+is_flag_of (Some y) x e = ap Some (eqb-true y x e)
+
+pub lost : (s new : State) (x : ℕ) → option_eq nat_eq s.flag (Some x) ≡ true → Becomes s new (λ z. brings (λ y. true) (λ l. l) (label_of s)) → Becomes s new (λ z. brings (λ y. turns (write_to s.flag x Anything) y z) (λ l. l) (label_of s))
+lost s new x e h = subst (λ w. Becomes s new (λ z. brings (λ y. turns w y z) (λ l. l) (label_of s))) (sym written) h
+  where
+    written : write_to s.flag x Anything ≡ Anything
+    written = ap (λ f. write_to f x Anything) (is_flag_of s.flag x e) ∙ ap (λ b. cond b Anything Untouched) (eq-eqb x x refl)
+
 module _ (P : Program) (t : Thread) (j : ℕ) (w : Walk) (r : Reaches P t j w) where
   -- ---- the peek
 
-  none_so_far : (x : ℕ) (new : Label) → stmt_at t.lines j ≡ Some (Peek x) → arm_ends (take (j + 1) t.lines) (r.labels ++ new ∷ []) j ≡ []
-  none_so_far x new e = arms_next P t j w r (Peek x) e new j ∙ nothing_more (arm_ends (take j t.lines) r.labels j) ∙ no_arms (take j t.lines) r.labels j before
+  none_so_far : (x : ℕ) (new : Sides) (z : Bool) → stmt_at t.lines j ≡ Some (Peek x) → arm_ends (take (j + 1) t.lines) (r.labels ++ new ∷ []) j z ≡ []
+  none_so_far x new z e = arms_next P t j w r (Peek x) e new j z ∙ nothing_more (arm_ends (take j t.lines) r.labels j z) ∙ no_arms (take j t.lines) r.labels j z before
     where
       before : (k : ℕ) (l : Line) → slice_get (take j t.lines) k ≡ Some l → l.stmt ≡ EndArm j → ⊥
       before k l is f =
@@ -84,34 +103,47 @@ module _ (P : Program) (t : Thread) (j : ℕ) (w : Walk) (r : Reaches P t j w) w
           let lt : j < k = c.before in
           omega (arith, lt, h.1)
 
-  opened : (x : ℕ) (a : Arms) → stmt_at t.lines j ≡ Some (Peek x) → Meets (asks (label_of w.state) (λ bag m. peek_premises m)) → IsOpened w.state a → IsPeeked P t (j + 1) (r.labels ++ label_of w.state ∷ []) j a
-  opened x a e m h = record {
-    before = subst (λ (s : State). IsSaved P (r.labels ++ label_of w.state ∷ []) (j + 1) s) (sym h.before) (record { of = r.at.here.of; at = ap (λ i. slice_get (r.labels ++ label_of w.state ∷ []) i) (sym r.at.size) ∙ get_new r.labels (label_of w.state) [] });
-    locked = subst (λ (s : State). IsLocked (label_of s)) (sym h.before) (met_locked (label_of w.state) m);
-    of = h.of ∙ r.at.here.of;
-    agree = ap agree_all (none_so_far x (label_of w.state) e) ∙ sym h.agree;
-    ends = λ q. record {
-      of = h.of ∙ r.at.here.of;
-      strongest = subst (λ xs. IsStrongest (label_of a.ends) xs) (sym (none_so_far x (label_of w.state) e)) (dead_strongest (label_of a.ends) h.dead);
-      fits = dead_fits (in_lock (blocks_at t.lines j)) (most_at (j + 1)) (label_of a.ends) h.dead;
-    };
-  }
+  opened : (x : ℕ) (new : State) (a : Arms) → stmt_at t.lines j ≡ Some (Peek x) → IsOf P t new → OnBoth IsLocked new → IsOpened new a → IsPeeked P t (j + 1) (r.labels ++ sides_of new ∷ []) j a
+  opened x new a e p l h =
+      let labels = r.labels ++ sides_of new ∷ [] in
+      let none : (z : Bool) → arm_ends (take (j + 1) t.lines) labels j z ≡ [] = λ z. none_so_far x (sides_of new) z e in
+      record {
+        before = subst (λ (s : State). IsSaved P t labels (j + 1) s) (sym h.before) (record { of = p; at = ap (λ i. slice_get labels i) (sym r.at.size) ∙ get_new r.labels (sides_of new) [] });
+        locked = subst (λ (s : State). OnBoth IsLocked s) (sym h.before) l;
+        of = of_same P t a.ends new p h.of;
+        agree = ap (λ xs. agree_all (xs ++ arm_ends (take (j + 1) t.lines) labels j false)) (none true) ∙ ap agree_all (none false) ∙ sym h.agree;
+        ends = λ q. record {
+          of = of_same P t a.ends new p h.of;
+          strongest = λ z. subst (λ xs. IsStrongest (label_of a.ends z) xs) (sym (none z)) (dead_strongest (label_of a.ends z) (h.dead z));
+          fits = λ z. dead_fits (in_lock (blocks_at t.lines j)) (most_at (j + 1)) (label_of a.ends z) (h.dead z);
+        };
+      }
 
-  pub peek_turns : {X : Type 0} (v : ℕ) (peek : Option Arms) (x : Result X Cause) → stmt_at t.lines j ≡ Some (Peek v) → OpensPeek w.state peek x → Turns P t j (record { state = w.state; branches = w.branches; peek = peek; loops = w.loops }) x
-  peek_turns v peek (Ok y) e g =
-      let w' : Walk = record { state = w.state; branches = w.branches; peek = peek; loops = w.loops } in
-      let h = here_is P t j w r (Peek v) e in
+  -- what the peek asks of the walk's state, it asks of the labels before it
+  asked_is : (v : ℕ) → stmt_at t.lines j ≡ Some (Peek v) → asks_both (label_of w.state) (λ z bag m. peek_premises m) ≡ asks_both (λ z. on z (seen_at t j r.labels)) (λ z bag m. peek_premises m)
+  asked_is v e = ap (λ (l : Sides). asks_both (λ z. on z l) (λ z bag m. peek_premises m)) (here_is P t j w r (Peek v) e)
+
+  pub peek_turns : {X : Type 0} (v : ℕ) (new : State) (peek : Option Arms) (x : Result X Cause) → stmt_at t.lines j ≡ Some (Peek v) → OpensPeek v w.state new peek x → Turns P t j (record { state = new; branches = w.branches; peek = peek; loops = w.loops }) x
+  peek_turns v new peek (Ok y) e g =
+      let w' : Walk = record { state = new; branches = w.branches; peek = peek; loops = w.loops } in
       let bs = blocks_at t.lines j in
+      let may : Bool → Bool → Bool = λ z y. turns (write_to w.state.flag v Anything) y z in
+      let F : Program → Option ℕ → Sides → List (ℕ × Premise) = λ p f l. asks_both (λ z. on z l) (λ z bag m. peek_premises m) in
+      let B : Program → Option ℕ → Sides → Bool → List Label = λ p f l z. brings (λ y. turns (write_to f v Anything) y z) (λ s. s) (λ y. on y l) in
+      let gave = took P t w.state new (seen_at t j r.labels) (Ok y) F B r.at.here.of (here_is P t j w r (Peek v) e) (g.0, g.1) in
       let n : blocks_at t.lines (j + 1) ≡ bs ++ InPeek j ∷ [] = blocks_next t.lines j (Peek v) e in
       let same = opens_none t j bs (InPeek j) refl n in
-      let f : Fits (in_lock bs) (most_at j + 18) (label_of w.state) = fits_more (in_lock bs) (most_at j) (most_at j + 18) (label_of w.state) (omega arith) (fits_here P t j w r (Peek v) e) in
+      let f : (z : Bool) → Fits (in_lock bs) (most_at j + 18) (label_of w.state z) = λ z. fits_more (in_lock bs) (most_at j) (most_at j + 18) (label_of w.state z) (omega arith) (fits_here P t j w r (Peek v) e z) in
+      let f' : (z : Bool) → Fits (in_lock bs) (most_at j + 18) (label_of new z) = λ z. strongest_fits (in_lock bs) (most_at j + 18) (label_of new z) _ (brings_fit (may z) (λ s. s) (label_of w.state) (in_lock bs) (most_at j + 18) f) (g.1.each z) in
+      let m = each_meets (label_of w.state) (λ s. asks s (λ bag m. peek_premises m)) g.0 in
+      let l : OnBoth IsLocked new = λ z. brought_locked (may z) (λ s. s) (label_of w.state) (label_of new z) (λ y. met_locked (label_of w.state y) (m y)) (g.1.each z) in
       let p : places peek_place (blocks_at t.lines (j + 1)) ≡ j ∷ [] = ap (places peek_place) n ∙ places_pushed peek_place bs (InPeek j) ∙ ap (λ os. os ++ j ∷ []) (no_peeks bs (nested_here t.lines r.thread.nested.each j (Peek v) e)) in
-      let one : AreKept (IsPeeked P t (j + 1) (r.labels ++ label_of w.state ∷ [])) (j ∷ []) (g.1.0 ∷ []) = (opened v g.1.0 e g.0 g.1.2, tt) in
-      onward P t j w r (Peek v) e w' (subst (λ l. Meets (asks l (λ bag m. peek_premises m))) h g.0) (subst (λ l. IsStrongest (label_of w.state) (l ∷ [])) h (only_itself (label_of w.state))) r.at.here.of
-      (fits_behind P t j w r (Peek v) e (label_of w.state) f)
+      let one : AreKept (IsPeeked P t (j + 1) (r.labels ++ sides_of new ∷ [])) (j ∷ []) (g.2.0 ∷ []) = (opened v new g.2.0 e gave.2 l g.2.2, tt) in
+      onward P t j w r (Peek v) e w' gave.0 gave.1 gave.2
+      (λ z. fits_behind P t j w r (Peek v) e (label_of new z) (f' z))
       (record {
-        branches = branches_same P t j w r (Peek v) e (label_of w.state) (same branch_place refl);
-        peek = subst (λ os. AreKept (IsPeeked P t (j + 1) (r.labels ++ label_of w.state ∷ [])) os (listed peek)) (sym p) (subst (λ (z : Option Arms). AreKept (IsPeeked P t (j + 1) (r.labels ++ label_of w.state ∷ [])) (j ∷ []) (listed z)) (sym g.1.1) one);
-        loops = loops_same P t j w r (Peek v) e (label_of w.state) (λ o z. refl) (same loop_place refl);
+        branches = branches_same P t j w r (Peek v) e (sides_of new) (same branch_place refl);
+        peek = subst (λ os. AreKept (IsPeeked P t (j + 1) (r.labels ++ sides_of new ∷ [])) os (listed peek)) (sym p) (subst (λ (z : Option Arms). AreKept (IsPeeked P t (j + 1) (r.labels ++ sides_of new ∷ [])) (j ∷ []) (listed z)) (sym g.2.1) one);
+        loops = loops_same P t j w r (Peek v) e (sides_of new) (λ o z. refl) (same loop_place refl);
       })
-  peek_turns v peek (Err c) e g = refused P t j w r (Peek v) e (premise_number c) (subst (λ l. FailsFirst (premise_number c) (asks l (λ bag m. peek_premises m))) (here_is P t j w r (Peek v) e) g)
+  peek_turns v new peek (Err c) e g = refused P t j w r (Peek v) e (premise_number c) (subst (FailsFirst (premise_number c)) (asked_is v e) g)

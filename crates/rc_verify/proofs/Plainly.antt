@@ -1,5 +1,5 @@
 -- Lines that change the state alone.
-use Rattle.std.proofs.Common.{◌≡◌, ℕ, ◌+◌, ◌^◌, ◌<◌, ◌≤◌, true, false, List, [], ◌∷◌, ◌++◌, length, take, Some, Result, refl, sym, ap, subst, ◌∙◌, arith}
+use Rattle.std.proofs.Common.{◌≡◌, ℕ, ◌+◌, ◌^◌, ◌<◌, ◌≤◌, Bool, true, false, List, [], ◌∷◌, ◌++◌, length, take, Option, Some, Result, refl, sym, ap, subst, ◌∙◌, arith}
 use Rattle.std.proofs.Math.Bool.{or-true}
 use Rattle.rc_lang.specs.declared.lines.Block.{Block}
 use Rattle.rc_lang.specs.declared.lines.Block.TheVariants.{InLock}
@@ -13,15 +13,16 @@ use Rattle.rc_lang.proofs.Closing.{closes_lock}
 use Rattle.rc_lang.proofs.Lookups.{blocks_next, in_lock_pushed, nested_here, stands_within}
 use Rattle.rc_rules.specs.declared.cause.Cause.{Cause}
 use Rattle.rc_rules.specs.Labels.{Label, IsStrongest}
-use Rattle.rc_rules.specs.Labellings.{here, arm_end, break_end}
+use Rattle.rc_rules.specs.Labellings.{arm_end, break_end, here}
 use Rattle.rc_rules.specs.Premises.{Premise}
-use Rattle.rc_rules.specs.Rules.{asks, entered, goes, may_release, op_effect, op_premises, released}
-use Rattle.rc_rules.specs.States.{State, Gives, IsLocked, IsSmall, IsUnlocked, label_of, program_of}
+use Rattle.rc_rules.specs.Rules.{asks_both, entered, goes, may_release, op_effect, op_premises, released}
+use Rattle.rc_rules.specs.Sides.{Sides, brings, on, turns, write_of}
+use Rattle.rc_rules.specs.States.{State, AgreeOnLock, Gives, IsLocked, IsSmall, IsUnlocked, OnBoth, label_of, program_of, sides_of}
 use Rattle.rc_verify.specs.declared.walk.Walk.{Walk}
-use Rattle.rc_verify.specs.Walk.{Fits, Keeps, Reaches, Turns, branch_place, loop_place, most_at, peek_place, places, AreKept, OnKept, IsSaved, IsPeeked, IsLoop, listed}
-use Rattle.rc_verify.proofs.Fit.{AreAll, entered_fits, fits_locked, fits_more, fits_small, fits_unlocked, op_fits, released_fits, strongest_fits}
+use Rattle.rc_verify.specs.Walk.{AreKept, Fits, IsBranch, IsLoop, IsOf, IsPeeked, Keeps, OnKept, Reaches, Turns, branch_place, listed, loop_place, most_at, peek_place, places}
+use Rattle.rc_verify.proofs.Fit.{AreAll, brings_fit, entered_fits, fits_alike, fits_locked, fits_more, fits_small, fits_unlocked, op_fits, released_fits, strongest_fits}
 use Rattle.rc_verify.proofs.Keeping.{popped_none, pushed_none}
-use Rattle.rc_verify.proofs.Standing.{Gave, asked_at, branches_stay, fits_here, here_is, lead_at, loops_stay, peek_stays, took, turns}
+use Rattle.rc_verify.proofs.Standing.{Gave, asked_at, branches_stay, fits_here, here_is, lead_at, loops_stay, peek_stays, seen_at, took, turns as turns_on}
 
 -- The same places are kept behind the line at j.
 pub record SamePlaces (t : Thread) (j : ℕ) : Type 0 where
@@ -46,13 +47,13 @@ module _ (P : Program) (t : Thread) (j : ℕ) (w : Walk) (r : Reaches P t j w) (
   pub fits_behind : (x : Label) → Fits (locked_behind (in_lock (blocks_at t.lines j)) s) (most_at j + 18) x → Fits (in_lock (blocks_at t.lines (j + 1))) (most_at (j + 1)) x
   fits_behind x h = subst (λ b. Fits b (most_at (j + 1)) x) (sym (lock_next t.lines r.thread.nested.each j s e)) (fits_more (locked_behind (in_lock (blocks_at t.lines j)) s) (most_at j + 18) (most_at (j + 1)) x (omega arith) h)
 
-  pub fits_known : Fits (in_lock (blocks_at t.lines j)) (most_at j) (here (take j t.lines) r.labels)
-  fits_known = subst (λ x. Fits (in_lock (blocks_at t.lines j)) (most_at j) x) (here_is P t j w r s e) (fits_here P t j w r s e)
+  pub fits_known : (z : Bool) → Fits (in_lock (blocks_at t.lines j)) (most_at j) (here (take j t.lines) r.labels z)
+  fits_known z = subst (λ x. Fits (in_lock (blocks_at t.lines j)) (most_at j) (on z x)) (here_is P t j w r s e) (fits_here P t j w r s e z)
 
   -- what is kept where the same places are
-  module _ (new : Label) where
-    pub branches_same : places branch_place (blocks_at t.lines (j + 1)) ≡ places branch_place (blocks_at t.lines j) → AreKept (OnKept (IsSaved P (r.labels ++ new ∷ []))) (places branch_place (blocks_at t.lines (j + 1))) w.branches.items
-    branches_same p = subst (λ os. AreKept (OnKept (IsSaved P (r.labels ++ new ∷ []))) os w.branches.items) (sym p) (branches_stay P t j w r s e new (places branch_place (blocks_at t.lines j)) w.branches.items r.at.keeps.branches)
+  module _ (new : Sides) where
+    pub branches_same : places branch_place (blocks_at t.lines (j + 1)) ≡ places branch_place (blocks_at t.lines j) → AreKept (OnKept (IsBranch P t (j + 1) (r.labels ++ new ∷ []))) (places branch_place (blocks_at t.lines (j + 1))) w.branches.items
+    branches_same p = subst (λ os. AreKept (OnKept (IsBranch P t (j + 1) (r.labels ++ new ∷ []))) os w.branches.items) (sym p) (branches_stay P t j w r s e new (places branch_place (blocks_at t.lines j)) w.branches.items r.at.keeps.branches)
 
     pub peek_same : ((o : ℕ) (x : Label) → arm_end s o x ≡ []) → places peek_place (blocks_at t.lines (j + 1)) ≡ places peek_place (blocks_at t.lines j) → AreKept (IsPeeked P t (j + 1) (r.labels ++ new ∷ [])) (places peek_place (blocks_at t.lines (j + 1))) (listed w.peek)
     peek_same n p = subst (λ os. AreKept (IsPeeked P t (j + 1) (r.labels ++ new ∷ [])) os (listed w.peek)) (sym p) (peek_stays P t j w r s e new n (places peek_place (blocks_at t.lines j)) (listed w.peek) r.at.keeps.peek)
@@ -60,14 +61,14 @@ module _ (P : Program) (t : Thread) (j : ℕ) (w : Walk) (r : Reaches P t j w) (
     pub loops_same : ((o : ℕ) (x : Label) → break_end s o x ≡ []) → places loop_place (blocks_at t.lines (j + 1)) ≡ places loop_place (blocks_at t.lines j) → AreKept (OnKept (IsLoop P t (j + 1) (r.labels ++ new ∷ []))) (places loop_place (blocks_at t.lines (j + 1))) w.loops.items
     loops_same n p = subst (λ os. AreKept (OnKept (IsLoop P t (j + 1) (r.labels ++ new ∷ []))) os w.loops.items) (sym p) (loops_stay P t j w r s e new n (places loop_place (blocks_at t.lines j)) w.loops.items r.at.keeps.loops)
 
-  keeps_same : (new : State) → SamePlaces t j → EndsNone s → Keeps P t (j + 1) (r.labels ++ label_of new ∷ []) (record { state = new; branches = w.branches; peek = w.peek; loops = w.loops })
-  keeps_same new p n = record { branches = branches_same (label_of new) p.branches; peek = peek_same (label_of new) n.arms p.peek; loops = loops_same (label_of new) n.breaks p.loops }
+  keeps_same : (new : State) → SamePlaces t j → EndsNone s → Keeps P t (j + 1) (r.labels ++ sides_of new ∷ []) (record { state = new; branches = w.branches; peek = w.peek; loops = w.loops })
+  keeps_same new p n = record { branches = branches_same (sides_of new) p.branches; peek = peek_same (sides_of new) n.arms p.peek; loops = loops_same (sides_of new) n.breaks p.loops }
 
-  pub state_alone : {X : Type 0} (old new : State) (known : Label) (x : Result X Cause) (F : Program → Label → List (ℕ × Premise)) (B : Program → Label → List Label) → program_of old ≡ P → label_of old ≡ known → asked_at P t j r.labels s ≡ F P known → lead_at P t j r.labels s ≡ B P known → AreAll (Fits (locked_behind (in_lock (blocks_at t.lines j)) s) (most_at j + 18)) (B P known) → SamePlaces t j → EndsNone s → Gives old new x (F (program_of old) (label_of old)) (B (program_of old) (label_of old)) → Turns P t j (record { state = new; branches = w.branches; peek = w.peek; loops = w.loops }) x
+  pub state_alone : {X : Type 0} (old new : State) (known : Sides) (x : Result X Cause) (F : Program → Option ℕ → Sides → List (ℕ × Premise)) (B : Program → Option ℕ → Sides → Bool → List Label) → IsOf P t old → sides_of old ≡ known → asked_at P t j r.labels s ≡ F P t.flag known → lead_at P t j r.labels s ≡ B P t.flag known → ((z : Bool) → AreAll (Fits (locked_behind (in_lock (blocks_at t.lines j)) s) (most_at j + 18)) (B P t.flag known z)) → SamePlaces t j → EndsNone s → Gives old new x (F (program_of old) old.flag (sides_of old)) (B (program_of old) old.flag (sides_of old)) → Turns P t j (record { state = new; branches = w.branches; peek = w.peek; loops = w.loops }) x
   state_alone old new known x F B p q a l f places_same none g =
-      let h = subst (λ bs. Gave P new x (asked_at P t j r.labels s) bs) (sym l) (subst (λ ps. Gave P new x ps (B P known)) (sym a) (took P old new known x F B p q g)) in
-      turns P t j w r s e (record { state = new; branches = w.branches; peek = w.peek; loops = w.loops }) x h
-      (λ b. fits_behind (label_of new) (strongest_fits (locked_behind (in_lock (blocks_at t.lines j)) s) (most_at j + 18) (label_of new) (B P known) f (subst (λ bs. IsStrongest (label_of new) bs) l b)))
+      let h = subst (λ bs. Gave P t new x (asked_at P t j r.labels s) bs) (sym l) (subst (λ ps. Gave P t new x ps (B P t.flag known)) (sym a) (took P t old new known x F B p q g)) in
+      turns_on P t j w r s e (record { state = new; branches = w.branches; peek = w.peek; loops = w.loops }) x h
+      (λ b z. fits_behind (label_of new z) (strongest_fits (locked_behind (in_lock (blocks_at t.lines j)) s) (most_at j + 18) (label_of new z) (B P t.flag known z) (f z) (subst (λ bs. IsStrongest (label_of new z) (bs z)) l (b z))))
       (λ y q. keeps_same new places_same none)
 
 -- ---- statements without a block, and locks
@@ -76,40 +77,43 @@ few_held : (j n : ℕ) → j < n → n ≤ 4096 → most_at j ≤ 2 ^ 19
 few_held j n l m = omega arith
 
 module _ (P : Program) (t : Thread) (j : ℕ) (w : Walk) (r : Reaches P t j w) where
-  pub small_here : (s : Stmt) → stmt_at t.lines j ≡ Some s → IsSmall (label_of w.state)
-  small_here s e = let l = stands_within t.lines j s e in fits_small (in_lock (blocks_at t.lines j)) (most_at j) (label_of w.state) (few_held j (length t.lines) l r.thread.few_lines) (r.at.fits j (label_of w.state) r.at.here.at)
+  pub small_here : (s : Stmt) → stmt_at t.lines j ≡ Some s → OnBoth IsSmall w.state
+  small_here s e z = let l = stands_within t.lines j s e in fits_small (in_lock (blocks_at t.lines j)) (most_at j) (label_of w.state z) (few_held j (length t.lines) l r.thread.few_lines) (fits_here P t j w r s e z)
 
-  pub do_turns : {X : Type 0} (op : Op) (new : State) (x : Result X Cause) → stmt_at t.lines j ≡ Some (Do op) → Gives w.state new x (asks (label_of w.state) (λ bag m. op_premises (program_of w.state) bag m op)) (goes (label_of w.state) (λ bag m. op_effect (program_of w.state) bag m op) ∷ []) → Turns P t j (record { state = new; branches = w.branches; peek = w.peek; loops = w.loops }) x
+  pub do_turns : {X : Type 0} (op : Op) (new : State) (x : Result X Cause) → stmt_at t.lines j ≡ Some (Do op) → Gives w.state new x (asks_both (label_of w.state) (λ z bag m. op_premises (program_of w.state) bag m op)) (λ z. brings (λ y. turns (write_of w.state.flag op) y z) (λ s. goes s (λ bag m. op_effect (program_of w.state) bag m op)) (label_of w.state)) → Turns P t j (record { state = new; branches = w.branches; peek = w.peek; loops = w.loops }) x
   do_turns op new x e g =
       let n = blocks_next t.lines j (Do op) e in
-      state_alone P t j w r (Do op) e w.state new (here (take j t.lines) r.labels) x (λ p l. asks l (λ bag m. op_premises p bag m op)) (λ p l. goes l (λ bag m. op_effect p bag m op) ∷ []) r.at.here.of (here_is P t j w r (Do op) e) refl refl
-      (op_fits P (in_lock (blocks_at t.lines j)) (most_at j) _ op r.made (fits_known P t j w r (Do op) e), tt)
+      let lock = in_lock (blocks_at t.lines j) in
+      state_alone P t j w r (Do op) e w.state new (seen_at t j r.labels) x (λ p f l. asks_both (λ z. on z l) (λ z bag m. op_premises p bag m op)) (λ p f l z. brings (λ y. turns (write_of f op) y z) (λ s. goes s (λ bag m. op_effect p bag m op)) (λ y. on y l)) r.at.here.of (here_is P t j w r (Do op) e) refl refl
+      (λ z. brings_fit (λ y. turns (write_of t.flag op) y z) (λ s. goes s (λ bag m. op_effect P bag m op)) (here (take j t.lines) r.labels) lock (most_at j + 18) (λ y. op_fits P lock (most_at j) _ op r.made (fits_known P t j w r (Do op) e y)))
       (record { branches = ap (places branch_place) n; peek = ap (places peek_place) n; loops = ap (places loop_place) n })
       (record { arms = λ o x. refl; breaks = λ o x. refl }) g
 
-  pub unlocked_here : stmt_at t.lines j ≡ Some Lock → IsUnlocked (label_of w.state)
-  unlocked_here e = fits_unlocked (most_at j) (label_of w.state) (subst (λ b. Fits b (most_at j) (label_of w.state)) (nested_here t.lines r.thread.nested.each j Lock e).0 (fits_here P t j w r Lock e))
+  -- Both sides are locked, or both are not.
+  pub sides_here : (s : Stmt) → stmt_at t.lines j ≡ Some s → AgreeOnLock (label_of w.state true) (label_of w.state false)
+  sides_here s e = fits_alike (in_lock (blocks_at t.lines j)) (most_at j) (most_at j) (label_of w.state true) (label_of w.state false) (fits_here P t j w r s e true) (fits_here P t j w r s e false)
 
-  pub lock_turns : {X : Type 0} (new : State) (x : Result X Cause) → stmt_at t.lines j ≡ Some Lock → Gives w.state new x [] (entered (program_of w.state) (label_of w.state) ∷ []) → Turns P t j (record { state = new; branches = w.branches; peek = w.peek; loops = w.loops }) x
+  pub unlocked_here : stmt_at t.lines j ≡ Some Lock → OnBoth IsUnlocked w.state
+  unlocked_here e z = fits_unlocked (most_at j) (label_of w.state z) (subst (λ b. Fits b (most_at j) (label_of w.state z)) (nested_here t.lines r.thread.nested.each j Lock e).0 (fits_here P t j w r Lock e z))
+
+  pub lock_turns : {X : Type 0} (new : State) (x : Result X Cause) → stmt_at t.lines j ≡ Some Lock → Gives w.state new x [] (λ z. entered (program_of w.state) (label_of w.state z) ∷ []) → Turns P t j (record { state = new; branches = w.branches; peek = w.peek; loops = w.loops }) x
   lock_turns new x e g =
       let n = opens_none t j (blocks_at t.lines j) (InLock j) refl (blocks_next t.lines j Lock e) in
-      let f = entered_fits P (in_lock (blocks_at t.lines j)) (most_at j) _ (fits_known P t j w r Lock e) in
-      state_alone P t j w r Lock e w.state new (here (take j t.lines) r.labels) x (λ p l. []) (λ p l. entered p l ∷ []) r.at.here.of (here_is P t j w r Lock e) refl refl
-      (fits_more true (most_at j) (most_at j + 18) _ (omega arith) f, tt)
+      state_alone P t j w r Lock e w.state new (seen_at t j r.labels) x (λ p f l. []) (λ p f l z. entered p (on z l) ∷ []) r.at.here.of (here_is P t j w r Lock e) refl refl
+      (λ z. (fits_more true (most_at j) (most_at j + 18) _ (omega arith) (entered_fits P (in_lock (blocks_at t.lines j)) (most_at j) _ (fits_known P t j w r Lock e z)), tt))
       (record { branches = n branch_place refl; peek = n peek_place refl; loops = n loop_place refl })
       (record { arms = λ o x. refl; breaks = λ o x. refl }) g
 
-  pub locked_here : (o : ℕ) → stmt_at t.lines j ≡ Some (EndLock o) → IsLocked (label_of w.state)
-  locked_here o e =
+  pub locked_here : (o : ℕ) → stmt_at t.lines j ≡ Some (EndLock o) → OnBoth IsLocked w.state
+  locked_here o e z =
       let c = closes_lock t.lines r.thread.nested.each j o e in
       let b : in_lock (blocks_at t.lines j) ≡ true = ap in_lock c.within ∙ in_lock_pushed (blocks_at t.lines o) (InLock o) ∙ or-true (in_lock (blocks_at t.lines o)) in
-      fits_locked (most_at j) (label_of w.state) (subst (λ b. Fits b (most_at j) (label_of w.state)) b (fits_here P t j w r (EndLock o) e))
+      fits_locked (most_at j) (label_of w.state z) (subst (λ b. Fits b (most_at j) (label_of w.state z)) b (fits_here P t j w r (EndLock o) e z))
 
-  pub release_turns : {X : Type 0} (o : ℕ) (new : State) (x : Result X Cause) → stmt_at t.lines j ≡ Some (EndLock o) → Gives w.state new x (asks (label_of w.state) (λ bag m. may_release (program_of w.state) m)) (released (label_of w.state) ∷ []) → Turns P t j (record { state = new; branches = w.branches; peek = w.peek; loops = w.loops }) x
+  pub release_turns : {X : Type 0} (o : ℕ) (new : State) (x : Result X Cause) → stmt_at t.lines j ≡ Some (EndLock o) → Gives w.state new x (asks_both (label_of w.state) (λ z bag m. may_release (program_of w.state) m)) (λ z. released (label_of w.state z) ∷ []) → Turns P t j (record { state = new; branches = w.branches; peek = w.peek; loops = w.loops }) x
   release_turns o new x e g =
       let n = closes_none t j (blocks_at t.lines j) (InLock o) refl (nested_here t.lines r.thread.nested.each j (EndLock o) e) (blocks_next t.lines j (EndLock o) e) in
-      let f = released_fits (in_lock (blocks_at t.lines j)) (most_at j) _ (fits_known P t j w r (EndLock o) e) in
-      state_alone P t j w r (EndLock o) e w.state new (here (take j t.lines) r.labels) x (λ p l. asks l (λ bag m. may_release p m)) (λ p l. released l ∷ []) r.at.here.of (here_is P t j w r (EndLock o) e) refl refl
-      (fits_more false (most_at j) (most_at j + 18) _ (omega arith) f, tt)
+      state_alone P t j w r (EndLock o) e w.state new (seen_at t j r.labels) x (λ p f l. asks_both (λ z. on z l) (λ z bag m. may_release p m)) (λ p f l z. released (on z l) ∷ []) r.at.here.of (here_is P t j w r (EndLock o) e) refl refl
+      (λ z. (fits_more false (most_at j) (most_at j + 18) _ (omega arith) (released_fits (in_lock (blocks_at t.lines j)) (most_at j) _ (fits_known P t j w r (EndLock o) e z)), tt))
       (record { branches = n branch_place refl; peek = n peek_place refl; loops = n loop_place refl })
       (record { arms = λ o x. refl; breaks = λ o x. refl }) g

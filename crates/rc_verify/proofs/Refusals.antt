@@ -1,25 +1,25 @@
 -- A program that is refused is refused once, and not accepted.
-use Rattle.std.proofs.Common.{◌≡◌, ℕ, zero, suc, ◌+◌, ◌<◌, ◌≤◌, ◌⊎◌, inl, inr, List, [], ◌∷◌, take, Some, refl, sym, ap, ◌∙◌, arith}
+use Rattle.std.proofs.Common.{◌≡◌, ℕ, ◌+◌, ◌≤◌, ◌⊎◌, inl, inr, List, [], ◌∷◌, take, Some, refl, sym, ap, ◌∙◌, arith}
 use Rattle.std.specs.Prelude.{slice_get}
 use Rattle.std.proofs.lemmas.Bool.{cases_lt}
 use Rattle.std.proofs.lemmas.List.{take-take}
 use Rattle.rc_lang.specs.declared.lines.Line.{Line}
 use Rattle.rc_lang.specs.Program.{Program, Thread}
-use Rattle.rc_rules.specs.Labels.{Label}
-use Rattle.rc_rules.specs.Labellings.{IsGood, HasLabels, Passes, Accepts, IsRefused, IsRefusedAt, IsHeaderRefused, IsBodyRefused, header_premises}
+use Rattle.rc_rules.specs.Labellings.{IsGood, HasLabels, Passes, Accepts, IsRefused, IsRefusedAt, IsHeaderRefused, IsBodyRefused, header_premises, label_at}
 use Rattle.rc_rules.specs.Premises.{Premise, Meets, MeetsBelow}
+use Rattle.rc_rules.specs.Sides.{Sides}
 use Rattle.rc_rules.proofs.Weaker.{meets_below}
 use Rattle.rc_verify.proofs.Strongest.{get_front, good_at}
 
 -- ---- a beginning of the lines
 
-good_front : (P : Program) (thread : Thread) (lines : List Line) (n : ℕ) (ls : List Label) → IsGood P thread lines ls → IsGood P thread (take n lines) ls
+good_front : (P : Program) (thread : Thread) (lines : List Line) (n : ℕ) (ls : List Sides) → IsGood P thread lines ls → IsGood P thread (take n lines) ls
 good_front P thread lines n ls g = record {
   begins = g.begins;
   each = λ j l is.
       let r = get_front lines n j l is in
       let a = g.each j l r.0 in
-      good_at P thread (take n lines) (take j lines) ls (take (j + 1) ls) j _ l.stmt (take-take j n lines (omega (arith, r.1))) refl refl a.meets a.after;
+      good_at P thread (take n lines) (take j lines) ls (take (j + 1) ls) j (label_at ls (j + 1)) l.stmt (take-take j n lines (omega (arith, r.1))) refl (λ z. refl) a.meets a.after;
 }
 
 has_front : (P : Program) (thread : Thread) (lines : List Line) (m n : ℕ) → m ≤ n → HasLabels P thread (take n lines) → HasLabels P thread (take m lines)

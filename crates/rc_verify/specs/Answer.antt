@@ -3,7 +3,7 @@ use Rattle.std.specs.Prelude.{ℕ, ◌≡◌, ◌⊎◌, Result, Ok, Err}
 use Rattle.rc_lang.specs.declared.lines.Line.{Line}
 use Rattle.rc_lang.specs.Program.{Program, Thread}
 use Rattle.rc_rules.specs.Causes.{premise_number}
-use Rattle.rc_rules.specs.Labellings.{HasLabels, Passes, Accepts, IsHeaderRefused, IsBodyRefused, IsRefused, IsRefusedAt, start_of}
+use Rattle.rc_rules.specs.Labellings.{HasLabels, Passes, Accepts, IsHeaderRefused, IsBodyRefused, IsRefused, IsRefusedAt}
 use Rattle.rc_verify.specs.declared.refusal.Refusal.{Refusal}
 use Rattle.rc_verify.specs.declared.refusal.VerifyFault.{VerifyFault}
 use Rattle.rc_verify.specs.declared.refusal.VerifyFault.TheVariants.{Refused, OutOfMemory}

@@ -1,41 +1,51 @@
 -- The arms of a peek, as they are opened and ended.
-use Rattle.std.specs.Prelude.{◌≡◌, Bool, true, false, [], ◌∷◌, Option, Some, Result, Ok, Err}
+use Rattle.std.specs.Prelude.{ℕ, ◌≡◌, List, Bool, true, false, [], ◌∷◌, Option, Some, Result, Ok, Err}
 use Rattle.rc_rules.specs.declared.cause.Cause.{Cause}
+use Rattle.rc_rules.specs.declared.flag.Write.TheVariants.{Anything}
 use Rattle.rc_rules.specs.declared.mode.Peeked.TheVariants.{Unseen}
 use Rattle.rc_rules.specs.Causes.{premise_number}
 use Rattle.rc_rules.specs.Labels.{Label, Dead, IsStrongest}
 use Rattle.rc_rules.specs.Premises.{Meets, FailsFirst}
-use Rattle.rc_rules.specs.Rules.{asks, agree, peek_at, peek_premises}
-use Rattle.rc_rules.specs.States.{State, label_of, program_of}
+use Rattle.rc_rules.specs.Rules.{asks_both, joins_both, peek_at, peek_premises}
+use Rattle.rc_rules.specs.Sides.{brings, turns, write_to}
+use Rattle.rc_rules.specs.States.{State, Becomes, IsOfSame, label_of}
 use Rattle.rc_verify.specs.declared.arms.Arms.{Arms}
 
 -- No arm has ended, and what is known before them is this state.
 pub record IsOpened (s : State) (a : Arms) : Type 0 where
   pub before : a.before ≡ s
-  pub dead : label_of a.ends ≡ Dead
-  pub of : program_of a.ends ≡ program_of s
+  pub dead : (z : Bool) → label_of a.ends z ≡ Dead
+  pub of : IsOfSame a.ends s
   pub agree : a.agree ≡ true
 
-abbrev pub OpensPeek : {X : Type 0} → State → Option Arms → Result X Cause → Type 0
-OpensPeek s peek (Ok x) = Meets (asks (label_of s) (λ bag m. peek_premises m)) × ((a : Arms) × (peek ≡ Some a) × IsOpened s a)
-OpensPeek s peek (Err cause) = FailsFirst (premise_number cause) (asks (label_of s) (λ bag m. peek_premises m))
+-- What is known behind the peek, before its arms, becomes the state; where the peek writes the flag, of both sides.
+abbrev pub OpensPeek : {X : Type 0} → ℕ → State → State → Option Arms → Result X Cause → Type 0
+OpensPeek x old new peek (Ok y) =
+    Meets (asks_both (label_of old) (λ z bag m. peek_premises m))
+    × Becomes old new (λ z. brings (λ y. turns (write_to old.flag x Anything) y z) (λ s. s) (label_of old))
+    × ((a : Arms) × (peek ≡ Some a) × IsOpened new a)
+OpensPeek x old new peek (Err cause) = FailsFirst (premise_number cause) (asks_both (label_of old) (λ z bag m. peek_premises m))
+
+-- the labels of two states, those of one side beside each other
+abbrev pub two : (Bool → Label) → (Bool → Label) → Bool → List Label
+two s t z = s z ∷ t z ∷ []
 
 -- This end and the ones before agree, and the new meet is that of both; or they don't, and nothing changes.
-abbrev pub Joins : State → State → Label → Bool → Type 0
-Joins old new end true = (agree (label_of old) end ≡ true) × IsStrongest (label_of new) (label_of old ∷ end ∷ []) × (program_of new ≡ program_of old)
-Joins old new end false = (agree (label_of old) end ≡ false) × (new ≡ old)
+abbrev pub Joins : State → State → (Bool → Label) → Bool → Type 0
+Joins old new end true = Meets (joins_both (two (label_of old) end)) × Becomes old new (two (label_of old) end)
+Joins old new end false = FailsFirst 15 (joins_both (two (label_of old) end)) × (new ≡ old)
 
 -- As long as the ends agree, the next one joins them.
-abbrev pub JoinsOn : State → State → Label → Bool → Bool → Type 0
+abbrev pub JoinsOn : State → State → (Bool → Label) → Bool → Bool → Type 0
 JoinsOn old new end agrees true = Joins old new end agrees
 JoinsOn old new end agrees false = agrees ≡ false
 
 -- An arm has ended in a state; behind it nothing is peeked.
 pub record EndsArm (old new : Arms) (s : State) : Type 0 where
   pub before : new.before ≡ old.before
-  pub end : Label
-  pub forgets : IsStrongest end (peek_at Unseen (label_of s) ∷ [])
-  pub of : program_of new.ends ≡ program_of old.ends
+  pub end : Bool → Label
+  pub forgets : (z : Bool) → IsStrongest (end z) (peek_at Unseen (label_of s z) ∷ [])
+  pub of : IsOfSame new.ends old.ends
   pub joins : JoinsOn old.ends new.ends end new.agree old.agree
 
 abbrev pub EndsArmIn : Arms → Option Arms → State → Type 0

@@ -2,18 +2,18 @@
 use Rattle.std.specs.Prelude.{ℕ, ◌≡◌, ◌+◌, ◌↔◌, List, Some, take, slice_get}
 use Rattle.rc_lang.specs.declared.lines.Line.{Line}
 use Rattle.rc_lang.specs.Program.{Program, Thread}
-use Rattle.rc_rules.specs.Labels.{Label}
 use Rattle.rc_rules.specs.Labellings.{HasLabels, Accepts, IsRefused, IsRefusedAt, premises}
 use Rattle.rc_rules.specs.Premises.{FailsFirst}
+use Rattle.rc_rules.specs.Sides.{Sides}
 use Rattle.rc_verify.specs.Strongest.{AreStrongest}
 
 -- Where some labels are good, there are strongest ones.
 abbrev pub OneIsStrongest : Type 0
-OneIsStrongest = (P : Program) (thread : Thread) (lines : List Line) → HasLabels P thread lines → (labels : List Label) × AreStrongest P thread lines labels
+OneIsStrongest = (P : Program) (thread : Thread) (lines : List Line) → HasLabels P thread lines → (labels : List Sides) × AreStrongest P thread lines labels
 
 -- The premise for which a line is refused is the least that fails at the strongest labels before it.
 abbrev pub RefusalsAreReadOff : Type 0
-RefusalsAreReadOff = (P : Program) (thread : Thread) (j : ℕ) (line : Line) (labels : List Label) (v : ℕ) → slice_get thread.lines j ≡ Some line → AreStrongest P thread (take j thread.lines) labels → IsRefusedAt P thread j line v ↔ FailsFirst v (premises P thread (take j thread.lines) (take (j + 1) labels) line.stmt)
+RefusalsAreReadOff = (P : Program) (thread : Thread) (j : ℕ) (line : Line) (labels : List Sides) (v : ℕ) → slice_get thread.lines j ≡ Some line → AreStrongest P thread (take j thread.lines) labels → IsRefusedAt P thread j line v ↔ FailsFirst v (premises P thread (take j thread.lines) (take (j + 1) labels) line.stmt)
 
 -- No program is accepted and refused.
 abbrev pub NeverBoth : Type 0

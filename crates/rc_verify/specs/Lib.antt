@@ -1,6 +1,7 @@
 pub mod Strongest
 pub mod Answer
 pub mod Kept
+pub mod Branches
 pub mod Arms
 pub mod Loops
 pub mod Walk

@@ -1,6 +1,6 @@
--- What is kept along the lines of a thread: the state where they have come to, the state before each open branch, what
+-- What is kept along the lines of a thread: the state where they have come to, what goes past each open branch, what
 -- is known before a peek's arms and where they join, and of each open loop what is known where its breaks join.
-use Rattle.std.specs.Prelude.{ℕ, ◌≡◌, ◌+◌, ◌*◌, ◌≤◌, Bool, true, false, List, [], ◌∷◌, ◌++◌, length, take, Option, Some, None, Result, Ok, Err, slice_get}
+use Rattle.std.specs.Prelude.{ℕ, ◌≡◌, ◌+◌, ◌*◌, ◌<◌, ◌≤◌, Bool, true, false, List, [], ◌∷◌, ◌++◌, length, take, Option, Some, None, Result, Ok, Err, slice_get}
 use Rattle.rc_lang.specs.declared.lines.Block.{Block}
 use Rattle.rc_lang.specs.declared.lines.Block.TheVariants.{InLock, InIf, InElse, InPeek, InArm, InLoop}
 use Rattle.rc_lang.specs.declared.lines.Line.{Line}
@@ -13,9 +13,10 @@ use Rattle.rc_rules.specs.declared.mode.Slot.TheVariants.{Closed}
 use Rattle.rc_split.specs.Bags.{Part}
 use Rattle.rc_rules.specs.Causes.{premise_number}
 use Rattle.rc_rules.specs.Labels.{Label, Dead, Live, IsStrongest}
-use Rattle.rc_rules.specs.Labellings.{arm_ends, break_ends, IsRefusedAt}
+use Rattle.rc_rules.specs.Labellings.{arm_ends, break_ends, skipped, IsRefusedAt}
+use Rattle.rc_rules.specs.Sides.{Sides, on}
 use Rattle.rc_rules.specs.Rules.{same_slot, agree_all}
-use Rattle.rc_rules.specs.States.{State, label_of, program_of, is_locked, IsLocked}
+use Rattle.rc_rules.specs.States.{State, label_of, program_of, sides_of, is_locked, IsLocked}
 use Rattle.rc_verify.specs.declared.walk.Walk.{Walk}
 use Rattle.rc_verify.specs.declared.arms.Arms.{Arms}
 use Rattle.rc_verify.specs.Strongest.{AreStrongest}
@@ -27,9 +28,10 @@ abbrev pub Fits : Bool → ℕ → Label → Type 0
 Fits lock n Dead = Unit {0}
 Fits lock n (Live bag m) = (is_locked m ≡ lock) × ((p : Part) → bag p ≤ n)
 
--- how many of each part are held at most behind j lines: a request that is reaped gives back 18 in all at most
+-- how many of each part are held at most behind j lines: a loop keeps 4,096 of one at most, and a request that is reaped
+-- gives back 18 in all at most
 abbrev pub most_at : ℕ → ℕ
-most_at j = 2048 + 18 * j
+most_at j = 4096 + 18 * j
 
 -- No slot is open.
 abbrev pub has_no_slot : Mode → Bool
@@ -87,51 +89,62 @@ abbrev pub listed : {X : Type 0} → Option X → List X
 listed None = []
 listed (Some x) = x ∷ []
 
--- The state is the label at place o.
-pub record IsSaved (P : Program) (labels : List Label) (o : ℕ) (s : State) : Type 0 where
-  pub of : program_of s ≡ P
-  pub at : slice_get labels o ≡ Some (label_of s)
+-- The state is one of this thread of the program.
+pub record IsOf (P : Program) (t : Thread) (s : State) : Type 0 where
+  pub program : program_of s ≡ P
+  pub flag : s.flag ≡ t.flag
 
--- The state is the strongest that is weaker than each of these ends.
-pub record IsMeet (P : Program) (lock : Bool) (n : ℕ) (ends : List Label) (s : State) : Type 0 where
-  pub of : program_of s ≡ P
-  pub strongest : IsStrongest (label_of s) ends
-  pub fits : Fits lock n (label_of s)
+-- The state has the labels of place o.
+pub record IsSaved (P : Program) (t : Thread) (labels : List Sides) (o : ℕ) (s : State) : Type 0 where
+  pub of : IsOf P t s
+  pub at : slice_get labels o ≡ Some (sides_of s)
+
+-- The state is the end of the branch that is read at the line at o, among the first j.
+pub record IsBranch (P : Program) (t : Thread) (j : ℕ) (labels : List Sides) (o : ℕ) (s : State) : Type 0 where
+  pub of : IsOf P t s
+  pub before : o < j
+  pub at : (z : Bool) → label_of s z ≡ skipped t t.lines labels o z
+
+-- On each side the state is the strongest that is weaker than each of these ends.
+pub record IsMeet (P : Program) (t : Thread) (lock : Bool) (n : ℕ) (ends : Bool → List Label) (s : State) : Type 0 where
+  pub of : IsOf P t s
+  pub strongest : (z : Bool) → IsStrongest (label_of s z) (ends z)
+  pub fits : (z : Bool) → Fits lock n (label_of s z)
 
 -- Of the peek at o the state before its arms is kept, whether the arms so far agree on the slot, and then their meet.
-pub record IsPeeked (P : Program) (t : Thread) (j : ℕ) (labels : List Label) (o : ℕ) (a : Arms) : Type 0 where
-  pub before : IsSaved P labels (o + 1) a.before
-  pub locked : IsLocked (label_of a.before)
-  pub of : program_of a.ends ≡ P
-  pub agree : agree_all (arm_ends (take j t.lines) labels o) ≡ a.agree
-  pub ends : a.agree ≡ true → IsMeet P (in_lock (blocks_at t.lines o)) (most_at j) (arm_ends (take j t.lines) labels o) a.ends
+pub record IsPeeked (P : Program) (t : Thread) (j : ℕ) (labels : List Sides) (o : ℕ) (a : Arms) : Type 0 where
+  pub before : IsSaved P t labels (o + 1) a.before
+  pub locked : (z : Bool) → IsLocked (label_of a.before z)
+  pub of : IsOf P t a.ends
+  pub agree : agree_all (arm_ends (take j t.lines) labels o true ++ arm_ends (take j t.lines) labels o false) ≡ a.agree
+  pub ends : a.agree ≡ true → IsMeet P t (in_lock (blocks_at t.lines o)) (most_at j) (arm_ends (take j t.lines) labels o) a.ends
 
 -- Of the loop at o the meet of its breaks so far is kept.
-pub record IsLoop (P : Program) (t : Thread) (j : ℕ) (labels : List Label) (o : ℕ) (s : State) : Type 0 where
-  pub breaks : IsMeet P (in_lock (blocks_at t.lines o)) (most_at j) (break_ends (take j t.lines) labels o) s
-  pub closed : IsClosed (label_of s)
+pub record IsLoop (P : Program) (t : Thread) (j : ℕ) (labels : List Sides) (o : ℕ) (s : State) : Type 0 where
+  pub breaks : IsMeet P t (in_lock (blocks_at t.lines o)) (most_at j) (break_ends (take j t.lines) labels o) s
+  pub closed : (z : Bool) → IsClosed (label_of s z)
 
 -- ---- the place that a walk has come to
 
 -- What is kept of the blocks that are open at place j.
-pub record Keeps (P : Program) (t : Thread) (j : ℕ) (labels : List Label) (w : Walk) : Type 0 where
-  pub branches : AreKept (OnKept (IsSaved P labels)) (places branch_place (blocks_at t.lines j)) w.branches.items
+pub record Keeps (P : Program) (t : Thread) (j : ℕ) (labels : List Sides) (w : Walk) : Type 0 where
+  pub branches : AreKept (OnKept (IsBranch P t j labels)) (places branch_place (blocks_at t.lines j)) w.branches.items
   pub peek : AreKept (IsPeeked P t j labels) (places peek_place (blocks_at t.lines j)) (listed w.peek)
   pub loops : AreKept (OnKept (IsLoop P t j labels)) (places loop_place (blocks_at t.lines j)) w.loops.items
 
 -- With these labels, the strongest for the lines so far, the walk stands at place j.
-pub record IsAt (P : Program) (t : Thread) (j : ℕ) (labels : List Label) (w : Walk) : Type 0 where
+pub record IsAt (P : Program) (t : Thread) (j : ℕ) (labels : List Sides) (w : Walk) : Type 0 where
   pub within : j ≤ length t.lines
   pub size : length labels ≡ j + 1
   pub strongest : AreStrongest P t (take j t.lines) labels
-  pub here : IsSaved P labels j w.state
-  pub fits : (k : ℕ) (s : Label) → slice_get labels k ≡ Some s → Fits (in_lock (blocks_at t.lines k)) (most_at j) s
+  pub here : IsSaved P t labels j w.state
+  pub fits : (k : ℕ) (s : Sides) → slice_get labels k ≡ Some s → (z : Bool) → Fits (in_lock (blocks_at t.lines k)) (most_at j) (on z s)
   pub keeps : Keeps P t j labels w
 
 pub record Reaches (P : Program) (t : Thread) (j : ℕ) (w : Walk) : Type 0 where
   pub made : IsProgram P
   pub thread : IsThread P t
-  pub labels : List Label
+  pub labels : List Sides
   pub at : IsAt P t j labels w
 
 -- The walk goes on behind the line at j, or that line is refused.

@@ -1,10 +1,12 @@
 //! The arms of the peek that is open.
 
-ghost use Rattle.std.specs.Prelude.{◌≡◌, ◌∷◌, [], true, IsSome, IfSome, Some};
+ghost use Rattle.std.specs.Prelude.{◌≡◌, ◌∷◌, [], Bool, true, false, IsSome, IfSome, Some};
 ghost use Rattle.rc_lang.specs.Program.{DeclaresToken};
-ghost use Rattle.rc_rules.specs.Labels.{Dead, IsStrongest};
+ghost use Rattle.rc_rules.specs.Labels.{Dead};
 ghost use Rattle.rc_rules.specs.Rules as rules;
+ghost use Rattle.rc_rules.specs.Sides as sides;
 ghost use Rattle.rc_rules.specs.States as states;
+ghost use Rattle.rc_rules.specs.declared.flag.Write.TheVariants as writes;
 ghost use Rattle.rc_rules.specs.declared.mode.Peeked.TheVariants as peeks;
 ghost use Rattle.rc_verify.specs.Arms as spec;
 ghost use Rattle.rc_verify.specs.declared.arms.Arms as parts;
@@ -22,19 +24,33 @@ pub struct Arms<'a> {
     pub agree: bool,
 }
 
-/// `peek_cqe x {`, which asks for the lock.
-pub fn open_peek<'a>(state: &State<'a>, peek: &mut Option<Arms<'a>>) -> Result<(), Cause>
-    ensures { spec.OpensPeek state.now peek.new result }
+/// `peek_cqe x {`, which asks for the lock, and then writes the variable: what was known of a flag is lost.
+pub fn open_peek<'a>(
+    state: &mut State<'a>,
+    peek: &mut Option<Arms<'a>>,
+    variable: usize,
+) -> Result<(), Cause>
+    ensures { spec.OpensPeek variable state.old state.new peek.new result }
 {
     let mut ends = state.again();
     ends.arm_none()?;
     ends.die();
+    peek_into(state, variable);
     *peek = Some(Arms {
         before: state.again(),
         ends,
         agree: true,
     });
     Ok(())
+}
+
+/// What holds behind a peek into the variable, before its arms.
+fn peek_into(state: &mut State, variable: usize)
+    ensures { states.Becomes state.old state.new (λ z. sides.brings (λ y. sides.turns (sides.write_to state.old.flag variable writes.Anything) y z) (λ s. s) (states.label_of state.old)) }
+{
+    if state.flag() == Some(variable) {
+        state.flag_lost();
+    }
 }
 
 /// The arms of the peek that is open. There is one.
@@ -50,8 +66,9 @@ pub fn arms_of<'a, 'b>(peek: &'b Option<Arms<'a>>) -> &'b Arms<'a>
 
 /// `case U {`. The token is declared.
 pub fn enter_case<'a>(state: &mut State<'a>, arms: &Arms<'a>, user_data: u64) -> Result<(), Cause>
-    requires { DeclaresToken (states.program_of arms.now.before) user_data }
-    ensures { states.Gives arms.now.before state.new result (rules.asks (states.label_of arms.now.before) (λ bag m. rules.peek_premises m)) (rules.case_at user_data (states.label_of arms.now.before) ∷ []) }
+    requires of { states.program_of arms.now.before ≡ states.program_of state.old }
+    requires declared { DeclaresToken (states.program_of arms.now.before) user_data }
+    ensures { states.Gives arms.now.before state.new result (rules.asks_both (states.label_of arms.now.before) (λ z bag m. rules.peek_premises m)) (λ z. rules.case_at user_data (states.label_of arms.now.before z) ∷ []) }
 {
     state.copy_from(&arms.before);
     state.arm_case(user_data)?;
@@ -60,7 +77,8 @@ pub fn enter_case<'a>(state: &mut State<'a>, arms: &Arms<'a>, user_data: u64) ->
 
 /// `other {`.
 pub fn enter_other<'a>(state: &mut State<'a>, arms: &Arms<'a>) -> Result<(), Cause>
-    ensures { states.Gives arms.now.before state.new result (rules.asks (states.label_of arms.now.before) (λ bag m. rules.peek_premises m)) (rules.peek_at peeks.SeesOther (states.label_of arms.now.before) ∷ []) }
+    requires { states.program_of arms.now.before ≡ states.program_of state.old }
+    ensures { states.Gives arms.now.before state.new result (rules.asks_both (states.label_of arms.now.before) (λ z bag m. rules.peek_premises m)) (λ z. rules.peek_at peeks.SeesOther (states.label_of arms.now.before z) ∷ []) }
 {
     state.copy_from(&arms.before);
     state.arm_other()
@@ -68,7 +86,8 @@ pub fn enter_other<'a>(state: &mut State<'a>, arms: &Arms<'a>) -> Result<(), Cau
 
 /// `none {`.
 pub fn enter_none<'a>(state: &mut State<'a>, arms: &Arms<'a>) -> Result<(), Cause>
-    ensures { states.Gives arms.now.before state.new result (rules.asks (states.label_of arms.now.before) (λ bag m. rules.peek_premises m)) (rules.peek_at peeks.Unseen (states.label_of arms.now.before) ∷ []) }
+    requires { states.program_of arms.now.before ≡ states.program_of state.old }
+    ensures { states.Gives arms.now.before state.new result (rules.asks_both (states.label_of arms.now.before) (λ z bag m. rules.peek_premises m)) (λ z. rules.peek_at peeks.Unseen (states.label_of arms.now.before z) ∷ []) }
 {
     state.copy_from(&arms.before);
     state.arm_none()
@@ -76,8 +95,8 @@ pub fn enter_none<'a>(state: &mut State<'a>, arms: &Arms<'a>) -> Result<(), Caus
 
 /// Behind an arm, and behind a break, nothing is peeked.
 pub fn forget_peeked(state: &mut State)
-    ensures gives { IsStrongest (states.label_of state.new) (rules.peek_at peeks.Unseen (states.label_of state.old) ∷ []) }
-    ensures of { states.program_of state.new ≡ states.program_of state.old }
+    requires { states.AgreeOnLock (states.label_of state.old true) (states.label_of state.old false) }
+    ensures { states.Becomes state.old state.new (λ z. rules.peek_at peeks.Unseen (states.label_of state.old z) ∷ []) }
 {
     // Without the lock nothing was peeked, and this answers so.
     let _ = state.arm_none();
@@ -85,10 +104,10 @@ pub fn forget_peeked(state: &mut State)
 
 /// An arm's end joins the ends before it, as long as they agree.
 fn join_end<'a>(arms: &mut Arms<'a>, end: &State<'a>)
-    requires of { states.program_of end.now ≡ states.program_of arms.old.ends }
-    requires alike { arms.old.agree ≡ true → states.AgreeOnLock (states.label_of arms.old.ends) (states.label_of end.now) }
+    requires of { states.IsOfSame end.now arms.old.ends }
+    requires alike { arms.old.agree ≡ true → (y z : Bool) → states.AgreeOnLock (states.label_of arms.old.ends y) (states.label_of end.now z) }
     ensures before { arms.new.before ≡ arms.old.before }
-    ensures of { states.program_of arms.new.ends ≡ states.program_of arms.old.ends }
+    ensures of { states.IsOfSame arms.new.ends arms.old.ends }
     ensures joins { spec.JoinsOn arms.old.ends arms.new.ends (states.label_of end.now) arms.new.agree arms.old.agree }
 {
     if arms.agree {
@@ -98,10 +117,11 @@ fn join_end<'a>(arms: &mut Arms<'a>, end: &State<'a>)
 
 /// The closing brace of an arm: nothing comes from above behind it.
 fn end_arm<'a>(state: &mut State<'a>, arms: &mut Arms<'a>)
-    requires of { states.program_of state.old ≡ states.program_of arms.old.ends }
-    requires alike { arms.old.agree ≡ true → states.AgreeOnLock (states.label_of arms.old.ends) (rules.peek_at peeks.Unseen (states.label_of state.old)) }
-    ensures dead { states.label_of state.new ≡ Dead }
-    ensures same { states.program_of state.new ≡ states.program_of state.old }
+    requires sides { states.AgreeOnLock (states.label_of state.old true) (states.label_of state.old false) }
+    requires of { states.IsOfSame state.old arms.old.ends }
+    requires alike { arms.old.agree ≡ true → (y z : Bool) → states.AgreeOnLock (states.label_of arms.old.ends y) (rules.peek_at peeks.Unseen (states.label_of state.old z)) }
+    ensures dead { states.OnBoth (λ s. s ≡ Dead) state.new }
+    ensures same { states.IsOfSame state.new state.old }
     ensures ends { spec.EndsArm arms.old arms.new state.old }
 {
     forget_peeked(state);
@@ -112,10 +132,11 @@ fn end_arm<'a>(state: &mut State<'a>, arms: &mut Arms<'a>)
 /// The closing brace of an arm, of the peek that is open. There is one.
 pub fn end_arms<'a>(state: &mut State<'a>, peek: &mut Option<Arms<'a>>)
     requires kept { IsSome peek.old }
-    requires of { IfSome peek.old (λ a. states.program_of state.old ≡ states.program_of a.ends) }
-    requires alike { IfSome peek.old (λ a. a.agree ≡ true → states.AgreeOnLock (states.label_of a.ends) (rules.peek_at peeks.Unseen (states.label_of state.old))) }
-    ensures dead { states.label_of state.new ≡ Dead }
-    ensures same { states.program_of state.new ≡ states.program_of state.old }
+    requires sides { states.AgreeOnLock (states.label_of state.old true) (states.label_of state.old false) }
+    requires of { IfSome peek.old (λ a. states.IsOfSame state.old a.ends) }
+    requires alike { IfSome peek.old (λ a. a.agree ≡ true → (y z : Bool) → states.AgreeOnLock (states.label_of a.ends y) (rules.peek_at peeks.Unseen (states.label_of state.old z))) }
+    ensures dead { states.OnBoth (λ s. s ≡ Dead) state.new }
+    ensures same { states.IsOfSame state.new state.old }
     ensures ends { (a : parts.Arms) → peek.old ≡ Some a → spec.EndsArmIn a peek.new state.old }
 {
     match peek {

@@ -1,8 +1,11 @@
 //! The branches of ifs.
 
-ghost use Rattle.std.specs.Prelude.{◌≡◌, ◌<◌, ◌∷◌, ◌++◌, [], length, IsSome, Some, OnOk};
+ghost use Rattle.std.specs.Prelude.{◌≡◌, ◌<◌, ◌∷◌, ◌++◌, [], length, Bool, true, IsSome, Some, OnOk};
 ghost use Rattle.rc_rules.specs.Rules as rules;
+ghost use Rattle.rc_rules.specs.Sides as sides;
 ghost use Rattle.rc_rules.specs.States as states;
+ghost use Rattle.rc_verify.specs.Arms.{two};
+ghost use Rattle.rc_verify.specs.Branches.{KeepsOther};
 ghost use Rattle.rc_verify.specs.Kept.{last_of, rest_of};
 
 use crate::kept::{Kept, innermost, let_go};
@@ -11,11 +14,26 @@ use rc_rules::cause::Cause;
 use rc_rules::state::State;
 use std::mem;
 
+/// What goes to a branch of a test, as far as the test is of the thread's flag: to the first, where the test holds, or
+/// to the other.
+fn take_branch(state: &mut State, test: Test, first: bool)
+    ensures { states.Becomes state.old state.new (λ z. sides.gate (sides.test_goes state.old.flag test z first) (states.label_of state.old z) ∷ []) }
+{
+    if let Test::Compare(variable, comparison, n) = test {
+        if state.flag() == Some(variable) {
+            state.flag_test(comparison, n, first);
+        }
+    }
+}
+
 fn test_state(state: &mut State, test: Test) -> Result<(), Cause>
-    ensures { states.Gives state.old state.new result (rules.asks (states.label_of state.old) (λ bag m. rules.test_premises m test)) (rules.goes (states.label_of state.old) (λ bag m. rules.test_effect (states.program_of state.old) bag m test) ∷ []) }
+    ensures { states.Gives state.old state.new result (rules.asks_both (states.label_of state.old) (λ z bag m. rules.test_premises m test)) (λ z. sides.gate (sides.test_goes state.old.flag test z true) (rules.goes (states.label_of state.old z) (λ bag m. rules.test_effect (states.program_of state.old) bag m test)) ∷ []) }
 {
     match test {
-        Test::Compare(_, _, _) => Ok(()),
+        Test::Compare(_, _, _) => {
+            take_branch(state, test, true);
+            Ok(())
+        }
         Test::ReadyZero => state.ready_zero(),
         Test::SpaceAtLeast(n) => state.space_at_least(n),
     }
@@ -24,16 +42,17 @@ fn test_state(state: &mut State, test: Test) -> Result<(), Cause>
 /// `if .. {`. At most 30 branches are open.
 pub fn enter_if<'a>(state: &mut State<'a>, branches: &mut Kept<'a>, test: Test) -> Result<(), Cause>
     requires { length branches.old.items < 31 }
-    ensures gives { states.Gives state.old state.new result (rules.asks (states.label_of state.old) (λ bag m. rules.test_premises m test)) (rules.goes (states.label_of state.old) (λ bag m. rules.test_effect (states.program_of state.old) bag m test) ∷ []) }
-    ensures kept { OnOk result (branches.new.items ≡ branches.old.items ++ Some state.old ∷ []) }
+    ensures gives { states.Gives state.old state.new result (rules.asks_both (states.label_of state.old) (λ z bag m. rules.test_premises m test)) (λ z. sides.gate (sides.test_goes state.old.flag test z true) (rules.goes (states.label_of state.old z) (λ bag m. rules.test_effect (states.program_of state.old) bag m test)) ∷ []) }
+    ensures kept { OnOk result (KeepsOther test state.old branches.old.items branches.new.items) }
 {
-    let before = state.again();
+    let mut other = state.again();
     test_state(state, test)?;
-    branches.push(Some(before));
+    take_branch(&mut other, test, false);
+    branches.push(Some(other));
     Ok(())
 }
 
-/// `} else {`: the state before the if goes on, and the end of its first branch is kept.
+/// `} else {`: where the test may fail goes on, and the end of the first branch is kept.
 pub fn turn<'a>(state: &mut State<'a>, branches: &mut Kept<'a>)
     requires kept { IsSome (last_of branches.old.items) }
     requires few { length branches.old.items < 32 }
@@ -50,9 +69,9 @@ pub fn turn<'a>(state: &mut State<'a>, branches: &mut Kept<'a>)
 /// The closing brace of an if.
 pub fn end_if<'a>(state: &mut State<'a>, branches: &mut Kept<'a>) -> Result<(), Cause>
     requires kept { IsSome (last_of branches.old.items) }
-    requires of { (s : states.State) → last_of branches.old.items ≡ Some s → states.program_of s ≡ states.program_of state.old }
-    requires alike { (s : states.State) → last_of branches.old.items ≡ Some s → states.AgreeOnLock (states.label_of state.old) (states.label_of s) }
-    ensures gives { (s : states.State) → last_of branches.old.items ≡ Some s → states.Gives state.old state.new result (rules.may_join (states.label_of state.old ∷ states.label_of s ∷ [])) (states.label_of state.old ∷ states.label_of s ∷ []) }
+    requires of { (s : states.State) → last_of branches.old.items ≡ Some s → states.IsOfSame s state.old }
+    requires alike { (s : states.State) → last_of branches.old.items ≡ Some s → (y z : Bool) → states.AgreeOnLock (states.label_of state.old y) (states.label_of s z) }
+    ensures gives { (s : states.State) → last_of branches.old.items ≡ Some s → states.Gives state.old state.new result (rules.joins_both (two (states.label_of state.old) (states.label_of s))) (two (states.label_of state.old) (states.label_of s)) }
     ensures rest { branches.new.items ≡ rest_of branches.old.items }
 {
     let answer = state.meet(innermost(branches));

@@ -1,12 +1,12 @@
 //! Loops and their breaks.
 
-ghost use Rattle.std.specs.Prelude.{◌≡◌, ◌<◌, ◌∷◌, ◌++◌, [], true, length, IsSome, Some, OnOk};
+ghost use Rattle.std.specs.Prelude.{◌≡◌, ◌<◌, ◌∷◌, ◌++◌, [], true, false, length, IsSome, Some, OnOk};
 ghost use Rattle.rc_lang.specs.Parts.{view_items};
-ghost use Rattle.rc_rules.specs.Labels.{IsStrongest};
+ghost use Rattle.rc_lang.specs.Program.{IsList};
 ghost use Rattle.rc_rules.specs.Premises.{Meets};
 ghost use Rattle.rc_rules.specs.Rules as rules;
+ghost use Rattle.rc_rules.specs.Sides as sides;
 ghost use Rattle.rc_rules.specs.States as states;
-ghost use Rattle.rc_split.specs.Holdings.{AreDeclared};
 ghost use Rattle.rc_verify.specs.Kept.{last_of, rest_of};
 ghost use Rattle.rc_verify.specs.Loops as spec;
 
@@ -23,12 +23,12 @@ pub fn open_loop<'a>(
     items: &Items,
 ) -> Result<(), Cause>
     requires few { length loops.old.items < 31 }
-    requires names { AreDeclared (states.program_of state.old) (view_items items.now) }
-    ensures gives { states.Gives state.old state.new result (rules.asks (states.label_of state.old) (λ bag m. rules.may_loop (states.program_of state.old) 13 (view_items items.now) bag m)) (rules.top (states.program_of state.old) (view_items items.now) (states.label_of state.old) ∷ []) }
+    requires list { IsList (states.program_of state.old) (view_items items.now) }
+    ensures gives { states.Gives state.old state.new result (rules.asks_both (states.label_of state.old) (λ z bag m. rules.may_loop (states.program_of state.old) 13 (view_items items.now) z bag m)) (λ z. sides.brings (λ y. sides.turns (sides.forgets state.old.flag) y z) (λ s. rules.top (states.program_of state.old) (view_items items.now) z s) (states.label_of state.old)) }
     ensures kept { OnOk result (spec.KeepsDead state.old loops.old.items loops.new.items) }
 {
     state.enter_loop(items)?;
-    loops.push(Some(State::dead(state.program())));
+    loops.push(Some(State::dead(state.program(), state.flag())));
     Ok(())
 }
 
@@ -38,8 +38,9 @@ pub fn close_loop<'a>(
     loops: &mut Kept<'a>,
     items: &Items,
 ) -> Result<(), Cause>
-    requires { IsSome (last_of loops.old.items) }
-    ensures { spec.ClosesLoop (rules.asks (states.label_of state.old) (λ bag m. rules.may_loop (states.program_of state.old) 14 (view_items items.now) bag m)) loops.old.items loops.new.items state.new result }
+    requires kept { IsSome (last_of loops.old.items) }
+    requires of { (s : states.State) → last_of loops.old.items ≡ Some s → states.program_of s ≡ states.program_of state.old }
+    ensures { spec.ClosesLoop (rules.asks_both (states.label_of state.old) (λ z bag m. rules.may_loop (states.program_of state.old) 14 (view_items items.now) z bag m)) loops.old.items loops.new.items state.new result }
 {
     state.loop_end(items)?;
     state.copy_from(innermost(loops));
@@ -49,10 +50,10 @@ pub fn close_loop<'a>(
 
 /// Becomes what a break takes to the end of its loop, where it may break there.
 fn carry(end: &mut State, releases: bool)
-    requires meets { Meets (rules.asks (states.label_of end.old) (λ bag m. rules.may_break (states.program_of end.old) releases m)) }
-    requires locked { releases ≡ true → states.IsLocked (states.label_of end.old) }
-    ensures gives { IsStrongest (states.label_of end.new) (rules.broken releases (states.label_of end.old) ∷ []) }
-    ensures of { states.program_of end.new ≡ states.program_of end.old }
+    requires meets { Meets (rules.asks_both (states.label_of end.old) (λ z bag m. rules.may_break (states.program_of end.old) releases m)) }
+    requires locked { releases ≡ true → states.OnBoth states.IsLocked end.old }
+    requires sides { states.AgreeOnLock (states.label_of end.old true) (states.label_of end.old false) }
+    ensures { states.Becomes end.old end.new (λ z. spec.taken releases end.old z ∷ []) }
 {
     if releases {
         let _ = end.release();
@@ -79,12 +80,13 @@ pub fn leave_loop<'a>(
     loops: &mut Kept<'a>,
     releases: bool,
 ) -> Result<(), Cause>
-    requires locked { releases ≡ true → states.IsLocked (states.label_of state.old) }
+    requires locked { releases ≡ true → states.OnBoth states.IsLocked state.old }
+    requires sides { states.AgreeOnLock (states.label_of state.old true) (states.label_of state.old false) }
     requires few { length loops.old.items < 32 }
     requires kept { IsSome (last_of loops.old.items) }
     requires fits { (s : states.State) → last_of loops.old.items ≡ Some s → spec.MayBreak s state.old releases }
-    ensures gives { states.Gives state.old state.new result (rules.asks (states.label_of state.old) (λ bag m. rules.may_break (states.program_of state.old) releases m)) [] }
-    ensures kept { OnOk result ((s : states.State) → last_of loops.old.items ≡ Some s → spec.Breaks s (rules.broken releases (states.label_of state.old)) loops.old.items loops.new.items) }
+    ensures gives { states.Gives state.old state.new result (rules.asks_both (states.label_of state.old) (λ z bag m. rules.may_break (states.program_of state.old) releases m)) (λ z. []) }
+    ensures kept { OnOk result ((s : states.State) → last_of loops.old.items ≡ Some s → spec.Breaks s (spec.taken releases state.old) loops.old.items loops.new.items) }
 {
     let mut end = state.again();
     state.break_out(releases)?;

@@ -5,7 +5,7 @@ ghost use Rattle.rc_lang.specs.Parts.{view_thread};
 ghost use Rattle.rc_lang.specs.Program as programs;
 ghost use Rattle.rc_lang.specs.Program.{IsProgram};
 ghost use Rattle.rc_rules.specs.Labels.{Dead};
-ghost use Rattle.rc_rules.specs.States.{label_of, program_of};
+ghost use Rattle.rc_rules.specs.States.{OnBoth, program_of};
 ghost use Rattle.rc_verify.specs.Answer.{IsWalked};
 ghost use Rattle.rc_verify.specs.Walk as spec;
 
@@ -26,7 +26,7 @@ use rc_rules::state::{State, transfer};
 #[derive(Drop)]
 pub struct Walk<'a> {
     state: State<'a>,
-    /// The state before each open if, or behind its else the end of its first branch.
+    /// Where the test of each open if may fail, or behind its else the end of its first branch.
     branches: Kept<'a>,
     /// At most one peek is open.
     peek: Option<Arms<'a>>,
@@ -37,11 +37,11 @@ pub struct Walk<'a> {
 impl<'a> Walk<'a> {
     /// A walk that stands nowhere yet. It is large, so all threads are walked over with one.
     pub fn new(program: &'a Program) -> Walk<'a>
-        ensures nowhere { label_of result.state ≡ Dead }
+        ensures nowhere { OnBoth (λ s. s ≡ Dead) result.state }
         ensures of { program_of result.state ≡ program.now }
     {
         Walk {
-            state: State::dead(program),
+            state: State::dead(program, None),
             branches: ArrayVec::new(),
             peek: None,
             loops: ArrayVec::new(),
@@ -77,7 +77,7 @@ fn pass<'a>(walk: &mut Walk<'a>, thread: &Thread, place: usize, stmt: Stmt) -> R
             Ok(())
         }
         Stmt::EndIf(_) => end_if(&mut walk.state, &mut walk.branches),
-        Stmt::Peek(_) => open_peek(&walk.state, &mut walk.peek),
+        Stmt::Peek(variable) => open_peek(&mut walk.state, &mut walk.peek, variable),
         Stmt::Case(_, user_data) => enter_case(&mut walk.state, arms_of(&walk.peek), user_data),
         Stmt::Other(_) => enter_other(&mut walk.state, arms_of(&walk.peek)),
         Stmt::Nothing(_) => enter_none(&mut walk.state, arms_of(&walk.peek)),

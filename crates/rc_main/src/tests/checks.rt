@@ -36,6 +36,7 @@ const ACCEPTED: &[&str] = &[
     examples::DRAIN,
     examples::EMPTY_THREAD,
     examples::HANDOFF,
+    examples::PUMP,
     examples::SHARE,
     programs::CREDITS_OF_FOUR,
     programs::CREDITS_OF_THREE,
@@ -53,9 +54,9 @@ fn accepted_programs_are_told(rt: HostRuntime) {
 }
 
 /// A text, and the line, the code and the name of its cause.
-type Told<'a> = (&'a str, u32, u32, &'a str);
+pub type Told<'a> = (&'a str, u32, u32, &'a str);
 
-fn tell_all(
+pub fn tell_all(
     rt: &(impl Abort + Threads + Wait + Sync),
     alloc: Global,
     (word, letter, status): (&str, &str, u8),

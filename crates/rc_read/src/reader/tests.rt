@@ -6,6 +6,7 @@ use std::process::Abort;
 use std::test::Fail;
 
 mod faults;
+mod flags;
 mod limits;
 mod pieces;
 mod programs;
@@ -29,6 +30,14 @@ fn read_pieces(rt: &impl AllocGlobal, first: &[u8], second: &[u8]) -> Result<Pro
     let _ = reader.feed(first);
     let _ = reader.feed(second);
     reader.finish()
+}
+
+// The answers of texts that go on from a head.
+fn check_all(rt: &(impl AllocGlobal + Abort), head: &str, rows: &[(&str, (u32, u8))]) {
+    for (lines, fault) in rows {
+        let answer = read_pieces(rt, head.as_bytes(), lines.as_bytes());
+        assert_eq!(rt; place_of(answer), *fault, "{lines}");
+    }
 }
 
 // A text of a beginning, a middle that stands there so many times, and an end.

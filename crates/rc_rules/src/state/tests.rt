@@ -1,17 +1,19 @@
 //! The calls of a program that writes a buffer of two shares with one of them, one by one.
 
 ghost use Rattle.std.specs.Prelude.{◌≡◌, ◌≤◌, ◌+◌, [], None, IfOk, map};
-ghost use Rattle.rc_lang.specs.Parts.{view_buffer, view_items, view_thread};
-ghost use Rattle.rc_rules.specs.Example.{share, share_thread, IsAtMost};
-ghost use Rattle.rc_rules.specs.States.{label_of, program_of, IsLocked, IsUnlocked};
+ghost use Rattle.rc_lang.specs.Parts.{view_buffer, view_items, view_more, view_thread};
+ghost use Rattle.rc_lang.specs.Program.{IsList};
+ghost use Rattle.rc_rules.specs.Example.{share, share_thread, IsAtMost, IsOfShare};
+ghost use Rattle.rc_rules.specs.States.{IsLocked, IsUnlocked, OnBoth};
 
 use super::{State, transfer};
 use crate::blocks::same_peeked;
 use crate::cause::Cause;
-use crate::mode::{Inside, Mode, Peeked, Slot, same_slot};
+use crate::mode::{Mode, Peeked, Slot, same_slot};
+use crate::side::Side;
 use rc_lang::lines::{Op, Stmt};
 use rc_lang::program::{
-    Buffer, Declarations, File, Head, Items, Program, Share, Thread, Token, TokenKind,
+    Buffer, Declarations, File, Head, Items, More, Program, Share, Thread, Token, TokenKind,
 };
 use rc_split::part::Part;
 use std::alloc::{AllocError, Global};
@@ -54,24 +56,38 @@ fn thread(alloc: Global) -> Result<Thread, AllocError>
     let tokens = Vec::from_slice(alloc, &[9])?;
     Ok(Thread {
         name,
-        line: 6,
+        line: 7,
         items: Items {
             shares,
             tokens,
             credits: 1,
             queue: None,
+            more: more(alloc, 0),
         },
         lists: Vec::new(alloc),
         lines: Vec::new(alloc),
         ends: Vec::new(alloc),
-        variables: 0,
+        variables: 2,
+        flag: Some(0),
     })
 }
 
-fn program(alloc: Global) -> Result<Program, AllocError>
+// So many credits, and nothing else.
+pub fn more(alloc: Global, credits: u32) -> More
+    ensures { view_more result ≡ record { shares = []; tokens = []; credits = credits } }
+{
+    More {
+        shares: Vec::new(alloc),
+        tokens: Vec::new(alloc),
+        credits,
+    }
+}
+
+pub fn program(alloc: Global) -> Result<Program, AllocError>
     ensures { IfOk result (λ p. p ≡ share) }
 {
     let head = Head {
+        version: 2,
         entries: 2,
         completion_entries: 4,
         left: 0,
@@ -82,20 +98,20 @@ fn program(alloc: Global) -> Result<Program, AllocError>
     Ok(Program::new(head, declarations, threads))
 }
 
-fn started(alloc: Global, program: &Program) -> Result<State<'_>, AllocError>
+pub fn started(alloc: Global, program: &Program) -> Result<State<'_>, AllocError>
     requires { program.now ≡ share }
-    ensures of { IfOk result (λ s. program_of s ≡ share) }
-    ensures few { IfOk result (λ s. IsAtMost 100 (label_of s)) }
-    ensures unlocked { IfOk result (λ s. IsUnlocked (label_of s)) }
+    ensures of { IfOk result IsOfShare }
+    ensures few { IfOk result (λ s. OnBoth (IsAtMost 100) s) }
+    ensures unlocked { IfOk result (λ s. OnBoth IsUnlocked s) }
 {
     State::start(alloc, program, 0)
 }
 
-fn locked(alloc: Global, program: &Program) -> Result<State<'_>, AllocError>
+pub fn locked(alloc: Global, program: &Program) -> Result<State<'_>, AllocError>
     requires { program.now ≡ share }
-    ensures of { IfOk result (λ s. program_of s ≡ share) }
-    ensures few { IfOk result (λ s. IsAtMost 100 (label_of s)) }
-    ensures locked { IfOk result (λ s. IsLocked (label_of s)) }
+    ensures of { IfOk result IsOfShare }
+    ensures few { IfOk result (λ s. OnBoth (IsAtMost 100) s) }
+    ensures locked { IfOk result (λ s. OnBoth IsLocked s) }
 {
     let mut state = started(alloc, program)?;
     let _ = state.enter_lock();
@@ -103,29 +119,35 @@ fn locked(alloc: Global, program: &Program) -> Result<State<'_>, AllocError>
 }
 
 // Goes over a statement: 0, or the number of the cause.
-fn over(state: &mut State, op: Op, count: u32) -> u32
-    requires of { program_of state.old ≡ share }
-    requires few { IsAtMost count (label_of state.old) }
-    requires small { count ≤ 1000 }
-    ensures of { program_of state.new ≡ share }
-    ensures few { IsAtMost (count + 18) (label_of state.new) }
+pub fn over(state: &mut State, op: Op, count: u32) -> u32
+    requires of { IsOfShare state.old }
+    requires few { OnBoth (IsAtMost count) state.old }
+    requires small { count ≤ 10000 }
+    ensures of { IsOfShare state.new }
+    ensures few { OnBoth (IsAtMost (count + 18)) state.new }
+    ensures locked { OnBoth IsLocked state.old → OnBoth IsLocked state.new }
 {
-    match transfer(state, &Stmt::Do(op)) {
-        Ok(()) => 0,
-        Err(cause) => cause.number(),
-    }
+    number(transfer(state, &Stmt::Do(op)))
 }
 
 // Enters the arm of token 9.
-fn case(state: &mut State, count: u32) -> Option<bool>
-    requires of { program_of state.old ≡ share }
-    requires few { IsAtMost count (label_of state.old) }
-    ensures of { program_of state.new ≡ share }
-    ensures few { IsAtMost count (label_of state.new) }
+pub fn case(state: &mut State, count: u32) -> Option<bool>
+    requires of { IsOfShare state.old }
+    requires few { OnBoth (IsAtMost count) state.old }
+    ensures of { IsOfShare state.new }
+    ensures few { OnBoth (IsAtMost count) state.new }
 {
     match state.arm_case(9) {
         Ok(live) => Some(live),
         Err(_) => None,
+    }
+}
+
+// 0, or the number of the cause.
+pub fn number(answer: Result<(), Cause>) -> u32 {
+    match answer {
+        Ok(()) => 0,
+        Err(cause) => cause.number(),
     }
 }
 
@@ -140,15 +162,14 @@ struct Expected {
 }
 
 fn expect(rt: &impl Abort, state: &State, expected: Expected) {
-    let held = &state.holding;
-    let shares = expected.shares;
-    let credits = expected.credits;
-    assert!(rt; held.holds(Part::Shares(0, shares)));
-    assert!(rt; !held.holds(Part::Shares(0, shares.saturating_add(1))));
-    assert_eq!(rt; held.holds(Part::Token(9)), expected.token);
-    assert!(rt; held.holds(Part::Credits(credits)));
-    assert!(rt; !held.holds(Part::Credits(credits.saturating_add(1))));
-    match state.mode {
+    let Expected {
+        shares,
+        token,
+        credits,
+        ..
+    } = expected;
+    expect_held(rt, &state.zero, held(shares, token, credits));
+    match state.mode() {
         Some(Mode::Locked(inside)) => {
             assert_eq!(rt; inside.queued, 1);
             assert!(rt; same_slot(inside.slot, expected.slot));
@@ -244,44 +265,87 @@ fn the_lock_is_asked_for_first(rt: HostRuntime) -> Result<(), Fail> {
     Ok(())
 }
 
-fn items(alloc: Global, credits: u32) -> Items
-    ensures { view_items result ≡ record { shares = []; tokens = []; credits = credits; queue = None } }
+// Items that name credits alone, and these besides.
+pub fn list(alloc: Global, credits: u32, more: More) -> Items
+    ensures { view_items result ≡ record { shares = []; tokens = []; credits = credits; queue = None; more = view_more more } }
 {
     Items {
         shares: Vec::new(alloc),
         tokens: Vec::new(alloc),
         credits,
         queue: None,
+        more,
     }
 }
 
-// 0, or the number of the cause.
-fn number(answer: Result<(), Cause>) -> u32 {
-    match answer {
-        Ok(()) => 0,
-        Err(cause) => cause.number(),
+pub fn credits(alloc: Global, credits: u32, besides: u32) -> Items
+    requires few { credits ≤ 2048 }
+    requires few_besides { besides ≤ 2048 }
+    ensures { IsList share (view_items result) }
+{
+    list(alloc, credits, more(alloc, besides))
+}
+
+// Enters a loop.
+pub fn entered(state: &mut State, items: &Items, count: u32) -> u32
+    requires of { IsOfShare state.old }
+    requires list { IsList share (view_items items.now) }
+    requires few { OnBoth (IsAtMost count) state.old }
+    requires enough { 4096 ≤ count }
+    ensures of { IsOfShare state.new }
+    ensures few { OnBoth (IsAtMost count) state.new }
+{
+    number(state.enter_loop(items))
+}
+
+// What a side is expected to hold.
+#[derive(Clone, Copy)]
+pub struct Parts {
+    shares: u32,
+    token: bool,
+    credits: u32,
+}
+
+// None: nothing reaches the side.
+pub fn expect_held(rt: &impl Abort, side: &Side, expected: Option<Parts>) {
+    match (side.held(), expected) {
+        (None, None) => {}
+        (Some(held), Some(expected)) => {
+            let shares = expected.shares;
+            let credits = expected.credits;
+            assert!(rt; held.holds(Part::Shares(0, shares)));
+            assert!(rt; !held.holds(Part::Shares(0, shares.saturating_add(1))));
+            assert_eq!(rt; held.holds(Part::Token(9)), expected.token);
+            assert!(rt; held.holds(Part::Credits(credits)));
+            assert!(rt; !held.holds(Part::Credits(credits.saturating_add(1))));
+        }
+        _ => panic!(rt; "a side is dead, and not as expected"),
     }
+}
+
+pub fn held(shares: u32, token: bool, credits: u32) -> Option<Parts> {
+    Some(Parts {
+        shares,
+        token,
+        credits,
+    })
 }
 
 #[test]
 fn a_loop_keeps_exactly_its_items(rt: HostRuntime) -> Result<(), Fail> {
     let program = program(rt.alloc())?;
     let mut state = locked(rt.alloc(), &program)?;
-    assert_eq!(rt; number(state.enter_loop(&items(rt.alloc(), 2))), 13);
-    assert_eq!(rt; number(state.enter_loop(&items(rt.alloc(), 1))), 0);
-    assert!(rt; state.holding.holds(Part::Credits(1)));
-    assert!(rt; !state.holding.holds(Part::Shares(0, 1)));
-    assert!(rt; !state.holding.holds(Part::Token(9)));
+    assert_eq!(rt; entered(&mut state, &credits(rt.alloc(), 2, 0), 5000), 13);
+    assert_eq!(rt; entered(&mut state, &credits(rt.alloc(), 1, 0), 5000), 0);
+    expect_held(&rt, &state.zero, held(0, false, 1));
     assert_eq!(rt; number(state.space_at_least(1)), 0);
     assert_eq!(rt; number(state.arm_other()), 0);
     let mut other = state.copy(rt.alloc())?;
-    assert_eq!(rt; number(state.meet(&other)), 0);
-    assert!(rt; state.mode.is_some());
-    assert_eq!(rt; number(state.loop_end(&items(rt.alloc(), 2))), 14);
-    assert_eq!(rt; number(state.loop_end(&items(rt.alloc(), 1))), 0);
-    assert!(rt; state.mode.is_none());
+    assert_eq!(rt; number(state.loop_end(&credits(rt.alloc(), 2, 0))), 14);
+    assert_eq!(rt; number(state.loop_end(&credits(rt.alloc(), 1, 0))), 0);
+    assert!(rt; !state.is_live());
     assert_eq!(rt; number(other.break_out(false)), 0);
-    assert!(rt; other.mode.is_none());
+    assert!(rt; !other.is_live());
     Ok(())
 }
 

@@ -2,14 +2,6 @@
 
 use super::*;
 
-// The answers of texts that go on from a head.
-fn check_all(rt: &(impl AllocGlobal + Abort), head: &str, rows: &[(&str, (u32, u8))]) {
-    for (lines, fault) in rows {
-        let answer = read_pieces(rt, head.as_bytes(), lines.as_bytes());
-        assert_eq!(rt; place_of(answer), *fault, "{lines}");
-    }
-}
-
 #[test]
 fn heads_and_ends_are_judged(rt: HostRuntime) {
     check_all(
@@ -21,7 +13,13 @@ fn heads_and_ends_are_judged(rt: HostRuntime) {
             ("\n\n", (2, 2)),
             ("ringcheck 1", (1, 2)),
             ("ringcheck 1\nring 1", (0, 0)),
-            ("ringcheck 2\nring 1", (1, 2)),
+            ("ringcheck 2\nring 1", (0, 0)),
+            ("ringcheck 3\nring 1", (1, 2)),
+            ("ringcheck 02\nring 1", (1, 2)),
+            ("ringcheck 2 2\nring 1", (1, 2)),
+            ("ringcheck\nring 1", (1, 2)),
+            ("ringcheck 2\nringcheck 2\n", (2, 2)),
+            ("ringcheck 2\nring 1\nringcheck 2", (3, 3)),
             ("# nothing\nringcheck 01", (2, 2)),
             ("ringcheck 1 1\nring 1", (1, 2)),
             ("ring 1\n", (1, 2)),

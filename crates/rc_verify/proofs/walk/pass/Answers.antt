@@ -1,13 +1,13 @@
 use Rattle.std.proofs.Common.{arith}
-use Rattle.rc_lang.specs.declared.lines.Stmt.TheVariants.{Do, Lock, EndLock, If, Else, EndIf, Peek, Case, Other, Nothing, EndArm, EndPeek, Loop, EndLoop, Break}
-use Rattle.rc_verify.proofs.Arming.{case_declared, case_some, case_turns, none_some, none_turns, other_some, other_turns}
+use Rattle.rc_lang.specs.declared.lines.Stmt.TheVariants.{Loop, EndLoop}
+use Rattle.rc_verify.proofs.Arming.{case_declared, case_of, case_some, case_turns, none_of, none_some, none_turns, other_of, other_some, other_turns}
 use Rattle.rc_verify.proofs.Branching.{else_some, else_turns, end_alike, end_of, end_some, end_turns, few_here, if_turns, room_here}
 use Rattle.rc_verify.proofs.Breaking.{break_locked, break_some, break_turns, may_leave}
 use Rattle.rc_verify.proofs.Ending.{arm_alike, arm_end_turns, arm_of, arm_some, end_peek_some, end_peek_turns}
-use Rattle.rc_verify.proofs.Looping.{end_loop_some, end_loop_turns, few_loops_here, loop_names, loop_room, loop_turns}
+use Rattle.rc_verify.proofs.Looping.{end_loop_of, end_loop_some, end_loop_turns, few_loops_here, loop_list, loop_room, loop_turns}
 use Rattle.rc_verify.proofs.Peeking.{peek_turns}
 use Rattle.rc_verify.proofs.Placing.{at, items_here, loop_there}
-use Rattle.rc_verify.proofs.Plainly.{do_turns, lock_turns, locked_here, release_turns, small_here, unlocked_here}
+use Rattle.rc_verify.proofs.Plainly.{do_turns, lock_turns, locked_here, release_turns, sides_here, small_here, unlocked_here}
 use Rattle.rc_verify.proofs.walk.pass.Goals as goal
 
 pub transfer-requires-clause-small : goal.transfer-requires-clause-small
@@ -56,13 +56,16 @@ pub returns-in-EndIf : goal.returns-in-EndIf
 returns-in-EndIf c = end_turns _ _ _ _ c.requires.reaches c.in-EndIf.field-0 c.end_if.new.state c.end_if.new.branches c.end_if.result (at c.requires.stands c.in-EndIf.is) c.end_if.ensures.gives c.end_if.ensures.rest
 
 pub returns-in-Peek : goal.returns-in-Peek
-returns-in-Peek c = peek_turns _ _ _ _ c.requires.reaches c.in-Peek.field-0 c.open_peek.new.peek c.open_peek.result (at c.requires.stands c.in-Peek.is) c.open_peek.ensures
+returns-in-Peek c = peek_turns _ _ _ _ c.requires.reaches c.in-Peek.variable c.open_peek.new.state c.open_peek.new.peek c.open_peek.result (at c.requires.stands c.in-Peek.is) c.open_peek.ensures
 
 pub arms_of-requires : goal.arms_of-requires
 arms_of-requires c = case_some _ _ _ _ c.requires.reaches c.in-Case.field-0 c.in-Case.user_data (at c.requires.stands c.in-Case.is)
 
-pub enter_case-requires : goal.enter_case-requires
-enter_case-requires c = case_declared _ _ _ _ c.requires.reaches c.in-Case.field-0 c.in-Case.user_data c.arms_of.result.now (at c.requires.stands c.in-Case.is) c.arms_of.ensures
+pub enter_case-requires-clause-of : goal.enter_case-requires-clause-of
+enter_case-requires-clause-of c = case_of _ _ _ _ c.requires.reaches c.in-Case.field-0 c.in-Case.user_data c.arms_of.result.now (at c.requires.stands c.in-Case.is) c.arms_of.ensures
+
+pub enter_case-requires-clause-declared : goal.enter_case-requires-clause-declared
+enter_case-requires-clause-declared c = case_declared _ _ _ _ c.requires.reaches c.in-Case.field-0 c.in-Case.user_data c.arms_of.result.now (at c.requires.stands c.in-Case.is) c.arms_of.ensures
 
 pub returns-in-Case : goal.returns-in-Case
 returns-in-Case c = case_turns _ _ _ _ c.requires.reaches c.in-Case.field-0 c.in-Case.user_data c.arms_of.result.now c.enter_case.new.state c.enter_case.result (at c.requires.stands c.in-Case.is) c.arms_of.ensures c.enter_case.ensures
@@ -70,17 +73,26 @@ returns-in-Case c = case_turns _ _ _ _ c.requires.reaches c.in-Case.field-0 c.in
 pub arms_of-requires-in-Other : goal.arms_of-requires-in-Other
 arms_of-requires-in-Other c = other_some _ _ _ _ c.requires.reaches c.in-Other.field-0 (at c.requires.stands c.in-Other.is)
 
+pub enter_other-requires : goal.enter_other-requires
+enter_other-requires c = other_of _ _ _ _ c.requires.reaches c.in-Other.field-0 c.arms_of-in-Other.result.now (at c.requires.stands c.in-Other.is) c.arms_of-in-Other.ensures
+
 pub returns-in-Other : goal.returns-in-Other
 returns-in-Other c = other_turns _ _ _ _ c.requires.reaches c.in-Other.field-0 c.arms_of-in-Other.result.now c.enter_other.new.state c.enter_other.result (at c.requires.stands c.in-Other.is) c.arms_of-in-Other.ensures c.enter_other.ensures
 
 pub arms_of-requires-in-Nothing : goal.arms_of-requires-in-Nothing
 arms_of-requires-in-Nothing c = none_some _ _ _ _ c.requires.reaches c.in-Nothing.field-0 (at c.requires.stands c.in-Nothing.is)
 
+pub enter_none-requires : goal.enter_none-requires
+enter_none-requires c = none_of _ _ _ _ c.requires.reaches c.in-Nothing.field-0 c.arms_of-in-Nothing.result.now (at c.requires.stands c.in-Nothing.is) c.arms_of-in-Nothing.ensures
+
 pub returns-in-Nothing : goal.returns-in-Nothing
 returns-in-Nothing c = none_turns _ _ _ _ c.requires.reaches c.in-Nothing.field-0 c.arms_of-in-Nothing.result.now c.enter_none.new.state c.enter_none.result (at c.requires.stands c.in-Nothing.is) c.arms_of-in-Nothing.ensures c.enter_none.ensures
 
 pub end_arms-requires-clause-kept : goal.end_arms-requires-clause-kept
 end_arms-requires-clause-kept c = arm_some _ _ _ _ c.requires.reaches c.in-EndArm.field-0 (at c.requires.stands c.in-EndArm.is)
+
+pub end_arms-requires-clause-sides : goal.end_arms-requires-clause-sides
+end_arms-requires-clause-sides c = sides_here _ _ _ _ c.requires.reaches _ c.requires.stands
 
 pub end_arms-requires-clause-of : goal.end_arms-requires-clause-of
 end_arms-requires-clause-of c = arm_of _ _ _ _ c.requires.reaches c.in-EndArm.field-0 (at c.requires.stands c.in-EndArm.is)
@@ -103,8 +115,8 @@ index-requires c = omega (arith, c.args.thread.now.lists.ok.0, loop_there c.args
 pub open_loop-requires-clause-few : goal.open_loop-requires-clause-few
 open_loop-requires-clause-few c = loop_room _ _ _ _ c.requires.reaches c.in-Loop.k (at c.requires.stands c.in-Loop.is)
 
-pub open_loop-requires-clause-names : goal.open_loop-requires-clause-names
-open_loop-requires-clause-names c = loop_names _ _ _ _ c.requires.reaches c.in-Loop.k _ (c.requires.reaches.thread.resolved c.args.place (Loop c.in-Loop.k) (at c.requires.stands c.in-Loop.is)) (items_here c.args.thread.now.lists.items c.in-Loop.k c.index.result.now (c.requires.reaches.thread.resolved c.args.place (Loop c.in-Loop.k) (at c.requires.stands c.in-Loop.is)) c.index.ensures)
+pub open_loop-requires-clause-list : goal.open_loop-requires-clause-list
+open_loop-requires-clause-list c = loop_list _ _ _ _ c.requires.reaches c.in-Loop.k _ (c.requires.reaches.thread.resolved c.args.place (Loop c.in-Loop.k) (at c.requires.stands c.in-Loop.is)) (items_here c.args.thread.now.lists.items c.in-Loop.k c.index.result.now (c.requires.reaches.thread.resolved c.args.place (Loop c.in-Loop.k) (at c.requires.stands c.in-Loop.is)) c.index.ensures)
 
 pub returns-in-Loop : goal.returns-in-Loop
 returns-in-Loop c = loop_turns _ _ _ _ c.requires.reaches c.in-Loop.k _ c.open_loop.new.state c.open_loop.new.loops c.open_loop.result (at c.requires.stands c.in-Loop.is) (items_here c.args.thread.now.lists.items c.in-Loop.k c.index.result.now (c.requires.reaches.thread.resolved c.args.place (Loop c.in-Loop.k) (at c.requires.stands c.in-Loop.is)) c.index.ensures) c.open_loop.ensures.gives c.open_loop.ensures.kept
@@ -112,14 +124,20 @@ returns-in-Loop c = loop_turns _ _ _ _ c.requires.reaches c.in-Loop.k _ c.open_l
 pub index-requires-in-EndLoop : goal.index-requires-in-EndLoop
 index-requires-in-EndLoop c = omega (arith, c.args.thread.now.lists.ok.0, loop_there c.args.thread.now.lists.items c.in-EndLoop.k (c.requires.reaches.thread.resolved c.args.place (EndLoop c.in-EndLoop.field-0 c.in-EndLoop.k) (at c.requires.stands c.in-EndLoop.is)))
 
-pub close_loop-requires : goal.close_loop-requires
-close_loop-requires c = end_loop_some _ _ _ _ c.requires.reaches c.in-EndLoop.field-0 c.in-EndLoop.k (at c.requires.stands c.in-EndLoop.is)
+pub close_loop-requires-clause-of : goal.close_loop-requires-clause-of
+close_loop-requires-clause-of c = λ s q. end_loop_of _ _ _ _ c.requires.reaches c.in-EndLoop.field-0 c.in-EndLoop.k s (at c.requires.stands c.in-EndLoop.is) q
+
+pub close_loop-requires-clause-kept : goal.close_loop-requires-clause-kept
+close_loop-requires-clause-kept c = end_loop_some _ _ _ _ c.requires.reaches c.in-EndLoop.field-0 c.in-EndLoop.k (at c.requires.stands c.in-EndLoop.is)
 
 pub returns-in-EndLoop : goal.returns-in-EndLoop
 returns-in-EndLoop c = end_loop_turns _ _ _ _ c.requires.reaches c.in-EndLoop.field-0 c.in-EndLoop.k _ c.close_loop.new.state c.close_loop.new.loops c.close_loop.result (at c.requires.stands c.in-EndLoop.is) (items_here c.args.thread.now.lists.items c.in-EndLoop.k c.index-in-EndLoop.result.now (c.requires.reaches.thread.resolved c.args.place (EndLoop c.in-EndLoop.field-0 c.in-EndLoop.k) (at c.requires.stands c.in-EndLoop.is)) c.index-in-EndLoop.ensures) c.close_loop.ensures
 
 pub leave_loop-requires-clause-locked : goal.leave_loop-requires-clause-locked
 leave_loop-requires-clause-locked c = break_locked _ _ _ _ c.requires.reaches c.in-Break.field-0 c.in-Break.releases c.in-Break.field-2 (at c.requires.stands c.in-Break.is)
+
+pub leave_loop-requires-clause-sides : goal.leave_loop-requires-clause-sides
+leave_loop-requires-clause-sides c = sides_here _ _ _ _ c.requires.reaches _ c.requires.stands
 
 pub leave_loop-requires-clause-few : goal.leave_loop-requires-clause-few
 leave_loop-requires-clause-few c = few_loops_here _ _ _ _ c.requires.reaches

@@ -10,7 +10,7 @@ loop-place-init c =
 pub returns-in-Err : goal.returns-in-Err
 returns-in-Err c = λ t that.
     let is = thread_is c.args.program.now c.threads.result.now c.args.thread c.index-threads-thread.result c.threads.ensures.value c.requires c.index-threads-thread.is in
-    refuses_line c.args.program.now _ c.args.thread c.loop-place.place _ _ t c.index-line.result.now is that c.loop-place.invariant.at.here.of (omega arith) c.index-line.ensures c.in-Err.ensures
+    refuses_line c.args.program.now _ c.args.thread c.loop-place.place _ _ t c.index-line.result.now is that c.loop-place.invariant.at.here.of.program (omega arith) c.index-line.ensures c.in-Err.ensures
 
 pub returns : goal.returns
 returns c = λ t that.

@@ -15,6 +15,7 @@ none_twice eq = tt
 -- the program of these parts
 abbrev parts : List File → List Buffer → List Token → List Thread → Program
 parts files buffers tokens threads = record {
+  version = 1;
   entries = 4;
   completion_entries = 8;
   left = 3;
@@ -26,6 +27,7 @@ parts files buffers tokens threads = record {
 
 bare : IsProgram (parts [] [] [] [])
 bare = record {
+  version = (lit≤ tt, lit≤ tt);
   entries = record { power = (2, refl); within = lit≤ tt };
   completion_entries = record { power = (3, refl); within = lit≤ tt };
   room = lit≤ tt;

@@ -1,5 +1,8 @@
-use Rattle.rc_rules.proofs.Examples.{start_few, start_unlocked}
+use Rattle.rc_rules.proofs.Examples.{start_of_share, start_few, start_unlocked}
 use Rattle.rc_rules.proofs.state.tests.started.Goals as goal
+
+pub returns-clause-of : goal.returns-clause-of
+returns-clause-of c = start_of_share c.args.program.now c.start.result c.requires c.start.ensures
 
 pub returns-clause-few : goal.returns-clause-few
 returns-clause-few c = start_few c.args.program.now c.start.result c.requires c.start.ensures

@@ -1,0 +1,169 @@
+//! The items of a line, in two lists, before `when` and behind it: what is named twice, and what says queued entries.
+
+ghost use Rattle.std.specs.Prelude.{◌≡◌, position};
+ghost use Rattle.std.specs.List.{list_any};
+ghost use Rattle.rc_read.specs.Quick as quick;
+ghost use Rattle.rc_read.specs.Sentences as sentences;
+ghost use Rattle.rc_read.specs.Values as spec;
+
+use crate::values::Item;
+
+fn is_when(item: Item) -> bool
+    ensures { result ≡ spec.is_when item }
+{
+    match item {
+        Item::When(_) => true,
+        Item::Shares(_, _) | Item::Token(_) | Item::Credits(_) | Item::Queued(_) => false,
+    }
+}
+
+fn place_of_when(items: &[Item]) -> Option<usize>
+    ensures { result ≡ position spec.is_when items.now }
+{
+    items.iter().position(|item| is_when(*item))
+}
+
+/// The items before `when`, which are all where there is none, and those behind it.
+pub fn parted(items: &[Item]) -> (&[Item], &[Item])
+    ensures before { result.0.now ≡ spec.before_when items.now }
+    ensures behind { result.1.now ≡ spec.behind_when items.now }
+{
+    match place_of_when(items) {
+        None => (items, &[]),
+        Some(i) => (&items[..i], &items[i + 1..]),
+    }
+}
+
+/// The variable behind `when`.
+pub fn flag_in(items: &[Item]) -> Option<usize>
+    ensures { result ≡ spec.flag_in items.now }
+{
+    for item in items {
+        if let Item::When(variable) = *item {
+            return Some(variable);
+        }
+    }
+    None
+}
+
+fn says_queue(item: Item) -> bool
+    ensures { result ≡ sentences.says_queue item }
+{
+    match item {
+        Item::Queued(_) => true,
+        Item::Shares(_, _) | Item::Token(_) | Item::Credits(_) | Item::When(_) => false,
+    }
+}
+
+/// Whether an item says how many entries may be queued.
+pub fn any_queue(items: &[Item]) -> bool
+    ensures { result ≡ sentences.any_queue items.now }
+{
+    items.iter().any(|item| says_queue(*item))
+}
+
+fn names_same(i: Item, j: Item) -> bool
+    ensures { result ≡ sentences.names_same i j }
+{
+    match (i, j) {
+        (Item::Shares(b, _), Item::Shares(c, _)) => b == c,
+        (Item::Token(u), Item::Token(v)) => u == v,
+        (Item::Credits(_), Item::Credits(_)) | (Item::Queued(_), Item::Queued(_)) => true,
+        _ => false,
+    }
+}
+
+fn any_same(item: Item, items: &[Item]) -> bool
+    ensures { result ≡ list_any (sentences.names_same item) items.now }
+{
+    items.iter().any(|other| names_same(item, *other))
+}
+
+fn comes_before(i: Item, j: Item) -> bool
+    ensures { result ≡ quick.comes_before i j }
+{
+    match (i, j) {
+        (Item::Token(u), Item::Token(v)) => u < v,
+        (Item::Shares(b, _), Item::Shares(c, _)) => b < c,
+        (Item::Shares(_, _), Item::Token(_) | Item::Credits(_)) => true,
+        (Item::Shares(_, _) | Item::Token(_), Item::Queued(_) | Item::When(_)) => true,
+        (Item::Token(_), Item::Credits(_)) => true,
+        (Item::Credits(_), Item::Queued(_) | Item::When(_)) => true,
+        (Item::Queued(_), Item::When(_)) => true,
+        _ => false,
+    }
+}
+
+fn ascend_from(first: Item, items: &[Item]) -> bool
+    ensures { result ≡ quick.ascend_from first items.now }
+{
+    let mut last = first;
+    for item in items {
+        if !comes_before(last, *item) {
+            return false;
+        }
+        last = *item;
+    }
+    true
+}
+
+// Whether each item comes before the next. Then none is named twice.
+fn ascend(items: &[Item]) -> bool
+    ensures { result ≡ quick.ascend items.now }
+{
+    match items {
+        [] => true,
+        [first, rest @ ..] => ascend_from(*first, rest),
+    }
+}
+
+fn any_repeated(items: &[Item]) -> bool
+    ensures { result ≡ sentences.any_twice items.now }
+{
+    for (i, item) in items.iter().enumerate() {
+        if any_same(*item, &items[i + 1..]) {
+            return true;
+        }
+    }
+    false
+}
+
+// Whether an item is named twice in a list.
+fn any_twice(items: &[Item]) -> bool
+    ensures { result ≡ sentences.any_twice items.now }
+{
+    !ascend(items) && any_repeated(items)
+}
+
+fn is_token(item: Item) -> bool
+    ensures { result ≡ sentences.is_token item }
+{
+    match item {
+        Item::Token(_) => true,
+        Item::Shares(_, _) | Item::Credits(_) | Item::Queued(_) | Item::When(_) => false,
+    }
+}
+
+// Whether a token of the one list stands in the other.
+fn any_in_both(more: &[Item], items: &[Item]) -> bool
+    ensures { result ≡ sentences.any_in_both more.now items.now }
+{
+    more.iter()
+        .any(|item| is_token(*item) && any_same(*item, items))
+}
+
+// Whether in a line with items one is named twice in a list, or a token in both. Most lines have none.
+#[inline(never)]
+fn any_named_again(items: &[Item]) -> bool
+    ensures { result ≡ sentences.any_named_twice items.now }
+{
+    let (before, behind) = parted(items);
+    any_twice(before) || any_twice(behind) || any_in_both(behind, before)
+}
+
+/// Whether an item is named twice in a list, or a token in both.
+pub fn any_named_twice(items: &[Item]) -> bool
+    ensures { result ≡ sentences.any_named_twice items.now }
+{
+    !items.is_empty() && any_named_again(items)
+}

@@ -1,0 +1,322 @@
+-- Sides of one state: unless one is dead, both have the lock with their slots at one stage, or both don't.
+use Rattle.std.proofs.Common.{◌≡◌, ℕ, ◌⊎◌, inl, inr, Bool, true, false, cond, nat_lt, ◌&&◌, [], ◌∷◌, Option, Some, None, refl, sym, ap, subst, ◌∙◌}
+use Rattle.std.proofs.lemmas.Bool.{and_from, eq-eqb}
+use Rattle.rc_lang.specs.declared.lines.Op.{Op}
+use Rattle.rc_lang.specs.declared.lines.Op.TheVariants as ops
+use Rattle.rc_lang.specs.declared.lines.Test.{Test}
+use Rattle.rc_lang.specs.declared.lines.Test.TheVariants.{Compare, ReadyZero, SpaceAtLeast}
+use Rattle.rc_lang.specs.declared.program.TokenKind.{TokenKind}
+use Rattle.rc_lang.specs.declared.program.TokenKind.TheVariants.{Read, Write, Fsync, Nop}
+use Rattle.rc_lang.specs.Program.{Program}
+use Rattle.rc_split.specs.Bags.{Part, TokenOf}
+use Rattle.rc_rules.specs.declared.mode.Inside.{Inside}
+use Rattle.rc_rules.specs.declared.mode.Mode.{Mode}
+use Rattle.rc_rules.specs.declared.mode.Mode.TheVariants.{Unlocked, Locked}
+use Rattle.rc_rules.specs.declared.mode.Peeked.{Peeked}
+use Rattle.rc_rules.specs.declared.mode.Peeked.TheVariants.{Unseen, Sees, SeesOther}
+use Rattle.rc_rules.specs.declared.mode.Slot.{Slot}
+use Rattle.rc_rules.specs.declared.mode.Slot.TheVariants.{Closed, Vacant, Prepared}
+use Rattle.rc_rules.specs.declared.rule.Rule.{Rule}
+use Rattle.rc_rules.specs.declared.rule.Rule.TheVariants.{Do, Lock, Release, If, Case, Other, Nothing, Break}
+use Rattle.rc_rules.specs.Labels.{Label, Dead, Live, Weaker, WeakerMode, IsStrongest, IsSame}
+use Rattle.rc_rules.specs.OneRule.{rule_effect}
+use Rattle.rc_rules.specs.Rules.{same_kind, same_slot, if_locked, op_effect, goes, test_mode, with_peeked, case_at, agree_modes, agree, agree_all}
+use Rattle.rc_rules.specs.States.{State, label_of, label_in, mode_in, mode_or, mode_of, is_live, AgreeOnLock, IsState}
+use Rattle.rc_split.specs.Holdings.{Holding}
+use Rattle.rc_rules.proofs.Weaker.{same_slot_is}
+
+abbrev pub AlikeModes : Mode → Mode → Type 0
+AlikeModes Unlocked Unlocked = Unit {0}
+AlikeModes Unlocked (Locked j) = ⊥
+AlikeModes (Locked i) Unlocked = ⊥
+AlikeModes (Locked i) (Locked j) = same_slot i.slot j.slot ≡ true
+
+abbrev pub Alike : Label → Label → Type 0
+Alike Dead t = Unit {0}
+Alike (Live a m) Dead = Unit {0}
+Alike (Live a m) (Live b n) = AlikeModes m n
+
+pub alike : (s t : Label) → AgreeOnLock s t → agree s t ≡ true → Alike s t
+alike Dead t l e = tt
+alike (Live a m) Dead l e = tt
+alike (Live a Unlocked) (Live b Unlocked) l e = tt
+alike (Live a Unlocked) (Live b (Locked j)) l e = absurd l
+alike (Live a (Locked i)) (Live b Unlocked) l e = absurd l
+alike (Live a (Locked i)) (Live b (Locked j)) l e = e
+
+pub alike_lock : (s t : Label) → Alike s t → AgreeOnLock s t
+alike_lock Dead t l = tt
+alike_lock (Live a Unlocked) Dead l = tt
+alike_lock (Live a (Locked i)) Dead l = tt
+alike_lock (Live a Unlocked) (Live b Unlocked) l = tt
+alike_lock (Live a Unlocked) (Live b (Locked j)) l = absurd l
+alike_lock (Live a (Locked i)) (Live b Unlocked) l = absurd l
+alike_lock (Live a (Locked i)) (Live b (Locked j)) l = tt
+
+pub alike_slot : (s t : Label) → Alike s t → agree s t ≡ true
+alike_slot Dead t l = refl
+alike_slot (Live a m) Dead l = refl
+alike_slot (Live a Unlocked) (Live b n) l = refl
+alike_slot (Live a (Locked i)) (Live b Unlocked) l = refl
+alike_slot (Live a (Locked i)) (Live b (Locked j)) l = l
+
+kind_refl : (k : TokenKind) → same_kind k k ≡ true
+kind_refl (Read b) = eq-eqb b b refl
+kind_refl (Write b k) = and_from _ _ (eq-eqb b b refl) (eq-eqb k k refl)
+kind_refl Fsync = refl
+kind_refl Nop = refl
+
+slot_refl : (s : Slot) → same_slot s s ≡ true
+slot_refl Closed = refl
+slot_refl Vacant = refl
+slot_refl (Prepared k) = kind_refl k
+
+slot_sym : (s t : Slot) → same_slot s t ≡ same_slot t s
+slot_sym s t = go (same_slot s t) (same_slot t s) refl refl
+  where
+    go : (x y : Bool) → same_slot s t ≡ x → same_slot t s ≡ y → x ≡ y
+    go true true e f = refl
+    go false false e f = refl
+    go true false e f = absurd (let h : same_slot t s ≡ true = subst (λ u. same_slot u s ≡ true) (same_slot_is s t e) (slot_refl s) in cc (f, h))
+    go false true e f = absurd (let h : same_slot s t ≡ true = subst (λ u. same_slot u t ≡ true) (same_slot_is t s f) (slot_refl t) in cc (e, h))
+
+modes_refl : (m : Mode) → AlikeModes m m
+modes_refl Unlocked = tt
+modes_refl (Locked i) = slot_refl i.slot
+
+pub alike_refl : (s : Label) → Alike s s
+alike_refl Dead = tt
+alike_refl (Live a m) = modes_refl m
+
+modes_sym : (m n : Mode) → AlikeModes m n → AlikeModes n m
+modes_sym Unlocked Unlocked l = tt
+modes_sym Unlocked (Locked j) l = absurd l
+modes_sym (Locked i) Unlocked l = absurd l
+modes_sym (Locked i) (Locked j) l = sym (slot_sym i.slot j.slot) ∙ l
+
+pub alike_sym : (s t : Label) → Alike s t → Alike t s
+alike_sym Dead Dead l = tt
+alike_sym Dead (Live b n) l = tt
+alike_sym (Live a m) Dead l = tt
+alike_sym (Live a m) (Live b n) l = modes_sym m n l
+
+pub same_alike : (s t u v : Label) → IsSame s u → IsSame t v → Alike u v → Alike s t
+same_alike Dead t u v e f l = tt
+same_alike (Live a m) Dead u v e f l = tt
+same_alike (Live a m) (Live b n) Dead v e f l = absurd e
+same_alike (Live a m) (Live b n) (Live c k) Dead e f l = absurd f
+same_alike (Live a m) (Live b n) (Live c k) (Live d o) e f l = subst (λ x. AlikeModes x n) (sym e.1) (subst (λ x. AlikeModes k x) (sym f.1) l)
+
+-- ---- one rule of both
+
+lock_alike : (F G : Inside → Label) (m n : Mode) → AlikeModes m n → ((i j : Inside) → same_slot i.slot j.slot ≡ true → Alike (F i) (G j)) → Alike (if_locked m F) (if_locked n G)
+lock_alike F G Unlocked n l h = tt
+lock_alike F G (Locked i) Unlocked l h = absurd l
+lock_alike F G (Locked i) (Locked j) l h = h i j l
+
+effect_alike : (P : Program) (a b : Part → ℕ) (m n : Mode) (op : Op) → AlikeModes m n → Alike (op_effect P a m op) (op_effect P b n op)
+effect_alike P a b m n ops.GetSqe l = lock_alike _ _ m n l (λ i j e. refl)
+effect_alike P a b m n (ops.PrepRead fd c len off) l = lock_alike _ _ m n l (λ i j e. slot_refl (Prepared (Read c)))
+effect_alike P a b m n (ops.PrepWrite fd c len off k) l = lock_alike _ _ m n l (λ i j e. slot_refl (Prepared (Write c k)))
+effect_alike P a b m n (ops.PrepFsync fd d) l = lock_alike _ _ m n l (λ i j e. refl)
+effect_alike P a b m n ops.PrepNop l = lock_alike _ _ m n l (λ i j e. refl)
+effect_alike P a b m n (ops.SetData64 u) l = lock_alike _ _ m n l (λ i j e. refl)
+effect_alike P a b m n ops.CqeSeen l = lock_alike _ _ m n l (λ i j e. e)
+effect_alike P a b m n _ l = l
+
+test_alike : (P : Program) (test : Test) (m n : Mode) → AlikeModes m n → AlikeModes (test_mode P test m) (test_mode P test n)
+test_alike P (Compare x c k) m n l = l
+test_alike P ReadyZero Unlocked Unlocked l = tt
+test_alike P ReadyZero (Locked i) (Locked j) l = l
+test_alike P (SpaceAtLeast k) Unlocked Unlocked l = tt
+test_alike P (SpaceAtLeast k) (Locked i) (Locked j) l = l
+test_alike P ReadyZero Unlocked (Locked j) l = absurd l
+test_alike P ReadyZero (Locked i) Unlocked l = absurd l
+test_alike P (SpaceAtLeast k) Unlocked (Locked j) l = absurd l
+test_alike P (SpaceAtLeast k) (Locked i) Unlocked l = absurd l
+
+with_alike : (p q : Peeked) (m n : Mode) → AlikeModes m n → AlikeModes (with_peeked p m) (with_peeked q n)
+with_alike p q Unlocked Unlocked l = tt
+with_alike p q (Locked i) (Locked j) l = l
+with_alike p q Unlocked (Locked j) l = absurd l
+with_alike p q (Locked i) Unlocked l = absurd l
+
+case_alike : (u : ℕ) (a b : Part → ℕ) (m n : Mode) → AlikeModes m n → Alike (case_at u (Live a m)) (case_at u (Live b n))
+case_alike u a b m n l = go (nat_lt 0 (a (TokenOf u))) (nat_lt 0 (b (TokenOf u)))
+  where
+    go : (x y : Bool) → Alike (cond x Dead (Live a (with_peeked (Sees u) m))) (cond y Dead (Live b (with_peeked (Sees u) n)))
+    go true y = tt
+    go false true = tt
+    go false false = with_alike (Sees u) (Sees u) m n l
+
+rule_alike : (P : Program) (rule : Rule) (a b : Part → ℕ) (m n : Mode) → AlikeModes m n → Alike (rule_effect P rule a m) (rule_effect P rule b n)
+rule_alike P (Do op) a b m n l = effect_alike P a b m n op l
+rule_alike P Lock a b m n l = refl
+rule_alike P Release a b m n l = tt
+rule_alike P (If test) a b m n l = test_alike P test m n l
+rule_alike P (Case u) a b m n l = case_alike u a b m n l
+rule_alike P Other a b m n l = with_alike SeesOther SeesOther m n l
+rule_alike P Nothing a b m n l = with_alike Unseen Unseen m n l
+rule_alike P (Break releases) a b m n l = l
+
+goes_dead : (P : Program) (rule : Rule) (s : Label) → Alike s Dead
+goes_dead P rule Dead = tt
+goes_dead P rule (Live a m) = tt
+
+pub goes_alike : (P : Program) (rule : Rule) (s t : Label) → Alike s t → Alike (goes s (λ b m. rule_effect P rule b m)) (goes t (λ b m. rule_effect P rule b m))
+goes_alike P rule Dead t l = tt
+goes_alike P rule (Live a m) Dead l = goes_dead P rule (rule_effect P rule a m)
+goes_alike P rule (Live a m) (Live b n) l = rule_alike P rule a b m n l
+
+-- ---- sides that join
+
+lower_modes : (m n k l : Mode) → WeakerMode m k → WeakerMode n l → AlikeModes k l → AlikeModes m n
+lower_modes Unlocked Unlocked k l v w e = tt
+lower_modes (Locked i) (Locked j) (Locked x) (Locked y) v w e = subst (λ s. same_slot s j.slot ≡ true) (sym v.slot) (subst (λ s. same_slot x.slot s ≡ true) (sym w.slot) e)
+lower_modes Unlocked (Locked j) Unlocked (Locked y) v w e = absurd e
+lower_modes (Locked i) Unlocked (Locked x) Unlocked v w e = absurd e
+lower_modes Unlocked (Locked j) (Locked x) l v w e = absurd v
+lower_modes Unlocked (Locked j) Unlocked Unlocked v w e = absurd w
+lower_modes (Locked i) n Unlocked l v w e = absurd v
+lower_modes (Locked i) Unlocked (Locked x) (Locked y) v w e = absurd w
+lower_modes (Locked i) (Locked j) (Locked x) Unlocked v w e = absurd w
+
+-- what is weaker than live labels that are alike is alike
+lower : (s t u v : Label) → is_live u ≡ true → is_live v ≡ true → Weaker s u → Weaker t v → Alike u v → Alike s t
+lower Dead t u v e f x y l = tt
+lower (Live a m) Dead u v e f x y l = tt
+lower (Live a m) (Live b n) Dead v e f x y l = absurd (cc)
+lower (Live a m) (Live b n) (Live c k) Dead e f x y l = absurd (cc)
+lower (Live a m) (Live b n) (Live c k) (Live d o) e f x y l = lower_modes m n k o x.1 y.1 l
+
+abbrev ComesFrom : Label → Label → Label → Type 0
+ComesFrom s t u = (s ≡ Dead) ⊎ (((is_live t ≡ true) × Weaker s t) ⊎ ((is_live u ≡ true) × Weaker s u))
+
+comes_from : (s t u : Label) → IsStrongest s (t ∷ u ∷ []) → ComesFrom s t u
+comes_from Dead t u h = inl refl
+comes_from (Live a m) Dead Dead h = absurd (h.strongest Dead (tt, (tt, tt)))
+comes_from (Live a m) (Live b n) u h = inr (inl (refl, h.weaker.0))
+comes_from (Live a m) Dead (Live c k) h = inr (inr (refl, h.weaker.1.0))
+
+dead_alike : (s t : Label) → s ≡ Dead → Alike s t
+dead_alike s t e = subst (λ x. Alike x t) (sym e) tt
+
+alike_dead : (s t : Label) → t ≡ Dead → Alike s t
+alike_dead s t e = alike_sym t s (dead_alike t s e)
+
+-- Of two states that join, side by side, the sides are alike where each of one is with each of the other.
+pub joins_alike : (s t a b c d : Label) → IsStrongest s (a ∷ c ∷ []) → IsStrongest t (b ∷ d ∷ []) → Alike a b → Alike a d → Alike c b → Alike c d → Alike s t
+joins_alike s t a b c d h g ab ad cb cd = go (comes_from s a c h) (comes_from t b d g)
+  where
+    go : ComesFrom s a c → ComesFrom t b d → Alike s t
+    go (inl e) y = dead_alike s t e
+    go (inr x) (inl e) = alike_dead s t e
+    go (inr (inl x)) (inr (inl y)) = lower s t a b x.0 y.0 x.1 y.1 ab
+    go (inr (inl x)) (inr (inr y)) = lower s t a d x.0 y.0 x.1 y.1 ad
+    go (inr (inr x)) (inr (inl y)) = lower s t c b x.0 y.0 x.1 y.1 cb
+    go (inr (inr x)) (inr (inr y)) = lower s t c d x.0 y.0 x.1 y.1 cd
+
+-- ---- V15 of two states: one mode of each tells
+
+agree_left : (m n k : Mode) → AlikeModes m n → agree_modes m k ≡ agree_modes n k
+agree_left Unlocked Unlocked k l = refl
+agree_left Unlocked (Locked j) k l = absurd l
+agree_left (Locked i) Unlocked k l = absurd l
+agree_left (Locked i) (Locked j) Unlocked l = refl
+agree_left (Locked i) (Locked j) (Locked k) l = ap (λ s. same_slot s k.slot) (same_slot_is i.slot j.slot l)
+
+modes_swap : (m n : Mode) → agree_modes m n ≡ agree_modes n m
+modes_swap Unlocked Unlocked = refl
+modes_swap Unlocked (Locked j) = refl
+modes_swap (Locked i) Unlocked = refl
+modes_swap (Locked i) (Locked j) = slot_sym i.slot j.slot
+
+agree_right : (m n k : Mode) → AlikeModes m n → agree_modes k m ≡ agree_modes k n
+agree_right m n k l = modes_swap k m ∙ agree_left m n k l ∙ modes_swap n k
+
+agree_alike : (m n : Mode) → AlikeModes m n → agree_modes m n ≡ true
+agree_alike Unlocked n l = refl
+agree_alike (Locked i) Unlocked l = refl
+agree_alike (Locked i) (Locked j) l = l
+
+pub agree_swap : (s t : Label) → agree s t ≡ true → agree t s ≡ true
+agree_swap Dead Dead e = refl
+agree_swap Dead (Live b n) e = refl
+agree_swap (Live a m) Dead e = refl
+agree_swap (Live a m) (Live b n) e = modes_swap n m ∙ e
+
+abbrev pub mode_on : Label → Option Mode
+mode_on Dead = None
+mode_on (Live a m) = Some m
+
+abbrev pub agree_some : Option Mode → Option Mode → Bool
+agree_some (Some m) (Some n) = agree_modes m n
+agree_some (Some m) None = true
+agree_some None n = true
+
+one : (x : Bool) → (x && true) && true ≡ x
+one true = refl
+one false = refl
+
+two : (x : Bool) → (x && (true && true)) && ((x && true) && true) ≡ x
+two true = refl
+two false = refl
+
+three : (x : Bool) → (x && (x && true)) && true ≡ x
+three true = refl
+three false = refl
+
+thrice : (x : Bool) → (true && (x && true)) && ((x && true) && true) ≡ x
+thrice true = refl
+thrice false = refl
+
+four : (x : Bool) → (x && (true && (x && true))) && ((x && (true && true)) && ((x && true) && true)) ≡ x
+four true = refl
+four false = refl
+
+pub all_agree : (a b c d : Label) → Alike a b → Alike c d → agree_all (a ∷ c ∷ b ∷ d ∷ []) ≡ agree_some (mode_or (mode_on a) (mode_on b)) (mode_or (mode_on c) (mode_on d))
+all_agree Dead Dead Dead Dead l k = refl
+all_agree Dead Dead (Live c o) Dead l k = refl
+all_agree Dead Dead Dead (Live d p) l k = refl
+all_agree Dead Dead (Live c o) (Live d p) l k = rw (agree_alike o p k) refl
+all_agree (Live a m) Dead Dead Dead l k = refl
+all_agree Dead (Live b n) Dead Dead l k = refl
+all_agree (Live a m) (Live b n) Dead Dead l k = rw (agree_alike m n l) refl
+all_agree (Live a m) Dead (Live c o) Dead l k = one (agree_modes m o)
+all_agree (Live a m) Dead Dead (Live d p) l k = one (agree_modes m p)
+all_agree Dead (Live b n) (Live c o) Dead l k = rw (modes_swap o n) (one (agree_modes n o))
+all_agree Dead (Live b n) Dead (Live d p) l k = one (agree_modes n p)
+all_agree (Live a m) Dead (Live c o) (Live d p) l k = rw (agree_alike o p k, ← agree_right o p m k) (three (agree_modes m o))
+all_agree Dead (Live b n) (Live c o) (Live d p) l k = rw (agree_alike o p k, ← agree_right o p n k, modes_swap o n) (two (agree_modes n o))
+all_agree (Live a m) (Live b n) (Live c o) Dead l k = rw (agree_alike m n l, modes_swap o n, ← agree_left m n o l) (two (agree_modes m o))
+all_agree (Live a m) (Live b n) Dead (Live d p) l k = rw (agree_alike m n l, ← agree_left m n p l) (thrice (agree_modes m p))
+all_agree (Live a m) (Live b n) (Live c o) (Live d p) l k = rw (agree_alike m n l, agree_alike o p k, modes_swap o n, ← agree_left m n o l, ← agree_left m n p l, ← agree_right o p m k) (four (agree_modes m o))
+
+mode_same : (o : Option (Holding × Mode)) → mode_on (label_in o) ≡ mode_in o
+mode_same None = refl
+mode_same (Some s) = refl
+
+abbrev pub Joined : State → State → Bool
+Joined x y = agree_all (label_of x true ∷ label_of y true ∷ label_of x false ∷ label_of y false ∷ [])
+
+all_join : (x y : State) → IsState x → IsState y → Joined x y ≡ agree_some (mode_of x) (mode_of y)
+all_join x y h g =
+    let e = all_agree (label_of x true) (label_of x false) (label_of y true) (label_of y false) (alike _ _ h.lock h.slot) (alike _ _ g.lock g.slot) in
+    let a = mode_same x.zero.live in
+    let b = mode_same x.other.live in
+    let c = mode_same y.zero.live in
+    let d = mode_same y.other.live in
+    rw (← a, ← b, ← c, ← d) e
+
+pub some_join : (x y : State) (o p : Option Mode) (m n : Mode) → IsState x → IsState y → o ≡ mode_of x → p ≡ mode_of y → o ≡ Some m → p ≡ Some n → Joined x y ≡ agree_modes m n
+some_join x y o p m n h g e f i j = all_join x y h g ∙ ap (λ q. agree_some q (mode_of y)) (sym e ∙ i) ∙ ap (agree_some (Some m)) (sym f ∙ j)
+
+pub left_join : (x y : State) (o : Option Mode) → IsState x → IsState y → o ≡ mode_of x → o ≡ None → Joined x y ≡ true
+left_join x y o h g e i = all_join x y h g ∙ ap (λ q. agree_some q (mode_of y)) (sym e ∙ i)
+
+right_none : (o : Option Mode) → agree_some o None ≡ true
+right_none None = refl
+right_none (Some m) = refl
+
+pub right_join : (x y : State) (o : Option Mode) → IsState x → IsState y → o ≡ mode_of y → o ≡ None → Joined x y ≡ true
+right_join x y o h g e i = all_join x y h g ∙ ap (agree_some (mode_of x)) (sym e ∙ i) ∙ right_none (mode_of x)

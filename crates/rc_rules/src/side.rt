@@ -1,0 +1,192 @@
+//! One side of a state: what holds while the thread's flag is 0, or while it isn't.
+
+ghost use Rattle.std.specs.Prelude.{◌≡◌, ◌∷◌, [], None, true};
+ghost use Rattle.rc_lang.specs.Parts.{view_items};
+ghost use Rattle.rc_lang.specs.Program.{IsItems, IsList};
+ghost use Rattle.rc_rules.specs.Causes.{premise_number};
+ghost use Rattle.rc_rules.specs.Labels.{Dead, Live, IsSame, IsStrongest};
+ghost use Rattle.rc_rules.specs.OneRule as one;
+ghost use Rattle.rc_rules.specs.Premises.{Tests};
+ghost use Rattle.rc_rules.specs.Rules as rules;
+ghost use Rattle.rc_rules.specs.States as spec;
+ghost use Rattle.rc_rules.specs.declared.mode.Mode.TheVariants as modes;
+ghost use Rattle.rc_split.specs.Bags.{bag_on, bag_of};
+
+use crate::blocks;
+use crate::cause::Cause;
+use crate::mode::Mode;
+use crate::rule::{Rule, follow};
+use rc_lang::program::{Items, Program};
+use rc_split::holding::Holding;
+use std::marker::Model;
+
+/// What a thread holds, whether it has the lock, and then how many entries are queued at most, how far the open slot is
+/// and what is peeked. Or the side is dead: nothing reaches it. What a dead side's rows say means nothing.
+#[derive(Drop)]
+pub struct Side<'a> {
+    holding: Holding<'a>,
+    mode: Option<Mode>,
+}
+
+impl<'a> Model for Side<'a> {
+    ghost use Rattle.rc_rules.specs.States as spec;
+
+    ghost Value = { spec.Side };
+
+    ghost view = { λ s. spec.side_of s.holding s.mode };
+
+    ghost invariant = { λ s. spec.IsFree s.holding.program (spec.side_label (spec.side_of s.holding s.mode)) };
+}
+
+impl<'a> Side<'a> {
+    /// Nothing reaches the side.
+    pub fn dead(program: &'a Program) -> Side<'a>
+        ensures { result ≡ record { program = program.now; live = None } }
+    {
+        Side {
+            holding: Holding::nothing(program),
+            mode: None,
+        }
+    }
+
+    /// A thread begins with these items, without the lock.
+    pub fn first(program: &'a Program, items: &Items) -> Side<'a>
+        requires { IsItems program.now (view_items items.now) }
+        ensures label { IsSame (spec.side_label result) (Live (bag_of (view_items items.now)) modes.Unlocked) }
+        ensures of { result.program ≡ program.now }
+    {
+        let mut holding = Holding::nothing(program);
+        holding.hold(items);
+        Side {
+            holding,
+            mode: Some(Mode::Unlocked),
+        }
+    }
+
+    /// The same side again.
+    pub fn again(&self) -> Side<'a>
+        ensures { result ≡ self.now }
+    {
+        if self.mode.is_none() {
+            return Side::dead(self.holding.program());
+        }
+        Side {
+            holding: self.holding.again(),
+            mode: self.mode,
+        }
+    }
+
+    /// Becomes the same as another side of its program. The rows of a dead one aren't copied.
+    pub fn copy_from(&mut self, other: &Side<'a>)
+        requires { other.now.program ≡ self.old.program }
+        ensures { self.new ≡ other.now }
+    {
+        if other.mode.is_some() {
+            self.holding.copy_from(&other.holding);
+        }
+        self.mode = other.mode;
+    }
+
+    /// Nothing reaches the side from now on.
+    pub fn die(&mut self)
+        ensures { self.new ≡ record { program = self.old.program; live = None } }
+    {
+        self.mode = None;
+    }
+
+    /// The program of the side.
+    pub fn program(&self) -> &'a Program
+        ensures { result.now ≡ self.now.program }
+    {
+        self.holding.program()
+    }
+
+    /// Whether something reaches the side.
+    pub fn is_live(&self) -> bool
+        ensures { result ≡ spec.is_live (spec.side_label self.now) }
+    {
+        self.mode.is_some()
+    }
+
+    /// What is known of the ring, unless nothing reaches the side.
+    pub fn mode(&self) -> Option<Mode>
+        ensures { result ≡ spec.mode_in self.now.live }
+    {
+        self.mode
+    }
+
+    /// Goes over a line. A dead side meets every premise and stays dead.
+    pub fn follow(&mut self, rule: Rule) -> Result<(), Cause>
+        requires { one.MayFollow self.old.program rule (spec.side_label self.old) }
+        ensures { spec.GivesSide self.old self.new result (rules.asks (spec.side_label self.old) (λ bag m. one.rule_premises self.old.program rule bag m)) (rules.goes (spec.side_label self.old) (λ bag m. one.rule_effect self.old.program rule bag m)) }
+    {
+        let Some(mode) = self.mode else {
+            return Ok(());
+        };
+        self.mode = follow(&mut self.holding, mode, rule)?;
+        Ok(())
+    }
+
+    /// Whether a loop's items are held on this side, the zero one or the other; the cause says whether at the loop's
+    /// top or at its end.
+    pub fn may_loop(&self, items: &Items, zero: bool, cause: Cause) -> Result<(), Cause>
+        ensures { Tests result (rules.asks (spec.side_label self.now) (λ bag m. rules.may_loop self.now.program (premise_number cause) (view_items items.now) zero bag m)) }
+    {
+        let Some(mode) = self.mode else {
+            return Ok(());
+        };
+        blocks::may_loop(&self.holding, items, zero, mode, cause)
+    }
+
+    /// What holds on this side at the top of a loop that is entered with this known of the ring.
+    pub fn enter(&mut self, items: &Items, zero: bool, mode: Mode)
+        requires { IsList self.old.program (view_items items.now) }
+        ensures label { IsSame (spec.side_label self.new) (Live (bag_on zero (view_items items.now)) (rules.top_mode self.old.program (view_items items.now) mode)) }
+        ensures of { self.new.program ≡ self.old.program }
+    {
+        self.mode = Some(blocks::top_mode(self.holding.program(), items, mode));
+        self.holding.hold_on(items, zero);
+    }
+
+    /// What holds on this side at the top of a loop that it enters, where something reaches it.
+    pub fn keep(&mut self, items: &Items, zero: bool)
+        requires { IsList self.old.program (view_items items.now) }
+        ensures label { IsSame (spec.side_label self.new) (rules.top self.old.program (view_items items.now) zero (spec.side_label self.old)) }
+        ensures of { self.new.program ≡ self.old.program }
+    {
+        if let Some(mode) = self.mode {
+            self.enter(items, zero, mode);
+        }
+    }
+
+    /// What holds where this side and another join, both of one program. Unless one is dead, both are locked with their
+    /// slots at one stage, or both are not.
+    pub fn meet(&mut self, other: &Side<'a>)
+        requires of { other.now.program ≡ self.old.program }
+        requires lock { spec.AgreeOnLock (spec.side_label self.old) (spec.side_label other.now) }
+        requires slot { rules.agree (spec.side_label self.old) (spec.side_label other.now) ≡ true }
+        ensures strongest { IsStrongest (spec.side_label self.new) (spec.side_label self.old ∷ spec.side_label other.now ∷ []) }
+        ensures of { self.new.program ≡ self.old.program }
+    {
+        let Some(theirs) = other.mode else {
+            return;
+        };
+        let Some(mine) = self.mode else {
+            self.copy_from(other);
+            return;
+        };
+        self.mode = Some(blocks::both(mine, theirs));
+        self.holding.meet(&other.holding);
+    }
+}
+
+#[cfg(test)]
+impl<'a> Side<'a> {
+    /// What is held, where something reaches the side.
+    pub fn held(&self) -> Option<&Holding<'a>> {
+        match self.mode {
+            Some(_) => Some(&self.holding),
+            None => None,
+        }
+    }
+}
