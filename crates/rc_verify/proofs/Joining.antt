@@ -7,10 +7,10 @@ use Rattle.rc_rules.specs.declared.mode.Peeked.TheVariants.{Unseen}
 use Rattle.rc_rules.specs.Causes.{premise_number}
 use Rattle.rc_rules.specs.Labels.{Label, Dead, Live, Weaker, IsStrongest}
 use Rattle.rc_rules.specs.Premises.{Premise, Meets, FailsFirst}
-use Rattle.rc_rules.specs.Rules.{agree, agree_all, asks, asks_both, joins_both, may_break, may_join, may_release, peek_at, peek_premises, released}
+use Rattle.rc_rules.specs.Rules.{agree, agree_all, asks, asks_both, joins_both, may_break, may_join, peek_at, peek_premises}
 use Rattle.rc_rules.specs.States.{State, Becomes, IsOfSame, IsUnlocked, label_of, program_of, AgreeOnLock, Gives}
 use Rattle.rc_rules.proofs.Growth.{agree_grows}
-use Rattle.rc_rules.proofs.Weaker.{meets_append, meets_left, meets_right, not_both, only_itself, weaker_refl}
+use Rattle.rc_rules.proofs.Weaker.{meets_left, meets_right, not_both, only_itself, weaker_refl}
 use Rattle.rc_verify.specs.declared.arms.Arms.{Arms}
 use Rattle.rc_verify.specs.Arms.{Joins, JoinsOn, two}
 use Rattle.rc_verify.specs.Kept.{last_of, rest_of}
@@ -72,20 +72,6 @@ forgets old new (Err c) k g =
       each = λ z. subst (λ (s : State). IsStrongest (label_of s z) (peek_at Unseen (label_of old z) ∷ [])) (sym g.1) (elim z as (λ y. IsStrongest (label_of old y) (peek_at Unseen (label_of old y) ∷ [])) [ true ↦ not_peeked (label_of old true) u.0 | false ↦ not_peeked (label_of old false) u.1 ]);
       of = same_state new old g.1;
     }
-
--- ---- a release behind a break's test
-
-may_too : (P : Program) (s : Label) → Meets (asks s (λ bag m. may_break P true m)) → Meets (asks s (λ bag m. may_release P m))
-may_too P Dead h = tt
-may_too P (Live b Unlocked) h = tt
-may_too P (Live b (Locked i)) h = h
-
-pub releases : {X : Type 0} (old new : State) (x : Result X Cause) → Meets (asks_both (label_of old) (λ z bag m. may_break (program_of old) true m)) → Gives old new x (asks_both (label_of old) (λ z bag m. may_release (program_of old) m)) (λ z. released (label_of old z) ∷ []) → Becomes old new (λ z. released (label_of old z) ∷ [])
-releases old new (Ok x) h g = g.1
-releases old new (Err c) h g =
-    let each = each_meets (label_of old) (λ s. asks s (λ bag m. may_break (program_of old) true m)) h in
-    let met = meets_append _ _ (may_too (program_of old) (label_of old true) (each true)) (may_too (program_of old) (label_of old false) (each false)) in
-    absurd (not_both (premise_number c) _ met g.0)
 
 -- ---- two that join
 
