@@ -27,7 +27,8 @@ use Rattle.rc_rules.specs.declared.mode.Peeked.TheVariants.{Unseen, Sees, SeesOt
 use Rattle.rc_rules.specs.declared.mode.Slot.TheVariants.{Closed}
 use Rattle.rc_rules.specs.Labels.{Label, Dead, Live, Weaker, WeakerThanEach}
 use Rattle.rc_rules.specs.Labellings.{IsGood, IsGoodAt, here, label_at, skipped}
-use Rattle.rc_rules.specs.Sides.{Anything, Sides, brings, forgets, may_skip, nowhere, on, test_goes, turns, write_of, write_to}
+use Rattle.rc_rules.specs.declared.flag.Write.TheVariants.{Anything}
+use Rattle.rc_rules.specs.Sides.{Sides, brings, forgets, may_skip, nowhere, on, test_goes, turns, write_of, write_to}
 use Rattle.rc_rules.specs.Premises.{Meets, Premise}
 use Rattle.rc_rules.specs.Rules.{asks, asks_both, broken, case_at, goes, may_break, may_loop, may_release, op_effect, op_premises, peek_at, peek_premises, test_effect, test_mode, test_premises, top_mode, with_peeked}
 use Rattle.rc_rules.specs.States.{is_locked}

@@ -14,7 +14,9 @@ use Rattle.rc_lang.specs.declared.lines.Test.{Test}
 use Rattle.rc_lang.specs.declared.lines.Test.TheVariants.{Compare, ReadyZero, SpaceAtLeast}
 use Rattle.rc_rules.specs.Labels.{Label, Weaker, WeakerThanEach}
 use Rattle.rc_rules.specs.Premises.{Meets, Premise}
-use Rattle.rc_rules.specs.Sides.{Anything, Number, Untouched, Write, brings, forgets, gate, is_exact, same_side, side_goes, test_goes, turns, write_of, write_to}
+use Rattle.rc_rules.specs.declared.flag.Write.{Write}
+use Rattle.rc_rules.specs.declared.flag.Write.TheVariants.{Anything, Number, Untouched}
+use Rattle.rc_rules.specs.Sides.{brings, forgets, gate, is_exact, same_side, side_goes, test_goes, turns, write_of, write_to}
 use Rattle.rc_admit.proofs.Owned.{MayBecome, MayPass}
 
 -- the side of a thread that has these variables; without a flag there is one alone

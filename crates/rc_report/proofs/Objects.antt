@@ -3,7 +3,7 @@ use Rattle.std.proofs.Common.{◌≡◌, ℕ, List, ◌++◌, codes, decimal, fa
 use Rattle.json.specs.Print.{escape, escape_byte}
 use Rattle.serde_json.specs.Written.{compact_text, has_float}
 use Rattle.rc_read.specs.declared.fault.ReadCause.{ReadCause}
-use Rattle.rc_read.specs.declared.fault.ReadCause.TheVariants.{NotAscii, BadHead, BadLine, BadNumber, UnknownName, DoubleName, Braces, TooLarge, BadNesting, BadCase}
+use Rattle.rc_read.specs.declared.fault.ReadCause.TheVariants.{NotAscii, BadHead, BadLine, BadNumber, UnknownName, DoubleName, Braces, TooLarge, BadNesting, BadCase, OtherFlag}
 use Rattle.rc_read.specs.Causes.{name_of_cause, number_of_cause}
 use Rattle.rc_rules.specs.declared.cause.Cause.{Cause}
 use Rattle.rc_rules.specs.declared.cause.Cause.TheVariants.{Unlocked, NoCredit, QueueFull, SlotOpen, NoSlot, WrongKind, NotWhole, NoShare, OutOfBuffer, NoToken, NoEntry, QueueLeft, LoopEntry, LoopBody, JoinMismatch, OverShares, TokenTwice, OverCredits}
@@ -26,6 +26,7 @@ plain_cause Braces = refl
 plain_cause TooLarge = refl
 plain_cause BadNesting = refl
 plain_cause BadCase = refl
+plain_cause OtherFlag = refl
 
 plain_refusal : (cause : Cause) → escape (name_of cause) ≡ name_of cause
 unfolding escape_byte
