@@ -246,6 +246,7 @@ module _ (P : Program) (wf : IsProgram P) (i : ℕ) (thread : Thread) (labels : 
               (comes (If test) (λ bag n. test_effect P bag n test) (label_at labels (k + 1) side) e (ungate (test_goes flag test side true) (label_at labels (k + 1) side) _ (test_may flag test vars true may) (g.after side).0)),
           λ may. false_edge test e may,
         )
+
     -- an else that is reached from above
     else_edge : (o : ℕ) → stmt_at lines k ≡ Some (Else o) → EdgeAt P (Labelled P) i b m vars k (Some (Else o))
     else_edge o e =
