@@ -9,10 +9,10 @@ use Rattle.rc_lang.specs.declared.lines.Line.{Line}
 use Rattle.rc_lang.specs.declared.lines.Op.{Op}
 use Rattle.rc_lang.specs.declared.lines.Op.TheVariants.{Load, Store, Fill, GetSqe, PrepRead, PrepWrite, PrepFsync, PrepNop, SetData64, Submit, SubmitAndWait, CqeSeen}
 use Rattle.rc_lang.specs.declared.lines.Stmt.{Stmt}
-use Rattle.rc_lang.specs.declared.lines.Stmt.TheVariants.{Do, EndLock, If, Peek, Break}
-use Rattle.rc_lang.specs.declared.lines.Test.TheVariants.{Compare, ReadyZero, SpaceAtLeast}
+use Rattle.rc_lang.specs.declared.lines.Stmt.TheVariants.{Do, Put, EndLock, If, Peek, Break}
+use Rattle.rc_lang.specs.declared.lines.Test.TheVariants.{Compare, ReadyZero, SpaceAtLeast, Take}
 use Rattle.rc_lang.specs.declared.request.Request.{Request}
-use Rattle.rc_lang.specs.Program.{IsProgram, IsResolved, Program, Thread, bytes_at, lines_in, lines_of, shares_at, stmt_at, stmt_of}
+use Rattle.rc_lang.specs.Program.{IsProgram, IsResolved, Items, Program, Thread, bytes_at, items_at, lines_in, lines_of, lists_of, shares_at, stmt_at, stmt_of}
 use Rattle.rc_rules.specs.declared.mode.Inside.{Inside}
 use Rattle.rc_rules.specs.declared.mode.Mode.{Mode}
 use Rattle.rc_rules.specs.declared.mode.Mode.TheVariants.{Locked}
@@ -20,16 +20,17 @@ use Rattle.rc_rules.specs.declared.mode.Peeked.{Peeked}
 use Rattle.rc_rules.specs.declared.mode.Peeked.TheVariants.{Unseen, Sees, SeesOther}
 use Rattle.rc_rules.specs.declared.mode.Slot.TheVariants.{Closed, Vacant}
 use Rattle.rc_rules.specs.Premises.{Meets}
-use Rattle.rc_rules.specs.Rules.{is_seen, kind_of, limit, may_release, op_premises, owned, same_slot}
+use Rattle.rc_rules.specs.Rules.{is_seen, kind_of, limit, may_release, op_premises, owned, put_premises, same_slot}
 use Rattle.rc_rules.specs.States.{is_locked}
 use Rattle.rc_rules.proofs.Weaker.{same_slot_is}
-use Rattle.rc_split.specs.Bags.{Part, ShareOf, TokenOf, Credit}
+use Rattle.rc_split.specs.Bags.{Part, ShareOf, TokenOf, Credit, bag_of}
+use Rattle.rc_split.specs.Pools.{pooled}
 use Rattle.rc_world.specs.declared.event.Completion.{Completion}
 use Rattle.rc_world.specs.declared.fault.FaultKind.{FaultKind}
-use Rattle.rc_world.specs.declared.fault.FaultKind.TheVariants.{WriteOfPending, ReadOfFilling, KernelClash, ThreadRace, RingFull, Overflow, AmbiguousData, UnknownReap, NoLock, RawEntry, OutOfBuffer}
+use Rattle.rc_world.specs.declared.fault.FaultKind.TheVariants.{WriteOfPending, ReadOfFilling, KernelClash, ThreadRace, RingFull, Overflow, AmbiguousData, UnknownReap, NoLock, RawEntry, OutOfBuffer, DoublePut}
 use Rattle.rc_world.specs.declared.world.Slot.TheVariants as entries
 use Rattle.rc_world.specs.Controls.{Standing, next_at, next_line}
-use Rattle.rc_world.specs.Faults.{Access, access_at, access_by, access_of, clashes, conflicts, count_of, fault_of, front_is_one, has_data, has_fault, is_closed, is_filling, is_full_at, is_holder, is_in_flight, is_named, is_ambiguous_at, is_out_at, is_prepared, is_raw_at, is_ring_call, is_ring_op, is_unknown_at, is_vacant, names, op_is_out, op_is_raw, overflows, races_from, reads_filling, reads_into, writes_pending}
+use Rattle.rc_world.specs.Faults.{Access, access_at, access_by, access_of, clashes, conflicts, count_of, fault_of, front_is_one, has_data, has_fault, is_closed, is_filling, is_full_at, is_holder, is_in_flight, is_named, is_ambiguous_at, is_double_at, is_out_at, is_prepared, is_raw_at, is_ring_call, is_ring_op, is_unknown_at, is_vacant, names, op_is_out, op_is_raw, overflows, races_from, reads_filling, reads_into, writes_pending}
 use Rattle.rc_world.specs.Machine.{Pending, World, is_read, slot_len, used_entries}
 use Rattle.rc_world.proofs.Lists.{found}
 use Rattle.rc_admit.proofs.Flight.{data_in, front_is}
@@ -37,6 +38,7 @@ use Rattle.rc_admit.proofs.Lists.{sum_to, sum_to_one, sum_to_two, sum_over, sum_
 use Rattle.rc_admit.proofs.Moves.{fits_parts}
 use Rattle.rc_admit.proofs.Ops.{slot_closed, slot_vacant, slot_prepared}
 use Rattle.rc_admit.proofs.Owned.{Stand, EdgeAt, HasEdge, owns, owns_pending, unheld, SlotFits, StartsWith, IsNonempty, FrontFits, Fits, held, HasKind, HasKindPending, Owned, WellOwned}
+use Rattle.rc_admit.proofs.Pool.{room_in_pool}
 use Rattle.rc_admit.proofs.Rule.{InRing, asks_lock, in_ring, inside_of, met, prepared_as}
 use Rattle.rc_admit.proofs.Shares.{buffer_shared, credits_owned, data_owned, data_pending, fills_all, names_one, no_clash}
 use Rattle.rc_admit.proofs.Steps.{breaks_as_released, token_owned}
@@ -98,7 +100,7 @@ module _ (w : World) (made : IsProgram w.program) (S : Stand) (edge : HasEdge w.
   within : (i : ℕ) (s : Stmt) → Next w i s → i < length w.controls.threads
   within i s n = slice_get_within w.controls.threads i n.thread n.stands
 
-  -- one thread and the requests in flight
+  -- one thread, and what no thread holds
   one_and_flight : (p : Part) (i : ℕ) → i < length w.controls.threads → bags i p + unheld P w p ≤ limit P p
   one_and_flight p i lt =
       let f : ℕ → ℕ = λ j. held P (bags j) (modes j) p in
@@ -257,7 +259,9 @@ module _ (w : World) (made : IsProgram w.program) (S : Stand) (edge : HasEdge w.
   call_locked i (Peek x) vars k h r = lock_held i (asks_lock (modes i) _ h.0)
   call_locked i (If ReadyZero) vars k h r = lock_held i (asks_lock (modes i) _ h.0)
   call_locked i (If (SpaceAtLeast n)) vars k h r = lock_held i (asks_lock (modes i) _ h.0)
+  call_locked i (If (Take n)) vars k h r = lock_held i (asks_lock (modes i) _ h.0)
   call_locked i (If (Compare x c n)) vars k h r = absurd (cc)
+  call_locked i (Put n) vars k h r = lock_held i (asks_lock (modes i) _ h.0)
   call_locked i _ vars k h r = absurd (cc)
 
   no_lock_missing : (i : ℕ) (s : Stmt) (vars : List ℤ) (k : ℕ) → EdgeAt P S i (bags i) (modes i) vars k (Some s) → (is_ring_call s && not (is_holder w.controls.holder i)) ≡ false
@@ -351,6 +355,20 @@ module _ (w : World) (made : IsProgram w.program) (S : Stand) (edge : HasEdge w.
   no_out_of_buffer i (Do op) vars k h = op_within i op h.0
   no_out_of_buffer i _ vars k h = refl
 
+  -- ---- the pool
+
+  -- What a thread holds isn't in the pool.
+  room_for_put : (i : ℕ) (items : Items) → i < length w.controls.threads → Meets (put_premises (bags i) (modes i) items) → (p : Part) → pooled P w.controls.pool p + bag_of items p ≤ limit P p
+  room_for_put i items lt h p =
+      let s = inside_of (modes i) (asks_lock (modes i) _ h) in
+      let mine : bag_of items p ≤ bags i p = (subst (λ m. Meets (put_premises (bags i) m items)) s.1 h).0 p in
+      let all : bags i p + unheld P w p ≤ limit P p = one_and_flight p i lt in
+      omega arith
+
+  no_double_put : (i : ℕ) (s : Stmt) (vars : List ℤ) (k : ℕ) → i < length w.controls.threads → EdgeAt P S i (bags i) (modes i) vars k (Some s) → is_double_at w i s ≡ false
+  no_double_put i (Put n) vars k lt h = room_in_pool P w.controls.pool (items_at (lists_of P i) n) (room_for_put i (items_at (lists_of P i) n) lt h.0)
+  no_double_put i _ vars k lt h = refl
+
   -- ---- all of them
 
   none_here : (kind : FaultKind) (i : ℕ) (s : Stmt) → Next w i s → has_fault w kind i s ≡ false
@@ -365,6 +383,7 @@ module _ (w : World) (made : IsProgram w.program) (S : Stand) (edge : HasEdge w.
   none_here NoLock i s n = no_lock_missing i s _ _ (edge_at i s n)
   none_here RawEntry i s n = and_right (is_holder w.controls.holder i) (is_raw_at w.slot s) (no_raw_entry i s _ _ (edge_at i s n))
   none_here OutOfBuffer i s n = no_out_of_buffer i s _ _ (edge_at i s n)
+  none_here DoublePut i s n = and_right (is_holder w.controls.holder i) (is_double_at w i s) (no_double_put i s _ _ (within i s n) (edge_at i s n))
 
   pub own_no_fault : fault_of w ≡ None
   own_no_fault = without_fault w no_kernel_clash (no_overflow w.pending refl) (λ kind j l e. none_here kind j l.stmt (next_is w j l e))

@@ -9,10 +9,10 @@ use Rattle.rc_lang.specs.declared.lines.Block.TheVariants.{InLock, InIf, InElse,
 use Rattle.rc_lang.specs.declared.lines.Line.{Line}
 use Rattle.rc_lang.specs.declared.lines.Op.{Op}
 use Rattle.rc_lang.specs.declared.lines.Stmt.{Stmt}
-use Rattle.rc_lang.specs.declared.lines.Stmt.TheVariants.{Do, Lock, EndLock, If, Else, EndIf, Peek, Case, Other, Nothing, EndArm, EndPeek, Loop, EndLoop, Break}
+use Rattle.rc_lang.specs.declared.lines.Stmt.TheVariants.{Do, Put, Lock, EndLock, If, Else, EndIf, Peek, Case, Other, Nothing, EndArm, EndPeek, Loop, EndLoop, Break}
 use Rattle.rc_lang.specs.declared.lines.Test.{Test}
 use Rattle.rc_lang.specs.Nesting.{blocks_at, in_lock, in_peek}
-use Rattle.rc_lang.specs.Program.{HasArms, IsProgram, Program, Thread, end_at, ends_in, items_at, lines_of, stmt_at, stmt_of}
+use Rattle.rc_lang.specs.Program.{HasArms, IsProgram, Items, Program, Thread, end_at, ends_in, items_at, lines_of, lists_of, stmt_at, stmt_of}
 use Rattle.rc_lang.proofs.Along.{same_lock}
 use Rattle.rc_lang.proofs.Closing.{closes_arm, closes_if, closes_lock, closes_loop, leaves_loop, turns as turns_here}
 use Rattle.rc_lang.proofs.Fitting.{peek_found, placed_at}
@@ -30,13 +30,13 @@ use Rattle.rc_rules.specs.Labellings.{IsGood, IsGoodAt, here, label_at, skipped}
 use Rattle.rc_rules.specs.declared.flag.Write.TheVariants.{Anything}
 use Rattle.rc_rules.specs.Sides.{Sides, brings, forgets, may_skip, nowhere, on, test_goes, turns, write_of, write_to}
 use Rattle.rc_rules.specs.Premises.{Meets, Premise}
-use Rattle.rc_rules.specs.Rules.{asks, asks_both, broken, case_at, goes, may_break, may_loop, may_release, op_effect, op_premises, peek_at, peek_premises, test_effect, test_mode, test_premises, top_mode, with_peeked}
+use Rattle.rc_rules.specs.Rules.{asks, asks_both, broken, case_at, goes, may_break, may_loop, may_release, op_effect, op_premises, peek_at, peek_premises, put_effect, put_premises, test_effect, test_premises, top_mode, with_peeked}
 use Rattle.rc_rules.specs.States.{is_locked}
-use Rattle.rc_rules.proofs.Weaker.{locked_same, peeked_grows, peeked_locked, test_locked, weaker_trans}
-use Rattle.rc_split.specs.Bags.{Part, TokenOf, bag_on}
+use Rattle.rc_rules.proofs.Weaker.{locked_same, peeked_grows, peeked_locked, weaker_trans}
+use Rattle.rc_split.specs.Bags.{Part, TokenOf, bag_of, bag_on, minus}
 use Rattle.rc_world.specs.Controls.{arm_for, none_arm}
 use Rattle.rc_admit.proofs.FlatLooks.{arm_in, arm_is, break_in, get_take, len_take, none_is_at}
-use Rattle.rc_admit.proofs.FlatRules.{IsBelow, behind_break, behind_op, below, covered, for_each, top_same, unlocked_of}
+use Rattle.rc_admit.proofs.FlatRules.{IsBelow, behind_break, behind_op, behind_test, below, covered, for_each, top_same, unlocked_of, where_known}
 use Rattle.rc_admit.proofs.Lists.{Each, Each-append}
 use Rattle.rc_admit.proofs.Owned.{EdgeAt, HasEdge, Leads, MayBecome, MayPass, Stand}
 use Rattle.rc_admit.proofs.Rule.{AtLive, asks_lock}
@@ -67,7 +67,7 @@ pub record At (flag : Option ℕ) (lines : List Line) (labels : List Sides) (b :
 
 -- with the labels of some labelling that obeys the rules
 abbrev pub Labelled : Program → Stand
-Labelled P i b m vars k = (thread : Thread) × (labels : List Sides) × IsGood P thread (lines_of P i) labels × At thread.flag (lines_of P i) labels b m vars k
+Labelled P i b m vars k = (thread : Thread) × (labels : List Sides) × (lists_of P i ≡ thread.lists) × IsGood P thread (lines_of P i) labels × At thread.flag (lines_of P i) labels b m vars k
 
 -- ---- lists
 
@@ -85,7 +85,7 @@ or_first false b e = absurd (cc)
 
 -- ---- the edges
 
-module _ (P : Program) (wf : IsProgram P) (i : ℕ) (thread : Thread) (labels : List Sides) (good : IsGood P thread (lines_of P i) labels) where
+module _ (P : Program) (wf : IsProgram P) (i : ℕ) (thread : Thread) (labels : List Sides) (lists_are : lists_of P i ≡ thread.lists) (good : IsGood P thread (lines_of P i) labels) where
   abbrev flag : Option ℕ
   flag = thread.flag
 
@@ -131,6 +131,7 @@ module _ (P : Program) (wf : IsProgram P) (i : ℕ) (thread : Thread) (labels : 
         stands = (
           thread,
           labels,
+          lists_are,
           good,
           record {
             label = s.is;
@@ -207,6 +208,14 @@ module _ (P : Program) (wf : IsProgram P) (i : ℕ) (thread : Thread) (labels : 
             let w = comes_by (Do op) (λ y. turns (write_of flag op) y (side_of flag new)) (λ bag m. op_effect P bag m op) (label_at labels (k + 1) (side_of flag new)) e h.turns_to (g.after (side_of flag new)) in
             behind_op P wf b m op (λ c n. Leads (Labelled P) i c n new (k + 1)) (label_at labels (k + 1) (side_of flag new)) w (λ c n l w. same c n new (k + 1) (blocks_next lines k (Do op) e) l h.stored w)
 
+    -- what is put is not held behind the line
+    put_edge : (n : ℕ) → stmt_at lines k ≡ Some (Put n) → EdgeAt P (Labelled P) i b m vars k (Some (Put n))
+    put_edge n e =
+        let g = good_at k (Put n) e in
+        let items : Items = items_at thread.lists n in
+        subst (λ lists. Meets (put_premises b m (items_at lists n)) × Leads (Labelled P) i (minus b (bag_of (items_at lists n))) m vars (k + 1)) (sym lists_are)
+        (asked (Put n) (λ z bag m. put_premises bag m items) e g.meets, same (minus b (bag_of items)) m vars (k + 1) (blocks_next lines k (Put n) e) refl a.stored (comes (Put n) (λ bag m. put_effect bag m items) (label_at labels (k + 1) side) e (g.after side).0))
+
     lock_edge : stmt_at lines k ≡ Some Lock → EdgeAt P (Labelled P) i b m vars k (Some Lock)
     lock_edge e =
         let inside : Mode = Locked (record { queued = P.left; slot = Closed; peeked = Unseen }) in
@@ -242,8 +251,10 @@ module _ (P : Program) (wf : IsProgram P) (i : ℕ) (thread : Thread) (labels : 
     if_edge test e =
         let g = good_at k (If test) e in (
           asked (If test) (λ z bag n. test_premises n test) e g.meets,
-          λ may. into b (test_mode P test m) vars (k + 1) (InIf k ∷ []) (blocks_next lines k (If test) e) refl a.stored (tt, tt) (test_locked P test m)
-              (comes (If test) (λ bag n. test_effect P bag n test) (label_at labels (k + 1) side) e (ungate (test_goes flag test side true) (label_at labels (k + 1) side) _ (test_may flag test vars true may) (g.after side).0)),
+          where_known (test_effect P (lists_of P i) b m test) (MayPass test vars true) (λ c n. Leads (Labelled P) i c n vars (k + 1)) (λ may.
+              let w = comes (If test) (λ bag n. test_effect P thread.lists bag n test) (label_at labels (k + 1) side) e (ungate (test_goes flag test side true) (label_at labels (k + 1) side) _ (test_may flag test vars true may) (g.after side).0) in
+              behind_test P (lists_of P i) b m test (λ c n. Leads (Labelled P) i c n vars (k + 1)) (label_at labels (k + 1) side) (subst (λ lists. Weaker (label_at labels (k + 1) side) (test_effect P lists b m test)) (sym lists_are) w)
+              (λ c n l v. into c n vars (k + 1) (InIf k ∷ []) (blocks_next lines k (If test) e) refl a.stored (tt, tt) l v)),
           λ may. false_edge test e may,
         )
 
@@ -368,6 +379,7 @@ module _ (P : Program) (wf : IsProgram P) (i : ℕ) (thread : Thread) (labels : 
 
     pub edge_at : (x : Option Stmt) → stmt_at lines k ≡ x → EdgeAt P (Labelled P) i b m vars k x
     edge_at (Some (Do op)) e = do_edge op e
+    edge_at (Some (Put n)) e = put_edge n e
     edge_at (Some Lock) e = lock_edge e
     edge_at (Some (EndLock o)) e = unlock_edge o e
     edge_at (Some (If test)) e = if_edge test e
@@ -382,4 +394,4 @@ module _ (P : Program) (wf : IsProgram P) (i : ℕ) (thread : Thread) (labels : 
 
 -- The labels of a labelling that obeys the rules have the edge law.
 pub labelled_edge : (P : Program) → IsProgram P → HasEdge P (Labelled P)
-labelled_edge P wf i b m vars k h = edge_at P wf i h.0 h.1 h.2 b m vars k h.3 (stmt_at (lines_of P i) k) refl
+labelled_edge P wf i b m vars k h = edge_at P wf i h.0 h.1 h.2 h.3 b m vars k h.4 (stmt_at (lines_of P i) k) refl

@@ -1,20 +1,22 @@
 -- What passes from a label to a weaker one, and through the rules of lines.
-use Rattle.std.proofs.Common.{◌≡◌, ℕ, Bool, true, false, cond, refl, sym, inr, arith}
+use Rattle.std.proofs.Common.{◌≡◌, ℕ, Bool, true, false, cond, List, refl, sym, inr}
 use Rattle.std.specs.Prelude.{nat_le}
 use Rattle.std.proofs.lemmas.Bool.{and_parts, leb-true}
 use Rattle.rc_lang.specs.declared.lines.Op.{Op}
-use Rattle.rc_lang.specs.Program.{IsProgram, Items, Program}
+use Rattle.rc_lang.specs.declared.lines.Test.{Test}
+use Rattle.rc_lang.specs.declared.lines.Test.TheVariants.{Compare, ReadyZero, SpaceAtLeast, Take}
+use Rattle.rc_lang.specs.Program.{IsProgram, Items, Program, items_at}
 use Rattle.rc_rules.specs.declared.mode.Mode.{Mode}
 use Rattle.rc_rules.specs.declared.mode.Mode.TheVariants.{Unlocked, Locked}
 use Rattle.rc_rules.specs.declared.mode.Peeked.TheVariants.{Unseen}
 use Rattle.rc_rules.specs.declared.mode.Slot.TheVariants.{Closed}
 use Rattle.rc_rules.specs.Labels.{Label, Dead, Live, Weaker, WeakerMode}
 use Rattle.rc_rules.specs.Premises.{Meets}
-use Rattle.rc_rules.specs.Rules.{broken, keeps_queue, may_loop, op_effect, queue_on, same_slot, top_mode, with_peeked}
+use Rattle.rc_rules.specs.Rules.{broken, can_take, keeps_queue, may_loop, op_effect, queue_on, same_slot, test_effect, test_mode, top_mode, with_peeked}
 use Rattle.rc_rules.specs.States.{is_locked}
 use Rattle.rc_rules.proofs.Lines.{effect_by}
-use Rattle.rc_rules.proofs.Weaker.{peeked_locked, same_slot_is}
-use Rattle.rc_split.specs.Bags.{Part, IsWithin, bag_on}
+use Rattle.rc_rules.proofs.Weaker.{peeked_locked, same_slot_is, test_locked}
+use Rattle.rc_split.specs.Bags.{Part, IsWithin, bag_of, bag_on, plus}
 use Rattle.rc_admit.proofs.Rule.{AtLive, Claim}
 
 -- A label that says no more than a live one is live.
@@ -44,6 +46,21 @@ for_each (Live b m) K f = f
 
 pub behind_op : (P : Program) → IsProgram P → (b : Part → ℕ) (m : Mode) (op : Op) (K : Claim) (t : Label) → Weaker t (op_effect P b m op) → ((c : Part → ℕ) (n : Mode) → is_locked n ≡ is_locked m → Weaker t (Live c n) → K c n) → AtLive (op_effect P b m op) K
 behind_op P made b m op K t w f = effect_by P b m op made (λ s. Weaker t s → AtLive s K) (λ v. tt) (λ c n l few v. f c n l v) w
+
+-- where something is known of the way
+pub where_known : (l : Label) (X : Type 0) (K : Claim) → (X → AtLive l K) → AtLive l (λ c n. X → K c n)
+where_known Dead X K f = tt
+where_known (Live b m) X K f = f
+
+pub behind_test : (P : Program) (lists : List Items) (b : Part → ℕ) (m : Mode) (test : Test) (K : Claim) (t : Label) → Weaker t (test_effect P lists b m test) → ((c : Part → ℕ) (n : Mode) → is_locked n ≡ is_locked m → Weaker t (Live c n) → K c n) → AtLive (test_effect P lists b m test) K
+behind_test P lists b m (Take k) K t w f = go (can_take P b m (items_at lists k)) w
+  where
+    go : (y : Bool) → Weaker t (cond y (Live (plus b (bag_of (items_at lists k))) m) Dead) → AtLive (cond y (Live (plus b (bag_of (items_at lists k))) m) Dead) K
+    go false w = tt
+    go true w = f (plus b (bag_of (items_at lists k))) m refl w
+behind_test P lists b m (Compare x c n) K t w f = f b m refl w
+behind_test P lists b m ReadyZero K t w f = f b (test_mode P ReadyZero m) (test_locked P ReadyZero m) w
+behind_test P lists b m (SpaceAtLeast n) K t w f = f b (test_mode P (SpaceAtLeast n) m) (test_locked P (SpaceAtLeast n) m) w
 
 pub behind_break : (b : Part → ℕ) (m : Mode) (releases : Bool) (K : Claim) (t : Label) → Weaker t (broken releases (Live b m)) → ((n : Mode) → is_locked n ≡ cond releases false (is_locked m) → Weaker t (Live b n) → K b n) → AtLive (broken releases (Live b m)) K
 behind_break b m true K t w f = f Unlocked refl w

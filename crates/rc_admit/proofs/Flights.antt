@@ -1,6 +1,6 @@
 -- In each world of a run no two requests in flight have the same user data, and the completions are those of the
 -- completed requests.
-use Rattle.std.proofs.Common.{◌≡◌, ℕ, ◌+◌, ◌≤◌, Bool, true, false, ◌||◌, List, [], ◌∷◌, ◌++◌, length, map, take, drop, Option, Some, None, refl, sym, ap, ◌∙◌, subst, inl, inr, arith}
+use Rattle.std.proofs.Common.{◌≡◌, ℕ, ◌+◌, ◌≤◌, Bool, true, false, ◌||◌, List, [], ◌∷◌, ◌++◌, map, take, drop, Option, Some, None, refl, sym, ap, ◌∙◌, subst, inl, inr, arith}
 use Rattle.std.proofs.lemmas.Bool.{eqb-true, or_parts}
 use Rattle.std.specs.List.{list_any}
 use Rattle.std.specs.Prelude.{nat_eq, slice_get, ℤ, if◌then◌else◌}
@@ -14,9 +14,9 @@ use Rattle.rc_world.specs.declared.event.Completion.{Completion}
 use Rattle.rc_world.specs.declared.event.Event.{Event}
 use Rattle.rc_world.specs.Controls.{Controls, Standing, controls_step, next_line}
 use Rattle.rc_world.specs.Faults.{count_of, fault_of, has_data, is_in_flight}
-use Rattle.rc_world.specs.Machine.{Pending, World, completes, hands_over, in_rings, start_world, stmt_answer, thread_step, thread_step_at, with_controls, kernel_step, without_data}
+use Rattle.rc_world.specs.Machine.{Pending, World, hands_over, in_rings, start_world, stmt_answer, thread_step, thread_step_at, with_controls, kernel_step, without_data}
 use Rattle.rc_world.specs.Runs.{IsRun}
-use Rattle.rc_admit.specs.Worlds.{DataIsOne, in_flight_with}
+use Rattle.rc_admit.specs.Worlds.{DataIsOne}
 use Rattle.rc_world.proofs.Cases.{OnSome, in_rings_by}
 use Rattle.rc_admit.proofs.Flight.{agree_more, begun, completed_sum, data_in, data_of, front_is, in_flight, of_pending, taken_sum}
 use Rattle.rc_admit.proofs.Kernel.{AfterStep, kernel_after}

@@ -3,7 +3,7 @@ use Rattle.std.proofs.Common.{◌≡◌, ℕ, ◌+◌, ◌≤◌, Bool, true, fa
 use Rattle.std.specs.Prelude.{nat_eq, slice_get, ℤ, if◌then◌else◌}
 use Rattle.rc_lang.specs.declared.lines.Line.{Line}
 use Rattle.rc_lang.specs.declared.request.Request.{Request}
-use Rattle.rc_lang.specs.Program.{Program, lines_of, stmt_of}
+use Rattle.rc_lang.specs.Program.{IsProgram, Program, lines_of, stmt_of}
 use Rattle.rc_lang.specs.Requests.{may_complete}
 use Rattle.rc_rules.specs.declared.mode.Mode.{Mode}
 use Rattle.rc_rules.specs.declared.mode.Mode.TheVariants.{Unlocked, Locked}
@@ -89,18 +89,18 @@ event_keeps P S c i l None m h = tt
 event_keeps P S c i l (Some v) None h = tt
 event_keeps P S c i l (Some v) (Some m) h = h
 
-own_step : (S : Stand) (w : World) (i : ℕ) (r : ℤ) → HasEdge w.program S → WellOwned w.program S w → AfterStep (WellOwned w.program S) (thread_step w i r)
-own_step S w i r edge h = go (slice_get w.controls.threads i) refl (next_line w.program w.controls i) refl
+own_step : (S : Stand) (w : World) (i : ℕ) (r : ℤ) → IsProgram w.program → HasEdge w.program S → WellOwned w.program S w → AfterStep (WellOwned w.program S) (thread_step w i r)
+own_step S w i r made edge h = go (slice_get w.controls.threads i) refl (next_line w.program w.controls i) refl
   where
     go : (x : Option Standing) → slice_get w.controls.threads i ≡ x → (y : Option Line) → next_line w.program w.controls i ≡ y → AfterStep (WellOwned w.program S) (thread_step_at w i r x y)
     go None e y f = tt
     go (Some t) e None f = tt
     go (Some t) e (Some l) f =
         let at : stmt_of (slice_get (lines_of w.program i) t.place) ≡ Some l.stmt = ap stmt_of (ap (λ x. next_at w.program i x) (sym e) ∙ f) in
-        let line = line_keeps w.program S edge w h.0 h.1 i t r h.2 e l.stmt (subst (λ x. EdgeAt w.program S i (h.0 i) (h.1 i) t.variables t.place x) at (edge i (h.0 i) (h.1 i) t.variables t.place (h.2.stands i t e))) in
+        let line = line_keeps w.program made S edge w h.0 h.1 i t r h.2 e l.stmt (subst (λ x. EdgeAt w.program S i (h.0 i) (h.1 i) t.variables t.place x) at (edge i (h.0 i) (h.1 i) t.variables t.place (h.2.stands i t e))) in
         subst (λ x. AfterStep (WellOwned w.program S) (with_controls (in_rings w t r l.stmt) (acts_on w.program w.controls i (stmt_answer w r l.stmt) x (next_line w.program w.controls i)))) (sym e)
         (subst (λ y. AfterStep (WellOwned w.program S) (with_controls (in_rings w t r l.stmt) (acts_on w.program w.controls i (stmt_answer w r l.stmt) (Some t) y))) (sym f)
         (event_keeps w.program S w.controls i l (in_rings w t r l.stmt) (acts w.program w.controls i t l.stmt (stmt_answer w r l.stmt)) line))
 
-pub thread_keeps : (P : Program) (S : Stand) → HasEdge P S → (w : World) (i : ℕ) (r : ℤ) → WellOwned P S w → AfterStep (WellOwned P S) (thread_step w i r)
-thread_keeps P S edge w i r h = subst (λ Q. AfterStep (WellOwned Q S) (thread_step w i r)) h.2.of (own_step S w i r (subst (λ Q. HasEdge Q S) (sym h.2.of) edge) (subst (λ Q. WellOwned Q S w) (sym h.2.of) h))
+pub thread_keeps : (P : Program) → IsProgram P → (S : Stand) → HasEdge P S → (w : World) (i : ℕ) (r : ℤ) → WellOwned P S w → AfterStep (WellOwned P S) (thread_step w i r)
+thread_keeps P made S edge w i r h = subst (λ Q. AfterStep (WellOwned Q S) (thread_step w i r)) h.2.of (own_step S w i r (subst IsProgram (sym h.2.of) made) (subst (λ Q. HasEdge Q S) (sym h.2.of) edge) (subst (λ Q. WellOwned Q S w) (sym h.2.of) h))

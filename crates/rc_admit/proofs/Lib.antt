@@ -1,6 +1,7 @@
 pub mod Rule
 pub mod Lists
 pub mod Flight
+pub mod Pool
 pub mod Owned
 pub mod Moves
 pub mod Ops

@@ -22,14 +22,14 @@ use Rattle.rc_admit.proofs.Owned.{Stand, Leads, HasEdge, slot_bag, mode_bag, unh
 -- The world in which thread i went to this place, with these variables: it comes to rest, and at the end of an arm
 -- nothing is peeked any more.
 abbrev pub later : World → List Standing → Bool → World
-later w ts e = record w { controls = record { threads = ts; holder = w.controls.holder; peeked = cond e false w.controls.peeked } }
+later w ts e = record w { controls = record { threads = ts; holder = w.controls.holder; peeked = cond e false w.controls.peeked; pool = w.controls.pool } }
 
 abbrev pub put : Program → World → ℕ → ℕ → List ℤ → World
 put P w i k vars = later w (slice_set w.controls.threads i (record { place = rest_at P i k; variables = vars })) (passes_arm P i k)
 
 -- the world with another holder, and with another word on what is peeked
 abbrev pub with_lock : World → Option ℕ → Bool → World
-with_lock w holder peeked = record w { controls = record { threads = w.controls.threads; holder = holder; peeked = peeked } }
+with_lock w holder peeked = record w { controls = record { threads = w.controls.threads; holder = holder; peeked = peeked; pool = w.controls.pool } }
 
 abbrev pub upd : {A : Type 0} → (ℕ → A) → ℕ → A → ℕ → A
 upd f i x j = cond (nat_eq i j) x (f j)

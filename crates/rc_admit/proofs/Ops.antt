@@ -19,6 +19,7 @@ use Rattle.rc_rules.specs.Rules.{is_seen, kind_bag, kind_of, line_bag, op_effect
 use Rattle.rc_rules.specs.Premises.{Meets}
 use Rattle.rc_rules.proofs.Weaker.{same_slot_is}
 use Rattle.rc_split.specs.Bags.{Part, ShareOf, TokenOf, Credit, shares_bag, token_bag, credits_bag, minus, plus}
+use Rattle.rc_split.specs.Pools.{Pool, pooled}
 use Rattle.rc_world.specs.declared.controls.Answer.{Answer}
 use Rattle.rc_world.specs.declared.controls.Answer.TheVariants.{Byte}
 use Rattle.rc_world.specs.declared.event.Action.{Action}
@@ -79,6 +80,25 @@ quiet P S w bs bags modes i o = record {
   room = o.room;
   same = refl;
   local = λ p. omega arith;
+  free = o.free;
+  mine = o.each i;
+  others = λ k ne. o.each k;
+  queued = o.queued;
+  pending = o.pending;
+  completed = o.completed;
+  agree = o.agree;
+}
+
+abbrev pub with_pool : World → Pool → World
+with_pool w pool = record w { controls = record w.controls { pool = pool } }
+
+-- nothing but the pool, and what the thread holds: together they have no more than before
+pub pools : (P : Program) (S : Stand) (w : World) (pool : Pool) (bags : ℕ → Part → ℕ) (modes : ℕ → Mode) (i : ℕ) (b : Part → ℕ) → Owned P S w bags modes → ((p : Part) → b p + pooled P pool p ≤ bags i p + pooled P w.controls.pool p) → Moved P w (with_pool w pool) bags modes i b (modes i)
+pools P S w pool bags modes i b o local = record {
+  of = o.of;
+  room = o.room;
+  same = refl;
+  local = λ p. let h : b p + pooled P pool p ≤ bags i p + pooled P w.controls.pool p = local p in omega arith;
   free = o.free;
   mine = o.each i;
   others = λ k ne. o.each k;
@@ -215,7 +235,7 @@ nonempty_head : (cs : List Completion) → IsNonempty cs → (c : Completion) ×
 nonempty_head [] h = absurd h
 nonempty_head (c ∷ cs) h = (c, cs, refl)
 
-starts_head : (u : ℕ) (cs : List Completion) → StartsWith u cs → (c : Completion) × (ds : List Completion) × (cs ≡ c ∷ ds) × (c.user_data ≡ u)
+pub starts_head : (u : ℕ) (cs : List Completion) → StartsWith u cs → (c : Completion) × (ds : List Completion) × (cs ≡ c ∷ ds) × (c.user_data ≡ u)
 starts_head u [] h = absurd h
 starts_head u (c ∷ cs) h = (c, cs, refl, h)
 
@@ -280,16 +300,16 @@ module _ (P : Program) (S : Stand) (edge : HasEdge P S) (w : World) (bags : ℕ 
       goes _ t.variables _ _ (set_data P S w bags modes i o s e u x kind q k fit f c) l
 
   -- entries that are submitted
-  submit_keeps : (s : Inside) (x : ℕ) (action : Action) → modes i ≡ Locked s → Leads S i (bags i) (Locked s) (slice_set t.variables x r) (t.place + 1) → Keeps P S w.controls i (submits_by w r) (Some (record { action = action; holder = w.controls.holder; peeked = w.controls.peeked; place = t.place + 1; variables = slice_set t.variables x r }))
+  submit_keeps : (s : Inside) (x : ℕ) (action : Action) → modes i ≡ Locked s → Leads S i (bags i) (Locked s) (slice_set t.variables x r) (t.place + 1) → Keeps P S w.controls i (submits_by w r) (Some (record { action = action; holder = w.controls.holder; peeked = w.controls.peeked; pool = w.controls.pool; place = t.place + 1; variables = slice_set t.variables x r }))
   submit_keeps s x action e l = go (is_take w r)
     where
-      handed : WellOwned P S (record (hands_over w (count_in r)) { controls = moved P w.controls i (record { action = action; holder = w.controls.holder; peeked = w.controls.peeked; place = t.place + 1; variables = slice_set t.variables x r }) })
+      handed : WellOwned P S (record (hands_over w (count_in r)) { controls = moved P w.controls i (record { action = action; holder = w.controls.holder; peeked = w.controls.peeked; pool = w.controls.pool; place = t.place + 1; variables = slice_set t.variables x r }) })
       handed =
           let n = begun (record w { queued = drop (count_in r) w.queued }) (take (count_in r) w.queued) in
-          subst (λ (v : World). WellOwned P S (record v { controls = moved P w.controls i (record { action = action; holder = w.controls.holder; peeked = w.controls.peeked; place = t.place + 1; variables = slice_set t.variables x r }) })) (sym n.is)
+          subst (λ (v : World). WellOwned P S (record v { controls = moved P w.controls i (record { action = action; holder = w.controls.holder; peeked = w.controls.peeked; pool = w.controls.pool; place = t.place + 1; variables = slice_set t.variables x r }) })) (sym n.is)
           (goes _ (slice_set t.variables x r) (bags i) (Locked s) (submit P S w bags modes i o s e (count_in r) n.pending n.buffers n.are) l)
 
-      go : (y : Bool) → Keeps P S w.controls i (if y then Some (hands_over w (count_in r)) else None) (Some (record { action = action; holder = w.controls.holder; peeked = w.controls.peeked; place = t.place + 1; variables = slice_set t.variables x r }))
+      go : (y : Bool) → Keeps P S w.controls i (if y then Some (hands_over w (count_in r)) else None) (Some (record { action = action; holder = w.controls.holder; peeked = w.controls.peeked; pool = w.controls.pool; place = t.place + 1; variables = slice_set t.variables x r }))
       go true = handed
       go false = tt
 

@@ -5,14 +5,14 @@ use Rattle.rc_lang.specs.Comparisons.{compares}
 use Rattle.rc_lang.specs.declared.lines.Op.{Op}
 use Rattle.rc_lang.specs.declared.lines.Op.TheVariants.{Set, Assign, Add, Subtract, Load, Submit, SubmitAndWait}
 use Rattle.rc_lang.specs.declared.lines.Stmt.{Stmt}
-use Rattle.rc_lang.specs.declared.lines.Stmt.TheVariants.{Do, Lock, EndLock, If, Else, EndIf, Peek, EndArm, Loop, EndLoop, Break}
+use Rattle.rc_lang.specs.declared.lines.Stmt.TheVariants.{Do, Put, Lock, EndLock, If, Else, EndIf, Peek, EndArm, Loop, EndLoop, Break}
 use Rattle.rc_lang.specs.declared.lines.Test.{Test}
-use Rattle.rc_lang.specs.declared.lines.Test.TheVariants.{Compare, ReadyZero, SpaceAtLeast}
+use Rattle.rc_lang.specs.declared.lines.Test.TheVariants.{Compare, ReadyZero, SpaceAtLeast, Take}
 use Rattle.rc_lang.specs.declared.program.TokenKind.{TokenKind}
 use Rattle.rc_lang.specs.declared.program.TokenKind.TheVariants as tokens
 use Rattle.rc_lang.specs.declared.request.Kind.TheVariants.{Nop, Fsync, Read, Write}
 use Rattle.rc_lang.specs.declared.request.Request.{Request}
-use Rattle.rc_lang.specs.Program.{Program, Thread, end_at, lines_of, stmt_at}
+use Rattle.rc_lang.specs.Program.{Program, Thread, end_at, items_at, lines_of, lists_of, stmt_at}
 use Rattle.rc_rules.specs.declared.mode.Mode.{Mode}
 use Rattle.rc_rules.specs.declared.mode.Mode.TheVariants.{Unlocked, Locked}
 use Rattle.rc_rules.specs.declared.mode.Peeked.{Peeked}
@@ -22,9 +22,10 @@ use Rattle.rc_rules.specs.declared.mode.Slot.TheVariants.{Closed, Vacant, Prepar
 use Rattle.rc_rules.specs.Labels.{Live, WeakerMode}
 use Rattle.rc_rules.specs.Premises.{Meets}
 use Rattle.rc_rules.proofs.Weaker.{mode_trans}
-use Rattle.rc_rules.specs.Rules.{broken, kind_bag, kind_of, limit, may_break, may_release, op_effect, op_premises, owned, peek_premises, test_effect, test_premises, with_peeked}
+use Rattle.rc_rules.specs.Rules.{broken, kind_bag, kind_of, limit, may_break, may_release, op_effect, op_premises, owned, peek_premises, put_premises, test_effect, test_premises, with_peeked}
 use Rattle.rc_rules.specs.States.{is_locked}
-use Rattle.rc_split.specs.Bags.{Part, TokenOf, bag_of, credits_bag}
+use Rattle.rc_split.specs.Bags.{Part, TokenOf, bag_of, credits_bag, minus}
+use Rattle.rc_split.specs.Pools.{pooled}
 use Rattle.rc_world.specs.declared.event.Completion.{Completion}
 use Rattle.rc_world.specs.declared.world.Slot.{Slot as Entry}
 use Rattle.rc_world.specs.declared.world.Slot.TheVariants as entries
@@ -65,15 +66,17 @@ abbrev pub MayPass : Test → List ℤ → Bool → Type 0
 MayPass (Compare x c n) vars b = compares c (slice_index_or vars x (pos 0)) n ≡ b
 MayPass ReadyZero vars b = Unit {0}
 MayPass (SpaceAtLeast n) vars b = Unit {0}
+MayPass (Take k) vars b = Unit {0}
 
 -- The edge law at the line k of thread i: the state before it meets the premises of the line, and the rule's state
 -- behind it leads to one in which the thread may stand.
 abbrev pub EdgeAt : Program → Stand → ℕ → (Part → ℕ) → Mode → List ℤ → ℕ → Option Stmt → Type 0
 EdgeAt P S i b m vars k (Some (Do op)) = Meets (op_premises P b m op) × AtLive (op_effect P b m op) (λ c n. (new : List ℤ) → MayBecome op vars new → Leads S i c n new (k + 1))
+EdgeAt P S i b m vars k (Some (Put n)) = Meets (put_premises b m (items_at (lists_of P i) n)) × Leads S i (minus b (bag_of (items_at (lists_of P i) n))) m vars (k + 1)
 EdgeAt P S i b m vars k (Some Lock) = (m ≡ Unlocked) × Leads S i b (Locked (record { queued = P.left; slot = Closed; peeked = Unseen })) vars (k + 1)
 EdgeAt P S i b m vars k (Some (EndLock o)) = (is_locked m ≡ true) × Meets (may_release P m) × Leads S i b Unlocked vars (k + 1)
 EdgeAt P S i b m vars k (Some (If test)) = Meets (test_premises m test)
-    × AtLive (test_effect P b m test) (λ c n. MayPass test vars true → Leads S i c n vars (k + 1))
+    × AtLive (test_effect P (lists_of P i) b m test) (λ c n. MayPass test vars true → Leads S i c n vars (k + 1))
     × (MayPass test vars false → Leads S i b m vars (end_at P i k + 1))
 EdgeAt P S i b m vars k (Some (Else o)) = Leads S i b m vars (end_at P i k + 1)
 EdgeAt P S i b m vars k (Some (EndIf o)) = Leads S i b m vars (k + 1)
@@ -109,15 +112,16 @@ abbrev pub mode_bag : Program → Mode → Part → ℕ
 mode_bag P Unlocked p = 0
 mode_bag P (Locked s) p = slot_bag P s.slot p
 
--- what no thread holds: what the requests in flight own
+-- what a request in flight owns
 abbrev pub owns : Program → Part → Request → ℕ
 owns P p r = owned P r.user_data p
 
 abbrev pub owns_pending : Program → Part → Pending → ℕ
 owns_pending P p = of_pending (owns P p)
 
+-- what no thread holds: what the requests in flight own, and what is in the pool
 abbrev pub unheld : Program → World → Part → ℕ
-unheld P w p = in_flight (owns P p) w
+unheld P w p = in_flight (owns P p) w + pooled P w.controls.pool p
 
 -- The request is one of this kind, of this buffer.
 abbrev pub FitsKind : Request → TokenKind → Type 0

@@ -23,22 +23,22 @@ pub record IsClaim (P : Program) (S : ℕ → (Part → ℕ) → Mode → List �
   pub start : HasStart P S
   pub within : (p : Part) → headers_bag P.threads p ≤ limit P p
 
-step_keeps : (P : Program) (S : Stand) → HasEdge P S → (w after : World) (e : Event) → WellOwned P S w → IsStep w e after → WellOwned P S after
-step_keeps P S edge w after e h s = elim s.step [
-  | inl t ↦ subst (λ x. AfterStep (WellOwned P S) x) t.2 (thread_keeps P S edge w t.0 t.1 h)
+step_keeps : (P : Program) → IsProgram P → (S : Stand) → HasEdge P S → (w after : World) (e : Event) → WellOwned P S w → IsStep w e after → WellOwned P S after
+step_keeps P made S edge w after e h s = elim s.step [
+  | inl t ↦ subst (λ x. AfterStep (WellOwned P S) x) t.2 (thread_keeps P made S edge w t.0 t.1 h)
   | inr k ↦ subst (λ x. AfterStep (WellOwned P S) x) k.3 (kernel_keeps P S w k.0 k.1 k.2 h)
 ]
 
-pub run_keeps : (P : Program) (S : Stand) → HasEdge P S → (events : List Event) (w after : World) → WellOwned P S w → IsRun w events after → WellOwned P S after
-run_keeps P S edge [] w after h r = subst (λ v. WellOwned P S v) r h
-run_keeps P S edge (e ∷ events) w after h r = run_keeps P S edge events r.0 after (step_keeps P S edge w r.0 e h r.1) r.2
+pub run_keeps : (P : Program) → IsProgram P → (S : Stand) → HasEdge P S → (events : List Event) (w after : World) → WellOwned P S w → IsRun w events after → WellOwned P S after
+run_keeps P made S edge [] w after h r = subst (λ v. WellOwned P S v) r h
+run_keeps P made S edge (e ∷ events) w after h r = run_keeps P made S edge events r.0 after (step_keeps P made S edge w r.0 e h r.1) r.2
 
 -- The worlds of a program with such a claim are well owned, and it is safe.
-pub worlds_owned : (P : Program) (S : Stand) → IsClaim P S → (events : List Event) (w : World) → IsRun (start_world P) events w → WellOwned P S w
-worlds_owned P S c events w r = run_keeps P S c.edge events (start_world P) w (start_has P S c.start c.within) r
+pub worlds_owned : (P : Program) → IsProgram P → (S : Stand) → IsClaim P S → (events : List Event) (w : World) → IsRun (start_world P) events w → WellOwned P S w
+worlds_owned P made S c events w r = run_keeps P made S c.edge events (start_world P) w (start_has P S c.start c.within) r
 
 pub safe_by : (P : Program) → IsProgram P → (S : Stand) → IsClaim P S → IsSafe P
-safe_by P made S c events w r = no_fault P made S c.edge w (worlds_owned P S c events w r)
+safe_by P made S c events w r = no_fault P made S c.edge w (worlds_owned P made S c events w r)
 
 -- The labels of an accepted program are such a claim.
 pub labelled_claim : (P : Program) → IsProgram P → Accepts P → IsClaim P (Labelled P)

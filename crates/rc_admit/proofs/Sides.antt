@@ -1,6 +1,6 @@
 -- What a step does to the side of its flag on which a thread stands.
-use Rattle.std.proofs.Common.{◌≡◌, ◌≢◌, ℕ, ◌<◌, ◌⊎◌, inl, inr, Bool, true, false, ◌&&◌, not, cond, List, [], ◌∷◌, ◌++◌, length, Option, Some, None, refl, sym, ap, ◌∙◌, subst, arith, eq-eqb}
-use Rattle.std.specs.Prelude.{nat_eq, slice_index_or, slice_set, ℤ, pos}
+use Rattle.std.proofs.Common.{◌≡◌, ℕ, ◌<◌, inl, inr, Bool, true, false, ◌&&◌, not, cond, List, [], ◌∷◌, ◌++◌, length, Option, Some, None, refl, sym, ap, ◌∙◌, subst, arith, eq-eqb}
+use Rattle.std.specs.Prelude.{slice_index_or, slice_set, ℤ, pos}
 use Rattle.std.specs.Ordering.{int_eq}
 use Rattle.std.proofs.lemmas.Bool.{cases_eq, ne_eqb}
 use Rattle.std.proofs.lemmas.Bool.Decides.{Decides-int_eq}
@@ -11,12 +11,12 @@ use Rattle.rc_lang.specs.declared.lines.Comparison.TheVariants.{Equal, NotEqual,
 use Rattle.rc_lang.specs.declared.lines.Op.{Op}
 use Rattle.rc_lang.specs.declared.lines.Op.TheVariants.{Set, Assign, Add, Subtract, Load, Submit, SubmitAndWait}
 use Rattle.rc_lang.specs.declared.lines.Test.{Test}
-use Rattle.rc_lang.specs.declared.lines.Test.TheVariants.{Compare, ReadyZero, SpaceAtLeast}
+use Rattle.rc_lang.specs.declared.lines.Test.TheVariants.{Compare, ReadyZero, SpaceAtLeast, Take}
 use Rattle.rc_rules.specs.Labels.{Label, Weaker, WeakerThanEach}
 use Rattle.rc_rules.specs.Premises.{Meets, Premise}
 use Rattle.rc_rules.specs.declared.flag.Write.{Write}
 use Rattle.rc_rules.specs.declared.flag.Write.TheVariants.{Anything, Number, Untouched}
-use Rattle.rc_rules.specs.Sides.{brings, forgets, gate, is_exact, same_side, side_goes, test_goes, turns, write_of, write_to}
+use Rattle.rc_rules.specs.Sides.{brings, forgets, gate, same_side, side_goes, test_goes, turns, write_of, write_to}
 use Rattle.rc_admit.proofs.Owned.{MayBecome, MayPass}
 
 -- the side of a thread that has these variables; without a flag there is one alone
@@ -121,6 +121,7 @@ test_may (Some f) (Compare x c n) vars b h = elim (cases_eq f x) [
 ]
 test_may flag ReadyZero vars b h = refl
 test_may flag (SpaceAtLeast n) vars b h = refl
+test_may flag (Take k) vars b h = refl
 
 -- ---- ways
 

@@ -8,10 +8,12 @@ use Rattle.rc_rules.specs.Labels.{WeakerMode}
 use Rattle.rc_rules.specs.Labellings.{headers_bag}
 use Rattle.rc_rules.specs.Rules.{limit}
 use Rattle.rc_split.specs.Bags.{Part, bag_of}
+use Rattle.rc_split.specs.Pools.{empty_pool, pooled}
 use Rattle.rc_world.specs.Controls.{Standing}
 use Rattle.rc_world.specs.Machine.{start_world}
 use Rattle.rc_admit.proofs.Lists.{sum_to}
 use Rattle.rc_admit.proofs.Owned.{Stand, HasStart, WellOwned}
+use Rattle.rc_admit.proofs.Pool.{none_pooled}
 
 unlocked_below : (m : Mode) → WeakerMode m Unlocked → m ≡ Unlocked
 unlocked_below Unlocked w = refl
@@ -87,7 +89,8 @@ module _ (P : Program) (S : Stand) (start : HasStart P S) where
           let x : sum_to f n ≤ sum_to g n = sum_to_most f g n (λ j. let h : first_bag j (slice_get P.threads j) refl p ≤ bag_in (slice_get P.threads j) p = first_most j (slice_get P.threads j) refl p in omega arith) in
           let y : sum_to g n ≡ headers_bag P.threads p = sum_headers P.threads p in
           let z : headers_bag P.threads p ≤ limit P p = within p in
-          omega (arith, x, y);
+          let none : pooled P empty_pool p ≡ 0 = none_pooled P p in
+          omega (arith, x, y, none);
       free = λ n. (omega arith, refl);
       each = λ i. tt;
       queued = tt;

@@ -1,40 +1,46 @@
 -- Each step of a thread keeps what is true of each world.
 use Rattle.std.proofs.Common.{◌≡◌, ℕ, ◌+◌, ◌-◌, ◌≤◌, Bool, true, false, ◌||◌, cond, List, [], ◌∷◌, length, Option, Some, None, refl, sym, ap, ◌∙◌, subst, ◌⊎◌, inl, inr, arith}
-use Rattle.std.specs.Prelude.{slice_set, slice_get, slice_index_or, nat_eq, min, ℤ, pos, int_le, if◌then◌else◌}
+use Rattle.std.specs.Prelude.{slice_set, slice_get, slice_index_or, nat_eq, not, min, ℤ, pos, int_le, if◌then◌else◌}
 use Rattle.std.specs.Ordering.{int_eq}
 use Rattle.std.proofs.lemmas.Option.{slice_get_within}
-use Rattle.std.proofs.lemmas.Bool.{leb-true, eq-eqb}
+use Rattle.std.proofs.lemmas.Bool.{and_from, false_from_ne_true, leb-true, eq-eqb}
+use Rattle.std.specs.List.{list_any}
 use Rattle.std.proofs.lemmas.Bool.Decides.{Decides-int_eq}
 use Rattle.rc_lang.specs.Comparisons.{compares}
 use Rattle.rc_lang.specs.declared.lines.Stmt.{Stmt}
-use Rattle.rc_lang.specs.declared.lines.Stmt.TheVariants.{Do, Lock, EndLock, If, Peek, Loop, EndLoop, Break}
+use Rattle.rc_lang.specs.declared.lines.Stmt.TheVariants.{Do, Put, Lock, EndLock, If, Peek, Loop, EndLoop, Break}
 use Rattle.rc_lang.specs.declared.lines.Test.{Test}
-use Rattle.rc_lang.specs.declared.lines.Test.TheVariants.{Compare, ReadyZero, SpaceAtLeast}
-use Rattle.rc_lang.specs.Program.{Program, end_at}
+use Rattle.rc_lang.specs.declared.lines.Test.TheVariants.{Compare, ReadyZero, SpaceAtLeast, Take}
+use Rattle.rc_lang.specs.Program.{IsItems, IsProgram, Items, Program, end_at, items_at, lists_of}
 use Rattle.rc_rules.specs.declared.mode.Inside.{Inside}
 use Rattle.rc_rules.specs.declared.mode.Mode.{Mode}
 use Rattle.rc_rules.specs.declared.mode.Mode.TheVariants.{Unlocked, Locked}
 use Rattle.rc_rules.specs.declared.mode.Peeked.{Peeked}
 use Rattle.rc_rules.specs.declared.mode.Peeked.TheVariants.{Unseen, Sees, SeesOther}
 use Rattle.rc_rules.specs.declared.mode.Slot.TheVariants.{Closed}
-use Rattle.rc_rules.specs.Labels.{Live}
+use Rattle.rc_rules.specs.Labels.{Label, Dead, Live}
 use Rattle.rc_rules.specs.Premises.{Meets}
-use Rattle.rc_rules.specs.Rules.{broken, may_break, may_release, owned, test_mode, test_premises, with_peeked}
+use Rattle.rc_rules.specs.Rules.{broken, can_take, has_room, limit, may_break, may_release, names_peeked, names_peeked_in, owned, put_premises, take_effect, test_effect, test_mode, test_premises, with_peeked}
 use Rattle.rc_rules.specs.States.{is_locked}
 use Rattle.rc_rules.proofs.Weaker.{same_slot_is}
-use Rattle.rc_split.specs.Bags.{Part, TokenOf, token_bag}
+use Rattle.rc_split.specs.Bags.{Part, TokenOf, bag_of, minus, plus, token_bag}
+use Rattle.rc_split.specs.Pools.{includes, overfills, pooled, with_items, without_items}
+use Rattle.rc_split.proofs.Named.{included}
+use Rattle.rc_split.proofs.PoolBags.{pooled_with, pooled_without}
 use Rattle.rc_world.specs.declared.controls.Answer.TheVariants.{Plain}
+use Rattle.rc_world.specs.declared.event.Action.TheVariants.{ItemsPut}
 use Rattle.rc_world.specs.declared.event.Completion.{Completion}
 use Rattle.rc_world.specs.declared.world.Slot.TheVariants as entries
-use Rattle.rc_world.specs.Controls.{Standing, acts, arm_for, breaks, decides, locks, none_arm, peeks}
+use Rattle.rc_world.specs.Controls.{Standing, acts, arm_for, branches, breaks, decides, goes_on, locks, none_arm, peeks, plainly, puts_items, tries_to_take}
 use Rattle.rc_world.specs.Faults.{is_holder}
 use Rattle.rc_world.specs.Machine.{World, front_of, in_rings, slot_len, stmt_answer, test_answer, used_entries}
 use Rattle.rc_admit.proofs.Flight.{data_in, front_is}
 use Rattle.rc_admit.proofs.Lists.{sum_to, sum_over, sum_to_one}
 use Rattle.rc_admit.proofs.Moves.{Moved, moves, put, rung_moved, fits_parts, fits_made, holder_one, with_lock}
-use Rattle.rc_admit.proofs.Ops.{Keeps, slot_closed, op_keeps, quiet, has}
+use Rattle.rc_admit.proofs.Ops.{Keeps, slot_closed, op_keeps, pools, quiet, has, starts_head}
 use Rattle.rc_admit.proofs.Owned.{Stand, Leads, MayPass, EdgeAt, HasEdge, slot_bag, owns, unheld, SlotFits, StartsWith, IsNonempty, FrontFits, Fits, held, Owned, WellOwned}
-use Rattle.rc_admit.proofs.Rule.{AtLive, asks_lock, inside_of, met}
+use Rattle.rc_admit.proofs.Pool.{items_of, room_for, token_there}
+use Rattle.rc_admit.proofs.Rule.{AtLive, Claim, asks_lock, inside_of, met}
 
 pub outside_any : (w w1 : World) (h : Bool) (m : Mode) → h ≡ false → Fits w h m → Fits w1 false m
 outside_any w w1 false Unlocked e f = tt
@@ -44,6 +50,11 @@ outside_any w w1 true m e f = absurd (cc)
 -- A request owns its token.
 pub token_owned : (P : Program) (u : ℕ) → 1 ≤ owned P u (TokenOf u)
 token_owned P u = let h : nat_eq u u ≡ true = eq-eqb u u refl in let y : token_bag u (TokenOf u) ≡ 1 = ap (λ t. cond t 1 0) h in omega arith
+
+-- what is claimed where a test that always may pass does
+as_passed : (l : Label) (K : Claim) → AtLive l (λ c n. Unit {0} → K c n) → AtLive l K
+as_passed Dead K a = tt
+as_passed (Live b m) K a = a tt
 
 module _ (P : Program) (S : Stand) (w : World) (bags : ℕ → Part → ℕ) (modes : ℕ → Mode) (i : ℕ) (o : Owned P S w bags modes) where
   -- The thread's label knows less of the ring than before, in the same world but for what is peeked.
@@ -107,8 +118,8 @@ pub breaks_as_released : (P : Program) (m : Mode) → Meets (may_break P true m)
 breaks_as_released P Unlocked h = tt
 breaks_as_released P (Locked s) h = h
 
--- A held token and a completed request under it would be two of one.
-twice : (P : Program) (S : Stand) (w : World) (bags : ℕ → Part → ℕ) (modes : ℕ → Mode) (i : ℕ) (t : Standing) (d : Completion) (ds : List Completion) → Owned P S w bags modes → slice_get w.controls.threads i ≡ Some t → w.completions ≡ d ∷ ds → 1 ≤ bags i (TokenOf d.user_data) → ⊥
+-- A token that is held or in the pool and a completed request under it would be two of one.
+twice : (P : Program) (S : Stand) (w : World) (bags : ℕ → Part → ℕ) (modes : ℕ → Mode) (i : ℕ) (t : Standing) (d : Completion) (ds : List Completion) → Owned P S w bags modes → slice_get w.controls.threads i ≡ Some t → w.completions ≡ d ∷ ds → 1 ≤ bags i (TokenOf d.user_data) + pooled P w.controls.pool (TokenOf d.user_data) → ⊥
 twice P S w bags modes i t d ds o get e h =
     let p : Part = TokenOf d.user_data in
     let f = front_is w.completed d ds (o.agree ∙ ap data_in e) in
@@ -118,7 +129,7 @@ twice P S w bags modes i t d ds o get e h =
     let tot : sum_to (λ i. held P (bags i) (modes i) p) (length w.controls.threads) + unheld P w p ≤ 1 = o.total p in
     omega arith
 
-module _ (P : Program) (S : Stand) (edge : HasEdge P S) (w : World) (bags : ℕ → Part → ℕ) (modes : ℕ → Mode) (i : ℕ) (t : Standing) (r : ℤ) (o : Owned P S w bags modes) (get : slice_get w.controls.threads i ≡ Some t) where
+module _ (P : Program) (made : IsProgram P) (S : Stand) (edge : HasEdge P S) (w : World) (bags : ℕ → Part → ℕ) (modes : ℕ → Mode) (i : ℕ) (t : Standing) (r : ℤ) (o : Owned P S w bags modes) (get : slice_get w.controls.threads i ≡ Some t) where
   goes : (w1 : World) (k : ℕ) (vars : List ℤ) (b : Part → ℕ) (m : Mode) → Moved P w w1 bags modes i b m → Leads S i b m vars k → WellOwned P S (put P w1 i k vars)
   goes w1 k vars b m v l = moves P S edge w w1 bags modes i t k vars b m o get v l
 
@@ -156,10 +167,61 @@ module _ (P : Program) (S : Stand) (edge : HasEdge P S) (w : World) (bags : ℕ 
   compare_keeps true a b = goes _ _ _ _ _ still (a refl)
   compare_keeps false a b = goes _ _ _ _ _ still (b refl)
 
-  if_keeps : (test : Test) → Meets (test_premises (modes i) test) → (MayPass test t.variables true → Leads S i (bags i) (test_mode P test (modes i)) t.variables (t.place + 1)) → (MayPass test t.variables false → Leads S i (bags i) (modes i) t.variables (end_at P i t.place + 1)) → Keeps P S w.controls i (Some w) (decides P w.controls i t test (test_answer w test))
+  -- ---- the pool
+
+  -- items that go there
+  put_keeps : (items : Items) → Meets (put_premises (bags i) (modes i) items) → Leads S i (minus (bags i) (bag_of items)) (modes i) t.variables (t.place + 1) → Keeps P S w.controls i (Some w) (puts_items P w.controls t items Plain)
+  put_keeps items q l = go (overfills P w.controls.pool items)
+    where
+      covered : (p : Part) → bag_of items p ≤ bags i p
+      covered p = let s = inside_of (modes i) (asks_lock (modes i) _ q) in (subst (λ m. Meets (put_premises (bags i) m items)) s.1 q).0 p
+
+      go : (y : Bool) → Keeps P S w.controls i (Some w) (if y then None else plainly (record (goes_on w.controls t ItemsPut) { pool = with_items P w.controls.pool items }) Plain)
+      go true = tt
+      go false = goes _ _ _ _ _ (pools P S w (with_items P w.controls.pool items) bags modes i (minus (bags i) (bag_of items)) o (λ p. omega (arith, covered p, pooled_with P w.controls.pool items p))) l
+
+  -- what the pool has, no thread and no request has
+  module _ (items : Items) (there : (p : Part) → bag_of items p ≤ pooled P w.controls.pool p) where
+    few : (p : Part) → bags i p + bag_of items p ≤ limit P p
+    few p =
+        let f : ℕ → ℕ = λ j. held P (bags j) (modes j) p in
+        let x : f i ≤ sum_to f (length w.controls.threads) = sum_to_one f (length w.controls.threads) i (slice_get_within w.controls.threads i t get) in
+        let y : sum_to f (length w.controls.threads) + unheld P w p ≤ limit P p = o.total p in
+        omega (arith, x, y, there p)
+
+    -- the token of the peeked completion
+    not_peeked : (m : Mode) → modes i ≡ m → names_peeked_in items.tokens m ≡ false
+    not_peeked Unlocked e = refl
+    not_peeked (Locked s) e = front s.peeked refl
+      where
+        front : (x : Peeked) → s.peeked ≡ x → names_peeked items.tokens x ≡ false
+        front Unseen q = refl
+        front SeesOther q = refl
+        front (Sees u) q = false_from_ne_true (list_any (λ v. nat_eq v u) items.tokens) (λ h.
+            let f = subst (λ y. FrontFits w.controls.peeked w.completions y) q (has P S w bags modes i o s e).2 in
+            let a = starts_head u w.completions f.1 in
+            let one : 1 ≤ pooled P w.controls.pool (TokenOf u) = omega (arith, there (TokenOf u), token_there items.tokens u h) in
+            twice P S w bags modes i t a.0 a.1 o get a.2 (subst (λ v. 1 ≤ bags i (TokenOf v) + pooled P w.controls.pool (TokenOf v)) (sym a.3) (omega (arith, one))))
+
+    may_be_taken : can_take P (bags i) (modes i) items ≡ true
+    may_be_taken = and_from (has_room P (bags i) items) (not (names_peeked_in items.tokens (modes i))) (room_for P items (bags i) few) (ap not (not_peeked (modes i) refl))
+
+  -- items that leave it, or nothing
+  take_keeps : (items : Items) → IsItems P items → AtLive (take_effect P (bags i) (modes i) items) (λ c n. Leads S i c n t.variables (t.place + 1)) → Leads S i (bags i) (modes i) t.variables (end_at P i t.place + 1) → Keeps P S w.controls i (Some w) (Some (tries_to_take P w.controls i t items))
+  take_keeps items of a b = go (includes P w.controls.pool items) refl
+    where
+      go : (y : Bool) → includes P w.controls.pool items ≡ y → Keeps P S w.controls i (Some w) (Some (if y then record (branches P w.controls i t true) { pool = without_items P w.controls.pool items } else branches P w.controls i t false))
+      go false e = goes _ _ _ _ _ still b
+      go true e =
+          let there : (p : Part) → bag_of items p ≤ pooled P w.controls.pool p = included P w.controls.pool items of e in
+          goes _ _ _ _ _ (pools P S w (without_items P w.controls.pool items) bags modes i (plus (bags i) (bag_of items)) o (λ p. omega (arith, pooled_without P w.controls.pool items there p)))
+          (subst (λ c. AtLive (cond c (Live (plus (bags i) (bag_of items)) (modes i)) Dead) (λ c n. Leads S i c n t.variables (t.place + 1))) (may_be_taken items there) a)
+
+  if_keeps : (test : Test) → Meets (test_premises (modes i) test) → AtLive (test_effect P (lists_of P i) (bags i) (modes i) test) (λ c n. MayPass test t.variables true → Leads S i c n t.variables (t.place + 1)) → (MayPass test t.variables false → Leads S i (bags i) (modes i) t.variables (end_at P i t.place + 1)) → Keeps P S w.controls i (Some w) (decides P w.controls i t test (test_answer w test))
   if_keeps (Compare x c n) q a b = compare_keeps (compares c (slice_index_or t.variables x (pos 0)) n) a b
   if_keeps ReadyZero q a b = ready_keeps (int_eq (pos (used_entries w)) (pos 0)) refl q (a tt) (b tt)
   if_keeps (SpaceAtLeast n) q a b = space_keeps n (int_le (pos n) (pos (w.program.entries - used_entries w))) refl q (a tt) (b tt)
+  if_keeps (Take k) q a b = let items : Items = items_at (lists_of P i) k in take_keeps items (items_of P made i k) (as_passed (take_effect P (bags i) (modes i) items) (λ c n. Leads S i c n t.variables (t.place + 1)) a) (b tt)
 
   -- an arm of a peek
   arm_keeps : (pe : Bool) (s : Inside) (x : Peeked) (k : ℕ) (vars : List ℤ) → modes i ≡ Locked s → FrontFits pe w.completions x → Leads S i (bags i) (with_peeked x (modes i)) vars k → WellOwned P S (put P (with_lock w w.controls.holder pe) i k vars)
@@ -170,7 +232,7 @@ module _ (P : Program) (S : Stand) (edge : HasEdge P S) (w : World) (bags : ℕ 
       → ((v : ℤ) → Leads S i (bags i) (with_peeked Unseen (modes i)) (slice_set t.variables x v) (none_arm P i t.place + 1)) → Keeps P S w.controls i (Some w) (peeks P w.controls i t x (front_of cs))
   peek_keeps [] s x ec e g h = arm_keeps w.controls.peeked s Unseen _ _ e tt (h _)
   peek_keeps (d ∷ ds) s x ec e g h = elim (g d.user_data d.res) [
-    | inl k ↦ absurd (twice P S w bags modes i t d ds o get ec k)
+    | inl k ↦ absurd (twice P S w bags modes i t d ds o get ec (omega (arith, k)))
     | inr k ↦ elim k [
       | inl l ↦ arm_keeps true s (Sees d.user_data) _ _ e (refl, subst (λ cs. StartsWith d.user_data cs) (sym ec) refl) l
       | inr l ↦ arm_keeps true s SeesOther _ _ e (refl, subst IsNonempty (sym ec) tt) l
@@ -195,6 +257,7 @@ module _ (P : Program) (S : Stand) (edge : HasEdge P S) (w : World) (bags : ℕ 
   pub line_keeps : (s : Stmt) → EdgeAt P S i (bags i) (modes i) t.variables t.place (Some s) → Keeps P S w.controls i (in_rings w t r s) (acts P w.controls i t s (stmt_answer w r s))
   line_keeps (EndLock p) h = release_keeps w.controls.peeked (t.place + 1) h.0 h.1 h.2
   line_keeps (EndLoop p k) h = goes _ _ _ _ _ still h
+  line_keeps (Put k) h = put_keeps (items_at (lists_of P i) k) h.0 h.1
   line_keeps (Do op) h = op_keeps P S edge w bags modes i t r o get op h
   line_keeps Lock h = lock_keeps w.controls.holder refl h.0 h.1
   line_keeps (If test) h = if_keeps test h.0 h.1 h.2

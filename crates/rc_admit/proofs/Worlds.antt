@@ -1,27 +1,32 @@
 -- What a world without a fault is like, and so each world of a run of a safe program.
-use Rattle.std.proofs.Common.{◌≡◌, ℕ, zero, suc, ◌+◌, ◌-◌, ◌<◌, ◌⊎◌, Bool, true, false, ◌&&◌, ◌||◌, List, [], ◌∷◌, length, drop, Option, Some, None, refl, sym, ap, ◌∙◌, subst, inl, inr, arith, length-drop}
+use Rattle.std.proofs.Common.{◌≡◌, ℕ, zero, suc, ◌+◌, ◌-◌, ◌<◌, ◌≤◌, ◌⊎◌, Bool, true, false, ◌&&◌, ◌||◌, List, [], ◌∷◌, length, drop, Option, Some, None, refl, sym, ap, ◌∙◌, subst, inl, inr, arith, length-drop}
 use Rattle.std.proofs.lemmas.Option.{slice_get_within}
-use Rattle.std.proofs.lemmas.Bool.{and_from, and_parts, cases_order, eq-eqb, eqb-true, leb-false, leb-true, not-false, or_left, or_parts, or_right}
+use Rattle.std.proofs.lemmas.Bool.{and_from, and_parts, cases_order, eq-eqb, eqb-true, leb-false, leb-true, ltb-false, not-false, or_left, or_parts, or_right}
+use Rattle.std.proofs.lemmas.List.Elements.{All-from_get_or}
 use Rattle.std.specs.List.{list_any}
-use Rattle.std.specs.Prelude.{nat_eq, nat_le, not, slice_get, ℤ, if◌then◌else◌}
+use Rattle.std.specs.Prelude.{nat_eq, nat_le, nat_lt, not, slice_get, ℤ, if◌then◌else◌}
 use Rattle.rc_lang.specs.declared.lines.Op.{Op}
 use Rattle.rc_lang.specs.declared.lines.Op.TheVariants.{Load, Store, Fill, GetSqe, PrepRead, PrepWrite, PrepFsync, PrepNop, SetData64, Submit, SubmitAndWait, CqeSeen}
 use Rattle.rc_lang.specs.declared.lines.Stmt.{Stmt}
-use Rattle.rc_lang.specs.declared.lines.Stmt.TheVariants.{Do, EndLock, If, Peek, Break}
-use Rattle.rc_lang.specs.declared.lines.Test.TheVariants.{ReadyZero, SpaceAtLeast}
+use Rattle.rc_lang.specs.declared.lines.Stmt.TheVariants.{Do, Put, EndLock, If, Peek, Break}
+use Rattle.rc_lang.specs.declared.lines.Test.TheVariants.{ReadyZero, SpaceAtLeast, Take}
 use Rattle.rc_lang.specs.declared.request.Request.{Request}
-use Rattle.rc_lang.specs.Program.{bytes_at}
+use Rattle.rc_lang.specs.declared.program.Share.{Share}
+use Rattle.rc_lang.specs.Program.{Items, bytes_at, items_at, lists_of, shares_at}
+use Rattle.rc_split.specs.Bags.{ShareOf, TokenOf, Credit}
+use Rattle.rc_split.specs.Pools.{overfills, pooled}
+use Rattle.rc_split.proofs.Named.{no_share, none_at as none_in}
 use Rattle.rc_world.specs.declared.event.Completion.{Completion}
 use Rattle.rc_world.specs.declared.event.Event.{Event}
 use Rattle.rc_world.specs.declared.fault.FaultKind.{FaultKind}
-use Rattle.rc_world.specs.declared.fault.FaultKind.TheVariants.{WriteOfPending, ReadOfFilling, KernelClash, ThreadRace, RingFull, Overflow, AmbiguousData, UnknownReap, NoLock, RawEntry, OutOfBuffer}
+use Rattle.rc_world.specs.declared.fault.FaultKind.TheVariants.{WriteOfPending, ReadOfFilling, KernelClash, ThreadRace, RingFull, Overflow, AmbiguousData, UnknownReap, NoLock, RawEntry, OutOfBuffer, DoublePut}
 use Rattle.rc_world.specs.declared.world.Slot.{Slot}
 use Rattle.rc_world.specs.declared.world.Slot.TheVariants.{Closed, Vacant, Prepared}
 use Rattle.rc_world.specs.Controls.{Controls, Standing, controls_step, next_line}
 use Rattle.rc_world.specs.Faults.{Access, access_at, access_by, access_of, clash, clashes, clashes_with, conflicts, count_of, fault_of, front_is_one, has_buffer, has_data, has_fault, in_kernel, is_closed, is_holder, is_in_flight, is_prepared, is_raw_at, is_ring_call, is_vacant, names, overflows, races_from, reads_into}
 use Rattle.rc_world.specs.Machine.{Pending, World, in_rings, is_read, reaps_front, stmt_answer, thread_step, thread_step_at, used_entries, with_controls, without_data}
 use Rattle.rc_world.proofs.LawFaultless.{none_at, none_in_kernel, none_of_kind}
-use Rattle.rc_admit.specs.Worlds.{DataIsFresh, CallsUnderLock, EachReapsOne, EntrySuits, Fills, FindsEntry, HasRoom, IsNext, IsPending, IsRingCall, Names, NoKernelClash, NoReadOfFilling, NoThreadRace, NoWriteOfPending, OfSafeWorlds, ReadsBuffer, StaysWithinBuffers, Suits, WritesBuffer}
+use Rattle.rc_admit.specs.Worlds.{DataIsFresh, CallsUnderLock, EachReapsOne, EntrySuits, Fills, FindsEntry, HasRoom, IsNext, IsPending, IsRingCall, Names, NoKernelClash, NoReadOfFilling, NoThreadRace, NothingPutTwice, NoWriteOfPending, OfSafeWorlds, ReadsBuffer, StaysWithinBuffers, Suits, WritesBuffer}
 use Rattle.rc_admit.proofs.Excludes.{next_is}
 use Rattle.rc_world.proofs.Lists.{any_at}
 use Rattle.rc_world.proofs.LawGoes.{and_false}
@@ -74,6 +79,8 @@ is_called (Peek x) c = refl
 is_called (Do CqeSeen) c = refl
 is_called (If ReadyZero) c = refl
 is_called (If (SpaceAtLeast n)) c = refl
+is_called (If (Take k)) c = refl
+is_called (Put k) c = refl
 is_called _ c = absurd c
 
 -- two of the pending requests
@@ -322,6 +329,24 @@ module _ (w : World) (none : fault_of w ≡ None) where
         one = f.3;
         behind = λ r e after s. subst (λ x. Leaves f.0 f.1 x) s (leaves i r f.0 f.1 f.2 f.3 n);
       }
+
+  -- ---- the pool
+
+  pub nothing_put_twice : NothingPutTwice w
+  nothing_put_twice i k n =
+      let items : Items = items_at (lists_of w.program i) k in
+      let h = under_lock i (Put k) n tt in
+      let room : overfills w.program w.controls.pool items ≡ false = of_holder i (overfills w.program w.controls.pool items) h (at DoublePut i (Put k) n) in
+      let first = or_parts (list_any (λ (s : Share). nat_lt (shares_at w.program.buffers s.buffer) (pooled w.program w.controls.pool (ShareOf s.buffer) + s.count)) items.shares || list_any (λ u. nat_le 1 (pooled w.program w.controls.pool (TokenOf u))) items.tokens) (nat_lt w.program.completion_entries (pooled w.program w.controls.pool Credit + items.credits)) room in
+      let both = or_parts (list_any (λ (s : Share). nat_lt (shares_at w.program.buffers s.buffer) (pooled w.program w.controls.pool (ShareOf s.buffer) + s.count)) items.shares) (list_any (λ u. nat_le 1 (pooled w.program w.controls.pool (TokenOf u))) items.tokens) first.0 in
+      record {
+        shares = All-from_get_or (λ (s : Share). pooled w.program w.controls.pool (ShareOf s.buffer) + s.count ≤ shares_at w.program.buffers s.buffer) items.shares no_share (λ j lt. ltb-false _ _ (none_in (λ (s : Share). nat_lt (shares_at w.program.buffers s.buffer) (pooled w.program w.controls.pool (ShareOf s.buffer) + s.count)) items.shares j no_share both.0 lt));
+        tokens = All-from_get_or (λ u. pooled w.program w.controls.pool (TokenOf u) ≡ 0) items.tokens 0 (λ j lt. below_one _ (leb-false _ _ (none_in (λ u. nat_le 1 (pooled w.program w.controls.pool (TokenOf u))) items.tokens j 0 both.1 lt)));
+        credits = ltb-false _ _ first.1;
+      }
+    where
+      below_one : (n : ℕ) → n < 1 → n ≡ 0
+      below_one n lt = omega arith
 
 -- of each world of a run of a safe program
 pub of_safe : (F : World → Type 0) → ((w : World) → fault_of w ≡ None → F w) → OfSafeWorlds F

@@ -1,14 +1,17 @@
 -- What it means that a program is safe: what holds of each world of its runs, in the terms of io_uring(7).
-use Rattle.std.specs.Prelude.{ℕ, ◌≡◌, ◌≢◌, ◌⊎◌, ◌<◌, ◌≤◌, ◌+◌, true, List, ◌∷◌, length, map, Some, slice_get, ℤ}
+use Rattle.std.specs.Prelude.{ℕ, ◌≡◌, ◌≢◌, ◌⊎◌, ◌<◌, ◌≤◌, ◌+◌, true, List, ◌∷◌, length, map, Some, slice_get, ℤ, All}
 use Rattle.rc_lang.specs.declared.lines.Line.{Line}
 use Rattle.rc_lang.specs.declared.lines.Op.{Op}
 use Rattle.rc_lang.specs.declared.lines.Op.TheVariants.{Load, Store, Fill, GetSqe, PrepRead, PrepWrite, PrepFsync, PrepNop, SetData64, Submit, SubmitAndWait, CqeSeen}
 use Rattle.rc_lang.specs.declared.lines.Stmt.{Stmt}
-use Rattle.rc_lang.specs.declared.lines.Stmt.TheVariants.{Do, EndLock, If, Peek, Break}
-use Rattle.rc_lang.specs.declared.lines.Test.TheVariants.{ReadyZero, SpaceAtLeast}
+use Rattle.rc_lang.specs.declared.lines.Stmt.TheVariants.{Do, Put, EndLock, If, Peek, Break}
+use Rattle.rc_lang.specs.declared.lines.Test.TheVariants.{ReadyZero, SpaceAtLeast, Take}
 use Rattle.rc_lang.specs.declared.request.Kind.TheVariants.{Read, Write}
 use Rattle.rc_lang.specs.declared.request.Request.{Request}
-use Rattle.rc_lang.specs.Program.{Program, bytes_at}
+use Rattle.rc_lang.specs.declared.program.Share.{Share}
+use Rattle.rc_lang.specs.Program.{Items, Program, bytes_at, items_at, lists_of, shares_at}
+use Rattle.rc_split.specs.Bags.{ShareOf, TokenOf, Credit}
+use Rattle.rc_split.specs.Pools.{Pool, pooled}
 use Rattle.rc_world.specs.declared.event.Completion.{Completion}
 use Rattle.rc_world.specs.declared.event.Event.{Event}
 use Rattle.rc_world.specs.declared.world.Slot.{Slot}
@@ -80,7 +83,8 @@ StaysWithinBuffers w = (i : ℕ) (op : Op) → IsNext w i (Do op) → IsInBuffer
 
 -- The calls on the ring: io_uring_get_sqe(3), io_uring_prep_read(3), io_uring_prep_write(3), io_uring_prep_fsync(3),
 -- io_uring_prep_nop(3), io_uring_sqe_set_data64(3), io_uring_submit(3), io_uring_submit_and_wait(3),
--- io_uring_peek_cqe(3), io_uring_cqe_seen(3), io_uring_sq_ready(3) and io_uring_sq_space_left(3).
+-- io_uring_peek_cqe(3), io_uring_cqe_seen(3), io_uring_sq_ready(3) and io_uring_sq_space_left(3). Those on the pool,
+-- which is plain memory under the same lock, go with them.
 abbrev pub IsRingCall : Stmt → Type 0
 IsRingCall (Do GetSqe) = Unit {0}
 IsRingCall (Do (PrepRead fd b len off)) = Unit {0}
@@ -94,6 +98,8 @@ IsRingCall (Peek x) = Unit {0}
 IsRingCall (Do CqeSeen) = Unit {0}
 IsRingCall (If ReadyZero) = Unit {0}
 IsRingCall (If (SpaceAtLeast n)) = Unit {0}
+IsRingCall (If (Take k)) = Unit {0}
+IsRingCall (Put k) = Unit {0}
 IsRingCall _ = ⊥
 
 -- None of them is made without the lock.
@@ -154,3 +160,16 @@ pub record ReapsOne (w : World) (i : ℕ) : Type 0 where
 
 abbrev pub EachReapsOne : World → Type 0
 EachReapsOne w = (i : ℕ) → IsNext w i (Do CqeSeen) → ReapsOne w i
+
+-- ---- the pool
+
+-- None of the items is in the pool already: no token that they name is there, the shares of a buffer that are there and
+-- theirs are together no more than it has, and the credits no more than the completion ring has entries.
+pub record IsNotThere (P : Program) (pool : Pool) (items : Items) : Type 0 where
+  pub shares : All (λ (s : Share). pooled P pool (ShareOf s.buffer) + s.count ≤ shares_at P.buffers s.buffer) items.shares
+  pub tokens : All (λ u. pooled P pool (TokenOf u) ≡ 0) items.tokens
+  pub credits : pooled P pool Credit + items.credits ≤ P.completion_entries
+
+-- Nothing is put that is there.
+abbrev pub NothingPutTwice : World → Type 0
+NothingPutTwice w = (i k : ℕ) → IsNext w i (Put k) → IsNotThere w.program w.controls.pool (items_at (lists_of w.program i) k)

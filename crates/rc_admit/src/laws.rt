@@ -18,7 +18,8 @@ pub fn accepted_is_safe()
 /// - each `io_uring_sqe_set_data64(3)` gives user data that no request in flight has, so that no two of them have the
 ///   same, and the completions in their ring are those of the completed requests, in their order;
 /// - at each `io_uring_cqe_seen(3)` the front completion was looked at, exactly one completed request has its user
-///   data, and behind that step none has.
+///   data, and behind that step none has;
+/// - nothing is put into the pool that is there already, and no call on the pool is made without the lock.
 pub fn safe_worlds()
     ensures no_write_of_pending { worlds.OfSafeWorlds worlds.NoWriteOfPending }
     ensures no_read_of_filling { worlds.OfSafeWorlds worlds.NoReadOfFilling }
@@ -33,4 +34,5 @@ pub fn safe_worlds()
     ensures data_is_one { worlds.OfSafeWorlds worlds.DataIsOne }
     ensures completions_agree { worlds.OfSafeWorlds worlds.CompletionsAgree }
     ensures reaps_one { worlds.OfSafeWorlds worlds.EachReapsOne }
+    ensures put_once { worlds.OfSafeWorlds worlds.NothingPutTwice }
 {}

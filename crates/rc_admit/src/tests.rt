@@ -4,6 +4,7 @@ mod ring_calls;
 mod schedules;
 mod worlds;
 
+use self::worlds::{DOUBLE, POOLED};
 use crate::admitted::{Admitted, admit};
 use crate::fault::AdmitFault;
 use rc_examples::programs::{EARLY, EMPTY_THREAD, HANDOFF, NOP};
@@ -19,10 +20,12 @@ const OPEN_THREAD: &str = "ringcheck 1\nring 1\nthread t0 holds {\n";
 /// A text, and what it is answered with.
 type Row = (&'static str, &'static str, u32, u32);
 
-const ROWS: [Row; 8] = [
+const ROWS: [Row; 10] = [
     (HANDOFF, "accepted", 0, 0),
     (EMPTY_THREAD, "accepted", 0, 0),
     (ALL_CREDITS, "accepted", 0, 0),
+    (POOLED, "accepted", 0, 0),
+    (DOUBLE, "refused", 7, 19),
     (EARLY, "refused", 18, 8),
     (NOP, "refused", 19, 12),
     (OVER_CREDITS, "refused", 3, 18),

@@ -35,6 +35,23 @@ v = load a 4
 ",
     },
     Example {
+        name: "f12_double_put.rc",
+        text: "\
+ringcheck 3 # The path of an error puts a buffer, and the end of all paths puts it again.
+ring 1
+buffer a 4 1
+thread t0 holds a:1 {
+x = -5
+lock {
+if x < 0 {
+put a:1
+}
+put a:1
+}
+}
+",
+    },
+    Example {
         name: "f1_write_of_pending.rc",
         text: "\
 ringcheck 1 # A buffer is filled again while its write is pending.
@@ -615,6 +632,37 @@ break
 ",
     },
     Example {
+        name: "v19_not_held.rc",
+        text: "\
+ringcheck 3 # A buffer is put while its write is in flight.
+ring 1
+file 3 4
+buffer a 4 1
+token 7 write a 1
+thread t0 holds a:1 t:7 c:1 {
+lock {
+get_sqe
+prep_write 3 a 4 0 1
+set_data64 7
+loop keeps q:1 {
+r = submit
+if sq_ready == 0 {
+break
+}
+}
+put a:1
+}
+}
+thread t1 holds {
+lock {
+if take a:1 {
+fill a x
+}
+}
+}
+",
+    },
+    Example {
         name: "v1_unlocked.rc",
         text: "\
 ringcheck 1 # A thread looks for completions without the lock.
@@ -896,6 +944,8 @@ v17_token_twice.rc\tcheck\t1\trefused line 17 V17 TokenTwice
 v17_token_twice.rc\tstep --schedule t0,t0,t0,t0,t0,t0,t0,t0,t0,t1,t1,t1\t1\tfault F7 AmbiguousData t1 line 21
 v18_over_credits.rc\tcheck\t1\trefused line 18 V18 OverCredits
 v18_over_credits.rc\tstep --schedule t0,t0,t0,t0,t0,t0,t0,t0,t0,t1,t1,t1,t1,t1,t1,k:7=0\t1\tfault F6 Overflow kernel
+v19_not_held.rc\tcheck\t1\trefused line 17 V19 NotHeld
+v19_not_held.rc\tstep --schedule t0,t0,t0,t0,t0,t0,t0,t0,t0,t0,t1,t1\t1\tfault F1 WriteOfPending t1 line 23
 f1_write_of_pending.rc\tstep --schedule t0,t0,t0,t0,t0,t0,t0,t0,t0\t1\tfault F1 WriteOfPending t0 line 18
 f1_write_of_pending.rc\tcheck\t1\trefused line 18 V7 NotWhole
 f2_read_of_filling.rc\tstep --schedule t0,t0,t0,t0,t0,t0,t0,t0,t0\t1\tfault F2 ReadOfFilling t0 line 18
@@ -918,4 +968,6 @@ f10_raw_entry.rc\tstep --schedule t0,t0\t1\tfault F10 RawEntry t0 line 7
 f10_raw_entry.rc\tcheck\t1\trefused line 7 V5 NoSlot
 f11_out_of_buffer.rc\tstep\t1\tfault F11 OutOfBuffer t0 line 5
 f11_out_of_buffer.rc\tcheck\t1\trefused line 5 V9 OutOfBuffer
+f12_double_put.rc\tstep --schedule t0,t0,t0,t0\t1\tfault F12 DoublePut t0 line 10
+f12_double_put.rc\tcheck\t1\trefused line 10 V19 NotHeld
 ";

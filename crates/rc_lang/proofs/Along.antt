@@ -6,7 +6,7 @@ use Rattle.rc_lang.specs.declared.lines.Block.{Block}
 use Rattle.rc_lang.specs.declared.lines.Block.TheVariants.{InLock, InIf, InElse, InPeek, InArm, InLoop}
 use Rattle.rc_lang.specs.declared.lines.Line.{Line}
 use Rattle.rc_lang.specs.declared.lines.Stmt.{Stmt}
-use Rattle.rc_lang.specs.declared.lines.Stmt.TheVariants.{Do, Lock, EndLock, Else, EndIf, EndArm, EndPeek, EndLoop, Break}
+use Rattle.rc_lang.specs.declared.lines.Stmt.TheVariants.{Do, Put, Lock, EndLock, Else, EndIf, EndArm, EndPeek, EndLoop, Break}
 use Rattle.rc_lang.specs.Nesting.{blocks_at, in_lock, is_lock}
 use Rattle.rc_lang.specs.Program.{stmt_at}
 use Rattle.rc_lang.proofs.Closing.{closes_arm, closes_if, closes_lock, closes_loop, closes_peek, turns}
@@ -37,6 +37,7 @@ module _ (lines : List Line) (each : EachNested lines) (j : ℕ) where
   -- Behind a line a lock is open where it opens one, or one was open and it closes none.
   pub lock_next : (s : Stmt) → stmt_at lines j ≡ Some s → in_lock (blocks_at lines (j + 1)) ≡ locked_behind (in_lock (blocks_at lines j)) s
   lock_next (Do op) e = ap in_lock (blocks_next lines j (Do op) e)
+  lock_next (Put k) e = ap in_lock (blocks_next lines j (Put k) e)
   lock_next Lock e = ap in_lock (blocks_next lines j Lock e) ∙ in_lock_pushed (blocks_at lines j) (InLock j) ∙ or_right (in_lock (blocks_at lines j)) true refl
   lock_next (EndLock o) e = let c = closes_lock lines each j o e in ap in_lock c.behind ∙ (nested_here lines each o Lock c.stands).0
   lock_next (Else o) e = let c = turns lines each j o e in lock_popped (blocks_at lines o) (InIf o) (InElse j) c.within c.behind refl refl

@@ -4,7 +4,7 @@ use Rattle.rc_lang.specs.declared.lines.Block.{Block}
 use Rattle.rc_lang.specs.declared.lines.Block.TheVariants.{InLock, InIf, InElse, InPeek, InArm, InLoop}
 use Rattle.rc_lang.specs.declared.lines.Line.{Line}
 use Rattle.rc_lang.specs.declared.lines.Stmt.{Stmt}
-use Rattle.rc_lang.specs.declared.lines.Stmt.TheVariants.{Do, EndLock, If, Else, EndIf, Peek, Case, Other, Nothing, EndArm, EndPeek, Loop, EndLoop, Break}
+use Rattle.rc_lang.specs.declared.lines.Stmt.TheVariants.{Do, Put, EndLock, If, Else, EndIf, Peek, Case, Other, Nothing, EndArm, EndPeek, Loop, EndLoop, Break}
 use Rattle.rc_lang.specs.declared.lines.Test.{Test}
 use Rattle.rc_lang.specs.Nesting.{blocks_at, blocks_behind, directly_in_peek, innermost, IsNestedIn, without_innermost}
 use Rattle.rc_lang.specs.Program.{HasArms, HasEnd, IsLinked, stmt_at}
@@ -59,6 +59,7 @@ module _ (lines : List Line) (each : EachNested lines) where
 
   outside_behind : (j : ℕ) (s : Stmt) → leads_open s ≡ true → IsNestedIn (blocks_at lines j) s → directly_in_peek (blocks_behind (blocks_at lines j) j s) ≡ false
   outside_behind j (Do op) g n = n
+  outside_behind j (Put k) g n = n
   outside_behind j (EndLock o) g n = not_directly (without_innermost (blocks_at lines j)) (popped_fits j (InLock o) n).1
   outside_behind j (EndIf o) g n = elim n [ inl h ↦ popped_fits j (InIf o) h | inr h ↦ popped_fits j (InElse o) h ]
   outside_behind j (Peek x) g n = absurd (cc)

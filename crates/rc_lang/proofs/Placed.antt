@@ -7,7 +7,7 @@ use Rattle.rc_lang.specs.declared.lines.Block.{Block}
 use Rattle.rc_lang.specs.declared.lines.Block.TheVariants.{InLock, InIf, InElse, InPeek, InArm, InLoop}
 use Rattle.rc_lang.specs.declared.lines.Line.{Line}
 use Rattle.rc_lang.specs.declared.lines.Stmt.{Stmt}
-use Rattle.rc_lang.specs.declared.lines.Stmt.TheVariants.{Do, Lock, If, Else, EndIf, Peek, Case, Other, Nothing, Loop, Break}
+use Rattle.rc_lang.specs.declared.lines.Stmt.TheVariants.{Do, Put, Lock, If, Else, EndIf, Peek, Case, Other, Nothing, Loop, Break}
 use Rattle.rc_lang.specs.declared.lines.Test.{Test}
 use Rattle.rc_lang.specs.Nesting.{blocks_at, blocks_behind, innermost, IsNestedIn, without_innermost}
 use Rattle.rc_lang.specs.Program.{stmt_at}
@@ -127,6 +127,7 @@ module _ (lines : List Line) (j : ℕ) (bs : List Block) (here : blocks_at lines
 
   placed_behind : (s : Stmt) → stmt_at lines j ≡ Some s → IsNestedIn bs s → ArePlaced lines (suc j) (blocks_behind bs j s)
   placed_behind (Do op) e n = kept
+  placed_behind (Put k) e n = kept
   placed_behind Lock e n = pushed (InLock j) (opened Lock e)
   placed_behind (If test) e n = pushed (InIf j) (test, opened (If test) e)
   placed_behind (Else o) e n = turned o e n

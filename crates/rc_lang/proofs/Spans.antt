@@ -6,7 +6,7 @@ use Rattle.rc_lang.specs.declared.lines.Block.{Block}
 use Rattle.rc_lang.specs.declared.lines.Block.TheVariants.{InLock, InIf, InElse, InPeek, InArm, InLoop}
 use Rattle.rc_lang.specs.declared.lines.Line.{Line}
 use Rattle.rc_lang.specs.declared.lines.Stmt.{Stmt}
-use Rattle.rc_lang.specs.declared.lines.Stmt.TheVariants.{Do, Lock, EndLock, If, Else, EndIf, Peek, Case, Other, Nothing, EndArm, EndPeek, Loop, EndLoop, Break}
+use Rattle.rc_lang.specs.declared.lines.Stmt.TheVariants.{Do, Put, Lock, EndLock, If, Else, EndIf, Peek, Case, Other, Nothing, EndArm, EndPeek, Loop, EndLoop, Break}
 use Rattle.rc_lang.specs.Nesting.{blocks_at, blocks_behind, without_innermost}
 use Rattle.rc_lang.specs.Program.{HasArms, stmt_at}
 use Rattle.rc_lang.proofs.Closing.{OpensArm, closes_peek, opens_case, opens_nothing, opens_other}
@@ -41,6 +41,7 @@ module _ (bs : List Block) (j d : ℕ) (b : Block) where
 
   pub open_before : (s : Stmt) → slice_get (blocks_behind bs j s) d ≡ Some b → (slice_get bs d ≡ Some b) ⊎ (opened_by j s ≡ Some b)
   open_before (Do op) e = inl e
+  open_before (Put k) e = inl e
   open_before (EndLock o) e = inl (older (length bs - 1) e)
   open_before (Else o) e = elim (get_push (without_innermost bs) (InElse j) d b e) [ inl h ↦ inl (older (length bs - 1) h) | inr h ↦ inr (ap Some h.1) ]
   open_before (EndIf o) e = inl (older (length bs - 1) e)

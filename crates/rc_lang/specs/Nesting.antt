@@ -5,7 +5,7 @@ use Rattle.rc_lang.specs.declared.lines.Block.{Block}
 use Rattle.rc_lang.specs.declared.lines.Block.TheVariants.{InLock, InIf, InElse, InPeek, InArm, InLoop}
 use Rattle.rc_lang.specs.declared.lines.Line.{Line}
 use Rattle.rc_lang.specs.declared.lines.Stmt.{Stmt}
-use Rattle.rc_lang.specs.declared.lines.Stmt.TheVariants.{Do, Lock, EndLock, If, Else, EndIf, Peek, Case, Other, Nothing, EndArm, EndPeek, Loop, EndLoop, Break}
+use Rattle.rc_lang.specs.declared.lines.Stmt.TheVariants.{Do, Put, Lock, EndLock, If, Else, EndIf, Peek, Case, Other, Nothing, EndArm, EndPeek, Loop, EndLoop, Break}
 
 -- Blocks stand with the innermost last.
 abbrev pub innermost : List Block → Option Block
@@ -17,6 +17,7 @@ without_innermost blocks = take (length blocks - 1) blocks
 -- The blocks that are open behind a line at place j, from those that are open before it.
 abbrev pub blocks_behind : List Block → ℕ → Stmt → List Block
 blocks_behind blocks j (Do op) = blocks
+blocks_behind blocks j (Put k) = blocks
 blocks_behind blocks j Lock = blocks ++ InLock j ∷ []
 blocks_behind blocks j (EndLock o) = without_innermost blocks
 blocks_behind blocks j (If test) = blocks ++ InIf j ∷ []
@@ -96,6 +97,7 @@ way_out blocks = way_through (record { loop = None; releases = false; leaves = f
 -- The line may stand where these blocks are open.
 abbrev pub IsNestedIn : List Block → Stmt → Type 0
 IsNestedIn blocks (Do op) = directly_in_peek blocks ≡ false
+IsNestedIn blocks (Put k) = directly_in_peek blocks ≡ false
 IsNestedIn blocks Lock = (in_lock blocks ≡ false) × (in_peek blocks ≡ false)
 IsNestedIn blocks (EndLock o) = innermost blocks ≡ Some (InLock o)
 IsNestedIn blocks (If test) = directly_in_peek blocks ≡ false

@@ -9,9 +9,9 @@ use Rattle.rc_lang.specs.declared.lines.Op.TheVariants.{Set, Assign, Add, Subtra
 use Rattle.rc_lang.specs.declared.lines.Operand.{Operand}
 use Rattle.rc_lang.specs.declared.lines.Operand.TheVariants.{Variable, Number}
 use Rattle.rc_lang.specs.declared.lines.Stmt.{Stmt}
-use Rattle.rc_lang.specs.declared.lines.Stmt.TheVariants.{Do, Lock, EndLock, If, Else, EndIf, Peek, Case, Other, Nothing, EndArm, EndPeek, Loop, EndLoop, Break}
+use Rattle.rc_lang.specs.declared.lines.Stmt.TheVariants.{Do, Put, Lock, EndLock, If, Else, EndIf, Peek, Case, Other, Nothing, EndArm, EndPeek, Loop, EndLoop, Break}
 use Rattle.rc_lang.specs.declared.lines.Test.{Test}
-use Rattle.rc_lang.specs.declared.lines.Test.TheVariants.{Compare, ReadyZero, SpaceAtLeast}
+use Rattle.rc_lang.specs.declared.lines.Test.TheVariants.{Compare, ReadyZero, SpaceAtLeast, Take}
 use Rattle.rc_lang.specs.declared.program.File.{File}
 use Rattle.rc_lang.specs.declared.program.Share.{Share}
 use Rattle.rc_lang.specs.declared.program.Token.{Token}
@@ -42,8 +42,9 @@ pub record Items : Type 0 where
   pub more : More
 
 -- A thread: its name and the line of its header, what it holds as it begins, its lists of items (what it holds at the
--- tops of its loops), its lines, for the lines that a jump starts from the place that it leads to, how many variables it
--- has, and its flag: the one variable that a loop of it names behind `when`, wherever in the thread that loop stands.
+-- tops of its loops, and what it puts into the pool and takes from it), its lines, for the lines that a jump starts from
+-- the place that it leads to, how many variables it has, and its flag: the one variable that a loop of it names behind
+-- `when`, wherever in the thread that loop stands.
 pub record Thread : Type 0 where
   pub name : List ℕ
   pub line : ℕ
@@ -88,6 +89,14 @@ lines_of program i = lines_in (slice_get program.threads i)
 abbrev pub line_at : Program → ℕ → ℕ → Option Line
 line_at program i j = slice_get (lines_of program i) j
 
+-- the lists of items of a thread
+abbrev pub lists_in : Option Thread → List Items
+lists_in None = []
+lists_in (Some thread) = thread.lists
+
+abbrev pub lists_of : Program → ℕ → List Items
+lists_of program i = lists_in (slice_get program.threads i)
+
 abbrev pub ends_in : Option Thread → List ℕ
 ends_in None = []
 ends_in (Some thread) = thread.ends
@@ -105,7 +114,7 @@ no_more = record { shares = []; tokens = []; credits = 0 }
 abbrev pub besides : Items → Items
 besides items = record { shares = items.more.shares; tokens = items.more.tokens; credits = items.more.credits; queue = None; more = no_more }
 
--- the items of a loop, by their number
+-- the items of a loop, a put or a take, by their number
 abbrev pub no_items : Items
 no_items = record { shares = []; tokens = []; credits = 0; queue = None; more = no_more }
 
@@ -176,16 +185,18 @@ IsResolvedOp program variables (Submit x) = x < variables
 IsResolvedOp program variables (SubmitAndWait x n) = (x < variables) × (n ≤ 2048)
 IsResolvedOp program variables CqeSeen = Unit {0}
 
-abbrev pub IsResolvedTest : Program → ℕ → Test → Type 0
-IsResolvedTest program variables (Compare x c n) = x < variables
-IsResolvedTest program variables ReadyZero = Unit {0}
-IsResolvedTest program variables (SpaceAtLeast n) = n ≤ program.entries
+abbrev pub IsResolvedTest : Program → (variables lists : ℕ) → Test → Type 0
+IsResolvedTest program variables lists (Compare x c n) = x < variables
+IsResolvedTest program variables lists ReadyZero = Unit {0}
+IsResolvedTest program variables lists (SpaceAtLeast n) = n ≤ program.entries
+IsResolvedTest program variables lists (Take k) = k < lists
 
 abbrev pub IsResolved : Program → (variables lists : ℕ) → Stmt → Type 0
 IsResolved program variables lists (Do op) = IsResolvedOp program variables op
+IsResolved program variables lists (Put k) = k < lists
 IsResolved program variables lists Lock = Unit {0}
 IsResolved program variables lists (EndLock o) = Unit {0}
-IsResolved program variables lists (If test) = IsResolvedTest program variables test
+IsResolved program variables lists (If test) = IsResolvedTest program variables lists test
 IsResolved program variables lists (Else o) = Unit {0}
 IsResolved program variables lists (EndIf o) = Unit {0}
 IsResolved program variables lists (Peek x) = x < variables
@@ -226,6 +237,7 @@ pub record HasArms (lines : List Line) (ends : List ℕ) (j : ℕ) : Type 0 wher
 -- break stands before its loop's end.
 abbrev pub IsLinked : List Line → List ℕ → ℕ → Stmt → Type 0
 IsLinked lines ends j (Do op) = Unit {0}
+IsLinked lines ends j (Put k) = Unit {0}
 IsLinked lines ends j Lock = Unit {0}
 IsLinked lines ends j (EndLock o) = Unit {0}
 IsLinked lines ends j (If test) = HasEnd lines ends j (Else j) ⊎ HasEnd lines ends j (EndIf j)
@@ -264,7 +276,12 @@ pub record IsList (program : Program) (items : Items) : Type 0 where
 abbrev pub MaySayQueue : Thread → ℕ → ℕ → Type 0
 MaySayQueue thread j k = in_lock (blocks_at thread.lines j) ≡ false → (items_at thread.lists k).queue ≡ None
 
--- The flag is a variable, of a program of version 2; a thread without one holds nothing besides at any loop.
+-- What is put into the pool or taken from it bounds no queue, and depends on no flag.
+pub record IsOfPool (items : Items) : Type 0 where
+  pub no_queue : items.queue ≡ None
+  pub no_more : items.more ≡ no_more
+
+-- The flag is a variable, of a program of version 2 or later; a thread without one holds nothing besides at any loop.
 pub record IsFlag (program : Program) (thread : Thread) : Type 0 where
   pub variable : IfSome thread.flag (λ x. x < thread.variables)
   pub version : program.version ≡ 1 → thread.flag ≡ None
@@ -287,6 +304,8 @@ pub record IsThread (program : Program) (thread : Thread) : Type 0 where
   pub resolved : (j : ℕ) (s : Stmt) → stmt_at thread.lines j ≡ Some s → IsResolved program thread.variables (length thread.lists) s
   pub linked : (j : ℕ) (s : Stmt) → stmt_at thread.lines j ≡ Some s → IsLinked thread.lines thread.ends j s
   pub queues : (j k : ℕ) → stmt_at thread.lines j ≡ Some (Loop k) → MaySayQueue thread j k
+  pub puts : (j k : ℕ) → stmt_at thread.lines j ≡ Some (Put k) → IsOfPool (items_at thread.lists k)
+  pub takes : (j k : ℕ) → stmt_at thread.lines j ≡ Some (If (Take k)) → IsOfPool (items_at thread.lists k)
 
 -- A file has a number up to 1,023 and at most 65,536 bytes, a buffer 1 to 4,096 bytes in 1 to 16 shares.
 pub record IsFile (file : File) : Type 0 where
@@ -315,7 +334,7 @@ line_numbers threads = flat_map (λ (t : Thread). numbers_from t.line t.lines) t
 -- What each made program keeps: the limits, nesting, resolved names, and that from the first header on each line has a
 -- higher number than the one before.
 pub record IsProgram (program : Program) : Type 0 where
-  pub version : (1 ≤ program.version) × (program.version ≤ 2)
+  pub version : (1 ≤ program.version) × (program.version ≤ 3)
   pub entries : IsRingSize 1024 program.entries
   pub completion_entries : IsRingSize 2048 program.completion_entries
   pub room : program.entries ≤ program.completion_entries

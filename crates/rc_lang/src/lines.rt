@@ -87,6 +87,9 @@ pub enum Test {
     ReadyZero,
     /// `if sq_space_left >= n`: whether at least n entries, 0 to the ring's, are free (`io_uring_sq_space_left(3)`).
     SpaceAtLeast(u32),
+    /// `if take ITEMS`: whether the pool has at least the items, which then leave it; their number among the thread's
+    /// lists.
+    Take(usize),
 }
 
 /// What stands on a line. The blocks of a program are lines of their own, and a closing line names the place of the
@@ -95,6 +98,8 @@ pub enum Test {
 pub enum Stmt {
     /// A statement without a block.
     Do(Op),
+    /// `put ITEMS`: the items go to the pool; their number among the thread's lists.
+    Put(usize),
     /// `lock {`: takes the program's lock.
     Lock,
     /// The closing brace of the lock at this place, where the lock is released.

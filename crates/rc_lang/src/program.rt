@@ -7,7 +7,8 @@ use std::marker::Model;
 /// (`io_uring_setup(2)`).
 #[derive(Clone, Copy)]
 pub struct Head {
-    /// The version of the notation, 1 or 2. A thread of version 2 may have a flag.
+    /// The version of the notation, 1 to 3. From version 2 on a thread may have a flag, and in version 3 there is a
+    /// pool.
     pub version: u32,
     /// Entries of the submission ring, 1 to 1024.
     pub entries: u32,
@@ -112,7 +113,8 @@ pub struct Thread {
     pub line: u32,
     /// What it holds as it begins.
     pub items: Items,
-    /// Its lists of items, in text order: what it holds at the tops of its loops.
+    /// Its lists of items, in text order: what it holds at the tops of its loops, and what it puts into the pool and
+    /// takes from it.
     pub lists: Vec<Items>,
     /// Its lines, without the header and its closing brace.
     pub lines: Vec<Line>,
@@ -121,7 +123,7 @@ pub struct Thread {
     pub ends: Vec<usize>,
     /// How many variables it has, at most 64.
     pub variables: usize,
-    /// The variable that its loops name behind `when`, in a program of version 2.
+    /// The variable that its loops name behind `when`, in a program of version 2 or later.
     pub flag: Option<usize>,
 }
 
@@ -161,8 +163,8 @@ impl Model for Program {
 
 impl Program {
     ghost use Rattle.std.specs.Prelude.{◌≡◌, map};
-    ghost use Rattle.rc_lang.specs.Parts.{view_buffer, view_program, view_thread};
-    ghost use Rattle.rc_lang.specs.Program.{IsProgram, bytes_at, end_at, line_at, shares_at, token_place};
+    ghost use Rattle.rc_lang.specs.Parts.{view_buffer, view_items, view_program, view_thread};
+    ghost use Rattle.rc_lang.specs.Program.{IsProgram, bytes_at, end_at, line_at, lists_of, shares_at, token_place};
 
     /// A program of these parts, which keep the limits, the nesting and the resolved names of programs.
     pub fn new(head: Head, declarations: Declarations, threads: Vec<Thread>) -> Program
@@ -176,7 +178,7 @@ impl Program {
         }
     }
 
-    /// The version of the notation: 1 or 2.
+    /// The version of the notation: 1 to 3.
     pub fn version(&self) -> u32
         ensures value { result ≡ self.now.version }
         ensures made { IsProgram self.now }
@@ -288,6 +290,17 @@ impl Program {
         thread.lines.get(place).copied()
     }
 
+    /// The lists of items of a thread, in text order; none where there is no such thread.
+    pub fn lists_of(&self, thread: usize) -> &[Items]
+        ensures value { map view_items result.now ≡ lists_of self.now thread }
+        ensures made { IsProgram self.now }
+    {
+        match self.threads.get(thread) {
+            Some(thread) => &thread.lists,
+            None => &[],
+        }
+    }
+
     /// The place that the line at a place of a thread leads to, and 0 where the table of such places ends before it.
     pub fn end_at(&self, thread: usize, place: usize) -> usize
         ensures value { result ≡ end_at self.now thread place }
@@ -325,6 +338,7 @@ mod tests {
         assert_eq!(rt; program.threads().len(), 0);
         assert_eq!(rt; program.files().len(), 0);
         assert!(rt; program.line_at(0, 0).is_none());
+        assert_eq!(rt; program.lists_of(0).len(), 0);
         assert_eq!(rt; program.end_at(0, 0), 0);
         assert_eq!(rt; program.bytes_at(0), 0);
         assert_eq!(rt; program.shares_at(0), 0);

@@ -6,6 +6,7 @@ mod devices;
 mod flags;
 mod limits;
 mod long;
+mod pool;
 mod programs;
 mod refused;
 mod runs;

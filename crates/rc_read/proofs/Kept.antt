@@ -4,10 +4,11 @@ use Rattle.std.specs.List.{list_any}
 use Rattle.std.proofs.lemmas.Bool.{and_cases, and_parts, leb-false, not-false, or_parts}
 use Rattle.rc_lang.specs.declared.lines.Block.{Block}
 use Rattle.rc_lang.specs.declared.lines.Block.TheVariants.{InIf, InPeek}
+use Rattle.rc_lang.specs.declared.lines.Test.TheVariants as test
 use Rattle.rc_lang.specs.declared.program.TokenKind.{TokenKind}
 use Rattle.rc_lang.specs.declared.program.TokenKind.TheVariants as kind
 use Rattle.rc_lang.specs.Nesting.{Way, directly_in_peek, in_lock, in_peek, innermost, is_some_peek, way_out}
-use Rattle.rc_lang.specs.Program.{Buffer as BufferOf, IsProgram, IsTokenKind, Program, Thread as ThreadOf, line_numbers}
+use Rattle.rc_lang.specs.Program.{Buffer as BufferOf, IsOfPool, IsProgram, Items, IsTokenKind, Program, Thread as ThreadOf, line_numbers}
 use Rattle.rc_read.specs.declared.parts.Region.{Region}
 use Rattle.rc_read.specs.declared.parts.Region.TheVariants.{Start, Second, Declarations, InThread, Between}
 use Rattle.rc_read.specs.declared.says.Says.{Says}
@@ -67,8 +68,11 @@ module _ (ts : List ThreadOf) where
     room : nat_le 31 (length s.draft.blocks) ≡ false → length s.draft.blocks < 31
     room e = leb-false 31 (length s.draft.blocks) e
 
-    longer : length s.draft.lists < length (s.draft.lists ++ held_in_loop its ∷ [])
-    longer = let a : length (s.draft.lists ++ held_in_loop its ∷ []) ≡ length s.draft.lists + 1 = length-append s.draft.lists (held_in_loop its ∷ []) in omega arith
+    longer : (i : Items) → length s.draft.lists < length (s.draft.lists ++ i ∷ [])
+    longer i = let a : length (s.draft.lists ++ i ∷ []) ≡ length s.draft.lists + 1 = length-append s.draft.lists (i ∷ []) in omega arith
+
+    of_pool : any_queue its ≡ false → IsOfPool (held its [])
+    of_pool n = record { no_queue = no_queue its n; no_more = refl }
 
     header : (s.region ≡ Declarations) ⊎ (s.region ≡ Between) → AreThreads (made ts s) s.threads × RiseTo s.count (line_numbers s.threads)
     header h = elim h [
@@ -116,26 +120,29 @@ module _ (ts : List ThreadOf) where
         draft = draft_start (made ts s) (second_of ws) (s.count + 1) (held its []) t.2.0 (omega arith) (omega arith) t.3 (no_queue its n) refl;
       };
     }
-    kept_what (says.Op op) t b d n c = follows (says.Op op) (stands stand.Inside t.0) (record { nested = c; room = tt; arm = tt; resolved = t.1; loop = tt })
-    kept_what says.Lock t b d n c = follows says.Lock (stands stand.Inside t) (record { nested = or_parts (in_lock s.draft.blocks) (in_peek s.draft.blocks) n; room = room d; arm = tt; resolved = tt; loop = tt })
-    kept_what (says.If test) t b d n c = follows (says.If test) (stands stand.Inside t.0) (record { nested = c; room = room d; arm = tt; resolved = t.1; loop = tt })
+    kept_what (says.Op op) t b d n c = follows (says.Op op) (stands stand.Inside t.0) (record { nested = c; room = tt; arm = tt; resolved = t.1; list = tt })
+    kept_what says.Put t b d n c = follows says.Put (stands stand.Inside t.0) (record { nested = c; room = tt; arm = tt; resolved = longer (held its []); list = (refl, t.1, of_pool n) })
+    kept_what says.Lock t b d n c = follows says.Lock (stands stand.Inside t) (record { nested = or_parts (in_lock s.draft.blocks) (in_peek s.draft.blocks) n; room = room d; arm = tt; resolved = tt; list = tt })
+    kept_what (says.If (test.Take i)) t b d n c = let none : i < 0 = t.1 in absurd (omega arith)
+    kept_what (says.If test) t b d n c = follows (says.If test) (stands stand.Inside t.0) (record { nested = c; room = room d; arm = tt; resolved = t.1; list = tt })
+    kept_what says.Take t b d n c = follows says.Take (stands stand.Inside t.0) (record { nested = c; room = room d; arm = tt; resolved = longer (held its []); list = (refl, t.1, of_pool n) })
     kept_what says.Else t b d n c =
         let h = and_parts (is_inside s.region) (is_first_branch (innermost s.draft.blocks)) (not-false (is_inside s.region && is_first_branch (innermost s.draft.blocks)) b) in
-        follows says.Else (inside s.region (ap not h.0)) (record { nested = first_branch (innermost s.draft.blocks) h.1; room = tt; arm = tt; resolved = tt; loop = tt })
-    kept_what (says.Peek x) t b d n c = follows (says.Peek x) (stands stand.Inside t.0) (record { nested = n; room = room d; arm = tt; resolved = t.1; loop = tt })
+        follows says.Else (inside s.region (ap not h.0)) (record { nested = first_branch (innermost s.draft.blocks) h.1; room = tt; arm = tt; resolved = tt; list = tt })
+    kept_what (says.Peek x) t b d n c = follows (says.Peek x) (stands stand.Inside t.0) (record { nested = n; room = room d; arm = tt; resolved = t.1; list = tt })
     kept_what (says.Case u) t b d n c =
         let h = or_parts (not (directly_in_peek s.draft.blocks)) (list_any (λ v. v == u) s.draft.arms.cases) c in
-        follows (says.Case u) (stands stand.Inside t.0) (record { nested = peeked (innermost s.draft.blocks) (not-false (directly_in_peek s.draft.blocks) h.0); room = room d; arm = h.1; resolved = t.1; loop = tt })
+        follows (says.Case u) (stands stand.Inside t.0) (record { nested = peeked (innermost s.draft.blocks) (not-false (directly_in_peek s.draft.blocks) h.0); room = room d; arm = h.1; resolved = t.1; list = tt })
     kept_what says.Other t b d n c =
         let h = or_parts (not (directly_in_peek s.draft.blocks)) s.draft.arms.other c in
-        follows says.Other (stands stand.Inside t) (record { nested = peeked (innermost s.draft.blocks) (not-false (directly_in_peek s.draft.blocks) h.0); room = room d; arm = h.1; resolved = tt; loop = tt })
+        follows says.Other (stands stand.Inside t) (record { nested = peeked (innermost s.draft.blocks) (not-false (directly_in_peek s.draft.blocks) h.0); room = room d; arm = h.1; resolved = tt; list = tt })
     kept_what says.Nothing t b d n c =
         let h = or_parts (not (directly_in_peek s.draft.blocks)) s.draft.arms.none c in
-        follows says.Nothing (stands stand.Inside t) (record { nested = peeked (innermost s.draft.blocks) (not-false (directly_in_peek s.draft.blocks) h.0); room = room d; arm = h.1; resolved = tt; loop = tt })
+        follows says.Nothing (stands stand.Inside t) (record { nested = peeked (innermost s.draft.blocks) (not-false (directly_in_peek s.draft.blocks) h.0); room = room d; arm = h.1; resolved = tt; list = tt })
     kept_what says.Loop t b d n c =
         let h = or_parts (in_peek s.draft.blocks) (any_queue its && (not (in_lock s.draft.blocks) || any_queue (behind_when its))) n in
-        follows says.Loop (stands stand.Inside t.0) (record { nested = h.0; room = room d; arm = tt; resolved = longer; loop = (refl, t.1, λ locked. no_queue_before its (no_queue_outside its (in_lock s.draft.blocks) (any_queue (behind_when its)) h.1 locked)) })
-    kept_what says.Break t b d n c = follows says.Break (stands stand.Inside t) (record { nested = (c, out_of_loop (way_out s.draft.blocks) n); room = tt; arm = tt; resolved = tt; loop = tt })
+        follows says.Loop (stands stand.Inside t.0) (record { nested = h.0; room = room d; arm = tt; resolved = longer (held_in_loop its); list = (refl, t.1, λ locked. no_queue_before its (no_queue_outside its (in_lock s.draft.blocks) (any_queue (behind_when its)) h.1 locked)) })
+    kept_what says.Break t b d n c = follows says.Break (stands stand.Inside t) (record { nested = (c, out_of_loop (way_out s.draft.blocks) n); room = tt; arm = tt; resolved = tt; list = tt })
     kept_what says.Close t b d n c = kept_brace ts (with_names s ps) lt k (inside s.region b) (innermost s.draft.blocks) refl c
 
   -- ---- a line

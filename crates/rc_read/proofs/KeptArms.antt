@@ -8,7 +8,7 @@ use Rattle.rc_lang.specs.declared.lines.Block.{Block}
 use Rattle.rc_lang.specs.declared.lines.Block.TheVariants.{InLock, InIf, InElse, InPeek, InArm, InLoop}
 use Rattle.rc_lang.specs.declared.lines.Line.{Line}
 use Rattle.rc_lang.specs.declared.lines.Stmt.{Stmt}
-use Rattle.rc_lang.specs.declared.lines.Stmt.TheVariants.{Do, Lock, EndLock, If, Else, EndIf, Peek, Case, Other, Nothing, EndArm, EndPeek, Loop, EndLoop, Break}
+use Rattle.rc_lang.specs.declared.lines.Stmt.TheVariants.{Do, Put, Lock, EndLock, If, Else, EndIf, Peek, Case, Other, Nothing, EndArm, EndPeek, Loop, EndLoop, Break}
 use Rattle.rc_lang.specs.Nesting.{blocks_at, blocks_behind, in_peek, innermost, is_peek, IsNestedIn, without_innermost}
 use Rattle.rc_lang.specs.Program.{IsAhead, stmt_at}
 use Rattle.rc_lang.proofs.Closing.{opens_case, opens_nothing, opens_other}
@@ -76,6 +76,7 @@ module _ (bs : List Block) (n o : ℕ) where
 
   was_open : (s : Stmt) → IsNestedIn bs s → ((x : ℕ) → s ≡ Peek x → ⊥) → Contains (blocks_behind bs n s) (InPeek o) → Contains bs (InPeek o)
   was_open (Do op) e ne c = c
+  was_open (Put k) e ne c = c
   was_open Lock e ne c = was_pushed (InLock n) (λ q. absurd (cc)) c
   was_open (EndLock p) e ne c = was_popped (InLock p) e c
   was_open (If test) e ne c = was_pushed (InIf n) (λ q. absurd (cc)) c

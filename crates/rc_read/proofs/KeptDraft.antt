@@ -9,14 +9,15 @@ use Rattle.rc_lang.specs.declared.lines.Block.{Block}
 use Rattle.rc_lang.specs.declared.lines.Block.TheVariants.{InLock, InIf, InElse, InPeek, InArm, InLoop}
 use Rattle.rc_lang.specs.declared.lines.Line.{Line}
 use Rattle.rc_lang.specs.declared.lines.Stmt.{Stmt}
-use Rattle.rc_lang.specs.declared.lines.Stmt.TheVariants.{Do, Lock, EndLock, If, Else, EndIf, Peek, Case, Other, Nothing, EndArm, EndPeek, Loop, EndLoop, Break}
+use Rattle.rc_lang.specs.declared.lines.Stmt.TheVariants.{Do, Put, Lock, EndLock, If, Else, EndIf, Peek, Case, Other, Nothing, EndArm, EndPeek, Loop, EndLoop, Break}
+use Rattle.rc_lang.specs.declared.lines.Test.TheVariants.{Take}
 use Rattle.rc_lang.specs.Names.{is_name}
 use Rattle.rc_lang.specs.Nesting.{blocks_at, blocks_behind, in_lock, innermost, IsNestedIn, without_innermost}
-use Rattle.rc_lang.specs.Program.{IsFlag, IsItems, IsList, IsResolved, IsThread, Items, Program, items_at, no_items, no_more, stmt_at}
+use Rattle.rc_lang.specs.Program.{IsFlag, IsItems, IsList, IsOfPool, IsResolved, IsThread, Items, Program, items_at, no_items, no_more, stmt_at}
 use Rattle.rc_lang.proofs.Lookups.{EachNested, blocks_new, blocks_old, nested_more, nested_start, stands_within, stmt_push}
 use Rattle.rc_lang.proofs.Placed.{ArePlaced, placed, placed_innermost}
 use Rattle.rc_read.specs.declared.values.Item.{Item}
-use Rattle.rc_read.specs.Adds.{ends_behind, held_in_loop, lists_behind, whole_thread, with_stmt}
+use Rattle.rc_read.specs.Adds.{ends_behind, held, held_in_loop, lists_behind, whole_thread, with_stmt}
 use Rattle.rc_read.specs.Sheets.{Draft, headed, names_behind, naming}
 use Rattle.rc_read.specs.Spots.{Spot}
 use Rattle.rc_read.specs.Values.{flag_in}
@@ -45,6 +46,8 @@ pub record IsDraft (p : Program) (d : Draft) : Type 0 where
   pub kept : AreKept d.blocks d.lines d.ends
   pub seen : AreSeen d.blocks d.lines d.arms
   pub queues : (j k : ℕ) → stmt_at d.lines j ≡ Some (Loop k) → in_lock (blocks_at d.lines j) ≡ false → (items_at d.lists k).queue ≡ None
+  pub puts : (j k : ℕ) → stmt_at d.lines j ≡ Some (Put k) → IsOfPool (items_at d.lists k)
+  pub takes : (j k : ℕ) → stmt_at d.lines j ≡ Some (If (Take k)) → IsOfPool (items_at d.lists k)
 
 pub draft_start : (p : Program) (name : List ℕ) (line : ℕ) (items : Items) → is_name name ≡ true → 1 ≤ line → line ≤ 4096 → IsItems p items → items.queue ≡ None → items.more ≡ no_more → IsDraft p (headed name line items)
 draft_start p name line items is some few held none nothing = record {
@@ -65,6 +68,8 @@ draft_start p name line items is some few held none nothing = record {
   kept = λ j s e. absurd (cc);
   seen = λ o c. let lt : c.0 < 0 = c.1 in absurd (omega arith);
   queues = λ j k e. absurd (cc);
+  puts = λ j k e. absurd (cc);
+  takes = λ j k e. absurd (cc);
 }
   where
     shallow : (j : ℕ) → length (blocks_at [] j) ≤ 31
@@ -96,6 +101,8 @@ draft_named p d ps few k = record {
   kept = k.kept;
   seen = k.seen;
   queues = k.queues;
+  puts = k.puts;
+  takes = k.takes;
 }
 
 -- ---- one more line
@@ -111,10 +118,16 @@ HasRoom bs (Nothing o) = length bs < 31
 HasRoom bs (Loop k) = length bs < 31
 HasRoom bs s = Unit {0}
 
--- The items of a loop are fine.
-abbrev pub IsFineLoop : Program → Draft → List Item → Stmt → Type 0
-IsFineLoop p d items (Loop k) = (k ≡ length d.lists) × IsLoopOf p (length d.names) items × (in_lock d.blocks ≡ false → (held_in_loop items).queue ≡ None)
-IsFineLoop p d items s = Unit {0}
+-- The items of a put or a take are fine.
+abbrev pub IsFinePool : Program → Draft → List Item → ℕ → Type 0
+IsFinePool p d items k = (k ≡ length d.lists) × IsList p (held items []) × IsOfPool (held items [])
+
+-- The items of a loop, a put or a take are fine.
+abbrev pub IsFineList : Program → Draft → List Item → Stmt → Type 0
+IsFineList p d items (Put k) = IsFinePool p d items k
+IsFineList p d items (If (Take k)) = IsFinePool p d items k
+IsFineList p d items (Loop k) = (k ≡ length d.lists) × IsLoopOf p (length d.names) items × (in_lock d.blocks ≡ false → (held_in_loop items).queue ≡ None)
+IsFineList p d items s = Unit {0}
 
 -- Such a line may be the next.
 pub record MayFollow (p : Program) (d : Draft) (items : List Item) (s : Stmt) : Type 0 where
@@ -122,7 +135,7 @@ pub record MayFollow (p : Program) (d : Draft) (items : List Item) (s : Stmt) : 
   pub room : HasRoom d.blocks s
   pub arm : IsNewArm d.arms s
   pub resolved : IsResolved p (length d.names) (length (lists_behind d.lists items s)) s
-  pub loop : IsFineLoop p d items s
+  pub list : IsFineList p d items s
 
 module _ (bs : List Block) (n : ℕ) (few : length bs ≤ 31) where
   deeper : (b : Block) → length bs < 31 → length (bs ++ b ∷ []) ≤ 31
@@ -140,6 +153,7 @@ module _ (bs : List Block) (n : ℕ) (few : length bs ≤ 31) where
 
   depth_behind : (s : Stmt) → IsNestedIn bs s → HasRoom bs s → length (blocks_behind bs n s) ≤ 31
   depth_behind (Do op) e r = few
+  depth_behind (Put k) e r = few
   depth_behind Lock e r = deeper (InLock n) r
   depth_behind (EndLock o) e r = less_deep
   depth_behind (If test) e r = deeper (InIf n) r
@@ -156,24 +170,44 @@ module _ (bs : List Block) (n : ℕ) (few : length bs ≤ 31) where
   depth_behind (Break o releases leaves) e r = few
 
 module _ (p : Program) (d : Draft) (items : List Item) where
-  lists_fine : (s : Stmt) → IsFineLoop p d items s → All (IsList p) d.lists → All (IsList p) (lists_behind d.lists items s)
+  lists_fine : (s : Stmt) → IsFineList p d items s → All (IsList p) d.lists → All (IsList p) (lists_behind d.lists items s)
   lists_fine (Loop k) f h = All-push (IsList p) d.lists (held_in_loop items) h f.1.list
+  lists_fine (Put k) f h = All-push (IsList p) d.lists (held items []) h f.1
+  lists_fine (If (Take k)) f h = All-push (IsList p) d.lists (held items []) h f.1
   lists_fine s f h = h
 
+  longer : (i : Items) → length d.lists ≤ length (d.lists ++ i ∷ [])
+  longer i = let a : length (d.lists ++ i ∷ []) ≡ length d.lists + 1 = length-append d.lists (i ∷ []) in omega arith
+
   lists_grow : (s : Stmt) → length d.lists ≤ length (lists_behind d.lists items s)
-  lists_grow (Loop k) = let a : length (d.lists ++ held_in_loop items ∷ []) ≡ length d.lists + 1 = length-append d.lists (held_in_loop items ∷ []) in omega arith
+  lists_grow (Loop k) = longer (held_in_loop items)
+  lists_grow (Put k) = longer (held items [])
+  lists_grow (If (Take k)) = longer (held items [])
   lists_grow s = omega arith
 
   old_items : (s : Stmt) (k : ℕ) → k < length d.lists → items_at (lists_behind d.lists items s) k ≡ items_at d.lists k
   old_items (Loop i) k lt = get_or_append_left d.lists (held_in_loop items ∷ []) no_items k lt
+  old_items (Put i) k lt = get_or_append_left d.lists (held items [] ∷ []) no_items k lt
+  old_items (If (Take i)) k lt = get_or_append_left d.lists (held items [] ∷ []) no_items k lt
   old_items s k lt = refl
 
-  new_queue : (s : Stmt) → IsFineLoop p d items s → (k : ℕ) → s ≡ Loop k → in_lock d.blocks ≡ false → (items_at (lists_behind d.lists items s) k).queue ≡ None
+  new_queue : (s : Stmt) → IsFineList p d items s → (k : ℕ) → s ≡ Loop k → in_lock d.blocks ≡ false → (items_at (lists_behind d.lists items s) k).queue ≡ None
   new_queue (Loop i) f k e n =
       let q : i ≡ k = cc in
       let g : length d.lists ≡ k = sym f.0 ∙ q in
       ap (λ (x : Items). x.queue) (get_or_push d.lists (held_in_loop items) no_items k g) ∙ f.2 n
   new_queue s f k e n = absurd (cc)
+
+  new_pool : (i k : ℕ) → IsFinePool p d items i → i ≡ k → IsOfPool (items_at (d.lists ++ held items [] ∷ []) k)
+  new_pool i k f q = subst IsOfPool (sym (get_or_push d.lists (held items []) no_items k (sym f.0 ∙ q))) f.2
+
+  new_put : (s : Stmt) → IsFineList p d items s → (k : ℕ) → s ≡ Put k → IsOfPool (items_at (lists_behind d.lists items s) k)
+  new_put (Put i) f k e = new_pool i k f (cc)
+  new_put s f k e = absurd (cc)
+
+  new_take : (s : Stmt) → IsFineList p d items s → (k : ℕ) → s ≡ If (Take k) → IsOfPool (items_at (lists_behind d.lists items s) k)
+  new_take (If (Take i)) f k e = new_pool i k f (cc)
+  new_take s f k e = absurd (cc)
 
   -- ---- the flag
 
@@ -185,12 +219,17 @@ module _ (p : Program) (d : Draft) (items : List Item) where
   either None b f g = g
   either (Some x) b f g = f
 
-  flag_more : (number : ℕ) (s : Stmt) → IsFineLoop p d items s → IsFlag p (whole_thread d) → IsFlag p (whole_thread (with_stmt d number items s))
+  flag_with : IsFlag p (whole_thread d) → d.flag ≡ None → All (λ (i : Items). i.more ≡ no_more) (d.lists ++ held items [] ∷ [])
+  flag_with h none = All-push (λ (i : Items). i.more ≡ no_more) d.lists (held items []) (h.without none) refl
+
+  flag_more : (number : ℕ) (s : Stmt) → IsFineList p d items s → IsFlag p (whole_thread d) → IsFlag p (whole_thread (with_stmt d number items s))
   flag_more number (Loop k) f h = record {
     variable = either d.flag (flag_in items) h.variable f.1.flag;
     version = λ first. ap (λ o. option_or o (flag_in items)) (h.version first) ∙ f.1.version first;
     without = λ none. let n = neither d.flag (flag_in items) none in All-push (λ (i : Items). i.more ≡ no_more) d.lists (held_in_loop items) (h.without n.0) (nothing_besides items n.1);
   }
+  flag_more number (Put k) f h = record { variable = h.variable; version = h.version; without = flag_with h }
+  flag_more number (If (Take k)) f h = record { variable = h.variable; version = h.version; without = flag_with h }
   flag_more number s f h = record { variable = h.variable; version = h.version; without = h.without }
 
 module _ (p : Program) (d : Draft) (k : IsDraft p d) where
@@ -213,10 +252,10 @@ module _ (p : Program) (d : Draft) (k : IsDraft p d) where
         items = k.items;
         no_queue = k.no_queue;
         no_more = k.no_more;
-        lists = lists_fine p d items s may.loop k.lists;
+        lists = lists_fine p d items s may.list k.lists;
         numbers = All-push (λ (m : Line). (1 ≤ m.number) × (m.number ≤ 4096)) d.lines line k.numbers (some, few);
         few_names = k.few_names;
-        flag = flag_more p d items number s may.loop k.flag;
+        flag = flag_more p d items number s may.list k.flag;
         stand = behind (length (d.lines ++ line ∷ [])) (omega arith);
         each = nested_more d.lines line k.each (subst (λ bs. IsNestedIn bs s) (sym k.stand) may.nested);
         depth = λ j. elim (cases_lt n j) [
@@ -237,7 +276,15 @@ module _ (p : Program) (d : Draft) (k : IsDraft p d) where
           | inr h ↦ λ locked.
               let q : j ≡ length d.lines = h.0 in
               let here : blocks_at (d.lines ++ line ∷ []) j ≡ d.blocks = blocks_old d.lines line j (omega arith) ∙ ap (λ m. blocks_at d.lines m) q ∙ k.stand in
-              new_queue p d items s may.loop i h.1 (ap in_lock (sym here) ∙ locked)
+              new_queue p d items s may.list i h.1 (ap in_lock (sym here) ∙ locked)
+        ];
+        puts = λ j i e. elim (stmt_push d.lines line j (Put i) e) [
+          | inl h ↦ subst IsOfPool (sym (old_items p d items s i (k.resolved j (Put i) h))) (k.puts j i h)
+          | inr h ↦ new_put p d items s may.list i h.1
+        ];
+        takes = λ j i e. elim (stmt_push d.lines line j (If (Take i)) e) [
+          | inl h ↦ subst IsOfPool (sym (old_items p d items s i (k.resolved j (If (Take i)) h))) (k.takes j i h)
+          | inr h ↦ new_take p d items s may.list i h.1
         ];
       }
 
@@ -258,4 +305,6 @@ module _ (p : Program) (d : Draft) (k : IsDraft p d) where
     resolved = k.resolved;
     linked = all_linked d.lines d.ends (subst (λ bs. AreKept bs d.lines d.ends) e k.kept);
     queues = k.queues;
+    puts = k.puts;
+    takes = k.takes;
   }

@@ -7,7 +7,7 @@ use Rattle.rc_lang.specs.declared.lines.Block.{Block}
 use Rattle.rc_lang.specs.declared.lines.Block.TheVariants.{InLock, InIf, InElse, InPeek, InArm, InLoop}
 use Rattle.rc_lang.specs.declared.lines.Line.{Line}
 use Rattle.rc_lang.specs.declared.lines.Stmt.{Stmt}
-use Rattle.rc_lang.specs.declared.lines.Stmt.TheVariants.{Do, Lock, EndLock, If, Else, EndIf, Peek, Case, Other, Nothing, EndArm, EndPeek, Loop, EndLoop, Break}
+use Rattle.rc_lang.specs.declared.lines.Stmt.TheVariants.{Do, Put, Lock, EndLock, If, Else, EndIf, Peek, Case, Other, Nothing, EndArm, EndPeek, Loop, EndLoop, Break}
 use Rattle.rc_lang.specs.Nesting.{blocks_behind, innermost, IsNestedIn, without_innermost}
 use Rattle.rc_lang.specs.Program.{HasEnd, IsAhead, IsFirst, IsLinked, stmt_at}
 use Rattle.rc_lang.proofs.Closing.{way_out_found}
@@ -86,6 +86,7 @@ module _ (bs : List Block) (n o : ℕ) where
   -- a block that is open stays so, unless the line closes it
   stays : (s : Stmt) → IsNestedIn bs s → IsOpenAt bs o → (closed_by s ≡ Some o) ⊎ IsOpenAt (blocks_behind bs n s) o
   stays (Do op) e h = inr h
+  stays (Put k) e h = inr h
   stays Lock e h = inr (pushed (InLock n) h)
   stays (EndLock p) e h = popped (InLock p) e h
   stays (If test) e h = inr (pushed (InIf n) h)

@@ -240,10 +240,11 @@ module _ (threads : List ThreadOf) (s : Sheet) where
   no_flag is f = none_named (flag_in is) (flag_fine threads s NoFlag is f)
 
   -- without `when`
+  pub list_alone : (is : List Item) → AreFine threads s NoFlag is → any_named_twice is ≡ false → IsList (made threads s) (held is [])
+  list_alone is f e = subst (λ o. IsList (made threads s) (held (before_at is o) (behind_at is o))) (nowhere is (no_flag is f)) (list_held NoFlag is f e)
+
   pub header_held : (is : List Item) → AreFine threads s NoFlag is → any_named_twice is ≡ false → IsItems (made threads s) (held is [])
-  header_held is f e =
-      let h = list_held NoFlag is f e in
-      subst (λ o. IsItems (made threads s) (held (before_at is o) (behind_at is o))) (nowhere is (no_flag is f)) h.first
+  header_held is f e = (list_alone is f e).first
 
   pub loop_held : (variables : ℕ) (is : List Item) → AreFine threads s NoFlag is → any_named_twice is ≡ false → IsLoopOf (made threads s) variables is
   loop_held variables is f e = record {

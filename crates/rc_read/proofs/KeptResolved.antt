@@ -1,12 +1,12 @@
--- What is resolved stays so, where there are more variables and loops.
+-- What is resolved stays so, where there are more variables and lists of items.
 use Rattle.std.proofs.Common.{ℕ, ◌<◌, ◌≤◌, arith}
 use Rattle.rc_lang.specs.declared.lines.Op.{Op}
 use Rattle.rc_lang.specs.declared.lines.Op.TheVariants.{Set, Assign, Add, Subtract, Load, Store, Fill, Print, Submit, SubmitAndWait}
 use Rattle.rc_lang.specs.declared.lines.Operand.{Operand}
 use Rattle.rc_lang.specs.declared.lines.Operand.TheVariants.{Variable, Number}
 use Rattle.rc_lang.specs.declared.lines.Stmt.{Stmt}
-use Rattle.rc_lang.specs.declared.lines.Stmt.TheVariants.{Do, If, Peek, Loop, EndLoop}
-use Rattle.rc_lang.specs.declared.lines.Test.TheVariants.{Compare}
+use Rattle.rc_lang.specs.declared.lines.Stmt.TheVariants.{Do, Put, If, Peek, Loop, EndLoop}
+use Rattle.rc_lang.specs.declared.lines.Test.TheVariants.{Compare, Take}
 use Rattle.rc_lang.specs.Program.{IsOperand, IsResolved, IsResolvedOp, Program}
 
 module _ (p : Program) (m n a b : ℕ) (more : m ≤ n) (lists : a ≤ b) where
@@ -33,7 +33,9 @@ module _ (p : Program) (m n a b : ℕ) (more : m ≤ n) (lists : a ≤ b) where
   pub resolved_on : (s : Stmt) → IsResolved p m a s → IsResolved p n b s
   resolved_on (Do op) h = op_on op h
   resolved_on (If (Compare x c k)) h = below x h
+  resolved_on (If (Take k)) h = let lt : k < a = h in omega arith
   resolved_on (If test) h = h
+  resolved_on (Put k) h = let lt : k < a = h in omega arith
   resolved_on (Peek x) h = below x h
   resolved_on (Loop k) h = let lt : k < a = h in omega arith
   resolved_on (EndLoop o k) h = let lt : k < a = h in omega arith

@@ -7,7 +7,7 @@ use Rattle.rc_lang.specs.declared.program.Head.{Head}
 use Rattle.rc_lang.specs.declared.program.TokenKind.{TokenKind}
 use Rattle.rc_lang.specs.declared.program.TokenKind.TheVariants as kind
 use Rattle.rc_lang.specs.Names.{is_name}
-use Rattle.rc_lang.specs.Program.{Buffer as BufferOf, DeclaresToken, IsFile, IsItems, IsOperand, IsResolvedOp, IsResolvedTest, IsRingSize, Thread as ThreadOf, shares_at}
+use Rattle.rc_lang.specs.Program.{Buffer as BufferOf, DeclaresToken, IsFile, IsItems, IsList, IsOperand, IsResolvedOp, IsResolvedTest, IsRingSize, Thread as ThreadOf, shares_at}
 use Rattle.rc_read.specs.declared.says.Rings.{Rings}
 use Rattle.rc_read.specs.declared.says.Says.{Says}
 use Rattle.rc_read.specs.declared.says.Says.TheVariants as says
@@ -28,8 +28,8 @@ use Rattle.rc_read.specs.Spots.{Spot, matches, spots_of, spots_of_items}
 use Rattle.rc_read.specs.Table.{parts_of, stand_of, version_of}
 use Rattle.rc_read.specs.Values.{any_lacks, items_in, rounded_up, start, value_at, values_of}
 use Rattle.rc_read.proofs.KeptItems.{SayFine, both_fine, items_fine}
-use Rattle.rc_read.proofs.KeptLists.{IsLoopOf, NoFlag, header_held, loop_held, loop_when_held}
-use Rattle.rc_read.proofs.KeptSpots.{AllNamed, has_flag, is_second, items_after, items_between, named_behind}
+use Rattle.rc_read.proofs.KeptLists.{IsLoopOf, NoFlag, header_held, list_alone, loop_held, loop_when_held}
+use Rattle.rc_read.proofs.KeptSpots.{AllNamed, has_flag, is_second, items_after, items_alone, items_between, named_behind}
 use Rattle.rc_read.proofs.KeptValues.{Fine, made}
 
 -- ---- sizes of rings
@@ -83,7 +83,7 @@ pub record AreRings (rings : Rings) : Type 0 where
 
 -- The head says a version and such rings.
 pub record IsHead (h : Head) : Type 0 where
-  pub version : (1 ≤ h.version) × (h.version ≤ 2)
+  pub version : (1 ≤ h.version) × (h.version ≤ 3)
   pub rings : AreRings (record { entries = h.entries; completion_entries = h.completion_entries; left = h.left })
 
 submission : (size : ℕ) → size ≤ 1024 → IsRingSize 1024 (rounded_up size)
@@ -123,15 +123,17 @@ IsNewName names w = (is_name w ≡ true) × (is_among names w ≡ false)
 module _ (threads : List ThreadOf) (s : Sheet) (d : Draft) (ws : List (List ℕ)) (its : List Item) where
   -- A line says this, in a form that stands there.
   abbrev pub IsTold : Stand → Says → Type 0
-  IsTold st (says.Version n) = (st ≡ stand.First) × (1 ≤ n) × (n ≤ 2)
+  IsTold st (says.Version n) = (st ≡ stand.First) × (1 ≤ n) × (n ≤ 3)
   IsTold st (says.Ring rings) = (st ≡ stand.Second) × AreRings rings
   IsTold st (says.File f) = (st ≡ stand.Declaration) × IsFile f × (has_file s.files f.number ≡ false) × (length s.files < 16)
   IsTold st (says.Buffer bytes shares) = (st ≡ stand.Declaration) × ((1 ≤ bytes) × (bytes ≤ 4096)) × ((1 ≤ shares) × (shares ≤ 16)) × (length s.buffers < 64) × IsNewName (buffer_names s.buffers) (second_of ws)
   IsTold st (says.Token t) = (st ≡ stand.Declaration) × IsKind s.buffers t.kind × (has_token s.tokens t.user_data ≡ false) × (length s.tokens < 256)
   IsTold st says.Thread = (st ≡ stand.Header) × (length s.threads < 16) × IsNewName (thread_names s.threads) (second_of ws) × IsItems (made threads s) (held its [])
   IsTold st (says.Op op) = (st ≡ stand.Inside) × IsResolvedOp (made threads s) (length d.names) op
+  IsTold st says.Put = (st ≡ stand.Inside) × IsList (made threads s) (held its [])
   IsTold st says.Lock = st ≡ stand.Inside
-  IsTold st (says.If test) = (st ≡ stand.Inside) × IsResolvedTest (made threads s) (length d.names) test
+  IsTold st (says.If test) = (st ≡ stand.Inside) × IsResolvedTest (made threads s) (length d.names) 0 test
+  IsTold st says.Take = (st ≡ stand.Inside) × IsList (made threads s) (held its [])
   IsTold st says.Else = Unit {0}
   IsTold st (says.Peek x) = (st ≡ stand.Inside) × (x < length d.names)
   IsTold st (says.Case u) = (st ≡ stand.Inside) × DeclaresToken (made threads s) u
@@ -145,6 +147,8 @@ module _ (threads : List ThreadOf) (s : Sheet) (d : Draft) (ws : List (List ℕ)
   abbrev pub HasMore : Row → Type 0
   HasMore row.Buffer = IsNewName (buffer_names s.buffers) (second_of ws)
   HasMore row.Thread = IsNewName (thread_names s.threads) (second_of ws) × IsItems (made threads s) (held its [])
+  HasMore row.Put = IsList (made threads s) (held its [])
+  HasMore row.IfTake = IsList (made threads s) (held its [])
   HasMore row.Loop = IsLoopOf (made threads s) (length d.names) its
   HasMore row.LoopWhen = IsLoopOf (made threads s) (length d.names) its
   HasMore r = Unit {0}
@@ -156,6 +160,7 @@ module _ (threads : List ThreadOf) (s : Sheet) (d : Draft) (ws : List (List ℕ)
   pub told : (r : Row) (vs : List Value) → Fine threads s d vs 0 1 None (parts_of r) → HasMore r → IsTold (stand_of r) (says_of r vs)
   told row.Version vs f m = (refl, omega arith, omega arith)
   told row.SecondVersion vs f m = (refl, omega arith, omega arith)
+  told row.ThirdVersion vs f m = (refl, omega arith, omega arith)
   told row.Ring vs f m = (refl, one_size _ 0 f.0 (omega arith))
   told row.RingCq vs f m = (refl, two_sizes (small vs 0) (small vs 1) 0 f.0 f.1.0 (omega arith))
   told row.RingLeft vs f m = (refl, one_size _ _ f.0 f.1.0)
@@ -174,6 +179,7 @@ module _ (threads : List ThreadOf) (s : Sheet) (d : Draft) (ws : List (List ℕ)
   told row.Store vs f m = (refl, (f.0, f.1.0.1, f.1.1.0))
   told row.Fill vs f m = (refl, (f.0, f.1.0))
   told row.Print vs f m = (refl, f.0)
+  told row.Put vs f m = (refl, m)
   told row.Lock vs f m = refl
   told row.GetSqe vs f m = (refl, tt)
   told row.PrepRead vs f m = (refl, record { file = f.0; buffer = f.1.0; length_within = f.1.1.0.1; place_within = f.1.1.1.0.1 })
@@ -191,6 +197,7 @@ module _ (threads : List ThreadOf) (s : Sheet) (d : Draft) (ws : List (List ℕ)
   told row.If vs f m = (refl, f.0)
   told row.IfReady vs f m = (refl, tt)
   told row.IfSpace vs f m = (refl, f.0)
+  told row.IfTake vs f m = (refl, m)
   told row.Else vs f m = tt
   told row.Loop vs f m = (refl, m)
   told row.LoopWhen vs f m = (refl, m)
@@ -222,6 +229,12 @@ module _ (threads : List ThreadOf) (s : Sheet) (d : Draft) (ws : List (List ℕ)
   loop_items : matches (parts_of row.Loop) ws ≡ true → SayItems (spots_of (parts_of row.Loop) ws)
   loop_items e = let h = items_after words.Loop words.Keeps words.Open ws e in subst SayItems (sym h.1) (items_fine threads s (NoFlag threads s) d h.0)
 
+  put_items : matches (parts_of row.Put) ws ≡ true → SayItems (spots_of (parts_of row.Put) ws)
+  put_items e = let h = items_alone words.Put ws e in subst SayItems (sym h.1) (items_fine threads s (NoFlag threads s) d h.0)
+
+  take_items : matches (parts_of row.IfTake) ws ≡ true → SayItems (spots_of (parts_of row.IfTake) ws)
+  take_items e = let h = items_after words.If words.Take words.Open ws e in subst SayItems (sym h.1) (items_fine threads s (NoFlag threads s) d h.0)
+
   -- where one is
   abbrev SayBoth : List Spot → Type 0
   SayBoth ps = SayFine threads s (λ x. x < length d.names) d ps
@@ -249,6 +262,8 @@ module _ (threads : List ThreadOf) (s : Sheet) (d : Draft) (ws : List (List ℕ)
       let k = is_second words.Thread NewThread (Fixed words.Holds ∷ Items ∷ Fixed words.Open ∷ []) ws refl refl e in
       let double = or_parts (is_double s NewThread (second_of ws)) (any_double s (spots_of (Fixed words.Holds ∷ Items ∷ Fixed words.Open ∷ []) k.rest)) (subst (λ ps. any_double s ps ≡ false) k.spots h.new) in
       ((k.fits, (or_parts (is_among (thread_names s.threads) (second_of ws)) (bytes_eq s.draft.name (second_of ws)) double.0).0), header_held threads s _ (thread_items e start h.numbers h.known) h.once)
+  has_more row.Put e v h = list_alone threads s _ (put_items e start h.numbers h.known) h.once
+  has_more row.IfTake e v h = list_alone threads s _ (take_items e start h.numbers h.known) h.once
   has_more row.Loop e v h = loop_held threads s (length d.names) _ (loop_items e start h.numbers h.known) h.once
   has_more row.LoopWhen e v h = loop_when_held threads s (length d.names) _ (loop_when_items e h.named start h.numbers h.known) h.once (leb-true 2 s.head.version v)
   has_more r e v h = tt

@@ -100,12 +100,12 @@ module _ (ts : List ThreadOf) where
       }
 
       closes : (b : Block) → innermost s.draft.blocks ≡ Some b → is_some_peek (Some b) && not (s.draft.arms.other && s.draft.arms.none) ≡ false → MayFollow (made ts s) s.draft [] (closing b)
-      closes (InLock o) i n = record { nested = i; room = tt; arm = tt; resolved = tt; loop = tt }
-      closes (InIf o) i n = record { nested = inl i; room = tt; arm = tt; resolved = tt; loop = tt }
-      closes (InElse o) i n = record { nested = inr i; room = tt; arm = tt; resolved = tt; loop = tt }
-      closes (InPeek o) i n = record { nested = i; room = tt; arm = and_parts s.draft.arms.other s.draft.arms.none (not-false (s.draft.arms.other && s.draft.arms.none) n); resolved = tt; loop = tt }
-      closes (InArm o) i n = record { nested = i; room = tt; arm = tt; resolved = tt; loop = tt }
-      closes (InLoop o m) i n = record { nested = i; room = tt; arm = tt; resolved = open_loop (made ts s) s.draft thread.draft o m i; loop = tt }
+      closes (InLock o) i n = record { nested = i; room = tt; arm = tt; resolved = tt; list = tt }
+      closes (InIf o) i n = record { nested = inl i; room = tt; arm = tt; resolved = tt; list = tt }
+      closes (InElse o) i n = record { nested = inr i; room = tt; arm = tt; resolved = tt; list = tt }
+      closes (InPeek o) i n = record { nested = i; room = tt; arm = and_parts s.draft.arms.other s.draft.arms.none (not-false (s.draft.arms.other && s.draft.arms.none) n); resolved = tt; list = tt }
+      closes (InArm o) i n = record { nested = i; room = tt; arm = tt; resolved = tt; list = tt }
+      closes (InLoop o m) i n = record { nested = i; room = tt; arm = tt; resolved = open_loop (made ts s) s.draft thread.draft o m i; list = tt }
 
       pub kept_brace : (x : Option Block) → innermost s.draft.blocks ≡ x → is_some_peek x && not (s.draft.arms.other && s.draft.arms.none) ≡ false → IsKept ts (counted (closed s x))
       kept_brace None i n = kept_whole i

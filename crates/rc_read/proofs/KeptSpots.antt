@@ -77,11 +77,14 @@ no_spot : (f : Word) (ws : List (List ℕ)) → spot_of_part (Fixed f) ws ≡ []
 no_spot f [] = refl
 no_spot f (w ∷ ws) = refl
 
--- Between fixed words the places are those of the items.
+-- Between fixed words, or behind one, the places are those of the items.
 pub items_between : (f g : Word) (ws : List (List ℕ)) → matches (Fixed f ∷ Items ∷ Fixed g ∷ []) ws ≡ true → (rest : List (List ℕ)) × (spots_of (Fixed f ∷ Items ∷ Fixed g ∷ []) ws ≡ spots_of_items rest)
 items_between f g ws e =
     let h = has_word (Fixed f) (Items ∷ Fixed g ∷ []) ws refl e in
     (h.rest, spots_step (Fixed f) (Items ∷ Fixed g ∷ []) ws h ∙ ap (λ ps. spots_of_items h.rest ++ (ps ++ [])) (no_spot g (behind_items h.rest)) ∙ append-nil (spots_of_items h.rest))
+
+pub items_alone : (f : Word) (ws : List (List ℕ)) → matches (Fixed f ∷ Items ∷ []) ws ≡ true → (rest : List (List ℕ)) × (spots_of (Fixed f ∷ Items ∷ []) ws ≡ spots_of_items rest)
+items_alone f ws e = let h = has_word (Fixed f) (Items ∷ []) ws refl e in (h.rest, spots_step (Fixed f) (Items ∷ []) ws h ∙ append-nil (spots_of_items h.rest))
 
 pub items_after : (e f g : Word) (ws : List (List ℕ)) → matches (Fixed e ∷ Fixed f ∷ Items ∷ Fixed g ∷ []) ws ≡ true → (rest : List (List ℕ)) × (spots_of (Fixed e ∷ Fixed f ∷ Items ∷ Fixed g ∷ []) ws ≡ spots_of_items rest)
 items_after e f g ws m =

@@ -7,12 +7,13 @@ use Rattle.rc_lang.specs.declared.lines.Block.{Block}
 use Rattle.rc_lang.specs.declared.lines.Block.TheVariants.{InLock, InIf, InElse, InPeek, InArm, InLoop}
 use Rattle.rc_lang.specs.declared.lines.Stmt.{Stmt}
 use Rattle.rc_lang.specs.declared.lines.Stmt.TheVariants as stmt
+use Rattle.rc_lang.specs.declared.lines.Test.TheVariants as test
 use Rattle.rc_lang.specs.declared.program.Head.{Head}
 use Rattle.rc_lang.specs.declared.program.Share.{Share}
 use Rattle.rc_read.specs.declared.parts.Region.TheVariants as region
 use Rattle.rc_read.specs.declared.says.Rings.{Rings}
 use Rattle.rc_read.specs.declared.says.Says.{Says}
-use Rattle.rc_read.specs.declared.says.Says.TheVariants.{Version, Ring, File, Buffer, Token, Thread, Op, Lock, If, Else, Peek, Case, Other, Nothing, Loop, Break, Close}
+use Rattle.rc_read.specs.declared.says.Says.TheVariants.{Version, Ring, File, Buffer, Token, Thread, Op, Put, Lock, If, Take, Else, Peek, Case, Other, Nothing, Loop, Break, Close}
 use Rattle.rc_read.specs.declared.table.Row.{Row}
 use Rattle.rc_read.specs.declared.values.Item.{Item}
 use Rattle.rc_read.specs.declared.values.Item.TheVariants as item
@@ -81,8 +82,11 @@ arms_behind arms (stmt.Other o) = record arms { other = true }
 arms_behind arms (stmt.Nothing o) = record arms { none = true }
 arms_behind arms _ = arms
 
+-- The lists of items behind a line: those of a loop, of a put and of a take are kept.
 abbrev pub lists_behind : List Items → List Item → Stmt → List Items
 lists_behind lists items (stmt.Loop k) = lists ++ held_in_loop items ∷ []
+lists_behind lists items (stmt.Put k) = lists ++ held items [] ∷ []
+lists_behind lists items (stmt.If (test.Take k)) = lists ++ held items [] ∷ []
 lists_behind lists items _ = lists
 
 -- A thread's flag is the variable of its first `when`.
@@ -127,8 +131,10 @@ closing_of (Some b) = closing b
 -- The statement of a line in a thread: arms and braces belong to the innermost block, a break to the innermost loop.
 abbrev pub stmt_in : Draft → Says → Stmt
 stmt_in d (Op op) = stmt.Do op
+stmt_in d Put = stmt.Put (length d.lists)
 stmt_in d Lock = stmt.Lock
 stmt_in d (If test) = stmt.If test
+stmt_in d Take = stmt.If (test.Take (length d.lists))
 stmt_in d Else = stmt.Else (block_place (innermost d.blocks))
 stmt_in d (Peek x) = stmt.Peek x
 stmt_in d (Case u) = stmt.Case (block_place (innermost d.blocks)) u

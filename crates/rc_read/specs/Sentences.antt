@@ -8,7 +8,7 @@ use Rattle.rc_lang.specs.declared.lines.Block.TheVariants.{InIf}
 use Rattle.rc_read.specs.declared.parts.Region.{Region}
 use Rattle.rc_read.specs.declared.parts.Region.TheVariants.{Start, Second, Declarations, InThread, Between}
 use Rattle.rc_read.specs.declared.says.Says.{Says}
-use Rattle.rc_read.specs.declared.says.Says.TheVariants.{Thread, Op, Lock, If, Else, Peek, Case, Other, Nothing, Loop, Break, Close}
+use Rattle.rc_read.specs.declared.says.Says.TheVariants.{Thread, Op, Put, Lock, If, Take, Else, Peek, Case, Other, Nothing, Loop, Break, Close}
 use Rattle.rc_read.specs.declared.table.Part.{Part}
 use Rattle.rc_read.specs.declared.table.Part.TheVariants as part
 use Rattle.rc_read.specs.declared.table.Row.{Row}
@@ -31,7 +31,7 @@ is_strange b = nat_lt 126 b || (nat_lt b 32 && not (b == 9) && not (b == 13))
 abbrev pub any_strange : List ℕ → Bool
 any_strange bytes = list_any is_strange bytes
 
--- ---- P2: the first line with words isn't `ringcheck 1` or `ringcheck 2`, the second doesn't begin with `ring`
+-- ---- P2: the first line with words isn't `ringcheck 1`, `ringcheck 2` or `ringcheck 3`, the second doesn't begin with `ring`
 
 abbrev pub is_version : Option Row → Bool
 is_version None = false
@@ -158,6 +158,7 @@ is_too_long s line = nat_le 4096 s.count || nat_lt 256 (length line)
 abbrev pub opens_block : Says → Bool
 opens_block Lock = true
 opens_block (If test) = true
+opens_block Take = true
 opens_block (Peek x) = true
 opens_block (Case u) = true
 opens_block Other = true
@@ -181,7 +182,7 @@ any_full s ps = list_any (λ (p : Spot). is_full s p.part) ps
 abbrev pub has_too_many_names : Sheet → List Spot → Bool
 has_too_many_names s spots = nat_lt 64 (length (names_behind s.draft.names spots))
 
--- ---- P9: a lock in a lock or in a peek, a peek or a loop in a peek, a break outside a loop, queued entries outside a lock or behind `when`
+-- ---- P9: a lock in a lock or in a peek, a peek or a loop in a peek, a break outside a loop, queued entries outside a lock, behind `when` or in what is put or taken
 
 abbrev pub says_queue : Item → Bool
 says_queue (item.Queued k) = true
@@ -195,6 +196,8 @@ bad_nesting blocks is Lock = in_lock blocks || in_peek blocks
 bad_nesting blocks is (Peek x) = in_peek blocks
 bad_nesting blocks is Loop = in_peek blocks || (any_queue is && (not (in_lock blocks) || any_queue (behind_when is)))
 bad_nesting blocks is Thread = any_queue is
+bad_nesting blocks is Put = any_queue is
+bad_nesting blocks is Take = any_queue is
 bad_nesting blocks is Break = is_none (way_out blocks).loop
 bad_nesting blocks is _ = false
 
@@ -206,8 +209,10 @@ bad_case d Other = not (directly_in_peek d.blocks) || d.arms.other
 bad_case d Nothing = not (directly_in_peek d.blocks) || d.arms.none
 bad_case d Close = directly_in_peek d.blocks && not (d.arms.other && d.arms.none)
 bad_case d (Op op) = directly_in_peek d.blocks
+bad_case d Put = directly_in_peek d.blocks
 bad_case d Lock = directly_in_peek d.blocks
 bad_case d (If test) = directly_in_peek d.blocks
+bad_case d Take = directly_in_peek d.blocks
 bad_case d (Peek x) = directly_in_peek d.blocks
 bad_case d Loop = directly_in_peek d.blocks
 bad_case d Break = directly_in_peek d.blocks

@@ -17,6 +17,7 @@ abbrev pub text_of : Word → List ℕ
 text_of words.Ringcheck = codes "ringcheck"
 text_of words.One = codes "1"
 text_of words.Two = codes "2"
+text_of words.Three = codes "3"
 text_of words.Ring = codes "ring"
 text_of words.Cq = codes "cq"
 text_of words.Left = codes "left"
@@ -63,12 +64,15 @@ text_of words.Loop = codes "loop"
 text_of words.Keeps = codes "keeps"
 text_of words.When = codes "when"
 text_of words.Break = codes "break"
+text_of words.Put = codes "put"
+text_of words.Take = codes "take"
 
 -- ---- the table
 
 abbrev pub parts_of : Row → List Part
 parts_of row.Version = Fixed words.Ringcheck ∷ Fixed words.One ∷ []
 parts_of row.SecondVersion = Fixed words.Ringcheck ∷ Fixed words.Two ∷ []
+parts_of row.ThirdVersion = Fixed words.Ringcheck ∷ Fixed words.Three ∷ []
 parts_of row.Ring = Fixed words.Ring ∷ Number Size ∷ []
 parts_of row.RingCq = Fixed words.Ring ∷ Number Size ∷ Fixed words.Cq ∷ Number CompletionSize ∷ []
 parts_of row.RingLeft = Fixed words.Ring ∷ Number Size ∷ Fixed words.Left ∷ Number Rounded ∷ []
@@ -87,6 +91,7 @@ parts_of row.Load = Variable ∷ Fixed words.Is ∷ Fixed words.Load ∷ Buffer 
 parts_of row.Store = Fixed words.Store ∷ Buffer ∷ Number (Within 0 4095) ∷ Variable ∷ []
 parts_of row.Fill = Fixed words.Fill ∷ Buffer ∷ Variable ∷ []
 parts_of row.Print = Fixed words.Print ∷ Variable ∷ []
+parts_of row.Put = Fixed words.Put ∷ Items ∷ []
 parts_of row.Lock = Fixed words.Lock ∷ Fixed words.Open ∷ []
 parts_of row.GetSqe = Fixed words.GetSqe ∷ []
 parts_of row.PrepRead = Fixed words.PrepRead ∷ File ∷ Buffer ∷ Number (Within 0 4096) ∷ Number (Within 0 1048576) ∷ []
@@ -104,6 +109,7 @@ parts_of row.Nothing = Fixed words.Nothing ∷ Fixed words.Open ∷ []
 parts_of row.If = Fixed words.If ∷ Variable ∷ Comparison ∷ Signed ∷ Fixed words.Open ∷ []
 parts_of row.IfReady = Fixed words.If ∷ Fixed words.SqReady ∷ Fixed words.Equal ∷ Fixed words.Zero ∷ Fixed words.Open ∷ []
 parts_of row.IfSpace = Fixed words.If ∷ Fixed words.SqSpaceLeft ∷ Fixed words.AtLeast ∷ Number Entries ∷ Fixed words.Open ∷ []
+parts_of row.IfTake = Fixed words.If ∷ Fixed words.Take ∷ Items ∷ Fixed words.Open ∷ []
 parts_of row.Else = Fixed words.Close ∷ Fixed words.Else ∷ Fixed words.Open ∷ []
 parts_of row.Loop = Fixed words.Loop ∷ Fixed words.Keeps ∷ Items ∷ Fixed words.Open ∷ []
 parts_of row.LoopWhen = Fixed words.Loop ∷ Fixed words.Keeps ∷ Items ∷ Fixed words.When ∷ Flag ∷ Items ∷ Fixed words.Open ∷ []
@@ -113,11 +119,14 @@ parts_of row.Close = Fixed words.Close ∷ []
 -- The version of the notation from which on a form stands in texts.
 abbrev pub version_of : Row → ℕ
 version_of row.LoopWhen = 2
+version_of row.Put = 3
+version_of row.IfTake = 3
 version_of _ = 1
 
 abbrev pub stand_of : Row → Stand
 stand_of row.Version = stand.First
 stand_of row.SecondVersion = stand.First
+stand_of row.ThirdVersion = stand.First
 stand_of row.Ring = stand.Second
 stand_of row.RingCq = stand.Second
 stand_of row.RingLeft = stand.Second
@@ -137,9 +146,9 @@ stand_of _ = stand.Inside
 abbrev pub fixed_rows : List Row
 fixed_rows =
     row.Close ∷ row.Else ∷ row.Break ∷ row.GetSqe ∷ row.CqeSeen ∷ row.Case ∷ row.PrepNop ∷ row.Peek ∷ row.Print ∷ row.PrepRead ∷ row.PrepWrite
-    ∷ row.PrepFsync ∷ row.Lock ∷ row.Loop ∷ row.LoopWhen ∷ row.Other ∷ row.Nothing ∷ row.SetData64 ∷ row.Store ∷ row.Fill ∷ row.IfReady ∷ row.If ∷ row.IfSpace
+    ∷ row.PrepFsync ∷ row.Put ∷ row.Lock ∷ row.Loop ∷ row.LoopWhen ∷ row.Other ∷ row.Nothing ∷ row.SetData64 ∷ row.Store ∷ row.Fill ∷ row.IfReady ∷ row.If ∷ row.IfSpace ∷ row.IfTake
     ∷ row.Thread ∷ row.TokenRead ∷ row.TokenWrite ∷ row.TokenFsync ∷ row.TokenNop ∷ row.File ∷ row.Buffer ∷ row.Ring ∷ row.RingCq ∷ row.RingLeft
-    ∷ row.RingCqLeft ∷ row.Version ∷ row.SecondVersion ∷ []
+    ∷ row.RingCqLeft ∷ row.Version ∷ row.SecondVersion ∷ row.ThirdVersion ∷ []
 
 abbrev pub assignments : List Row
 assignments = row.Submit ∷ row.Set ∷ row.Add ∷ row.Subtract ∷ row.Load ∷ row.SubmitAndWait ∷ []

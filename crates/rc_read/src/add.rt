@@ -184,15 +184,10 @@ impl Parts {
             Says::Thread => self.open(alloc, words, items),
             Says::Close => self.close(alloc),
             Says::Op(op) => self.draft.put_op(self.count + 1, op),
-            Says::Lock
-            | Says::If(_)
-            | Says::Else
-            | Says::Peek(_)
-            | Says::Case(_)
-            | Says::Other
-            | Says::Nothing
-            | Says::Loop
-            | Says::Break => self.say(alloc, items, says),
+            Says::Put | Says::Lock | Says::If(_) | Says::Take => self.say(alloc, items, says),
+            Says::Else | Says::Peek(_) | Says::Case(_) => self.say(alloc, items, says),
+            Says::Other | Says::Nothing => self.say(alloc, items, says),
+            Says::Loop | Says::Break => self.say(alloc, items, says),
         }
     }
 

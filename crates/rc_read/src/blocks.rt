@@ -153,8 +153,9 @@ pub fn bad_brace(parts: &Parts, says: Says) -> bool
         }
         Says::Thread => is_inside(parts.region),
         Says::Version(_) | Says::Ring(_) | Says::File(_) | Says::Buffer(_, _) => false,
-        Says::Token(_) | Says::Op(_) | Says::Lock | Says::If(_) | Says::Peek(_) => false,
-        Says::Case(_) | Says::Other | Says::Nothing | Says::Loop | Says::Break => false,
+        Says::Token(_) | Says::Op(_) | Says::Put | Says::Lock | Says::If(_) => false,
+        Says::Take | Says::Peek(_) | Says::Case(_) | Says::Other | Says::Nothing => false,
+        Says::Loop | Says::Break => false,
     }
 }
 
@@ -169,10 +170,10 @@ fn opens_block(says: Says) -> bool
     ensures { result ≡ spec.opens_block says }
 {
     match says {
-        Says::Lock | Says::If(_) | Says::Peek(_) | Says::Loop => true,
+        Says::Lock | Says::If(_) | Says::Take | Says::Peek(_) | Says::Loop => true,
         Says::Case(_) | Says::Other | Says::Nothing => true,
         Says::Version(_) | Says::Ring(_) | Says::File(_) | Says::Buffer(_, _) => false,
-        Says::Token(_) | Says::Thread | Says::Op(_) => false,
+        Says::Token(_) | Says::Thread | Says::Op(_) | Says::Put => false,
         Says::Else | Says::Break | Says::Close => false,
     }
 }
@@ -196,7 +197,7 @@ pub fn bad_nesting(draft: &Draft, items: &[Item], says: Says) -> bool
             in_peek(blocks)
                 || (any_queue(items) && (!in_lock(blocks) || any_queue(parted(items).1)))
         }
-        Says::Thread => any_queue(items),
+        Says::Thread | Says::Put | Says::Take => any_queue(items),
         Says::Break => way_out(blocks).place.is_none(),
         Says::Version(_) | Says::Ring(_) | Says::File(_) | Says::Buffer(_, _) => false,
         Says::Token(_) | Says::Op(_) | Says::If(_) | Says::Else => false,
@@ -222,7 +223,7 @@ pub fn bad_case(draft: &Draft, says: Says) -> bool
         Says::Nothing => !directly || arms.none,
         Says::Close => directly && !(arms.other && arms.none),
         Says::Op(_) | Says::Lock | Says::If(_) | Says::Peek(_) => directly,
-        Says::Loop | Says::Break => directly,
+        Says::Put | Says::Take | Says::Loop | Says::Break => directly,
         Says::Version(_) | Says::Ring(_) | Says::File(_) | Says::Buffer(_, _) => false,
         Says::Token(_) | Says::Thread | Says::Else => false,
     }

@@ -11,7 +11,7 @@ use crate::lists::{flag_in, parted};
 use crate::parts::{Arms, Draft};
 use crate::says::Says;
 use crate::values::Item;
-use rc_lang::lines::{Block, Line, Op, Stmt};
+use rc_lang::lines::{Block, Line, Op, Stmt, Test};
 use rc_lang::program::{Items, More, Share, Thread};
 use std::alloc::{AllocError, Global};
 
@@ -68,7 +68,7 @@ fn put_block(blocks: &mut Vec<Block>, place: usize, stmt: Stmt) -> Result<(), Al
     ensures { OnOk result (blocks.new.items ≡ nesting.blocks_behind blocks.old.items place stmt) }
 {
     match stmt {
-        Stmt::Do(_) | Stmt::Break(_, _, _) => Ok(()),
+        Stmt::Do(_) | Stmt::Put(_) | Stmt::Break(_, _, _) => Ok(()),
         Stmt::Lock => Ok(blocks.push(Block::InLock(place))?),
         Stmt::If(_) => Ok(blocks.push(Block::InIf(place))?),
         Stmt::Else(_) => {
@@ -98,7 +98,7 @@ fn closed_by(stmt: Stmt) -> Option<usize>
     match stmt {
         Stmt::Else(place) | Stmt::EndIf(place) => Some(place),
         Stmt::EndPeek(place) | Stmt::EndLoop(place, _) => Some(place),
-        Stmt::Do(_) | Stmt::Lock | Stmt::EndLock(_) | Stmt::If(_) => None,
+        Stmt::Do(_) | Stmt::Put(_) | Stmt::Lock | Stmt::EndLock(_) | Stmt::If(_) => None,
         Stmt::Peek(_) | Stmt::Case(_, _) | Stmt::Other(_) | Stmt::Nothing(_) => None,
         Stmt::EndArm(_) | Stmt::Loop(_) | Stmt::Break(_, _, _) => None,
     }
@@ -132,8 +132,16 @@ fn push_items(alloc: Global, lists: &mut Vec<Items>, items: &[Item]) -> Result<(
     Ok(())
 }
 
-// Keeps the items of a loop.
-fn put_loop(
+// Adds the items of a put or a take.
+fn push_pool(alloc: Global, lists: &mut Vec<Items>, items: &[Item]) -> Result<(), AllocError>
+    ensures { OnOk result (map view_items lists.new.items ≡ map view_items lists.old.items ++ spec.held items.now [] ∷ []) }
+{
+    lists.push(held(alloc, items)?)?;
+    Ok(())
+}
+
+// Keeps the items of a loop, a put or a take.
+fn put_list(
     alloc: Global,
     lists: &mut Vec<Items>,
     items: &[Item],
@@ -143,7 +151,9 @@ fn put_loop(
 {
     match stmt {
         Stmt::Loop(_) => push_items(alloc, lists, items),
-        Stmt::Do(_) | Stmt::Lock | Stmt::EndLock(_) | Stmt::If(_) => Ok(()),
+        Stmt::Put(_) | Stmt::If(Test::Take(_)) => push_pool(alloc, lists, items),
+        Stmt::If(Test::Compare(_, _, _) | Test::ReadyZero | Test::SpaceAtLeast(_)) => Ok(()),
+        Stmt::Do(_) | Stmt::Lock | Stmt::EndLock(_) => Ok(()),
         Stmt::Else(_) | Stmt::EndIf(_) | Stmt::Peek(_) | Stmt::Case(_, _) => Ok(()),
         Stmt::Other(_) | Stmt::Nothing(_) | Stmt::EndArm(_) | Stmt::EndPeek(_) => Ok(()),
         Stmt::EndLoop(_, _) | Stmt::Break(_, _, _) => Ok(()),
@@ -156,7 +166,7 @@ fn flag_behind(flag: Option<usize>, items: &[Item], stmt: Stmt) -> Option<usize>
 {
     match stmt {
         Stmt::Loop(_) => flag.or(flag_in(items)),
-        Stmt::Do(_) | Stmt::Lock | Stmt::EndLock(_) | Stmt::If(_) => flag,
+        Stmt::Do(_) | Stmt::Put(_) | Stmt::Lock | Stmt::EndLock(_) | Stmt::If(_) => flag,
         Stmt::Else(_) | Stmt::EndIf(_) | Stmt::Peek(_) | Stmt::Case(_, _) => flag,
         Stmt::Other(_) | Stmt::Nothing(_) | Stmt::EndArm(_) | Stmt::EndPeek(_) => flag,
         Stmt::EndLoop(_, _) | Stmt::Break(_, _, _) => flag,
@@ -184,7 +194,7 @@ impl Arms {
                 self.none = true;
                 Ok(())
             }
-            Stmt::Do(_) | Stmt::Lock | Stmt::EndLock(_) | Stmt::If(_) => Ok(()),
+            Stmt::Do(_) | Stmt::Put(_) | Stmt::Lock | Stmt::EndLock(_) | Stmt::If(_) => Ok(()),
             Stmt::Else(_) | Stmt::EndIf(_) | Stmt::EndArm(_) | Stmt::EndPeek(_) => Ok(()),
             Stmt::Loop(_) | Stmt::EndLoop(_, _) | Stmt::Break(_, _, _) => Ok(()),
         }
@@ -241,8 +251,10 @@ impl Draft {
         let block = innermost(&self.blocks);
         match says {
             Says::Op(op) => Stmt::Do(op),
+            Says::Put => Stmt::Put(self.lists.len()),
             Says::Lock => Stmt::Lock,
             Says::If(test) => Stmt::If(test),
+            Says::Take => Stmt::If(Test::Take(self.lists.len())),
             Says::Else => Stmt::Else(block_place(block)),
             Says::Peek(variable) => Stmt::Peek(variable),
             Says::Case(user_data) => Stmt::Case(block_place(block), user_data),
@@ -268,7 +280,7 @@ impl Draft {
     {
         let place = self.lines.len();
         self.flag = flag_behind(self.flag, items, stmt);
-        put_loop(alloc, &mut self.lists, items, stmt)?;
+        put_list(alloc, &mut self.lists, items, stmt)?;
         put_block(&mut self.blocks, place, stmt)?;
         put_end(&mut self.ends, place, stmt)?;
         self.arms.put(stmt)?;

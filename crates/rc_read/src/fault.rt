@@ -12,7 +12,7 @@ use std::fmt;
 pub enum ReadCause {
     /// Among the line's first 256 bytes is one above 126, or below 32 other than tab and carriage return.
     NotAscii = 1,
-    /// The text doesn't begin with `ringcheck 1` or `ringcheck 2` and a line that begins with `ring`.
+    /// The text doesn't begin with `ringcheck 1`, `ringcheck 2` or `ringcheck 3` and a line that begins with `ring`.
     BadHead,
     /// The words are no form, or one that may not stand in this part of the text.
     BadLine,
@@ -28,7 +28,7 @@ pub enum ReadCause {
     /// One line, byte, open block, thread, buffer, token, file or variable too many.
     TooLarge,
     /// A lock in a lock or in a peek, a peek or a loop in a peek, a break outside a loop, or queued entries said
-    /// outside a lock or behind `when`.
+    /// outside a lock, behind `when` or in what is put or taken.
     BadNesting,
     /// An arm that doesn't stand directly in a peek, another statement that does, an arm twice, or an arm that is
     /// missing.

@@ -9,6 +9,7 @@ pub enum Word {
     Ringcheck,
     One,
     Two,
+    Three,
     Ring,
     Cq,
     Left,
@@ -55,6 +56,8 @@ pub enum Word {
     Keeps,
     When,
     Break,
+    Put,
+    Take,
 }
 
 /// The bytes of a fixed word.
@@ -65,6 +68,7 @@ pub fn text_of(word: Word) -> &'static [u8]
         Word::Ringcheck => b"ringcheck",
         Word::One => b"1",
         Word::Two => b"2",
+        Word::Three => b"3",
         Word::Ring => b"ring",
         Word::Cq => b"cq",
         Word::Left => b"left",
@@ -111,5 +115,7 @@ pub fn text_of(word: Word) -> &'static [u8]
         Word::Keeps => b"keeps",
         Word::When => b"when",
         Word::Break => b"break",
+        Word::Put => b"put",
+        Word::Take => b"take",
     }
 }

@@ -58,11 +58,18 @@ fn is_reserved_at(first: u8, w: &[u8]) -> bool
     }
 }
 
+// Whether a word says what is put into the pool or taken from it.
+fn is_of_pool(w: &[u8]) -> bool
+    ensures { result ≡ spec.is_of_pool w.now }
+{
+    is(w, b"put") || is(w, b"take")
+}
+
 /// Whether a later version of the notation reserves a word besides.
 pub fn is_reserved_by(version: u32, w: &[u8]) -> bool
     ensures { result ≡ spec.is_reserved_by version w.now }
 {
-    version >= 2 && is(w, b"when")
+    (version >= 2 && is(w, b"when")) || (version >= 3 && is_of_pool(w))
 }
 
 /// Whether a word is reserved.

@@ -59,6 +59,7 @@ pub enum Part {
 pub enum Row {
     Version,
     SecondVersion,
+    ThirdVersion,
     Ring,
     RingCq,
     RingLeft,
@@ -77,6 +78,7 @@ pub enum Row {
     Store,
     Fill,
     Print,
+    Put,
     Lock,
     GetSqe,
     PrepRead,
@@ -94,6 +96,7 @@ pub enum Row {
     If,
     IfReady,
     IfSpace,
+    IfTake,
     Else,
     Loop,
     LoopWhen,
@@ -125,6 +128,7 @@ pub fn parts_of(row: Row) -> &'static [Part]
     match row {
         Row::Version => &[Part::Fixed(Word::Ringcheck), Part::Fixed(Word::One)],
         Row::SecondVersion => &[Part::Fixed(Word::Ringcheck), Part::Fixed(Word::Two)],
+        Row::ThirdVersion => &[Part::Fixed(Word::Ringcheck), Part::Fixed(Word::Three)],
         Row::Ring => &[Part::Fixed(Word::Ring), Part::Number(Range::Size)],
         Row::RingCq => &[
             Part::Fixed(Word::Ring),
@@ -217,6 +221,7 @@ pub fn parts_of(row: Row) -> &'static [Part]
         ],
         Row::Fill => &[Part::Fixed(Word::Fill), Part::Buffer, Part::Variable],
         Row::Print => &[Part::Fixed(Word::Print), Part::Variable],
+        Row::Put => &[Part::Fixed(Word::Put), Part::Items],
         Row::Lock => &[Part::Fixed(Word::Lock), Part::Fixed(Word::Open)],
         Row::GetSqe => &[Part::Fixed(Word::GetSqe)],
         Row::PrepRead => &[
@@ -286,6 +291,12 @@ pub fn parts_of(row: Row) -> &'static [Part]
             Part::Number(Range::Entries),
             Part::Fixed(Word::Open),
         ],
+        Row::IfTake => &[
+            Part::Fixed(Word::If),
+            Part::Fixed(Word::Take),
+            Part::Items,
+            Part::Fixed(Word::Open),
+        ],
         Row::Else => &[
             Part::Fixed(Word::Close),
             Part::Fixed(Word::Else),
@@ -317,6 +328,7 @@ pub fn version_of(row: Row) -> u32
 {
     match row {
         Row::LoopWhen => 2,
+        Row::Put | Row::IfTake => 3,
         _ => 1,
     }
 }
@@ -326,7 +338,7 @@ pub fn stand_of(row: Row) -> Stand
     ensures { result ≡ spec.stand_of row }
 {
     match row {
-        Row::Version | Row::SecondVersion => Stand::First,
+        Row::Version | Row::SecondVersion | Row::ThirdVersion => Stand::First,
         Row::Ring | Row::RingCq | Row::RingLeft | Row::RingCqLeft => Stand::Second,
         Row::File
         | Row::Buffer
@@ -340,8 +352,8 @@ pub fn stand_of(row: Row) -> Stand
         Row::Print | Row::Lock | Row::GetSqe | Row::PrepRead | Row::PrepWrite => Stand::Inside,
         Row::PrepFsync | Row::PrepNop | Row::SetData64 | Row::Submit => Stand::Inside,
         Row::SubmitAndWait | Row::CqeSeen | Row::Peek | Row::Case | Row::Other => Stand::Inside,
-        Row::Nothing | Row::If | Row::IfReady | Row::IfSpace => Stand::Inside,
-        Row::Loop | Row::LoopWhen | Row::Break => Stand::Inside,
+        Row::Nothing | Row::If | Row::IfReady | Row::IfSpace | Row::IfTake => Stand::Inside,
+        Row::Put | Row::Loop | Row::LoopWhen | Row::Break => Stand::Inside,
     }
 }
 
@@ -361,13 +373,14 @@ pub fn rows_of(first: u8) -> &'static [Row]
             Row::PrepRead,
             Row::PrepWrite,
             Row::PrepFsync,
+            Row::Put,
         ],
         b'l' => &[Row::Lock, Row::Loop, Row::LoopWhen],
         b'o' => &[Row::Other],
         b'n' => &[Row::Nothing],
         b's' => &[Row::SetData64, Row::Store],
         b'f' => &[Row::Fill, Row::File],
-        b'i' => &[Row::IfReady, Row::If, Row::IfSpace],
+        b'i' => &[Row::IfReady, Row::If, Row::IfSpace, Row::IfTake],
         b't' => &[
             Row::Thread,
             Row::TokenRead,
@@ -382,6 +395,7 @@ pub fn rows_of(first: u8) -> &'static [Row]
             Row::RingCqLeft,
             Row::Version,
             Row::SecondVersion,
+            Row::ThirdVersion,
         ],
         _ => &[],
     }

@@ -6,7 +6,7 @@ use Rattle.rc_read.specs.declared.fault.ReadCause.{ReadCause}
 use Rattle.rc_read.specs.declared.fault.ReadCause.TheVariants.{NotAscii, BadHead, BadLine, BadNumber, UnknownName, DoubleName, Braces, TooLarge, BadNesting, BadCase, OtherFlag}
 use Rattle.rc_read.specs.Causes.{name_of_cause, number_of_cause}
 use Rattle.rc_rules.specs.declared.cause.Cause.{Cause}
-use Rattle.rc_rules.specs.declared.cause.Cause.TheVariants.{Unlocked, NoCredit, QueueFull, SlotOpen, NoSlot, WrongKind, NotWhole, NoShare, OutOfBuffer, NoToken, NoEntry, QueueLeft, LoopEntry, LoopBody, JoinMismatch, OverShares, TokenTwice, OverCredits}
+use Rattle.rc_rules.specs.declared.cause.Cause.TheVariants.{Unlocked, NoCredit, QueueFull, SlotOpen, NoSlot, WrongKind, NotWhole, NoShare, OutOfBuffer, NoToken, NoEntry, QueueLeft, LoopEntry, LoopBody, JoinMismatch, OverShares, TokenTwice, OverCredits, NotHeld}
 use Rattle.rc_rules.specs.Causes.{name_of, premise_number}
 use Rattle.rc_report.specs.declared.verdict.Verdict.{Verdict}
 use Rattle.rc_report.specs.declared.verdict.Verdict.TheVariants.{Accepted, Refused, Unreadable}
@@ -48,6 +48,7 @@ plain_refusal JoinMismatch = refl
 plain_refusal OverShares = refl
 plain_refusal TokenTwice = refl
 plain_refusal OverCredits = refl
+plain_refusal NotHeld = refl
 
 -- what stands behind the name
 abbrev behind : ℕ → ℕ → List ℕ → List ℕ

@@ -6,7 +6,7 @@ use Rattle.rc_read.specs.Answer.{answer_of}
 use Rattle.rc_read.specs.Causes.{name_numbered, number_of_cause}
 use Rattle.rc_read.specs.declared.fault.ReadCause.{ReadCause}
 use Rattle.rc_rules.specs.declared.cause.Cause.{Cause}
-use Rattle.rc_rules.specs.declared.cause.Cause.TheVariants.{Unlocked, NoCredit, QueueFull, SlotOpen, NoSlot, WrongKind, NotWhole, NoShare, OutOfBuffer, NoToken, NoEntry, QueueLeft, LoopEntry, LoopBody, JoinMismatch, OverShares, TokenTwice, OverCredits}
+use Rattle.rc_rules.specs.declared.cause.Cause.TheVariants.{Unlocked, NoCredit, QueueFull, SlotOpen, NoSlot, WrongKind, NotWhole, NoShare, OutOfBuffer, NoToken, NoEntry, QueueLeft, LoopEntry, LoopBody, JoinMismatch, OverShares, TokenTwice, OverCredits, NotHeld}
 use Rattle.rc_rules.specs.Causes.{premise_number}
 use Rattle.rc_verify.specs.declared.refusal.Refusal.{Refusal}
 use Rattle.rc_verify.proofs.Refusals.{never_both, one_refusal}
@@ -20,7 +20,7 @@ use Rattle.rc_report.specs.Verdicts.{line_json, unreadable_text}
 -- ---- causes have their numbers alone
 
 abbrev premise_causes : List Cause
-premise_causes = Unlocked ∷ NoCredit ∷ QueueFull ∷ SlotOpen ∷ NoSlot ∷ WrongKind ∷ NotWhole ∷ NoShare ∷ OutOfBuffer ∷ NoToken ∷ NoEntry ∷ QueueLeft ∷ LoopEntry ∷ LoopBody ∷ JoinMismatch ∷ OverShares ∷ TokenTwice ∷ OverCredits ∷ []
+premise_causes = Unlocked ∷ NoCredit ∷ QueueFull ∷ SlotOpen ∷ NoSlot ∷ WrongKind ∷ NotWhole ∷ NoShare ∷ OutOfBuffer ∷ NoToken ∷ NoEntry ∷ QueueLeft ∷ LoopEntry ∷ LoopBody ∷ JoinMismatch ∷ OverShares ∷ TokenTwice ∷ OverCredits ∷ NotHeld ∷ []
 
 abbrev premise_numbered : ℕ → Cause
 premise_numbered n = slice_index_or premise_causes (n - 1) Unlocked
@@ -44,6 +44,7 @@ numbered JoinMismatch = refl
 numbered OverShares = refl
 numbered TokenTwice = refl
 numbered OverCredits = refl
+numbered NotHeld = refl
 
 same_cause : (c d : Cause) → premise_number c ≡ premise_number d → c ≡ d
 same_cause c d e = sym (numbered c) ∙ ap premise_numbered e ∙ numbered d

@@ -4,7 +4,7 @@ use Rattle.std.specs.Fmt.{signed_decimal}
 use Rattle.std.specs.List.{flat_map}
 use Rattle.rc_lang.specs.Program.{Program, Thread}
 use Rattle.rc_world.specs.declared.event.Action.{Action}
-use Rattle.rc_world.specs.declared.event.Action.TheVariants.{VariableSet, Loaded, Stored, Filled, Printed, Locked, Released, EntryOpened, ReadPrepared, WritePrepared, FsyncPrepared, NopPrepared, DataSet, Submitted, Peeked, PeekedNone, Reaped, Branched, Looped, LoopLeft}
+use Rattle.rc_world.specs.declared.event.Action.TheVariants.{VariableSet, Loaded, Stored, Filled, Printed, Locked, Released, EntryOpened, ReadPrepared, WritePrepared, FsyncPrepared, NopPrepared, DataSet, Submitted, Peeked, PeekedNone, Reaped, ItemsPut, Branched, Looped, LoopLeft}
 use Rattle.rc_world.specs.declared.event.Event.{Event}
 use Rattle.rc_world.specs.declared.event.Event.TheVariants.{ByThread, ByKernel}
 use Rattle.rc_world.specs.declared.fault.Fault.{Fault}
@@ -47,6 +47,7 @@ action_text (Submitted r) = valued (codes " submit ") (signed_decimal r)
 action_text (Peeked c) = joined (codes " peek_cqe " ∷ decimal c.user_data ∷ codes " " ∷ signed_decimal c.res ∷ [])
 action_text PeekedNone = codes " peek_cqe none"
 action_text (Reaped u) = valued (codes " cqe_seen ") (decimal u)
+action_text ItemsPut = codes " put"
 action_text (Branched true) = codes " if yes"
 action_text (Branched false) = codes " if no"
 action_text Looped = codes " loop"

@@ -89,6 +89,7 @@ fn put_action(text: &mut LineBuffer, action: Action)
         Action::Peeked(completion) => put_completion(text, b" peek_cqe ", completion),
         Action::PeekedNone => text.put(b" peek_cqe none"),
         Action::Reaped(data) => put_counted(text, b" cqe_seen ", data),
+        Action::ItemsPut => text.put(b" put"),
         Action::Branched(true) => text.put(b" if yes"),
         Action::Branched(false) => text.put(b" if no"),
         Action::Looped => text.put(b" loop"),

@@ -12,7 +12,7 @@ use rc_read::ReadCause;
 use rc_rules::cause::Cause;
 
 /// A verdict with its text and its JSON.
-const VERDICTS: [(Verdict, &str, &str); 6] = [
+const VERDICTS: [(Verdict, &str, &str); 7] = [
     (
         Verdict::Accepted,
         "accepted\n",
@@ -41,6 +41,14 @@ const VERDICTS: [(Verdict, &str, &str); 6] = [
         }),
         "refused line 4096 V18 OverCredits\n",
         "{\"cause\":\"OverCredits\",\"code\":18,\"line\":4096,\"verdict\":\"refused\"}\n",
+    ),
+    (
+        Verdict::Refused(Refusal {
+            line: 7,
+            cause: Cause::NotHeld,
+        }),
+        "refused line 7 V19 NotHeld\n",
+        "{\"cause\":\"NotHeld\",\"code\":19,\"line\":7,\"verdict\":\"refused\"}\n",
     ),
     (
         Verdict::Unreadable {

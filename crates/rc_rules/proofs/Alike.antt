@@ -4,11 +4,13 @@ use Rattle.std.proofs.lemmas.Bool.{and_from, eq-eqb}
 use Rattle.rc_lang.specs.declared.lines.Op.{Op}
 use Rattle.rc_lang.specs.declared.lines.Op.TheVariants as ops
 use Rattle.rc_lang.specs.declared.lines.Test.{Test}
+use Rattle.rc_lang.specs.declared.lines.Test.TheVariants as tests
 use Rattle.rc_lang.specs.declared.lines.Test.TheVariants.{Compare, ReadyZero, SpaceAtLeast}
 use Rattle.rc_lang.specs.declared.program.TokenKind.{TokenKind}
 use Rattle.rc_lang.specs.declared.program.TokenKind.TheVariants.{Read, Write, Fsync, Nop}
-use Rattle.rc_lang.specs.Program.{Program}
-use Rattle.rc_split.specs.Bags.{Part, TokenOf}
+use Rattle.rc_lang.specs.Parts.{view_items}
+use Rattle.rc_lang.specs.Program.{Program, Items}
+use Rattle.rc_split.specs.Bags.{Part, TokenOf, bag_of, plus}
 use Rattle.rc_rules.specs.declared.mode.Inside.{Inside}
 use Rattle.rc_rules.specs.declared.mode.Mode.{Mode}
 use Rattle.rc_rules.specs.declared.mode.Mode.TheVariants.{Unlocked, Locked}
@@ -17,10 +19,10 @@ use Rattle.rc_rules.specs.declared.mode.Peeked.TheVariants.{Unseen, Sees, SeesOt
 use Rattle.rc_rules.specs.declared.mode.Slot.{Slot}
 use Rattle.rc_rules.specs.declared.mode.Slot.TheVariants.{Closed, Vacant, Prepared}
 use Rattle.rc_rules.specs.declared.rule.Rule.{Rule}
-use Rattle.rc_rules.specs.declared.rule.Rule.TheVariants.{Do, Lock, Release, If, Case, Other, Nothing, Break}
+use Rattle.rc_rules.specs.declared.rule.Rule.TheVariants.{Do, Put, Lock, Release, If, Take, Case, Other, Nothing, Break}
 use Rattle.rc_rules.specs.Labels.{Label, Dead, Live, Weaker, WeakerMode, IsStrongest, IsSame}
 use Rattle.rc_rules.specs.OneRule.{rule_effect}
-use Rattle.rc_rules.specs.Rules.{same_kind, same_slot, if_locked, op_effect, goes, test_mode, with_peeked, case_at, agree_modes, agree, agree_all}
+use Rattle.rc_rules.specs.Rules.{same_kind, same_slot, if_locked, op_effect, goes, test_mode, with_peeked, case_at, can_take, take_effect, agree_modes, agree, agree_all}
 use Rattle.rc_rules.specs.States.{State, label_of, label_in, mode_in, mode_or, mode_of, is_live, AgreeOnLock, IsState}
 use Rattle.rc_split.specs.Holdings.{Holding}
 use Rattle.rc_rules.proofs.Weaker.{same_slot_is}
@@ -134,6 +136,7 @@ test_alike P ReadyZero Unlocked (Locked j) l = absurd l
 test_alike P ReadyZero (Locked i) Unlocked l = absurd l
 test_alike P (SpaceAtLeast k) Unlocked (Locked j) l = absurd l
 test_alike P (SpaceAtLeast k) (Locked i) Unlocked l = absurd l
+test_alike P (tests.Take k) m n l = l
 
 with_alike : (p q : Peeked) (m n : Mode) → AlikeModes m n → AlikeModes (with_peeked p m) (with_peeked q n)
 with_alike p q Unlocked Unlocked l = tt
@@ -149,11 +152,21 @@ case_alike u a b m n l = go (nat_lt 0 (a (TokenOf u))) (nat_lt 0 (b (TokenOf u))
     go false true = tt
     go false false = with_alike (Sees u) (Sees u) m n l
 
+take_alike : (P : Program) (items : Items) (a b : Part → ℕ) (m n : Mode) → AlikeModes m n → Alike (take_effect P a m items) (take_effect P b n items)
+take_alike P items a b m n l = go (can_take P a m items) (can_take P b n items)
+  where
+    go : (x y : Bool) → Alike (cond x (Live (plus a (bag_of items)) m) Dead) (cond y (Live (plus b (bag_of items)) n) Dead)
+    go false y = tt
+    go true false = tt
+    go true true = l
+
 rule_alike : (P : Program) (rule : Rule) (a b : Part → ℕ) (m n : Mode) → AlikeModes m n → Alike (rule_effect P rule a m) (rule_effect P rule b n)
 rule_alike P (Do op) a b m n l = effect_alike P a b m n op l
+rule_alike P (Put items) a b m n l = l
 rule_alike P Lock a b m n l = refl
 rule_alike P Release a b m n l = tt
 rule_alike P (If test) a b m n l = test_alike P test m n l
+rule_alike P (Take items) a b m n l = take_alike P (view_items items.now) a b m n l
 rule_alike P (Case u) a b m n l = case_alike u a b m n l
 rule_alike P Other a b m n l = with_alike SeesOther SeesOther m n l
 rule_alike P Nothing a b m n l = with_alike Unseen Unseen m n l

@@ -1,6 +1,7 @@
 -- The program of the tests.
 use Rattle.std.proofs.Common.{◌≡◌, ℕ, zero, suc, ◌+◌, ◌≤◌, ◌<◌, List, [], ◌∷◌, ◌++◌, map, length, Some, None, Result, Ok, Err, refl, sym, ap, subst, ◌∙◌, arith, lit≤, cond, nat_lt, Bool, true, false}
 use Rattle.std.specs.Prelude.{All, slice_get}
+use Rattle.std.proofs.lemmas.Bool.{eqb-false}
 use Rattle.rc_lang.specs.declared.lines.Op.{Op}
 use Rattle.rc_lang.specs.Nesting.{blocks_at}
 use Rattle.rc_lang.specs.Parts.{view_buffer, view_program, view_thread}
@@ -16,9 +17,9 @@ use Rattle.rc_rules.specs.declared.mode.Mode.TheVariants.{Unlocked, Locked}
 use Rattle.rc_rules.specs.declared.mode.Peeked.TheVariants.{Sees}
 use Rattle.rc_rules.specs.Labels.{Label, Dead, Live, WeakerMode, WeakerThanEach, IsStrongest, IsSame}
 use Rattle.rc_rules.specs.Premises.{Premise}
-use Rattle.rc_rules.specs.Rules.{op_effect, goes, case_at, with_peeked, entered, top}
+use Rattle.rc_rules.specs.Rules.{op_effect, put_effect, goes, case_at, with_peeked, entered, top}
 use Rattle.rc_rules.specs.Sides.{on, gate, brings, turns, write_of, forgets}
-use Rattle.rc_rules.specs.States.{State, label_of, program_of, is_locked, Gives, Becomes, OnBoth, AgreeOnLock, IsStart, IsUnlocked, IsLocked}
+use Rattle.rc_rules.specs.States.{State, label_of, program_of, is_locked, Gives, Becomes, OnBoth, AgreeOnLock, IsStart, IsUnlocked, IsLocked, IsSmall}
 use Rattle.rc_rules.specs.Labellings.{start_of}
 use Rattle.rc_rules.specs.Example.{share, share_thread, IsAtMost, IsOfShare}
 use Rattle.rc_rules.proofs.Lines.{effect_by}
@@ -82,6 +83,8 @@ is_thread = record {
   resolved = λ j s e. absurd (cc);
   linked = λ j s e. absurd (cc);
   queues = λ j k e. absurd (cc);
+  puts = λ j k e. absurd (cc);
+  takes = λ j k e. absurd (cc);
 }
 
 pub is_share : IsProgram share
@@ -269,6 +272,51 @@ share_list i m e f = list_of 0 i m _ e f (record {
   };
   apart = distinct _;
 })
+
+-- ---- the pool
+
+abbrev named_shares : ℕ → List Share
+named_shares n = cond (nat_eq n 0) [] (record { buffer = 0; count = n } ∷ [])
+
+abbrev named_tokens : Bool → List ℕ
+named_tokens b = cond b (9 ∷ []) []
+
+-- items of the buffer, the token and credits
+pub named_items : (i : Items) (n : ℕ) (b : Bool) → n ≤ 16 → i.shares ≡ named_shares n → i.tokens ≡ named_tokens b → i.credits ≤ 2048 → i.queue ≡ None → IsItems share i
+named_items i n b l e f c q = record {
+  buffers = rw e (elim (nat_eq n 0) as (λ x. All (λ (s : Share). s.buffer < 1) (cond x [] (record { buffer = 0; count = n } ∷ []))) [ true ↦ none _ | false ↦ one (λ (s : Share). s.buffer < 1) _ (lit≤ tt) ]);
+  counts = rw e (some n l);
+  distinct_buffers = rw e (elim (nat_eq n 0) as (λ x. IsDistinct nat_eq (map (λ (s : Share). s.buffer) (cond x [] (record { buffer = 0; count = n } ∷ [])))) [ true ↦ distinct _ | false ↦ single nat_eq 0 ]);
+  tokens = rw f (elim b as (λ x. All (DeclaresToken share) (named_tokens x)) [ true ↦ tokens | false ↦ none _ ]);
+  distinct_tokens = rw f (elim b as (λ x. IsDistinct nat_eq (named_tokens x)) [ true ↦ single nat_eq 9 | false ↦ distinct _ ]);
+  credits = c;
+  queue = rw q tt;
+}
+  where
+    positive : (n : ℕ) → (n ≡ 0 → ⊥) → 1 ≤ n
+    positive zero f = absurd (f refl)
+    positive (suc k) f = omega arith
+
+    some : (n : ℕ) → n ≤ 16 → All (λ (s : Share). (1 ≤ s.count) × (s.count ≤ 16)) (named_shares n)
+    some n l = go (nat_eq n 0) refl
+      where
+        go : (b : Bool) → nat_eq n 0 ≡ b → All (λ (s : Share). (1 ≤ s.count) × (s.count ≤ 16)) (cond b [] (record { buffer = 0; count = n } ∷ []))
+        go true e = none _
+        go false e = one (λ (s : Share). (1 ≤ s.count) × (s.count ≤ 16)) (record { buffer = 0; count = n }) (positive n (eqb-false n 0 e), l)
+
+put_at_few : (n : ℕ) (items : Items) (s : Label) → IsAtMost n s → IsAtMost n (goes s (λ b m. put_effect b m items))
+put_at_few n items Dead h = tt
+put_at_few n items (Live a m) h = λ p. omega (arith, h p)
+
+pub put_few : {X : Type 0} (old new : State) (r : Result X Cause) (ps : List (ℕ × Premise)) (items : Items) (n : ℕ) → Gives old new r ps (λ z. goes (label_of old z) (λ b m. put_effect b m items) ∷ []) → OnBoth (IsAtMost n) old → OnBoth (IsAtMost n) new
+put_few old new r ps items n g h = gave (IsAtMost n) (few_lowered n) old new r ps _ g (λ z. (put_at_few n items (label_of old z) (h z), tt)) h
+
+few_small : (n : ℕ) (s : Label) → n ≤ 10000 → IsAtMost n s → IsSmall s
+few_small n Dead l h = tt
+few_small n (Live a m) l h = λ p. omega (arith, l, h p)
+
+pub small_both : (n : ℕ) (s : State) → n ≤ 10000 → OnBoth (IsAtMost n) s → OnBoth IsSmall s
+small_both n s l h z = few_small n (label_of s z) l (h z)
 
 -- ---- starts
 

@@ -5,11 +5,11 @@ use Rattle.rc_lang.specs.declared.lines.Line.{Line}
 use Rattle.rc_lang.specs.declared.lines.Op.{Op}
 use Rattle.rc_lang.specs.declared.lines.Op.TheVariants as ops
 use Rattle.rc_lang.specs.declared.lines.Stmt.{Stmt}
-use Rattle.rc_lang.specs.declared.lines.Stmt.TheVariants.{Do, Lock, EndLock, If, Else, EndIf, Peek, Case, Other, Nothing, EndArm, EndPeek, Loop, EndLoop, Break}
+use Rattle.rc_lang.specs.declared.lines.Stmt.TheVariants.{Do, Put, Lock, EndLock, If, Else, EndIf, Peek, Case, Other, Nothing, EndArm, EndPeek, Loop, EndLoop, Break}
 use Rattle.rc_lang.specs.declared.lines.Test.{Test}
-use Rattle.rc_lang.specs.declared.lines.Test.TheVariants.{Compare, ReadyZero, SpaceAtLeast}
+use Rattle.rc_lang.specs.declared.lines.Test.TheVariants.{Compare, ReadyZero, SpaceAtLeast, Take}
 use Rattle.rc_lang.specs.Program.{Program, Thread, Items, items_at, stmt_at}
-use Rattle.rc_split.specs.Bags.{Part, ShareOf, TokenOf, Credit, IsWithin}
+use Rattle.rc_split.specs.Bags.{Part, ShareOf, TokenOf, Credit, bag_of, plus, IsWithin}
 use Rattle.rc_rules.specs.declared.mode.Inside.{Inside}
 use Rattle.rc_rules.specs.declared.mode.Mode.{Mode}
 use Rattle.rc_rules.specs.declared.mode.Mode.TheVariants.{Unlocked, Locked}
@@ -19,11 +19,12 @@ use Rattle.rc_rules.specs.declared.mode.Slot.{Slot}
 use Rattle.rc_rules.specs.declared.mode.Slot.TheVariants.{Closed, Vacant}
 use Rattle.rc_rules.specs.Labels.{Label, Dead, Live, Weaker, WeakerMode, WeakerInside}
 use Rattle.rc_rules.specs.Premises.{Premise, IsMet, Meets, MeetsBelow}
-use Rattle.rc_rules.specs.Rules.{kind_of, same_slot, has_kind, is_prepared_as, is_seen, locked, if_locked, op_premises, op_effect, reaped, asks, asks_both, joins_both, goes, entered, may_release, released, test_premises, test_effect, peek_premises, with_peeked, peek_at, case_at, agree_modes, agree, agree_each, agree_all, may_join, queue_on, keeps_queue, may_loop, top_mode, top, may_break, broken}
+use Rattle.rc_rules.specs.Rules.{kind_of, same_slot, has_kind, is_prepared_as, is_seen, locked, if_locked, op_premises, op_effect, reaped, asks, asks_both, joins_both, goes, entered, may_release, released, put_premises, put_effect, can_take, take_effect, test_premises, test_effect, peek_premises, with_peeked, peek_at, case_at, agree_modes, agree, agree_each, agree_all, may_join, queue_on, keeps_queue, may_loop, top_mode, top, may_break, broken}
 use Rattle.rc_rules.specs.Labellings.{label_at, here, skipped, arm_end, arm_ends, break_end, break_ends, befores, premises}
 use Rattle.rc_rules.specs.Laws.{EachWeaker, IsStronger, GrowsAt}
 use Rattle.rc_rules.specs.declared.flag.Write.TheVariants.{Anything}
 use Rattle.rc_rules.specs.Sides.{Sides, gate, brings, turns, write_to, write_of, forgets, test_goes, may_skip}
+use Rattle.rc_rules.proofs.Room.{still_can}
 use Rattle.rc_rules.proofs.Weaker.{mode_refl, peeked_grows, label_drop, meets_append, meets_left, meets_right, below_append, below_left, below_right}
 
 -- ---- lists of premises
@@ -156,17 +157,34 @@ test_less : (test : Test) → AsksLess (λ b m. test_premises m test)
 test_less (Compare x k n) b d m o w v = tt
 test_less ReadyZero b d m o w v = peek_less b d m o w v
 test_less (SpaceAtLeast n) b d m o w v = peek_less b d m o w v
+test_less (Take k) b d m o w v = peek_less b d m o w v
 
-test_grows : (P : Program) (test : Test) → Grows (λ b m. []) (λ b m. test_effect P b m test)
-test_grows P (Compare x k n) b d m o w v h = (w, v)
-test_grows P ReadyZero b d Unlocked Unlocked w v h = (w, tt)
-test_grows P ReadyZero b d (Locked i) (Locked j) w v h = (w, record { queued = omega arith; slot = v.slot; peeked = v.peeked })
-test_grows P (SpaceAtLeast n) b d Unlocked Unlocked w v h = (w, tt)
-test_grows P (SpaceAtLeast n) b d (Locked i) (Locked j) w v h = (w, record { queued = omega (arith, v.queued); slot = v.slot; peeked = v.peeked })
-test_grows P ReadyZero b d Unlocked (Locked j) w v h = absurd v
-test_grows P ReadyZero b d (Locked i) Unlocked w v h = absurd v
-test_grows P (SpaceAtLeast n) b d Unlocked (Locked j) w v h = absurd v
-test_grows P (SpaceAtLeast n) b d (Locked i) Unlocked w v h = absurd v
+put_less : (items : Items) → AsksLess (λ b m. put_premises b m items)
+put_less items b c m n w v = locked_less _ _ m n (λ i j v. (refl, λ h p. omega (arith, h p, w p), tt)) v
+
+put_grows : (items : Items) → Grows (λ b m. put_premises b m items) (λ b m. put_effect b m items)
+put_grows items b c m n w v h = (λ p. omega (arith, w p), v)
+
+-- who holds less can take what one who holds more can
+take_grows : (P : Program) (items : Items) (b c : Part → ℕ) (m n : Mode) → IsWithin b c → WeakerMode m n → Weaker (take_effect P b m items) (take_effect P c n items)
+take_grows P items b c m n w v = go (can_take P b m items) (can_take P c n items) refl refl
+  where
+    go : (x y : Bool) → can_take P b m items ≡ x → can_take P c n items ≡ y → Weaker (cond x (Live (plus b (bag_of items)) m) Dead) (cond y (Live (plus c (bag_of items)) n) Dead)
+    go x false e f = tt
+    go true true e f = (λ p. omega (arith, w p), v)
+    go false true e f = absurd (let g : can_take P b m items ≡ true = still_can P items b c m n w v f in cc (e, g))
+
+test_grows : (P : Program) (lists : List Items) (test : Test) → Grows (λ b m. []) (λ b m. test_effect P lists b m test)
+test_grows P lists (Compare x k n) b d m o w v h = (w, v)
+test_grows P lists ReadyZero b d Unlocked Unlocked w v h = (w, tt)
+test_grows P lists ReadyZero b d (Locked i) (Locked j) w v h = (w, record { queued = omega arith; slot = v.slot; peeked = v.peeked })
+test_grows P lists (SpaceAtLeast n) b d Unlocked Unlocked w v h = (w, tt)
+test_grows P lists (SpaceAtLeast n) b d (Locked i) (Locked j) w v h = (w, record { queued = omega (arith, v.queued); slot = v.slot; peeked = v.peeked })
+test_grows P lists ReadyZero b d Unlocked (Locked j) w v h = absurd v
+test_grows P lists ReadyZero b d (Locked i) Unlocked w v h = absurd v
+test_grows P lists (SpaceAtLeast n) b d Unlocked (Locked j) w v h = absurd v
+test_grows P lists (SpaceAtLeast n) b d (Locked i) Unlocked w v h = absurd v
+test_grows P lists (Take k) b d m o w v h = take_grows P (items_at lists k) b d m o w v
 
 release_less : (P : Program) → AsksLess (λ b m. may_release P m)
 release_less P b c Unlocked Unlocked w v = tt
@@ -325,6 +343,7 @@ module _ (P : Program) (thread : Thread) (lines : List Line) (known more : List 
   -- a stronger labelling asks for less
   pub premises_grow : (s : Stmt) → Eases (premises P thread lines known s) (premises P thread lines more s)
   premises_grow (Do op) = both_grow (λ z b m. op_premises P b m op) (λ z. asks_less P op)
+  premises_grow (Put k) = both_grow (λ z b m. put_premises b m (items_at thread.lists k)) (λ z. put_less (items_at thread.lists k))
   premises_grow (EndLock o) = both_grow (λ z b m. may_release P m) (λ z. release_less P)
   premises_grow (If test) = both_grow (λ z b m. test_premises m test) (λ z. test_less test)
   premises_grow (EndIf o) = joins_less (λ z. here lines known z ∷ skipped thread lines known o z ∷ []) (λ z. here lines more z ∷ skipped thread lines more o z ∷ []) (ends_grow o)
@@ -338,9 +357,10 @@ module _ (P : Program) (thread : Thread) (lines : List Line) (known more : List 
   -- and gives stronger states
   pub befores_grow : (s : Stmt) (z : Bool) → Meets (premises P thread lines known s) → EachWeaker (befores P thread lines known s z) (befores P thread lines more s z)
   befores_grow (Do op) z h = brings_grow (λ y. turns (write_of thread.flag op) y z) (λ s. goes s (λ b m. op_effect P b m op)) (λ y. goes_grow (λ b m. op_premises P b m op) (λ b m. op_effect P b m op) (grows P op) _ _ (here_grows y) (side_met (λ x b m. op_premises P b m op) y h))
+  befores_grow (Put k) z h = (goes_grow (λ b m. put_premises b m (items_at thread.lists k)) (λ b m. put_effect b m (items_at thread.lists k)) (put_grows (items_at thread.lists k)) _ _ (here_grows z) (side_met (λ x b m. put_premises b m (items_at thread.lists k)) z h), tt)
   befores_grow Lock z h = (entered_grows P _ _ (here_grows z), tt)
   befores_grow (EndLock o) z h = (released_grows _ _ (here_grows z), tt)
-  befores_grow (If test) z h = (gate_grows (test_goes thread.flag test z true) _ _ (plain_grow (λ b m. test_effect P b m test) (test_grows P test) _ _ (here_grows z)), tt)
+  befores_grow (If test) z h = (gate_grows (test_goes thread.flag test z true) _ _ (plain_grow (λ b m. test_effect P thread.lists b m test) (test_grows P thread.lists test) _ _ (here_grows z)), tt)
   befores_grow (Else o) z h = (skip_grows o z, tt)
   befores_grow (EndIf o) z h = ends_grow o z
   befores_grow (Peek x) z h = brings_grow (λ y. turns (write_to thread.flag x Anything) y z) (λ s. s) here_grows

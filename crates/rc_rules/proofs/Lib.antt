@@ -1,6 +1,7 @@
 mod Passing
 pub mod Weaker
 pub mod Lines
+pub mod Room
 pub mod Moves
 pub mod Headers
 pub mod Meets

@@ -4,10 +4,12 @@ use Rattle.std.proofs.lemmas.Bool.{ltb-false}
 use Rattle.rc_lang.specs.declared.lines.Op.{Op}
 use Rattle.rc_lang.specs.declared.lines.Op.TheVariants as ops
 use Rattle.rc_lang.specs.declared.lines.Test.{Test}
+use Rattle.rc_lang.specs.declared.lines.Test.TheVariants as tests
 use Rattle.rc_lang.specs.declared.lines.Test.TheVariants.{Compare, ReadyZero, SpaceAtLeast}
 use Rattle.rc_lang.specs.declared.program.TokenKind.TheVariants.{Read, Write}
-use Rattle.rc_lang.specs.Program.{Program, DeclaresToken}
-use Rattle.rc_split.specs.Bags.{Part, TokenOf, credits_bag, token_bag, minus}
+use Rattle.rc_lang.specs.Parts.{view_items}
+use Rattle.rc_lang.specs.Program.{Program, Items, DeclaresToken}
+use Rattle.rc_split.specs.Bags.{Part, TokenOf, credits_bag, token_bag, bag_of, minus, plus}
 use Rattle.rc_split.specs.Holdings.{Holding, bag}
 use Rattle.rc_rules.specs.declared.mode.Inside.{Inside}
 use Rattle.rc_rules.specs.declared.mode.Mode.{Mode}
@@ -15,11 +17,12 @@ use Rattle.rc_rules.specs.declared.mode.Mode.TheVariants.{Unlocked, Locked}
 use Rattle.rc_rules.specs.declared.mode.Peeked.{Peeked}
 use Rattle.rc_rules.specs.declared.mode.Peeked.TheVariants.{Unseen, Sees, SeesOther}
 use Rattle.rc_rules.specs.declared.rule.Rule.{Rule}
-use Rattle.rc_rules.specs.declared.rule.Rule.TheVariants.{Do, Lock, Release, If, Case, Other, Nothing, Break}
+use Rattle.rc_rules.specs.declared.rule.Rule.TheVariants.{Do, Put, Lock, Release, If, Take, Case, Other, Nothing, Break}
 use Rattle.rc_rules.specs.Labels.{Label, Dead, Live, IsSame}
 use Rattle.rc_rules.specs.OneRule.{rule_premises, rule_effect, MayFollow}
 use Rattle.rc_rules.specs.Premises.{Meets}
-use Rattle.rc_rules.specs.Rules.{kind_bag, if_locked, op_effect, asks, goes, test_mode, with_peeked, case_at}
+use Rattle.rc_rules.specs.Rules.{kind_bag, if_locked, op_effect, asks, goes, test_mode, with_peeked, case_at, can_take, take_effect}
+use Rattle.rc_rules.proofs.Room.{taken_free}
 use Rattle.rc_rules.specs.States.{Side, side_of, side_label, label_in, live_of, IsFree, IsFreeIn, IsFreeFor, GivesSide}
 
 -- ---- what is peeked isn't held
@@ -72,6 +75,7 @@ test_free P a ReadyZero Unlocked f = tt
 test_free P a ReadyZero (Locked i) f = f
 test_free P a (SpaceAtLeast n) Unlocked f = tt
 test_free P a (SpaceAtLeast n) (Locked i) f = f
+test_free P a (tests.Take k) m f = f
 
 case_free : (P : Program) (a : Part → ℕ) (u : ℕ) (m : Mode) → DeclaresToken P u → IsFree P (case_at u (Live a m))
 case_free P a u m d = go (nat_lt 0 (a (TokenOf u))) refl
@@ -80,11 +84,24 @@ case_free P a u m d = go (nat_lt 0 (a (TokenOf u))) refl
     go true e = tt
     go false e = with_free P a (Sees u) m (d, let l : a (TokenOf u) ≤ 0 = ltb-false 0 (a (TokenOf u)) e in omega (arith, l))
 
+put_free : (P : Program) (a b : Part → ℕ) (m : Mode) → IsFreeIn P a m → IsFreeIn P (minus a b) m
+put_free P a b Unlocked f = tt
+put_free P a b (Locked i) f = fewer_free P a (minus a b) i.peeked (λ u. omega arith) f
+
+take_free : (P : Program) (a : Part → ℕ) (m : Mode) (items : Items) → IsFreeIn P a m → IsFree P (take_effect P a m items)
+take_free P a m items f = go (can_take P a m items) refl
+  where
+    go : (b : Bool) → can_take P a m items ≡ b → IsFree P (cond b (Live (plus a (bag_of items)) m) Dead)
+    go true e = taken_free P a m items e f
+    go false e = tt
+
 rule_free : (P : Program) (a : Part → ℕ) (m : Mode) (rule : Rule) → IsFreeIn P a m → MayFollow P rule (Live a m) → IsFree P (rule_effect P rule a m)
 rule_free P a m (Do op) f h = effect_free P a m op f
+rule_free P a m (Put items) f h = put_free P a (bag_of (view_items items.now)) m f
 rule_free P a m Lock f h = tt
 rule_free P a m Release f h = tt
 rule_free P a m (If test) f h = test_free P a test m f
+rule_free P a m (Take items) f h = take_free P a m (view_items items.now) f
 rule_free P a m (Case u) f h = case_free P a u m h
 rule_free P a m Other f h = with_free P a SeesOther m tt
 rule_free P a m Nothing f h = with_free P a Unseen m tt

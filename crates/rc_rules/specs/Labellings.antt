@@ -3,7 +3,7 @@
 use Rattle.std.specs.Prelude.{ℕ, Bool, true, ◌≡◌, ◌⊎◌, ◌+◌, ◌<◌, cond, List, [], ◌∷◌, ◌++◌, Some, nat_eq, take, drop, length, slice_get, slice_index_or}
 use Rattle.rc_lang.specs.declared.lines.Line.{Line}
 use Rattle.rc_lang.specs.declared.lines.Stmt.{Stmt}
-use Rattle.rc_lang.specs.declared.lines.Stmt.TheVariants.{Do, Lock, EndLock, If, Else, EndIf, Peek, Case, Other, Nothing, EndArm, EndPeek, Loop, EndLoop, Break}
+use Rattle.rc_lang.specs.declared.lines.Stmt.TheVariants.{Do, Put, Lock, EndLock, If, Else, EndIf, Peek, Case, Other, Nothing, EndArm, EndPeek, Loop, EndLoop, Break}
 use Rattle.rc_lang.specs.Program.{Program, Thread, items_at, stmt_at}
 use Rattle.rc_rules.specs.declared.mode.Mode.TheVariants.{Unlocked}
 use Rattle.rc_rules.specs.declared.mode.Peeked.TheVariants.{Unseen, SeesOther}
@@ -12,7 +12,7 @@ use Rattle.rc_split.specs.Bags.{Part, ShareOf, TokenOf, Credit, bag_of}
 use Rattle.rc_rules.specs.Labels.{Label, Dead, Live, WeakerThanEach, IsSame}
 use Rattle.rc_rules.specs.Sides.{Sides, on, nowhere, gate, brings, turns, write_to, write_of, forgets, test_goes, may_skip}
 use Rattle.rc_rules.specs.Premises.{Premise, Covers, Meets, MeetsBelow}
-use Rattle.rc_rules.specs.Rules.{limit, op_premises, op_effect, asks_both, goes, entered, may_release, released, test_premises, test_effect, peek_premises, peek_at, case_at, joins_both, may_loop, top, may_break, broken}
+use Rattle.rc_rules.specs.Rules.{limit, op_premises, op_effect, put_premises, put_effect, asks_both, goes, entered, may_release, released, test_premises, test_effect, peek_premises, peek_at, case_at, joins_both, may_loop, top, may_break, broken}
 
 -- ---- the labels that a line sees
 
@@ -51,9 +51,10 @@ break_ends (l ∷ lines) labels o z = break_end l.stmt o (label_at labels 0 z) +
 -- an arm, and behind a break, nothing comes from above.
 abbrev pub befores : Program → Thread → List Line → List Sides → Stmt → Bool → List Label
 befores P thread lines known (Do op) z = brings (λ y. turns (write_of thread.flag op) y z) (λ s. goes s (λ bag m. op_effect P bag m op)) (here lines known)
+befores P thread lines known (Put k) z = goes (here lines known z) (λ bag m. put_effect bag m (items_at thread.lists k)) ∷ []
 befores P thread lines known Lock z = entered P (here lines known z) ∷ []
 befores P thread lines known (EndLock o) z = released (here lines known z) ∷ []
-befores P thread lines known (If test) z = gate (test_goes thread.flag test z true) (goes (here lines known z) (λ bag m. test_effect P bag m test)) ∷ []
+befores P thread lines known (If test) z = gate (test_goes thread.flag test z true) (goes (here lines known z) (λ bag m. test_effect P thread.lists bag m test)) ∷ []
 befores P thread lines known (Else o) z = skipped thread lines known o z ∷ []
 befores P thread lines known (EndIf o) z = here lines known z ∷ skipped thread lines known o z ∷ []
 befores P thread lines known (Peek x) z = brings (λ y. turns (write_to thread.flag x Anything) y z) (λ s. s) (here lines known)
@@ -68,6 +69,7 @@ befores P thread lines known (Break o releases leaves) z = []
 
 abbrev pub premises : Program → Thread → List Line → List Sides → Stmt → List (ℕ × Premise)
 premises P thread lines known (Do op) = asks_both (here lines known) (λ z bag m. op_premises P bag m op)
+premises P thread lines known (Put k) = asks_both (here lines known) (λ z bag m. put_premises bag m (items_at thread.lists k))
 premises P thread lines known Lock = []
 premises P thread lines known (EndLock o) = asks_both (here lines known) (λ z bag m. may_release P m)
 premises P thread lines known (If test) = asks_both (here lines known) (λ z bag m. test_premises m test)

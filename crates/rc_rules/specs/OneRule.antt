@@ -1,39 +1,47 @@
 -- Lines that are one rule for each side of a state.
 use Rattle.std.specs.Prelude.{ℕ, List, []}
-use Rattle.rc_lang.specs.Program.{Program, DeclaresToken}
+use Rattle.rc_lang.specs.Parts.{view_items}
+use Rattle.rc_lang.specs.Program.{Program, DeclaresToken, IsItems}
 use Rattle.rc_split.specs.Bags.{Part}
 use Rattle.rc_rules.specs.declared.mode.Mode.{Mode}
 use Rattle.rc_rules.specs.declared.mode.Peeked.TheVariants.{Unseen, SeesOther}
 use Rattle.rc_rules.specs.declared.rule.Rule.{Rule}
-use Rattle.rc_rules.specs.declared.rule.Rule.TheVariants.{Do, Lock, Release, If, Case, Other, Nothing, Break}
+use Rattle.rc_rules.specs.declared.rule.Rule.TheVariants.{Do, Put, Lock, Release, If, Take, Case, Other, Nothing, Break}
 use Rattle.rc_rules.specs.Labels.{Label, Live}
 use Rattle.rc_rules.specs.Premises.{Premise}
-use Rattle.rc_rules.specs.Rules.{op_premises, op_effect, entered, may_release, released, test_premises, test_effect, peek_premises, peek_at, case_at, may_break}
+use Rattle.rc_rules.specs.Rules.{op_premises, op_effect, put_premises, put_effect, entered, may_release, released, test_premises, test_mode, take_premises, take_effect, peek_premises, peek_at, case_at, may_break}
 use Rattle.rc_rules.specs.States.{IsSmall}
 
 abbrev pub rule_premises : Program → Rule → (Part → ℕ) → Mode → List (ℕ × Premise)
 rule_premises P (Do op) bag m = op_premises P bag m op
+rule_premises P (Put items) bag m = put_premises bag m (view_items items.now)
 rule_premises P Lock bag m = []
 rule_premises P Release bag m = may_release P m
 rule_premises P (If test) bag m = test_premises m test
+rule_premises P (Take items) bag m = take_premises m
 rule_premises P (Case u) bag m = peek_premises m
 rule_premises P Other bag m = peek_premises m
 rule_premises P Nothing bag m = peek_premises m
 rule_premises P (Break releases) bag m = may_break P releases m
 
--- A break leaves what is held, which then goes to the end of its loop.
+-- Of a test it is what is known of the ring; what a take brings is told by its own rule. A break leaves what is held,
+-- which then goes to the end of its loop.
 abbrev pub rule_effect : Program → Rule → (Part → ℕ) → Mode → Label
 rule_effect P (Do op) bag m = op_effect P bag m op
+rule_effect P (Put items) bag m = put_effect bag m (view_items items.now)
 rule_effect P Lock bag m = entered P (Live bag m)
 rule_effect P Release bag m = released (Live bag m)
-rule_effect P (If test) bag m = test_effect P bag m test
+rule_effect P (If test) bag m = Live bag (test_mode P test m)
+rule_effect P (Take items) bag m = take_effect P bag m (view_items items.now)
 rule_effect P (Case u) bag m = case_at u (Live bag m)
 rule_effect P Other bag m = peek_at SeesOther (Live bag m)
 rule_effect P Nothing bag m = peek_at Unseen (Live bag m)
 rule_effect P (Break releases) bag m = Live bag m
 
--- what a rule is handed: counts that stay small where a request is reaped, and a declared token
+-- what a rule is handed: counts that stay small where a request is reaped or items are taken, those of a program, and a
+-- declared token
 abbrev pub MayFollow : Program → Rule → Label → Type 0
 MayFollow P (Do op) s = IsSmall s
+MayFollow P (Take items) s = IsItems P (view_items items.now) × IsSmall s
 MayFollow P (Case u) s = DeclaresToken P u
 MayFollow P _ s = Unit {0}

@@ -1,13 +1,15 @@
 -- The rule of each line: what it asks of the state before it, and the state behind it.
 use Rattle.std.specs.Prelude.{ℕ, ◌+◌, ◌-◌, Bool, true, false, cond, min, List, [], ◌∷◌, ◌++◌, Option, Some, None, nat_eq, nat_lt, nat_le, not, ◌&&◌, ◌||◌, slice_get}
+use Rattle.std.specs.List.{list_all, list_any}
 use Rattle.rc_lang.specs.declared.lines.Op.{Op}
 use Rattle.rc_lang.specs.declared.lines.Op.TheVariants as ops
 use Rattle.rc_lang.specs.declared.lines.Test.{Test}
-use Rattle.rc_lang.specs.declared.lines.Test.TheVariants.{Compare, ReadyZero, SpaceAtLeast}
+use Rattle.rc_lang.specs.declared.lines.Test.TheVariants.{Compare, ReadyZero, SpaceAtLeast, Take}
+use Rattle.rc_lang.specs.declared.program.Share.{Share}
 use Rattle.rc_lang.specs.declared.program.Token.{Token}
 use Rattle.rc_lang.specs.declared.program.TokenKind.{TokenKind}
 use Rattle.rc_lang.specs.declared.program.TokenKind.TheVariants.{Read, Write, Fsync, Nop}
-use Rattle.rc_lang.specs.Program.{Program, Items, bytes_at, shares_at, token_place}
+use Rattle.rc_lang.specs.Program.{Program, Items, bytes_at, items_at, shares_at, token_place}
 use Rattle.rc_rules.specs.declared.mode.Inside.{Inside}
 use Rattle.rc_rules.specs.declared.mode.Mode.{Mode}
 use Rattle.rc_rules.specs.declared.mode.Mode.TheVariants.{Unlocked, Locked}
@@ -15,7 +17,7 @@ use Rattle.rc_rules.specs.declared.mode.Peeked.{Peeked}
 use Rattle.rc_rules.specs.declared.mode.Peeked.TheVariants.{Unseen, Sees, SeesOther}
 use Rattle.rc_rules.specs.declared.mode.Slot.{Slot}
 use Rattle.rc_rules.specs.declared.mode.Slot.TheVariants.{Closed, Vacant, Prepared}
-use Rattle.rc_split.specs.Bags.{Part, ShareOf, TokenOf, Credit, shares_bag, token_bag, credits_bag, bag_on, plus, minus}
+use Rattle.rc_split.specs.Bags.{Part, ShareOf, TokenOf, Credit, shares_bag, token_bag, credits_bag, bag_of, bag_on, plus, minus}
 use Rattle.rc_rules.specs.Labels.{Label, Dead, Live}
 use Rattle.rc_rules.specs.Premises.{Premise, Is, Covers}
 
@@ -157,12 +159,52 @@ may_release P (Locked i) = (4, Is (same_slot i.slot Closed)) ∷ (12, Is (nat_le
 abbrev pub released : Label → Label
 released s = goes s (λ bag m. Live bag Unlocked)
 
+-- ---- the pool
+
+-- What is put is held, and then it isn't any more.
+abbrev pub put_premises : (Part → ℕ) → Mode → Items → List (ℕ × Premise)
+put_premises bag m items = locked m (λ i. (19, Covers bag (bag_of items)) ∷ [])
+
+abbrev pub put_effect : (Part → ℕ) → Mode → Items → Label
+put_effect bag m items = Live (minus bag (bag_of items)) m
+
+-- With the items no more of the part is held than there is.
+abbrev pub fits : Program → (Part → ℕ) → Items → Part → Bool
+fits P bag items p = nat_le (bag p + bag_of items p) (limit P p)
+
+-- So it is of each buffer and each token that they name, and of credits.
+abbrev pub has_room : Program → (Part → ℕ) → Items → Bool
+has_room P bag items =
+    list_all (λ (s : Share). fits P bag items (ShareOf s.buffer)) items.shares && list_all (λ u. fits P bag items (TokenOf u)) items.tokens && fits P bag items Credit
+
+-- The request whose completion is peeked owns its token.
+abbrev pub names_peeked : List ℕ → Peeked → Bool
+names_peeked tokens Unseen = false
+names_peeked tokens (Sees u) = list_any (λ v. nat_eq v u) tokens
+names_peeked tokens SeesOther = false
+
+abbrev pub names_peeked_in : List ℕ → Mode → Bool
+names_peeked_in tokens Unlocked = false
+names_peeked_in tokens (Locked i) = names_peeked tokens i.peeked
+
+-- The pool may have the items: nobody else has them.
+abbrev pub can_take : Program → (Part → ℕ) → Mode → Items → Bool
+can_take P bag m items = has_room P bag items && not (names_peeked_in items.tokens m)
+
+abbrev pub take_premises : Mode → List (ℕ × Premise)
+take_premises m = locked m (λ i. [])
+
+-- Where the pool can't have them, nothing reaches the branch that takes them.
+abbrev pub take_effect : Program → (Part → ℕ) → Mode → Items → Label
+take_effect P bag m items = cond (can_take P bag m items) (Live (plus bag (bag_of items)) m) Dead
+
 -- ---- tests
 
 abbrev pub test_premises : Mode → Test → List (ℕ × Premise)
 test_premises m (Compare x c n) = []
 test_premises m ReadyZero = locked m (λ i. [])
 test_premises m (SpaceAtLeast n) = locked m (λ i. [])
+test_premises m (Take k) = take_premises m
 
 -- what is known in the first branch
 abbrev pub test_mode : Program → Test → Mode → Mode
@@ -171,9 +213,12 @@ test_mode P ReadyZero Unlocked = Unlocked
 test_mode P ReadyZero (Locked i) = Locked (record i { queued = 0 })
 test_mode P (SpaceAtLeast n) Unlocked = Unlocked
 test_mode P (SpaceAtLeast n) (Locked i) = Locked (record i { queued = min i.queued (P.entries - n) })
+test_mode P (Take k) m = m
 
-abbrev pub test_effect : Program → (Part → ℕ) → Mode → Test → Label
-test_effect P bag m test = Live bag (test_mode P test m)
+-- the first branch, in a thread with these lists of items
+abbrev pub test_effect : Program → List Items → (Part → ℕ) → Mode → Test → Label
+test_effect P lists bag m (Take k) = take_effect P bag m (items_at lists k)
+test_effect P lists bag m test = Live bag (test_mode P test m)
 
 -- ---- peeks
 

@@ -46,7 +46,7 @@ pub fn may_break(program: &Program, releases: bool, mode: Mode) -> Result<(), Ca
     }
 }
 
-/// What is known in the first branch of a test.
+/// What is known of the ring in the first branch of a test; what a take brings is told by its own rule.
 pub fn behind_test(program: &Program, test: Test, mode: Mode) -> Result<Mode, Cause>
     ensures { states.Turns result (rules.test_premises mode test) (rules.test_mode program.now test mode) }
 {
@@ -57,6 +57,10 @@ pub fn behind_test(program: &Program, test: Test, mode: Mode) -> Result<Mode, Ca
             let inside = locked(mode)?;
             let most = program.entries().saturating_sub(n);
             Ok(with_queued(inside, inside.queued.min(most)))
+        }
+        Test::Take(_) => {
+            locked(mode)?;
+            Ok(mode)
         }
     }
 }

@@ -42,10 +42,12 @@ pub enum Cause {
     TokenTwice,
     /// The threads hold more credits than the completion ring has entries.
     OverCredits,
+    /// An item that is put into the pool isn't held.
+    NotHeld,
 }
 
 impl Cause {
-    /// The number that is printed behind `V`, 1 to 18.
+    /// The number that is printed behind `V`, 1 to 19.
     pub fn number(self) -> u32
         ensures { result ≡ spec.premise_number self }
     {
@@ -68,6 +70,7 @@ impl Cause {
             Cause::OverShares => 16,
             Cause::TokenTwice => 17,
             Cause::OverCredits => 18,
+            Cause::NotHeld => 19,
         }
     }
 
@@ -94,6 +97,7 @@ impl Cause {
             Cause::OverShares => "OverShares",
             Cause::TokenTwice => "TokenTwice",
             Cause::OverCredits => "OverCredits",
+            Cause::NotHeld => "NotHeld",
         }
     }
 }

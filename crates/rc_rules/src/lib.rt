@@ -12,6 +12,7 @@ mod flag;
 pub mod laws;
 pub mod mode;
 mod ops;
+mod pool;
 mod premises;
 mod rule;
 mod side;

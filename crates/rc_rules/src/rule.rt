@@ -10,22 +10,27 @@ ghost use Rattle.rc_split.specs.Holdings.{bag};
 
 use crate::cause::Cause;
 use crate::mode::{Inside, Mode, Peeked, Slot};
-use crate::{blocks, ops};
+use crate::{blocks, ops, pool};
 use rc_lang::lines::{Op, Test};
+use rc_lang::program::Items;
 use rc_split::holding::Holding;
 use rc_split::part::Part;
 
 /// What a line is, as far as it is one rule for each side.
 #[derive(Clone, Copy)]
-pub enum Rule {
+pub enum Rule<'a> {
     /// A statement without a block.
     Do(Op),
+    /// `put ITEMS`.
+    Put(&'a Items),
     /// `lock {`.
     Lock,
     /// The closing brace of a lock.
     Release,
-    /// The first branch of a test.
+    /// The first branch of a test of a variable or of the rings.
     If(Test),
+    /// The first branch of `if take ITEMS`.
+    Take(&'a Items),
     /// `case U {`.
     Case(u64),
     /// `other {`.
@@ -40,10 +45,11 @@ pub enum Rule {
 pub fn follow(holding: &mut Holding, mode: Mode, rule: Rule) -> Result<Option<Mode>, Cause>
     requires may { rules.MayFollow holding.old.program rule (Live (bag holding.old) mode) }
     requires free { states.IsFreeIn holding.old.program (bag holding.old) mode }
-    ensures { states.Follows holding.old holding.new result (rules.rule_premises holding.old.program rule (bag holding.old) mode) (rules.rule_effect holding.old.program rule (bag holding.old) mode) }
+    ensures { states.Follows holding.old holding.new result (rules.rule_premises holding.old.program rule.entry (bag holding.old) mode) (rules.rule_effect holding.old.program rule.entry (bag holding.old) mode) }
 {
     match rule {
         Rule::Do(op) => Ok(Some(ops::step(holding, mode, &op)?)),
+        Rule::Put(items) => Ok(Some(pool::put(holding, mode, items)?)),
         Rule::Lock => Ok(Some(Mode::Locked(Inside {
             queued: holding.program().left(),
             slot: Slot::Closed,
@@ -54,6 +60,7 @@ pub fn follow(holding: &mut Holding, mode: Mode, rule: Rule) -> Result<Option<Mo
             Ok(Some(Mode::Unlocked))
         }
         Rule::If(test) => Ok(Some(blocks::behind_test(holding.program(), test, mode)?)),
+        Rule::Take(items) => pool::take(holding, mode, items),
         Rule::Case(user_data) => in_case(holding, mode, user_data),
         Rule::Other => Ok(Some(blocks::in_arm(Peeked::SeesOther, mode)?)),
         Rule::Nothing => Ok(Some(blocks::in_arm(Peeked::Unseen, mode)?)),

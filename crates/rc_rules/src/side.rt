@@ -118,7 +118,7 @@ impl<'a> Side<'a> {
     /// Goes over a line. A dead side meets every premise and stays dead.
     pub fn follow(&mut self, rule: Rule) -> Result<(), Cause>
         requires { one.MayFollow self.old.program rule (spec.side_label self.old) }
-        ensures { spec.GivesSide self.old self.new result (rules.asks (spec.side_label self.old) (λ bag m. one.rule_premises self.old.program rule bag m)) (rules.goes (spec.side_label self.old) (λ bag m. one.rule_effect self.old.program rule bag m)) }
+        ensures { spec.GivesSide self.old self.new result (rules.asks (spec.side_label self.old) (λ bag m. one.rule_premises self.old.program rule.entry bag m)) (rules.goes (spec.side_label self.old) (λ bag m. one.rule_effect self.old.program rule.entry bag m)) }
     {
         let Some(mode) = self.mode else {
             return Ok(());

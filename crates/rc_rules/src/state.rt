@@ -8,7 +8,7 @@ ghost use Rattle.rc_lang.specs.declared.lines.Op.{Op};
 ghost use Rattle.rc_lang.specs.declared.lines.Stmt.TheVariants as stmts;
 ghost use Rattle.rc_lang.specs.declared.lines.Test.TheVariants as tests;
 ghost use Rattle.rc_rules.specs.Causes.{premise_number};
-ghost use Rattle.rc_rules.specs.Labels.{Dead};
+ghost use Rattle.rc_rules.specs.Labels.{Dead, Live};
 ghost use Rattle.rc_rules.specs.OneRule as one;
 ghost use Rattle.rc_rules.specs.Premises.{Tests};
 ghost use Rattle.rc_rules.specs.Rules as rules;
@@ -178,7 +178,7 @@ impl<'a> State<'a> {
     /// Goes over a line on each side by itself.
     fn follow(&mut self, rule: Rule) -> Result<(), Cause>
         requires { spec.OnBoth (one.MayFollow (spec.program_of self.old) rule) self.old }
-        ensures { spec.Gives self.old self.new result (rules.asks_both (spec.label_of self.old) (λ z bag m. one.rule_premises (spec.program_of self.old) rule bag m)) (λ z. rules.goes (spec.label_of self.old z) (λ bag m. one.rule_effect (spec.program_of self.old) rule bag m) ∷ []) }
+        ensures { spec.Gives self.old self.new result (rules.asks_both (spec.label_of self.old) (λ z bag m. one.rule_premises (spec.program_of self.old) rule.entry bag m)) (λ z. rules.goes (spec.label_of self.old z) (λ bag m. one.rule_effect (spec.program_of self.old) rule.entry bag m) ∷ []) }
     {
         if !self.other.is_live() {
             return self.zero.follow(rule);
@@ -192,7 +192,7 @@ impl<'a> State<'a> {
     /// A rule tests and changes at once, so each side is changed on a copy until both sides meet their premises.
     fn follow_both(&mut self, rule: Rule) -> Result<(), Cause>
         requires { spec.OnBoth (one.MayFollow (spec.program_of self.old) rule) self.old }
-        ensures { spec.Gives self.old self.new result (rules.asks_both (spec.label_of self.old) (λ z bag m. one.rule_premises (spec.program_of self.old) rule bag m)) (λ z. rules.goes (spec.label_of self.old z) (λ bag m. one.rule_effect (spec.program_of self.old) rule bag m) ∷ []) }
+        ensures { spec.Gives self.old self.new result (rules.asks_both (spec.label_of self.old) (λ z bag m. one.rule_premises (spec.program_of self.old) rule.entry bag m)) (λ z. rules.goes (spec.label_of self.old z) (λ bag m. one.rule_effect (spec.program_of self.old) rule.entry bag m) ∷ []) }
     {
         let mut zero = self.zero.again();
         let mut other = self.other.again();
@@ -246,6 +246,13 @@ impl<'a> State<'a> {
         }
     }
 
+    /// `put ITEMS`: the items are held, and then they aren't any more.
+    pub fn put(&mut self, items: &Items) -> Result<(), Cause>
+        ensures { spec.Gives self.old self.new result (rules.asks_both (spec.label_of self.old) (λ z bag m. rules.put_premises bag m (view_items items.now))) (λ z. rules.goes (spec.label_of self.old z) (λ bag m. rules.put_effect bag m (view_items items.now)) ∷ []) }
+    {
+        self.follow(Rule::Put(items))
+    }
+
     /// `lock {`: as many entries may be queued as may be left. The state is dead, or unlocked.
     pub fn enter_lock(&mut self) -> Result<(), Cause>
         requires { spec.OnBoth spec.IsUnlocked self.old }
@@ -289,16 +296,27 @@ impl<'a> State<'a> {
 
     /// The first branch of `if sq_ready == 0`.
     pub fn ready_zero(&mut self) -> Result<(), Cause>
-        ensures { spec.Gives self.old self.new result (rules.asks_both (spec.label_of self.old) (λ z bag m. rules.test_premises m tests.ReadyZero)) (λ z. rules.goes (spec.label_of self.old z) (λ bag m. rules.test_effect (spec.program_of self.old) bag m tests.ReadyZero) ∷ []) }
+        ensures { spec.Gives self.old self.new result (rules.asks_both (spec.label_of self.old) (λ z bag m. rules.test_premises m tests.ReadyZero)) (λ z. rules.goes (spec.label_of self.old z) (λ bag m. Live bag (rules.test_mode (spec.program_of self.old) tests.ReadyZero m)) ∷ []) }
     {
         self.follow(Rule::If(Test::ReadyZero))
     }
 
     /// The first branch of `if sq_space_left >= n`; n is at most the entries.
     pub fn space_at_least(&mut self, n: u32) -> Result<(), Cause>
-        ensures { spec.Gives self.old self.new result (rules.asks_both (spec.label_of self.old) (λ z bag m. rules.test_premises m (tests.SpaceAtLeast n))) (λ z. rules.goes (spec.label_of self.old z) (λ bag m. rules.test_effect (spec.program_of self.old) bag m (tests.SpaceAtLeast n)) ∷ []) }
+        ensures { spec.Gives self.old self.new result (rules.asks_both (spec.label_of self.old) (λ z bag m. rules.test_premises m (tests.SpaceAtLeast n))) (λ z. rules.goes (spec.label_of self.old z) (λ bag m. Live bag (rules.test_mode (spec.program_of self.old) (tests.SpaceAtLeast n) m)) ∷ []) }
     {
         self.follow(Rule::If(Test::SpaceAtLeast(n)))
+    }
+
+    /// The first branch of `if take ITEMS`: the items are held besides. A side that would then hold more than there is,
+    /// or the token that the peeked request owns, is dead there. They are items of the program, and no count is above
+    /// 2^19.
+    pub fn take(&mut self, items: &Items) -> Result<(), Cause>
+        requires made { IsItems (spec.program_of self.old) (view_items items.now) }
+        requires small { spec.OnBoth spec.IsSmall self.old }
+        ensures { spec.Gives self.old self.new result (rules.asks_both (spec.label_of self.old) (λ z bag m. rules.take_premises m)) (λ z. rules.goes (spec.label_of self.old z) (λ bag m. rules.take_effect (spec.program_of self.old) bag m (view_items items.now)) ∷ []) }
+    {
+        self.follow(Rule::Take(items))
     }
 
     /// Whether each side holds what a loop's items say of it; the cause says whether at the loop's top or at its end.
@@ -388,5 +406,7 @@ impl<'a> State<'a> {
 
 #[cfg(test)]
 mod flag_tests;
+#[cfg(test)]
+mod pool_tests;
 #[cfg(test)]
 mod tests;

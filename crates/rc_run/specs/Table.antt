@@ -10,7 +10,7 @@ use Rattle.rc_run.specs.Lives.{Live}
 use Rattle.rc_run.specs.Reports.{AllEnded, AllGiven, IsUnended, is_turn}
 use Rattle.rc_world.specs.declared.controls.Next.TheVariants.{Ready}
 use Rattle.rc_world.specs.declared.event.Action.{Action}
-use Rattle.rc_world.specs.declared.event.Action.TheVariants.{DataSet, Reaped, Submitted}
+use Rattle.rc_world.specs.declared.event.Action.TheVariants.{DataSet, ItemsPut, Reaped, Submitted}
 use Rattle.rc_world.specs.declared.event.Event.{Event}
 use Rattle.rc_world.specs.declared.event.Event.TheVariants.{ByThread, ByKernel}
 use Rattle.rc_world.specs.Items.{next_of}
@@ -79,26 +79,27 @@ abbrev pub took : ℤ → Bool
 took (pos n) = nat_lt 0 n
 took (negsuc n) = false
 
--- an entry was queued or taken, or a completion reaped
-abbrev pub acts_on_rings : Action → Bool
-acts_on_rings (DataSet u) = true
-acts_on_rings (Submitted r) = took r
-acts_on_rings (Reaped u) = true
-acts_on_rings _ = false
+-- an entry was queued or taken, a completion reaped, or items put into the pool
+abbrev pub gives_news : Action → Bool
+gives_news (DataSet u) = true
+gives_news (Submitted r) = took r
+gives_news (Reaped u) = true
+gives_news ItemsPut = true
+gives_news _ = false
 
--- The event changed what a look at the rings finds.
-abbrev pub changes_rings : Event → Bool
-changes_rings (ByThread i line action) = acts_on_rings action
-changes_rings (ByKernel completion) = true
+-- After the event a look at the rings or into the pool may find what it didn't find before.
+abbrev pub is_news : Event → Bool
+is_news (ByThread i line action) = gives_news action
+is_news (ByKernel completion) = true
 
--- No event since there were so many changed what a look at the rings finds.
-abbrev pub AreRingsSame : List Event → ℕ → Type 0
-AreRingsSame history seen = (k : ℕ) (e : Event) → seen ≤ k → slice_get history k ≡ Some e → changes_rings e ≡ false
+-- No event since there were so many is news.
+abbrev pub HasNoNews : List Event → ℕ → Type 0
+HasNoNews history seen = (k : ℕ) (e : Event) → seen ≤ k → slice_get history k ≡ Some e → is_news e ≡ false
 
--- A thread that looked at the rings when there were so many events, and made its last one then, would find nothing new;
+-- A thread that looked at the rings and into the pool when there were so many events, and made its last one then, would find nothing new;
 -- the run isn't over, and there is something to wait for: a completion, or the next event of another thread.
 pub record MaySleep (t : Table) (i looked seen : ℕ) : Type 0 where
-  pub same : AreRingsSame t.run.history looked
+  pub same : HasNoNews t.run.history looked
   pub goes_on : IsOver t → ⊥
   pub something : (0 < length t.run.world.pending) ⊎ ((length t.run.history ≡ seen) × OtherMoves t.run.world i)
 

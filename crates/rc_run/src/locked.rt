@@ -4,7 +4,7 @@ ghost use Rattle.std.specs.Prelude.{◌≡◌, ◌≢◌, ◌⊎◌, ◌↔◌, 
 ghost use Rattle.rc_run.specs.Jobs.{allows};
 ghost use Rattle.rc_run.specs.Reports.{AllEnded, IsUnended};
 ghost use Rattle.rc_run.specs.Lives.{IsNotOut, Lent, Posted, Turned, begun, free};
-ghost use Rattle.rc_run.specs.Table.{AreRingsSame, EndsAs, IsOver, IsTable, MaySleep, MayWait, OtherMoves, OthersMayGo, changes_rings, after_no_turn, after_refusal, is_stopped, new_table, turns_by};
+ghost use Rattle.rc_run.specs.Table.{EndsAs, HasNoNews, IsOver, IsTable, MaySleep, MayWait, OtherMoves, OthersMayGo, after_no_turn, after_refusal, is_news, is_stopped, new_table, turns_by};
 ghost use Rattle.rc_world.specs.Items.{next_of};
 ghost use Rattle.rc_world.specs.Runs.{IsSafe};
 
@@ -128,6 +128,13 @@ impl<D: Device, L: Ledger + Asked> Locked<D, L> {
         ensures { IsTrue result ↔ (self.now.run.world.controls.holder ≡ None) }
     {
         self.live.holder().is_none()
+    }
+
+    /// What a thread has next.
+    pub fn next(&self, thread: u32) -> Next
+        ensures { result ≡ next_of self.now.run.world.program self.now.run.world.controls thread }
+    {
+        self.live.next(thread)
     }
 
     /// Makes the next statement of a thread, and counts it. None where the limit is reached or memory was refused.
@@ -265,13 +272,13 @@ impl<D: Device, L: Ledger + Asked> Locked<D, L> {
         self.len() == seen && !self.is_stopped() && self.other_moves(thread)
     }
 
-    /// Whether a thread that looked at the rings when there were so many events, and then made its last one, would find
+    /// Whether a thread that looked at the rings and into the pool when there were so many events, and then made its last one, would find
     /// nothing new and has something to wait for: a completion, or the next event of another thread.
     pub fn may_sleep(&self, thread: u32, looked: usize, seen: usize) -> bool
         ensures { IsTrue result ↔ MaySleep self.now thread looked seen }
     {
         !self.is_over()
-            && are_rings_same(self.live.history(), looked)
+            && has_no_news(self.live.history(), looked)
             && (self.has_pending() || (self.len() == seen && self.other_moves(thread)))
     }
 
@@ -336,8 +343,9 @@ pub fn unended(live: &Live) -> Option<u32>
     None
 }
 
-fn changes_rings(event: &Event) -> bool
-    ensures { result ≡ changes_rings event.now }
+// Whether a look at the rings or into the pool may find something new after the event.
+fn is_news(event: &Event) -> bool
+    ensures { result ≡ is_news event.now }
 {
     match event {
         Event::ByKernel(_) => true,
@@ -345,17 +353,18 @@ fn changes_rings(event: &Event) -> bool
             Action::DataSet(_) => true,
             Action::Submitted(taken) => *taken > 0,
             Action::Reaped(_) => true,
+            Action::ItemsPut => true,
             _ => false,
         },
     }
 }
 
-// Whether no event since there were so many changed what a look at the rings finds.
-fn are_rings_same(history: &[Event], seen: usize) -> bool
-    ensures { IsTrue result ↔ AreRingsSame history.now seen }
+// Whether no event since there were so many is news.
+fn has_no_news(history: &[Event], seen: usize) -> bool
+    ensures { IsTrue result ↔ HasNoNews history.now seen }
 {
     for k in seen..history.len() {
-        if changes_rings(&history[k]) {
+        if is_news(&history[k]) {
             return false;
         }
     }

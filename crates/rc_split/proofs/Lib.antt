@@ -1,6 +1,8 @@
 mod Tokens
-mod Turns
+pub mod Turns
 mod Alike
 mod Small
 mod Held
 mod Plain
+pub mod PoolBags
+pub mod Named

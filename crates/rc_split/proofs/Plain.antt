@@ -1,11 +1,11 @@
 -- A program that declares nothing.
-use Rattle.std.proofs.Common.{◌≡◌, Bool, List, [], map, refl, sym, subst, arith, lit≤}
+use Rattle.std.proofs.Common.{◌≡◌, ◌≤◌, ℕ, Bool, List, [], None, map, refl, sym, subst, arith, lit≤}
 use Rattle.std.specs.Prelude.{All}
 use Rattle.std.specs.List.{IsDistinct}
 use Rattle.rc_lang.specs.Parts.{view_buffer, view_program, view_thread}
 use Rattle.rc_lang.specs.declared.program.Declarations.{Declarations}
 use Rattle.rc_lang.specs.declared.program.Thread.{Thread as ThreadPart}
-use Rattle.rc_lang.specs.Program.{IsProgram}
+use Rattle.rc_lang.specs.Program.{IsItems, IsProgram, Items, More, Program}
 
 none : {X : Type 0} (P : X → Type 0) → All P []
 none P k d lt = absurd (omega (arith, lt))
@@ -35,6 +35,13 @@ is_plain = record {
   each = λ i t e. absurd (cc);
   numbers = λ k lt. absurd (omega arith);
 }
+
+-- Credits alone are items of each program.
+plain_items : (P : Program) (n : ℕ) (more : More) → n ≤ 2048 → IsItems P (record { shares = []; tokens = []; credits = n; queue = None; more = more })
+plain_items P n more l = record { buffers = none _; counts = none _; distinct_buffers = distinct _; tokens = none _; distinct_tokens = distinct _; credits = l; queue = tt }
+
+pub credits_alone : (P : Program) (items : Items) (n : ℕ) (more : More) → n ≤ 2048 → items ≡ record { shares = []; tokens = []; credits = n; queue = None; more = more } → IsItems P items
+credits_alone P items n more l e = subst (IsItems P) (sym e) (plain_items P n more l)
 
 pub made_plain : (d : Declarations) (ts : List ThreadPart) → d.files.items ≡ [] → d.buffers.items ≡ [] → d.tokens.items ≡ [] → ts ≡ [] → IsProgram (view_program (record { version = 1; entries = 1; completion_entries = 2; left = 0 }) d ts)
 made_plain d ts e f g h =

@@ -197,6 +197,25 @@ impl<'a> Holding<'a> {
         }
     }
 
+    /// Takes all of the items away, which are held.
+    pub fn lose(&mut self, lost: &Items)
+        requires { bags.IsWithin (bags.bag_of (view_items lost.now)) (spec.bag self.old) }
+        ensures { spec.Holds self.new self.old.program (bags.minus (spec.bag self.old) (bags.bag_of (view_items lost.now))) }
+    {
+        self.take_parts(&lost.shares, &lost.tokens, lost.credits);
+    }
+
+    /// Adds all of the items. They name only what the program declares; with them no token is held twice, and no count
+    /// comes to 2^20.
+    pub fn gain(&mut self, gained: &Items)
+        requires names { spec.AreDeclared self.old.program (view_items gained.now) }
+        requires once { (u : ℕ) → bags.plus (spec.bag self.old) (bags.bag_of (view_items gained.now)) (bags.TokenOf u) ≤ 1 }
+        requires small { (p : bags.Part) → bags.plus (spec.bag self.old) (bags.bag_of (view_items gained.now)) p < 2 ^ 20 }
+        ensures { spec.Holds self.new self.old.program (bags.plus (spec.bag self.old) (bags.bag_of (view_items gained.now))) }
+    {
+        self.give_parts(&gained.shares, &gained.tokens, gained.credits);
+    }
+
     fn give_parts(&mut self, shares: &[Share], tokens: &[u64], credits: u32)
         requires names { spec.AreDeclared self.old.program (bags.parts shares.now tokens.now credits) }
         requires once { (u : ℕ) → bags.plus (spec.bag self.old) (bags.bag_of (bags.parts shares.now tokens.now credits)) (bags.TokenOf u) ≤ 1 }

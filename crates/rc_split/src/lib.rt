@@ -1,11 +1,12 @@
 //! Holdings: which shares of buffers, tokens and credits a thread holds at some point.
 //!
 //! A holding stands for a bag: how many of each part there are. It is a fixed row of counts and marks, so nothing here
-//! takes memory.
+//! takes memory. The pool is such rows too, without a program of its own.
 #![tactic(auto)]
 
 pub mod holding;
 pub mod part;
+pub mod pool;
 mod rows;
 #[cfg(test)]
 mod tests;

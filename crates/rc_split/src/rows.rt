@@ -12,6 +12,15 @@ pub fn lessen(counts: &mut [u32; 64], place: usize, by: u32)
     }
 }
 
+/// Takes so many from the count at a place, or as many as are there.
+pub fn lower(counts: &mut [u32; 64], place: usize, by: u32)
+    ensures { counts.new ≡ slice_set counts.old place (slice_index counts.old place - by) }
+{
+    if place < counts.len() {
+        counts[place] = counts[place].saturating_sub(by);
+    }
+}
+
 /// Adds so many to the count at a place.
 pub fn raise(counts: &mut [u32; 64], place: usize, by: u32)
     requires there { place < 64 }

@@ -3,10 +3,12 @@
 ghost use Rattle.std.specs.Prelude.{◌≡◌, ◌≤◌, [], None};
 ghost use Rattle.rc_lang.specs.Parts.{view_items};
 ghost use Rattle.rc_split.specs.Bags.{Credit};
+ghost use Rattle.rc_lang.specs.Program.{IsItems};
 ghost use Rattle.rc_split.specs.Holdings as spec;
 
 use crate::holding::Holding;
 use crate::part::Part;
+use crate::pool::Pool;
 use rc_lang::program::{Declarations, Head, Items, More, Program};
 use std::alloc::Global;
 use std::test::Fail;
@@ -81,5 +83,39 @@ fn what_is_held_besides_is_asked_of_one_side(rt: HostRuntime) -> Result<(), Fail
     assert!(rt; !held.holds(Part::Credits(6)));
     assert!(rt; held.covers_on(&items, false));
     assert!(rt; held.covers(&items));
+    Ok(())
+}
+
+/// Puts the items, where the pool has room for them.
+fn put(pool: &mut Pool, program: &Program, items: &Items) -> bool
+    requires { IsItems program.now (view_items items.now) }
+{
+    if pool.is_overfilled_by(program, items) {
+        return false;
+    }
+    pool.put(program, items);
+    true
+}
+
+#[test]
+fn what_is_put_is_there_until_it_is_taken(rt: HostRuntime) -> Result<(), Fail> {
+    let program = program(rt.alloc());
+    let one = credits(rt.alloc(), 1, 0);
+    let two = credits(rt.alloc(), 2, 0);
+    let mut pool = Pool::empty();
+    assert!(rt; !pool.includes(&program, &one));
+    assert!(rt; put(&mut pool, &program, &one));
+    assert!(rt; pool.includes(&program, &one));
+    assert!(rt; !pool.includes(&program, &two));
+    assert!(rt; !put(&mut pool, &program, &two));
+    assert!(rt; put(&mut pool, &program, &one));
+    assert_eq!(rt; pool.credits(), 2);
+    pool.take(&program, &two);
+    assert_eq!(rt; pool.credits(), 0);
+    let mut held = Holding::empty(rt.alloc(), &program)?;
+    held.gain(&two);
+    held.lose(&one);
+    assert!(rt; held.holds(Part::Credits(1)));
+    assert!(rt; !held.holds(Part::Credits(2)));
     Ok(())
 }

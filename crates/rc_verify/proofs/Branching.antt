@@ -10,9 +10,9 @@ use Rattle.rc_lang.specs.declared.lines.Comparison.{Comparison}
 use Rattle.rc_lang.specs.declared.lines.Line.{Line}
 use Rattle.rc_lang.specs.declared.lines.Stmt.TheVariants.{If, Else, EndIf}
 use Rattle.rc_lang.specs.declared.lines.Test.{Test}
-use Rattle.rc_lang.specs.declared.lines.Test.TheVariants.{Compare}
+use Rattle.rc_lang.specs.declared.lines.Test.TheVariants.{Compare, ReadyZero, SpaceAtLeast, Take}
 use Rattle.rc_lang.specs.Nesting.{blocks_at, in_lock}
-use Rattle.rc_lang.specs.Program.{Program, Thread, stmt_at}
+use Rattle.rc_lang.specs.Program.{Items, Program, Thread, items_at, no_items, stmt_at}
 use Rattle.rc_lang.proofs.Along.{same_lock}
 use Rattle.rc_lang.proofs.Closing.{closes_if, turns as turns_at}
 use Rattle.rc_lang.proofs.Lookups.{blocks_next}
@@ -25,13 +25,13 @@ use Rattle.rc_rules.specs.declared.mode.Peeked.TheVariants.{Unseen}
 use Rattle.rc_rules.specs.Labels.{Label, Dead, Live, Weaker, WeakerInside, WeakerMode, IsStrongest}
 use Rattle.rc_rules.specs.Labellings.{here, label_at, skipped}
 use Rattle.rc_rules.specs.Premises.{Meets, Premise}
-use Rattle.rc_rules.specs.Rules.{asks, asks_both, goes, joins_both, test_effect, test_premises}
+use Rattle.rc_rules.specs.Rules.{asks, asks_both, goes, joins_both, take_effect, take_premises, test_effect, test_premises}
 use Rattle.rc_rules.specs.Sides.{Sides, gate, may_skip, nowhere, on, test_goes}
 use Rattle.rc_rules.specs.States.{State, AgreeOnLock, Becomes, Gives, IsOfSame, label_of, program_of, sides_of}
 use Rattle.arrayvec.specs.ArrayVec.{ArrayVec}
 use Rattle.rc_verify.specs.declared.walk.Walk.{Walk}
 use Rattle.rc_verify.specs.Arms.{two}
-use Rattle.rc_verify.specs.Branches.{KeepsOther}
+use Rattle.rc_verify.specs.Branches.{KeepsOther, MayTest}
 use Rattle.rc_verify.specs.Kept.{last_of, rest_of}
 use Rattle.rc_verify.specs.Walk.{AreKept, Fits, IsBranch, OnKept, Reaches, Turns, branch_place, loop_place, most_at, peek_place, places}
 use Rattle.rc_verify.proofs.Fit.{fits_alike, fits_more, gate_fits, strongest_fits, test_fits}
@@ -85,15 +85,21 @@ none_asked Dead = tt
 none_asked (Live a m) = tt
 
 -- what a test asks and lets through, of the first branch
-abbrev pub Tested : State → State → Test → Type 0
-Tested s new test = Meets (asks_both (label_of s) (λ z bag m. test_premises m test)) × Becomes s new (λ z. gate (test_goes s.flag test z true) (goes (label_of s z) (λ bag m. test_effect (program_of s) bag m test)) ∷ [])
+abbrev pub Tested : List Items → State → State → Test → Type 0
+Tested lists s new test = Meets (asks_both (label_of s) (λ z bag m. test_premises m test)) × Becomes s new (λ z. gate (test_goes s.flag test z true) (goes (label_of s z) (λ bag m. test_effect (program_of s) lists bag m test)) ∷ [])
 
 -- A comparison asks nothing, and says nothing of what is held.
-pub compared : (s new : State) (test : Test) (x : ℕ) (c : Comparison) (n : ℤ) → test ≡ Compare x c n → Becomes s new (λ z. gate (test_goes s.flag test z true) (label_of s z) ∷ []) → Tested s new test
-compared s new test x c n e h = subst (Tested s new) (sym e) (meets_append (asks (label_of s true) (λ bag m. [])) (asks (label_of s false) (λ bag m. [])) (none_asked (label_of s true)) (none_asked (label_of s false)), record { each = each; of = h.of })
+pub compared : (lists : List Items) (s new : State) (test : Test) (x : ℕ) (c : Comparison) (n : ℤ) → test ≡ Compare x c n → Becomes s new (λ z. gate (test_goes s.flag test z true) (label_of s z) ∷ []) → Tested lists s new test
+compared lists s new test x c n e h = subst (Tested lists s new) (sym e) (meets_append (asks (label_of s true) (λ bag m. [])) (asks (label_of s false) (λ bag m. [])) (none_asked (label_of s true)) (none_asked (label_of s false)), record { each = each; of = h.of })
   where
     each : (z : Bool) → IsStrongest (label_of new z) (gate (test_goes s.flag (Compare x c n) z true) (goes (label_of s z) Live) ∷ [])
     each z = subst (λ l. IsStrongest (label_of new z) (gate (test_goes s.flag (Compare x c n) z true) l ∷ [])) (sym (same_too (label_of s z))) (subst (λ k. IsStrongest (label_of new z) (gate (test_goes s.flag k z true) (label_of s z) ∷ [])) e (h.each z))
+
+-- A take asks and gives what the items do that it names.
+pub taken_from : {X : Type 0} (lists : List Items) (s new : State) (x : Result X Cause) (test : Test) (k : ℕ) (items : Items) → test ≡ Take k → items ≡ items_at lists k → Gives s new x (asks_both (label_of s) (λ z bag m. take_premises m)) (λ z. goes (label_of s z) (λ bag m. take_effect (program_of s) bag m items) ∷ []) → Gives s new x (asks_both (label_of s) (λ z bag m. test_premises m test)) (λ z. gate (test_goes s.flag test z true) (goes (label_of s z) (λ bag m. test_effect (program_of s) lists bag m test)) ∷ [])
+taken_from lists s new x test k items e q g =
+    subst (λ t. Gives s new x (asks_both (label_of s) (λ z bag m. test_premises m t)) (λ z. gate (test_goes s.flag t z true) (goes (label_of s z) (λ bag m. test_effect (program_of s) lists bag m t)) ∷ [])) (sym e)
+    (subst (λ is. Gives s new x (asks_both (label_of s) (λ z bag m. take_premises m)) (λ z. goes (label_of s z) (λ bag m. take_effect (program_of s) bag m is) ∷ [])) q g)
 
 -- ---- what a branch leaves behind it
 
@@ -133,16 +139,26 @@ module _ (P : Program) (t : Thread) (j : ℕ) (w : Walk) (r : Reaches P t j w) w
         ∙ ap (gate (may_skip t.flag z (stmt_at t.lines j))) (sym (here_still new z));
   }
 
-  pub if_turns : {X : Type 0} (test : Test) (new : State) (kept : ArrayVec (Option State)) (x : Result X Cause) → stmt_at t.lines j ≡ Some (If test) → Gives w.state new x (asks_both (label_of w.state) (λ z bag m. test_premises m test)) (λ z. gate (test_goes w.state.flag test z true) (goes (label_of w.state z) (λ bag m. test_effect (program_of w.state) bag m test)) ∷ []) → OnOk x (KeepsOther test w.state w.branches.items kept.items) → Turns P t j (record { state = new; branches = kept; peek = w.peek; loops = w.loops }) x
-  if_turns test new kept x e g k =
+  tests_here : (test : Test) → stmt_at t.lines j ≡ Some (If test) → MayTest P t.lists test
+  tests_here (Compare x c n) e = tt
+  tests_here ReadyZero e = tt
+  tests_here (SpaceAtLeast n) e = tt
+  tests_here (Take k) e = let lt : k < length t.lists = r.thread.resolved j (If (Take k)) e in (lt, (r.thread.lists k no_items lt).first)
+
+  pub may_test : (test : Test) (lists : List Items) → stmt_at t.lines j ≡ Some (If test) → lists ≡ t.lists → MayTest (program_of w.state) lists test
+  may_test test lists e q = subst (λ (p : Program). MayTest p lists test) (sym r.at.here.of.program) (subst (λ (is : List Items). MayTest P is test) (sym q) (tests_here test e))
+
+  pub if_turns : {X : Type 0} (test : Test) (lists : List Items) (new : State) (kept : ArrayVec (Option State)) (x : Result X Cause) → stmt_at t.lines j ≡ Some (If test) → lists ≡ t.lists → Gives w.state new x (asks_both (label_of w.state) (λ z bag m. test_premises m test)) (λ z. gate (test_goes w.state.flag test z true) (goes (label_of w.state z) (λ bag m. test_effect (program_of w.state) lists bag m test)) ∷ []) → OnOk x (KeepsOther test w.state w.branches.items kept.items) → Turns P t j (record { state = new; branches = kept; peek = w.peek; loops = w.loops }) x
+  if_turns test lists new kept x e same_lists h k =
+      let g = subst (λ (is : List Items). Gives w.state new x (asks_both (label_of w.state) (λ z bag m. test_premises m test)) (λ z. gate (test_goes w.state.flag test z true) (goes (label_of w.state z) (λ bag m. test_effect (program_of w.state) is bag m test)) ∷ [])) same_lists h in
       let w' : Walk = record { state = new; branches = kept; peek = w.peek; loops = w.loops } in
       let F : Program → Option ℕ → Sides → List (ℕ × Premise) = λ p f l. asks_both (λ z. on z l) (λ z bag m. test_premises m test) in
-      let B : Program → Option ℕ → Sides → Bool → List Label = λ p f l z. gate (test_goes f test z true) (goes (on z l) (λ bag m. test_effect p bag m test)) ∷ [] in
+      let B : Program → Option ℕ → Sides → Bool → List Label = λ p f l z. gate (test_goes f test z true) (goes (on z l) (λ bag m. test_effect p t.lists bag m test)) ∷ [] in
       let gave = took P t w.state new (seen_at t j r.labels) x F B r.at.here.of (here_is P t j w r (If test) e) g in
       let bs = blocks_at t.lines j in
       let n : blocks_at t.lines (j + 1) ≡ bs ++ InIf j ∷ [] = blocks_next t.lines j (If test) e in
       let same = opens_none t j bs (InIf j) refl n in
-      let f : (z : Bool) → Fits (in_lock bs) (most_at j + 18) (goes (here (take j t.lines) r.labels z) (λ bag m. test_effect P bag m test)) = λ z. fits_more (in_lock bs) (most_at j) (most_at j + 18) _ (omega arith) (test_fits P test (in_lock bs) (most_at j) _ (fits_known P t j w r (If test) e z)) in
+      let f : (z : Bool) → Fits (in_lock bs) (most_at j + 18) (goes (here (take j t.lines) r.labels z) (λ bag m. test_effect P t.lists bag m test)) = λ z. fits_more (in_lock bs) (most_at j) (most_at j + 18) _ (omega arith) (test_fits P t.lists test (in_lock bs) (most_at j) _ r.made (tests_here test e) (omega arith) (fits_known P t j w r (If test) e z)) in
       turns P t j w r (If test) e w' x gave
       (λ b z. fits_behind P t j w r (If test) e (label_of new z) (strongest_fits (in_lock bs) (most_at j + 18) (label_of new z) _ (gate_fits (test_goes t.flag test z true) (in_lock bs) (most_at j + 18) _ (f z), tt) (b z)))
       (λ y q. record {

@@ -7,7 +7,8 @@ use Rattle.std.specs.Str.{bytes_eq}
 use Rattle.rc_lang.specs.declared.lines.Line.{Line}
 use Rattle.rc_lang.specs.declared.lines.Op.TheVariants.{GetSqe}
 use Rattle.rc_lang.specs.declared.lines.Stmt.{Stmt}
-use Rattle.rc_lang.specs.declared.lines.Stmt.TheVariants.{Do, EndIf, Loop}
+use Rattle.rc_lang.specs.declared.lines.Stmt.TheVariants.{Do, Put, If, EndIf, Loop}
+use Rattle.rc_lang.specs.declared.lines.Test.TheVariants.{Take}
 use Rattle.rc_lang.specs.declared.program.Declarations.{Declarations}
 use Rattle.rc_lang.specs.declared.program.Thread.{Thread as ThreadPart}
 use Rattle.rc_lang.specs.Nesting.{IsNested, IsNestedIn, blocks_at}
@@ -84,14 +85,15 @@ nested calls branch = record { each = stands calls branch; depth = depth calls b
 
 -- ---- the program
 
-no_loop : (calls branch : Bool) (j k : ℕ) → stmt_at (example_lines calls branch) j ≡ Some (Loop k) → ⊥
-no_loop true true zero k e = absurd cc
-no_loop true true (suc zero) k e = absurd cc
-no_loop true true (suc (suc zero)) k e = absurd cc
-no_loop true true (suc (suc (suc j))) k e = absurd cc
-no_loop true false zero k e = absurd cc
-no_loop true false (suc j) k e = absurd cc
-no_loop false branch j k e = absurd cc
+-- The line names no list of items.
+abbrev NamesNone : Stmt → Type 0
+NamesNone (Loop k) = ⊥
+NamesNone (Put k) = ⊥
+NamesNone (If (Take k)) = ⊥
+NamesNone _ = Unit {0}
+
+no_list : (calls branch : Bool) (j : ℕ) (s : Stmt) → stmt_at (example_lines calls branch) j ≡ Some s → NamesNone s
+no_list calls branch j s e = each_stmt (λ k. NamesNone) calls branch j s e (λ b. (tt, tt, tt)) (λ b. tt)
 
 is_items : (n : ℕ) (calls branch flag : Bool) → n ≤ 2048 → IsItems (example n calls branch flag) (example_thread n calls branch flag).items
 is_items n calls branch flag h = record {
@@ -128,7 +130,9 @@ is_thread n calls branch flag h = record {
   nested = nested calls branch;
   resolved = λ j s e. each_stmt (λ k. IsResolved (example n calls branch flag) 1 0) calls branch j s e (λ b. (lit≤ tt, tt, tt)) (λ b. tt);
   linked = linked calls branch;
-  queues = λ j k e. absurd (no_loop calls branch j k e);
+  queues = λ j k e. absurd (no_list calls branch j (Loop k) e);
+  puts = λ j k e. absurd (no_list calls branch j (Put k) e);
+  takes = λ j k e. absurd (no_list calls branch j (If (Take k)) e);
 }
 
 rising : (calls branch : Bool) → IsStrictlyIncreasing (line_numbers (example_thread 0 calls branch false ∷ []))
@@ -136,7 +140,7 @@ rising true true = by_test (3 ∷ 4 ∷ 5 ∷ 6 ∷ []) refl
 rising true false = by_test (3 ∷ 4 ∷ []) refl
 rising false branch = by_test (3 ∷ []) refl
 
-version_is : (flag : Bool) → (1 ≤ example_version flag) × (example_version flag ≤ 2)
+version_is : (flag : Bool) → (1 ≤ example_version flag) × (example_version flag ≤ 3)
 version_is true = (lit≤ tt, lit≤ tt)
 version_is false = (lit≤ tt, lit≤ tt)
 

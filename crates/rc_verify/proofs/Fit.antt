@@ -1,9 +1,11 @@
 -- Which labels fit a place in a lock or not, and how many of each part are held there.
-use Rattle.std.proofs.Common.{◌≡◌, ℕ, ◌+◌, ◌^◌, ◌≤◌, Bool, true, false, cond, nat_lt, List, [], ◌∷◌, refl, sym, ap, subst, ◌∙◌, ◌⊎◌, inl, inr, arith}
+use Rattle.std.proofs.Common.{◌≡◌, ℕ, ◌+◌, ◌^◌, ◌≤◌, Bool, true, false, cond, not, nat_lt, List, [], ◌∷◌, refl, sym, ap, subst, ◌∙◌, ◌⊎◌, inl, inr, arith}
 use Rattle.rc_lang.specs.declared.lines.Op.{Op}
 use Rattle.rc_lang.specs.declared.lines.Test.{Test}
-use Rattle.rc_lang.specs.Program.{Program, Items, Thread, IsProgram, IsItems, IsList, besides}
-use Rattle.rc_split.specs.Bags.{Part, ShareOf, TokenOf, Credit, bag_of, bag_on}
+use Rattle.rc_lang.specs.declared.lines.Test.TheVariants.{Compare, ReadyZero, SpaceAtLeast, Take}
+use Rattle.rc_lang.specs.Program.{Program, Items, Thread, IsProgram, IsItems, IsList, besides, items_at}
+use Rattle.rc_split.specs.Bags.{Part, ShareOf, TokenOf, Credit, bag_of, bag_on, plus}
+use Rattle.rc_rules.specs.declared.mode.Mode.{Mode}
 use Rattle.rc_rules.specs.declared.mode.Mode.TheVariants.{Unlocked, Locked}
 use Rattle.rc_rules.specs.declared.mode.Peeked.{Peeked}
 use Rattle.rc_rules.specs.declared.mode.Peeked.TheVariants.{Unseen, Sees}
@@ -11,12 +13,15 @@ use Rattle.rc_rules.specs.declared.mode.Slot.TheVariants.{Closed}
 use Rattle.rc_rules.specs.Labels.{Label, Dead, Live, Weaker, WeakerThanEach, IsStrongest, IsSame}
 use Rattle.rc_rules.specs.Labellings.{start_of}
 use Rattle.rc_rules.specs.Sides.{brings, gate, on}
-use Rattle.rc_rules.specs.Rules.{same_slot, op_effect, goes, entered, released, test_effect, with_peeked, peek_at, case_at, top, broken, asks, may_break}
+use Rattle.rc_rules.specs.Rules.{same_slot, op_effect, put_effect, can_take, has_room, names_peeked_in, take_effect, goes, entered, released, test_effect, with_peeked, peek_at, case_at, top, broken, asks, may_break}
 use Rattle.rc_rules.specs.Premises.{Meets}
 use Rattle.rc_rules.specs.States.{is_locked, IsLocked, IsUnlocked, AgreeOnLock, IsSmall}
 use Rattle.rc_rules.proofs.Headers.{few_of, once}
 use Rattle.rc_rules.proofs.Weaker.{locked_same, peeked_locked, test_locked}
 use Rattle.rc_rules.proofs.Lines.{effect_by}
+use Rattle.rc_rules.proofs.Room.{limit_few, room}
+use Rattle.std.proofs.lemmas.Bool.{and_parts}
+use Rattle.rc_verify.specs.Branches.{MayTest}
 use Rattle.rc_verify.specs.Walk.{Fits, IsClosed}
 
 -- ---- the strongest label is like those that lead to it
@@ -98,9 +103,29 @@ pub released_fits : (b : Bool) (n : ℕ) (s : Label) → Fits b n s → Fits fal
 released_fits b n Dead f = tt
 released_fits b n (Live a m) f = (refl, f.1)
 
-pub test_fits : (P : Program) (test : Test) (b : Bool) (n : ℕ) (s : Label) → Fits b n s → Fits b n (goes s (λ bag m. test_effect P bag m test))
-test_fits P test b n Dead f = tt
-test_fits P test b n (Live a m) f = (test_locked P test m ∙ f.0, f.1)
+pub put_fits : (items : Items) (b : Bool) (n : ℕ) (s : Label) → Fits b n s → Fits b n (goes s (λ bag m. put_effect bag m items))
+put_fits items b n Dead f = tt
+put_fits items b n (Live a m) f = (f.0, λ p. omega (arith, f.1 p))
+
+take_fits : (P : Program) (items : Items) (b : Bool) (n : ℕ) (a : Part → ℕ) (m : Mode) → IsProgram P → IsItems P items → 4096 ≤ n → Fits b n (Live a m) → Fits b n (take_effect P a m items)
+take_fits P items b n a m made of l f = go (can_take P a m items) refl
+  where
+    go : (c : Bool) → can_take P a m items ≡ c → Fits b n (cond c (Live (plus a (bag_of items)) m) Dead)
+    go false e = tt
+    go true e = (
+      f.0,
+      λ p. elim (room P a items of (and_parts (has_room P a items) (not (names_peeked_in items.tokens m)) e).0 p) [
+        | inl none ↦ omega (arith, f.1 p, none)
+        | inr within ↦ omega (arith, within, limit_few P p made, l)
+      ],
+    )
+
+pub test_fits : (P : Program) (lists : List Items) (test : Test) (b : Bool) (n : ℕ) (s : Label) → IsProgram P → MayTest P lists test → 4096 ≤ n → Fits b n s → Fits b n (goes s (λ bag m. test_effect P lists bag m test))
+test_fits P lists test b n Dead made may l f = tt
+test_fits P lists (Compare x c v) b n (Live a m) made may l f = (test_locked P (Compare x c v) m ∙ f.0, f.1)
+test_fits P lists ReadyZero b n (Live a m) made may l f = (test_locked P ReadyZero m ∙ f.0, f.1)
+test_fits P lists (SpaceAtLeast v) b n (Live a m) made may l f = (test_locked P (SpaceAtLeast v) m ∙ f.0, f.1)
+test_fits P lists (Take k) b n (Live a m) made may l f = take_fits P (items_at lists k) b n a m made may.1 l f
 
 pub peek_fits : (pk : Peeked) (b : Bool) (n : ℕ) (s : Label) → Fits b n s → Fits b n (peek_at pk s)
 peek_fits pk b n Dead f = tt

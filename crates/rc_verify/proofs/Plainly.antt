@@ -5,9 +5,9 @@ use Rattle.rc_lang.specs.declared.lines.Block.{Block}
 use Rattle.rc_lang.specs.declared.lines.Block.TheVariants.{InLock}
 use Rattle.rc_lang.specs.declared.lines.Op.{Op}
 use Rattle.rc_lang.specs.declared.lines.Stmt.{Stmt}
-use Rattle.rc_lang.specs.declared.lines.Stmt.TheVariants.{Do, Lock, EndLock}
+use Rattle.rc_lang.specs.declared.lines.Stmt.TheVariants.{Do, Put, Lock, EndLock}
 use Rattle.rc_lang.specs.Nesting.{blocks_at, in_lock, innermost, without_innermost}
-use Rattle.rc_lang.specs.Program.{Program, Thread, stmt_at}
+use Rattle.rc_lang.specs.Program.{Items, Program, Thread, items_at, stmt_at}
 use Rattle.rc_lang.proofs.Along.{lock_next, locked_behind}
 use Rattle.rc_lang.proofs.Closing.{closes_lock}
 use Rattle.rc_lang.proofs.Lookups.{blocks_next, in_lock_pushed, nested_here, stands_within}
@@ -15,12 +15,12 @@ use Rattle.rc_rules.specs.declared.cause.Cause.{Cause}
 use Rattle.rc_rules.specs.Labels.{Label, IsStrongest}
 use Rattle.rc_rules.specs.Labellings.{arm_end, break_end, here}
 use Rattle.rc_rules.specs.Premises.{Premise}
-use Rattle.rc_rules.specs.Rules.{asks_both, entered, goes, may_release, op_effect, op_premises, released}
+use Rattle.rc_rules.specs.Rules.{asks_both, entered, goes, may_release, op_effect, op_premises, put_effect, put_premises, released}
 use Rattle.rc_rules.specs.Sides.{Sides, brings, on, turns, write_of}
 use Rattle.rc_rules.specs.States.{State, AgreeOnLock, Gives, IsLocked, IsSmall, IsUnlocked, OnBoth, label_of, program_of, sides_of}
 use Rattle.rc_verify.specs.declared.walk.Walk.{Walk}
 use Rattle.rc_verify.specs.Walk.{AreKept, Fits, IsBranch, IsLoop, IsOf, IsPeeked, Keeps, OnKept, Reaches, Turns, branch_place, listed, loop_place, most_at, peek_place, places}
-use Rattle.rc_verify.proofs.Fit.{AreAll, brings_fit, entered_fits, fits_alike, fits_locked, fits_more, fits_small, fits_unlocked, op_fits, released_fits, strongest_fits}
+use Rattle.rc_verify.proofs.Fit.{AreAll, brings_fit, entered_fits, fits_alike, fits_locked, fits_more, fits_small, fits_unlocked, op_fits, put_fits, released_fits, strongest_fits}
 use Rattle.rc_verify.proofs.Keeping.{popped_none, pushed_none}
 use Rattle.rc_verify.proofs.Standing.{Gave, asked_at, branches_stay, fits_here, here_is, lead_at, loops_stay, peek_stays, seen_at, took, turns as turns_on}
 
@@ -88,6 +88,17 @@ module _ (P : Program) (t : Thread) (j : ℕ) (w : Walk) (r : Reaches P t j w) w
       (λ z. brings_fit (λ y. turns (write_of t.flag op) y z) (λ s. goes s (λ bag m. op_effect P bag m op)) (here (take j t.lines) r.labels) lock (most_at j + 18) (λ y. op_fits P lock (most_at j) _ op r.made (fits_known P t j w r (Do op) e y)))
       (record { branches = ap (places branch_place) n; peek = ap (places peek_place) n; loops = ap (places loop_place) n })
       (record { arms = λ o x. refl; breaks = λ o x. refl }) g
+
+  pub put_turns : {X : Type 0} (k : ℕ) (items : Items) (new : State) (x : Result X Cause) → stmt_at t.lines j ≡ Some (Put k) → items ≡ items_at t.lists k → Gives w.state new x (asks_both (label_of w.state) (λ z bag m. put_premises bag m items)) (λ z. goes (label_of w.state z) (λ bag m. put_effect bag m items) ∷ []) → Turns P t j (record { state = new; branches = w.branches; peek = w.peek; loops = w.loops }) x
+  put_turns k items new x e q g =
+      let n = blocks_next t.lines j (Put k) e in
+      let lock = in_lock (blocks_at t.lines j) in
+      let own : Items = items_at t.lists k in
+      state_alone P t j w r (Put k) e w.state new (seen_at t j r.labels) x (λ p f l. asks_both (λ z. on z l) (λ z bag m. put_premises bag m own)) (λ p f l z. goes (on z l) (λ bag m. put_effect bag m own) ∷ []) r.at.here.of (here_is P t j w r (Put k) e) refl refl
+      (λ z. (fits_more lock (most_at j) (most_at j + 18) _ (omega arith) (put_fits own lock (most_at j) _ (fits_known P t j w r (Put k) e z)), tt))
+      (record { branches = ap (places branch_place) n; peek = ap (places peek_place) n; loops = ap (places loop_place) n })
+      (record { arms = λ o x. refl; breaks = λ o x. refl })
+      (subst (λ (is : Items). Gives w.state new x (asks_both (label_of w.state) (λ z bag m. put_premises bag m is)) (λ z. goes (label_of w.state z) (λ bag m. put_effect bag m is) ∷ [])) q g)
 
   -- Both sides are locked, or both are not.
   pub sides_here : (s : Stmt) → stmt_at t.lines j ≡ Some s → AgreeOnLock (label_of w.state true) (label_of w.state false)

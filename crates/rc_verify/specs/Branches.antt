@@ -1,8 +1,15 @@
 -- The branches of an if, as it is opened.
-use Rattle.std.specs.Prelude.{◌≡◌, List, false, [], ◌∷◌, ◌++◌, Option, Some}
+use Rattle.std.specs.Prelude.{◌≡◌, ◌<◌, List, false, [], ◌∷◌, ◌++◌, length, Option, Some}
 use Rattle.rc_lang.specs.declared.lines.Test.{Test}
+use Rattle.rc_lang.specs.declared.lines.Test.TheVariants.{Take}
+use Rattle.rc_lang.specs.Program.{Items, IsItems, Program, items_at}
 use Rattle.rc_rules.specs.Sides.{gate, test_goes}
 use Rattle.rc_rules.specs.States.{State, Becomes, label_of}
+
+-- What an if takes from the pool are items of the program, among these lists.
+abbrev pub MayTest : Program → List Items → Test → Type 0
+MayTest P lists (Take k) = (k < length lists) × IsItems P (items_at lists k)
+MayTest P lists _ = Unit {0}
 
 -- Where the second branch begins, or what goes on behind an if without one: the state before it, on each side on which
 -- the test may fail.

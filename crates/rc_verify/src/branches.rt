@@ -1,15 +1,17 @@
 //! The branches of ifs.
 
-ghost use Rattle.std.specs.Prelude.{◌≡◌, ◌<◌, ◌∷◌, ◌++◌, [], length, Bool, true, IsSome, Some, OnOk};
+ghost use Rattle.std.specs.Prelude.{◌≡◌, ◌<◌, ◌∷◌, ◌++◌, [], length, map, Bool, true, IsSome, Some, OnOk};
+ghost use Rattle.rc_lang.specs.Parts.{view_items};
 ghost use Rattle.rc_rules.specs.Rules as rules;
 ghost use Rattle.rc_rules.specs.Sides as sides;
 ghost use Rattle.rc_rules.specs.States as states;
 ghost use Rattle.rc_verify.specs.Arms.{two};
-ghost use Rattle.rc_verify.specs.Branches.{KeepsOther};
+ghost use Rattle.rc_verify.specs.Branches.{KeepsOther, MayTest};
 ghost use Rattle.rc_verify.specs.Kept.{last_of, rest_of};
 
 use crate::kept::{Kept, innermost, let_go};
 use rc_lang::lines::Test;
+use rc_lang::program::Items;
 use rc_rules::cause::Cause;
 use rc_rules::state::State;
 use std::mem;
@@ -26,8 +28,11 @@ fn take_branch(state: &mut State, test: Test, first: bool)
     }
 }
 
-fn test_state(state: &mut State, test: Test) -> Result<(), Cause>
-    ensures { states.Gives state.old state.new result (rules.asks_both (states.label_of state.old) (λ z bag m. rules.test_premises m test)) (λ z. sides.gate (sides.test_goes state.old.flag test z true) (rules.goes (states.label_of state.old z) (λ bag m. rules.test_effect (states.program_of state.old) bag m test)) ∷ []) }
+/// What goes to the first branch of a test, in a thread with these lists of items. No count is above 2^19.
+fn test_state(state: &mut State, test: Test, lists: &[Items]) -> Result<(), Cause>
+    requires test { MayTest (states.program_of state.old) (map view_items lists.now) test }
+    requires small { states.OnBoth states.IsSmall state.old }
+    ensures { states.Gives state.old state.new result (rules.asks_both (states.label_of state.old) (λ z bag m. rules.test_premises m test)) (λ z. sides.gate (sides.test_goes state.old.flag test z true) (rules.goes (states.label_of state.old z) (λ bag m. rules.test_effect (states.program_of state.old) (map view_items lists.now) bag m test)) ∷ []) }
 {
     match test {
         Test::Compare(_, _, _) => {
@@ -36,17 +41,26 @@ fn test_state(state: &mut State, test: Test) -> Result<(), Cause>
         }
         Test::ReadyZero => state.ready_zero(),
         Test::SpaceAtLeast(n) => state.space_at_least(n),
+        Test::Take(k) => state.take(&lists[k]),
     }
 }
 
-/// `if .. {`. At most 30 branches are open.
-pub fn enter_if<'a>(state: &mut State<'a>, branches: &mut Kept<'a>, test: Test) -> Result<(), Cause>
-    requires { length branches.old.items < 31 }
-    ensures gives { states.Gives state.old state.new result (rules.asks_both (states.label_of state.old) (λ z bag m. rules.test_premises m test)) (λ z. sides.gate (sides.test_goes state.old.flag test z true) (rules.goes (states.label_of state.old z) (λ bag m. rules.test_effect (states.program_of state.old) bag m test)) ∷ []) }
+/// `if .. {`, in a thread with these lists of items. At most 30 branches are open, and no
+/// count is above 2^19.
+pub fn enter_if<'a>(
+    state: &mut State<'a>,
+    branches: &mut Kept<'a>,
+    test: Test,
+    lists: &[Items],
+) -> Result<(), Cause>
+    requires few { length branches.old.items < 31 }
+    requires test { MayTest (states.program_of state.old) (map view_items lists.now) test }
+    requires small { states.OnBoth states.IsSmall state.old }
+    ensures gives { states.Gives state.old state.new result (rules.asks_both (states.label_of state.old) (λ z bag m. rules.test_premises m test)) (λ z. sides.gate (sides.test_goes state.old.flag test z true) (rules.goes (states.label_of state.old z) (λ bag m. rules.test_effect (states.program_of state.old) (map view_items lists.now) bag m test)) ∷ []) }
     ensures kept { OnOk result (KeepsOther test state.old branches.old.items branches.new.items) }
 {
     let mut other = state.again();
-    test_state(state, test)?;
+    test_state(state, test, lists)?;
     take_branch(&mut other, test, false);
     branches.push(Some(other));
     Ok(())

@@ -69,9 +69,10 @@ fn pass<'a>(walk: &mut Walk<'a>, thread: &Thread, place: usize, stmt: Stmt) -> R
 {
     match stmt {
         Stmt::Do(_) => transfer(&mut walk.state, &stmt),
+        Stmt::Put(k) => walk.state.put(&thread.lists[k]),
         Stmt::Lock => walk.state.enter_lock(),
         Stmt::EndLock(_) => walk.state.release(),
-        Stmt::If(test) => enter_if(&mut walk.state, &mut walk.branches, test),
+        Stmt::If(test) => enter_if(&mut walk.state, &mut walk.branches, test, &thread.lists),
         Stmt::Else(_) => {
             turn(&mut walk.state, &mut walk.branches);
             Ok(())

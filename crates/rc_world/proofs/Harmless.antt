@@ -1,13 +1,13 @@
 -- A thread whose next statement does no harm has no fault of any kind.
-use Rattle.std.proofs.Common.{◌≡◌, ℕ, ◌+◌, ◌<◌, ◌≤◌, Bool, true, false, ◌&&◌, ◌||◌, not, if◌then◌else◌, [], drop, length, Option, Some, None, refl, ◌∙◌, subst, inl, inr, arith}
+use Rattle.std.proofs.Common.{◌≡◌, ℕ, ◌+◌, ◌<◌, ◌≤◌, Bool, true, false, ◌&&◌, ◌||◌, not, if◌then◌else◌, drop, length, Option, Some, None, refl, ◌∙◌, subst, inl, inr, arith}
 use Rattle.std.proofs.lemmas.Bool.{or_parts, and_left, and_right, cases_lt}
 use Rattle.std.proofs.lemmas.Option.{same_Some}
 use Rattle.rc_lang.specs.declared.lines.Line.{Line}
 use Rattle.rc_lang.specs.declared.lines.Stmt.{Stmt}
 use Rattle.rc_world.specs.declared.fault.FaultKind.{FaultKind}
-use Rattle.rc_world.specs.declared.fault.FaultKind.TheVariants.{WriteOfPending, ReadOfFilling, KernelClash, ThreadRace, RingFull, Overflow, AmbiguousData, UnknownReap, NoLock, RawEntry, OutOfBuffer}
+use Rattle.rc_world.specs.declared.fault.FaultKind.TheVariants.{WriteOfPending, ReadOfFilling, KernelClash, ThreadRace, RingFull, Overflow, AmbiguousData, UnknownReap, NoLock, RawEntry, OutOfBuffer, DoublePut}
 use Rattle.rc_world.specs.Controls.{next_line}
-use Rattle.rc_world.specs.Faults.{Access, access_of, has_fault, is_ambiguous_at, is_full_at, is_holder, is_out_at, is_raw_at, is_ring_call, is_unknown_at, races, reads_filling, writes_pending}
+use Rattle.rc_world.specs.Faults.{Access, access_of, has_fault, is_ambiguous_at, is_double_at, is_full_at, is_holder, is_out_at, is_raw_at, is_ring_call, is_unknown_at, races, reads_filling, writes_pending}
 use Rattle.rc_world.specs.Harm.{IsHarmless, harms_buffer, harms_rings, is_harmful}
 use Rattle.rc_world.specs.Machine.{World}
 use Rattle.rc_world.proofs.Heads.{no_races}
@@ -15,20 +15,22 @@ use Rattle.rc_world.proofs.LawFaultless.{standing_within}
 
 -- ---- one thread
 
-record Quiet (h p q r s c : Bool) : Type 0 where
+record Quiet (h p q r s d c : Bool) : Type 0 where
   full : (h && p) ≡ false
   ambiguous : (h && q) ≡ false
   unknown : (h && r) ≡ false
   raw : (h && s) ≡ false
+  double : (h && d) ≡ false
   call : (c && not h) ≡ false
 
-quiet : (h p q r s c : Bool) → (if h then p || q || r || s else c) ≡ false → Quiet h p q r s c
-quiet true p q r s c e =
-    let a = or_parts (p || q || r) s e in
+quiet : (h p q r s d c : Bool) → (if h then p || q || r || s || d else c) ≡ false → Quiet h p q r s d c
+quiet true p q r s d c e =
+    let x = or_parts (p || q || r || s) d e in
+    let a = or_parts (p || q || r) s x.0 in
     let b = or_parts (p || q) r a.0 in
-    let d = or_parts p q b.0 in
-    record { full = d.0; ambiguous = d.1; unknown = b.1; raw = a.1; call = and_right c false refl }
-quiet false p q r s c e = record { full = refl; ambiguous = refl; unknown = refl; raw = refl; call = and_left c true e }
+    let f = or_parts p q b.0 in
+    record { full = f.0; ambiguous = f.1; unknown = b.1; raw = a.1; double = x.1; call = and_right c false refl }
+quiet false p q r s d c e = record { full = refl; ambiguous = refl; unknown = refl; raw = refl; double = refl; call = and_left c true e }
 
 record Untouched (w : World) (i : ℕ) (a : Option Access) : Type 0 where
   writes : writes_pending w.pending a ≡ false
@@ -43,11 +45,11 @@ untouched w i (Some a) e =
     record { writes = c.0; reads = c.1; race = b.1 }
 
 module _ (w : World) (i : ℕ) (s : Stmt) (e : is_harmful w i s ≡ false) where
-  sides : ((harms_buffer w i (access_of s) || is_out_at w.program s) ≡ false) × ((if is_holder w.controls.holder i then harms_rings w s else is_ring_call s) ≡ false)
-  sides = or_parts (harms_buffer w i (access_of s) || is_out_at w.program s) (if is_holder w.controls.holder i then harms_rings w s else is_ring_call s) e
+  sides : ((harms_buffer w i (access_of s) || is_out_at w.program s) ≡ false) × ((if is_holder w.controls.holder i then harms_rings w i s else is_ring_call s) ≡ false)
+  sides = or_parts (harms_buffer w i (access_of s) || is_out_at w.program s) (if is_holder w.controls.holder i then harms_rings w i s else is_ring_call s) e
 
-  rings : Quiet (is_holder w.controls.holder i) (is_full_at w s) (is_ambiguous_at w s) (is_unknown_at w s) (is_raw_at w.slot s) (is_ring_call s)
-  rings = quiet (is_holder w.controls.holder i) (is_full_at w s) (is_ambiguous_at w s) (is_unknown_at w s) (is_raw_at w.slot s) (is_ring_call s) sides.1
+  rings : Quiet (is_holder w.controls.holder i) (is_full_at w s) (is_ambiguous_at w s) (is_unknown_at w s) (is_raw_at w.slot s) (is_double_at w i s) (is_ring_call s)
+  rings = quiet (is_holder w.controls.holder i) (is_full_at w s) (is_ambiguous_at w s) (is_unknown_at w s) (is_raw_at w.slot s) (is_double_at w i s) (is_ring_call s) sides.1
 
   places : (harms_buffer w i (access_of s) ≡ false) × (is_out_at w.program s ≡ false)
   places = or_parts (harms_buffer w i (access_of s)) (is_out_at w.program s) sides.0
@@ -67,6 +69,7 @@ module _ (w : World) (i : ℕ) (s : Stmt) (e : is_harmful w i s ≡ false) where
   harmless NoLock = rings.call
   harmless RawEntry = rings.raw
   harmless OutOfBuffer = places.1
+  harmless DoublePut = rings.double
 
 -- ---- the pass
 

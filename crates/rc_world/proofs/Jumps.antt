@@ -1,15 +1,15 @@
 -- Where the jumps of a thread lead that stands at a line.
-use Rattle.std.proofs.Common.{ℕ, ◌<◌, ◌≤◌, Bool, ap, arith}
+use Rattle.std.proofs.Common.{ℕ, ◌<◌, ◌≤◌, Bool, length, ap, arith}
 use Rattle.rc_lang.specs.declared.lines.Op.{Op}
-use Rattle.rc_lang.specs.declared.lines.Stmt.TheVariants.{Do, If, Peek, EndLoop, Break}
+use Rattle.rc_lang.specs.declared.lines.Stmt.TheVariants.{Do, Put, If, Peek, EndLoop, Break}
 use Rattle.rc_lang.specs.declared.lines.Test.{Test}
-use Rattle.rc_lang.specs.declared.lines.Test.TheVariants.{Compare, ReadyZero, SpaceAtLeast}
+use Rattle.rc_lang.specs.declared.lines.Test.TheVariants.{Compare, ReadyZero, SpaceAtLeast, Take}
 use Rattle.rc_lang.specs.Nesting.{Way}
-use Rattle.rc_lang.specs.Program.{Program, end_at, lines_of}
+use Rattle.rc_lang.specs.Program.{Program, end_at, lines_of, lists_of}
 use Rattle.rc_lang.proofs.Lookups.{nested_here}
 use Rattle.rc_world.specs.Changes.{CallIsSmall, StandsAt, TestIsSmall}
 use Rattle.rc_world.specs.Controls.{Controls}
-use Rattle.rc_world.proofs.Laid.{IsBelow, break_loop, if_leads, laid, loop_leads, loop_top, peek_leads, resolved_in}
+use Rattle.rc_world.proofs.Laid.{IsBelow, break_loop, if_leads, laid, listed_in, loop_leads, loop_top, peek_leads, resolved_in}
 use Rattle.rc_world.proofs.RingSteps.{small_stmt}
 
 module _ (P : Program) (c : Controls) (i j : ℕ) where
@@ -35,10 +35,15 @@ module _ (P : Program) (c : Controls) (i j : ℕ) where
       let t = break_loop (lines_of P i) _ l j o (ap (λ (way : Way). way.loop) n.1) in
       (loop_leads (lines_of P i) _ l o t.0 t.1).few
 
-  pub test_small : (test : Test) → StandsAt P c i j (If test) → TestIsSmall test
+  pub test_small : (test : Test) → StandsAt P c i j (If test) → TestIsSmall P i test
   test_small (Compare x comparison n) s = let r = resolved_in P s.made i j _ s.line in let le : r.0 ≤ 64 = r.2 in let lt : x < r.0 = r.3 in omega arith
   test_small ReadyZero s = tt
   test_small (SpaceAtLeast n) s = tt
+  test_small (Take k) s = listed_in P s.made i j (If (Take k)) s.line
+
+  -- the items of a put are those of a made program
+  pub put_small : (k : ℕ) → StandsAt P c i j (Put k) → k < length (lists_of P i)
+  put_small k s = listed_in P s.made i j (Put k) s.line
 
   pub op_small : (op : Op) → StandsAt P c i j (Do op) → CallIsSmall P op
   op_small op s = small_stmt P s.made i j (Do op) s.line

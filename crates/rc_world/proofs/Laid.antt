@@ -4,10 +4,11 @@ use Rattle.rc_lang.specs.declared.lines.Block.{Block}
 use Rattle.rc_lang.specs.declared.lines.Block.TheVariants.{InArm, InLoop}
 use Rattle.rc_lang.specs.declared.lines.Line.{Line}
 use Rattle.rc_lang.specs.declared.lines.Stmt.{Stmt}
-use Rattle.rc_lang.specs.declared.lines.Stmt.TheVariants.{If, Else, EndIf, Peek, EndArm, EndPeek, Loop, EndLoop}
+use Rattle.rc_lang.specs.declared.lines.Stmt.TheVariants.{Put, If, Else, EndIf, Peek, EndArm, EndPeek, Loop, EndLoop}
 use Rattle.rc_lang.specs.declared.lines.Test.{Test}
+use Rattle.rc_lang.specs.declared.lines.Test.TheVariants.{Take}
 use Rattle.rc_lang.specs.Nesting.{Way, blocks_at, way_out, way_past, way_through}
-use Rattle.rc_lang.specs.Program.{HasArms, HasEnd, IsLinked, IsProgram, IsResolved, IsThread, Program, Thread, ends_in, lines_in, lines_of, stmt_at}
+use Rattle.rc_lang.specs.Program.{HasArms, HasEnd, IsItems, IsLinked, IsProgram, IsResolved, IsThread, Program, Thread, ends_in, items_at, lines_in, lines_of, lists_in, lists_of, no_items, stmt_at}
 use Rattle.rc_lang.proofs.Lookups.{EachNested, nested_here, stands_within}
 use Rattle.rc_lang.proofs.Placed.{placed, placed_innermost}
 
@@ -35,6 +36,32 @@ in_thread P made i j s h = go (slice_get P.threads i) refl h
 -- the names of a line are resolved
 pub resolved_in : (P : Program) → IsProgram P → (i j : ℕ) (s : Stmt) → stmt_at (lines_of P i) j ≡ Some s → (n lists : ℕ) × (n ≤ 64) × IsResolved P n lists s
 resolved_in P made i j s h = let t = in_thread P made i j s h in (t.0.variables, length t.0.lists, t.1.few_variables, t.1.resolved j s t.2)
+
+-- A made program's line with a number of items names one of its thread's lists.
+abbrev pub NamesList : ℕ → Stmt → Type 0
+NamesList lists (Put k) = k < lists
+NamesList lists (If (Take k)) = k < lists
+NamesList lists _ = Unit {0}
+
+names_list : (P : Program) (n lists : ℕ) (s : Stmt) → IsResolved P n lists s → NamesList lists s
+names_list P n lists (Put k) h = h
+names_list P n lists (If (Take k)) h = h
+names_list P n lists _ h = tt
+
+pub listed_in : (P : Program) → IsProgram P → (i j : ℕ) (s : Stmt) → stmt_at (lines_of P i) j ≡ Some s → NamesList (length (lists_of P i)) s
+listed_in P made i j s h = go (slice_get P.threads i) refl h
+  where
+    go : (o : Option Thread) → slice_get P.threads i ≡ o → stmt_at (lines_in o) j ≡ Some s → NamesList (length (lists_in o)) s
+    go None e h = absurd (cc)
+    go (Some t) e h = names_list P t.variables (length t.lists) s ((made.each i t e).resolved j s h)
+
+-- The lists of a made program's thread are its items.
+pub list_is_items : (P : Program) → IsProgram P → (i k : ℕ) → k < length (lists_of P i) → IsItems P (items_at (lists_of P i) k)
+list_is_items P made i k lt = go (slice_get P.threads i) refl lt
+  where
+    go : (o : Option Thread) → slice_get P.threads i ≡ o → k < length (lists_in o) → IsItems P (items_at (lists_in o) k)
+    go None e lt = absurd (omega arith)
+    go (Some t) e lt = ((made.each i t e).lists k no_items lt).first
 
 -- The place e stands below place j, and a line is there.
 pub record IsBelow (lines : List Line) (j e : ℕ) : Type 0 where

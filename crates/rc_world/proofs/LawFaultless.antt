@@ -3,7 +3,7 @@ use Rattle.std.proofs.Common.{◌≡◌, ℕ, zero, suc, ◌+◌, ◌<◌, Bool,
 use Rattle.std.proofs.lemmas.Option.{same_Some, slice_get_within}
 use Rattle.rc_lang.specs.declared.lines.Line.{Line}
 use Rattle.rc_world.specs.declared.fault.FaultKind.{FaultKind}
-use Rattle.rc_world.specs.declared.fault.FaultKind.TheVariants.{WriteOfPending, ReadOfFilling, KernelClash, ThreadRace, RingFull, Overflow, AmbiguousData, UnknownReap, NoLock, RawEntry, OutOfBuffer}
+use Rattle.rc_world.specs.declared.fault.FaultKind.TheVariants.{WriteOfPending, ReadOfFilling, KernelClash, ThreadRace, RingFull, Overflow, AmbiguousData, UnknownReap, NoLock, RawEntry, OutOfBuffer, DoublePut}
 use Rattle.rc_world.specs.Controls.{Standing, next_at, next_line}
 use Rattle.rc_world.specs.Faults.{all_kinds, fault_at, fault_of, faults, faults_by, faults_from, faults_of, has_fault, in_kernel, kernel_faults, clashes, overflows}
 use Rattle.rc_world.specs.Machine.{World}
@@ -37,6 +37,7 @@ place_in_all UnknownReap = (7, refl)
 place_in_all NoLock = (8, refl)
 place_in_all RawEntry = (9, refl)
 place_in_all OutOfBuffer = (10, refl)
+place_in_all DoublePut = (11, refl)
 
 none_by : (w : World) (kinds : List FaultKind) → faults_by w kinds ≡ [] → (m : ℕ) (kind : FaultKind) → slice_get kinds m ≡ Some kind → faults_of w kind ≡ []
 none_by w [] e m kind h = absurd (cc)

@@ -5,24 +5,26 @@ use Rattle.rc_lang.specs.declared.lines.Line.{Line}
 use Rattle.rc_lang.specs.declared.lines.Op.{Op}
 use Rattle.rc_lang.specs.declared.lines.Op.TheVariants.{Load, Store, Fill, GetSqe, PrepRead, PrepWrite, PrepFsync, PrepNop, SetData64, Submit, SubmitAndWait, CqeSeen}
 use Rattle.rc_lang.specs.declared.lines.Stmt.{Stmt}
-use Rattle.rc_lang.specs.declared.lines.Stmt.TheVariants.{Do, Lock, EndLock, If, Peek, Loop, EndLoop, Break}
+use Rattle.rc_lang.specs.declared.lines.Stmt.TheVariants.{Do, Put, Lock, EndLock, If, Peek, Loop, EndLoop, Break}
 use Rattle.rc_lang.specs.declared.lines.Test.{Test}
-use Rattle.rc_lang.specs.declared.lines.Test.TheVariants.{Compare, ReadyZero, SpaceAtLeast}
+use Rattle.rc_lang.specs.declared.lines.Test.TheVariants.{Compare, ReadyZero, SpaceAtLeast, Take}
 use Rattle.rc_lang.specs.declared.request.Kind.TheVariants.{Fsync, Read, Write}
 use Rattle.rc_lang.specs.declared.request.Request.{Request}
-use Rattle.rc_lang.specs.Program.{IsResolvedOp, Program, bytes_at, line_at, lines_of, stmt_of}
+use Rattle.rc_lang.specs.Program.{IsResolvedOp, Program, bytes_at, items_at, line_at, lines_of, lists_of, stmt_of}
 use Rattle.rc_lang.specs.Requests.{may_complete}
 use Rattle.rc_lang.proofs.Rests.{may_rest}
+use Rattle.rc_split.specs.Pools.{with_items}
 use Rattle.rc_world.specs.declared.controls.Answer.TheVariants.{Plain, Byte}
 use Rattle.rc_world.specs.declared.event.Completion.{Completion}
+use Rattle.rc_world.specs.declared.event.Action.TheVariants.{ItemsPut}
 use Rattle.rc_world.specs.declared.event.Event.{Event}
 use Rattle.rc_world.specs.declared.event.Event.TheVariants.{ByKernel, ByThread}
 use Rattle.rc_world.specs.declared.fault.FaultKind.{FaultKind}
-use Rattle.rc_world.specs.declared.fault.FaultKind.TheVariants.{WriteOfPending, ReadOfFilling, KernelClash, RingFull, UnknownReap, NoLock, RawEntry, OutOfBuffer}
+use Rattle.rc_world.specs.declared.fault.FaultKind.TheVariants.{WriteOfPending, ReadOfFilling, KernelClash, RingFull, UnknownReap, NoLock, RawEntry, OutOfBuffer, DoublePut}
 use Rattle.rc_world.specs.declared.world.Slot.{Slot}
 use Rattle.rc_world.specs.declared.world.Slot.TheVariants.{Closed, Vacant, Prepared}
-use Rattle.rc_world.specs.Controls.{Move, Standing, acts, as_event, loads, locks, low_byte, made, moved, number_of_event, peeks, reaps, variable}
-use Rattle.rc_world.specs.Faults.{clashes, fault_of, front_is_one, has_buffer, has_fault, is_closed, is_filling, is_holder, is_named, is_prepared, is_ring_call, is_vacant, names, reads_into}
+use Rattle.rc_world.specs.Controls.{Move, Standing, acts, as_event, goes_on, loads, locks, low_byte, made, moved, number_of_event, peeks, reaps, variable}
+use Rattle.rc_world.specs.Faults.{clashes, fault_of, front_is_one, has_buffer, has_fault, is_closed, is_double_at, is_filling, is_holder, is_named, is_prepared, is_ring_call, is_vacant, names, reads_into}
 use Rattle.rc_world.specs.Items.{is_submit}
 use Rattle.rc_world.specs.Laws.{CompletesFreely, GoesOn, NoHiddenHarm, StandsAtEnd}
 use Rattle.rc_world.specs.Kept.{IsKept, IsMemory}
@@ -178,6 +180,18 @@ module _ (w : World) (i : ℕ) (t : Standing) (r : ℤ) where
   can_decide (Compare x comparison n) = record { rings = w; move = _; in_the_rings = refl; acted = refl }
   can_decide ReadyZero = record { rings = w; move = _; in_the_rings = refl; acted = refl }
   can_decide (SpaceAtLeast n) = record { rings = w; move = _; in_the_rings = refl; acted = refl }
+  can_decide (Take k) = record { rings = w; move = _; in_the_rings = refl; acted = refl }
+
+  -- a put of the holder that isn't one too many
+  can_put : (k : ℕ) → HasNoFault w i (Put k) → CanDo w i t r (Put k)
+  can_put k f =
+      let room = and_false (is_holder w.controls.holder i) (is_double_at w i (Put k)) (f DoublePut) (holds (Put k) refl f) in
+      record {
+        rings = w;
+        move = record (goes_on w.controls t ItemsPut) { pool = with_items w.program w.controls.pool (items_at (lists_of w.program i) k) };
+        in_the_rings = refl;
+        acted = ap (λ b. if b then None else Some (record (goes_on w.controls t ItemsPut) { pool = with_items w.program w.controls.pool (items_at (lists_of w.program i) k) })) room;
+      }
 
   can_peek : (x : ℕ) → CanDo w i t r (Peek x)
   can_peek x = go w.completions refl
@@ -218,6 +232,7 @@ module _ (w : World) (safe : fault_of w ≡ None) (kept : IsKept w) (i : ℕ) (t
   -- at a line that is an event
   pub line_goes : (l : Line) → StandsAt w i t l → (s : Stmt) → l.stmt ≡ s → may_rest (Some s) ≡ true → GoesOn w i
   line_goes l a (Do op) e h = op_goes l a op e
+  line_goes l a (Put k) e h = ready l a (Put k) e (λ r u. can_put w i t r k (subst (λ x. HasNoFault w i x) e (no_fault l a)))
   line_goes l a Lock e h = lock_goes l a e w.controls.holder refl
   line_goes l a (EndLock o) e h = ready l a (EndLock o) e (λ r u. record { rings = w; move = _; in_the_rings = refl; acted = refl })
   line_goes l a (If test) e h = ready l a (If test) e (λ r u. can_decide w i t r test)

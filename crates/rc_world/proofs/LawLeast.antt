@@ -120,7 +120,7 @@ chosen w n (k ∷ kinds) f c e = elim (first_of (faults_of w k) (faults_by w kin
     later z none (suc m) other q some = z.least m other q some
 
 all_count_up : CountUp 1 all_kinds
-all_count_up = (refl, (refl, (refl, (refl, (refl, (refl, (refl, (refl, (refl, (refl, (refl, tt)))))))))))
+all_count_up = (refl, (refl, (refl, (refl, (refl, (refl, (refl, (refl, (refl, (refl, (refl, (refl, tt))))))))))))
 
 none_after : (w : World) (f : Fault) → IsChosen w all_kinds f → (g : Fault) → IsFault w g → IsNotAfter f g
 none_after w f c g h =

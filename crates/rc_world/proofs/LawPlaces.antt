@@ -1,5 +1,5 @@
 -- Where the step of a thread leads: to a place where it may go, and from there to an event or to its end.
-use Rattle.std.proofs.Common.{◌≡◌, ℕ, ◌+◌, ◌-◌, ◌<◌, Bool, true, false, List, [], ◌∷◌, length, Option, Some, None, unwrap_or, refl, sym, ap, ◌∙◌, subst, slice_get, get_or, cond, ℤ, pos, arith, eq-eqb, lt-ltb}
+use Rattle.std.proofs.Common.{◌≡◌, ℕ, ◌+◌, ◌-◌, ◌<◌, Bool, true, false, if◌then◌else◌, List, [], ◌∷◌, length, Option, Some, None, unwrap_or, refl, sym, ap, ◌∙◌, subst, slice_get, get_or, cond, ℤ, pos, arith, eq-eqb, lt-ltb}
 use Rattle.std.specs.List.{position_or_len}
 use Rattle.std.specs.Prelude.{◌+ℤ◌, ◌-ℤ◌, int_le}
 use Rattle.std.specs.Ordering.{int_eq}
@@ -11,18 +11,19 @@ use Rattle.rc_lang.specs.declared.lines.Line.{Line}
 use Rattle.rc_lang.specs.declared.lines.Op.{Op}
 use Rattle.rc_lang.specs.declared.lines.Op.TheVariants.{Set, Assign, Add, Subtract, Load, Store, Fill, Print, GetSqe, PrepRead, PrepWrite, PrepFsync, PrepNop, SetData64, Submit, SubmitAndWait, CqeSeen}
 use Rattle.rc_lang.specs.declared.lines.Stmt.{Stmt}
-use Rattle.rc_lang.specs.declared.lines.Stmt.TheVariants.{Do, Lock, EndLock, If, Else, EndIf, Peek, Case, Other, Nothing, EndArm, Loop, EndLoop, Break}
+use Rattle.rc_lang.specs.declared.lines.Stmt.TheVariants.{Do, Put, Lock, EndLock, If, Else, EndIf, Peek, Case, Other, Nothing, EndArm, Loop, EndLoop, Break}
 use Rattle.rc_lang.specs.declared.lines.Test.{Test}
-use Rattle.rc_lang.specs.declared.lines.Test.TheVariants.{Compare, ReadyZero, SpaceAtLeast}
-use Rattle.rc_lang.specs.Program.{HasArms, IsProgram, Program, end_at, ends_in, lines_of, stmt_at, stmt_of}
+use Rattle.rc_lang.specs.declared.lines.Test.TheVariants.{Compare, ReadyZero, SpaceAtLeast, Take}
+use Rattle.rc_lang.specs.Program.{HasArms, IsProgram, Items, Program, end_at, ends_in, items_at, lines_of, lists_of, stmt_at, stmt_of}
 use Rattle.rc_lang.proofs.Jumps.{IsLaid, IsOpen, back_open, break_open, false_open, leads_open, open_behind}
 use Rattle.rc_lang.proofs.Lookups.{line_with}
 use Rattle.rc_lang.proofs.Rests.{IsRest, or_on, passed_to, same_settled, settled as settles_at, settles, start_rests}
 use Rattle.rc_lang.proofs.Spans.{nothing_between, other_between}
+use Rattle.rc_split.specs.Pools.{Pool, includes, overfills, with_items, without_items}
 use Rattle.rc_world.specs.declared.controls.Answer.{Answer}
 use Rattle.rc_world.specs.declared.controls.Answer.TheVariants.{Plain, Number, Byte, Front}
-use Rattle.rc_world.specs.declared.event.Action.TheVariants.{VariableSet, Stored, Filled, Printed, Locked, EntryOpened, ReadPrepared, WritePrepared, FsyncPrepared, NopPrepared, DataSet, Looped}
-use Rattle.rc_world.specs.Controls.{Controls, Move, Standing, acts, arm_for, arms_of, assigns, branches, breaks, decides, does, first_place, goes_on, hop_of, is_case, is_none_arm, is_other, loads, locks, low_byte, none_arm, operand_value, or_from, peeks, plainly, reaps, releases_lock, rest_at, returns_to, sets_variable, settled, submits, variable, wrapped}
+use Rattle.rc_world.specs.declared.event.Action.TheVariants.{VariableSet, Stored, Filled, Printed, Locked, EntryOpened, ReadPrepared, WritePrepared, FsyncPrepared, NopPrepared, DataSet, Looped, ItemsPut}
+use Rattle.rc_world.specs.Controls.{Controls, Move, Standing, acts, arm_for, arms_of, assigns, branches, breaks, decides, does, first_place, goes_on, hop_of, is_case, is_none_arm, is_other, loads, locks, low_byte, none_arm, operand_value, or_from, peeks, plainly, puts_items, reaps, releases_lock, rest_at, returns_to, sets_variable, settled, submits, tries_to_take, variable, wrapped}
 use Rattle.rc_world.proofs.Laid.{laid}
 use Rattle.rc_world.proofs.LawLists.{get_in_range, range_has}
 
@@ -183,12 +184,19 @@ module _ (program : Program) (is : IsProgram program) (i : ℕ) where
       branch_open true e = behind (If test) here refl e
       branch_open false e = goes_to (end_at program i t.place + 1) e (false_open (lines_of program i) _ lines_laid t.place test here)
 
+      take_open : (pool : Pool) (holds : Bool) → m.place ≡ (if holds then record (branches program c i t true) { pool = pool } else branches program c i t false).place → IsOpen (lines_of program i) m.place
+      take_open pool true e = branch_open true e
+      take_open pool false e = branch_open false e
+
       decide_open : (x : Test) (b : Answer) → decides program c i t x b ≡ Some m → IsOpen (lines_of program i) m.place
       decide_open (Compare x comparison n) b e = branch_open (compares comparison (variable t x) n) (plain_place (branches program c i t (compares comparison (variable t x) n)) b e)
       decide_open ReadyZero (Number n) e = branch_open (int_eq n (pos 0)) (same_place _ e)
       decide_open ReadyZero _ e = absurd (cc)
       decide_open (SpaceAtLeast k) (Number n) e = branch_open (int_le (pos k) n) (same_place _ e)
       decide_open (SpaceAtLeast k) _ e = absurd (cc)
+      decide_open (Take k) b e =
+          let items = items_at (lists_of program i) k in
+          take_open (without_items program c.pool items) (includes program c.pool items) (plain_place (tries_to_take program c i t items) b e)
 
     peek_open : (x : ℕ) → stmt_at (lines_of program i) t.place ≡ Some (Peek x) → (b : Answer) → peeks program c i t x b ≡ Some m → IsOpen (lines_of program i) m.place
     peek_open x h Plain e = goes_to (none_arm program i t.place + 1) (same_place _ e) (open_none_arm t.place x h)
@@ -197,12 +205,20 @@ module _ (program : Program) (is : IsProgram program) (i : ℕ) where
     peek_open x h (Byte n) e = absurd (cc)
 
     lock_place : (holder : Option ℕ) → locks c i t a holder ≡ Some m → m.place ≡ t.place + 1
-    lock_place None e = plain_place (record { action = Locked; holder = Some i; peeked = c.peeked; place = t.place + 1; variables = t.variables }) a e
+    lock_place None e = plain_place (record { action = Locked; holder = Some i; peeked = c.peeked; pool = c.pool; place = t.place + 1; variables = t.variables }) a e
     lock_place (Some j) e = absurd (cc)
+
+    room_place : (full : Bool) (n : Move) → (if full then None else plainly n a) ≡ Some m → m.place ≡ n.place
+    room_place true n e = absurd (cc)
+    room_place false n e = plain_place n a e
+
+    put_place : (items : Items) → puts_items program c t items a ≡ Some m → m.place ≡ t.place + 1
+    put_place items e = room_place (overfills program c.pool items) (record (goes_on c t ItemsPut) { pool = with_items program c.pool items }) e
 
     -- What a statement does leads to a place where the thread may go.
     pub acts_open : (s : Stmt) → stmt_at (lines_of program i) t.place ≡ Some s → acts program c i t s a ≡ Some m → IsOpen (lines_of program i) m.place
     acts_open (Do op) h e = behind (Do op) h refl (op_place op e)
+    acts_open (Put k) h e = behind (Put k) h refl (put_place (items_at (lists_of program i) k) e)
     acts_open Lock h e = behind Lock h refl (lock_place c.holder e)
     acts_open (EndLock o) h e = behind (EndLock o) h refl (plain_place (releases_lock c t) a e)
     acts_open (If test) h e = decide_open test h test a e

@@ -1,4 +1,5 @@
 mod Pieces
+mod Pooling
 pub mod Lists
 pub mod Requests
 pub mod Memory

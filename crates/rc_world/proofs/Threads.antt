@@ -2,6 +2,7 @@
 use Rattle.std.proofs.Common.{ℕ, ℤ, Bool, false, ◌≡◌, ◌+◌, ◌<◌, List, length, map, set, get_or, Option, Some, if◌then◌else◌, slice_index_or, slice_set, sym, ap, ◌∙◌, subst}
 use Rattle.std.proofs.lemmas.List.{get_or-map, get_or-set_same, length-map, map-set, set-set}
 use Rattle.rc_lang.specs.Program.{Program}
+use Rattle.rc_split.specs.Pools.{Pool}
 use Rattle.rc_world.specs.declared.controls.Control.{Control}
 use Rattle.rc_world.specs.declared.event.Action.{Action}
 use Rattle.rc_world.specs.Changes.{gone_to, nowhere, standing_at, with_variable}
@@ -32,10 +33,10 @@ set_standing c i x v lt = get_or-set_same c.threads i (after_set c i x v) nowher
 
 -- The thread goes to place j, once a variable is set, with another holder or front.
 pub set_then_gone : (P : Program) (c : Controls) (i j x : ℕ) (v : ℤ) (holder : Option ℕ) (peeked : Bool) (action : Action) → i < length c.threads
-    → gone_to P (record { threads = (with_variable c i x v).threads; holder = holder; peeked = peeked }) i j
-    ≡ moved P c i (record { action = action; holder = holder; peeked = peeked; place = j; variables = slice_set (standing_at c i).variables x v })
+    → gone_to P (record { threads = (with_variable c i x v).threads; holder = holder; peeked = peeked; pool = c.pool }) i j
+    ≡ moved P c i (record { action = action; holder = holder; peeked = peeked; pool = c.pool; place = j; variables = slice_set (standing_at c i).variables x v })
 set_then_gone P c i j x v holder peeked action lt =
-    ap (λ ts. record { threads = ts; holder = holder; peeked = if passes_arm P i j then false else peeked })
+    ap (λ ts. record { threads = ts; holder = holder; peeked = if passes_arm P i j then false else peeked; pool = c.pool })
     (set-set c.threads i (after_set c i x v) _ ∙ ap (λ (t : Standing). set c.threads i (record { place = rest_at P i j; variables = t.variables })) (set_standing c i x v lt))
 
 pub sets_is : (P : Program) (c d : Controls) (i x : ℕ) (v : ℤ) (action : Action) → d ≡ with_variable c i x v → i < length c.threads
@@ -51,26 +52,26 @@ sets_is P c d i x v action e lt =
 pub within_items : (items : List Control) (c : Controls) (i : ℕ) → map view_control items ≡ c.threads → i < length c.threads → i < length items
 within_items items c i e lt = subst (λ n. i < n) (sym (sym (length-map items view_control) ∙ ap (λ ts. length ts) e)) lt
 
-pub gone_is : (P : Program) (items : List Control) (holder : Option ℕ) (peeked : Bool) (i start place : ℕ) (ends b : Bool) (r : Control) → i < length items → r ≡ get_or items i r
+pub gone_is : (P : Program) (items : List Control) (holder : Option ℕ) (peeked : Bool) (pool : Pool) (i start place : ℕ) (ends b : Bool) (r : Control) → i < length items → r ≡ get_or items i r
     → place ≡ rest_at P i start → ends ≡ passes_arm P i start → b ≡ (if ends then false else peeked)
-    → record { threads = map view_control (set items i (record { place = place; variables = r.variables })); holder = holder; peeked = b }
-    ≡ gone_to P (record { threads = map view_control items; holder = holder; peeked = peeked }) i start
-gone_is P items holder peeked i start place ends b r lt e p a q =
+    → record { threads = map view_control (set items i (record { place = place; variables = r.variables })); holder = holder; peeked = b; pool = pool }
+    ≡ gone_to P (record { threads = map view_control items; holder = holder; peeked = peeked; pool = pool }) i start
+gone_is P items holder peeked pool i start place ends b r lt e p a q =
     let there : Control = record { place = place; variables = r.variables } in
     let threads = put_is items i r there (λ t. record { place = rest_at P i start; variables = t.variables }) lt e (ap (λ n. record { place = n; variables = r.variables }) p) in
     let front : b ≡ (if passes_arm P i start then false else peeked) = q ∙ ap (λ x. if x then false else peeked) a in
     ap (λ ts. controls ts b) threads ∙ ap (controls _) front
   where
     controls : List Standing → Bool → Controls
-    controls ts x = record { threads = ts; holder = holder; peeked = x }
+    controls ts x = record { threads = ts; holder = holder; peeked = x; pool = pool }
 
 -- A variable is set, holder and front are changed, and the thread goes to a place.
 pub set_and_gone : (P : Program) (c d new : Controls) (i j k x : ℕ) (v : ℤ) (holder : Option ℕ) (peeked : Bool) (action : Action) → i < length c.threads
-    → d ≡ record { threads = (with_variable c i x v).threads; holder = holder; peeked = peeked } → new ≡ gone_to P d i k → k ≡ j
-    → made P c i (Some (record { action = action; holder = holder; peeked = peeked; place = j; variables = slice_set (standing_at c i).variables x v })) ≡ Some (action, new)
+    → d ≡ record { threads = (with_variable c i x v).threads; holder = holder; peeked = peeked; pool = c.pool } → new ≡ gone_to P d i k → k ≡ j
+    → made P c i (Some (record { action = action; holder = holder; peeked = peeked; pool = c.pool; place = j; variables = slice_set (standing_at c i).variables x v })) ≡ Some (action, new)
 set_and_gone P c d new i j k x v holder peeked action lt e g q =
     ap (λ (n : Controls). Some (action, n))
     (sym (set_then_gone P c i j x v holder peeked action lt)
-    ∙ ap (λ n. gone_to P (record { threads = (with_variable c i x v).threads; holder = holder; peeked = peeked }) i n) (sym q)
+    ∙ ap (λ n. gone_to P (record { threads = (with_variable c i x v).threads; holder = holder; peeked = peeked; pool = c.pool }) i n) (sym q)
     ∙ ap (λ (n : Controls). gone_to P n i k) (sym e)
     ∙ sym g)

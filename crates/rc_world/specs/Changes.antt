@@ -5,8 +5,9 @@ use Rattle.rc_lang.specs.declared.lines.Op.TheVariants.{Set, Assign, Add, Subtra
 use Rattle.rc_lang.specs.declared.lines.Stmt.{Stmt}
 use Rattle.rc_lang.specs.declared.lines.Stmt.TheVariants.{Do}
 use Rattle.rc_lang.specs.declared.lines.Test.{Test}
-use Rattle.rc_lang.specs.declared.lines.Test.TheVariants.{Compare, ReadyZero, SpaceAtLeast}
-use Rattle.rc_lang.specs.Program.{IsOperand, IsProgram, Program, lines_of, stmt_at}
+use Rattle.rc_lang.specs.declared.lines.Test.TheVariants.{Compare, ReadyZero, SpaceAtLeast, Take}
+use Rattle.rc_lang.specs.Program.{IsOperand, IsProgram, Program, lines_of, lists_of, stmt_at}
+use Rattle.rc_split.specs.Pools.{Pool}
 use Rattle.rc_world.specs.Controls.{Controls, Standing, hop_of, is_arm_end, passes_arm, rest_at}
 
 -- where a thread stands; for a number that names no thread that says nothing
@@ -20,6 +21,10 @@ standing_at c i = slice_index_or c.threads i nowhere
 abbrev pub with_variable : Controls → ℕ → ℕ → ℤ → Controls
 with_variable c i x v =
     record c { threads = slice_set c.threads i (record { place = (standing_at c i).place; variables = slice_set (standing_at c i).variables x v }) }
+
+-- with another pool
+abbrev pub with_pool : Controls → Pool → Controls
+with_pool c pool = record c { pool = pool }
 
 -- with the thread gone to a place
 abbrev pub gone_to : Program → Controls → ℕ → ℕ → Controls
@@ -41,10 +46,12 @@ pub record StandsAt (program : Program) (c : Controls) (i j : ℕ) (s : Stmt) : 
 abbrev pub hop_at : Program → ℕ → ℕ → Option (ℕ × Bool)
 hop_at program i j = option_map (λ k. (k, is_arm_end (stmt_at (lines_of program i) j))) (hop_of program i j (stmt_at (lines_of program i) j))
 
-abbrev pub TestIsSmall : Test → Type 0
-TestIsSmall (Compare x comparison n) = x < 64
-TestIsSmall ReadyZero = Unit {0}
-TestIsSmall (SpaceAtLeast n) = Unit {0}
+-- The numbers of a test are small enough: its variable is one of 64, and its items are some of the thread's lists.
+abbrev pub TestIsSmall : Program → ℕ → Test → Type 0
+TestIsSmall program i (Compare x comparison n) = x < 64
+TestIsSmall program i ReadyZero = Unit {0}
+TestIsSmall program i (SpaceAtLeast n) = Unit {0}
+TestIsSmall program i (Take k) = k < length (lists_of program i)
 
 -- The numbers of a statement are small enough: its variables are some of 64, and a prep names a file and a buffer that
 -- may be there.

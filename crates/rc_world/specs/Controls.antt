@@ -9,14 +9,15 @@ use Rattle.rc_lang.specs.declared.lines.Op.TheVariants.{Set, Assign, Add, Subtra
 use Rattle.rc_lang.specs.declared.lines.Operand.{Operand}
 use Rattle.rc_lang.specs.declared.lines.Operand.TheVariants.{Variable, Number as Literal}
 use Rattle.rc_lang.specs.declared.lines.Stmt.{Stmt}
-use Rattle.rc_lang.specs.declared.lines.Stmt.TheVariants.{Do, Lock, EndLock, If, Else, EndIf, Peek, Case, Other, Nothing, EndArm, EndPeek, Loop, EndLoop, Break}
+use Rattle.rc_lang.specs.declared.lines.Stmt.TheVariants.{Do, Put, Lock, EndLock, If, Else, EndIf, Peek, Case, Other, Nothing, EndArm, EndPeek, Loop, EndLoop, Break}
 use Rattle.rc_lang.specs.declared.lines.Test.{Test}
-use Rattle.rc_lang.specs.declared.lines.Test.TheVariants.{Compare, ReadyZero, SpaceAtLeast}
-use Rattle.rc_lang.specs.Program.{Program, Thread, lines_of, line_at, end_at, stmt_at}
+use Rattle.rc_lang.specs.declared.lines.Test.TheVariants.{Compare, ReadyZero, SpaceAtLeast, Take}
+use Rattle.rc_lang.specs.Program.{Program, Items, Thread, items_at, lines_of, line_at, lists_of, end_at, stmt_at}
+use Rattle.rc_split.specs.Pools.{Pool, empty_pool, includes, overfills, with_items, without_items}
 use Rattle.rc_world.specs.declared.controls.Answer.{Answer}
 use Rattle.rc_world.specs.declared.controls.Answer.TheVariants.{Plain, Number, Byte, Front}
 use Rattle.rc_world.specs.declared.event.Action.{Action}
-use Rattle.rc_world.specs.declared.event.Action.TheVariants.{VariableSet, Loaded, Stored, Filled, Printed, Locked, Released, EntryOpened, ReadPrepared, WritePrepared, FsyncPrepared, NopPrepared, DataSet, Submitted, Peeked, PeekedNone, Reaped, Branched, Looped, LoopLeft}
+use Rattle.rc_world.specs.declared.event.Action.TheVariants.{VariableSet, Loaded, Stored, Filled, Printed, Locked, Released, EntryOpened, ReadPrepared, WritePrepared, FsyncPrepared, NopPrepared, DataSet, Submitted, Peeked, PeekedNone, Reaped, Branched, Looped, LoopLeft, ItemsPut}
 use Rattle.rc_world.specs.declared.event.Event.{Event}
 use Rattle.rc_world.specs.declared.event.Event.TheVariants.{ByThread}
 
@@ -25,11 +26,12 @@ pub record Standing : Type 0 where
   pub place : ℕ
   pub variables : List ℤ
 
--- Where each thread stands, who holds the lock, and whether the front completion is peeked.
+-- Where each thread stands, who holds the lock, whether the front completion is peeked, and the pool.
 pub record Controls : Type 0 where
   pub threads : List Standing
   pub holder : Option ℕ
   pub peeked : Bool
+  pub pool : Pool
 
 -- ---- variables
 
@@ -111,21 +113,23 @@ none_arm program i o = o + unwrap_or (first_place (is_none_arm o) (arms_of progr
 
 -- ---- what a statement does
 
--- What the thread does, who holds the lock then, whether the front is peeked, where the thread goes, and its variables.
+-- What the thread does, who holds the lock then, whether the front is peeked, the pool, where the thread goes, and its
+-- variables.
 pub record Move : Type 0 where
   pub action : Action
   pub holder : Option ℕ
   pub peeked : Bool
+  pub pool : Pool
   pub place : ℕ
   pub variables : List ℤ
 
 -- to the next line
 abbrev pub goes_on : Controls → Standing → Action → Move
-goes_on c t action = record { action = action; holder = c.holder; peeked = c.peeked; place = t.place + 1; variables = t.variables }
+goes_on c t action = record { action = action; holder = c.holder; peeked = c.peeked; pool = c.pool; place = t.place + 1; variables = t.variables }
 
 -- to the next line, with another value of a variable
 abbrev pub sets_variable : Controls → Standing → ℕ → ℤ → Action → Move
-sets_variable c t x v action = record { action = action; holder = c.holder; peeked = c.peeked; place = t.place + 1; variables = slice_set t.variables x v }
+sets_variable c t x v action = record { action = action; holder = c.holder; peeked = c.peeked; pool = c.pool; place = t.place + 1; variables = slice_set t.variables x v }
 
 -- where nothing is answered
 abbrev pub plainly : Move → Answer → Option Move
@@ -151,7 +155,7 @@ submits c t x (Front cqe) = None
 
 -- io_uring_cqe_seen(3): nothing is peeked any more.
 abbrev pub reaps : Controls → Standing → Answer → Option Move
-reaps c t (Front cqe) = Some (record { action = Reaped cqe.user_data; holder = c.holder; peeked = false; place = t.place + 1; variables = t.variables })
+reaps c t (Front cqe) = Some (record { action = Reaped cqe.user_data; holder = c.holder; peeked = false; pool = c.pool; place = t.place + 1; variables = t.variables })
 reaps c t Plain = None
 reaps c t (Number n) = None
 reaps c t (Byte b) = None
@@ -178,42 +182,53 @@ does c t CqeSeen a = reaps c t a
 -- An if whose test is false leads behind its else or, without one, behind its closing brace.
 abbrev pub branches : Program → Controls → ℕ → Standing → Bool → Move
 branches program c i t holds =
-    record { action = Branched holds; holder = c.holder; peeked = c.peeked; place = (if holds then t.place else end_at program i t.place) + 1; variables = t.variables }
+    record { action = Branched holds; holder = c.holder; peeked = c.peeked; pool = c.pool; place = (if holds then t.place else end_at program i t.place) + 1; variables = t.variables }
+
+-- What an `if take` asks for leaves the pool where the pool has it, and else nothing does.
+abbrev pub tries_to_take : Program → Controls → ℕ → Standing → Items → Move
+tries_to_take program c i t items =
+    if includes program c.pool items then record (branches program c i t true) { pool = without_items program c.pool items } else branches program c i t false
 
 abbrev pub decides : Program → Controls → ℕ → Standing → Test → Answer → Option Move
 decides program c i t (Compare x comparison n) a = plainly (branches program c i t (compares comparison (variable t x) n)) a
 decides program c i t ReadyZero (Number n) = Some (branches program c i t (int_eq n (pos 0)))
 decides program c i t (SpaceAtLeast m) (Number n) = Some (branches program c i t (int_le (pos m) n))
+decides program c i t (Take k) a = plainly (tries_to_take program c i t (items_at (lists_of program i) k)) a
 decides program c i t _ _ = None
 
 -- io_uring_peek_cqe(3): without a completion the variable is -EAGAIN, else the front's result, and the front is peeked.
 abbrev pub peeks : Program → Controls → ℕ → Standing → ℕ → Answer → Option Move
 peeks program c i t x Plain =
-    Some (record { action = PeekedNone; holder = c.holder; peeked = c.peeked; place = none_arm program i t.place + 1; variables = slice_set t.variables x (negsuc 10) })
+    Some (record { action = PeekedNone; holder = c.holder; peeked = c.peeked; pool = c.pool; place = none_arm program i t.place + 1; variables = slice_set t.variables x (negsuc 10) })
 peeks program c i t x (Front cqe) =
-    Some (record { action = Peeked cqe; holder = c.holder; peeked = true; place = arm_for program i t.place cqe.user_data + 1; variables = slice_set t.variables x cqe.res })
+    Some (record { action = Peeked cqe; holder = c.holder; peeked = true; pool = c.pool; place = arm_for program i t.place cqe.user_data + 1; variables = slice_set t.variables x cqe.res })
 peeks program c i t x (Number n) = None
 peeks program c i t x (Byte b) = None
 
+-- The items go to the pool, where it has room for them.
+abbrev pub puts_items : Program → Controls → Standing → Items → Answer → Option Move
+puts_items program c t items a = if overfills program c.pool items then None else plainly (record (goes_on c t ItemsPut) { pool = with_items program c.pool items }) a
+
 -- The lock is taken where nobody holds it.
 abbrev pub locks : Controls → ℕ → Standing → Answer → Option ℕ → Option Move
-locks c i t a None = plainly (record { action = Locked; holder = Some i; peeked = c.peeked; place = t.place + 1; variables = t.variables }) a
+locks c i t a None = plainly (record { action = Locked; holder = Some i; peeked = c.peeked; pool = c.pool; place = t.place + 1; variables = t.variables }) a
 locks c i t a (Some j) = None
 
 abbrev pub releases_lock : Controls → Standing → Move
-releases_lock c t = record { action = Released; holder = None; peeked = c.peeked; place = t.place + 1; variables = t.variables }
+releases_lock c t = record { action = Released; holder = None; peeked = c.peeked; pool = c.pool; place = t.place + 1; variables = t.variables }
 
 -- back to the line behind the top of the loop at place o
 abbrev pub returns_to : Controls → Standing → ℕ → Move
-returns_to c t o = record { action = Looped; holder = c.holder; peeked = c.peeked; place = o + 1; variables = t.variables }
+returns_to c t o = record { action = Looped; holder = c.holder; peeked = c.peeked; pool = c.pool; place = o + 1; variables = t.variables }
 
 -- A break leads behind the end of the loop at place o. It may release the lock, and leave an arm of a peek.
 abbrev pub breaks : Program → Controls → ℕ → Standing → ℕ → Bool → Bool → Move
 breaks program c i t o releases leaves =
-    record { action = LoopLeft; holder = if releases then None else c.holder; peeked = if leaves then false else c.peeked; place = end_at program i o + 1; variables = t.variables }
+    record { action = LoopLeft; holder = if releases then None else c.holder; peeked = if leaves then false else c.peeked; pool = c.pool; place = end_at program i o + 1; variables = t.variables }
 
 abbrev pub acts : Program → Controls → ℕ → Standing → Stmt → Answer → Option Move
 acts program c i t (Do op) a = does c t op a
+acts program c i t (Put k) a = puts_items program c t (items_at (lists_of program i) k) a
 acts program c i t Lock a = locks c i t a c.holder
 acts program c i t (EndLock o) a = plainly (releases_lock c t) a
 acts program c i t (If test) a = decides program c i t test a
@@ -235,6 +250,7 @@ moved program c i m = record {
   threads = slice_set c.threads i (record { place = rest_at program i m.place; variables = m.variables });
   holder = m.holder;
   peeked = if passes_arm program i m.place then false else m.peeked;
+  pool = m.pool;
 }
 
 abbrev pub made : Program → Controls → ℕ → Option Move → Option (Action × Controls)
@@ -275,6 +291,6 @@ controls_step program c i a = acts_on program c i a (slice_get c.threads i) (nex
 
 -- ---- the start
 
--- Every thread at its first line, its variables 0; the lock is free and nothing is peeked.
+-- Every thread at its first line, its variables 0; the lock is free, nothing is peeked, and the pool is empty.
 abbrev pub start_controls : Program → Controls
-start_controls program = record { threads = map (λ (t : Thread). record { place = 0; variables = replicate 64 (pos 0) }) program.threads; holder = None; peeked = false }
+start_controls program = record { threads = map (λ (t : Thread). record { place = 0; variables = replicate 64 (pos 0) }) program.threads; holder = None; peeked = false; pool = empty_pool }

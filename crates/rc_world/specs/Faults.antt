@@ -5,17 +5,18 @@ use Rattle.rc_lang.specs.declared.lines.Line.{Line}
 use Rattle.rc_lang.specs.declared.lines.Op.{Op}
 use Rattle.rc_lang.specs.declared.lines.Op.TheVariants.{Set, Assign, Add, Subtract, Load, Store, Fill, Print, GetSqe, PrepRead, PrepWrite, PrepFsync, PrepNop, SetData64, Submit, SubmitAndWait, CqeSeen}
 use Rattle.rc_lang.specs.declared.lines.Stmt.{Stmt}
-use Rattle.rc_lang.specs.declared.lines.Stmt.TheVariants.{Do, EndLock, If, Peek, Break}
+use Rattle.rc_lang.specs.declared.lines.Stmt.TheVariants.{Do, Put, EndLock, If, Peek, Break}
 use Rattle.rc_lang.specs.declared.lines.Test.{Test}
-use Rattle.rc_lang.specs.declared.lines.Test.TheVariants.{Compare, ReadyZero, SpaceAtLeast}
+use Rattle.rc_lang.specs.declared.lines.Test.TheVariants.{Compare, ReadyZero, SpaceAtLeast, Take}
 use Rattle.rc_lang.specs.declared.request.Kind.{Kind}
 use Rattle.rc_lang.specs.declared.request.Kind.TheVariants.{Nop, Fsync, Read, Write}
 use Rattle.rc_lang.specs.declared.request.Request.{Request}
-use Rattle.rc_lang.specs.Program.{Program, bytes_at}
+use Rattle.rc_lang.specs.Program.{Program, bytes_at, items_at, lists_of}
+use Rattle.rc_split.specs.Pools.{overfills}
 use Rattle.rc_world.specs.declared.event.Completion.{Completion}
 use Rattle.rc_world.specs.declared.fault.Fault.{Fault}
 use Rattle.rc_world.specs.declared.fault.FaultKind.{FaultKind}
-use Rattle.rc_world.specs.declared.fault.FaultKind.TheVariants.{WriteOfPending, ReadOfFilling, KernelClash, ThreadRace, RingFull, Overflow, AmbiguousData, UnknownReap, NoLock, RawEntry, OutOfBuffer}
+use Rattle.rc_world.specs.declared.fault.FaultKind.TheVariants.{WriteOfPending, ReadOfFilling, KernelClash, ThreadRace, RingFull, Overflow, AmbiguousData, UnknownReap, NoLock, RawEntry, OutOfBuffer, DoublePut}
 use Rattle.rc_world.specs.declared.fault.Party.TheVariants.{At, InKernel}
 use Rattle.rc_world.specs.declared.world.Slot.{Slot}
 use Rattle.rc_world.specs.declared.world.Slot.TheVariants.{Closed, Vacant, Prepared}
@@ -162,7 +163,7 @@ abbrev pub is_unknown_at : World → Stmt → Bool
 is_unknown_at w (Do CqeSeen) = not (w.controls.peeked && front_is_one w w.completions)
 is_unknown_at w _ = false
 
--- F9: a call on the ring is next, of a thread that isn't the holder.
+-- F9: a call on the ring or the pool is next, of a thread that isn't the holder.
 abbrev pub is_ring_op : Op → Bool
 is_ring_op (Set x n) = false
 is_ring_op (Assign x y) = false
@@ -178,9 +179,11 @@ abbrev pub is_ring_test : Test → Bool
 is_ring_test (Compare x comparison n) = false
 is_ring_test ReadyZero = true
 is_ring_test (SpaceAtLeast n) = true
+is_ring_test (Take k) = true
 
 abbrev pub is_ring_call : Stmt → Bool
 is_ring_call (Do op) = is_ring_op op
+is_ring_call (Put k) = true
 is_ring_call (If test) = is_ring_test test
 is_ring_call (Peek x) = true
 is_ring_call _ = false
@@ -208,6 +211,11 @@ abbrev pub overflows : World → List Pending → Bool
 overflows w [] = false
 overflows w (p ∷ ps) = nat_le w.program.completion_entries (length w.completions)
 
+-- F12: the holder's next is a put of items that the pool has no room for: some of them are there already.
+abbrev pub is_double_at : World → ℕ → Stmt → Bool
+is_double_at w i (Put k) = overfills w.program w.controls.pool (items_at (lists_of w.program i) k)
+is_double_at w i _ = false
+
 -- ---- all of them
 
 -- the fault of this kind at thread i, whose next statement is this
@@ -223,6 +231,7 @@ has_fault w UnknownReap i s = is_holder w.controls.holder i && is_unknown_at w s
 has_fault w NoLock i s = is_ring_call s && not (is_holder w.controls.holder i)
 has_fault w RawEntry i s = is_holder w.controls.holder i && is_raw_at w.slot s
 has_fault w OutOfBuffer i s = is_out_at w.program s
+has_fault w DoublePut i s = is_holder w.controls.holder i && is_double_at w i s
 
 -- the fault of this kind in the kernel
 abbrev pub in_kernel : World → FaultKind → Bool
@@ -248,7 +257,7 @@ faults_of w kind = kernel_faults w kind ++ faults_from w kind 0 w.controls.threa
 
 -- all faults of a world, by their numbers and then by their threads
 abbrev pub all_kinds : List FaultKind
-all_kinds = WriteOfPending ∷ ReadOfFilling ∷ KernelClash ∷ ThreadRace ∷ RingFull ∷ Overflow ∷ AmbiguousData ∷ UnknownReap ∷ NoLock ∷ RawEntry ∷ OutOfBuffer ∷ []
+all_kinds = WriteOfPending ∷ ReadOfFilling ∷ KernelClash ∷ ThreadRace ∷ RingFull ∷ Overflow ∷ AmbiguousData ∷ UnknownReap ∷ NoLock ∷ RawEntry ∷ OutOfBuffer ∷ DoublePut ∷ []
 
 abbrev pub faults_by : World → List FaultKind → List Fault
 faults_by w [] = []

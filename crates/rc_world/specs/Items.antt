@@ -3,7 +3,7 @@ use Rattle.std.specs.Prelude.{ℕ, Bool, true, false, ◌&&◌, ◌||◌, if◌t
 use Rattle.rc_lang.specs.declared.lines.Line.{Line}
 use Rattle.rc_lang.specs.declared.lines.Op.TheVariants.{Submit, SubmitAndWait}
 use Rattle.rc_lang.specs.declared.lines.Stmt.{Stmt}
-use Rattle.rc_lang.specs.declared.lines.Stmt.TheVariants.{Do, Lock, EndLock, If, Else, EndIf, Peek, Case, Other, Nothing, EndArm, EndPeek, Loop, EndLoop, Break}
+use Rattle.rc_lang.specs.declared.lines.Stmt.TheVariants.{Do, Put, Lock, EndLock, If, Else, EndIf, Peek, Case, Other, Nothing, EndArm, EndPeek, Loop, EndLoop, Break}
 use Rattle.rc_lang.specs.Program.{Program}
 use Rattle.rc_lang.specs.Requests.{may_complete}
 use Rattle.rc_world.specs.declared.controls.Next.{Next}
@@ -19,6 +19,7 @@ use Rattle.rc_world.specs.Machine.{Pending, World, count_in, is_read, is_take, k
 -- no thread of a run stands at one (the law NoHiddenHarm).
 abbrev pub ready_or_taken : Option ℕ → Line → Stmt → Next
 ready_or_taken holder l (Do op) = Ready l
+ready_or_taken holder l (Put k) = Ready l
 ready_or_taken None l Lock = Ready l
 ready_or_taken (Some j) l Lock = TakenLock
 ready_or_taken holder l (EndLock o) = Ready l

@@ -4,9 +4,9 @@ use Rattle.rc_lang.specs.declared.lines.Line.{Line}
 use Rattle.rc_lang.specs.declared.lines.Op.{Op}
 use Rattle.rc_lang.specs.declared.lines.Op.TheVariants.{Set, Assign, Add, Subtract, Load, Store, Fill, Print, GetSqe, PrepRead, PrepWrite, PrepFsync, PrepNop, SetData64, Submit, SubmitAndWait, CqeSeen}
 use Rattle.rc_lang.specs.declared.lines.Stmt.{Stmt}
-use Rattle.rc_lang.specs.declared.lines.Stmt.TheVariants.{Do, Lock, EndLock, If, Else, EndIf, Peek, Case, Other, Nothing, EndArm, EndPeek, Loop, EndLoop, Break}
+use Rattle.rc_lang.specs.declared.lines.Stmt.TheVariants.{Do, Put, Lock, EndLock, If, Else, EndIf, Peek, Case, Other, Nothing, EndArm, EndPeek, Loop, EndLoop, Break}
 use Rattle.rc_lang.specs.declared.lines.Test.{Test}
-use Rattle.rc_lang.specs.declared.lines.Test.TheVariants.{Compare, ReadyZero, SpaceAtLeast}
+use Rattle.rc_lang.specs.declared.lines.Test.TheVariants.{Compare, ReadyZero, SpaceAtLeast, Take}
 use Rattle.rc_lang.specs.declared.request.Kind.{Kind}
 use Rattle.rc_lang.specs.declared.request.Kind.TheVariants.{Nop, Fsync, Read, Write}
 use Rattle.rc_lang.specs.declared.request.Request.{Request}
@@ -167,6 +167,7 @@ op_in_rings w t r CqeSeen = reaps_front w w.completions
 
 abbrev pub in_rings : World → Standing → ℤ → Stmt → Option World
 in_rings w t r (Do op) = op_in_rings w t r op
+in_rings w t r (Put k) = Some w
 in_rings w t r Lock = Some w
 in_rings w t r (EndLock o) = Some w
 in_rings w t r (If test) = Some w
@@ -204,6 +205,7 @@ abbrev pub test_answer : World → Test → Answer
 test_answer w (Compare x comparison n) = Plain
 test_answer w ReadyZero = Number (pos (used_entries w))
 test_answer w (SpaceAtLeast n) = Number (pos (w.program.entries - used_entries w))
+test_answer w (Take k) = Plain
 
 abbrev pub stmt_answer : World → ℤ → Stmt → Answer
 stmt_answer w r (Do op) = op_answer w r op

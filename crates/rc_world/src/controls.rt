@@ -1,15 +1,16 @@
-//! Where each thread stands, its variables, the lock, and whether the front completion is peeked.
+//! Where each thread stands, its variables, the lock, whether the front completion is peeked, and the pool.
 
 ghost use Rattle.std.specs.Prelude.{◌≡◌, ◌<◌, ◌≤◌, length, map, option_map, pos, replicate, ◌+ℤ◌, ◌-ℤ◌, slice_get, IfOk, IfSome, IsSome, IsOkAnd};
 ghost use Rattle.rc_lang.specs.declared.lines.Stmt.TheVariants.{Peek};
 ghost use Rattle.rc_lang.specs.Program.{IsProgram, IsOperand, end_at, lines_of, stmt_at};
-ghost use Rattle.rc_world.specs.Changes.{CallIsSmall, StandsAt, TestIsSmall, gone_to, hop_at, standing_at, with_variable};
+ghost use Rattle.rc_world.specs.Changes.{CallIsSmall, StandsAt, TestIsSmall, gone_to, hop_at, standing_at, with_pool, with_variable};
 ghost use Rattle.rc_world.specs.Controls as spec;
 
 use self::places::ready_or_taken;
 use crate::event::{Action, Completion, Event};
 use rc_lang::lines::{Line, Op, Operand, Stmt, Test};
 use rc_lang::program::{Program, Thread};
+use rc_split::pool::Pool;
 use std::alloc::{AllocError, Global};
 use std::marker::Model;
 
@@ -50,12 +51,13 @@ pub enum Answer {
     Front(Completion),
 }
 
-/// Where each thread of a program stands, who holds the lock, and whether the front completion is peeked.
+/// Where each thread of a program stands, who holds the lock, whether the front completion is peeked, and the pool.
 #[derive(Drop)]
 pub struct Controls {
     threads: Vec<Control>,
     holder: Option<u32>,
     peeked: bool,
+    pool: Pool,
 }
 
 impl Model for Controls {
@@ -70,6 +72,7 @@ impl Model for Controls {
       threads = map view_control c.threads.items;
       holder = c.holder;
       peeked = c.peeked;
+      pool = c.pool;
     } };
 
     ghost invariant = { λ c. length c.threads.items ≤ 16 };
@@ -79,7 +82,7 @@ impl Controls {
     ghost use Rattle.rc_world.specs.Items.{next_of};
     ghost use Rattle.rc_world.specs.Faults.{is_holder};
 
-    /// Every thread at its first line, its variables 0; the lock is free and nothing is peeked.
+    /// Every thread at its first line, its variables 0; the lock is free, nothing is peeked, and the pool is empty.
     pub fn start(alloc: Global, program: &Program) -> Result<Controls, AllocError>
         ensures start { IfOk result (λ c. c ≡ spec.start_controls program.now) }
         ensures made { IsProgram program.now }
@@ -88,6 +91,7 @@ impl Controls {
             threads: first_places(alloc, program.threads())?,
             holder: None,
             peeked: false,
+            pool: Pool::empty(),
         })
     }
 
@@ -120,6 +124,13 @@ impl Controls {
         ensures { result ≡ self.now.peeked }
     {
         self.peeked
+    }
+
+    /// What is in the pool.
+    pub fn pool(&self) -> &Pool
+        ensures { result.now ≡ self.now.pool }
+    {
+        &self.pool
     }
 
     /// The number of the thread that holds the lock.
@@ -196,6 +207,7 @@ impl Controls {
     {
         match stmt {
             Stmt::Do(op) => self.call(program, thread, place, op, answer),
+            Stmt::Put(k) => self.put(program, thread, place, k, answer),
             Stmt::Lock => {
                 self.holder = Some(thread);
                 self.pass(program, thread, place, Action::Locked)
@@ -299,12 +311,13 @@ impl Controls {
         }
     }
 
-    // What an if decides.
-    fn decide(&self, program: &Program, thread: u32, test: Test, answer: Answer) -> bool
-        requires exists { thread < length self.now.threads }
-        requires within { TestIsSmall test }
-        requires step { IsSome (spec.decides program.now self.now thread (standing_at self.now thread) test answer) }
-        ensures { spec.decides program.now self.now thread (standing_at self.now thread) test answer ≡ Some (spec.branches program.now self.now thread (standing_at self.now thread) result) }
+    // What an if decides. An `if take` that holds takes its items out of the pool.
+    fn decide(&mut self, program: &Program, thread: u32, test: Test, answer: Answer) -> bool
+        requires exists { thread < length self.old.threads }
+        requires within { TestIsSmall program.now thread test }
+        requires step { IsSome (spec.decides program.now self.old thread (standing_at self.old thread) test answer) }
+        ensures pool { self.new ≡ with_pool self.old self.new.pool }
+        ensures step { spec.decides program.now self.old thread (standing_at self.old thread) test answer ≡ Some (spec.branches program.now self.new thread (standing_at self.old thread) result) }
     {
         match test {
             Test::Compare(x, comparison, n) => comparison.compares(self.variable(thread, x), n),
@@ -316,6 +329,7 @@ impl Controls {
                 Answer::Number(free) => i64::from(wanted) <= i64::from(free),
                 _ => unreachable!(),
             },
+            Test::Take(k) => self.take(program, thread, k),
         }
     }
 }

@@ -52,6 +52,8 @@ pub enum Action {
     Looped,
     /// A break left a loop.
     LoopLeft,
+    /// Items were put into the pool.
+    ItemsPut,
 }
 
 /// One event of a run.

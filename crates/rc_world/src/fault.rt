@@ -25,18 +25,20 @@ pub enum FaultKind {
     AmbiguousData,
     /// F8: `cqe_seen` is next and no completion of exactly one request was peeked.
     UnknownReap,
-    /// F9: a call on the ring is next, of a thread without the lock.
+    /// F9: a call on the ring or the pool is next, of a thread without the lock.
     NoLock,
     /// F10: a call, the end of the lock or a break that releases it is next, which the stage of the submission entry
     /// doesn't allow.
     RawEntry,
     /// F11: a load or a store behind the end of its buffer is next, or a prep of more bytes than the buffer has.
     OutOfBuffer,
+    /// F12: a put is next of items that the pool has no room for, since some of them are there already.
+    DoublePut,
 }
 
 impl FaultKind {
     /// All kinds, in the order of their numbers.
-    pub const ALL: [FaultKind; 11] = [
+    pub const ALL: [FaultKind; 12] = [
         FaultKind::WriteOfPending,
         FaultKind::ReadOfFilling,
         FaultKind::KernelClash,
@@ -48,9 +50,10 @@ impl FaultKind {
         FaultKind::NoLock,
         FaultKind::RawEntry,
         FaultKind::OutOfBuffer,
+        FaultKind::DoublePut,
     ];
 
-    /// The number that is printed, 1 to 11.
+    /// The number that is printed, 1 to 12.
     pub fn number(self) -> u8
         ensures { result ≡ number_of_fault self }
     {
@@ -66,6 +69,7 @@ impl FaultKind {
             FaultKind::NoLock => 9,
             FaultKind::RawEntry => 10,
             FaultKind::OutOfBuffer => 11,
+            FaultKind::DoublePut => 12,
         }
     }
 
@@ -85,6 +89,7 @@ impl FaultKind {
             FaultKind::NoLock => "NoLock",
             FaultKind::RawEntry => "RawEntry",
             FaultKind::OutOfBuffer => "OutOfBuffer",
+            FaultKind::DoublePut => "DoublePut",
         }
     }
 }

@@ -1,4 +1,4 @@
-//! Which statements are calls on the ring: each of them is a fault where its thread doesn't hold the lock.
+//! Which statements are calls on the ring or the pool: each of them is a fault where its thread doesn't hold the lock.
 
 use rc_read::read_program;
 use rc_world::event::Item;
@@ -8,8 +8,8 @@ use std::alloc::Global;
 use std::process::Abort;
 use std::test::Fail;
 
-/// The lines of a statement, and whether it is a call on the ring.
-const STATEMENTS: [(&str, bool); 19] = [
+/// The lines of a statement, and whether it is a call on the ring or the pool.
+const STATEMENTS: [(&str, bool); 21] = [
     ("get_sqe", true),
     ("prep_read 3 a 4 0", true),
     ("prep_write 3 a 4 0 1", true),
@@ -22,6 +22,8 @@ const STATEMENTS: [(&str, bool); 19] = [
     ("cqe_seen", true),
     ("if sq_ready == 0 {\n}", true),
     ("if sq_space_left >= 1 {\n}", true),
+    ("put t:7", true),
+    ("if take t:7 {\n}", true),
     ("if x == 0 {\n}", false),
     ("x = x + 1", false),
     ("x = load a 0", false),
@@ -49,7 +51,7 @@ fn fault_before(
 ) -> Result<Option<Fault>, Fail> {
     let end = if has_lock { "}\n}\n" } else { "}\n" };
     let text = format!(in alloc;
-        "ringcheck 1\nring 1\nfile 3 0\nbuffer a 4 1\ntoken 7 nop\nthread t0 holds {{\nlock {{\n}}\n}}\nthread t1 holds {{\n{before}\n{statement}\n{end}"
+        "ringcheck 3\nring 1\nfile 3 0\nbuffer a 4 1\ntoken 7 nop\nthread t0 holds {{\nlock {{\n}}\n}}\nthread t1 holds {{\n{before}\n{statement}\n{end}"
     )?;
     let program = read_program(alloc, text.as_bytes())?;
     let mut world = World::start(alloc, &program)?;

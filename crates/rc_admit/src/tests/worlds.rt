@@ -1,8 +1,9 @@
-//! A thread that is stepped to its end, and a nop that completes behind it.
+//! A thread that is stepped to its end, and a nop that completes behind it; items that go to the pool and leave it.
 
 use rc_lang::program::Program;
 use rc_read::{ReadFault, read_program};
 use rc_world::event::{Action, Completion, Event, Item};
+use rc_world::fault::{Fault, FaultKind, Party};
 use rc_world::world::{Stop, World};
 use std::alloc::Global;
 use std::process::Abort;
@@ -33,7 +34,33 @@ thread t1 holds {
 }
 ";
 
-/// Its program.
+/// A credit that is put into the pool, taken from it, and not there any more.
+pub const POOLED: &str = "ringcheck 3
+ring 1
+thread t0 holds c:1 {
+lock {
+put c:1
+if take c:1 {
+}
+if take c:1 {
+}
+}
+}
+";
+
+/// A token that is put into the pool twice.
+pub const DOUBLE: &str = "ringcheck 3
+ring 1
+token 7 nop
+thread t0 holds t:7 {
+lock {
+put t:7
+put t:7
+}
+}
+";
+
+/// The program of the first.
 pub fn program(alloc: Global) -> Result<Program, ReadFault> {
     read_program(alloc, STEPS.as_bytes())
 }
@@ -120,5 +147,41 @@ fn an_answer_stands_only_at_a_submit(rt: HostRuntime) -> Result<(), Fail> {
     let event = apply(&rt, &mut world, taking(-4095));
     assert_eq!(rt; event, Ok(by(16, Action::Submitted(-4095))));
     assert!(rt; !world.enabled(&NOP));
+    Ok(())
+}
+
+#[test]
+fn items_leave_the_pool_once(rt: HostRuntime) -> Result<(), Fail> {
+    let program = read_program(rt.alloc(), POOLED.as_bytes())?;
+    let mut world = World::start(rt.alloc(), &program)?;
+    let steps = [
+        by(4, Action::Locked),
+        by(5, Action::ItemsPut),
+        by(6, Action::Branched(true)),
+        by(8, Action::Branched(false)),
+        by(10, Action::Released),
+    ];
+    for event in steps {
+        assert_eq!(rt; apply(&rt, &mut world, THREAD), Ok(event));
+    }
+    assert!(rt; !world.enabled(&THREAD));
+    assert!(rt; world.fault().is_none());
+    Ok(())
+}
+
+#[test]
+fn a_second_put_is_a_fault(rt: HostRuntime) -> Result<(), Fail> {
+    let program = read_program(rt.alloc(), DOUBLE.as_bytes())?;
+    let mut world = World::start(rt.alloc(), &program)?;
+    for event in [by(5, Action::Locked), by(6, Action::ItemsPut)] {
+        assert!(rt; world.fault().is_none());
+        assert_eq!(rt; apply(&rt, &mut world, THREAD), Ok(event));
+    }
+    let party = Party::At { thread: 0, line: 7 };
+    let double = Fault {
+        kind: FaultKind::DoublePut,
+        party,
+    };
+    assert_eq!(rt; world.fault(), Some(double));
     Ok(())
 }

@@ -45,11 +45,15 @@ const ACCEPTED: &[&str] = &[
     programs::ROOM_OF_THREE,
 ];
 
+pub fn tell_accepted(rt: &(impl Abort + Threads + Wait + Sync), alloc: Global, text: &str) {
+    let json = "{\"verdict\":\"accepted\"}\n";
+    check_both(rt, alloc, text, "accepted\n", json, 0);
+}
+
 #[test]
 fn accepted_programs_are_told(rt: HostRuntime) {
     for text in ACCEPTED {
-        let json = "{\"verdict\":\"accepted\"}\n";
-        check_both(&rt, rt.alloc(), text, "accepted\n", json, 0);
+        tell_accepted(&rt, rt.alloc(), text);
     }
 }
 

@@ -85,3 +85,168 @@ x = x + 1
 }
 }
 ";
+
+/// A token that is put twice.
+pub const DOUBLE: &str = "ringcheck 3
+ring 1
+token 7 nop
+thread t0 holds t:7 {
+lock {
+put t:7
+put t:7
+}
+}
+";
+
+/// A put without the lock.
+pub const PUT_OUTSIDE: &str =
+    "ringcheck 3\nring 1\ntoken 7 nop\nthread t0 holds t:7 {\nput t:7\nput t:7\n}\n";
+
+/// A take without the lock.
+pub const TAKE_OUTSIDE: &str = "ringcheck 3\nring 1\nthread t0 holds {\nif take c:1 {\n}\n}\n";
+
+/// Shares that are put again, of a buffer that has as many.
+pub const SHARES_PUT: &str = "ringcheck 3
+ring 1
+buffer a 1 2
+thread t0 holds a:2 c:2 {
+lock {
+put a:2 c:1
+put a:1
+}
+}
+";
+
+/// A variable with a name that version 3 reserves.
+pub const NAMED_PUT: &str = "ringcheck 1
+ring 1
+thread t0 holds {
+put = 3
+take = put
+}
+";
+
+/// Two writes that come back in any order, turn after turn.
+pub const ANY_ORDER: &str = "ringcheck 3
+ring 2
+file 3 64
+buffer a 16 1
+buffer b 16 1
+token 1 write a 1
+token 2 write b 1
+thread t0 holds a:1 b:1 t:1 t:2 c:2 {
+loop keeps a:1 b:1 t:1 t:2 c:2 {
+fill a x
+fill b x
+lock {
+get_sqe
+prep_write 3 a 16 0 1
+set_data64 1
+get_sqe
+prep_write 3 b 16 0 1
+set_data64 2
+loop keeps q:2 {
+r = submit
+if sq_ready == 0 {
+break
+}
+}
+}
+loop keeps {
+lock {
+peek_cqe r {
+case 1 {
+cqe_seen
+put a:1 t:1 c:1
+}
+case 2 {
+cqe_seen
+put b:1 t:2 c:1
+}
+other {
+}
+none {
+}
+}
+if take a:1 b:1 t:1 t:2 c:2 {
+break
+}
+}
+}
+}
+}
+";
+
+/// What is peeked owns its token, so nobody can take that.
+pub const TAKEN_WHILE_PEEKED: &str = "ringcheck 3
+ring 4
+token 7 nop
+thread t0 holds t:7 c:1 {
+lock {
+get_sqe
+prep_nop
+set_data64 7
+loop keeps q:1 {
+r = submit
+if sq_ready == 0 {
+break
+}
+}
+loop keeps q:0 {
+peek_cqe r {
+case 7 {
+if take t:7 {
+cqe_seen
+cqe_seen
+get_sqe
+}
+}
+other {
+}
+none {
+}
+}
+}
+}
+}
+";
+
+/// A credit that is used where the take of it says no.
+pub const USED_AT_NO: &str = "ringcheck 3
+ring 1
+thread t0 holds {
+lock {
+if take c:1 {
+} else {
+get_sqe
+}
+}
+}
+";
+
+/// A slot that is open behind one branch of a take.
+pub const OPEN_AT_YES: &str = "ringcheck 3
+ring 1
+thread t0 holds {
+lock {
+if take c:1 {
+get_sqe
+} else {
+}
+}
+}
+";
+
+/// A credit that is put, and asked for twice.
+pub const TAKEN_ONCE: &str = "ringcheck 3
+ring 1
+thread t0 holds c:1 {
+lock {
+put c:1
+if take c:1 {
+}
+if take c:1 {
+}
+}
+}
+";

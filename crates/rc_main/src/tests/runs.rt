@@ -3,7 +3,7 @@
 use super::programs::COUNTS;
 use super::{Case, run_as};
 use crate::command::command;
-use rc_examples::programs::{EARLY, EMPTY_THREAD, HANDOFF, NOP, SHARE};
+use rc_examples::programs::{EARLY, EMPTY_THREAD, GATHER, HAND_BACK, HANDOFF, NOP, POOL, SHARE};
 use std::alloc::{AllocError, Global};
 use std::process::Abort;
 use std::str;
@@ -141,6 +141,16 @@ fn runs_are_stepped_again(rt: HostRuntime) -> Result<(), Fail> {
             .count();
         assert_eq!(rt; printed, 1, "output of seed {seed}");
         run_again(&rt, rt.alloc(), SHARE, seed)?;
+    }
+    Ok(())
+}
+
+#[test]
+fn runs_with_a_pool_are_stepped_again(rt: HostRuntime) -> Result<(), Fail> {
+    for seed in ["1", "2", "3", "4", "5"] {
+        for text in [GATHER, HAND_BACK, POOL] {
+            run_again(&rt, rt.alloc(), text, seed)?;
+        }
     }
     Ok(())
 }

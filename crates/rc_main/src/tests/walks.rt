@@ -12,14 +12,17 @@ use std::test::Fail;
 
 const WALKS: u64 = 200;
 
-const DRAWS: u64 = 300;
+const DRAWS: u64 = 3000;
 
 /// The accepted programs of the folder examples.
-const ACCEPTED: [(&str, &str); 6] = [
+const ACCEPTED: [(&str, &str); 9] = [
     ("dead", programs::DEAD),
     ("drain", programs::DRAIN),
     ("empty_thread", programs::EMPTY_THREAD),
+    ("gather", programs::GATHER),
+    ("hand_back", programs::HAND_BACK),
     ("handoff", programs::HANDOFF),
+    ("pool", programs::POOL),
     ("share", programs::SHARE),
     ("wrap", programs::WRAP),
 ];

@@ -9,6 +9,7 @@ mod faults;
 mod flags;
 mod limits;
 mod pieces;
+mod pools;
 mod programs;
 
 // The line and the number of the fault of an answer, (0, 0) of a program, and (0, 20) where memory ran out.

@@ -15,7 +15,7 @@ use std::process::Abort;
 use std::test::Fail;
 
 /// The words of each step of a thread.
-const STEPS: [(Action, &str); 21] = [
+const STEPS: [(Action, &str); 22] = [
     (
         Action::VariableSet(-9_223_372_036_854_775_808),
         "set -9223372036854775808",
@@ -42,6 +42,7 @@ const STEPS: [(Action, &str); 21] = [
     ),
     (Action::PeekedNone, "peek_cqe none"),
     (Action::Reaped(7), "cqe_seen 7"),
+    (Action::ItemsPut, "put"),
     (Action::Branched(true), "if yes"),
     (Action::Branched(false), "if no"),
     (Action::Looped, "loop"),
@@ -157,6 +158,10 @@ fn each_fault_ends_a_trace(rt: HostRuntime) {
             line: 4096,
         },
     };
+    let double_put = Fault {
+        kind: FaultKind::DoublePut,
+        party: Party::At { thread: 0, line: 7 },
+    };
     ends(
         &rt,
         alloc,
@@ -170,5 +175,12 @@ fn each_fault_ends_a_trace(rt: HostRuntime) {
         &program,
         End::Fault(out_of_buffer),
         "fault F11 OutOfBuffer t0 line 4096\n",
+    );
+    ends(
+        &rt,
+        alloc,
+        &program,
+        End::Fault(double_put),
+        "fault F12 DoublePut t0 line 7\n",
     );
 }

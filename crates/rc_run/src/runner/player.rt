@@ -8,6 +8,8 @@ use crate::locked::{Asked, Counted};
 use crate::runner::shared::{Shared, draw};
 use rc_device::chooser::Chooser;
 use rc_device::device::Device;
+use rc_lang::lines::{Stmt, Test};
+use rc_world::controls::Next;
 use rc_world::event::{Action, Event};
 use std::sync::Wait;
 use std::sync::ledger::Ledger;
@@ -65,8 +67,10 @@ enum Brought {
     Lock,
     // An event after which the lock of the program is free.
     FreeLock,
-    // An event that queued an entry or reaped a completion.
+    // An event that queued an entry, reaped a completion or put items into the pool.
     Move,
+    // An event that took items from the pool.
+    Items,
     // An event after which this many more requests are pending, at least one.
     Requests(i32),
     // An event that found no completion.
@@ -75,7 +79,8 @@ enum Brought {
     Event,
 }
 
-fn brought_by(turn: Turn, is_free: bool) -> Brought {
+// What a turn brought; whether its line takes items from the pool, and whether the lock of the program is free then.
+fn brought_by(turn: Turn, takes: bool, is_free: bool) -> Brought {
     let action = match turn {
         Turn::Ended => return Brought::End,
         Turn::Waits => return Brought::TakenLock,
@@ -85,7 +90,8 @@ fn brought_by(turn: Turn, is_free: bool) -> Brought {
     match action {
         Action::Locked => Brought::Lock,
         Action::Released | Action::LoopLeft if is_free => Brought::FreeLock,
-        Action::DataSet(_) | Action::Reaped(_) => Brought::Move,
+        Action::DataSet(_) | Action::Reaped(_) | Action::ItemsPut => Brought::Move,
+        Action::Branched(true) if takes => Brought::Items,
         Action::Submitted(taken) if taken > 0 => Brought::Requests(taken),
         Action::PeekedNone => Brought::NoCompletion,
         _ => Brought::Event,
@@ -105,8 +111,16 @@ fn draw_take<D: Device, C: Chooser, L: Ledger + Asked, R: Wait>(
     if take <= queued { take as i32 } else { -11 }
 }
 
-// Makes a turn of a thread, and answers what it brought. Who sleeps is woken where the rings changed, and by any event
-// where no request is pending. Where the thread stands at the lock of the program, which is taken, it waits until that is
+// Whether a thread's next line takes items from the pool.
+fn takes_items(next: Next) -> bool {
+    match next {
+        Next::Ready(line) => matches!(line.stmt, Stmt::If(Test::Take(_))),
+        _ => false,
+    }
+}
+
+// Makes a turn of a thread, and answers what it brought. Who sleeps is woken by news, and by any event where no request
+// is pending. Where the thread stands at the lock of the program, which is taken, it waits until that is
 // released. None where the run is to stop.
 fn take_turn<D: Device, C: Chooser, L: Ledger + Asked, R: Wait>(
     rt: &R,
@@ -117,8 +131,9 @@ fn take_turn<D: Device, C: Chooser, L: Ledger + Asked, R: Wait>(
 ) -> Option<Brought> {
     let mut guard = shared.locked.lock(rt);
     let take = draw_take(rt, shared, guard.queued());
+    let takes = takes_items(guard.next(thread));
     let turn = guard.turn(thread, take, mine)?;
-    let brought = brought_by(turn, guard.is_free());
+    let brought = brought_by(turn, takes, guard.is_free());
     let seen = guard.len();
     if let Brought::TakenLock = brought {
         shared
@@ -127,7 +142,7 @@ fn take_turn<D: Device, C: Chooser, L: Ledger + Asked, R: Wait>(
         return Some(brought);
     }
     pace.note(brought, seen);
-    let wakes = changes_rings(brought) || !guard.has_pending();
+    let wakes = is_news(brought) || !guard.has_pending();
     if wakes && guard.is_heard() {
         drop(guard);
         shared.moved.notify_all();
@@ -135,8 +150,8 @@ fn take_turn<D: Device, C: Chooser, L: Ledger + Asked, R: Wait>(
     Some(brought)
 }
 
-// Whether a look at the rings may find something new.
-fn changes_rings(brought: Brought) -> bool {
+// Whether a look at the rings or into the pool may find something new.
+fn is_news(brought: Brought) -> bool {
     matches!(brought, Brought::Move | Brought::Requests(_))
 }
 
@@ -154,7 +169,7 @@ fn tell<D: Device, C, L: Ledger + Asked>(shared: &Shared<D, C, L>, brought: Brou
 #[derive(Clone, Copy)]
 enum Rest {
     None,
-    // It sleeps until a look at the rings may find something new.
+    // It sleeps until a look at the rings or into the pool may find something new.
     UntilChange,
     // It leaves the processor to the others for a moment.
     Shortly,
@@ -164,7 +179,7 @@ enum Rest {
 #[derive(Drop)]
 struct Pace {
     // Whether its thread has moved nothing since it took the lock of the program: queued no entry, had none taken by a
-    // submit, reaped nothing.
+    // submit, reaped nothing, put nothing into the pool and took nothing from it.
     is_idle: bool,
     // How it rests before its next turn.
     rest: Rest,
@@ -194,7 +209,7 @@ impl Pace {
                 self.is_idle = true;
                 self.looked = seen;
             }
-            Brought::Move | Brought::Requests(_) => self.is_idle = false,
+            Brought::Move | Brought::Requests(_) | Brought::Items => self.is_idle = false,
             Brought::NoCompletion => {
                 self.rest = Rest::UntilChange;
                 self.looked = seen;

@@ -18,8 +18,10 @@ pub(super) fn ready_or_taken(holder: Option<u32>, line: Line) -> Next
             None => Next::Ready(line),
             Some(_) => Next::TakenLock,
         },
-        Stmt::Do(_) | Stmt::EndLock(_) | Stmt::If(_) | Stmt::Peek(_) => Next::Ready(line),
-        Stmt::Loop(_) | Stmt::EndLoop(_, _) | Stmt::Break(_, _, _) => Next::Ready(line),
+        Stmt::Do(_) | Stmt::Put(_) | Stmt::EndLock(_) | Stmt::If(_) => Next::Ready(line),
+        Stmt::Peek(_) | Stmt::Loop(_) | Stmt::EndLoop(_, _) | Stmt::Break(_, _, _) => {
+            Next::Ready(line)
+        }
         Stmt::Else(_) | Stmt::EndIf(_) | Stmt::Case(_, _) | Stmt::Other(_) => Next::Ended,
         Stmt::Nothing(_) | Stmt::EndArm(_) | Stmt::EndPeek(_) => Next::Ended,
     }

@@ -1,9 +1,10 @@
 //! What the steps of threads do to their controls.
 
-ghost use Rattle.std.specs.Prelude.{◌≡◌, ◌<◌, ◌≤◌, length, Some, IsSome};
-ghost use Rattle.rc_lang.specs.declared.lines.Stmt.TheVariants.{Peek};
-ghost use Rattle.rc_lang.specs.Program.{end_at};
-ghost use Rattle.rc_world.specs.Changes.{StandsAt, gone_to, standing_at, with_variable};
+ghost use Rattle.std.specs.Prelude.{◌≡◌, ◌<◌, ◌≤◌, if◌then◌else◌, length, Some, IsSome};
+ghost use Rattle.rc_lang.specs.declared.lines.Stmt.TheVariants.{Peek, Put};
+ghost use Rattle.rc_lang.specs.Program.{end_at, items_at, lists_of};
+ghost use Rattle.rc_split.specs.Pools.{includes, without_items};
+ghost use Rattle.rc_world.specs.Changes.{StandsAt, gone_to, standing_at, with_pool, with_variable};
 ghost use Rattle.rc_world.specs.Controls as spec;
 
 use super::places::{arm_for, none_arm, number_of_event};
@@ -118,6 +119,38 @@ impl Controls {
         };
         self.peeked = false;
         self.pass(program, thread, place, Action::Reaped(completion.user_data))
+    }
+
+    // The step of a put.
+    pub(super) fn put(
+        &mut self,
+        program: &Program,
+        thread: u32,
+        place: usize,
+        k: usize,
+        answer: Answer,
+    ) -> Action
+        requires here { StandsAt program.now self.old thread place (Put k) }
+        requires step { IsSome (spec.acts program.now self.old thread (standing_at self.old thread) (Put k) answer) }
+        ensures { spec.made program.now self.old thread (spec.acts program.now self.old thread (standing_at self.old thread) (Put k) answer) ≡ Some (result, self.new) }
+    {
+        let items = &program.lists_of(thread as usize)[k];
+        self.pool.put(program, items);
+        self.pass(program, thread, place, Action::ItemsPut)
+    }
+
+    // Takes the items out of the pool, if it has all of them; whether it had.
+    pub(super) fn take(&mut self, program: &Program, thread: u32, k: usize) -> bool
+        requires { k < length (lists_of program.now thread) }
+        ensures holds { result ≡ includes program.now self.old.pool (items_at (lists_of program.now thread) k) }
+        ensures pool { self.new ≡ with_pool self.old (if result then without_items program.now self.old.pool (items_at (lists_of program.now thread) k) else self.old.pool) }
+    {
+        let items = &program.lists_of(thread as usize)[k];
+        let holds = self.pool.includes(program, items);
+        if holds {
+            self.pool.take(program, items);
+        }
+        holds
     }
 
     // The step of an if that is decided.

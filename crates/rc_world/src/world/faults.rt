@@ -3,6 +3,8 @@
 ghost use Rattle.std.specs.Prelude.{◌≡◌, ◌+◌, ◌&&◌, ◌<◌, ◌≤◌, ℕ, None, drop, length, map, not, option_map, slice_get, true};
 ghost use Rattle.std.specs.Bool.{OnFalse};
 ghost use Rattle.std.specs.List.{list_any};
+ghost use Rattle.rc_lang.specs.Program.{items_at, lists_of};
+ghost use Rattle.rc_split.specs.Pools.{overfills};
 ghost use Rattle.rc_world.specs.Controls.{next_line};
 ghost use Rattle.rc_world.specs.Faults as spec;
 ghost use Rattle.rc_world.specs.Harm as harm;
@@ -72,7 +74,7 @@ impl<'a> World<'a> {
                 self.harms_buffer(thread, access_of(stmt))
                     || is_out_at(self.program, stmt)
                     || if self.controls.is_holder(thread) {
-                        self.harms_rings(stmt)
+                        self.harms_rings(thread, stmt)
                     } else {
                         is_ring_call(stmt)
                     }
@@ -95,13 +97,14 @@ impl<'a> World<'a> {
         }
     }
 
-    fn harms_rings(&self, stmt: Stmt) -> bool
-        ensures { result ≡ harm.harms_rings self.now stmt }
+    fn harms_rings(&self, thread: u32, stmt: Stmt) -> bool
+        ensures { result ≡ harm.harms_rings self.now thread stmt }
     {
         self.is_full_at(stmt)
             || self.is_ambiguous_at(stmt)
             || self.is_unknown_at(stmt)
             || is_raw_at(self.slot, stmt)
+            || self.is_double_at(thread, stmt)
     }
 
     // The first fault of these kinds.
@@ -185,6 +188,9 @@ impl<'a> World<'a> {
             FaultKind::NoLock => is_ring_call(stmt) && !self.controls.is_holder(thread),
             FaultKind::RawEntry => self.controls.is_holder(thread) && is_raw_at(self.slot, stmt),
             FaultKind::OutOfBuffer => is_out_at(self.program, stmt),
+            FaultKind::DoublePut => {
+                self.controls.is_holder(thread) && self.is_double_at(thread, stmt)
+            }
         }
     }
 
@@ -265,6 +271,26 @@ impl<'a> World<'a> {
         match stmt {
             Stmt::Do(Op::CqeSeen) => !(self.controls.peeked() && self.front_is_one()),
             _ => false,
+        }
+    }
+
+    fn is_double_at(&self, thread: u32, stmt: Stmt) -> bool
+        ensures { result ≡ spec.is_double_at self.now thread stmt }
+    {
+        match stmt {
+            Stmt::Put(k) => self.overfills(thread, k),
+            _ => false,
+        }
+    }
+
+    // Whether the pool has no room for these items of a thread. A number that names no list says no items.
+    fn overfills(&self, thread: u32, k: usize) -> bool
+        ensures { result ≡ overfills self.now.program self.now.controls.pool (items_at (lists_of self.now.program thread) k) }
+    {
+        let pool = self.controls.pool();
+        match self.program.lists_of(thread as usize).get(k) {
+            Some(items) => pool.is_overfilled_by(self.program, items),
+            None => self.program.completion_entries() < pool.credits(),
         }
     }
 

@@ -1,4 +1,4 @@
-//! Texts of version 2: what a loop holds under a flag.
+//! Texts from version 2 on: what a loop holds under a flag.
 
 use super::*;
 use rc_lang::program::Share;
@@ -20,13 +20,14 @@ fn pump(rt: &impl AllocGlobal, first: &str, outer: &str, inner: &str) -> Result<
 }
 
 #[test]
-fn pump_is_read_in_the_second_version_alone(rt: HostRuntime) -> Result<(), Fail> {
+fn pump_is_read_from_the_second_version_on(rt: HostRuntime) -> Result<(), Fail> {
     let when = "loop keeps when h t:7 c:1 {\n";
     let queue = "loop keeps q:1 {\n";
     for (first, outer, inner, fault) in [
         ("ringcheck 2\n", when, queue, (0, 0)),
         ("ringcheck 1\n", when, queue, (6, 3)),
-        ("ringcheck 3\n", when, queue, (1, 2)),
+        ("ringcheck 3\n", when, queue, (0, 0)),
+        ("ringcheck 4\n", when, queue, (1, 2)),
         ("ringcheck 2\n", when, "loop keeps q:1 when g {\n", (12, 11)),
         ("ringcheck 2\n", when, "loop keeps q:1 when h {\n", (0, 0)),
         (

@@ -1,13 +1,14 @@
-use Rattle.std.proofs.Common.{arith}
-use Rattle.rc_lang.specs.declared.lines.Stmt.TheVariants.{Loop, EndLoop}
+use Rattle.std.proofs.Common.{ap, arith, map}
+use Rattle.rc_lang.specs.declared.lines.Stmt.TheVariants.{Put, Loop, EndLoop}
+use Rattle.rc_lang.specs.Parts.{view_items}
 use Rattle.rc_verify.proofs.Arming.{case_declared, case_of, case_some, case_turns, none_of, none_some, none_turns, other_of, other_some, other_turns}
-use Rattle.rc_verify.proofs.Branching.{else_some, else_turns, end_alike, end_of, end_some, end_turns, few_here, if_turns, room_here}
+use Rattle.rc_verify.proofs.Branching.{else_some, else_turns, end_alike, end_of, end_some, end_turns, few_here, if_turns, may_test, room_here}
 use Rattle.rc_verify.proofs.Breaking.{break_locked, break_some, break_turns, may_leave}
 use Rattle.rc_verify.proofs.Ending.{arm_alike, arm_end_turns, arm_of, arm_some, end_peek_some, end_peek_turns}
 use Rattle.rc_verify.proofs.Looping.{end_loop_of, end_loop_some, end_loop_turns, few_loops_here, loop_list, loop_room, loop_turns}
 use Rattle.rc_verify.proofs.Peeking.{peek_turns}
 use Rattle.rc_verify.proofs.Placing.{at, items_here, loop_there}
-use Rattle.rc_verify.proofs.Plainly.{do_turns, lock_turns, locked_here, release_turns, sides_here, small_here, unlocked_here}
+use Rattle.rc_verify.proofs.Plainly.{do_turns, lock_turns, locked_here, put_turns, release_turns, sides_here, small_here, unlocked_here}
 use Rattle.rc_verify.proofs.walk.pass.Goals as goal
 
 pub transfer-requires-clause-small : goal.transfer-requires-clause-small
@@ -15,6 +16,12 @@ transfer-requires-clause-small c = small_here _ _ _ _ c.requires.reaches _ c.req
 
 pub returns-in-Do : goal.returns-in-Do
 returns-in-Do c = do_turns _ _ _ _ c.requires.reaches c.in-Do.field-0 c.transfer.new.state c.transfer.result (at c.requires.stands c.in-Do.is) (c.transfer.ensures c.in-Do.field-0 c.in-Do.is)
+
+pub index-requires : goal.index-requires
+index-requires c = omega (arith, c.args.thread.now.lists.ok.0, loop_there c.args.thread.now.lists.items c.in-Put.k (c.requires.reaches.thread.resolved c.args.place (Put c.in-Put.k) (at c.requires.stands c.in-Put.is)))
+
+pub returns-in-Put : goal.returns-in-Put
+returns-in-Put c = put_turns _ _ _ _ c.requires.reaches c.in-Put.k _ c.put.new.self c.put.result (at c.requires.stands c.in-Put.is) (items_here c.args.thread.now.lists.items c.in-Put.k c.index.result.now (c.requires.reaches.thread.resolved c.args.place (Put c.in-Put.k) (at c.requires.stands c.in-Put.is)) c.index.ensures) c.put.ensures
 
 pub enter_lock-requires : goal.enter_lock-requires
 enter_lock-requires c = unlocked_here _ _ _ _ c.requires.reaches (at c.requires.stands c.in-Lock.is)
@@ -28,11 +35,17 @@ release-requires c = locked_here _ _ _ _ c.requires.reaches c.in-EndLock.field-0
 pub returns-in-EndLock : goal.returns-in-EndLock
 returns-in-EndLock c = release_turns _ _ _ _ c.requires.reaches c.in-EndLock.field-0 c.release.new.self c.release.result (at c.requires.stands c.in-EndLock.is) c.release.ensures
 
-pub enter_if-requires : goal.enter_if-requires
-enter_if-requires c = room_here _ _ _ _ c.requires.reaches c.in-If.test (at c.requires.stands c.in-If.is)
+pub enter_if-requires-clause-test : goal.enter_if-requires-clause-test
+enter_if-requires-clause-test c = may_test _ _ _ _ c.requires.reaches c.in-If.test _ (at c.requires.stands c.in-If.is) (ap (map view_items) c.deref.ensures.value)
+
+pub enter_if-requires-clause-few : goal.enter_if-requires-clause-few
+enter_if-requires-clause-few c = room_here _ _ _ _ c.requires.reaches c.in-If.test (at c.requires.stands c.in-If.is)
+
+pub enter_if-requires-clause-small : goal.enter_if-requires-clause-small
+enter_if-requires-clause-small c = small_here _ _ _ _ c.requires.reaches _ c.requires.stands
 
 pub returns-in-If : goal.returns-in-If
-returns-in-If c = if_turns _ _ _ _ c.requires.reaches c.in-If.test c.enter_if.new.state c.enter_if.new.branches c.enter_if.result (at c.requires.stands c.in-If.is) c.enter_if.ensures.gives c.enter_if.ensures.kept
+returns-in-If c = if_turns _ _ _ _ c.requires.reaches c.in-If.test _ c.enter_if.new.state c.enter_if.new.branches c.enter_if.result (at c.requires.stands c.in-If.is) (ap (map view_items) c.deref.ensures.value) c.enter_if.ensures.gives c.enter_if.ensures.kept
 
 pub turn-requires-clause-kept : goal.turn-requires-clause-kept
 turn-requires-clause-kept c = else_some _ _ _ _ c.requires.reaches c.in-Else.field-0 (at c.requires.stands c.in-Else.is)
@@ -109,17 +122,17 @@ close_peek-requires c = end_peek_some _ _ _ _ c.requires.reaches c.in-EndPeek.fi
 pub returns-in-EndPeek : goal.returns-in-EndPeek
 returns-in-EndPeek c = end_peek_turns _ _ _ _ c.requires.reaches c.in-EndPeek.field-0 c.close_peek.new.state c.close_peek.new.peek c.close_peek.result (at c.requires.stands c.in-EndPeek.is) c.close_peek.ensures.closes c.close_peek.ensures.none
 
-pub index-requires : goal.index-requires
-index-requires c = omega (arith, c.args.thread.now.lists.ok.0, loop_there c.args.thread.now.lists.items c.in-Loop.k (c.requires.reaches.thread.resolved c.args.place (Loop c.in-Loop.k) (at c.requires.stands c.in-Loop.is)))
+pub index-requires-in-Loop : goal.index-requires-in-Loop
+index-requires-in-Loop c = omega (arith, c.args.thread.now.lists.ok.0, loop_there c.args.thread.now.lists.items c.in-Loop.k (c.requires.reaches.thread.resolved c.args.place (Loop c.in-Loop.k) (at c.requires.stands c.in-Loop.is)))
 
 pub open_loop-requires-clause-few : goal.open_loop-requires-clause-few
 open_loop-requires-clause-few c = loop_room _ _ _ _ c.requires.reaches c.in-Loop.k (at c.requires.stands c.in-Loop.is)
 
 pub open_loop-requires-clause-list : goal.open_loop-requires-clause-list
-open_loop-requires-clause-list c = loop_list _ _ _ _ c.requires.reaches c.in-Loop.k _ (c.requires.reaches.thread.resolved c.args.place (Loop c.in-Loop.k) (at c.requires.stands c.in-Loop.is)) (items_here c.args.thread.now.lists.items c.in-Loop.k c.index.result.now (c.requires.reaches.thread.resolved c.args.place (Loop c.in-Loop.k) (at c.requires.stands c.in-Loop.is)) c.index.ensures)
+open_loop-requires-clause-list c = loop_list _ _ _ _ c.requires.reaches c.in-Loop.k _ (c.requires.reaches.thread.resolved c.args.place (Loop c.in-Loop.k) (at c.requires.stands c.in-Loop.is)) (items_here c.args.thread.now.lists.items c.in-Loop.k c.index-in-Loop.result.now (c.requires.reaches.thread.resolved c.args.place (Loop c.in-Loop.k) (at c.requires.stands c.in-Loop.is)) c.index-in-Loop.ensures)
 
 pub returns-in-Loop : goal.returns-in-Loop
-returns-in-Loop c = loop_turns _ _ _ _ c.requires.reaches c.in-Loop.k _ c.open_loop.new.state c.open_loop.new.loops c.open_loop.result (at c.requires.stands c.in-Loop.is) (items_here c.args.thread.now.lists.items c.in-Loop.k c.index.result.now (c.requires.reaches.thread.resolved c.args.place (Loop c.in-Loop.k) (at c.requires.stands c.in-Loop.is)) c.index.ensures) c.open_loop.ensures.gives c.open_loop.ensures.kept
+returns-in-Loop c = loop_turns _ _ _ _ c.requires.reaches c.in-Loop.k _ c.open_loop.new.state c.open_loop.new.loops c.open_loop.result (at c.requires.stands c.in-Loop.is) (items_here c.args.thread.now.lists.items c.in-Loop.k c.index-in-Loop.result.now (c.requires.reaches.thread.resolved c.args.place (Loop c.in-Loop.k) (at c.requires.stands c.in-Loop.is)) c.index-in-Loop.ensures) c.open_loop.ensures.gives c.open_loop.ensures.kept
 
 pub index-requires-in-EndLoop : goal.index-requires-in-EndLoop
 index-requires-in-EndLoop c = omega (arith, c.args.thread.now.lists.ok.0, loop_there c.args.thread.now.lists.items c.in-EndLoop.k (c.requires.reaches.thread.resolved c.args.place (EndLoop c.in-EndLoop.field-0 c.in-EndLoop.k) (at c.requires.stands c.in-EndLoop.is)))

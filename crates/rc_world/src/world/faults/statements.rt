@@ -77,12 +77,13 @@ pub(super) fn is_prepared(slot: Slot) -> bool
     }
 }
 
-// Whether a statement is a call on the ring.
+// Whether a statement is a call on the ring or the pool.
 pub(super) fn is_ring_call(stmt: Stmt) -> bool
     ensures { result ≡ spec.is_ring_call stmt }
 {
     match stmt {
         Stmt::Do(op) => is_ring_op(op),
+        Stmt::Put(_) => true,
         Stmt::If(test) => is_ring_test(test),
         Stmt::Peek(_) => true,
         _ => false,
@@ -112,6 +113,7 @@ fn is_ring_test(test: Test) -> bool
         Test::Compare(_, _, _) => false,
         Test::ReadyZero => true,
         Test::SpaceAtLeast(_) => true,
+        Test::Take(_) => true,
     }
 }
 

@@ -64,5 +64,5 @@ returns-in-Front c =
     let set = c.set-in-Front.ensures ∙ ap (with_variable old i c.args.x) (to_z-of_z w64 c.from.result fits ∙ plain) in
     ap (λ a. made P old i (peeks P old i (standing_at old i) c.args.x a)) c.in-Front.is
     ∙ set_and_gone P old _ c.go-in-Front.new.self i _ _ c.args.x cqe.res old.holder true (Peeked cqe) c.requires.here.exists
-    (ap (λ (k : Controls). record { threads = k.threads; holder = k.holder; peeked = true }) (c.self.view_is ∙ set)) c.go-in-Front.ensures
+    (ap (λ (k : Controls). record { threads = k.threads; holder = k.holder; peeked = true; pool = k.pool }) (c.self.view_is ∙ set)) c.go-in-Front.ensures
     (ap (λ n. n + 1) c.arm_for-arm.ensures.value ∙ sym place)

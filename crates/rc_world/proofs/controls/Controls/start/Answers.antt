@@ -2,6 +2,7 @@ use Rattle.std.proofs.Common.{◌≡◌, List, [], ◌∷◌, length, map, pos, 
 use Rattle.rc_lang.specs.declared.program.Thread.{Thread as ThreadPart}
 use Rattle.rc_lang.specs.Parts.{view_thread}
 use Rattle.rc_lang.specs.Program.{Thread}
+use Rattle.rc_split.specs.Pools.{Pool, empty_pool}
 use Rattle.rc_world.specs.declared.controls.Control.{Control}
 use Rattle.rc_world.specs.Controls.{Controls, Standing}
 use Rattle.rc_world.specs.Parts.{view_control}
@@ -14,6 +15,6 @@ begun x (part ∷ parts) = ap (λ ts. view_control x ∷ ts) (begun x parts)
 pub returns-clause-start : goal.returns-clause-start
 returns-clause-start c =
     let first : Control = record { place = 0; variables = replicate 64 (pos 0) } in
-    let controls : List Standing → Controls = λ ts. record { threads = ts; holder = None; peeked = false } in
+    let controls : List Standing → Pool → Controls = λ ts pool. record { threads = ts; holder = None; peeked = false; pool = pool } in
     let e = ap (map view_control) c.in_ok-first_places.ensures ∙ begun first c.threads.result.now ∙ ap (map (λ (t : Thread). view_control first)) c.threads.ensures.value in
-    ap controls e
+    ap (controls _) c.empty.ensures ∙ ap (λ ts. controls ts empty_pool) e

@@ -1,0 +1,174 @@
+//! The pool: what threads put where each of them can take it, under the lock.
+
+ghost use Rattle.std.specs.Prelude.{◌≡◌, ◌+◌, ◌^◌, ◌<◌, ◌⊎◌, ℕ, false, nat_le, nat_lt, slice_index, All};
+ghost use Rattle.std.specs.List.{list_all, list_any};
+ghost use Rattle.rc_lang.specs.Parts.{view_items};
+ghost use Rattle.rc_lang.specs.declared.program.Share as given;
+ghost use Rattle.rc_lang.specs.Program.{IsItems, shares_at, token_place};
+ghost use Rattle.rc_split.specs.Bags.{ShareOf, bag_of, shares_alone};
+ghost use Rattle.rc_split.specs.Holdings.{mark_at};
+ghost use Rattle.rc_split.specs.Pools as spec;
+
+use crate::rows;
+use rc_lang::program::{Items, Program, Share};
+use std::marker::Model;
+
+/// What is in the pool: shares of buffers, tokens and credits. In a program of liburing it is a table of flags, which a
+/// thread sets and tests while it holds the lock.
+#[derive(Drop)]
+pub struct Pool {
+    shares: [u32; 64],
+    marks: [bool; 256],
+    credits: u32,
+}
+
+impl Model for Pool {
+    ghost use Rattle.rc_split.specs.Pools as spec;
+
+    ghost Value = { spec.Pool };
+
+    ghost view = { λ p. record { shares = p.shares; marks = p.marks; credits = p.credits } };
+}
+
+impl Pool {
+    /// A pool with nothing in it.
+    pub fn empty() -> Pool
+        ensures { result ≡ spec.empty_pool }
+    {
+        Pool {
+            shares: [0; 64],
+            marks: [false; 256],
+            credits: 0,
+        }
+    }
+
+    /// How many credits are in the pool.
+    pub fn credits(&self) -> u32
+        ensures { result ≡ self.now.credits }
+    {
+        self.credits
+    }
+
+    /// Whether the pool has at least the items.
+    pub fn includes(&self, program: &Program, items: &Items) -> bool
+        ensures { result ≡ spec.includes program.now self.now (view_items items.now) }
+    {
+        let shares = self.has_shares(&items.shares);
+        let tokens = self.has_tokens(program, &items.tokens);
+        shares && tokens && items.credits <= self.credits
+    }
+
+    /// Whether the pool has no room for the items: with them it would have more shares of a buffer than there are, a
+    /// token twice, or more credits than the completion ring has entries.
+    pub fn is_overfilled_by(&self, program: &Program, items: &Items) -> bool
+        ensures { result ≡ spec.overfills program.now self.now (view_items items.now) }
+    {
+        let shares = self.has_too_many(program, &items.shares);
+        let tokens = self.has_some(program, &items.tokens);
+        let credits = u64::from(self.credits) + u64::from(items.credits);
+        shares || tokens || u64::from(program.completion_entries()) < credits
+    }
+
+    /// Puts the items into the pool, which has room for them. They are items of the program.
+    pub fn put(&mut self, program: &Program, items: &Items)
+        requires made { IsItems program.now (view_items items.now) }
+        requires room { spec.overfills program.now self.old (view_items items.now) ≡ false }
+        ensures { self.new ≡ spec.with_items program.now self.old (view_items items.now) }
+    {
+        // Any of a program's readers says that it was made, and so how many shares and credits there are at most.
+        let _ = program.entries();
+        self.credits += items.credits;
+        self.add_shares(&items.shares);
+        self.mark_all(program, &items.tokens, true);
+    }
+
+    /// Takes the items out of the pool, as many of them as are there.
+    pub fn take(&mut self, program: &Program, items: &Items)
+        ensures { self.new ≡ spec.without_items program.now self.old (view_items items.now) }
+    {
+        self.lessen_shares(&items.shares);
+        self.mark_all(program, &items.tokens, false);
+        self.credits = self.credits.saturating_sub(items.credits);
+    }
+
+    fn shares_of(&self, buffer: usize) -> u32
+        ensures { result ≡ slice_index self.now.shares buffer }
+    {
+        self.shares.get(buffer).copied().unwrap_or(0)
+    }
+
+    fn has_shares(&self, shares: &[Share]) -> bool
+        ensures { result ≡ list_all (λ (s : given.Share). nat_le s.count (slice_index self.now.shares s.buffer)) shares.now }
+    {
+        shares
+            .iter()
+            .all(|share| share.count <= self.shares_of(share.buffer))
+    }
+
+    fn has_too_many(&self, program: &Program, shares: &[Share]) -> bool
+        ensures { result ≡ list_any (λ (s : given.Share). nat_lt (shares_at program.now.buffers s.buffer) (slice_index self.now.shares s.buffer + s.count)) shares.now }
+    {
+        shares.iter().any(|share| {
+            let shares = u64::from(self.shares_of(share.buffer)) + u64::from(share.count);
+            u64::from(program.shares_at(share.buffer)) < shares
+        })
+    }
+
+    fn has_token(&self, program: &Program, user_data: u64) -> bool
+        ensures { result ≡ nat_le 1 (mark_at self.now.marks (token_place program.now.tokens user_data)) }
+    {
+        match program.token_place(user_data) {
+            Some(place) => self.marks.get(place).copied().unwrap_or(false),
+            None => false,
+        }
+    }
+
+    fn has_tokens(&self, program: &Program, tokens: &[u64]) -> bool
+        ensures { result ≡ list_all (λ u. nat_le 1 (mark_at self.now.marks (token_place program.now.tokens u))) tokens.now }
+    {
+        tokens.iter().all(|token| self.has_token(program, *token))
+    }
+
+    fn has_some(&self, program: &Program, tokens: &[u64]) -> bool
+        ensures { result ≡ list_any (λ u. nat_le 1 (mark_at self.now.marks (token_place program.now.tokens u))) tokens.now }
+    {
+        tokens.iter().any(|token| self.has_token(program, *token))
+    }
+
+    /// Adds these shares, of buffers that have a place here. No count of a buffer that they name overflows.
+    fn add_shares(&mut self, shares: &[Share])
+        requires there { All (λ (s : given.Share). s.buffer < 64) shares.now }
+        requires small { (b : ℕ) → (bag_of (shares_alone shares.now) (ShareOf b) ≡ 0) ⊎ (slice_index self.old.shares b + bag_of (shares_alone shares.now) (ShareOf b) < 2 ^ 32) }
+        ensures { self.new ≡ record { shares = spec.more_shares self.old.shares shares.now; marks = self.old.marks; credits = self.old.credits } }
+    {
+        for share in shares {
+            let there = self.shares_of(share.buffer);
+            self.shares[share.buffer] = there + share.count;
+        }
+    }
+
+    fn lessen_shares(&mut self, shares: &[Share])
+        ensures { self.new ≡ record { shares = spec.fewer_shares self.old.shares shares.now; marks = self.old.marks; credits = self.old.credits } }
+    {
+        for share in shares {
+            rows::lower(&mut self.shares, share.buffer, share.count);
+        }
+    }
+
+    fn mark_all(&mut self, program: &Program, tokens: &[u64], is: bool)
+        ensures { self.new ≡ record { shares = self.old.shares; marks = spec.with_marks program.now is self.old.marks tokens.now; credits = self.old.credits } }
+    {
+        for token in tokens {
+            self.mark(program, *token, is);
+        }
+    }
+
+    /// Marks a token as there, or not.
+    fn mark(&mut self, program: &Program, user_data: u64, is: bool)
+        ensures { self.new ≡ record { shares = self.old.shares; marks = spec.with_mark is self.old.marks (token_place program.now.tokens user_data); credits = self.old.credits } }
+    {
+        if let Some(place) = program.token_place(user_data) {
+            self.marks[place] = is;
+        }
+    }
+}
