@@ -1,14 +1,13 @@
 -- Items of headers and loops can be held.
-use Rattle.std.proofs.Common.{◌≡◌, ℕ, suc, ◌+◌, ◌≤◌, ◌<◌, ◌^◌, Bool, true, false, cond, nat_eq, List, [], ◌∷◌, ◌++◌, length, map, sum_by, count_by, refl, sym, ap, subst, ◌∙◌, arith, get_or}
+use Rattle.std.proofs.Common.{◌≡◌, ℕ, ◌≤◌, ◌<◌, ◌^◌, Bool, true, false, cond, nat_eq, List, ◌++◌, inl, inr, length, map, sum_by, count_by, sym, ap, subst, ◌∙◌, arith, get_or}
 use Rattle.std.specs.Prelude.{All}
-use Rattle.std.specs.List.{IsDistinct, AllByRecursion}
-use Rattle.std.proofs.lemmas.Bool.{eqb-true, eqb-false}
-use Rattle.std.proofs.lemmas.List.Sums.{sum_by-append, sum_by-cons}
-use Rattle.std.proofs.lemmas.Map.Keys.{IsDistinct-head, IsDistinct-tail}
+use Rattle.std.specs.List.{IsDistinct}
+use Rattle.std.proofs.lemmas.List.Sums.{sum_by-append}
 use Rattle.rc_lang.specs.declared.program.Share.{Share}
 use Rattle.rc_lang.specs.Program.{Program, Items, IsItems, IsList, besides}
 use Rattle.rc_split.specs.Bags.{Part, ShareOf, TokenOf, Credit, bag_of, bag_on}
 use Rattle.rc_split.specs.Holdings.{AreDeclared, AreDeclaredOn}
+use Rattle.rc_split.proofs.Named.{no_share, share_named, token_named}
 use Rattle.std.specs.Prelude.{Some, slice_get}
 use Rattle.std.proofs.lemmas.List.{get_or-map, length-map}
 use Rattle.std.proofs.lemmas.Option.{slice_get-get_or}
@@ -21,37 +20,17 @@ names_declared P items h = record { buffers = h.buffers; tokens = h.tokens }
 
 -- ---- each once
 
-pub none_else : (x u : ℕ) (xs : List ℕ) → nat_eq x u ≡ true → AllByRecursion (λ y. nat_eq x y ≡ false) xs → count_by (λ v. nat_eq v u) xs ≡ 0
-none_else x u [] e h = refl
-none_else x u (y ∷ ys) e h = sum_by-cons (λ v. cond (nat_eq v u) 1 0) y ys ∙ go (none_else x u ys e h.1) (nat_eq y u) refl
-  where
-    go : count_by (λ v. nat_eq v u) ys ≡ 0 → (b : Bool) → nat_eq y u ≡ b → cond b 1 0 + count_by (λ v. nat_eq v u) ys ≡ 0
-    go n true f = absurd (eqb-false x y h.0 (eqb-true x u e ∙ sym (eqb-true y u f)))
-    go n false f = omega (arith, n)
-
 pub count_once : (u : ℕ) (xs : List ℕ) → IsDistinct nat_eq xs → count_by (λ v. nat_eq v u) xs ≤ 1
-count_once u [] h = omega arith
-count_once u (x ∷ xs) h = subst (λ n. n ≤ 1) (sym (sum_by-cons (λ v. cond (nat_eq v u) 1 0) x xs)) (go (count_once u xs (IsDistinct-tail nat_eq x xs h)) (nat_eq x u) refl)
-  where
-    go : count_by (λ v. nat_eq v u) xs ≤ 1 → (b : Bool) → nat_eq x u ≡ b → cond b 1 0 + count_by (λ v. nat_eq v u) xs ≤ 1
-    go n true e = omega (arith, none_else x u xs e (IsDistinct-head nat_eq x xs h))
-    go n false e = omega (arith, n)
-
-pub none_of : (x : Share) (b : ℕ) (xs : List Share) → nat_eq x.buffer b ≡ true → AllByRecursion (λ y. nat_eq x.buffer y ≡ false) (map (λ (s : Share). s.buffer) xs) → sum_by (λ (s : Share). cond (nat_eq s.buffer b) s.count 0) xs ≡ 0
-none_of x b [] e h = refl
-none_of x b (y ∷ ys) e h = sum_by-cons (λ (s : Share). cond (nat_eq s.buffer b) s.count 0) y ys ∙ go (none_of x b ys e h.1) (nat_eq y.buffer b) refl
-  where
-    go : sum_by (λ (s : Share). cond (nat_eq s.buffer b) s.count 0) ys ≡ 0 → (c : Bool) → nat_eq y.buffer b ≡ c → cond c y.count 0 + sum_by (λ (s : Share). cond (nat_eq s.buffer b) s.count 0) ys ≡ 0
-    go n true f = absurd (eqb-false x.buffer y.buffer h.0 (eqb-true x.buffer b e ∙ sym (eqb-true y.buffer b f)))
-    go n false f = omega (arith, n)
+count_once u xs h = elim (token_named xs u h) [
+  | inl n ↦ omega (arith, n)
+  | inr s ↦ omega (arith, s.once)
+]
 
 pub few_of : (b : ℕ) (xs : List Share) → IsDistinct nat_eq (map (λ (s : Share). s.buffer) xs) → All (λ (s : Share). (1 ≤ s.count) × (s.count ≤ 16)) xs → sum_by (λ (s : Share). cond (nat_eq s.buffer b) s.count 0) xs ≤ 16
-few_of b [] d h = omega arith
-few_of b (x ∷ xs) d h = subst (λ n. n ≤ 16) (sym (sum_by-cons (λ (s : Share). cond (nat_eq s.buffer b) s.count 0) x xs)) (go (few_of b xs (IsDistinct-tail nat_eq x.buffer (map (λ (s : Share). s.buffer) xs) d) (λ k y lt. h (suc k) y (omega (arith, lt)))) (nat_eq x.buffer b) refl)
-  where
-    go : sum_by (λ (s : Share). cond (nat_eq s.buffer b) s.count 0) xs ≤ 16 → (c : Bool) → nat_eq x.buffer b ≡ c → cond c x.count 0 + sum_by (λ (s : Share). cond (nat_eq s.buffer b) s.count 0) xs ≤ 16
-    go n true e = let l : (1 ≤ x.count) × (x.count ≤ 16) = h 0 x (omega arith) in omega (arith, none_of x b xs e (IsDistinct-head nat_eq x.buffer (map (λ (s : Share). s.buffer) xs) d), l.1)
-    go n false e = omega (arith, n)
+few_of b xs d h = elim (share_named xs b d) [
+  | inl n ↦ omega (arith, n)
+  | inr s ↦ let l : (1 ≤ (get_or xs s.place no_share).count) × ((get_or xs s.place no_share).count ≤ 16) = h s.place no_share s.within in omega (arith, s.count, l.1)
+]
 
 pub once : (P : Program) (items : Items) (u : ℕ) → IsItems P items → bag_of items (TokenOf u) ≤ 1
 once P items u h = count_once u items.tokens h.distinct_tokens

@@ -1,16 +1,15 @@
 -- What the lines of tokens name, and what statements leave.
-use Rattle.std.proofs.Common.{◌≡◌, ℕ, ◌+◌, ◌≤◌, Bool, true, false, cond, nat_eq, length, Option, Some, None, get_or, ltb, arith, refl, ap, subst, sym, ◌∙◌}
+use Rattle.std.proofs.Common.{◌≡◌, ℕ, ◌+◌, ◌≤◌, Bool, true, false, cond, nat_eq, Option, Some, None, arith, refl, ap, subst, sym, ◌∙◌}
 use Rattle.std.specs.Prelude.{slice_get}
-use Rattle.std.proofs.lemmas.Bool.{ltb-true, ltb-false}
-use Rattle.std.proofs.lemmas.List.{get_or_past}
 use Rattle.std.proofs.lemmas.Option.{get_or_from_slice_get, slice_get_within}
 use Rattle.rc_lang.specs.declared.lines.Op.{Op}
 use Rattle.rc_lang.specs.declared.lines.Op.TheVariants as ops
 use Rattle.rc_lang.specs.declared.program.Token.{Token}
 use Rattle.rc_lang.specs.declared.program.TokenKind.{TokenKind}
 use Rattle.rc_lang.specs.declared.program.TokenKind.TheVariants.{Read, Write, Fsync, Nop}
-use Rattle.rc_lang.specs.Program.{Buffer, Program, IsProgram, IsTokenKind, no_buffer, shares_at, token_place}
+use Rattle.rc_lang.specs.Program.{Program, IsProgram, IsTokenKind, token_place}
 use Rattle.rc_split.specs.Bags.{Part, ShareOf, TokenOf, Credit, token_bag, credits_bag}
+use Rattle.rc_split.proofs.Named.{few_shares}
 use Rattle.rc_rules.specs.declared.mode.Inside.{Inside}
 use Rattle.rc_rules.specs.declared.mode.Mode.{Mode}
 use Rattle.rc_rules.specs.declared.mode.Mode.TheVariants.{Unlocked, Locked}
@@ -19,13 +18,6 @@ use Rattle.rc_rules.specs.declared.mode.Peeked.TheVariants.{Unseen, Sees, SeesOt
 use Rattle.rc_rules.specs.Labels.{Label, Dead, Live}
 use Rattle.rc_rules.specs.Rules.{kind_in, kind_at, kind_of, kind_bag, line_bag, reaped, if_locked, op_effect}
 use Rattle.rc_rules.specs.States.{IsLine, is_locked}
-
-pub few_shares : (P : Program) (b : ℕ) → IsProgram P → shares_at P.buffers b ≤ 16
-few_shares P b h = go (ltb b (length P.buffers)) refl
-  where
-    go : (x : Bool) → ltb b (length P.buffers) ≡ x → shares_at P.buffers b ≤ 16
-    go true e = (h.buffers b no_buffer (ltb-true _ _ e)).shares.1
-    go false e = let f : get_or P.buffers b no_buffer ≡ no_buffer = get_or_past P.buffers b no_buffer (ltb-false _ _ e) in subst (λ (y : Buffer). y.shares ≤ 16) (sym f) (omega arith)
 
 is_line : (P : Program) (o : Option Token) (k : ℕ) → IsProgram P → slice_get P.tokens k ≡ o → IsLine P (kind_in o)
 is_line P None k h e = tt

@@ -6,7 +6,7 @@ use Rattle.rc_lang.specs.declared.program.Share.{Share}
 use Rattle.rc_lang.specs.Program.{Program, Items, IsItems, IsProgram, shares_at}
 use Rattle.rc_split.specs.Bags.{Part, ShareOf, TokenOf, Credit, bag_of, plus, IsWithin}
 use Rattle.rc_split.specs.Holdings.{Holding, bag, AreDeclared}
-use Rattle.rc_split.proofs.Named.{all_at, no_share, share_at, share_named, token_named}
+use Rattle.rc_split.proofs.Named.{all_at, few_shares, no_share, share_at, share_named, token_named}
 use Rattle.rc_split.proofs.PoolBags.{mark_most, one_token, tokens_in}
 use Rattle.rc_rules.specs.declared.mode.Mode.{Mode}
 use Rattle.rc_rules.specs.declared.mode.Mode.TheVariants.{Unlocked, Locked}
@@ -15,7 +15,6 @@ use Rattle.rc_rules.specs.declared.mode.Peeked.TheVariants.{Unseen, Sees, SeesOt
 use Rattle.rc_rules.specs.Labels.{WeakerMode}
 use Rattle.rc_rules.specs.Rules.{limit, fits, has_room, names_peeked, names_peeked_in, can_take}
 use Rattle.rc_rules.specs.States.{IsFreeIn, IsFreeFor}
-use Rattle.rc_rules.proofs.Lines.{few_shares}
 
 -- ---- tests of all of a list
 

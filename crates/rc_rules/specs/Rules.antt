@@ -187,7 +187,7 @@ abbrev pub names_peeked_in : List ℕ → Mode → Bool
 names_peeked_in tokens Unlocked = false
 names_peeked_in tokens (Locked i) = names_peeked tokens i.peeked
 
--- The pool may have the items: nobody else has them.
+-- The pool may have the items: neither the thread nor the request that is peeked has them, as far as they are known to.
 abbrev pub can_take : Program → (Part → ℕ) → Mode → Items → Bool
 can_take P bag m items = has_room P bag items && not (names_peeked_in items.tokens m)
 

@@ -246,13 +246,6 @@ impl<'a> State<'a> {
         }
     }
 
-    /// `put ITEMS`: the items are held, and then they aren't any more.
-    pub fn put(&mut self, items: &Items) -> Result<(), Cause>
-        ensures { spec.Gives self.old self.new result (rules.asks_both (spec.label_of self.old) (λ z bag m. rules.put_premises bag m (view_items items.now))) (λ z. rules.goes (spec.label_of self.old z) (λ bag m. rules.put_effect bag m (view_items items.now)) ∷ []) }
-    {
-        self.follow(Rule::Put(items))
-    }
-
     /// `lock {`: as many entries may be queued as may be left. The state is dead, or unlocked.
     pub fn enter_lock(&mut self) -> Result<(), Cause>
         requires { spec.OnBoth spec.IsUnlocked self.old }
@@ -306,17 +299,6 @@ impl<'a> State<'a> {
         ensures { spec.Gives self.old self.new result (rules.asks_both (spec.label_of self.old) (λ z bag m. rules.test_premises m (tests.SpaceAtLeast n))) (λ z. rules.goes (spec.label_of self.old z) (λ bag m. Live bag (rules.test_mode (spec.program_of self.old) (tests.SpaceAtLeast n) m)) ∷ []) }
     {
         self.follow(Rule::If(Test::SpaceAtLeast(n)))
-    }
-
-    /// The first branch of `if take ITEMS`: the items are held besides. A side that would then hold more than there is,
-    /// or the token that the peeked request owns, is dead there. They are items of the program, and no count is above
-    /// 2^19.
-    pub fn take(&mut self, items: &Items) -> Result<(), Cause>
-        requires made { IsItems (spec.program_of self.old) (view_items items.now) }
-        requires small { spec.OnBoth spec.IsSmall self.old }
-        ensures { spec.Gives self.old self.new result (rules.asks_both (spec.label_of self.old) (λ z bag m. rules.take_premises m)) (λ z. rules.goes (spec.label_of self.old z) (λ bag m. rules.take_effect (spec.program_of self.old) bag m (view_items items.now)) ∷ []) }
-    {
-        self.follow(Rule::Take(items))
     }
 
     /// Whether each side holds what a loop's items say of it; the cause says whether at the loop's top or at its end.
@@ -406,6 +388,7 @@ impl<'a> State<'a> {
 
 #[cfg(test)]
 mod flag_tests;
+mod pool;
 #[cfg(test)]
 mod pool_tests;
 #[cfg(test)]

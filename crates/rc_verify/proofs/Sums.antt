@@ -1,11 +1,10 @@
 -- A header more.
-use Rattle.std.proofs.Common.{◌≡◌, ℕ, ◌+◌, ◌<◌, ◌≤◌, Bool, true, false, cond, nat_eq, List, [], ◌∷◌, ◌++◌, length, map, take, Some, sum_by, count_by, refl, sym, ap, subst, ◌∙◌, arith}
+use Rattle.std.proofs.Common.{◌≡◌, ℕ, ◌+◌, ◌<◌, ◌≤◌, true, false, cond, nat_eq, List, [], ◌∷◌, ◌++◌, inl, inr, get_or, length, map, take, Some, sum_by, count_by, refl, sym, ap, subst, ◌∙◌, arith}
 use Rattle.std.specs.Prelude.{slice_get, slice_index_or}
 use Rattle.std.specs.List.{IsDistinct, list_all}
-use Rattle.std.proofs.lemmas.Bool.{and_from, and_parts, eq-eqb, eqb-true, le-leb, leb-true}
+use Rattle.std.proofs.lemmas.Bool.{and_from, eq-eqb, eqb-true, le-leb, leb-true}
 use Rattle.std.proofs.lemmas.List.{take-map}
 use Rattle.std.proofs.lemmas.List.Sums.{sum_by-cons}
-use Rattle.std.proofs.lemmas.Map.Keys.{IsDistinct-head, IsDistinct-tail}
 use Rattle.std.proofs.Math.Numerals.{add-one}
 use Rattle.rc_lang.specs.declared.program.Share.{Share}
 use Rattle.rc_lang.specs.declared.program.Thread.{Thread as ThreadPart}
@@ -15,8 +14,8 @@ use Rattle.rc_split.specs.Bags.{Part, ShareOf, TokenOf, Credit, bag_of, IsWithin
 use Rattle.rc_rules.specs.Labellings.{headers_bag, shares_of, tokens_of, credits_of, header_premises}
 use Rattle.rc_rules.specs.Premises.{Meets, FailsFirst}
 use Rattle.rc_rules.specs.Rules.{limit}
-use Rattle.rc_rules.proofs.Headers.{none_of, none_else, thread_at}
-use Rattle.rc_rules.proofs.Lines.{few_shares}
+use Rattle.rc_split.proofs.Named.{all_at, few_shares, no_share, share_named, token_named}
+use Rattle.rc_rules.proofs.Headers.{thread_at}
 use Rattle.rc_verify.proofs.Strongest.{take_suc_at}
 use Rattle.rc_verify.specs.Headers.{share_fits, token_fits}
 
@@ -41,18 +40,14 @@ share_sum : (b : ℕ) (x : Share) (xs : List Share) → sum_by (λ (s : Share). 
 share_sum b x xs = sum_by-cons (λ (s : Share). cond (nat_eq s.buffer b) s.count 0) x xs
 
 shares_fit_in : (P : Program) (ts : List Thread) (b : ℕ) (xs : List Share) → IsDistinct nat_eq (map (λ (s : Share). s.buffer) xs) → list_all (share_fits P ts) xs ≡ true → headers_bag ts (ShareOf b) ≤ shares_at P.buffers b → headers_bag ts (ShareOf b) + sum_by (λ (s : Share). cond (nat_eq s.buffer b) s.count 0) xs ≤ shares_at P.buffers b
-shares_fit_in P ts b [] d f l = omega (arith, l)
-shares_fit_in P ts b (x ∷ xs) d f l = go (shares_fit_in P ts b xs (IsDistinct-tail nat_eq x.buffer (map (λ (s : Share). s.buffer) xs) d) (and_parts (share_fits P ts x) (list_all (share_fits P ts) xs) f).1 l) (nat_eq x.buffer b) refl
-  where
-    fits : headers_bag ts (ShareOf x.buffer) + x.count ≤ shares_at P.buffers x.buffer
-    fits = leb-true _ _ (and_parts (share_fits P ts x) (list_all (share_fits P ts) xs) f).0
-
-    go : headers_bag ts (ShareOf b) + sum_by (λ (s : Share). cond (nat_eq s.buffer b) s.count 0) xs ≤ shares_at P.buffers b → (c : Bool) → nat_eq x.buffer b ≡ c → headers_bag ts (ShareOf b) + sum_by (λ (s : Share). cond (nat_eq s.buffer b) s.count 0) (x ∷ xs) ≤ shares_at P.buffers b
-    go rest true e =
-        let n : sum_by (λ (s : Share). cond (nat_eq s.buffer b) s.count 0) xs ≡ 0 = none_of x b xs e (IsDistinct-head nat_eq x.buffer (map (λ (s : Share). s.buffer) xs) d) in
-        let g : headers_bag ts (ShareOf b) + x.count ≤ shares_at P.buffers b = subst (λ c. headers_bag ts (ShareOf c) + x.count ≤ shares_at P.buffers c) (eqb-true x.buffer b e) fits in
-        rw (share_sum b x xs, e) (omega (arith, n, g))
-    go rest false e = rw (share_sum b x xs, e) (omega (arith, rest))
+shares_fit_in P ts b xs d f l = elim (share_named xs b d) [
+  | inl n ↦ omega (arith, l, n)
+  | inr s ↦
+      let share = get_or xs s.place no_share in
+      let fits : headers_bag ts (ShareOf share.buffer) + share.count ≤ shares_at P.buffers share.buffer = leb-true _ _ (all_at (share_fits P ts) xs s.place no_share f s.within) in
+      let g : headers_bag ts (ShareOf b) + share.count ≤ shares_at P.buffers b = subst (λ c. headers_bag ts (ShareOf c) + share.count ≤ shares_at P.buffers c) s.buffer fits in
+      omega (arith, g, s.count)
+]
 
 shares_within_fit : (P : Program) (ts : List Thread) (xs : List Share) → ((b : ℕ) → headers_bag ts (ShareOf b) + sum_by (λ (s : Share). cond (nat_eq s.buffer b) s.count 0) xs ≤ shares_at P.buffers b) → list_all (share_fits P ts) xs ≡ true
 shares_within_fit P ts [] h = refl
@@ -70,18 +65,13 @@ token_sum : (u x : ℕ) (xs : List ℕ) → count_by (λ v. nat_eq v u) (x ∷ x
 token_sum u x xs = sum_by-cons (λ v. cond (nat_eq v u) 1 0) x xs
 
 tokens_fit_in : (ts : List Thread) (u : ℕ) (xs : List ℕ) → IsDistinct nat_eq xs → list_all (token_fits ts) xs ≡ true → headers_bag ts (TokenOf u) ≤ 1 → headers_bag ts (TokenOf u) + count_by (λ v. nat_eq v u) xs ≤ 1
-tokens_fit_in ts u [] d f l = omega (arith, l)
-tokens_fit_in ts u (x ∷ xs) d f l = go (tokens_fit_in ts u xs (IsDistinct-tail nat_eq x xs d) (and_parts (token_fits ts x) (list_all (token_fits ts) xs) f).1 l) (nat_eq x u) refl
-  where
-    fits : headers_bag ts (TokenOf x) ≡ 0
-    fits = eqb-true _ _ (and_parts (token_fits ts x) (list_all (token_fits ts) xs) f).0
-
-    go : headers_bag ts (TokenOf u) + count_by (λ v. nat_eq v u) xs ≤ 1 → (c : Bool) → nat_eq x u ≡ c → headers_bag ts (TokenOf u) + count_by (λ v. nat_eq v u) (x ∷ xs) ≤ 1
-    go rest true e =
-        let n : count_by (λ v. nat_eq v u) xs ≡ 0 = none_else x u xs e (IsDistinct-head nat_eq x xs d) in
-        let g : headers_bag ts (TokenOf u) ≡ 0 = subst (λ c. headers_bag ts (TokenOf c) ≡ 0) (eqb-true x u e) fits in
-        rw (token_sum u x xs, e) (omega (arith, n, g))
-    go rest false e = rw (token_sum u x xs, e) (omega (arith, rest))
+tokens_fit_in ts u xs d f l = elim (token_named xs u d) [
+  | inl n ↦ omega (arith, l, n)
+  | inr s ↦
+      let fits : headers_bag ts (TokenOf (get_or xs s.place 0)) ≡ 0 = eqb-true _ _ (all_at (token_fits ts) xs s.place 0 f s.within) in
+      let g : headers_bag ts (TokenOf u) ≡ 0 = subst (λ c. headers_bag ts (TokenOf c) ≡ 0) s.token fits in
+      omega (arith, g, s.once)
+]
 
 tokens_within_fit : (ts : List Thread) (xs : List ℕ) → ((u : ℕ) → headers_bag ts (TokenOf u) + count_by (λ v. nat_eq v u) xs ≤ 1) → list_all (token_fits ts) xs ≡ true
 tokens_within_fit ts [] h = refl

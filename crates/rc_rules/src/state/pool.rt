@@ -1,0 +1,32 @@
+//! The rules of the pool, on each side of a state.
+
+ghost use Rattle.std.specs.Prelude.{◌∷◌, []};
+ghost use Rattle.rc_lang.specs.Parts.{view_items};
+ghost use Rattle.rc_lang.specs.Program.{IsItems};
+ghost use Rattle.rc_rules.specs.Rules as rules;
+ghost use Rattle.rc_rules.specs.States as spec;
+
+use super::State;
+use crate::cause::Cause;
+use crate::rule::Rule;
+use rc_lang::program::Items;
+
+impl<'a> State<'a> {
+    /// `put ITEMS`: the items are held, and then they aren't any more.
+    pub fn put(&mut self, items: &Items) -> Result<(), Cause>
+        ensures { spec.Gives self.old self.new result (rules.asks_both (spec.label_of self.old) (λ z bag m. rules.put_premises bag m (view_items items.now))) (λ z. rules.goes (spec.label_of self.old z) (λ bag m. rules.put_effect bag m (view_items items.now)) ∷ []) }
+    {
+        self.follow(Rule::Put(items))
+    }
+
+    /// The first branch of `if take ITEMS`: the items are held besides. A side that would then hold more than there is,
+    /// or the token that the peeked request owns, is dead there. They are items of the program, and no count is above
+    /// 2^19.
+    pub fn take(&mut self, items: &Items) -> Result<(), Cause>
+        requires made { IsItems (spec.program_of self.old) (view_items items.now) }
+        requires small { spec.OnBoth spec.IsSmall self.old }
+        ensures { spec.Gives self.old self.new result (rules.asks_both (spec.label_of self.old) (λ z bag m. rules.take_premises m)) (λ z. rules.goes (spec.label_of self.old z) (λ bag m. rules.take_effect (spec.program_of self.old) bag m (view_items items.now)) ∷ []) }
+    {
+        self.follow(Rule::Take(items))
+    }
+}
