@@ -180,6 +180,13 @@ impl Reader {
         self.pending.as_slice()
     }
 
+    /// What was read so far: before an error, what stands above the line that hasn't ended.
+    pub fn parts(&self) -> &Parts
+        ensures { view_sheet result.now ≡ self.now.sheet }
+    {
+        &self.parts
+    }
+
     /// What the text is that was fed: a program, or the first line that can't be read.
     pub fn finish(self) -> Result<Program, ReadFault>
         ensures reads { (bytes : List ℕ) → HasRead self bytes → IsAnswer bytes result }

@@ -51,7 +51,8 @@ pub fn begins_number(word: &[u8]) -> bool
     }
 }
 
-fn fits(part: Part, word: &[u8]) -> bool
+/// Whether a word stands in the place of a part: a name in one for a name, any word in one for a number.
+pub fn fits(part: Part, word: &[u8]) -> bool
     ensures { result ≡ spec.fits part word.now }
 {
     match part {

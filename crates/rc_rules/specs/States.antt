@@ -29,6 +29,11 @@ label_in (Some s) = Live (bag s.0) s.1
 abbrev pub side_label : Side → Label
 side_label s = label_in s.live
 
+-- how many of a part are held, which is nothing where nothing reaches
+abbrev pub held_at : Label → Part → ℕ
+held_at Dead p = 0
+held_at (Live bag m) p = bag p
+
 -- a side that holds this, where something reaches its point
 abbrev pub live_of : Holding → Option Mode → Option (Holding × Mode)
 live_of h None = None

@@ -15,5 +15,5 @@ mod ops;
 mod pool;
 mod premises;
 mod rule;
-mod side;
+pub mod side;
 pub mod state;

@@ -1,6 +1,6 @@
 //! One side of a state: what holds while the thread's flag is 0, or while it isn't.
 
-ghost use Rattle.std.specs.Prelude.{◌≡◌, ◌∷◌, [], None, true};
+ghost use Rattle.std.specs.Prelude.{◌≡◌, ◌∷◌, [], nat_le, None, true};
 ghost use Rattle.rc_lang.specs.Parts.{view_items};
 ghost use Rattle.rc_lang.specs.Program.{IsItems, IsList};
 ghost use Rattle.rc_rules.specs.Causes.{premise_number};
@@ -10,7 +10,7 @@ ghost use Rattle.rc_rules.specs.Premises.{Tests};
 ghost use Rattle.rc_rules.specs.Rules as rules;
 ghost use Rattle.rc_rules.specs.States as spec;
 ghost use Rattle.rc_rules.specs.declared.mode.Mode.TheVariants as modes;
-ghost use Rattle.rc_split.specs.Bags.{bag_on, bag_of};
+ghost use Rattle.rc_split.specs.Bags.{Credit, ShareOf, TokenOf, bag_on, bag_of};
 
 use crate::blocks;
 use crate::cause::Cause;
@@ -18,6 +18,7 @@ use crate::mode::Mode;
 use crate::rule::{Rule, follow};
 use rc_lang::program::{Items, Program};
 use rc_split::holding::Holding;
+use rc_split::part::Part;
 use std::marker::Model;
 
 /// What a thread holds, whether it has the lock, and then how many entries are queued at most, how far the open slot is
@@ -113,6 +114,36 @@ impl<'a> Side<'a> {
         ensures { result ≡ spec.mode_in self.now.live }
     {
         self.mode
+    }
+
+    /// How many shares of a buffer are held: none where nothing reaches the side.
+    pub fn shares(&self, buffer: usize) -> u32
+        ensures { result ≡ spec.held_at (spec.side_label self.now) (ShareOf buffer) }
+    {
+        match self.mode {
+            Some(_) => self.holding.shares(buffer),
+            None => 0,
+        }
+    }
+
+    /// How many credits are held: none where nothing reaches the side.
+    pub fn credits(&self) -> u32
+        ensures { result ≡ spec.held_at (spec.side_label self.now) Credit }
+    {
+        match self.mode {
+            Some(_) => self.holding.credits(),
+            None => 0,
+        }
+    }
+
+    /// Whether a token is held. Where nothing reaches the side it isn't.
+    pub fn has_token(&self, user_data: u64) -> bool
+        ensures { result ≡ nat_le 1 (spec.held_at (spec.side_label self.now) (TokenOf user_data)) }
+    {
+        match self.mode {
+            Some(_) => self.holding.holds(Part::Token(user_data)),
+            None => false,
+        }
     }
 
     /// Goes over a line. A dead side meets every premise and stays dead.

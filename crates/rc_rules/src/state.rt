@@ -391,5 +391,6 @@ mod flag_tests;
 mod pool;
 #[cfg(test)]
 mod pool_tests;
+mod sides;
 #[cfg(test)]
 mod tests;

@@ -97,10 +97,24 @@ impl<'a> Holding<'a> {
         ensures { result ≡ spec.covers_part (spec.bag self.now) part }
     {
         match part {
-            Part::Shares(buffer, count) => count <= self.shares.get(buffer).copied().unwrap_or(0),
+            Part::Shares(buffer, count) => count <= self.shares(buffer),
             Part::Token(user_data) => self.holds_token(user_data),
             Part::Credits(count) => count <= self.credits,
         }
+    }
+
+    /// How many shares of a buffer are held.
+    pub fn shares(&self, buffer: usize) -> u32
+        ensures { result ≡ spec.bag self.now (bags.ShareOf buffer) }
+    {
+        self.shares.get(buffer).copied().unwrap_or(0)
+    }
+
+    /// How many credits are held.
+    pub fn credits(&self) -> u32
+        ensures { result ≡ spec.bag self.now bags.Credit }
+    {
+        self.credits
     }
 
     fn holds_token(&self, user_data: u64) -> bool

@@ -91,7 +91,8 @@ impl Pool {
         self.credits = self.credits.saturating_sub(items.credits);
     }
 
-    fn shares_of(&self, buffer: usize) -> u32
+    /// How many shares of a buffer are in the pool.
+    pub fn shares_of(&self, buffer: usize) -> u32
         ensures { result ≡ slice_index self.now.shares buffer }
     {
         self.shares.get(buffer).copied().unwrap_or(0)
@@ -114,7 +115,8 @@ impl Pool {
         })
     }
 
-    fn has_token(&self, program: &Program, user_data: u64) -> bool
+    /// Whether a token of the program is in the pool.
+    pub fn has_token(&self, program: &Program, user_data: u64) -> bool
         ensures { result ≡ nat_le 1 (mark_at self.now.marks (token_place program.now.tokens user_data)) }
     {
         match program.token_place(user_data) {
