@@ -5,6 +5,7 @@ pub mod Sides
 pub mod Rules
 pub mod Labellings
 pub mod States
+pub mod Readers
 pub mod OneRule
 pub mod Laws
 pub mod Example

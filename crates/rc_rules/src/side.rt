@@ -7,6 +7,7 @@ ghost use Rattle.rc_rules.specs.Causes.{premise_number};
 ghost use Rattle.rc_rules.specs.Labels.{Dead, Live, IsSame, IsStrongest};
 ghost use Rattle.rc_rules.specs.OneRule as one;
 ghost use Rattle.rc_rules.specs.Premises.{Tests};
+ghost use Rattle.rc_rules.specs.Readers.{has_part};
 ghost use Rattle.rc_rules.specs.Rules as rules;
 ghost use Rattle.rc_rules.specs.States as spec;
 ghost use Rattle.rc_rules.specs.declared.mode.Mode.TheVariants as modes;
@@ -142,6 +143,16 @@ impl<'a> Side<'a> {
     {
         match self.mode {
             Some(_) => self.holding.holds(Part::Token(user_data)),
+            None => false,
+        }
+    }
+
+    /// Whether the part is held. Where nothing reaches the side it isn't.
+    pub fn holds(&self, part: Part) -> bool
+        ensures { result ≡ has_part (spec.side_label self.now) part }
+    {
+        match self.mode {
+            Some(_) => self.holding.holds(part),
             None => false,
         }
     }
