@@ -1,18 +1,16 @@
-use Rattle.std.proofs.Common.{arith}
-use Rattle.rc_verify.proofs.Beginning.{ends, refuses_line, thread_is}
-use Rattle.rc_verify.proofs.walk.walk_thread.Goals as goal
+use Rattle.std.proofs.Common.{ap, ◌∙◌}
+use Rattle.rc_rules.specs.Causes.{premise_number}
+use Rattle.rc_verify.specs.Labels.{Labels}
+use Rattle.rc_verify.proofs.Beginning.{thread_is}
+use Rattle.rc_verify.proofs.Told.{all_labelled, goes_end, line_refused}
+use Rattle.rc_verify.proofs.verify.walk_thread.Goals as goal
 
-pub loop-place-init : goal.loop-place-init
-loop-place-init c =
+pub returns-in-Ok-false : goal.returns-in-Ok-false
+returns-in-Ok-false c = λ t that.
     let is = thread_is c.args.program.now c.threads.result.now c.args.thread c.index-threads-thread.result c.threads.ensures.value c.requires c.index-threads-thread.is in
-    c.begin.ensures _ is
+    all_labelled c.args.program.now c.args.thread _ t c.loop-cause.labels is that c.loop-cause.invariant.0 c.loop-cause.invariant.1 (goes_end _ _ c.in-Ok-false.field-0 c.in-Ok-false.field-0-test c.in-Ok-false.ensures.goes)
 
 pub returns-in-Err : goal.returns-in-Err
 returns-in-Err c = λ t that.
     let is = thread_is c.args.program.now c.threads.result.now c.args.thread c.index-threads-thread.result c.threads.ensures.value c.requires c.index-threads-thread.is in
-    refuses_line c.args.program.now _ c.args.thread c.loop-place.place _ _ t c.index-line.result.now is that c.loop-place.invariant.at.here.of.program (omega arith) c.index-line.ensures c.in-Err.ensures
-
-pub returns : goal.returns
-returns c = λ t that.
-    let is = thread_is c.args.program.now c.threads.result.now c.args.thread c.index-threads-thread.result c.threads.ensures.value c.requires c.index-threads-thread.is in
-    ends c.args.program.now c.args.thread c.loop-place.place _ t c.loop-place.walk is that c.loop-place.invariant (omega arith)
+    line_refused c.args.program.now c.args.thread c.place.result (premise_number c.in-Err.cause) _ t c.loop-cause.labels c.index.result.now is that c.loop-cause.invariant.0 c.loop-cause.invariant.1 (c.place.ensures ∙ ap (λ (v : Labels). v.place) c.in-Err.ensures.goes.0) c.index.ensures c.in-Err.ensures.goes.1
