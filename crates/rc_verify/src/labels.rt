@@ -68,8 +68,9 @@ impl<'a> Labels<'a> {
         ensures thread { slice_get self.old.program.threads thread ≡ Some self.new.thread }
         ensures place { self.new.place ≡ 0 }
     {
+        let part = &self.program.threads()[thread as usize];
         self.walk.begin(self.program, thread);
-        self.part = &self.program.threads()[thread as usize];
+        self.part = part;
         self.place = 0;
         self.refused = None;
     }
