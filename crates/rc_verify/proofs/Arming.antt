@@ -1,6 +1,6 @@
 -- The arms of a peek, and their ends.
-use Rattle.std.proofs.Common.{◌≡◌, ℕ, ◌+◌, Bool, List, [], ◌∷◌, ◌++◌, Option, Some, Result, refl, sym, ap, subst, ◌∙◌, arith, slice_index_or}
-use Rattle.std.specs.Prelude.{IsSome}
+use Rattle.std.proofs.Common.{◌≡◌, ℕ, ◌+◌, Bool, List, [], ◌∷◌, ◌++◌, Option, Some, Result, Ok, Err, refl, sym, ap, subst, ◌∙◌, arith, slice_index_or}
+use Rattle.std.specs.Prelude.{IsSome, OnErr}
 use Rattle.std.proofs.lemmas.Option.{get_or_from_slice_get}
 use Rattle.rc_lang.specs.declared.lines.Block.TheVariants.{InPeek, InArm}
 use Rattle.rc_lang.specs.declared.lines.Stmt.{Stmt}
@@ -101,3 +101,11 @@ module _ (P : Program) (t : Thread) (j : ℕ) (w : Walk) (r : Reaches P t j w) w
 
   pub none_of : (o : ℕ) (a : Arms) → stmt_at t.lines j ≡ Some (Nothing o) → w.peek ≡ Some a → program_of a.before ≡ program_of w.state
   none_of o a e q = arm_of_same o a (opens_nothing t.lines r.thread.nested.each j o e) q
+
+  -- No arm is refused.
+  pub arm_stays : {X : Type 0} (o : ℕ) (a : Arms) (new : State) (x : Result X Cause) (bs : Bool → List Label) → OpensArm t.lines j o → w.peek ≡ Some a → Gives a.before new x (asks_both (label_of a.before) (λ z bag m. peek_premises m)) bs → OnErr x (new ≡ w.state)
+  arm_stays o a new x bs c q g = go x (subst (λ ps. Gives a.before new x ps bs) (none_asked (label_of a.before) (peeked_is o a (opening o c) q).locked) g)
+    where
+      go : {X : Type 0} (x : Result X Cause) → Gives a.before new x [] bs → OnErr x (new ≡ w.state)
+      go (Ok y) g = tt
+      go (Err c) g = absurd (g.0.fails tt)

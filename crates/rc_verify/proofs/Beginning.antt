@@ -51,7 +51,7 @@ starts P i t s branches loops made is h e f = record {
 
 -- ---- the answers
 
-same_thread : (ts : List Thread) (i : ℕ) (t u : Thread) → slice_get ts i ≡ Some t → slice_get ts i ≡ Some u → t ≡ u
+pub same_thread : (ts : List Thread) (i : ℕ) (t u : Thread) → slice_get ts i ≡ Some t → slice_get ts i ≡ Some u → t ≡ u
 same_thread ts i t u e f = cc
 
 pub ends : (P : Program) (i j : ℕ) (t u : Thread) (w : Walk) → slice_get P.threads i ≡ Some t → slice_get P.threads i ≡ Some u → Reaches P t j w → length t.lines ≤ j → HasLabels P u u.lines

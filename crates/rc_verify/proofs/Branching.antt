@@ -1,6 +1,6 @@
 -- Ifs, and the ends of their branches.
 use Rattle.std.proofs.Common.{◌≡◌, ℕ, zero, suc, ◌+◌, ◌<◌, ◌≤◌, ◌⊎◌, Bool, true, false, List, [], ◌∷◌, ◌++◌, length, length-append, take, Option, Some, Result, Ok, Err, refl, sym, ap, subst, ◌∙◌, inl, inr, arith, slice_index_or}
-use Rattle.std.specs.Prelude.{IsSome, OnOk, ℤ}
+use Rattle.std.specs.Prelude.{IsSome, OnErr, OnOk, ℤ}
 use Rattle.std.proofs.lemmas.Option.{get_or_from_slice_get, slice_get-get_or}
 use Rattle.std.proofs.Math.ListN.{get_or-append}
 use Rattle.std.proofs.Math.Path.{fun_ext}
@@ -39,7 +39,7 @@ use Rattle.rc_verify.proofs.Joining.{above, below}
 use Rattle.rc_rules.proofs.Weaker.{meets_append, only_itself}
 use Rattle.rc_verify.proofs.Keeping.{KeepsLast, few_branches, few_places, keep_more, kept_length, last_kept, places_pushed, pushed_none, same_last, some_last}
 use Rattle.rc_verify.proofs.Plainly.{fits_behind, fits_known, loops_same, opens_none, peek_same}
-use Rattle.rc_verify.proofs.Standing.{AreStrongestOf, Gave, branches_stay, fits_here, here_is, lead_at, of_same, onward, same_of, seen_at, took, turns}
+use Rattle.rc_verify.proofs.Standing.{AreStrongestOf, Gave, branches_stay, fits_here, gives_stays, here_is, lead_at, of_same, onward, same_of, seen_at, took, turns}
 
 pub on_ok : {X : Type 0} (A : Type 0) (x : Result X Cause) (y : X) → OnOk x A → x ≡ Ok y → A
 on_ok A (Ok z) y h e = h
@@ -318,3 +318,6 @@ module _ (P : Program) (t : Thread) (j : ℕ) (w : Walk) (r : Reaches P t j w) w
 
   pub end_turns : {X : Type 0} (o : ℕ) (new : State) (kept : ArrayVec (Option State)) (x : Result X Cause) → stmt_at t.lines j ≡ Some (EndIf o) → ((s : State) → last_of w.branches.items ≡ Some s → Gives w.state new x (joins_both (two (label_of w.state) (label_of s))) (two (label_of w.state) (label_of s))) → kept.items ≡ rest_of w.branches.items → Turns P t j (record { state = new; branches = kept; peek = w.peek; loops = w.loops }) x
   end_turns o new kept x e g k = let h = end_kept o e in ends o h.state new kept x e h.is (g h.state h.is) k
+
+  pub end_stays : {X : Type 0} (o : ℕ) (new : State) (x : Result X Cause) → stmt_at t.lines j ≡ Some (EndIf o) → ((s : State) → last_of w.branches.items ≡ Some s → Gives w.state new x (joins_both (two (label_of w.state) (label_of s))) (two (label_of w.state) (label_of s))) → OnErr x (new ≡ w.state)
+  end_stays o new x e g = let h = end_kept o e in gives_stays w.state new x _ _ (g h.state h.is)

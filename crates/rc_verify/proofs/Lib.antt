@@ -18,4 +18,6 @@ mod Looping
 mod Breaking
 mod Placing
 mod Beginning
+mod Told
+mod Having
 mod Examples

@@ -22,7 +22,7 @@ good_front P thread lines n ls g = record {
       good_at P thread (take n lines) (take j lines) ls (take (j + 1) ls) j (label_at ls (j + 1)) l.stmt (take-take j n lines (omega (arith, r.1))) refl (λ z. refl) a.meets a.after;
 }
 
-has_front : (P : Program) (thread : Thread) (lines : List Line) (m n : ℕ) → m ≤ n → HasLabels P thread (take n lines) → HasLabels P thread (take m lines)
+pub has_front : (P : Program) (thread : Thread) (lines : List Line) (m n : ℕ) → m ≤ n → HasLabels P thread (take n lines) → HasLabels P thread (take m lines)
 has_front P thread lines m n le h = let g = good_front P thread (take n lines) m h.0 h.1 in (h.0, rw (take-take m n lines le) at g)
 
 -- ---- lists of premises

@@ -1,5 +1,6 @@
 -- Where a walk stands, and how it goes on behind a line.
 use Rattle.std.proofs.Common.{◌≡◌, ℕ, ◌+◌, ◌<◌, ◌≤◌, Bool, true, false, List, [], ◌∷◌, ◌++◌, length, length-append, length-take, take, Option, Some, None, Result, Ok, Err, refl, sym, ap, subst, ◌∙◌, inl, inr, arith, slice_get, slice_index_or, add-one}
+use Rattle.std.specs.Prelude.{OnErr}
 use Rattle.std.proofs.Math.ListN.{get_or-append}
 use Rattle.std.proofs.Math.Seq.{take-length}
 use Rattle.std.proofs.lemmas.Option.{get_or_from_slice_get}
@@ -53,6 +54,11 @@ of_same P t new old h s = record { program = s.program ∙ h.program; flag = s.f
 gives_any : {X : Type 0} (P : Program) (t : Thread) (old new : State) (x : Result X Cause) (ps : List (ℕ × Premise)) (bs : Bool → List Label) → IsOf P t old → Gives old new x ps bs → Gave P t new x ps bs
 gives_any P t old new (Ok x) ps bs h g = (g.0, g.1.each, of_same P t new old h g.1.of)
 gives_any P t old new (Err c) ps bs h g = g.0
+
+-- Where a line is refused the state stays.
+pub gives_stays : {X : Type 0} (old new : State) (x : Result X Cause) (ps : List (ℕ × Premise)) (bs : Bool → List Label) → Gives old new x ps bs → OnErr x (new ≡ old)
+gives_stays old new (Ok x) ps bs g = tt
+gives_stays old new (Err c) ps bs g = g.1
 
 -- The state that it began with is of this program and this thread, and has these labels.
 pub took : {X : Type 0} (P : Program) (t : Thread) (old new : State) (known : Sides) (x : Result X Cause) (F : Program → Option ℕ → Sides → List (ℕ × Premise)) (B : Program → Option ℕ → Sides → Bool → List Label) → IsOf P t old → sides_of old ≡ known → Gives old new x (F (program_of old) old.flag (sides_of old)) (B (program_of old) old.flag (sides_of old)) → Gave P t new x (F P t.flag known) (B P t.flag known)

@@ -5,6 +5,8 @@ pub mod Branches
 pub mod Arms
 pub mod Loops
 pub mod Walk
+pub mod Labels
+pub mod Held
 pub mod Headers
 pub mod Laws
 pub mod Example

@@ -1,6 +1,6 @@
 //! The arms of the peek that is open.
 
-ghost use Rattle.std.specs.Prelude.{◌≡◌, ◌∷◌, [], Bool, true, false, IsSome, IfSome, Some};
+ghost use Rattle.std.specs.Prelude.{◌≡◌, ◌∷◌, [], Bool, true, false, IsSome, IfSome, OnErr, Some};
 ghost use Rattle.rc_lang.specs.Program.{DeclaresToken};
 ghost use Rattle.rc_rules.specs.Labels.{Dead};
 ghost use Rattle.rc_rules.specs.Rules as rules;
@@ -30,7 +30,8 @@ pub fn open_peek<'a>(
     peek: &mut Option<Arms<'a>>,
     variable: usize,
 ) -> Result<(), Cause>
-    ensures { spec.OpensPeek variable state.old state.new peek.new result }
+    ensures opens { spec.OpensPeek variable state.old state.new peek.new result }
+    ensures stays { OnErr result (state.new ≡ state.old) }
 {
     let mut ends = state.again();
     ends.arm_none()?;
@@ -150,6 +151,7 @@ pub fn close_peek<'a>(state: &mut State<'a>, peek: &mut Option<Arms<'a>>) -> Res
     requires { IsSome peek.old }
     ensures closes { IfSome peek.old (λ a. spec.ClosesPeek a state.new result) }
     ensures none { peek.new ≡ None }
+    ensures stays { OnErr result (state.new ≡ state.old) }
 {
     let Some(arms) = peek.take() else {
         unreachable!();

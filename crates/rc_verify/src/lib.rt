@@ -7,7 +7,9 @@
 mod arms;
 mod branches;
 mod headers;
+pub mod held;
 mod kept;
+pub mod labels;
 pub mod laws;
 mod loops;
 pub mod refusal;

@@ -1,6 +1,6 @@
 //! Loops and their breaks.
 
-ghost use Rattle.std.specs.Prelude.{◌≡◌, ◌<◌, ◌∷◌, ◌++◌, [], true, false, length, IsSome, Some, OnOk};
+ghost use Rattle.std.specs.Prelude.{◌≡◌, ◌<◌, ◌∷◌, ◌++◌, [], true, false, length, IsSome, Some, OnErr, OnOk};
 ghost use Rattle.rc_lang.specs.Parts.{view_items};
 ghost use Rattle.rc_lang.specs.Program.{IsList};
 ghost use Rattle.rc_rules.specs.Premises.{Meets};
@@ -40,7 +40,8 @@ pub fn close_loop<'a>(
 ) -> Result<(), Cause>
     requires kept { IsSome (last_of loops.old.items) }
     requires of { (s : states.State) → last_of loops.old.items ≡ Some s → states.program_of s ≡ states.program_of state.old }
-    ensures { spec.ClosesLoop (rules.asks_both (states.label_of state.old) (λ z bag m. rules.may_loop (states.program_of state.old) 14 (view_items items.now) z bag m)) loops.old.items loops.new.items state.new result }
+    ensures closes { spec.ClosesLoop (rules.asks_both (states.label_of state.old) (λ z bag m. rules.may_loop (states.program_of state.old) 14 (view_items items.now) z bag m)) loops.old.items loops.new.items state.new result }
+    ensures stays { OnErr result (state.new ≡ state.old) }
 {
     state.loop_end(items)?;
     state.copy_from(innermost(loops));

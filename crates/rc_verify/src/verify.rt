@@ -4,25 +4,56 @@ ghost use Rattle.std.specs.Prelude.{◌≡◌, ◌<◌, length, slice_get, Some,
 ghost use Rattle.rc_lang.specs.Program.{Thread};
 ghost use Rattle.rc_rules.specs.Labellings.{header_premises};
 ghost use Rattle.rc_rules.specs.Premises.{Meets};
-ghost use Rattle.rc_verify.specs.Answer.{IsJudged, Verifies};
+ghost use Rattle.rc_verify.specs.Answer.{IsJudged, IsWalked, Verifies};
 
 use crate::headers::judge_header;
+use crate::labels::Labels;
 use crate::refusal::{Refusal, VerifyFault};
-use crate::walk::{Walk, walk_thread};
 use rc_lang::program::Program;
 use std::alloc::Global;
 
-/// Judges a thread, where the headers before it were judged: its header, and then its lines.
-fn judge_thread<'a>(walk: &mut Walk<'a>, program: &'a Program, thread: u32) -> Result<(), Refusal>
+/// Walks over the lines of a thread, and answers the first that the rules refuse.
+fn walk_thread<'a>(
+    labels: &mut Labels<'a>,
+    program: &'a Program,
+    thread: u32,
+) -> Result<(), Refusal>
     requires there { thread < length program.now.threads }
+    requires of { labels.old.program ≡ program.now }
+    ensures walked { (t : Thread) → slice_get program.now.threads thread ≡ Some t → IsWalked program.now t result }
+    ensures same { labels.new.program ≡ program.now }
+{
+    let part = &program.threads()[thread as usize];
+    labels.begin(thread);
+    loop {
+        match labels.next() {
+            Ok(true) => {}
+            Ok(false) => return Ok(()),
+            Err(cause) => {
+                let line = part.lines[labels.place()].number;
+                return Err(Refusal { line, cause });
+            }
+        }
+    }
+}
+
+/// Judges a thread, where the headers before it were judged: its header, and then its lines.
+fn judge_thread<'a>(
+    labels: &mut Labels<'a>,
+    program: &'a Program,
+    thread: u32,
+) -> Result<(), Refusal>
+    requires there { thread < length program.now.threads }
+    requires of { labels.old.program ≡ program.now }
     requires before { Meets (header_premises program.now (take thread program.now.threads)) }
-    ensures { (t : Thread) → slice_get program.now.threads thread ≡ Some t → IsJudged program.now thread t result }
+    ensures judged { (t : Thread) → slice_get program.now.threads thread ≡ Some t → IsJudged program.now thread t result }
+    ensures same { labels.new.program ≡ program.now }
 {
     if let Err(cause) = judge_header(program, thread) {
         let line = program.threads()[thread as usize].line;
         return Err(Refusal { line, cause });
     }
-    walk_thread(walk, program, thread)
+    walk_thread(labels, program, thread)
 }
 
 /// Verifies a program: Ok where each header meets its premises and each thread has a labelling that is good at each of
@@ -32,9 +63,12 @@ pub fn verify(_alloc: Global, program: &Program) -> Result<(), VerifyFault>
     ensures { Verifies program.now result }
 {
     let count = program.threads().len() as u32;
-    let mut walk = Walk::new(program);
+    if count == 0 {
+        return Ok(());
+    }
+    let mut labels = Labels::new(program, 0);
     for thread in 0..count {
-        if let Err(refusal) = judge_thread(&mut walk, program, thread) {
+        if let Err(refusal) = judge_thread(&mut labels, program, thread) {
             return Err(VerifyFault::Refused(refusal));
         }
     }

@@ -1,12 +1,11 @@
 //! The walk over the lines of a thread.
 
-ghost use Rattle.std.specs.Prelude.{◌≡◌, ◌<◌, length, Some, slice_get};
+ghost use Rattle.std.specs.Prelude.{◌≡◌, ◌<◌, length, OnErr, Some, slice_get};
 ghost use Rattle.rc_lang.specs.Parts.{view_thread};
 ghost use Rattle.rc_lang.specs.Program as programs;
 ghost use Rattle.rc_lang.specs.Program.{IsProgram};
 ghost use Rattle.rc_rules.specs.Labels.{Dead};
 ghost use Rattle.rc_rules.specs.States.{OnBoth, program_of};
-ghost use Rattle.rc_verify.specs.Answer.{IsWalked};
 ghost use Rattle.rc_verify.specs.Walk as spec;
 
 use crate::arms::{
@@ -15,7 +14,6 @@ use crate::arms::{
 use crate::branches::{end_if, enter_if, turn};
 use crate::kept::Kept;
 use crate::loops::{close_loop, leave_loop, open_loop};
-use crate::refusal::Refusal;
 use arrayvec::ArrayVec;
 use rc_lang::lines::Stmt;
 use rc_lang::program::{Program, Thread};
@@ -25,7 +23,7 @@ use rc_rules::state::{State, transfer};
 /// What is known at the place of a thread that a walk has come to, and what it needs for the lines that close a block.
 #[derive(Drop)]
 pub struct Walk<'a> {
-    state: State<'a>,
+    pub state: State<'a>,
     /// Where the test of each open if may fail, or behind its else the end of its first branch.
     branches: Kept<'a>,
     /// At most one peek is open.
@@ -49,7 +47,7 @@ impl<'a> Walk<'a> {
     }
 
     /// Stands before the first line of a thread, whatever was walked over before.
-    fn begin(&mut self, program: &'a Program, thread: u32)
+    pub fn begin(&mut self, program: &'a Program, thread: u32)
         requires made { IsProgram program.now }
         requires there { thread < length program.now.threads }
         ensures { (t : programs.Thread) → slice_get program.now.threads thread ≡ Some t → spec.Reaches program.now t 0 self.new }
@@ -62,10 +60,11 @@ impl<'a> Walk<'a> {
 }
 
 /// Goes over the statement at a place: the least premise that fails, if one does.
-fn pass<'a>(walk: &mut Walk<'a>, thread: &Thread, place: usize, stmt: Stmt) -> Result<(), Cause>
+pub fn pass<'a>(walk: &mut Walk<'a>, thread: &Thread, place: usize, stmt: Stmt) -> Result<(), Cause>
     requires stands { programs.stmt_at thread.now.lines.items place ≡ Some stmt }
     requires reaches { spec.Reaches (program_of walk.old.state) (view_thread thread.now) place walk.old }
-    ensures { spec.Turns (program_of walk.old.state) (view_thread thread.now) place walk.new result }
+    ensures turns { spec.Turns (program_of walk.old.state) (view_thread thread.now) place walk.new result }
+    ensures stays { OnErr result (walk.new.state ≡ walk.old.state) }
 {
     match stmt {
         Stmt::Do(_) => transfer(&mut walk.state, &stmt),
@@ -91,27 +90,4 @@ fn pass<'a>(walk: &mut Walk<'a>, thread: &Thread, place: usize, stmt: Stmt) -> R
         Stmt::EndLoop(_, k) => close_loop(&mut walk.state, &mut walk.loops, &thread.lists[k]),
         Stmt::Break(_, releases, _) => leave_loop(&mut walk.state, &mut walk.loops, releases),
     }
-}
-
-/// Walks over the lines of a thread, and answers the first that the rules refuse. This takes no memory.
-pub fn walk_thread<'a>(
-    walk: &mut Walk<'a>,
-    program: &'a Program,
-    thread: u32,
-) -> Result<(), Refusal>
-    requires { thread < length program.now.threads }
-    ensures { (t : programs.Thread) → slice_get program.now.threads thread ≡ Some t → IsWalked program.now t result }
-{
-    let part = &program.threads()[thread as usize];
-    walk.begin(program, thread);
-    for place in 0..part.lines.len() {
-        let line = part.lines[place];
-        if let Err(cause) = pass(walk, part, place, line.stmt) {
-            return Err(Refusal {
-                line: line.number,
-                cause,
-            });
-        }
-    }
-    Ok(())
 }
