@@ -4,5 +4,9 @@ pub mod Lines
 pub mod Names
 pub mod Objects
 pub mod Pieces
+pub mod FileObjects
+pub mod Placed
+pub mod Stretches
+pub mod TextWords
 pub mod Traces
 pub mod OneVerdict

@@ -91,3 +91,10 @@ second_fails a b c s t p q = record { done = s ++ q.done; rest = q.rest; cut = a
 -- the same text under another name
 pub wrote_along : {X : Type 0} (a b : Option (List ℕ)) (s t : List ℕ) (r : Result X EngineFault) → s ≡ t → Wrote a b s r → Wrote a b t r
 wrote_along a b s t r e h = let P : List ℕ → Type 0 = λ u. Wrote a b u r in subst P e h
+
+pub began_along : (a b : Option (List ℕ)) (s t : List ℕ) → s ≡ t → Began a b s → Began a b t
+began_along a b s t e h = let P : List ℕ → Type 0 = λ u. Began a b u in subst P e h
+
+-- nothing was written yet
+pub began_none : (a : Option (List ℕ)) (t : List ℕ) → Began a a t
+began_none a t = record { done = []; rest = t; cut = refl; written = appends_none a }

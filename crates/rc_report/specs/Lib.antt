@@ -1,10 +1,13 @@
 pub mod Buffers
 pub mod Checks
 pub mod Engine
+pub mod Files
 pub mod Made
 pub mod Objects
 pub mod Printed
+pub mod Source
 pub mod Statuses
 pub mod Streams
+pub mod Summaries
 pub mod Traces
 pub mod Verdicts

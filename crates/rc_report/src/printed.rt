@@ -18,7 +18,7 @@ use rc_world::fault::{Fault, FaultKind, Party};
 
 /// The name of a thread, and nothing where the program has no such thread.
 #[inline]
-fn thread_name(program: &Program, thread: u32) -> &[u8]
+pub(crate) fn thread_name(program: &Program, thread: u32) -> &[u8]
     ensures name { result.now ≡ thread_name program.now thread }
     ensures made { IsProgram program.now }
 {

@@ -1,4 +1,5 @@
 mod Passing
+pub mod Asking
 pub mod Weaker
 pub mod Lines
 pub mod Room

@@ -1,3 +1,4 @@
+pub mod Asks
 pub mod Causes
 pub mod Labels
 pub mod Premises

@@ -6,6 +6,7 @@
 //! every premise and stays dead. Nothing here takes memory.
 #![tactic(auto)]
 
+pub mod asks;
 mod blocks;
 pub mod cause;
 mod flag;

@@ -1,0 +1,43 @@
+-- Verdicts on the texts of files: where something is stands in front, as compilers tell it.
+use Rattle.std.specs.Prelude.{ℕ, ◌≡◌, Bool, true, false, List, [], ◌∷◌, ◌++◌, codes, decimal, Option, Some, None, Result, Ok, Err}
+use Rattle.std.specs.Io.KnownBytes.{Appends}
+use Rattle.serde_json.specs.Data.{Data, member, no_members, number, object, string, unsigned}
+use Rattle.serde_json.specs.Written.{compact_text}
+use Rattle.rc_read.specs.Answer.{answer_of}
+use Rattle.rc_read.specs.Causes as reading
+use Rattle.rc_rules.specs.Causes as rules_of
+use Rattle.rc_report.specs.declared.engine_fault.EngineFault.{EngineFault}
+use Rattle.rc_report.specs.declared.verdict.Verdict.{Verdict}
+use Rattle.rc_report.specs.declared.verdict.Verdict.TheVariants.{Accepted, Refused, Unreadable}
+use Rattle.rc_report.specs.Checks.{IsVerdict}
+use Rattle.rc_report.specs.Printed.{joined}
+
+-- a line of a file, and why it isn't good: the letter of its causes, the number and the name
+abbrev pub file_line : List ℕ → List ℕ → ℕ → List ℕ → ℕ → List ℕ → List ℕ
+file_line file word line letter code name =
+    joined (file ∷ codes ":" ∷ decimal line ∷ codes ": " ∷ word ∷ codes " " ∷ letter ∷ decimal code ∷ codes " " ∷ name ∷ codes "\n" ∷ [])
+
+abbrev pub file_text : List ℕ → Verdict → List ℕ
+file_text file Accepted = joined (file ∷ codes ": accepted\n" ∷ [])
+file_text file (Refused r) = file_line file (codes "refused") r.line (codes "V") (rules_of.premise_number r.cause) (rules_of.name_of r.cause)
+file_text file (Unreadable line cause) = file_line file (codes "unreadable") line (codes "P") (reading.number_of_cause cause) (reading.name_of_cause cause)
+
+-- one JSON object, its keys in order, and a line feed
+abbrev pub line_object : List ℕ → List ℕ → ℕ → ℕ → List ℕ → Data
+line_object file name code line word =
+    object (member (codes "cause") (string name) (member (codes "code") (number (unsigned code)) (member (codes "file") (string file)
+    (member (codes "line") (number (unsigned line)) (member (codes "verdict") (string word) no_members)))))
+
+abbrev pub file_object : List ℕ → Verdict → Data
+file_object file Accepted = object (member (codes "file") (string file) (member (codes "verdict") (string (codes "accepted")) no_members))
+file_object file (Refused r) = line_object file (rules_of.name_of r.cause) (rules_of.premise_number r.cause) r.line (codes "refused")
+file_object file (Unreadable line cause) = line_object file (reading.name_of_cause cause) (reading.number_of_cause cause) line (codes "unreadable")
+
+abbrev pub file_json : List ℕ → Verdict → List ℕ
+file_json file verdict = compact_text (file_object file verdict) ++ codes "\n"
+
+-- The verdict on the bytes is answered. Where the source doesn't tell its bytes nothing is claimed.
+abbrev pub Judges : Option (List ℕ) → Result Verdict EngineFault → Type 0
+Judges None r = Unit {0}
+Judges (Some bytes) (Ok verdict) = IsVerdict (answer_of bytes) verdict
+Judges (Some bytes) (Err e) = Unit {0}

@@ -1,0 +1,22 @@
+-- The words of a line of a text, as they are printed.
+use Rattle.std.specs.Prelude.{ℕ, zero, suc, List, [], ◌∷◌, ◌++◌, codes, slice_index_or}
+use Rattle.rc_read.specs.Words.{text_lines, words_of}
+
+-- The line with this number, from 1. Where there is no such line, it is empty.
+abbrev pub line_numbered : List (List ℕ) → ℕ → List ℕ
+line_numbered lines zero = []
+line_numbered lines (suc n) = slice_index_or lines n []
+
+-- each word behind a blank
+abbrev pub behind_blanks : List (List ℕ) → List ℕ
+behind_blanks [] = []
+behind_blanks (word ∷ words) = codes " " ++ word ++ behind_blanks words
+
+-- the words with one blank between two
+abbrev pub spaced : List (List ℕ) → List ℕ
+spaced [] = []
+spaced (word ∷ words) = word ++ behind_blanks words
+
+-- The words of the text's line with this number, without its comment, with one blank between two.
+abbrev pub line_words : List ℕ → ℕ → List ℕ
+line_words text number = spaced (words_of (line_numbered (text_lines text) number))
