@@ -1,11 +1,12 @@
 #!/usr/bin/env python3
-"""Holds the texts of the crate rc_examples against the files of examples/, or writes them.
+"""Holds the texts of the crates rc_examples and rc_gallery against the files of examples/, or writes them.
 
 usage: audit/examples.py [--write]
 
-The crate has a constant for each program of examples/, named as its file, and a row for each text of examples/causes,
-besides what the file expected there says. Without --write nothing is changed, and the status is 1 where a text of the
-crate differs from its file by so much as a byte, or one is missing on either side.
+rc_examples has a constant for each program of examples/, named as its file, and a row for each text of examples/causes.
+rc_gallery has a row for each text of examples/gallery, and a constant for each file of examples/c. What the file expected
+says in causes and gallery they have too. Without --write nothing is changed, and the status is 1 where a text of a crate
+differs from its file by so much as a byte, or one is missing on either side.
 """
 
 import difflib
@@ -15,7 +16,9 @@ from pathlib import Path
 TOP = Path(__file__).resolve().parent.parent
 EXAMPLES = TOP / "examples"
 CAUSES = EXAMPLES / "causes"
-SOURCES = TOP / "crates" / "rc_examples" / "src"
+C_PROGRAMS = EXAMPLES / "c"
+GALLERY = EXAMPLES / "gallery"
+CRATES = TOP / "crates"
 
 
 def written(character):
@@ -35,10 +38,20 @@ def literal(path):
     return '"' + start + "".join(map(written, text)) + '"'
 
 
+def constants(paths):
+    """A constant for each file, named as it is."""
+    return "".join(f"\npub const {path.stem.upper()}: &str = {literal(path)};\n" for path in sorted(paths))
+
+
 def programs():
     """The file of the crate with the programs."""
-    constants = [f"\npub const {path.stem.upper()}: &str = {literal(path)};\n" for path in sorted(EXAMPLES.glob("*.rc"))]
-    return "//! The programs of examples/, each as its file has it.\n" + "".join(constants)
+    return "//! The programs of examples/, each as its file has it.\n" + constants(EXAMPLES.glob("*.rc"))
+
+
+def c_programs():
+    """The file of the crate with the C of some programs, and the text of the one that is no example of its own."""
+    text = f"\npub const EVERY_TEXT: &str = {literal(C_PROGRAMS / 'every.rc')};\n"
+    return "//! The C of programs, each as its file in examples/c has it.\n" + constants(C_PROGRAMS.glob("*.c")) + text
 
 
 def causes():
@@ -53,6 +66,42 @@ def causes():
     )
 
 
+def patterns():
+    """The folders of the gallery: a pattern each, with its texts."""
+    return sorted({path.parent.name for path in GALLERY.glob("*/*.rc")})
+
+
+def pattern(name):
+    """The file of the crate with the texts of one pattern, a constant each."""
+    return f"//! The texts of examples/gallery/{name}.\n" + constants((GALLERY / name).glob("*.rc"))
+
+
+def gallery():
+    """The file of the crate with a row for each text of the gallery, and what is printed for them."""
+    row = "    Example {{\n        name: \"{0}/{1}.rc\",\n        text: {0}::{2},\n    }},\n"
+    texts = [path for name in patterns() for path in sorted((GALLERY / name).glob("*.rc"))]
+    rows = [row.format(path.parent.name, path.stem, path.stem.upper()) for path in texts]
+    return (
+        "//! The texts of examples/gallery, and what is printed for them.\n\n"
+        + "".join(f"mod {name};\n" for name in patterns())
+        + "\nuse rc_examples::example::Example;\n\n"
+        "pub const GALLERY: &[Example] = &[\n" + "".join(rows) + "];\n\n"
+        "pub const EXPECTED: &str = " + literal(GALLERY / "expected") + ";\n"
+    )
+
+
+def wanted_files():
+    """The files of the crates that have texts, by their names."""
+    files = {
+        "rc_examples/src/programs.rt": programs(),
+        "rc_examples/src/causes.rt": causes(),
+        "rc_gallery/src/c_programs.rt": c_programs(),
+        "rc_gallery/src/gallery.rt": gallery(),
+    }
+    files.update({f"rc_gallery/src/gallery/{name}.rt": pattern(name) for name in patterns()})
+    return files
+
+
 def differences(path, wanted):
     """How the file of the crate differs from what the examples make of it, line by line."""
     found = path.read_bytes().decode() if path.is_file() else ""
@@ -64,11 +113,12 @@ def main():
     if sys.argv[1:] not in ([], ["--write"]):
         sys.exit(__doc__)
     status = 0
-    for name, wanted in (("programs.rt", programs()), ("causes.rt", causes())):
+    for name, wanted in wanted_files().items():
         if sys.argv[1:]:
-            (SOURCES / name).write_bytes(wanted.encode())
-        elif found := differences(SOURCES / name, wanted):
-            print("\n".join(["the texts of rc_examples differ from examples/:", *found]), file=sys.stderr)
+            (CRATES / name).parent.mkdir(exist_ok=True)
+            (CRATES / name).write_bytes(wanted.encode())
+        elif found := differences(CRATES / name, wanted):
+            print("\n".join(["the texts of the crates differ from examples/:", *found]), file=sys.stderr)
             status = 1
     return status
 

@@ -1,0 +1,84 @@
+#!/usr/bin/env python3
+"""Holds what stands in the gallery against what a built program prints, or writes it.
+
+usage: audit/gallery.py PROGRAM [--write]
+
+Of each pattern of examples/gallery that are: NAME.c, which is what `PROGRAM c` prints; and in page.md the verdict on
+broken.rc, and the last events and the end of the schedule that the file expected has for it. It also sees that each row
+of expected is what is printed. The status is 1 where something differs. The program is no part of this folder before it
+is built, so this is no part of the test.
+"""
+
+import re
+import subprocess
+import sys
+from pathlib import Path
+
+TOP = Path(__file__).resolve().parent.parent
+GALLERY = TOP / "examples" / "gallery"
+
+# How many lines of a trace a page shows.
+SHOWN = 4
+
+
+def printed(program, words, path):
+    """What the program prints for a text, and its status."""
+    with open(path, "rb") as text:
+        done = subprocess.run([program, *words], stdin=text, capture_output=True, text=True, check=False)
+    return done.stdout, done.returncode
+
+
+def rows():
+    """The rows of expected."""
+    return [line.split("\t") for line in (GALLERY / "expected").read_text().splitlines()[1:]]
+
+
+def wrong_rows(program):
+    """The rows that aren't what the program prints."""
+    for name, words, status, last in rows():
+        output, answer = printed(program, words.split(" "), GALLERY / name)
+        if (str(answer), output.splitlines()[-1:]) != (status, [last]):
+            yield f"{name} {words}: {answer} {output.splitlines()[-1:]}"
+
+
+def blocks(program, name):
+    """The two blocks of a pattern's page that say what is printed."""
+    broken = GALLERY / name / "broken.rc"
+    refused = printed(program, ["check"], broken)[0].splitlines()
+    words = next(row[1] for row in rows() if row[0] == f"{name}/broken.rc" and row[1].startswith("step"))
+    trace = printed(program, words.split(" "), broken)[0].splitlines()
+    verdict = [f"ringcheck check < examples/gallery/{name}/broken.rc", *refused]
+    return ["\n".join(lines) for lines in (verdict, trace[-SHOWN:])]
+
+
+def page(program, name, text):
+    """A page with its blocks as they should be. They stand between lines of three backquotes, in their order."""
+    parts = re.split(r"^```$\n", text, flags=re.MULTILINE)
+    parts[1::2] = [block + "\n" for block in blocks(program, name)]
+    return "```\n".join(parts)
+
+
+def main():
+    if len(sys.argv) < 2 or sys.argv[2:] not in ([], ["--write"]):
+        sys.exit(__doc__)
+    program = sys.argv[1]
+    found = list(wrong_rows(program))
+    names = sorted(path.parent.name for path in GALLERY.glob("*/page.md") if (path.parent / "broken.rc").is_file())
+    for name in names:
+        at = GALLERY / name
+        wanted = {at / f"{name}.c": printed(program, ["c"], at / f"{name}.rc")[0]}
+        wanted[at / "page.md"] = page(program, name, (at / "page.md").read_text())
+        for path, text in wanted.items():
+            if path.is_file() and path.read_text() == text:
+                continue
+            if sys.argv[2:]:
+                path.write_text(text)
+            else:
+                found.append(f"{path.relative_to(TOP)} isn't what is printed")
+    for line in found:
+        print(line, file=sys.stderr)
+    return 1 if found else 0
+
+
+if __name__ == "__main__":
+    sys.exit(main())

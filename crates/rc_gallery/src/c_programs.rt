@@ -1,0 +1,1667 @@
+//! The C of programs, each as its file in examples/c has it.
+
+pub const EVERY: &str = "\
+/* Written by `ringcheck c` from a text that it accepts. It needs POSIX threads and liburing 2.2 or later:
+   cc -std=c11 -Wall -Wextra -O2 THIS.c -luring -lpthread
+   With -DRINGCHECK_LOG=N, `--log FILE` has the first N events written to FILE, and the program ends behind them. */
+#define _GNU_SOURCE
+#include <errno.h>
+#include <fcntl.h>
+#include <inttypes.h>
+#include <liburing.h>
+#include <pthread.h>
+#include <stdarg.h>
+#include <stdbool.h>
+#include <stdint.h>
+#include <stdio.h>
+#include <stdlib.h>
+#include <string.h>
+#include <unistd.h>
+
+_Static_assert(EAGAIN == 11, \"the text has -11 where no completion is there\");
+
+/* Sums and differences of 64 bits, wrapping. */
+#define SUM(a, b) ((int64_t)((uint64_t)(a) + (uint64_t)(b)))
+#define DIFFERENCE(a, b) ((int64_t)((uint64_t)(a) - (uint64_t)(b)))
+
+/* The ring, and the lock that guards it and the pool. */
+static struct io_uring ring;
+static pthread_mutex_t ring_lock;
+
+/* Ends the program where a call of this line of the text answers what it never does in a program that is accepted. */
+__attribute__((unused)) _Noreturn static void stop(int line, const char *call, long answer)
+{
+    fprintf(stderr, \"line %d: %s answers %ld\\n\", line, call, answer);
+    exit(EXIT_FAILURE);
+}
+
+/* Ends the program where it can't begin. */
+_Noreturn static void fail(const char *what, int error)
+{
+    fprintf(stderr, \"%s: %s\\n\", what, strerror(error));
+    exit(EXIT_FAILURE);
+}
+
+/* A call that answers 0. */
+#define MUST(line, call) \\
+    do { \\
+        int answer_ = (call); \\
+        if (answer_ != 0) \\
+            stop(line, #call, answer_); \\
+    } while (0)
+
+/* How many entries the rings have. */
+enum { ENTRIES = 8, COMPLETION_ENTRIES = 8 };
+
+/* The files, and what is made where the command line names none. */
+static int file_3;
+static int file_4;
+static const struct named_file {
+    int *opened;
+    int number;
+    long length;
+} files[] = {
+    {&file_3, 3, 64},
+    {&file_4, 4, 0},
+    {NULL, 0, 0},
+};
+
+/* The buffers, each from the beginning of a page on. */
+_Alignas(4096) unsigned char buffer_a[16];
+_Alignas(4096) unsigned char buffer_b[16];
+
+/* What is in the pool: shares of buffers, tokens, credits. */
+unsigned pool_buffer_a;
+unsigned pool_buffer_b;
+unsigned pool_token_1;
+unsigned pool_token_2;
+unsigned pool_token_3;
+unsigned pool_token_4;
+unsigned pool_token_5;
+unsigned pool_token_18446744073709551615;
+unsigned pool_credits;
+
+#ifdef RINGCHECK_LOG
+/* The buffers that reads fill, by their user data. */
+static const struct filling {
+    uint64_t data;
+    const unsigned char *bytes;
+} fillings[] = {
+    {UINT64_C(1), buffer_b},
+    {0, NULL},
+};
+static FILE *log_file;
+static pthread_mutex_t log_lock = PTHREAD_MUTEX_INITIALIZER;
+static uint64_t log_count;
+static unsigned log_seen;
+
+/* Writes one event under the next number. */
+__attribute__((unused, format(printf, 1, 2))) static void log_event(const char *words, ...)
+{
+    va_list values;
+
+    if (log_file == NULL)
+        return;
+    pthread_mutex_lock(&log_lock);
+    log_count++;
+    fprintf(log_file, \"%\" PRIu64 \" \", log_count);
+    va_start(values, words);
+    vfprintf(log_file, words, values);
+    va_end(values);
+    putc('\\n', log_file);
+    if (log_count >= RINGCHECK_LOG)
+        exit(EXIT_SUCCESS);
+    pthread_mutex_unlock(&log_lock);
+}
+
+/* The byte that fills what a read moved; 0 where nothing was read, and -1 where these bytes aren't alike. */
+static int log_fill(uint64_t data, int moved)
+{
+    const struct filling *filling;
+    int at;
+
+    for (filling = fillings; filling->bytes != NULL; filling++) {
+        if (filling->data != data || moved <= 0)
+            continue;
+        for (at = 1; at < moved; at++)
+            if (filling->bytes[at] != filling->bytes[0])
+                return -1;
+        return filling->bytes[0];
+    }
+    return 0;
+}
+
+/* Writes each completion that stands in the ring and wasn't seen before, with the byte that fills what it moved. */
+__attribute__((unused)) static void log_completions(void)
+{
+    struct io_uring_cqe *cqe;
+    unsigned head;
+
+    io_uring_for_each_cqe(&ring, head, cqe) {
+        if ((int)(head - log_seen) < 0)
+            continue;
+        log_event(\"kernel %\" PRIu64 \" %d %d\", (uint64_t)cqe->user_data, cqe->res,
+                  log_fill(cqe->user_data, cqe->res));
+        log_seen = head + 1;
+    }
+}
+
+#define EVENT(...) log_event(__VA_ARGS__)
+#define SEE_COMPLETIONS() log_completions()
+#else
+#define EVENT(...) ((void)0)
+#define SEE_COMPLETIONS() ((void)0)
+#endif
+
+/* 13: thread t0 holds a:2 b:1 t:1 t:2 t:3 t:4 t:5 c:5 { */
+static void *body_t0(void *nothing)
+{
+    struct io_uring_sqe *sqe = NULL;
+    struct io_uring_cqe *cqe = NULL;
+    int answer = 0;
+    bool yes = false;
+    int64_t var_x = 0;
+    int64_t var_y = 0;
+    int64_t var_z = 0;
+    int64_t var_r = 0;
+
+    (void)nothing, (void)sqe, (void)cqe, (void)answer, (void)yes;
+    (void)var_x;
+    (void)var_y;
+    (void)var_z;
+    (void)var_r;
+    /* 14: x = -9223372036854775808 */
+    var_x = INT64_MIN;
+    EVENT(\"t0 14 set %\" PRId64, var_x);
+    /* 15: y = x */
+    var_y = var_x;
+    EVENT(\"t0 15 set %\" PRId64, var_y);
+    /* 16: x = y + 200 */
+    var_x = SUM(var_y, INT64_C(200));
+    EVENT(\"t0 16 set %\" PRId64, var_x);
+    /* 17: z = -5 - x */
+    var_z = DIFFERENCE(-INT64_C(5), var_x);
+    EVENT(\"t0 17 set %\" PRId64, var_z);
+    /* 18: store a 15 z */
+    buffer_a[15] = (unsigned char)var_z;
+    EVENT(\"t0 18 store %d\", buffer_a[15]);
+    /* 19: fill b x */
+    memset(buffer_b, (unsigned char)var_x, sizeof buffer_b);
+    EVENT(\"t0 19 fill %d\", buffer_b[0]);
+    /* 20: x = load a 15 */
+    var_x = buffer_a[15];
+    EVENT(\"t0 20 load %\" PRId64, var_x);
+    /* 21: print x */
+    printf(\"%\" PRId64 \"\\n\", var_x);
+    EVENT(\"t0 21 print %\" PRId64, var_x);
+    /* 22: lock { */
+    MUST(22, pthread_mutex_lock(&ring_lock));
+    EVENT(\"t0 22 lock\");
+    SEE_COMPLETIONS();
+    {
+        /* 23: if sq_space_left >= 0 { */
+        answer = (int)io_uring_sq_space_left(&ring);
+        yes = answer >= 0;
+        EVENT(\"t0 23 if %s\", yes ? \"yes\" : \"no\");
+        if (yes) {
+            /* 24: get_sqe */
+            sqe = io_uring_get_sqe(&ring);
+            if (sqe == NULL)
+                stop(24, \"io_uring_get_sqe\", 0);
+            EVENT(\"t0 24 get_sqe\");
+            /* 25: prep_read 3 b 16 8 */
+            io_uring_prep_read(sqe, file_3, buffer_b, 16, 8);
+            EVENT(\"t0 25 prep_read\");
+            /* 26: set_data64 1 */
+            io_uring_sqe_set_data64(sqe, UINT64_C(1));
+            EVENT(\"t0 26 set_data64 1\");
+        } else { /* 27: } else { */
+            /* 28: print y */
+            printf(\"%\" PRId64 \"\\n\", var_y);
+            EVENT(\"t0 28 print %\" PRId64, var_y);
+        } /* 29: } */
+        /* 30: get_sqe */
+        sqe = io_uring_get_sqe(&ring);
+        if (sqe == NULL)
+            stop(30, \"io_uring_get_sqe\", 0);
+        EVENT(\"t0 30 get_sqe\");
+        /* 31: prep_write 3 a 16 0 1 */
+        io_uring_prep_write(sqe, file_3, buffer_a, 16, 0);
+        EVENT(\"t0 31 prep_write\");
+        /* 32: set_data64 2 */
+        io_uring_sqe_set_data64(sqe, UINT64_C(2));
+        EVENT(\"t0 32 set_data64 2\");
+        /* 33: get_sqe */
+        sqe = io_uring_get_sqe(&ring);
+        if (sqe == NULL)
+            stop(33, \"io_uring_get_sqe\", 0);
+        EVENT(\"t0 33 get_sqe\");
+        /* 34: prep_fsync 3 0 */
+        io_uring_prep_fsync(sqe, file_3, 0);
+        EVENT(\"t0 34 prep_fsync\");
+        /* 35: set_data64 3 */
+        io_uring_sqe_set_data64(sqe, UINT64_C(3));
+        EVENT(\"t0 35 set_data64 3\");
+        /* 36: get_sqe */
+        sqe = io_uring_get_sqe(&ring);
+        if (sqe == NULL)
+            stop(36, \"io_uring_get_sqe\", 0);
+        EVENT(\"t0 36 get_sqe\");
+        /* 37: prep_fsync 4 1 */
+        io_uring_prep_fsync(sqe, file_4, IORING_FSYNC_DATASYNC);
+        EVENT(\"t0 37 prep_fsync\");
+        /* 38: set_data64 4 */
+        io_uring_sqe_set_data64(sqe, UINT64_C(4));
+        EVENT(\"t0 38 set_data64 4\");
+        /* 39: get_sqe */
+        sqe = io_uring_get_sqe(&ring);
+        if (sqe == NULL)
+            stop(39, \"io_uring_get_sqe\", 0);
+        EVENT(\"t0 39 get_sqe\");
+        /* 40: prep_nop */
+        io_uring_prep_nop(sqe);
+        EVENT(\"t0 40 prep_nop\");
+        /* 41: set_data64 5 */
+        io_uring_sqe_set_data64(sqe, UINT64_C(5));
+        EVENT(\"t0 41 set_data64 5\");
+        /* 42: loop keeps a:1 q:5 { */
+        for (;;) {
+            EVENT(\"t0 42 loop\");
+            /* 43: r = submit */
+            var_r = io_uring_submit(&ring);
+            EVENT(\"t0 43 submit %\" PRId64, var_r);
+            SEE_COMPLETIONS();
+            /* 44: if sq_ready == 0 { */
+            yes = io_uring_sq_ready(&ring) == 0;
+            EVENT(\"t0 44 if %s\", yes ? \"yes\" : \"no\");
+            if (yes) {
+                /* 45: break */
+                EVENT(\"t0 45 break\");
+                break;
+            } /* 46: } */
+            /* 47: r = submit_and_wait 1 */
+            var_r = io_uring_submit_and_wait(&ring, 1);
+            EVENT(\"t0 47 submit %\" PRId64, var_r);
+            SEE_COMPLETIONS();
+        } /* 48: } */
+    } /* 49: } */
+    EVENT(\"t0 49 release\");
+    MUST(49, pthread_mutex_unlock(&ring_lock));
+    /* 50: x = load a 15 */
+    var_x = buffer_a[15];
+    EVENT(\"t0 50 load %\" PRId64, var_x);
+    /* 51: loop keeps a:1 { */
+    for (;;) {
+        EVENT(\"t0 51 loop\");
+        /* 52: lock { */
+        MUST(52, pthread_mutex_lock(&ring_lock));
+        EVENT(\"t0 52 lock\");
+        SEE_COMPLETIONS();
+        {
+            /* 53: if take b:1 t:1 c:1 { */
+            yes = true && pool_buffer_b >= 1 && pool_token_1 >= 1 && pool_credits >= 1;
+            if (yes) {
+                pool_buffer_b -= 1;
+                pool_token_1 -= 1;
+                pool_credits -= 1;
+            }
+            EVENT(\"t0 53 if %s\", yes ? \"yes\" : \"no\");
+            if (yes) {
+                /* 54: break */
+                EVENT(\"t0 54 break\");
+                MUST(54, pthread_mutex_unlock(&ring_lock));
+                break;
+            } else { /* 55: } else { */
+            } /* 56: } */
+        } /* 57: } */
+        EVENT(\"t0 57 release\");
+        MUST(57, pthread_mutex_unlock(&ring_lock));
+    } /* 58: } */
+    /* 59: x = load b 0 */
+    var_x = buffer_b[0];
+    EVENT(\"t0 59 load %\" PRId64, var_x);
+    /* 60: print x */
+    printf(\"%\" PRId64 \"\\n\", var_x);
+    EVENT(\"t0 60 print %\" PRId64, var_x);
+    return NULL;
+}
+
+/* 62: thread t1 holds { */
+static void *body_t1(void *nothing)
+{
+    struct io_uring_sqe *sqe = NULL;
+    struct io_uring_cqe *cqe = NULL;
+    int answer = 0;
+    bool yes = false;
+    int64_t var_r = 0;
+    int64_t var_n = 0;
+    int64_t var_m = 0;
+
+    (void)nothing, (void)sqe, (void)cqe, (void)answer, (void)yes;
+    (void)var_r;
+    (void)var_n;
+    (void)var_m;
+    /* 63: loop keeps { */
+    for (;;) {
+        EVENT(\"t1 63 loop\");
+        /* 64: lock { */
+        MUST(64, pthread_mutex_lock(&ring_lock));
+        EVENT(\"t1 64 lock\");
+        SEE_COMPLETIONS();
+        {
+            /* 65: peek_cqe r { */
+            answer = io_uring_peek_cqe(&ring, &cqe);
+            if (answer == 0) {
+                var_r = cqe->res;
+                SEE_COMPLETIONS();
+                EVENT(\"t1 65 peek_cqe %\" PRIu64 \" %\" PRId64, (uint64_t)cqe->user_data, var_r);
+            } else if (answer == -EAGAIN) {
+                cqe = NULL;
+                var_r = -EAGAIN;
+                EVENT(\"t1 65 peek_cqe none\");
+                SEE_COMPLETIONS();
+            } else {
+                stop(65, \"io_uring_peek_cqe\", answer);
+            }
+            /* 66: other { */
+            if (cqe != NULL && cqe->user_data != UINT64_C(1) && cqe->user_data != UINT64_C(2) && cqe->user_data != UINT64_C(3) && cqe->user_data != UINT64_C(4) && cqe->user_data != UINT64_C(5)) {
+            } /* 67: } */
+            /* 68: case 1 { */
+            else if (cqe != NULL && cqe->user_data == UINT64_C(1)) {
+                /* 69: cqe_seen */
+                EVENT(\"t1 69 cqe_seen %\" PRIu64, (uint64_t)cqe->user_data);
+                io_uring_cqe_seen(&ring, cqe);
+                /* 70: put b:1 t:1 c:1 */
+                pool_buffer_b += 1;
+                pool_token_1 += 1;
+                pool_credits += 1;
+                EVENT(\"t1 70 put\");
+                /* 71: n = n + 1 */
+                var_n = SUM(var_n, INT64_C(1));
+                EVENT(\"t1 71 set %\" PRId64, var_n);
+            } /* 72: } */
+            /* 73: none { */
+            else if (cqe == NULL) {
+            } /* 74: } */
+            /* 75: case 2 { */
+            else if (cqe != NULL && cqe->user_data == UINT64_C(2)) {
+                /* 76: cqe_seen */
+                EVENT(\"t1 76 cqe_seen %\" PRIu64, (uint64_t)cqe->user_data);
+                io_uring_cqe_seen(&ring, cqe);
+                /* 77: n = 1 + n */
+                var_n = SUM(INT64_C(1), var_n);
+                EVENT(\"t1 77 set %\" PRId64, var_n);
+            } /* 78: } */
+            /* 79: case 3 { */
+            else if (cqe != NULL && cqe->user_data == UINT64_C(3)) {
+                /* 80: cqe_seen */
+                EVENT(\"t1 80 cqe_seen %\" PRIu64, (uint64_t)cqe->user_data);
+                io_uring_cqe_seen(&ring, cqe);
+                /* 81: n = n + 1 */
+                var_n = SUM(var_n, INT64_C(1));
+                EVENT(\"t1 81 set %\" PRId64, var_n);
+            } /* 82: } */
+            /* 83: case 4 { */
+            else if (cqe != NULL && cqe->user_data == UINT64_C(4)) {
+                /* 84: cqe_seen */
+                EVENT(\"t1 84 cqe_seen %\" PRIu64, (uint64_t)cqe->user_data);
+                io_uring_cqe_seen(&ring, cqe);
+                /* 85: put t:4 c:1 */
+                pool_token_4 += 1;
+                pool_credits += 1;
+                EVENT(\"t1 85 put\");
+                /* 86: n = n + 1 */
+                var_n = SUM(var_n, INT64_C(1));
+                EVENT(\"t1 86 set %\" PRId64, var_n);
+            } /* 87: } */
+            /* 88: case 5 { */
+            else if (cqe != NULL && cqe->user_data == UINT64_C(5)) {
+                /* 89: cqe_seen */
+                EVENT(\"t1 89 cqe_seen %\" PRIu64, (uint64_t)cqe->user_data);
+                io_uring_cqe_seen(&ring, cqe);
+                /* 90: put */
+                EVENT(\"t1 90 put\");
+                /* 91: n = n + 1 */
+                var_n = SUM(var_n, INT64_C(1));
+                EVENT(\"t1 91 set %\" PRId64, var_n);
+            } /* 92: } */
+            /* 93: } */
+        } /* 94: } */
+        EVENT(\"t1 94 release\");
+        MUST(94, pthread_mutex_unlock(&ring_lock));
+        /* 95: if n < 5 { */
+        yes = var_n < INT64_C(5);
+        EVENT(\"t1 95 if %s\", yes ? \"yes\" : \"no\");
+        if (yes) {
+            /* 96: if n <= 0 { */
+            yes = var_n <= INT64_C(0);
+            EVENT(\"t1 96 if %s\", yes ? \"yes\" : \"no\");
+            if (yes) {
+                /* 97: m = m - n */
+                var_m = DIFFERENCE(var_m, var_n);
+                EVENT(\"t1 97 set %\" PRId64, var_m);
+            } /* 98: } */
+        } else { /* 99: } else { */
+            /* 100: if n >= 5 { */
+            yes = var_n >= INT64_C(5);
+            EVENT(\"t1 100 if %s\", yes ? \"yes\" : \"no\");
+            if (yes) {
+                /* 101: break */
+                EVENT(\"t1 101 break\");
+                break;
+            } /* 102: } */
+        } /* 103: } */
+    } /* 104: } */
+    return NULL;
+}
+
+/* 106: thread t2 holds t:18446744073709551615 c:1 { */
+static void *body_t2(void *nothing)
+{
+    struct io_uring_sqe *sqe = NULL;
+    struct io_uring_cqe *cqe = NULL;
+    int answer = 0;
+    bool yes = false;
+    int64_t var_h = 0;
+    int64_t var_r = 0;
+    int64_t var_n = 0;
+
+    (void)nothing, (void)sqe, (void)cqe, (void)answer, (void)yes;
+    (void)var_h;
+    (void)var_r;
+    (void)var_n;
+    /* 107: h = 1 */
+    var_h = INT64_C(1);
+    EVENT(\"t2 107 set %\" PRId64, var_h);
+    /* 108: loop keeps when h t:18446744073709551615 c:1 { */
+    for (;;) {
+        EVENT(\"t2 108 loop\");
+        /* 109: lock { */
+        MUST(109, pthread_mutex_lock(&ring_lock));
+        EVENT(\"t2 109 lock\");
+        SEE_COMPLETIONS();
+        {
+            /* 110: if h != 0 { */
+            yes = var_h != INT64_C(0);
+            EVENT(\"t2 110 if %s\", yes ? \"yes\" : \"no\");
+            if (yes) {
+                /* 111: get_sqe */
+                sqe = io_uring_get_sqe(&ring);
+                if (sqe == NULL)
+                    stop(111, \"io_uring_get_sqe\", 0);
+                EVENT(\"t2 111 get_sqe\");
+                /* 112: prep_nop */
+                io_uring_prep_nop(sqe);
+                EVENT(\"t2 112 prep_nop\");
+                /* 113: set_data64 18446744073709551615 */
+                io_uring_sqe_set_data64(sqe, UINT64_C(18446744073709551615));
+                EVENT(\"t2 113 set_data64 18446744073709551615\");
+                /* 114: loop keeps q:1 { */
+                for (;;) {
+                    EVENT(\"t2 114 loop\");
+                    /* 115: r = submit */
+                    var_r = io_uring_submit(&ring);
+                    EVENT(\"t2 115 submit %\" PRId64, var_r);
+                    SEE_COMPLETIONS();
+                    /* 116: if sq_ready == 0 { */
+                    yes = io_uring_sq_ready(&ring) == 0;
+                    EVENT(\"t2 116 if %s\", yes ? \"yes\" : \"no\");
+                    if (yes) {
+                        /* 117: break */
+                        EVENT(\"t2 117 break\");
+                        break;
+                    } /* 118: } */
+                } /* 119: } */
+                /* 120: h = 0 */
+                var_h = INT64_C(0);
+                EVENT(\"t2 120 set %\" PRId64, var_h);
+            } else { /* 121: } else { */
+                /* 122: peek_cqe r { */
+                answer = io_uring_peek_cqe(&ring, &cqe);
+                if (answer == 0) {
+                    var_r = cqe->res;
+                    SEE_COMPLETIONS();
+                    EVENT(\"t2 122 peek_cqe %\" PRIu64 \" %\" PRId64, (uint64_t)cqe->user_data, var_r);
+                } else if (answer == -EAGAIN) {
+                    cqe = NULL;
+                    var_r = -EAGAIN;
+                    EVENT(\"t2 122 peek_cqe none\");
+                    SEE_COMPLETIONS();
+                } else {
+                    stop(122, \"io_uring_peek_cqe\", answer);
+                }
+                /* 123: case 18446744073709551615 { */
+                if (cqe != NULL && cqe->user_data == UINT64_C(18446744073709551615)) {
+                    /* 124: cqe_seen */
+                    EVENT(\"t2 124 cqe_seen %\" PRIu64, (uint64_t)cqe->user_data);
+                    io_uring_cqe_seen(&ring, cqe);
+                    /* 125: h = 1 */
+                    var_h = INT64_C(1);
+                    EVENT(\"t2 125 set %\" PRId64, var_h);
+                    /* 126: n = n + 1 */
+                    var_n = SUM(var_n, INT64_C(1));
+                    EVENT(\"t2 126 set %\" PRId64, var_n);
+                    /* 127: if n > 2 { */
+                    yes = var_n > INT64_C(2);
+                    EVENT(\"t2 127 if %s\", yes ? \"yes\" : \"no\");
+                    if (yes) {
+                        /* 128: break */
+                        EVENT(\"t2 128 break\");
+                        MUST(128, pthread_mutex_unlock(&ring_lock));
+                        break;
+                    } /* 129: } */
+                } /* 130: } */
+                /* 131: other { */
+                else if (cqe != NULL) {
+                    /* 132: if n == -9223372036854775808 { */
+                    yes = var_n == INT64_MIN;
+                    EVENT(\"t2 132 if %s\", yes ? \"yes\" : \"no\");
+                    if (yes) {
+                        /* 133: n = 0 */
+                        var_n = INT64_C(0);
+                        EVENT(\"t2 133 set %\" PRId64, var_n);
+                    } /* 134: } */
+                } /* 135: } */
+                /* 136: none { */
+                else if (cqe == NULL) {
+                } /* 137: } */
+                /* 138: } */
+            } /* 139: } */
+        } /* 140: } */
+        EVENT(\"t2 140 release\");
+        MUST(140, pthread_mutex_unlock(&ring_lock));
+    } /* 141: } */
+    return NULL;
+}
+
+/* The threads, in text order. */
+static void *(*const bodies[])(void *) = {
+    body_t0,
+    body_t1,
+    body_t2,
+    NULL,
+};
+
+/* A file that is opened for reading and writing, or for reading alone where it can't be written. */
+static int open_path(const char *path)
+{
+    int opened = open(path, O_RDWR | O_CLOEXEC);
+
+    if (opened < 0)
+        opened = open(path, O_RDONLY | O_CLOEXEC);
+    if (opened < 0)
+        fail(path, errno);
+    return opened;
+}
+
+/* A new file of so many zero bytes, which is gone when the program ends. */
+static int open_new(long length)
+{
+    FILE *made = tmpfile();
+
+    if (made == NULL || ftruncate(fileno(made), length) != 0)
+        fail(\"a temporary file\", errno);
+    return fileno(made);
+}
+
+/* Opens the file that a word of the command line names, as 3=PATH. */
+static void open_named(const char *word)
+{
+    const struct named_file *file;
+    char *path;
+    long number = strtol(word, &path, 10);
+
+    for (file = files; file->opened != NULL; file++) {
+        if (path != word && *path == '=' && file->number == number) {
+            *file->opened = open_path(path + 1);
+            return;
+        }
+    }
+    fail(word, EINVAL);
+}
+
+/* Opens the files: new ones where no word names another. */
+static void open_files(char **words)
+{
+    const struct named_file *file;
+
+    for (file = files; file->opened != NULL; file++)
+        *file->opened = -1;
+    for (; *words != NULL; words++)
+        open_named(*words);
+    for (file = files; file->opened != NULL; file++)
+        if (*file->opened < 0)
+            *file->opened = open_new(file->length);
+}
+
+static void open_lock(void)
+{
+    pthread_mutexattr_t kind;
+    int error = pthread_mutexattr_init(&kind);
+
+    if (error == 0)
+        error = pthread_mutexattr_settype(&kind, PTHREAD_MUTEX_ERRORCHECK);
+    if (error == 0)
+        error = pthread_mutex_init(&ring_lock, &kind);
+    if (error != 0)
+        fail(\"pthread_mutex_init\", error);
+}
+
+static void open_ring(void)
+{
+    struct io_uring_params params;
+    int error;
+
+    memset(&params, 0, sizeof params);
+    params.flags = IORING_SETUP_CQSIZE;
+    params.cq_entries = COMPLETION_ENTRIES;
+    error = io_uring_queue_init_params(ENTRIES, &ring, &params);
+    if (error < 0)
+        fail(\"io_uring_queue_init_params\", -error);
+    /* An older kernel's library keeps one user data for itself. */
+    if (!(params.features & IORING_FEAT_EXT_ARG))
+        fail(\"io_uring_queue_init_params\", ENOSYS);
+}
+
+/* The words of the command line behind what is said of the log. */
+static char **open_log(char **words)
+{
+#ifdef RINGCHECK_LOG
+    if (words[0] != NULL && strcmp(words[0], \"--log\") == 0 && words[1] != NULL) {
+        log_file = fopen(words[1], \"we\");
+        if (log_file == NULL)
+            fail(words[1], errno);
+        setvbuf(log_file, NULL, _IOLBF, BUFSIZ);
+        return words + 2;
+    }
+#endif
+    return words;
+}
+
+int main(int count, char **words)
+{
+    pthread_t threads[sizeof bodies / sizeof *bodies];
+    int at;
+    int error;
+
+    open_files(open_log(words + (count > 0)));
+    open_lock();
+    open_ring();
+    for (at = 0; bodies[at] != NULL; at++) {
+        error = pthread_create(&threads[at], NULL, bodies[at], NULL);
+        if (error != 0)
+            fail(\"pthread_create\", error);
+    }
+    for (at = 0; bodies[at] != NULL; at++) {
+        error = pthread_join(threads[at], NULL);
+        if (error != 0)
+            fail(\"pthread_join\", error);
+    }
+    io_uring_queue_exit(&ring);
+    return EXIT_SUCCESS;
+}
+";
+
+pub const GATHER: &str = "\
+/* Written by `ringcheck c` from a text that it accepts. It needs POSIX threads and liburing 2.2 or later:
+   cc -std=c11 -Wall -Wextra -O2 THIS.c -luring -lpthread
+   With -DRINGCHECK_LOG=N, `--log FILE` has the first N events written to FILE, and the program ends behind them. */
+#define _GNU_SOURCE
+#include <errno.h>
+#include <fcntl.h>
+#include <inttypes.h>
+#include <liburing.h>
+#include <pthread.h>
+#include <stdarg.h>
+#include <stdbool.h>
+#include <stdint.h>
+#include <stdio.h>
+#include <stdlib.h>
+#include <string.h>
+#include <unistd.h>
+
+_Static_assert(EAGAIN == 11, \"the text has -11 where no completion is there\");
+
+/* Sums and differences of 64 bits, wrapping. */
+#define SUM(a, b) ((int64_t)((uint64_t)(a) + (uint64_t)(b)))
+#define DIFFERENCE(a, b) ((int64_t)((uint64_t)(a) - (uint64_t)(b)))
+
+/* The ring, and the lock that guards it and the pool. */
+static struct io_uring ring;
+static pthread_mutex_t ring_lock;
+
+/* Ends the program where a call of this line of the text answers what it never does in a program that is accepted. */
+__attribute__((unused)) _Noreturn static void stop(int line, const char *call, long answer)
+{
+    fprintf(stderr, \"line %d: %s answers %ld\\n\", line, call, answer);
+    exit(EXIT_FAILURE);
+}
+
+/* Ends the program where it can't begin. */
+_Noreturn static void fail(const char *what, int error)
+{
+    fprintf(stderr, \"%s: %s\\n\", what, strerror(error));
+    exit(EXIT_FAILURE);
+}
+
+/* A call that answers 0. */
+#define MUST(line, call) \\
+    do { \\
+        int answer_ = (call); \\
+        if (answer_ != 0) \\
+            stop(line, #call, answer_); \\
+    } while (0)
+
+/* How many entries the rings have. */
+enum { ENTRIES = 4, COMPLETION_ENTRIES = 8 };
+
+/* The files, and what is made where the command line names none. */
+static int file_3;
+static const struct named_file {
+    int *opened;
+    int number;
+    long length;
+} files[] = {
+    {&file_3, 3, 64},
+    {NULL, 0, 0},
+};
+
+/* The buffers, each from the beginning of a page on. */
+_Alignas(4096) unsigned char buffer_page1[16];
+_Alignas(4096) unsigned char buffer_page2[16];
+_Alignas(4096) unsigned char buffer_page3[16];
+
+/* What is in the pool: shares of buffers, tokens, credits. */
+unsigned pool_buffer_page1;
+unsigned pool_buffer_page2;
+unsigned pool_buffer_page3;
+unsigned pool_token_1;
+unsigned pool_token_2;
+unsigned pool_token_3;
+unsigned pool_credits;
+
+#ifdef RINGCHECK_LOG
+/* The buffers that reads fill, by their user data. */
+static const struct filling {
+    uint64_t data;
+    const unsigned char *bytes;
+} fillings[] = {
+    {0, NULL},
+};
+static FILE *log_file;
+static pthread_mutex_t log_lock = PTHREAD_MUTEX_INITIALIZER;
+static uint64_t log_count;
+static unsigned log_seen;
+
+/* Writes one event under the next number. */
+__attribute__((unused, format(printf, 1, 2))) static void log_event(const char *words, ...)
+{
+    va_list values;
+
+    if (log_file == NULL)
+        return;
+    pthread_mutex_lock(&log_lock);
+    log_count++;
+    fprintf(log_file, \"%\" PRIu64 \" \", log_count);
+    va_start(values, words);
+    vfprintf(log_file, words, values);
+    va_end(values);
+    putc('\\n', log_file);
+    if (log_count >= RINGCHECK_LOG)
+        exit(EXIT_SUCCESS);
+    pthread_mutex_unlock(&log_lock);
+}
+
+/* The byte that fills what a read moved; 0 where nothing was read, and -1 where these bytes aren't alike. */
+static int log_fill(uint64_t data, int moved)
+{
+    const struct filling *filling;
+    int at;
+
+    for (filling = fillings; filling->bytes != NULL; filling++) {
+        if (filling->data != data || moved <= 0)
+            continue;
+        for (at = 1; at < moved; at++)
+            if (filling->bytes[at] != filling->bytes[0])
+                return -1;
+        return filling->bytes[0];
+    }
+    return 0;
+}
+
+/* Writes each completion that stands in the ring and wasn't seen before, with the byte that fills what it moved. */
+__attribute__((unused)) static void log_completions(void)
+{
+    struct io_uring_cqe *cqe;
+    unsigned head;
+
+    io_uring_for_each_cqe(&ring, head, cqe) {
+        if ((int)(head - log_seen) < 0)
+            continue;
+        log_event(\"kernel %\" PRIu64 \" %d %d\", (uint64_t)cqe->user_data, cqe->res,
+                  log_fill(cqe->user_data, cqe->res));
+        log_seen = head + 1;
+    }
+}
+
+#define EVENT(...) log_event(__VA_ARGS__)
+#define SEE_COMPLETIONS() log_completions()
+#else
+#define EVENT(...) ((void)0)
+#define SEE_COMPLETIONS() ((void)0)
+#endif
+
+/* 10: thread t0 holds page1:1 page2:1 page3:1 t:1 t:2 t:3 c:3 { */
+static void *body_t0(void *nothing)
+{
+    struct io_uring_sqe *sqe = NULL;
+    struct io_uring_cqe *cqe = NULL;
+    int answer = 0;
+    bool yes = false;
+    int64_t var_r = 0;
+
+    (void)nothing, (void)sqe, (void)cqe, (void)answer, (void)yes;
+    (void)var_r;
+    /* 11: lock { */
+    MUST(11, pthread_mutex_lock(&ring_lock));
+    EVENT(\"t0 11 lock\");
+    SEE_COMPLETIONS();
+    {
+        /* 12: get_sqe */
+        sqe = io_uring_get_sqe(&ring);
+        if (sqe == NULL)
+            stop(12, \"io_uring_get_sqe\", 0);
+        EVENT(\"t0 12 get_sqe\");
+        /* 13: prep_write 3 page1 16 0 1 */
+        io_uring_prep_write(sqe, file_3, buffer_page1, 16, 0);
+        EVENT(\"t0 13 prep_write\");
+        /* 14: set_data64 1 */
+        io_uring_sqe_set_data64(sqe, UINT64_C(1));
+        EVENT(\"t0 14 set_data64 1\");
+        /* 15: get_sqe */
+        sqe = io_uring_get_sqe(&ring);
+        if (sqe == NULL)
+            stop(15, \"io_uring_get_sqe\", 0);
+        EVENT(\"t0 15 get_sqe\");
+        /* 16: prep_write 3 page2 16 16 1 */
+        io_uring_prep_write(sqe, file_3, buffer_page2, 16, 16);
+        EVENT(\"t0 16 prep_write\");
+        /* 17: set_data64 2 */
+        io_uring_sqe_set_data64(sqe, UINT64_C(2));
+        EVENT(\"t0 17 set_data64 2\");
+        /* 18: get_sqe */
+        sqe = io_uring_get_sqe(&ring);
+        if (sqe == NULL)
+            stop(18, \"io_uring_get_sqe\", 0);
+        EVENT(\"t0 18 get_sqe\");
+        /* 19: prep_write 3 page3 16 32 1 */
+        io_uring_prep_write(sqe, file_3, buffer_page3, 16, 32);
+        EVENT(\"t0 19 prep_write\");
+        /* 20: set_data64 3 */
+        io_uring_sqe_set_data64(sqe, UINT64_C(3));
+        EVENT(\"t0 20 set_data64 3\");
+        /* 21: loop keeps q:3 { */
+        for (;;) {
+            EVENT(\"t0 21 loop\");
+            /* 22: r = submit */
+            var_r = io_uring_submit(&ring);
+            EVENT(\"t0 22 submit %\" PRId64, var_r);
+            SEE_COMPLETIONS();
+            /* 23: if sq_ready == 0 { */
+            yes = io_uring_sq_ready(&ring) == 0;
+            EVENT(\"t0 23 if %s\", yes ? \"yes\" : \"no\");
+            if (yes) {
+                /* 24: break */
+                EVENT(\"t0 24 break\");
+                break;
+            } /* 25: } */
+        } /* 26: } */
+    } /* 27: } */
+    EVENT(\"t0 27 release\");
+    MUST(27, pthread_mutex_unlock(&ring_lock));
+    /* 28: loop keeps { */
+    for (;;) {
+        EVENT(\"t0 28 loop\");
+        /* 29: lock { */
+        MUST(29, pthread_mutex_lock(&ring_lock));
+        EVENT(\"t0 29 lock\");
+        SEE_COMPLETIONS();
+        {
+            /* 30: peek_cqe r { */
+            answer = io_uring_peek_cqe(&ring, &cqe);
+            if (answer == 0) {
+                var_r = cqe->res;
+                SEE_COMPLETIONS();
+                EVENT(\"t0 30 peek_cqe %\" PRIu64 \" %\" PRId64, (uint64_t)cqe->user_data, var_r);
+            } else if (answer == -EAGAIN) {
+                cqe = NULL;
+                var_r = -EAGAIN;
+                EVENT(\"t0 30 peek_cqe none\");
+                SEE_COMPLETIONS();
+            } else {
+                stop(30, \"io_uring_peek_cqe\", answer);
+            }
+            /* 31: case 1 { */
+            if (cqe != NULL && cqe->user_data == UINT64_C(1)) {
+                /* 32: cqe_seen */
+                EVENT(\"t0 32 cqe_seen %\" PRIu64, (uint64_t)cqe->user_data);
+                io_uring_cqe_seen(&ring, cqe);
+                /* 33: put page1:1 t:1 c:1 */
+                pool_buffer_page1 += 1;
+                pool_token_1 += 1;
+                pool_credits += 1;
+                EVENT(\"t0 33 put\");
+            } /* 34: } */
+            /* 35: case 2 { */
+            else if (cqe != NULL && cqe->user_data == UINT64_C(2)) {
+                /* 36: cqe_seen */
+                EVENT(\"t0 36 cqe_seen %\" PRIu64, (uint64_t)cqe->user_data);
+                io_uring_cqe_seen(&ring, cqe);
+                /* 37: put page2:1 t:2 c:1 */
+                pool_buffer_page2 += 1;
+                pool_token_2 += 1;
+                pool_credits += 1;
+                EVENT(\"t0 37 put\");
+            } /* 38: } */
+            /* 39: case 3 { */
+            else if (cqe != NULL && cqe->user_data == UINT64_C(3)) {
+                /* 40: cqe_seen */
+                EVENT(\"t0 40 cqe_seen %\" PRIu64, (uint64_t)cqe->user_data);
+                io_uring_cqe_seen(&ring, cqe);
+                /* 41: put page3:1 t:3 c:1 */
+                pool_buffer_page3 += 1;
+                pool_token_3 += 1;
+                pool_credits += 1;
+                EVENT(\"t0 41 put\");
+            } /* 42: } */
+            /* 43: other { */
+            else if (cqe != NULL) {
+            } /* 44: } */
+            /* 45: none { */
+            else if (cqe == NULL) {
+            } /* 46: } */
+            /* 47: } */
+            /* 48: if take page1:1 page2:1 page3:1 t:1 t:2 t:3 c:3 { */
+            yes = true && pool_buffer_page1 >= 1 && pool_buffer_page2 >= 1 && pool_buffer_page3 >= 1 && pool_token_1 >= 1 && pool_token_2 >= 1 && pool_token_3 >= 1 && pool_credits >= 3;
+            if (yes) {
+                pool_buffer_page1 -= 1;
+                pool_buffer_page2 -= 1;
+                pool_buffer_page3 -= 1;
+                pool_token_1 -= 1;
+                pool_token_2 -= 1;
+                pool_token_3 -= 1;
+                pool_credits -= 3;
+            }
+            EVENT(\"t0 48 if %s\", yes ? \"yes\" : \"no\");
+            if (yes) {
+                /* 49: break */
+                EVENT(\"t0 49 break\");
+                MUST(49, pthread_mutex_unlock(&ring_lock));
+                break;
+            } /* 50: } */
+        } /* 51: } */
+        EVENT(\"t0 51 release\");
+        MUST(51, pthread_mutex_unlock(&ring_lock));
+    } /* 52: } */
+    /* 53: fill page1 r */
+    memset(buffer_page1, (unsigned char)var_r, sizeof buffer_page1);
+    EVENT(\"t0 53 fill %d\", buffer_page1[0]);
+    /* 54: fill page2 r */
+    memset(buffer_page2, (unsigned char)var_r, sizeof buffer_page2);
+    EVENT(\"t0 54 fill %d\", buffer_page2[0]);
+    /* 55: fill page3 r */
+    memset(buffer_page3, (unsigned char)var_r, sizeof buffer_page3);
+    EVENT(\"t0 55 fill %d\", buffer_page3[0]);
+    return NULL;
+}
+
+/* The threads, in text order. */
+static void *(*const bodies[])(void *) = {
+    body_t0,
+    NULL,
+};
+
+/* A file that is opened for reading and writing, or for reading alone where it can't be written. */
+static int open_path(const char *path)
+{
+    int opened = open(path, O_RDWR | O_CLOEXEC);
+
+    if (opened < 0)
+        opened = open(path, O_RDONLY | O_CLOEXEC);
+    if (opened < 0)
+        fail(path, errno);
+    return opened;
+}
+
+/* A new file of so many zero bytes, which is gone when the program ends. */
+static int open_new(long length)
+{
+    FILE *made = tmpfile();
+
+    if (made == NULL || ftruncate(fileno(made), length) != 0)
+        fail(\"a temporary file\", errno);
+    return fileno(made);
+}
+
+/* Opens the file that a word of the command line names, as 3=PATH. */
+static void open_named(const char *word)
+{
+    const struct named_file *file;
+    char *path;
+    long number = strtol(word, &path, 10);
+
+    for (file = files; file->opened != NULL; file++) {
+        if (path != word && *path == '=' && file->number == number) {
+            *file->opened = open_path(path + 1);
+            return;
+        }
+    }
+    fail(word, EINVAL);
+}
+
+/* Opens the files: new ones where no word names another. */
+static void open_files(char **words)
+{
+    const struct named_file *file;
+
+    for (file = files; file->opened != NULL; file++)
+        *file->opened = -1;
+    for (; *words != NULL; words++)
+        open_named(*words);
+    for (file = files; file->opened != NULL; file++)
+        if (*file->opened < 0)
+            *file->opened = open_new(file->length);
+}
+
+static void open_lock(void)
+{
+    pthread_mutexattr_t kind;
+    int error = pthread_mutexattr_init(&kind);
+
+    if (error == 0)
+        error = pthread_mutexattr_settype(&kind, PTHREAD_MUTEX_ERRORCHECK);
+    if (error == 0)
+        error = pthread_mutex_init(&ring_lock, &kind);
+    if (error != 0)
+        fail(\"pthread_mutex_init\", error);
+}
+
+static void open_ring(void)
+{
+    struct io_uring_params params;
+    int error;
+
+    memset(&params, 0, sizeof params);
+    params.flags = IORING_SETUP_CQSIZE;
+    params.cq_entries = COMPLETION_ENTRIES;
+    error = io_uring_queue_init_params(ENTRIES, &ring, &params);
+    if (error < 0)
+        fail(\"io_uring_queue_init_params\", -error);
+    /* An older kernel's library keeps one user data for itself. */
+    if (!(params.features & IORING_FEAT_EXT_ARG))
+        fail(\"io_uring_queue_init_params\", ENOSYS);
+}
+
+/* The words of the command line behind what is said of the log. */
+static char **open_log(char **words)
+{
+#ifdef RINGCHECK_LOG
+    if (words[0] != NULL && strcmp(words[0], \"--log\") == 0 && words[1] != NULL) {
+        log_file = fopen(words[1], \"we\");
+        if (log_file == NULL)
+            fail(words[1], errno);
+        setvbuf(log_file, NULL, _IOLBF, BUFSIZ);
+        return words + 2;
+    }
+#endif
+    return words;
+}
+
+int main(int count, char **words)
+{
+    pthread_t threads[sizeof bodies / sizeof *bodies];
+    int at;
+    int error;
+
+    open_files(open_log(words + (count > 0)));
+    open_lock();
+    open_ring();
+    for (at = 0; bodies[at] != NULL; at++) {
+        error = pthread_create(&threads[at], NULL, bodies[at], NULL);
+        if (error != 0)
+            fail(\"pthread_create\", error);
+    }
+    for (at = 0; bodies[at] != NULL; at++) {
+        error = pthread_join(threads[at], NULL);
+        if (error != 0)
+            fail(\"pthread_join\", error);
+    }
+    io_uring_queue_exit(&ring);
+    return EXIT_SUCCESS;
+}
+";
+
+pub const HANDOFF: &str = "\
+/* Written by `ringcheck c` from a text that it accepts. It needs POSIX threads and liburing 2.2 or later:
+   cc -std=c11 -Wall -Wextra -O2 THIS.c -luring -lpthread
+   With -DRINGCHECK_LOG=N, `--log FILE` has the first N events written to FILE, and the program ends behind them. */
+#define _GNU_SOURCE
+#include <errno.h>
+#include <fcntl.h>
+#include <inttypes.h>
+#include <liburing.h>
+#include <pthread.h>
+#include <stdarg.h>
+#include <stdbool.h>
+#include <stdint.h>
+#include <stdio.h>
+#include <stdlib.h>
+#include <string.h>
+#include <unistd.h>
+
+_Static_assert(EAGAIN == 11, \"the text has -11 where no completion is there\");
+
+/* Sums and differences of 64 bits, wrapping. */
+#define SUM(a, b) ((int64_t)((uint64_t)(a) + (uint64_t)(b)))
+#define DIFFERENCE(a, b) ((int64_t)((uint64_t)(a) - (uint64_t)(b)))
+
+/* The ring, and the lock that guards it and the pool. */
+static struct io_uring ring;
+static pthread_mutex_t ring_lock;
+
+/* Ends the program where a call of this line of the text answers what it never does in a program that is accepted. */
+__attribute__((unused)) _Noreturn static void stop(int line, const char *call, long answer)
+{
+    fprintf(stderr, \"line %d: %s answers %ld\\n\", line, call, answer);
+    exit(EXIT_FAILURE);
+}
+
+/* Ends the program where it can't begin. */
+_Noreturn static void fail(const char *what, int error)
+{
+    fprintf(stderr, \"%s: %s\\n\", what, strerror(error));
+    exit(EXIT_FAILURE);
+}
+
+/* A call that answers 0. */
+#define MUST(line, call) \\
+    do { \\
+        int answer_ = (call); \\
+        if (answer_ != 0) \\
+            stop(line, #call, answer_); \\
+    } while (0)
+
+/* How many entries the rings have. */
+enum { ENTRIES = 4, COMPLETION_ENTRIES = 8 };
+
+/* The files, and what is made where the command line names none. */
+static int file_3;
+static const struct named_file {
+    int *opened;
+    int number;
+    long length;
+} files[] = {
+    {&file_3, 3, 64},
+    {NULL, 0, 0},
+};
+
+/* The buffers, each from the beginning of a page on. */
+_Alignas(4096) unsigned char buffer_a[16];
+
+#ifdef RINGCHECK_LOG
+/* The buffers that reads fill, by their user data. */
+static const struct filling {
+    uint64_t data;
+    const unsigned char *bytes;
+} fillings[] = {
+    {UINT64_C(7), buffer_a},
+    {0, NULL},
+};
+static FILE *log_file;
+static pthread_mutex_t log_lock = PTHREAD_MUTEX_INITIALIZER;
+static uint64_t log_count;
+static unsigned log_seen;
+
+/* Writes one event under the next number. */
+__attribute__((unused, format(printf, 1, 2))) static void log_event(const char *words, ...)
+{
+    va_list values;
+
+    if (log_file == NULL)
+        return;
+    pthread_mutex_lock(&log_lock);
+    log_count++;
+    fprintf(log_file, \"%\" PRIu64 \" \", log_count);
+    va_start(values, words);
+    vfprintf(log_file, words, values);
+    va_end(values);
+    putc('\\n', log_file);
+    if (log_count >= RINGCHECK_LOG)
+        exit(EXIT_SUCCESS);
+    pthread_mutex_unlock(&log_lock);
+}
+
+/* The byte that fills what a read moved; 0 where nothing was read, and -1 where these bytes aren't alike. */
+static int log_fill(uint64_t data, int moved)
+{
+    const struct filling *filling;
+    int at;
+
+    for (filling = fillings; filling->bytes != NULL; filling++) {
+        if (filling->data != data || moved <= 0)
+            continue;
+        for (at = 1; at < moved; at++)
+            if (filling->bytes[at] != filling->bytes[0])
+                return -1;
+        return filling->bytes[0];
+    }
+    return 0;
+}
+
+/* Writes each completion that stands in the ring and wasn't seen before, with the byte that fills what it moved. */
+__attribute__((unused)) static void log_completions(void)
+{
+    struct io_uring_cqe *cqe;
+    unsigned head;
+
+    io_uring_for_each_cqe(&ring, head, cqe) {
+        if ((int)(head - log_seen) < 0)
+            continue;
+        log_event(\"kernel %\" PRIu64 \" %d %d\", (uint64_t)cqe->user_data, cqe->res,
+                  log_fill(cqe->user_data, cqe->res));
+        log_seen = head + 1;
+    }
+}
+
+#define EVENT(...) log_event(__VA_ARGS__)
+#define SEE_COMPLETIONS() log_completions()
+#else
+#define EVENT(...) ((void)0)
+#define SEE_COMPLETIONS() ((void)0)
+#endif
+
+/* 6: thread t0 holds a:1 t:7 c:1 { */
+static void *body_t0(void *nothing)
+{
+    struct io_uring_sqe *sqe = NULL;
+    struct io_uring_cqe *cqe = NULL;
+    int answer = 0;
+    bool yes = false;
+    int64_t var_r = 0;
+
+    (void)nothing, (void)sqe, (void)cqe, (void)answer, (void)yes;
+    (void)var_r;
+    /* 7: lock { */
+    MUST(7, pthread_mutex_lock(&ring_lock));
+    EVENT(\"t0 7 lock\");
+    SEE_COMPLETIONS();
+    {
+        /* 8: get_sqe */
+        sqe = io_uring_get_sqe(&ring);
+        if (sqe == NULL)
+            stop(8, \"io_uring_get_sqe\", 0);
+        EVENT(\"t0 8 get_sqe\");
+        /* 9: prep_read 3 a 16 0 */
+        io_uring_prep_read(sqe, file_3, buffer_a, 16, 0);
+        EVENT(\"t0 9 prep_read\");
+        /* 10: set_data64 7 */
+        io_uring_sqe_set_data64(sqe, UINT64_C(7));
+        EVENT(\"t0 10 set_data64 7\");
+        /* 11: loop keeps q:1 { */
+        for (;;) {
+            EVENT(\"t0 11 loop\");
+            /* 12: r = submit */
+            var_r = io_uring_submit(&ring);
+            EVENT(\"t0 12 submit %\" PRId64, var_r);
+            SEE_COMPLETIONS();
+            /* 13: if sq_ready == 0 { */
+            yes = io_uring_sq_ready(&ring) == 0;
+            EVENT(\"t0 13 if %s\", yes ? \"yes\" : \"no\");
+            if (yes) {
+                /* 14: break */
+                EVENT(\"t0 14 break\");
+                break;
+            } /* 15: } */
+        } /* 16: } */
+    } /* 17: } */
+    EVENT(\"t0 17 release\");
+    MUST(17, pthread_mutex_unlock(&ring_lock));
+    return NULL;
+}
+
+/* 19: thread t1 holds { */
+static void *body_t1(void *nothing)
+{
+    struct io_uring_sqe *sqe = NULL;
+    struct io_uring_cqe *cqe = NULL;
+    int answer = 0;
+    bool yes = false;
+    int64_t var_r = 0;
+    int64_t var_v = 0;
+
+    (void)nothing, (void)sqe, (void)cqe, (void)answer, (void)yes;
+    (void)var_r;
+    (void)var_v;
+    /* 20: loop keeps { */
+    for (;;) {
+        EVENT(\"t1 20 loop\");
+        /* 21: lock { */
+        MUST(21, pthread_mutex_lock(&ring_lock));
+        EVENT(\"t1 21 lock\");
+        SEE_COMPLETIONS();
+        {
+            /* 22: peek_cqe r { */
+            answer = io_uring_peek_cqe(&ring, &cqe);
+            if (answer == 0) {
+                var_r = cqe->res;
+                SEE_COMPLETIONS();
+                EVENT(\"t1 22 peek_cqe %\" PRIu64 \" %\" PRId64, (uint64_t)cqe->user_data, var_r);
+            } else if (answer == -EAGAIN) {
+                cqe = NULL;
+                var_r = -EAGAIN;
+                EVENT(\"t1 22 peek_cqe none\");
+                SEE_COMPLETIONS();
+            } else {
+                stop(22, \"io_uring_peek_cqe\", answer);
+            }
+            /* 23: case 7 { */
+            if (cqe != NULL && cqe->user_data == UINT64_C(7)) {
+                /* 24: cqe_seen */
+                EVENT(\"t1 24 cqe_seen %\" PRIu64, (uint64_t)cqe->user_data);
+                io_uring_cqe_seen(&ring, cqe);
+                /* 25: break */
+                EVENT(\"t1 25 break\");
+                MUST(25, pthread_mutex_unlock(&ring_lock));
+                break;
+            } /* 26: } */
+            /* 27: other { */
+            else if (cqe != NULL) {
+            } /* 28: } */
+            /* 29: none { */
+            else if (cqe == NULL) {
+            } /* 30: } */
+            /* 31: } */
+        } /* 32: } */
+        EVENT(\"t1 32 release\");
+        MUST(32, pthread_mutex_unlock(&ring_lock));
+    } /* 33: } */
+    /* 34: v = load a 0 */
+    var_v = buffer_a[0];
+    EVENT(\"t1 34 load %\" PRId64, var_v);
+    /* 35: print v */
+    printf(\"%\" PRId64 \"\\n\", var_v);
+    EVENT(\"t1 35 print %\" PRId64, var_v);
+    return NULL;
+}
+
+/* The threads, in text order. */
+static void *(*const bodies[])(void *) = {
+    body_t0,
+    body_t1,
+    NULL,
+};
+
+/* A file that is opened for reading and writing, or for reading alone where it can't be written. */
+static int open_path(const char *path)
+{
+    int opened = open(path, O_RDWR | O_CLOEXEC);
+
+    if (opened < 0)
+        opened = open(path, O_RDONLY | O_CLOEXEC);
+    if (opened < 0)
+        fail(path, errno);
+    return opened;
+}
+
+/* A new file of so many zero bytes, which is gone when the program ends. */
+static int open_new(long length)
+{
+    FILE *made = tmpfile();
+
+    if (made == NULL || ftruncate(fileno(made), length) != 0)
+        fail(\"a temporary file\", errno);
+    return fileno(made);
+}
+
+/* Opens the file that a word of the command line names, as 3=PATH. */
+static void open_named(const char *word)
+{
+    const struct named_file *file;
+    char *path;
+    long number = strtol(word, &path, 10);
+
+    for (file = files; file->opened != NULL; file++) {
+        if (path != word && *path == '=' && file->number == number) {
+            *file->opened = open_path(path + 1);
+            return;
+        }
+    }
+    fail(word, EINVAL);
+}
+
+/* Opens the files: new ones where no word names another. */
+static void open_files(char **words)
+{
+    const struct named_file *file;
+
+    for (file = files; file->opened != NULL; file++)
+        *file->opened = -1;
+    for (; *words != NULL; words++)
+        open_named(*words);
+    for (file = files; file->opened != NULL; file++)
+        if (*file->opened < 0)
+            *file->opened = open_new(file->length);
+}
+
+static void open_lock(void)
+{
+    pthread_mutexattr_t kind;
+    int error = pthread_mutexattr_init(&kind);
+
+    if (error == 0)
+        error = pthread_mutexattr_settype(&kind, PTHREAD_MUTEX_ERRORCHECK);
+    if (error == 0)
+        error = pthread_mutex_init(&ring_lock, &kind);
+    if (error != 0)
+        fail(\"pthread_mutex_init\", error);
+}
+
+static void open_ring(void)
+{
+    struct io_uring_params params;
+    int error;
+
+    memset(&params, 0, sizeof params);
+    params.flags = IORING_SETUP_CQSIZE;
+    params.cq_entries = COMPLETION_ENTRIES;
+    error = io_uring_queue_init_params(ENTRIES, &ring, &params);
+    if (error < 0)
+        fail(\"io_uring_queue_init_params\", -error);
+    /* An older kernel's library keeps one user data for itself. */
+    if (!(params.features & IORING_FEAT_EXT_ARG))
+        fail(\"io_uring_queue_init_params\", ENOSYS);
+}
+
+/* The words of the command line behind what is said of the log. */
+static char **open_log(char **words)
+{
+#ifdef RINGCHECK_LOG
+    if (words[0] != NULL && strcmp(words[0], \"--log\") == 0 && words[1] != NULL) {
+        log_file = fopen(words[1], \"we\");
+        if (log_file == NULL)
+            fail(words[1], errno);
+        setvbuf(log_file, NULL, _IOLBF, BUFSIZ);
+        return words + 2;
+    }
+#endif
+    return words;
+}
+
+int main(int count, char **words)
+{
+    pthread_t threads[sizeof bodies / sizeof *bodies];
+    int at;
+    int error;
+
+    open_files(open_log(words + (count > 0)));
+    open_lock();
+    open_ring();
+    for (at = 0; bodies[at] != NULL; at++) {
+        error = pthread_create(&threads[at], NULL, bodies[at], NULL);
+        if (error != 0)
+            fail(\"pthread_create\", error);
+    }
+    for (at = 0; bodies[at] != NULL; at++) {
+        error = pthread_join(threads[at], NULL);
+        if (error != 0)
+            fail(\"pthread_join\", error);
+    }
+    io_uring_queue_exit(&ring);
+    return EXIT_SUCCESS;
+}
+";
+
+pub const EVERY_TEXT: &str = "\
+ringcheck 3 # Every statement, every test and every comparison of the notation stands here.
+ring 8 cq 8
+file 3 64
+file 4 0
+buffer a 16 2
+buffer b 16 1
+token 1 read b
+token 2 write a 1
+token 3 fsync
+token 4 fsync
+token 5 nop
+token 18446744073709551615 nop
+thread t0 holds a:2 b:1 t:1 t:2 t:3 t:4 t:5 c:5 {
+x = -9223372036854775808
+y = x
+x = y + 200
+z = -5 - x
+store a 15 z
+fill b x
+x = load a 15
+print x
+lock {
+if sq_space_left >= 0 {
+get_sqe
+prep_read 3 b 16 8
+set_data64 1
+} else {
+print y
+}
+get_sqe
+prep_write 3 a 16 0 1
+set_data64 2
+get_sqe
+prep_fsync 3 0
+set_data64 3
+get_sqe
+prep_fsync 4 1
+set_data64 4
+get_sqe
+prep_nop
+set_data64 5
+loop keeps a:1 q:5 {
+r = submit
+if sq_ready == 0 {
+break
+}
+r = submit_and_wait 1
+}
+}
+x = load a 15
+loop keeps a:1 {
+lock {
+if take b:1 t:1 c:1 {
+break
+} else {
+}
+}
+}
+x = load b 0
+print x
+}
+thread t1 holds {
+loop keeps {
+lock {
+peek_cqe r {
+other {
+}
+case 1 {
+cqe_seen
+put b:1 t:1 c:1
+n = n + 1
+}
+none {
+}
+case 2 {
+cqe_seen
+n = 1 + n
+}
+case 3 {
+cqe_seen
+n = n + 1
+}
+case 4 {
+cqe_seen
+put t:4 c:1
+n = n + 1
+}
+case 5 {
+cqe_seen
+put
+n = n + 1
+}
+}
+}
+if n < 5 {
+if n <= 0 {
+m = m - n
+}
+} else {
+if n >= 5 {
+break
+}
+}
+}
+}
+thread t2 holds t:18446744073709551615 c:1 {
+h = 1
+loop keeps when h t:18446744073709551615 c:1 {
+lock {
+if h != 0 {
+get_sqe
+prep_nop
+set_data64 18446744073709551615
+loop keeps q:1 {
+r = submit
+if sq_ready == 0 {
+break
+}
+}
+h = 0
+} else {
+peek_cqe r {
+case 18446744073709551615 {
+cqe_seen
+h = 1
+n = n + 1
+if n > 2 {
+break
+}
+}
+other {
+if n == -9223372036854775808 {
+n = 0
+}
+}
+none {
+}
+}
+}
+}
+}
+}
+";
