@@ -1,0 +1,60 @@
+#!/usr/bin/env python3
+"""Holds what the crate rc_explain says of each cause against docs/causes.md, or writes it there.
+
+usage: audit/causes.py [--write]
+
+The crate has two sentences for each read fault and each cause of a refusal: why it is a mistake, and how it is mended.
+docs/causes.md has them below the heading of each, as a paragraph `**In short.** SENTENCE **Then:** MEND`. Without --write
+nothing is changed, and the status is 1 where a paragraph differs from the crate's, but for where its lines end, or is
+missing on either side.
+"""
+
+import re
+import sys
+import textwrap
+from pathlib import Path
+
+TOP = Path(__file__).resolve().parent.parent
+DOCUMENT = TOP / "docs" / "causes.md"
+SOURCE = TOP / "crates" / "rc_explain" / "src" / "causes.rt"
+FUNCTION = re.compile(r"^fn (sentence|mend)_of_(read|rule)\b.*?^}", re.M | re.S)
+ARM = re.compile(r'\w+::(\w+) =>\s*\{?\s*"((?:[^"\\]|\\.)*)"')
+HEADING = re.compile(r"^### [PV]\d+ (\w+)\n\n(.*(?:\n.+)*)\n", re.M)
+
+
+def told():
+    """What the crate says: the sentence and the mend by the name of the cause."""
+    texts = {"sentence": {}, "mend": {}}
+    for function in FUNCTION.finditer(SOURCE.read_text()):
+        texts[function[1]].update((name, re.sub(r"\\(.)", r"\1", text)) for name, text in ARM.findall(function[0]))
+    sentences, mends = texts["sentence"], texts["mend"]
+    if sentences.keys() != mends.keys():
+        sys.exit("causes with one sentence of two: " + ", ".join(sorted(sentences.keys() ^ mends.keys())))
+    return {name: f"**In short.** {sentences[name]} **Then:** {mends[name]}" for name in sentences}
+
+
+def filled(text):
+    return textwrap.fill(text, width=120, break_long_words=False, break_on_hyphens=False)
+
+
+def main():
+    if sys.argv[1:] not in ([], ["--write"]):
+        sys.exit(__doc__)
+    wanted, document = told(), DOCUMENT.read_text()
+    found = {name: paragraph for name, paragraph in HEADING.findall(document)}
+    missing = sorted(wanted.keys() ^ found.keys())
+    differs = [name for name in wanted if name in found and found[name].split() != wanted[name].split()]
+    if missing:
+        print("causes that stand on one side alone:", ", ".join(missing), file=sys.stderr)
+    if sys.argv[1:] and not missing:
+        for name in differs:
+            document = document.replace(f" {name}\n\n{found[name]}\n", f" {name}\n\n{filled(wanted[name])}\n")
+        DOCUMENT.write_text(document)
+        return 0
+    for name in differs:
+        print(f"docs/causes.md says of {name}:\n{found[name]}\nand the crate:\n{filled(wanted[name])}", file=sys.stderr)
+    return 1 if missing or differs else 0
+
+
+if __name__ == "__main__":
+    sys.exit(main())

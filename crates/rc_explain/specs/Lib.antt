@@ -1,0 +1,3 @@
+pub mod Causes
+pub mod Words
+pub mod StateText

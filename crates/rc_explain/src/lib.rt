@@ -1,0 +1,12 @@
+//! What is said besides a verdict: what is known at the lines, and why one is refused.
+#![tactic(auto)]
+
+pub mod asks;
+pub mod causes;
+pub mod held;
+pub mod lost;
+mod parts;
+pub mod spot;
+#[cfg(test)]
+mod tests;
+mod words;

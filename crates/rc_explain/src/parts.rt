@@ -1,0 +1,225 @@
+//! Lists of parts, as in the notation.
+
+ghost use Rattle.std.specs.Prelude.{◌≡◌, ◌+◌, ◌<◌, ◌^◌};
+ghost use Rattle.rc_report.specs.Streams.{FailsToWrite};
+
+use crate::words::{Word, write_words};
+use rc_lang::program::{Items, Program, Share};
+use rc_report::engine_fault::EngineFault;
+use rc_report::streams::Sink;
+use rc_rules::side::Side;
+use rc_split::part::Part;
+
+/// What a list of items says is held on a side of the flag; nothing where there is no such list.
+#[derive(Clone, Copy)]
+pub struct Claim<'a> {
+    items: Option<&'a Items>,
+    zero: bool,
+}
+
+/// How many of each part: what items say, or what of that isn't held on a side.
+#[derive(Clone, Copy)]
+pub enum Counted<'a> {
+    Said(Claim<'a>),
+    Missing(Claim<'a>, &'a Side<'a>),
+}
+
+/// What a list of items of a thread says is held on a side of the flag.
+pub fn said(program: &Program, thread: usize, list: usize, zero: bool) -> Claim<'_> {
+    Claim {
+        items: program.lists_of(thread).get(list),
+        zero,
+    }
+}
+
+/// How many shares of a buffer these are.
+pub fn shares_of(shares: &[Share], buffer: usize) -> u32 {
+    let mut count: u32 = 0;
+    for share in shares {
+        if share.buffer == buffer {
+            count = count.saturating_add(share.count);
+        }
+    }
+    count
+}
+
+impl Claim<'_> {
+    fn shares(self, buffer: usize) -> u32 {
+        let Some(items) = self.items else {
+            return 0;
+        };
+        let count = shares_of(&items.shares, buffer);
+        if self.zero {
+            return count;
+        }
+        count.saturating_add(shares_of(&items.more.shares, buffer))
+    }
+
+    fn has_token(self, user_data: u64) -> bool {
+        let Some(items) = self.items else {
+            return false;
+        };
+        items.tokens.contains(&user_data) || !self.zero && items.more.tokens.contains(&user_data)
+    }
+
+    fn credits(self) -> u32 {
+        let Some(items) = self.items else {
+            return 0;
+        };
+        if self.zero {
+            return items.credits;
+        }
+        items.credits.saturating_add(items.more.credits)
+    }
+}
+
+impl Counted<'_> {
+    fn shares(self, buffer: usize) -> u32 {
+        match self {
+            Counted::Said(said) => said.shares(buffer),
+            Counted::Missing(said, side) => {
+                said.shares(buffer).saturating_sub(side.shares(buffer))
+            }
+        }
+    }
+
+    fn has_token(self, user_data: u64) -> bool {
+        match self {
+            Counted::Said(said) => said.has_token(user_data),
+            Counted::Missing(said, side) => said.has_token(user_data) && !side.has_token(user_data),
+        }
+    }
+
+    fn credits(self) -> u32 {
+        match self {
+            Counted::Said(said) => said.credits(),
+            Counted::Missing(said, side) => said.credits().saturating_sub(side.credits()),
+        }
+    }
+
+    fn share(self, program: &Program) -> Option<usize> {
+        for buffer in 0..program.buffers().len() {
+            if self.shares(buffer) > 0 {
+                return Some(buffer);
+            }
+        }
+        None
+    }
+
+    fn token(self, program: &Program) -> Option<u64> {
+        for token in program.tokens() {
+            if self.has_token(token.user_data) {
+                return Some(token.user_data);
+            }
+        }
+        None
+    }
+}
+
+/// The first part of what items say that isn't held on a side, with as many as they say.
+pub fn first_missing(program: &Program, said: Claim, side: &Side) -> Option<Part> {
+    let missing = Counted::Missing(said, side);
+    if let Some(buffer) = missing.share(program) {
+        return Some(Part::Shares(buffer, said.shares(buffer)));
+    }
+    if let Some(user_data) = missing.token(program) {
+        return Some(Part::Token(user_data));
+    }
+    if missing.credits() > 0 {
+        return Some(Part::Credits(said.credits()));
+    }
+    None
+}
+
+/// The name of a buffer, and nothing where there is none with this number.
+pub fn buffer_name(program: &Program, buffer: usize) -> &[u8] {
+    match program.buffers().get(buffer) {
+        Some(buffer) => &buffer.name,
+        None => &[],
+    }
+}
+
+/// Writes a part as in the notation.
+pub fn write_part<W: Sink>(writer: &mut W, program: &Program, part: Part) -> Result<(), EngineFault>
+    requires { W.failure_count writer.old + 1 < 2 ^ 64 }
+    ensures { FailsToWrite (W.failure_count writer.old) (W.failure_count writer.new) result }
+{
+    match part {
+        Part::Shares(buffer, count) => write_words(
+            writer,
+            &[
+                Word::Text(buffer_name(program, buffer)),
+                Word::Text(b":"),
+                Word::Number(u64::from(count)),
+            ],
+        ),
+        Part::Token(user_data) => {
+            write_words(writer, &[Word::Text(b"t:"), Word::Number(user_data)])
+        }
+        Part::Credits(count) => {
+            write_words(writer, &[Word::Text(b"c:"), Word::Number(u64::from(count))])
+        }
+    }
+}
+
+/// Writes a part behind a blank, where there is any of it.
+fn write_some<W: Sink>(
+    writer: &mut W,
+    program: &Program,
+    part: Part,
+    some: bool,
+) -> Result<(), EngineFault>
+    requires { W.failure_count writer.old + 1 < 2 ^ 64 }
+    ensures { FailsToWrite (W.failure_count writer.old) (W.failure_count writer.new) result }
+{
+    if !some {
+        return Ok(());
+    }
+    write_words(writer, &[Word::Text(b" ")])?;
+    write_part(writer, program, part)
+}
+
+/// Writes the parts, each behind a blank: shares and tokens in the order of their declarations, and credits.
+pub fn write_parts<W: Sink>(
+    writer: &mut W,
+    program: &Program,
+    counted: Counted,
+) -> Result<(), EngineFault>
+    requires { W.failure_count writer.old + 1 < 2 ^ 64 }
+    ensures { FailsToWrite (W.failure_count writer.old) (W.failure_count writer.new) result }
+{
+    write_shares(writer, program, counted)?;
+    write_tokens(writer, program, counted)?;
+    let count = counted.credits();
+    write_some(writer, program, Part::Credits(count), count > 0)
+}
+
+fn write_shares<W: Sink>(
+    writer: &mut W,
+    program: &Program,
+    counted: Counted,
+) -> Result<(), EngineFault>
+    requires { W.failure_count writer.old + 1 < 2 ^ 64 }
+    ensures { FailsToWrite (W.failure_count writer.old) (W.failure_count writer.new) result }
+{
+    for buffer in 0..program.buffers().len() {
+        let count = counted.shares(buffer);
+        write_some(writer, program, Part::Shares(buffer, count), count > 0)?;
+    }
+    Ok(())
+}
+
+fn write_tokens<W: Sink>(
+    writer: &mut W,
+    program: &Program,
+    counted: Counted,
+) -> Result<(), EngineFault>
+    requires { W.failure_count writer.old + 1 < 2 ^ 64 }
+    ensures { FailsToWrite (W.failure_count writer.old) (W.failure_count writer.new) result }
+{
+    for token in program.tokens() {
+        let some = counted.has_token(token.user_data);
+        write_some(writer, program, Part::Token(token.user_data), some)?;
+    }
+    Ok(())
+}
