@@ -1,0 +1,346 @@
+//! The hint of each cause.
+
+use crate::hint::write_hint;
+use rc_read::{ReadFault, read_program};
+use rc_report::streams::WriteSink;
+use std::alloc::{AllocError, Global};
+
+const HEAD: &str = "ringcheck 1\nring 8\n";
+
+const DECLARED: &str =
+    "ringcheck 1\nring 8\nfile 3 64\nbuffer abc 16 2\ntoken 7 read abc\nthread t0 holds abc:2 t:7 c:1 {\n";
+
+const VERSION_2: &str =
+    "ringcheck 2\nring 8\nbuffer abc 16 2\nthread t0 holds {\nloop keeps when h {\n";
+
+const VERSION_3: &str = "ringcheck 3\nring 8\nthread t0 holds {\n";
+
+const NOTHING: &str = "";
+
+const RINGCHECK: &str = "ringcheck 1\n";
+
+const DECLARED_ONLY: &str = "ringcheck 1\nring 8\nbuffer abc 16 2\ntoken 7 read abc\n";
+
+const HINTS: &[(&str, &str, &str)] = &[
+    (
+        HEAD,
+        "lock{",
+        "column 1: 'lock{' begins no form here; '{' and '}' stand apart from other words\n",
+    ),
+    (
+        DECLARED,
+        "lock{",
+        "column 1: 'lock{' begins no form here; the nearest word is 'lock'; '{' and '}' stand apart from other words\n",
+    ),
+    (
+        DECLARED,
+        "}else{",
+        "column 1: '}else{' begins no form here; '{' and '}' stand apart from other words\n",
+    ),
+    (
+        DECLARED,
+        "loop {",
+        "column 6: '{' behind 'loop': 'keeps' is missing\n",
+    ),
+    (
+        DECLARED,
+        "looop keeps {",
+        "column 1: 'looop' begins no form here; the nearest word is 'loop'\n",
+    ),
+    (
+        HEAD,
+        "buffer a 16",
+        "column 12: the end of the line behind '16': a number is missing\n",
+    ),
+    (
+        HEAD,
+        "token 7 read # of a",
+        "column 13: the end of the line behind 'read': a name is missing\n",
+    ),
+    (
+        HEAD,
+        "token 7 reed",
+        "column 9: 'reed' behind '7': 'read' or 'write' or 'fsync' or 'nop' is missing\n",
+    ),
+    (
+        DECLARED,
+        "x = y +",
+        "column 8: the end of the line behind '+': a variable or a number is missing\n",
+    ),
+    (
+        DECLARED,
+        "x =",
+        "column 4: the end of the line behind '=': 'submit' or a variable or a number or 'load' or 'submit_and_wait' is missing\n",
+    ),
+    (
+        DECLARED,
+        "if x = 0 {",
+        "column 6: '=' behind 'x': a comparison is missing\n",
+    ),
+    (
+        HEAD,
+        "thread t0 {",
+        "column 11: '{' behind 't0': 'holds' is missing\n",
+    ),
+    (
+        HEAD,
+        "thread t0 holds a:1",
+        "column 20: the end of the line behind 'a:1': '{' or items is missing\n",
+    ),
+    (
+        DECLARED,
+        "peek_cqe {",
+        "column 10: '{' behind 'peek_cqe': a variable is missing\n",
+    ),
+    (
+        DECLARED,
+        "Lock {",
+        "column 1: 'Lock' begins no form here; the nearest word is 'lock'; words have lower case letters\n",
+    ),
+    (
+        DECLARED,
+        "print Total",
+        "column 7: 'Total' behind 'print': a variable is missing; words have lower case letters\n",
+    ),
+    (
+        DECLARED,
+        "print load",
+        "column 7: 'load' behind 'print': a variable is missing; 'load' is a reserved word\n",
+    ),
+    (
+        DECLARED,
+        "fill abc 0",
+        "column 10: '0' behind 'abc': a variable is missing\n",
+    ),
+    (
+        DECLARED,
+        "get_sqe now",
+        "column 9: 'now' behind 'get_sqe': the end of the line is missing\n",
+    ),
+    (
+        DECLARED,
+        "put abc:1",
+        "column 1: this form of 'put' stands in texts from version 3 on; the head says version 1\n",
+    ),
+    (
+        DECLARED,
+        "loop keeps when h {",
+        "column 1: this form of 'loop' stands in texts from version 2 on; the head says version 1\n",
+    ),
+    (
+        VERSION_2,
+        "print when",
+        "column 7: 'when' behind 'print': a variable is missing; 'when' is a reserved word\n",
+    ),
+    (
+        DECLARED,
+        "buffer b 16 1",
+        "column 1: 'buffer' stands above the threads alone\n",
+    ),
+    (
+        DECLARED,
+        "ring 8",
+        "column 1: 'ring' stands in the head alone, once\n",
+    ),
+    (
+        HEAD,
+        "print x",
+        "column 1: 'print' stands in a thread alone\n",
+    ),
+    (
+        RINGCHECK,
+        "ring 0",
+        "column 6: '0' is out of the range 1 to 1024\n",
+    ),
+    (
+        RINGCHECK,
+        "ring 5 cq 4",
+        "column 11: '4' is out of the range 5 to 2048\n",
+    ),
+    (
+        RINGCHECK,
+        "ring 5 left 9",
+        "column 13: '9' is out of the range 0 to 8\n",
+    ),
+    (
+        HEAD,
+        "buffer a 16 x",
+        "column 13: 'x' is no number; the range is 1 to 16\n",
+    ),
+    (
+        HEAD,
+        "thread t0 holds c:3000 {",
+        "column 19: '3000' is out of the range 0 to 2048\n",
+    ),
+    (
+        DECLARED,
+        "case x {",
+        "column 6: 'x' is no number; the range is 0 to 18446744073709551615\n",
+    ),
+    (
+        DECLARED,
+        "prep_write 3 abc 16 0 3",
+        "column 23: '3' is out of the range 1 to 2\n",
+    ),
+    (
+        DECLARED,
+        "if sq_space_left >= 9 {",
+        "column 21: '9' is out of the range 0 to 8\n",
+    ),
+    (
+        DECLARED,
+        "x = 1x",
+        "column 5: '1x' is no number from -9223372036854775808 to 9223372036854775807\n",
+    ),
+    (
+        DECLARED,
+        "prep_read 3 abd 16 0",
+        "column 13: no buffer 'abd' is declared above; declared: abc; the nearest is 'abc'\n",
+    ),
+    (
+        DECLARED,
+        "prep_read 4 abc 16 0",
+        "column 11: no file '4' is declared above; declared: 3\n",
+    ),
+    (
+        DECLARED,
+        "set_data64 8",
+        "column 12: no token '8' is declared above; declared: 7\n",
+    ),
+    (
+        HEAD,
+        "token 7 read a",
+        "column 14: no buffer 'a' is declared above; declared: none\n",
+    ),
+    (
+        DECLARED_ONLY,
+        "buffer abc 16 2",
+        "column 8: buffer 'abc' is declared above already\n",
+    ),
+    (
+        DECLARED_ONLY,
+        "token 7 nop",
+        "column 7: token '7' is declared above already\n",
+    ),
+    (
+        HEAD,
+        "thread t0 holds c:1 c:2 {",
+        "column 21: 'c:2' names 'c' again\n",
+    ),
+    (
+        HEAD,
+        "# caf\u{e9}",
+        "column 6: byte 195; in a text stand tabs and the bytes 32 to 126 alone\n",
+    ),
+    (
+        DECLARED,
+        "print caf\u{e9}",
+        "column 10: byte 195; in a text stand tabs and the bytes 32 to 126 alone\n",
+    ),
+    (
+        NOTHING,
+        "ringcheck 4",
+        "the first line with words is 'ringcheck 1', 'ringcheck 2' or 'ringcheck 3'\n",
+    ),
+    (
+        NOTHING,
+        "ringcheck 1",
+        "the second line with words begins with 'ring', as 'ring 8'\n",
+    ),
+    (HEAD, "}", "'}' closes nothing: no thread is open\n"),
+    (
+        DECLARED,
+        "lock {\n} else {",
+        "'}' 'else' ends no first branch: the lock of line 7 is open\n",
+    ),
+    (
+        DECLARED,
+        "lock {\n}",
+        "the end of the text: thread 't0' of line 6 is open\n",
+    ),
+    (
+        DECLARED,
+        "thread t1 holds {",
+        "'thread' can't stand here: thread 't0' of line 6 is open\n",
+    ),
+    (
+        DECLARED,
+        "lock {\nlock {",
+        "'lock' doesn't stand here: the lock of line 7 is open\n",
+    ),
+    (
+        DECLARED,
+        "break",
+        "'break' stands in a loop alone, and no loop is open\n",
+    ),
+    (
+        DECLARED,
+        "lock {\nother {",
+        "'other' is an arm, which stands directly in a peek: the lock of line 7 is open\n",
+    ),
+    (
+        DECLARED,
+        "lock {\npeek_cqe r {\nother {\n}\n}",
+        "'}' closes the peek without its arm 'none'\n",
+    ),
+    (
+        DECLARED,
+        "lock {\npeek_cqe r {\nother {\n}\nother {",
+        "'other' is an arm that the peek has already\n",
+    ),
+    (
+        DECLARED,
+        "lock {\npeek_cqe r {\ncase 7 {\n}\ncase 7 {",
+        "'case' is an arm that the peek has already\n",
+    ),
+    (
+        VERSION_2,
+        "loop keeps when g {",
+        "a thread has one flag; this one's is 'h'\n",
+    ),
+    (VERSION_3, "put q:1", "'put': 'q:' doesn't stand there\n"),
+    (
+        HEAD,
+        "thread t0 holds q:1 {",
+        "'thread': 'q:' stands in a lock alone\n",
+    ),
+];
+
+// A text's beginning, what stands behind it so many times, and the hint.
+const REPEATED: &[(&str, &str, u32, &str)] = &[
+    (HEAD, "#", 257, "the line has 257 bytes; at most 256\n"),
+    (
+        DECLARED,
+        "if x == 0 {\n",
+        32,
+        "32 blocks are open above, the thread among them; at most 32\n",
+    ),
+];
+
+// The hint of a text: of a beginning, and of what stands behind it so many times.
+fn hint_of(alloc: Global, above: &str, lines: &str, count: u32) -> Result<Vec<u8>, AllocError> {
+    let mut text = Vec::new(alloc);
+    text.extend_from_slice(above.as_bytes())?;
+    for _ in 0..count {
+        text.extend_from_slice(lines.as_bytes())?;
+    }
+    let mut sink = WriteSink::new(Vec::new(alloc));
+    if let Err(ReadFault::Text { line, cause }) = read_program(alloc, &text) {
+        let _ = write_hint(alloc, &text, line, cause, &mut sink);
+    }
+    Ok(sink.writer)
+}
+
+#[test]
+fn hints_say_what_could_stand_there(rt: HostRuntime) -> Result<(), AllocError> {
+    let alloc = rt.alloc();
+    for (above, line, hint) in HINTS {
+        let written = hint_of(alloc, *above, *line, 1)?;
+        assert_eq!(rt; written.as_slice(), hint.as_bytes());
+    }
+    for (above, line, count, hint) in REPEATED {
+        let written = hint_of(alloc, *above, *line, *count)?;
+        assert_eq!(rt; written.as_slice(), hint.as_bytes());
+    }
+    Ok(())
+}
