@@ -1,7 +1,8 @@
 -- What an engine says of a source is what the program says of it.
-use Rattle.std.proofs.Common.{◌≡◌, ℕ, ℤ, List, [], ◌∷◌, ◌++◌, Option, Some, None, Result, Ok, Err, refl, sym, ap, subst, ◌∙◌, inr, arith}
+use Rattle.std.proofs.Common.{◌≡◌, ℕ, ℤ, List, [], ◌∷◌, ◌++◌, Option, Some, None, Result, Ok, Err, refl, sym, ap, subst, ◌∙◌, inl, inr, arith}
 use Rattle.std.specs.Io.KnownBytes.{Appends, Consumes, IsAtEnd}
 use Rattle.std.specs.Prelude.{IfErr, IfOk, IsErrAnd, OnOk}
+use Rattle.rc_lang.specs.Program.{Program}
 use Rattle.rc_read.specs.Answer.{answer_of}
 use Rattle.rc_report.specs.declared.engine_fault.EngineFault.{EngineFault}
 use Rattle.rc_report.specs.declared.engine_fault.EngineFault.TheVariants.{Read, Write, OutOfMemory}
@@ -13,8 +14,8 @@ use Rattle.rc_report.specs.Verdicts.{verdict_text}
 use Rattle.rc_main.specs.declared.fault.CommandFault.{CommandFault}
 use Rattle.rc_main.specs.declared.fault.CommandFault.TheVariants.{Words, Engine, OtherProgram}
 use Rattle.rc_main.specs.declared.words.Command.{Command}
-use Rattle.rc_main.specs.declared.words.Command.TheVariants.{Check, Step, Run, Show}
-use Rattle.rc_main.specs.Answers.{AnswersRun, ReadsAsAsked, ReadsNothing, ReadsOnce}
+use Rattle.rc_main.specs.declared.words.Command.TheVariants.{Check, Step, Run, Emit, Show}
+use Rattle.rc_main.specs.Answers.{AnswersEmit, AnswersRun, ReadsAsAsked, ReadsNothing, ReadsOnce}
 
 -- a failure of an engine
 failed : (X : Type 0) (old new : Given) (e : EngineFault) → CountsReads {X = X} old new (Err e) → ReadsOnce old new (Err (Engine e))
@@ -44,6 +45,7 @@ pub write_failed : (asked : Command) (old new : Given) (s : ℕ) → ReadsAsAske
 write_failed (Check json) old new s h = h
 write_failed (Step schedule) old new s h = h
 write_failed (Run seed limit) old new s h = h
+write_failed Emit old new s h = h
 write_failed (Show text) old new s h = tt
 
 pub passed_on : (asked : Command) (old new : Given) (r : Result ℕ CommandFault) (e : CommandFault) → IsErrAnd r (λ y. y ≡ e) → ReadsAsAsked asked old new (Err e) → ReadsAsAsked asked old new r
@@ -55,12 +57,30 @@ pub memory_failed : {X : Type 0} (old new : Given) (x : X) (r : Result ℕ Comma
 memory_failed old new x (Ok s) c h = absurd h
 memory_failed old new x (Err y) c h = subst (λ z. ReadsOnce old new (Err z)) (sym h) (c.0, omega (arith, c.1), c.2)
 
+-- All of the source's bytes were read.
+whole : (xs left text : List ℕ) → xs ≡ text ++ left → left ≡ [] → xs ≡ text
+whole xs left text k z = k ∙ ap (λ us. text ++ us) z ∙ append_nothing text
+
 -- The verdict was written on the text that was read.
 pub verdict_told : (gives : ℕ → ℤ → Type 0) (bytes left : Option (List ℕ)) (text : List ℕ) (limit : ℕ) (old new : Option (List ℕ)) (v : Verdict) (r : Result ℕ CommandFault) →
     Consumes bytes left text → IsAtEnd left → GivesVerdict (answer_of text) (Err v) → IfOk r (λ s. s ≡ status_of_verdict v) → OnOk r (Appends old new (verdict_text v)) → IfOk r (AnswersRun gives bytes limit old new)
 verdict_told gives None left text limit old new v (Ok s) k z j h a = tt
 verdict_told gives (Some xs) None text limit old new v (Ok s) k z j h a = absurd k
 verdict_told gives (Some xs) (Some ys) text limit old new v (Ok s) k z j h a =
-    let whole : xs ≡ text = k ∙ ap (λ us. text ++ us) z ∙ append_nothing text in
-    inr (v, subst (λ us. GivesVerdict (answer_of us) (Err v)) (sym whole) j, a, h)
+    inr (v, subst (λ us. GivesVerdict (answer_of us) (Err v)) (sym (whole xs ys text k z)) j, a, h)
 verdict_told gives bytes left text limit old new v (Err e) k z j h a = tt
+
+-- The same of the command that writes a program in C; and that of an accepted one was written.
+pub verdict_emitted : (bytes left : Option (List ℕ)) (text : List ℕ) (old new : Option (List ℕ)) (v : Verdict) (r : Result ℕ CommandFault) →
+    Consumes bytes left text → IsAtEnd left → GivesVerdict (answer_of text) (Err v) → IfOk r (λ s. s ≡ status_of_verdict v) → OnOk r (Appends old new (verdict_text v)) → IfOk r (AnswersEmit bytes old new)
+verdict_emitted None left text old new v (Ok s) k z j h a = tt
+verdict_emitted (Some xs) None text old new v (Ok s) k z j h a = absurd k
+verdict_emitted (Some xs) (Some ys) text old new v (Ok s) k z j h a = inr (v, subst (λ us. GivesVerdict (answer_of us) (Err v)) (sym (whole xs ys text k z)) j, a, h)
+verdict_emitted bytes left text old new v (Err e) k z j h a = tt
+
+pub program_emitted : (bytes left : Option (List ℕ)) (text : List ℕ) (old new : Option (List ℕ)) (P : Program) (r : Result ℕ CommandFault) →
+    Consumes bytes left text → IsAtEnd left → GivesVerdict (answer_of text) (Ok P) → IfOk r (λ s. s ≡ 0) → IfOk r (AnswersEmit bytes old new)
+program_emitted None left text old new P (Ok s) k z j h = tt
+program_emitted (Some xs) None text old new P (Ok s) k z j h = absurd k
+program_emitted (Some xs) (Some ys) text old new P (Ok s) k z j h = inl (P, subst (λ us. GivesVerdict (answer_of us) (Ok P)) (sym (whole xs ys text k z)) j, h)
+program_emitted bytes left text old new P (Err e) k z j h = tt

@@ -20,7 +20,7 @@ use Rattle.rc_report.specs.Verdicts.{verdict_text}
 use Rattle.rc_main.specs.declared.fault.CommandFault.{CommandFault}
 use Rattle.rc_main.specs.declared.fault.CommandFault.TheVariants.{Words, Engine, OtherProgram}
 use Rattle.rc_main.specs.declared.words.Command.{Command}
-use Rattle.rc_main.specs.declared.words.Command.TheVariants.{Check, Step, Run, Show}
+use Rattle.rc_main.specs.declared.words.Command.TheVariants.{Check, Step, Run, Emit, Show}
 
 -- The status of `check` is that of the verdict on the bytes, which was written.
 abbrev pub AnswersCheck : Option (List ℕ) → Bool → Option (List ℕ) → Option (List ℕ) → ℕ → Type 0
@@ -55,6 +55,12 @@ AnswersRun gives None limit old new status = Unit {0}
 AnswersRun gives (Some bytes) limit old new status =
     ((program : Program) × (answer_of bytes ≡ Ok program) × RunsProgram gives program limit old new status) ⊎ TellsVerdict bytes old new status
 
+-- The status of `c` is 0 where the program is accepted, and else that of the verdict, which was written. What its C is no
+-- contract says.
+abbrev pub AnswersEmit : Option (List ℕ) → Option (List ℕ) → Option (List ℕ) → ℕ → Type 0
+AnswersEmit None old new status = Unit {0}
+AnswersEmit (Some bytes) old new status = ((program : Program) × GivesVerdict (answer_of bytes) (Ok program) × (status ≡ 0)) ⊎ TellsVerdict bytes old new status
+
 -- A failure of the source is answered, or that it has no end, and only these; nothing is read behind the end.
 abbrev pub ReadsOnce : Given → Given → Result ℕ CommandFault → Type 0
 ReadsOnce old new (Ok status) = CountsReads {X = ℕ} old new (Ok status)
@@ -67,6 +73,7 @@ abbrev pub ReadsAsAsked : Command → Given → Given → Result ℕ CommandFaul
 ReadsAsAsked (Check json) old new r = ReadsOnce old new r
 ReadsAsAsked (Step schedule) old new r = ReadsOnce old new r
 ReadsAsAsked (Run seed limit) old new r = ReadsOnce old new r
+ReadsAsAsked Emit old new r = ReadsOnce old new r
 ReadsAsAsked (Show text) old new r = Unit {0}
 
 -- A failure of the sink is answered, and only that; there is one at most.

@@ -4,6 +4,7 @@ ghost use Rattle.std.specs.Prelude.{◌≡◌, ◌+◌, ◌<◌, ◌≤◌, ◌^
 ghost use Rattle.std.specs.Io.KnownBytes.{Appends};
 ghost use Rattle.rc_main.specs.Answers.{AnswersCheck, AnswersStep, ReadsAsAsked, ReadsOnce, WritesOnce};
 
+use crate::emitting::emit_text;
 use crate::fault::CommandFault;
 use crate::running::run_text;
 use crate::words::{Command, read_words};
@@ -113,6 +114,7 @@ fn done<R: Threads + Wait + Sync, I: Source, S: Sink>(
         Command::Check { json } => checked(alloc, source, json, sink),
         Command::Step { schedule } => stepped(alloc, source, schedule, sink),
         Command::Run { seed, limit } => run_text(rt, alloc, source, seed, limit, sink),
+        Command::Emit => emit_text(alloc, source, sink),
         Command::Show(text) => shown(text.as_str(), sink),
     }
 }

@@ -2,6 +2,7 @@
 #![tactic(auto)]
 
 pub mod command;
+pub mod emitting;
 pub mod fault;
 pub mod running;
 #[cfg(test)]

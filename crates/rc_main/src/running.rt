@@ -55,7 +55,7 @@ pub fn run_text<R: Threads + Wait + Sync, I: Source, S: Sink>(
 }
 
 /// Writes a verdict, and answers its status.
-fn tell_verdict<S: Sink>(verdict: Verdict, sink: &mut S) -> Result<u8, CommandFault>
+pub fn tell_verdict<S: Sink>(verdict: Verdict, sink: &mut S) -> Result<u8, CommandFault>
     requires { S.failure_count sink.old + 1 < 2 ^ 64 }
     ensures status { IfOk result (λ status. status ≡ status_of_verdict verdict) }
     ensures text { OnOk result (Appends (S.contents sink.old) (S.contents sink.new) (verdict_text verdict)) }

@@ -3,7 +3,9 @@
 mod causes;
 mod checks;
 mod devices;
+mod emitting;
 mod flags;
+mod gallery;
 mod limits;
 mod long;
 mod pool;

@@ -24,6 +24,8 @@ pub enum Command<'a> {
     Step { schedule: &'a str },
     /// Run the program on threads: with the choices of this seed, and at most so many events of its threads, from 1.
     Run { seed: u32, limit: u32 },
+    /// Write the program in C.
+    Emit,
     /// Show this text: help, or the version.
     Show(String),
 }
@@ -98,6 +100,13 @@ fn described_run<'a>(alloc: Global) -> Result<clap::Command<'a>, AllocError> {
         .arg(limit)
 }
 
+/// The words of `c`.
+fn described_c<'a>(alloc: Global) -> clap::Command<'a> {
+    clap::Command::new(alloc, "c").about(
+        "Print the accepted program on standard input as a C program over liburing",
+    )
+}
+
 /// The words that the program takes.
 fn described<'a>(alloc: Global) -> Result<clap::Command<'a>, AllocError> {
     clap::Command::new(alloc, "ringcheck")
@@ -108,7 +117,8 @@ fn described<'a>(alloc: Global) -> Result<clap::Command<'a>, AllocError> {
         .subcommand_required(true)
         .subcommand(described_check(alloc)?)?
         .subcommand(described_step(alloc)?)?
-        .subcommand(described_run(alloc)?)
+        .subcommand(described_run(alloc)?)?
+        .subcommand(described_c(alloc))
 }
 
 /// The words of the command line, without the program's name.
@@ -153,6 +163,7 @@ fn command_of<'a>(alloc: Global, matches: &ArgMatches<'a>) -> Result<Command<'a>
             json: check.get_flag("json"),
         }),
         Some(("run", run)) => run_of(alloc, run),
+        Some(("c", _)) => Ok(Command::Emit),
         Some((_, step)) => Ok(Command::Step {
             schedule: step.get_str("schedule").unwrap_or(""),
         }),

@@ -12,7 +12,7 @@ use std::env::{Env, FillError};
 const WRONG: &[(&[&str], &str)] = &[
     (
         &[],
-        "ringcheck: 'ringcheck' requires a subcommand but one was not provided [subcommands: check, step, run, help] (see 'ringcheck --help')\n",
+        "ringcheck: 'ringcheck' requires a subcommand but one was not provided [subcommands: check, step, run, c, help] (see 'ringcheck --help')\n",
     ),
     (
         &["verify"],
@@ -89,6 +89,7 @@ Commands:
   check  Check the program on standard input, and print the verdict
   step   Step the program on standard input through a schedule, and print the trace
   run    Run the program on standard input on threads, and print the trace
+  c      Print the accepted program on standard input as a C program over liburing
   help   Print this message or the help of the given subcommand(s)
 
 Options:
