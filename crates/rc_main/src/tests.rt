@@ -5,7 +5,6 @@ mod checks;
 mod devices;
 mod emitting;
 mod flags;
-mod gallery;
 mod limits;
 mod long;
 mod pool;
