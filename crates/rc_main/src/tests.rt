@@ -3,7 +3,6 @@
 mod causes;
 mod checks;
 mod devices;
-mod emitting;
 mod flags;
 mod limits;
 mod long;

@@ -2,7 +2,7 @@
 
 use crate::command::command;
 use rc_examples::causes::{CAUSES, EXPECTED};
-use rc_examples::example::{Example, text_named};
+use rc_examples::example::text_named;
 use std::alloc::Global;
 use std::process::Abort;
 use std::str;
@@ -10,18 +10,12 @@ use std::sync::Wait;
 use std::test::Fail;
 use std::thread::Threads;
 
-/// Gives the program one of these texts with the words of a row, and sees the row's status and last line. A verdict is one
-/// line.
-pub fn shows(
-    rt: &(impl Abort + Threads + Wait + Sync),
-    alloc: Global,
-    examples: &[Example],
-    row: &str,
-) -> Result<(), Fail> {
+/// Gives the program a text with the words of a row, and sees the row's status and last line. A verdict is one line.
+fn shows(rt: &(impl Abort + Threads + Wait + Sync), alloc: Global, row: &str) -> Result<(), Fail> {
     let (name, rest) = row.split_once('\t').ok_or("a name")?;
     let (words, rest) = rest.split_once('\t').ok_or("words")?;
     let (status, last) = rest.split_once('\t').ok_or("a status")?;
-    let text = text_named(examples, name).ok_or("a text")?;
+    let text = text_named(CAUSES, name).ok_or("a text")?;
     let mut given = Vec::new(alloc);
     for word in words.split(' ') {
         given.push(word)?;
@@ -43,7 +37,7 @@ pub fn shows(
 #[test]
 fn each_cause_is_shown(rt: HostRuntime) -> Result<(), Fail> {
     for row in EXPECTED.lines().skip(1) {
-        shows(&rt, rt.alloc(), CAUSES, row)?;
+        shows(&rt, rt.alloc(), row)?;
     }
     Ok(())
 }
