@@ -10,6 +10,7 @@ pub mod Laws
 pub mod LeastFault
 pub mod Machine
 pub mod Parts
+pub mod Readers
 pub mod Runs
 pub mod Schedule
 pub mod Trace

@@ -81,6 +81,7 @@ impl Model for Controls {
 impl Controls {
     ghost use Rattle.rc_world.specs.Items.{next_of};
     ghost use Rattle.rc_world.specs.Faults.{is_holder};
+    ghost use Rattle.rc_world.specs.Readers.{variable_in};
 
     /// Every thread at its first line, its variables 0; the lock is free, nothing is peeked, and the pool is empty.
     pub fn start(alloc: Global, program: &Program) -> Result<Controls, AllocError>
@@ -182,6 +183,16 @@ impl Controls {
         ensures { result ≡ spec.variable (standing_at self.now thread) x }
     {
         self.threads[thread as usize].variables[x]
+    }
+
+    /// The value of a variable, and 0 where there is no such thread or variable.
+    pub(crate) fn value(&self, thread: u32, x: usize) -> i64
+        ensures { result ≡ variable_in (slice_get self.now.threads thread) x }
+    {
+        match self.threads.get(thread as usize) {
+            Some(control) => control.variables.get(x).copied().unwrap_or(0),
+            None => 0,
+        }
     }
 
     // The place of the thread's next line.

@@ -25,7 +25,8 @@ use thiserror::Error;
 
 mod bytes;
 mod faults;
-mod requests;
+mod readers;
+pub mod requests;
 mod rings;
 
 /// The open submission entry.

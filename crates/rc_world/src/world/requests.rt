@@ -18,8 +18,8 @@ pub(super) fn is_read(kind: Kind) -> bool
     }
 }
 
-// How many bytes a request moves at most.
-fn most_moved(request: Request) -> u32
+/// How many bytes a request moves at most.
+pub fn most_moved(request: Request) -> u32
     ensures { result ≡ requests.most_moved request.len request.kind }
 {
     match request.kind {

@@ -1,0 +1,86 @@
+//! What stands in a world, for who shows it. Nothing here takes memory.
+
+ghost use Rattle.std.specs.Prelude.{◌≡◌, length, option_map, slice_get};
+ghost use Rattle.rc_world.specs.Controls.{next_line};
+ghost use Rattle.rc_world.specs.Items as items;
+ghost use Rattle.rc_world.specs.Readers.{variable_in};
+
+use super::requests::place_of_pending;
+use super::{Slot, World};
+use crate::event::Completion;
+use rc_lang::lines::Line;
+use rc_lang::request::Request;
+use rc_split::pool::Pool;
+
+impl<'a> World<'a> {
+    /// The line that a thread has next; none where it has ended, or there is no such thread.
+    pub fn line(&self, thread: u32) -> Option<Line>
+        ensures { result ≡ next_line self.now.program self.now.controls thread }
+    {
+        self.controls.line(self.program, thread)
+    }
+
+    /// The value of a thread's variable; 0 where there is no such thread or variable.
+    pub fn variable(&self, thread: u32, x: usize) -> i64
+        ensures { result ≡ variable_in (slice_get self.now.controls.threads thread) x }
+    {
+        self.controls.value(thread, x)
+    }
+
+    /// The number of the thread that holds the lock.
+    pub fn holder(&self) -> Option<u32>
+        ensures { result ≡ self.now.controls.holder }
+    {
+        self.controls.holder()
+    }
+
+    /// What is in the pool.
+    pub fn pool(&self) -> &Pool
+        ensures { result.now ≡ self.now.controls.pool }
+    {
+        self.controls.pool()
+    }
+
+    /// The open submission entry.
+    pub fn slot(&self) -> Slot
+        ensures { result ≡ self.now.slot }
+    {
+        self.slot
+    }
+
+    /// The queued requests, in order.
+    pub fn queued(&self) -> &[Request]
+        ensures { result.now ≡ self.now.queued }
+    {
+        &self.queued
+    }
+
+    /// How many requests are pending.
+    pub fn pending_len(&self) -> usize
+        ensures { result ≡ length self.now.pending }
+    {
+        self.pending.len()
+    }
+
+    /// The pending request at this place.
+    pub fn pending(&self, place: usize) -> Option<Request>
+        ensures { result ≡ option_map (λ p. p.request) (slice_get self.now.pending place) }
+    {
+        let pending = self.pending.get(place)?;
+        Some(pending.request)
+    }
+
+    /// The place of the first pending request with this user data, which the kernel's items of it name.
+    pub fn pending_place(&self, user_data: u64) -> Option<usize>
+        ensures { result ≡ items.pending_place self.now user_data }
+    {
+        place_of_pending(&self.pending, user_data)
+    }
+
+    /// The completions that aren't reaped, from the front.
+    pub fn completions(&self) -> &[Completion]
+        ensures { result.now ≡ self.now.completions }
+    {
+        &self.completions
+    }
+}
