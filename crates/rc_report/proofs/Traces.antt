@@ -10,8 +10,8 @@ use Rattle.rc_world.specs.declared.event.Item.{Item}
 use Rattle.rc_world.specs.Items.{next_of}
 use Rattle.rc_world.specs.Machine.{World}
 use Rattle.rc_world.specs.Trace.{Trace, after_event, all_ended_from, has_ended, trace_from}
-use Rattle.rc_report.specs.declared.step_engine.Made.{Made}
-use Rattle.rc_report.specs.declared.step_engine.Made.TheVariants.{Event as MadeEvent, Last}
+use Rattle.rc_report.specs.declared.stepping.Made.{Made}
+use Rattle.rc_report.specs.declared.stepping.Made.TheVariants.{Event as MadeEvent, Last}
 use Rattle.rc_report.specs.declared.trace.End.{End}
 use Rattle.rc_report.specs.Engine.{end_of}
 use Rattle.rc_report.specs.Made.{MakesItem}
@@ -78,6 +78,9 @@ so_far_count program a b whole others n s o = sym (ap (λ es. length es) (whole_
 pub so_far_end : (program : Program) (a b : Option (List ℕ)) (whole others : Trace) (n : ℕ) → IsSoFar program a b whole others n → end_of others.ending ≡ end_of whole.ending
 so_far_end program a b whole others n s = sym (ap (λ (t : Trace). end_of t.ending) s.trace)
 
+pub so_far_world : (program : Program) (a b : Option (List ℕ)) (whole others : Trace) (n : ℕ) → IsSoFar program a b whole others n → others.world ≡ whole.world
+so_far_world program a b whole others n s = sym (ap (λ (t : Trace). t.world) s.trace)
+
 -- ---- whether every thread has ended
 
 pub ended_at : (w : World) (k i : ℕ) (ts : List ThreadOf) → i < length ts → all_ended_from w k (drop i ts) ≡ (has_ended (next_of w.program w.controls k) && all_ended_from w (k + 1) (drop (i + 1) ts))
@@ -104,9 +107,9 @@ event_here w after items i d m e lt q h =
     ap (λ is. trace_from w (i + 1) is) (drop_more items i d lt) ∙ made (drop (i + 1) items)
 
 pub end_here : (w after : World) (items : List Item) (i : ℕ) (d : Item) (m : Made) (end : End) → i < length items → m ≡ Last end → MakesItem w (get_or items i d) (i + 1) after m →
-    ((trace_from w (i + 1) (drop i items)).events ≡ []) × (end_of (trace_from w (i + 1) (drop i items)).ending ≡ end)
+    ((trace_from w (i + 1) (drop i items)).events ≡ []) × (end_of (trace_from w (i + 1) (drop i items)).ending ≡ end) × ((trace_from w (i + 1) (drop i items)).world ≡ after)
 end_here w after items i d m end lt q h =
     let made : MakesItem w (get_or items i d) (i + 1) after (Last end) = subst (λ x. MakesItem w (get_or items i d) (i + 1) after x) q h in
     let e = ap (λ is. trace_from w (i + 1) is) (drop_more items i d lt) in
     let both = made (drop (i + 1) items) in
-    (ap (λ (t : Trace). t.events) e ∙ both.0, ap (λ (t : Trace). end_of t.ending) e ∙ both.1)
+    (ap (λ (t : Trace). t.events) e ∙ both.0, ap (λ (t : Trace). end_of t.ending) e ∙ both.1, ap (λ (t : Trace). t.world) e ∙ both.2)

@@ -9,11 +9,12 @@ pub mod check_engine;
 pub mod engine_fault;
 pub mod file_verdict;
 mod line_buffer;
-mod printed;
+pub mod printed;
 pub mod reading;
 pub mod source;
 pub mod status;
 pub mod step_engine;
+pub mod stepping;
 pub mod streams;
 pub mod summary;
 #[cfg(test)]

@@ -1,19 +1,4 @@
-use Rattle.rc_report.proofs.Pieces.{appends_both, first_fails, second_fails, wrote_err}
 use Rattle.rc_report.proofs.step_engine.write_trace.Goals as goal
 
-pub returns-in_err-count-clause-text : goal.returns-in_err-count-clause-text
-returns-in_err-count-clause-text g c =
-    let began = rw c.in_ok-world.ensures at c.in_err-count.ensures.text in
-    wrote_err _ _ _ c.from_residual-in_err-count.result c.from_residual-in_err-count.ensures.0 (first_fails _ _ _ _ began)
-
-pub returns-in_err-write_end-clause-text : goal.returns-in_err-write_end-clause-text
-returns-in_err-write_end-clause-text g c =
-    let events = rw c.in_ok-world.ensures at c.in_ok-count.ensures.text in
-    let began = rw (c.in_ok-count.ensures.count, c.in_ok-count.ensures.end, c.in_ok-world.ensures) at c.in_err-write_end.ensures.text in
-    wrote_err _ _ _ c.from_residual-in_err-write_end.result c.from_residual-in_err-write_end.ensures.0 (second_fails _ _ _ _ _ events began)
-
 pub returns-clause-text : goal.returns-clause-text
-returns-clause-text g c =
-    let events = rw c.in_ok-world.ensures at c.in_ok-count.ensures.text in
-    let written = rw (c.in_ok-count.ensures.count, c.in_ok-count.ensures.end, c.in_ok-world.ensures) at c.in_ok-write_end.ensures.text in
-    appends_both _ _ _ _ _ events written
+returns-clause-text g c = rw c.in_ok-world.ensures at c.write_run.ensures.text

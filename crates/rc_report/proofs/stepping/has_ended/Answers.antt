@@ -3,7 +3,7 @@ use Rattle.std.proofs.lemmas.List.{length-map}
 use Rattle.rc_lang.specs.Parts.{view_thread}
 use Rattle.rc_lang.specs.Program.{Program}
 use Rattle.rc_report.proofs.Traces.{ended_more, not_ended}
-use Rattle.rc_report.proofs.step_engine.has_ended.Goals as goal
+use Rattle.rc_report.proofs.stepping.has_ended.Goals as goal
 
 pub returns-in-Ready : goal.returns-in-Ready
 returns-in-Ready c =

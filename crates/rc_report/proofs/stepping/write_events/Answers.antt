@@ -1,8 +1,8 @@
 use Rattle.std.proofs.Common.{◌≡◌, ◌+◌, ◌∙◌, arith, drop, sym}
 use Rattle.rc_world.specs.Trace.{trace_from}
 use Rattle.rc_report.proofs.Pieces.{wrote_err}
-use Rattle.rc_report.proofs.Traces.{end_here, event_here, so_far_began, so_far_count, so_far_end, so_far_fails, so_far_more, so_far_written}
-use Rattle.rc_report.proofs.step_engine.write_events.Goals as goal
+use Rattle.rc_report.proofs.Traces.{end_here, event_here, so_far_began, so_far_count, so_far_end, so_far_fails, so_far_more, so_far_world, so_far_written}
+use Rattle.rc_report.proofs.stepping.write_events.Goals as goal
 
 pub returns-in_err-event-clause-text : goal.returns-in_err-event-clause-text
 returns-in_err-event-clause-text g c =
@@ -44,3 +44,8 @@ pub returns-in-Last-clause-end : goal.returns-in-Last-clause-end
 returns-in-Last-clause-end g c =
     let here = end_here c.loop-index.world c.make_item.new.world c.args.items.now c.loop-index.index _ c.in_ok-event.field-0 c.in-Last.end c.loop-index-test.true c.in-Last.is c.in_ok-event.ensures.made in
     sym here.1 ∙ so_far_end _ _ _ _ _ c.loop-index.count c.loop-index.invariant.so_far
+
+pub returns-in-Last-clause-world : goal.returns-in-Last-clause-world
+returns-in-Last-clause-world g c =
+    let here = end_here c.loop-index.world c.make_item.new.world c.args.items.now c.loop-index.index _ c.in_ok-event.field-0 c.in-Last.end c.loop-index-test.true c.in-Last.is c.in_ok-event.ensures.made in
+    sym here.2 ∙ so_far_world _ _ _ _ _ c.loop-index.count c.loop-index.invariant.so_far

@@ -1,7 +1,7 @@
 use Rattle.std.proofs.Common.{◌≡◌, ◌≤◌, ◌+◌, drop}
 use Rattle.rc_world.specs.Trace.{trace_from}
 use Rattle.rc_report.proofs.Traces.{IsSoFar}
-use Rattle.rc_report.proofs.step_engine.write_events.Given as goal
+use Rattle.rc_report.proofs.stepping.write_events.Given as goal
 
 abbrev pub invariant-loop-index : goal.invariant-loop-index
 invariant-loop-index g l = record {

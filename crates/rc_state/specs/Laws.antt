@@ -1,0 +1,24 @@
+-- What is listed and what is enabled is the same.
+use Rattle.std.specs.Prelude.{ℕ, ◌≡◌, Option, Some, None, ℤ, pos, negsuc}
+use Rattle.rc_world.specs.declared.event.Item.{Item}
+use Rattle.rc_world.specs.declared.event.Item.TheVariants.{Thread, Kernel}
+use Rattle.rc_world.specs.Items.{is_enabled}
+use Rattle.rc_world.specs.Machine.{World}
+use Rattle.rc_state.specs.Choices.{is_listed}
+
+abbrev pub IsCount : ℤ → Type 0
+IsCount (pos n) = Unit {0}
+IsCount (negsuc n) = ⊥
+
+abbrev pub IsCountIfAny : Option ℤ → Type 0
+IsCountIfAny None = Unit {0}
+IsCountIfAny (Some r) = IsCount r
+
+-- The item answers no errno, and fills with 0.
+abbrev pub IsPlain : Item → Type 0
+IsPlain (Thread i take) = IsCountIfAny take
+IsPlain (Kernel u res fill) = IsCount res × (fill ≡ 0)
+
+-- Such an item is enabled exactly where it is listed.
+abbrev pub ListedIsEnabled : Type 0
+ListedIsEnabled = (w : World) (item : Item) → IsPlain item → is_enabled w item ≡ is_listed w item

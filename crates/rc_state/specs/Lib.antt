@@ -1,0 +1,5 @@
+pub mod Choices
+pub mod Engine
+pub mod Laws
+pub mod Parts
+pub mod State

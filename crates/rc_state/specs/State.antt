@@ -1,0 +1,143 @@
+-- The text of a world: each thread, the open entry, the requests, the pool, and what is enabled. A list has each of its
+-- words behind a blank, so that nothing stands behind its heading where it is empty.
+use Rattle.std.specs.Prelude.{ℕ, Bool, true, false, if◌then◌else◌, List, [], ◌∷◌, ◌++◌, codes, length, Option, Some, None, decimal, nat_eq, nat_le, option_map, slice_get, ℤ, pos}
+use Rattle.std.specs.Fmt.{signed_decimal}
+use Rattle.std.specs.Ordering.{int_eq}
+use Rattle.rc_lang.specs.declared.lines.Line.{Line}
+use Rattle.rc_lang.specs.declared.program.Token.{Token}
+use Rattle.rc_lang.specs.declared.request.Kind.{Kind}
+use Rattle.rc_lang.specs.declared.request.Kind.TheVariants.{Nop, Fsync, Read, Write}
+use Rattle.rc_lang.specs.declared.request.Request.{Request}
+use Rattle.rc_lang.specs.Program.{Buffer, Program, Thread}
+use Rattle.rc_report.specs.Printed.{joined, thread_name}
+use Rattle.rc_report.specs.Source.{line_words}
+use Rattle.rc_split.specs.Bags.{ShareOf, TokenOf, Credit}
+use Rattle.rc_split.specs.Pools.{pooled}
+use Rattle.rc_world.specs.declared.controls.Next.{Next}
+use Rattle.rc_world.specs.declared.controls.Next.TheVariants.{Ready, TakenLock, Ended}
+use Rattle.rc_world.specs.declared.event.Completion.{Completion}
+use Rattle.rc_world.specs.declared.world.Slot.{Slot}
+use Rattle.rc_world.specs.declared.world.Slot.TheVariants.{Closed, Vacant, Prepared}
+use Rattle.rc_world.specs.Controls.{next_line}
+use Rattle.rc_world.specs.Items.{next_of}
+use Rattle.rc_world.specs.Machine.{Pending, World}
+use Rattle.rc_world.specs.Readers.{variable_in}
+use Rattle.rc_state.specs.Choices.{Choice, Complete, Step, Take, pending_choice, thread_choice}
+use Rattle.rc_state.specs.Parts.{each}
+
+-- ---- threads
+
+-- a line, by its number and its words
+abbrev pub line_text : List ℕ → Option Line → List ℕ
+line_text text None = []
+line_text text (Some l) = joined (codes "line " ∷ decimal l.number ∷ codes ", " ∷ []) ++ line_words text l.number
+
+abbrev pub holder_text : Program → Option ℕ → List ℕ
+holder_text program None = []
+holder_text program (Some i) = joined (codes "; " ∷ thread_name program i ∷ codes " has it" ∷ [])
+
+-- what a thread has next
+abbrev pub next_text : List ℕ → World → ℕ → Next → List ℕ
+next_text text w i (Ready l) = line_text text (Some l)
+next_text text w i TakenLock = codes "waits for the lock at " ++ (line_text text (next_line w.program w.controls i) ++ holder_text w.program w.controls.holder)
+next_text text w i Ended = codes "ended"
+
+-- A variable has the number that it got at its first use in the thread, from 0. Those that are 0 aren't shown.
+abbrev pub variable_text : ℕ → ℤ → List ℕ
+variable_text x value = if int_eq value (pos 0) then [] else joined (codes " v" ∷ decimal x ∷ codes "=" ∷ signed_decimal value ∷ [])
+
+-- how many variables a thread has
+abbrev pub variables_of : Option Thread → ℕ
+variables_of None = 0
+variables_of (Some t) = t.variables
+
+abbrev pub variables_text : World → ℕ → List ℕ
+variables_text w i = each (variables_of (slice_get w.program.threads i)) (λ x. variable_text x (variable_in (slice_get w.controls.threads i) x))
+
+abbrev pub thread_text : List ℕ → World → ℕ → List ℕ
+thread_text text w i =
+    joined (codes "thread " ∷ thread_name w.program i ∷ codes ": " ∷ [])
+    ++ (next_text text w i (next_of w.program w.controls i) ++ (codes "\n  variables:" ++ (variables_text w i ++ codes "\n")))
+
+-- ---- requests
+
+abbrev pub name_of_buffer : Option Buffer → List ℕ
+name_of_buffer None = []
+name_of_buffer (Some b) = b.name
+
+-- a kind, with the buffer and the length where it has them
+abbrev pub moved_text : List ℕ → Program → Request → List ℕ
+moved_text word program r = joined (word ∷ codes " " ∷ name_of_buffer (slice_get program.buffers r.buffer) ∷ codes " " ∷ decimal r.len ∷ [])
+
+abbrev pub kind_text : Program → Request → Kind → List ℕ
+kind_text program r Nop = codes "nop"
+kind_text program r Fsync = codes "fsync"
+kind_text program r Read = moved_text (codes "read") program r
+kind_text program r Write = moved_text (codes "write") program r
+
+-- the open entry: a prepared one has no user data yet
+abbrev pub slot_text : Program → Slot → List ℕ
+slot_text program Closed = codes "entry: none\n"
+slot_text program Vacant = codes "entry: vacant\n"
+slot_text program (Prepared r) = codes "entry: prepared " ++ (kind_text program r r.kind ++ codes "\n")
+
+-- a request that has its user data, behind the word for where it is
+abbrev pub request_text : List ℕ → Program → Option Request → List ℕ
+request_text word program None = []
+request_text word program (Some r) = joined (word ∷ codes ": " ∷ decimal r.user_data ∷ codes " " ∷ []) ++ (kind_text program r r.kind ++ codes "\n")
+
+abbrev pub request_of : Option Pending → Option Request
+request_of pending = option_map (λ (p : Pending). p.request) pending
+
+-- a completion, with the user data and the result
+abbrev pub completion_text : Option Completion → List ℕ
+completion_text None = []
+completion_text (Some c) = joined (codes "completed: " ∷ decimal c.user_data ∷ codes " " ∷ signed_decimal c.res ∷ codes "\n" ∷ [])
+
+-- queued, pending and completed requests, in their order
+abbrev pub requests_text : World → List ℕ
+requests_text w =
+    each (length w.queued) (λ k. request_text (codes "queued") w.program (slice_get w.queued k))
+    ++ (each (length w.pending) (λ k. request_text (codes "pending") w.program (request_of (slice_get w.pending k))) ++ each (length w.completions) (λ k. completion_text (slice_get w.completions k)))
+
+-- ---- the pool
+
+abbrev pub share_text : List ℕ → ℕ → List ℕ
+share_text name count = if nat_eq count 0 then [] else joined (codes " " ∷ name ∷ codes ":" ∷ decimal count ∷ [])
+
+abbrev pub token_text : ℕ → ℕ → List ℕ
+token_text u count = if nat_le 1 count then joined (codes " t:" ∷ decimal u ∷ []) else []
+
+abbrev pub token_in_pool : World → Option Token → List ℕ
+token_in_pool w None = []
+token_in_pool w (Some t) = token_text t.user_data (pooled w.program w.controls.pool (TokenOf t.user_data))
+
+-- the pool, as items: shares and tokens in the order of their declarations
+abbrev pub pool_text : World → List ℕ
+pool_text w =
+    codes "pool:"
+    ++ (each (length w.program.buffers) (λ b. share_text (name_of_buffer (slice_get w.program.buffers b)) (pooled w.program w.controls.pool (ShareOf b)))
+    ++ (each (length w.program.tokens) (λ k. token_in_pool w (slice_get w.program.tokens k)) ++ (share_text (codes "c") (pooled w.program w.controls.pool Credit) ++ codes "\n")))
+
+-- ---- what is enabled
+
+-- A choice as an item of a schedule, with the range of its answer.
+abbrev pub choice_text : Program → Choice → List ℕ
+choice_text program (Step i) = joined (codes " " ∷ thread_name program i ∷ [])
+choice_text program (Take i most) = joined (codes " " ∷ thread_name program i ∷ codes "=0.." ∷ decimal most ∷ [])
+choice_text program (Complete u most) = joined (codes " k:" ∷ decimal u ∷ codes "=0.." ∷ decimal most ∷ [])
+
+abbrev pub choice_if_any : Program → Option Choice → List ℕ
+choice_if_any program None = []
+choice_if_any program (Some choice) = choice_text program choice
+
+-- What is enabled, faults aside: in a world with a fault these are listed too, but nothing is stepped.
+abbrev pub choices_text : World → List ℕ
+choices_text w =
+    codes "enabled:"
+    ++ (each (length w.program.threads) (λ i. choice_if_any w.program (thread_choice w i)) ++ (each (length w.pending) (λ k. choice_if_any w.program (pending_choice w k)) ++ codes "\n"))
+
+-- ---- the whole
+
+abbrev pub state_text : List ℕ → World → List ℕ
+state_text text w = each (length w.program.threads) (λ i. thread_text text w i) ++ (slot_text w.program w.slot ++ (requests_text w ++ (pool_text w ++ choices_text w)))

@@ -1,0 +1,13 @@
+//! A program is stepped through a schedule, and the world in which its trace ends is shown.
+#![tactic(auto)]
+
+mod choices;
+pub mod laws;
+mod pool;
+mod requests;
+pub mod state;
+pub mod state_engine;
+#[cfg(test)]
+mod tests;
+mod threads;
+mod words;

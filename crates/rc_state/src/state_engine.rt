@@ -1,0 +1,121 @@
+//! A program is stepped through a schedule, and its trace is written with the world in which it ends.
+
+ghost use Rattle.std.specs.Prelude.{◌≡◌, ◌+◌, ◌<◌, ◌^◌, IfOk};
+ghost use Rattle.rc_read.specs.Answer.{answer_of};
+ghost use Rattle.rc_report.specs.Engine.{EndsBy, EndsItems, WritesNothingOnRead, end_of};
+ghost use Rattle.rc_report.specs.Streams.{CountsReads, CountsWrites, FailsToWriteOrGrow, Wrote};
+ghost use Rattle.rc_state.specs.Engine.{ShowsAs, items_text, shown_text, trace_and_state};
+ghost use Rattle.rc_world.specs.Schedule.{items_of};
+ghost use Rattle.rc_world.specs.Trace.{trace_of};
+
+use crate::state::write_state;
+use rc_lang::program::Program;
+use rc_read::{ReadFault, read_program};
+use rc_report::engine_fault::EngineFault;
+use rc_report::printed::write_schedule_line;
+use rc_report::reading::read_text;
+use rc_report::step_engine::StepEnd;
+use rc_report::stepping::write_run;
+use rc_report::streams::{Sink, Source};
+use rc_report::trace::End;
+use rc_report::verdict::{Verdict, verdict_text};
+use rc_world::event::Item;
+use rc_world::schedule::{ScheduleFault, read_schedule};
+use rc_world::world::World;
+use std::alloc::Global;
+
+/// Reads a text and steps its program through a schedule. The trace is written, and behind its end line the world in
+/// which it ends. An unreadable text or schedule is answered with one line of its own.
+///
+/// Answers `Read` where a read failed or 2,097,152 reads met no end of input, and then nothing is written; `Write` where
+/// a write failed, and `OutOfMemory` where a growth was refused: then a beginning of the answer is written. Nothing is
+/// tried again (`read(2)`, `write(2)`).
+pub fn state_engine<R: Source, W: Sink>(
+    alloc: Global,
+    reader: &mut R,
+    schedule: &str,
+    writer: &mut W,
+) -> Result<StepEnd, EngineFault>
+    requires reads { R.read_count reader.old + 2097152 < 2 ^ 64 }
+    requires read_failures { R.failure_count reader.old + 1 < 2 ^ 64 }
+    requires write_failures { W.failure_count writer.old + 1 < 2 ^ 64 }
+    ensures text { ShowsAs (R.remaining reader.old) schedule.now (W.contents writer.old) (W.contents writer.new) result }
+    ensures nothing_on_read { WritesNothingOnRead (W.contents writer.old) (W.contents writer.new) result }
+    ensures reads { CountsReads
+        (record { remaining = R.remaining reader.old; reads = R.read_count reader.old; ends = R.end_count reader.old; failures = R.failure_count reader.old })
+        (record { remaining = R.remaining reader.new; reads = R.read_count reader.new; ends = R.end_count reader.new; failures = R.failure_count reader.new })
+        result }
+    ensures writes { CountsWrites (W.failure_count writer.old) (W.failure_count writer.new) result }
+{
+    let text = read_text(alloc, reader)?;
+    show_bytes(alloc, &text, schedule, writer)
+}
+
+/// Steps the program of a text through a schedule.
+fn show_bytes<W: Sink>(
+    alloc: Global,
+    text: &[u8],
+    schedule: &str,
+    writer: &mut W,
+) -> Result<StepEnd, EngineFault>
+    requires { W.failure_count writer.old + 1 < 2 ^ 64 }
+    ensures text { Wrote (W.contents writer.old) (W.contents writer.new) (shown_text text.now schedule.now) result }
+    ensures end { IfOk result (EndsBy (answer_of text.now) schedule.now) }
+    ensures failures { FailsToWriteOrGrow (W.failure_count writer.old) (W.failure_count writer.new) result }
+{
+    match read_program(alloc, text) {
+        Ok(program) => show_program(alloc, text, &program, schedule, writer),
+        Err(ReadFault::Text { line, cause }) => {
+            verdict_text(&Verdict::Unreadable { line, cause }, writer)?;
+            Ok(StepEnd::Unreadable(ReadFault::Text { line, cause }))
+        }
+        Err(ReadFault::OutOfMemory) => Err(EngineFault::OutOfMemory),
+    }
+}
+
+/// Steps a program through the items of a schedule.
+fn show_program<W: Sink>(
+    alloc: Global,
+    text: &[u8],
+    program: &Program,
+    schedule: &str,
+    writer: &mut W,
+) -> Result<StepEnd, EngineFault>
+    requires { W.failure_count writer.old + 1 < 2 ^ 64 }
+    ensures text { Wrote (W.contents writer.old) (W.contents writer.new)
+        (items_text text.now program.now (items_of program.now schedule.now)) result }
+    ensures end { IfOk result (EndsItems program.now (items_of program.now schedule.now)) }
+    ensures failures { FailsToWriteOrGrow (W.failure_count writer.old) (W.failure_count writer.new) result }
+{
+    match read_schedule(alloc, program, schedule) {
+        Ok(items) => {
+            let end = write_shown(alloc, text, program, &items, writer)?;
+            Ok(StepEnd::Trace(end))
+        }
+        Err(ScheduleFault::Unreadable(item)) => {
+            write_schedule_line(writer, item)?;
+            Ok(StepEnd::Schedule(item))
+        }
+        Err(ScheduleFault::OutOfMemory) => Err(EngineFault::OutOfMemory),
+    }
+}
+
+/// Writes the trace of the run that these items name, and the world in which it ends.
+fn write_shown<W: Sink>(
+    alloc: Global,
+    text: &[u8],
+    program: &Program,
+    items: &[Item],
+    writer: &mut W,
+) -> Result<End, EngineFault>
+    requires { W.failure_count writer.old + 1 < 2 ^ 64 }
+    ensures text { Wrote (W.contents writer.old) (W.contents writer.new)
+        (trace_and_state text.now program.now (trace_of program.now items.now)) result }
+    ensures end { IfOk result (λ end. end ≡ end_of (trace_of program.now items.now).ending) }
+    ensures failures { FailsToWriteOrGrow (W.failure_count writer.old) (W.failure_count writer.new) result }
+{
+    let mut world = World::start(alloc, program)?;
+    let end = write_run(&mut world, items, writer)?;
+    write_state(writer, text, &world)?;
+    Ok(end)
+}
