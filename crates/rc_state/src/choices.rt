@@ -66,10 +66,7 @@ fn write_thread_choice<W: Sink>(
     }
 }
 
-fn write_completion_choices<W: Sink>(
-    writer: &mut W,
-    world: &World<'_>,
-) -> Result<(), EngineFault>
+fn write_completion_choices<W: Sink>(writer: &mut W, world: &World<'_>) -> Result<(), EngineFault>
     requires { W.failure_count writer.old + 1 < 2 ^ 64 }
     ensures text { Wrote (W.contents writer.old) (W.contents writer.new)
         (each (length world.now.pending) (λ k. spec.choice_if_any world.now.program (pending_choice world.now k))) result }

@@ -69,11 +69,7 @@ fn write_tokens<W: Sink>(writer: &mut W, world: &World<'_>) -> Result<(), Engine
 }
 
 /// Writes a token, where it is in the pool.
-fn write_token<W: Sink>(
-    writer: &mut W,
-    world: &World<'_>,
-    token: Token,
-) -> Result<(), EngineFault>
+fn write_token<W: Sink>(writer: &mut W, world: &World<'_>, token: Token) -> Result<(), EngineFault>
     requires { W.failure_count writer.old + 1 < 2 ^ 64 }
     ensures text { Wrote (W.contents writer.old) (W.contents writer.new) (spec.token_in_pool world.now (Some token)) result }
     ensures failures { FailsToWrite (W.failure_count writer.old) (W.failure_count writer.new) result }

@@ -16,11 +16,7 @@ use rc_world::event::Completion;
 use rc_world::world::{Slot, World};
 
 /// Writes the open entry.
-pub fn write_slot<W: Sink>(
-    writer: &mut W,
-    program: &Program,
-    slot: Slot,
-) -> Result<(), EngineFault>
+pub fn write_slot<W: Sink>(writer: &mut W, program: &Program, slot: Slot) -> Result<(), EngineFault>
     requires { W.failure_count writer.old + 1 < 2 ^ 64 }
     ensures text { Wrote (W.contents writer.old) (W.contents writer.new) (spec.slot_text program.now slot) result }
     ensures failures { FailsToWrite (W.failure_count writer.old) (W.failure_count writer.new) result }
@@ -92,10 +88,7 @@ fn write_request<W: Sink>(
     write_piece(writer, b"\n")
 }
 
-fn write_completions<W: Sink>(
-    writer: &mut W,
-    completions: &[Completion],
-) -> Result<(), EngineFault>
+fn write_completions<W: Sink>(writer: &mut W, completions: &[Completion]) -> Result<(), EngineFault>
     requires { W.failure_count writer.old + 1 < 2 ^ 64 }
     ensures text { Wrote (W.contents writer.old) (W.contents writer.new)
         (each (length completions.now) (λ k. spec.completion_text (slice_get completions.now k))) result }
@@ -107,10 +100,7 @@ fn write_completions<W: Sink>(
     Ok(())
 }
 
-fn write_completion<W: Sink>(
-    writer: &mut W,
-    completion: Completion,
-) -> Result<(), EngineFault>
+fn write_completion<W: Sink>(writer: &mut W, completion: Completion) -> Result<(), EngineFault>
     requires { W.failure_count writer.old + 1 < 2 ^ 64 }
     ensures text { Wrote (W.contents writer.old) (W.contents writer.new) (spec.completion_text (Some completion)) result }
     ensures failures { FailsToWrite (W.failure_count writer.old) (W.failure_count writer.new) result }

@@ -77,11 +77,7 @@ fn write_next<W: Sink>(
 }
 
 /// Writes the number and the words of a line.
-fn write_line<W: Sink>(
-    writer: &mut W,
-    text: &[u8],
-    line: Option<Line>,
-) -> Result<(), EngineFault>
+fn write_line<W: Sink>(writer: &mut W, text: &[u8], line: Option<Line>) -> Result<(), EngineFault>
     requires { W.failure_count writer.old + 1 < 2 ^ 64 }
     ensures text { Wrote (W.contents writer.old) (W.contents writer.new) (spec.line_text text.now line) result }
     ensures failures { FailsToWrite (W.failure_count writer.old) (W.failure_count writer.new) result }
@@ -107,7 +103,10 @@ fn write_holder<W: Sink>(
 {
     match holder {
         Some(holder) => {
-            write_pieces(writer, &[b"; ", name_of_thread(program, holder), b" has it"])
+            write_pieces(
+                writer,
+                &[b"; ", name_of_thread(program, holder), b" has it"],
+            )
         }
         None => Ok(()),
     }
