@@ -1,5 +1,5 @@
 -- What is listed is what is enabled.
-use Rattle.std.proofs.Common.{◌≡◌, ℕ, zero, suc, ◌+◌, ◌<◌, ◌≤◌, ◌⊎◌, inl, inr, List, [], length, get_or, Bool, true, false, cond, ◌&&◌, ◌||◌, eqb, leb, ltb, Option, Some, None, ℤ, pos, negsuc, refl, sym, ap, ◌∙◌, arith}
+use Rattle.std.proofs.Common.{◌≡◌, ℕ, zero, suc, ◌<◌, ◌≤◌, ◌⊎◌, inl, inr, [], length, get_or, Bool, true, false, cond, ◌&&◌, ◌||◌, eqb, leb, Option, Some, None, ℤ, pos, negsuc, refl, sym, ap, ◌∙◌, arith}
 use Rattle.std.proofs.lemmas.Bool.{eq-eqb, eqb-true, ne_eqb}
 use Rattle.std.proofs.lemmas.Bool.Decides.{eqb_tells}
 use Rattle.std.proofs.lemmas.List.Quantifiers.{position-Some}
@@ -15,7 +15,7 @@ use Rattle.rc_world.specs.Controls.{Standing, next_at}
 use Rattle.rc_world.specs.Faults.{has_data}
 use Rattle.rc_world.specs.Items.{is_enabled, is_ready, is_submit, kernel_may, next_by, next_of, pending_at, pending_place, takes}
 use Rattle.rc_world.specs.Machine.{Pending, World, is_take, prepared_nop}
-use Rattle.rc_state.specs.Choices.{Choice, Complete, Step, Take, any_below, any_stands_for, choice_by, completion_choice, is_listed, is_place, pending_choice, stands_for, thread_choice}
+use Rattle.rc_state.specs.Choices.{Complete, Step, Take, any_below, any_stands_for, choice_by, completion_choice, is_listed, is_place, pending_choice, stands_for, thread_choice}
 use Rattle.rc_state.specs.Laws.{IsCountIfAny, ListedIsEnabled}
 
 -- ---- one of several

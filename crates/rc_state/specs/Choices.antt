@@ -1,6 +1,5 @@
 -- What may be done next in a world, as it is listed for a schedule.
-use Rattle.std.specs.Prelude.{ℕ, ◌+◌, ◌<◌, Bool, true, false, ◌&&◌, ◌||◌, if◌then◌else◌, zero, suc, length, Option, Some, None, nat_eq, nat_le, nat_lt, slice_get, ℤ, pos, negsuc}
-use Rattle.rc_lang.specs.declared.request.Request.{Request}
+use Rattle.std.specs.Prelude.{ℕ, Bool, true, false, ◌&&◌, ◌||◌, if◌then◌else◌, zero, suc, length, Option, Some, None, nat_eq, nat_le, slice_get, ℤ, pos, negsuc}
 use Rattle.rc_lang.specs.Requests.{most_moved}
 use Rattle.rc_world.specs.declared.controls.Next.{Next}
 use Rattle.rc_world.specs.declared.controls.Next.TheVariants.{Ready, TakenLock, Ended}

@@ -1,5 +1,5 @@
 -- What is listed and what is enabled is the same.
-use Rattle.std.specs.Prelude.{ℕ, ◌≡◌, Option, Some, None, ℤ, pos, negsuc}
+use Rattle.std.specs.Prelude.{◌≡◌, Option, Some, None, ℤ, pos, negsuc}
 use Rattle.rc_world.specs.declared.event.Item.{Item}
 use Rattle.rc_world.specs.declared.event.Item.TheVariants.{Thread, Kernel}
 use Rattle.rc_world.specs.Items.{is_enabled}

@@ -1,6 +1,6 @@
 -- The text of a world: each thread, the open entry, the requests, the pool, and what is enabled. A list has each of its
 -- words behind a blank, so that nothing stands behind its heading where it is empty.
-use Rattle.std.specs.Prelude.{ℕ, Bool, true, false, if◌then◌else◌, List, [], ◌∷◌, ◌++◌, codes, length, Option, Some, None, decimal, nat_eq, nat_le, option_map, slice_get, ℤ, pos}
+use Rattle.std.specs.Prelude.{ℕ, if◌then◌else◌, List, [], ◌∷◌, ◌++◌, codes, length, Option, Some, None, decimal, nat_eq, nat_le, option_map, slice_get, ℤ, pos}
 use Rattle.std.specs.Fmt.{signed_decimal}
 use Rattle.std.specs.Ordering.{int_eq}
 use Rattle.rc_lang.specs.declared.lines.Line.{Line}
