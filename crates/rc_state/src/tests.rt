@@ -1,11 +1,11 @@
 //! Worlds as text, at the end of traces of examples.
 
 use crate::state_engine::state_engine;
-use rc_examples::programs::{HANDOFF, NOP};
+use rc_examples::programs::{HAND_BACK, HANDOFF, NOP};
 use rc_report::streams::{ReadSource, WriteSink};
 
 /// A program, a schedule, and what is written.
-const SHOWN: [(&str, &str, &str); 6] = [
+const SHOWN: &[(&str, &str, &str)] = &[
     (
         NOP,
         "",
@@ -87,12 +87,90 @@ pool:
 enabled: t0
 ",
     ),
+    (
+        HAND_BACK,
+        "t0,t0,t0,t0,t0,t0,t0",
+        "1 t0 7 fill 0
+2 t0 8 lock
+3 t0 9 get_sqe
+4 t0 10 prep_write
+5 t0 11 set_data64 7
+6 t0 12 loop
+7 t0 13 submit 1
+stopped after 7 events
+thread t0: line 14, if sq_ready == 0 {
+  variables: v1=1
+thread t1: line 29, loop keeps {
+  variables:
+entry: none
+pending: 7 write a 16
+pool:
+enabled: t0 t1 k:7=0..16
+",
+    ),
+    (
+        HAND_BACK,
+        "t0,t0,t0,t0,t0,t0,t0,t0,t0,t0,k:7=-5,t1,t1",
+        "1 t0 7 fill 0
+2 t0 8 lock
+3 t0 9 get_sqe
+4 t0 10 prep_write
+5 t0 11 set_data64 7
+6 t0 12 loop
+7 t0 13 submit 1
+8 t0 14 if yes
+9 t0 15 break
+10 t0 18 release
+11 kernel 7 -5
+12 t1 29 loop
+13 t1 30 lock
+stopped after 13 events
+thread t0: line 19, loop keeps {
+  variables: v1=1
+thread t1: line 31, peek_cqe r {
+  variables:
+entry: none
+completed: 7 -5
+pool:
+enabled: t0 t1
+",
+    ),
+    (
+        HAND_BACK,
+        "t0,t0,t0,t0,t0,t0,t0,t0,t0,t0,k:7=16,t1,t1,t1,t1,t1",
+        "1 t0 7 fill 0
+2 t0 8 lock
+3 t0 9 get_sqe
+4 t0 10 prep_write
+5 t0 11 set_data64 7
+6 t0 12 loop
+7 t0 13 submit 1
+8 t0 14 if yes
+9 t0 15 break
+10 t0 18 release
+11 kernel 7 16
+12 t1 29 loop
+13 t1 30 lock
+14 t1 31 peek_cqe 7 16
+15 t1 33 cqe_seen 7
+16 t1 34 put
+stopped after 16 events
+thread t0: line 19, loop keeps {
+  variables: v1=1
+thread t1: line 35, break
+  variables: v0=16
+entry: none
+pool: a:1 t:7 c:1
+enabled: t0 t1
+",
+    ),
 ];
 
 #[test]
 fn worlds_have_their_texts(rt: HostRuntime) {
     let alloc = rt.alloc();
-    for (text, schedule, shown) in SHOWN {
+    for row in SHOWN {
+        let (text, schedule, shown) = *row;
         let mut source = ReadSource::new(text.as_bytes());
         let mut sink = WriteSink::new(Vec::new(alloc));
         let end = state_engine(alloc, &mut source, schedule, &mut sink);
