@@ -1,12 +1,13 @@
 #!/usr/bin/env python3
-"""Holds the texts of the crates rc_examples and rc_gallery against the files of examples/, or writes them.
+"""Holds the texts of the crates rc_examples, rc_gallery and rc_explain against the files of examples/, or writes them.
 
 usage: audit/examples.py [--write]
 
 rc_examples has a constant for each program of examples/, named as its file, and a row for each text of examples/causes.
 rc_gallery has a row for each text of examples/gallery, and a constant for each file of examples/c. What the file expected
-says in causes and gallery they have too. Without --write nothing is changed, and the status is 1 where a text of a crate
-differs from its file by so much as a byte, or one is missing on either side.
+says in causes and gallery they have too. rc_explain has a constant for each file of examples/causes/explained: what is
+printed for the text of that name with its explanation. Without --write nothing is changed, and the status is 1 where a
+text of a crate differs from its file by so much as a byte, or one is missing on either side.
 """
 
 import difflib
@@ -66,6 +67,11 @@ def causes():
     )
 
 
+def explained():
+    """The file of the crate with what is printed for the causes with their explanations, a constant each."""
+    return "//! What examples/causes/explained has, a text each.\n" + constants((CAUSES / "explained").iterdir())
+
+
 def patterns():
     """The folders of the gallery: a pattern each, with its texts."""
     return sorted({path.parent.name for path in GALLERY.glob("*/*.rc")})
@@ -95,6 +101,7 @@ def wanted_files():
     files = {
         "rc_examples/src/programs.rt": programs(),
         "rc_examples/src/causes.rt": causes(),
+        "rc_explain/src/engine/tests/explained.rt": explained(),
         "rc_gallery/src/c_programs.rt": c_programs(),
         "rc_gallery/src/gallery.rt": gallery(),
     }

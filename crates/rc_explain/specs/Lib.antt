@@ -1,3 +1,5 @@
 pub mod Causes
+pub mod Explains
+pub mod Listed
 pub mod Words
 pub mod StateText

@@ -3,8 +3,12 @@
 
 pub mod asks;
 pub mod causes;
+pub mod engine;
+pub mod explanation;
 pub mod held;
+pub mod listing;
 pub mod lost;
+pub mod object;
 mod parts;
 pub mod spot;
 #[cfg(test)]
