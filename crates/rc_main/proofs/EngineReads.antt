@@ -1,5 +1,5 @@
 -- What an engine says of a source is what the program says of it.
-use Rattle.std.proofs.Common.{◌≡◌, ℕ, ℤ, List, [], ◌∷◌, ◌++◌, Option, Some, None, Result, Ok, Err, refl, sym, ap, subst, ◌∙◌, inl, inr, arith}
+use Rattle.std.proofs.Common.{◌≡◌, ℕ, ℤ, List, [], ◌∷◌, ◌++◌, Bool, Option, Some, None, Result, Ok, Err, refl, sym, ap, subst, ◌∙◌, inl, inr, arith}
 use Rattle.std.specs.Io.KnownBytes.{Appends, Consumes, IsAtEnd}
 use Rattle.std.specs.Prelude.{IfErr, IfOk, IsErrAnd, OnOk}
 use Rattle.rc_lang.specs.Program.{Program}
@@ -44,9 +44,14 @@ text_was_read old new x (Err OtherProgram) c h = c
 pub write_failed : (asked : Command) (old new : Given) (s : ℕ) → ReadsAsAsked asked old new (Ok s) → ReadsAsAsked asked old new (Err (Engine Write))
 write_failed (Check json) old new s h = h
 write_failed (Step schedule) old new s h = h
-write_failed (Run seed limit) old new s h = h
+write_failed (Run seed limit summary) old new s h = h
 write_failed Emit old new s h = h
 write_failed (Show text) old new s h = tt
+
+-- The answer was written out, or not.
+pub written : (asked : Command) (old new : Given) (s : ℕ) (r : Result ℕ CommandFault) → ReadsAsAsked asked old new (Ok s) → IfOk r (λ t. t ≡ s) → IfErr r (λ e. e ≡ Engine Write) → ReadsAsAsked asked old new r
+written asked old new s (Ok t) h k f = subst (λ x. ReadsAsAsked asked old new (Ok x)) (sym k) h
+written asked old new s (Err e) h k f = subst (λ x. ReadsAsAsked asked old new (Err x)) (sym f) (write_failed asked old new s h)
 
 pub passed_on : (asked : Command) (old new : Given) (r : Result ℕ CommandFault) (e : CommandFault) → IsErrAnd r (λ y. y ≡ e) → ReadsAsAsked asked old new (Err e) → ReadsAsAsked asked old new r
 passed_on asked old new (Ok s) e h c = absurd h
@@ -62,13 +67,13 @@ whole : (xs left text : List ℕ) → xs ≡ text ++ left → left ≡ [] → xs
 whole xs left text k z = k ∙ ap (λ us. text ++ us) z ∙ append_nothing text
 
 -- The verdict was written on the text that was read.
-pub verdict_told : (gives : ℕ → ℤ → Type 0) (bytes left : Option (List ℕ)) (text : List ℕ) (limit : ℕ) (old new : Option (List ℕ)) (v : Verdict) (r : Result ℕ CommandFault) →
-    Consumes bytes left text → IsAtEnd left → GivesVerdict (answer_of text) (Err v) → IfOk r (λ s. s ≡ status_of_verdict v) → OnOk r (Appends old new (verdict_text v)) → IfOk r (AnswersRun gives bytes limit old new)
-verdict_told gives None left text limit old new v (Ok s) k z j h a = tt
-verdict_told gives (Some xs) None text limit old new v (Ok s) k z j h a = absurd k
-verdict_told gives (Some xs) (Some ys) text limit old new v (Ok s) k z j h a =
+pub verdict_told : (gives : ℕ → ℤ → Type 0) (bytes left : Option (List ℕ)) (text : List ℕ) (limit : ℕ) (summary : Bool) (old new : Option (List ℕ)) (v : Verdict) (r : Result ℕ CommandFault) →
+    Consumes bytes left text → IsAtEnd left → GivesVerdict (answer_of text) (Err v) → IfOk r (λ s. s ≡ status_of_verdict v) → OnOk r (Appends old new (verdict_text v)) → IfOk r (AnswersRun gives bytes limit summary old new)
+verdict_told gives None left text limit summary old new v (Ok s) k z j h a = tt
+verdict_told gives (Some xs) None text limit summary old new v (Ok s) k z j h a = absurd k
+verdict_told gives (Some xs) (Some ys) text limit summary old new v (Ok s) k z j h a =
     inr (v, subst (λ us. GivesVerdict (answer_of us) (Err v)) (sym (whole xs ys text k z)) j, a, h)
-verdict_told gives bytes left text limit old new v (Err e) k z j h a = tt
+verdict_told gives bytes left text limit summary old new v (Err e) k z j h a = tt
 
 -- The same of the command that writes a program in C; and that of an accepted one was written.
 pub verdict_emitted : (bytes left : Option (List ℕ)) (text : List ℕ) (old new : Option (List ℕ)) (v : Verdict) (r : Result ℕ CommandFault) →

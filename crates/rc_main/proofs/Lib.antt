@@ -1,2 +1,3 @@
-mod Names
 mod EngineReads
+mod FileAnswers
+mod Names

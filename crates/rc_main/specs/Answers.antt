@@ -1,8 +1,9 @@
 -- What the program answers: the exit status of each command, and what it says of its devices.
-use Rattle.std.specs.Prelude.{ℕ, ℤ, ◌≡◌, ◌+◌, ◌⊎◌, Bool, List, Option, Some, None, Result, Ok, Err}
+use Rattle.std.specs.Prelude.{ℕ, ℤ, ◌≡◌, ◌+◌, ◌⊎◌, Bool, true, false, List, Option, Some, None, Result, Ok, Err}
 use Rattle.std.specs.Io.KnownBytes.{Appends}
 use Rattle.rc_lang.specs.Program.{Program}
 use Rattle.rc_read.specs.Answer.{answer_of}
+use Rattle.rc_world.specs.declared.event.Event.{Event}
 use Rattle.rc_run.specs.declared.report.RunFault.TheVariants as fault
 use Rattle.rc_run.specs.declared.report.RunReport.{RunReport}
 use Rattle.rc_run.specs.Reports.{Tells}
@@ -15,6 +16,7 @@ use Rattle.rc_report.specs.Checks.{ChecksAs, GivesVerdict}
 use Rattle.rc_report.specs.Engine.{StepsAs}
 use Rattle.rc_report.specs.Statuses.{status_of_end, status_of_step, status_of_verdict}
 use Rattle.rc_report.specs.Streams.{CountsReads, Given}
+use Rattle.rc_report.specs.Summaries.{summary_text}
 use Rattle.rc_report.specs.Traces.{trace_text}
 use Rattle.rc_report.specs.Verdicts.{verdict_text}
 use Rattle.rc_main.specs.declared.fault.CommandFault.{CommandFault}
@@ -39,10 +41,15 @@ EndsRun gives program limit report end.Stopped = ⊥
 EndsRun gives program limit report end.Limit = Tells gives program limit (Err (fault.Limit report))
 EndsRun gives program limit report end.Memory = Tells gives program limit (Err (fault.OutOfMemory report))
 
--- The program ran, and the trace of what happened was written.
-abbrev pub RunsProgram : (ℕ → ℤ → Type 0) → Program → ℕ → Option (List ℕ) → Option (List ℕ) → ℕ → Type 0
-RunsProgram gives program limit old new status =
-    (report : RunReport) × (end : End) × EndsRun gives program limit report end × Appends old new (trace_text program report.history.items end) × (status ≡ status_of_end end)
+-- what is written of a run: a summary, or the trace
+abbrev pub run_text : Bool → Program → List Event → End → List ℕ
+run_text true program events end = summary_text program events end
+run_text false program events end = trace_text program events end
+
+-- The program ran, and what happened was written.
+abbrev pub RunsProgram : (ℕ → ℤ → Type 0) → Program → ℕ → Bool → Option (List ℕ) → Option (List ℕ) → ℕ → Type 0
+RunsProgram gives program limit summary old new status =
+    (report : RunReport) × (end : End) × EndsRun gives program limit report end × Appends old new (run_text summary program report.history.items end) × (status ≡ status_of_end end)
 
 -- The verdict that says why a text isn't admitted was written.
 abbrev pub TellsVerdict : List ℕ → Option (List ℕ) → Option (List ℕ) → ℕ → Type 0
@@ -50,10 +57,10 @@ TellsVerdict bytes old new status =
     (verdict : Verdict) × GivesVerdict (answer_of bytes) (Err verdict) × Appends old new (verdict_text verdict) × (status ≡ status_of_verdict verdict)
 
 -- The status of `run` is that of the end of the run, or of the verdict.
-abbrev pub AnswersRun : (ℕ → ℤ → Type 0) → Option (List ℕ) → ℕ → Option (List ℕ) → Option (List ℕ) → ℕ → Type 0
-AnswersRun gives None limit old new status = Unit {0}
-AnswersRun gives (Some bytes) limit old new status =
-    ((program : Program) × (answer_of bytes ≡ Ok program) × RunsProgram gives program limit old new status) ⊎ TellsVerdict bytes old new status
+abbrev pub AnswersRun : (ℕ → ℤ → Type 0) → Option (List ℕ) → ℕ → Bool → Option (List ℕ) → Option (List ℕ) → ℕ → Type 0
+AnswersRun gives None limit summary old new status = Unit {0}
+AnswersRun gives (Some bytes) limit summary old new status =
+    ((program : Program) × (answer_of bytes ≡ Ok program) × RunsProgram gives program limit summary old new status) ⊎ TellsVerdict bytes old new status
 
 -- The status of `c` is 0 where the program is accepted, and else that of the verdict, which was written. What its C is no
 -- contract says.
@@ -72,7 +79,7 @@ ReadsOnce old new (Err OtherProgram) = CountsReads {X = ℕ} old new (Ok 3)
 abbrev pub ReadsAsAsked : Command → Given → Given → Result ℕ CommandFault → Type 0
 ReadsAsAsked (Check json) old new r = ReadsOnce old new r
 ReadsAsAsked (Step schedule) old new r = ReadsOnce old new r
-ReadsAsAsked (Run seed limit) old new r = ReadsOnce old new r
+ReadsAsAsked (Run seed limit summary) old new r = ReadsOnce old new r
 ReadsAsAsked Emit old new r = ReadsOnce old new r
 ReadsAsAsked (Show text) old new r = Unit {0}
 

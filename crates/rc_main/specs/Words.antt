@@ -7,6 +7,6 @@ use Rattle.rc_main.specs.declared.words.Command.TheVariants.{Check, Step, Run, E
 abbrev pub HasRanges : Command → Type 0
 HasRanges (Check json) = Unit {0}
 HasRanges (Step schedule) = Unit {0}
-HasRanges (Run seed limit) = (1 ≤ limit) × (limit ≤ 1000000)
+HasRanges (Run seed limit summary) = (1 ≤ limit) × (limit ≤ 1000000)
 HasRanges Emit = Unit {0}
 HasRanges (Show text) = Unit {0}

@@ -1,13 +1,17 @@
 //! The whole program, over any reader and writers.
 
-ghost use Rattle.std.specs.Prelude.{◌≡◌, ◌+◌, ◌<◌, ◌≤◌, ◌^◌, IfOk, OnOk};
+ghost use Rattle.std.specs.Prelude.{◌≡◌, ◌+◌, ◌<◌, ◌≤◌, ◌^◌, IfErr, IfOk, OnOk};
 ghost use Rattle.std.specs.Io.KnownBytes.{Appends};
+ghost use Rattle.rc_report.specs.declared.engine_fault.EngineFault.TheVariants.{Write as FailedWrite};
+ghost use Rattle.rc_main.specs.declared.fault.CommandFault.TheVariants.{Engine};
 ghost use Rattle.rc_main.specs.Answers.{AnswersCheck, AnswersStep, ReadsAsAsked, ReadsOnce, WritesOnce};
+ghost use Rattle.rc_main.specs.Files.{AnswersOpened};
 
 use crate::emitting::emit_text;
 use crate::fault::CommandFault;
+use crate::files::{NoTexts, Texts, check_files, tell_file};
 use crate::running::run_text;
-use crate::words::{Command, read_words};
+use crate::words::{Asked, Command, read_words};
 use rc_report::buffered::Buffered;
 use rc_report::check_engine::check_engine;
 use rc_report::engine_fault::EngineFault;
@@ -20,8 +24,26 @@ use std::io::{Read, Write};
 use std::sync::Wait;
 use std::thread::Threads;
 
-/// Does what the words say, and answers the exit status. Answers go to the writer; wrong words, want of memory and
-/// devices that failed are told on one line of `errors`. Nothing is tried again (`read(2)`, `write(2)`).
+/// Does what the words say, and answers the exit status. Answers go to the writer; wrong words, files that can't be read,
+/// want of memory and devices that failed are told on one line of `errors` each. Nothing is tried again (`read(2)`,
+/// `write(2)`).
+pub fn command_over<
+    'a,
+    R: Threads + Wait + Sync,
+    T: Texts,
+    I: Read + Drop,
+    O: Write + Drop,
+    E: Write + Drop,
+>(rt: &R, texts: &T, alloc: Global, words: &'a [&'a str], reader: I, writer: O, mut errors: E) -> u8
+    ensures { result ≤ 3 }
+{
+    match answered(rt, texts, alloc, words, reader, writer, &mut errors) {
+        Ok(status) => status,
+        Err(fault) => tell(alloc, &fault, errors),
+    }
+}
+
+/// Does what the words say where no file can be opened.
 pub fn command<'a, R: Threads + Wait + Sync, I: Read + Drop, O: Write + Drop, E: Write + Drop>(
     rt: &R,
     alloc: Global,
@@ -32,10 +54,7 @@ pub fn command<'a, R: Threads + Wait + Sync, I: Read + Drop, O: Write + Drop, E:
 ) -> u8
     ensures { result ≤ 3 }
 {
-    match answered(rt, alloc, words, reader, writer) {
-        Ok(status) => status,
-        Err(fault) => tell(alloc, &fault, errors),
-    }
+    command_over(rt, &NoTexts, alloc, words, reader, writer, errors)
 }
 
 /// Tells on one line why the program has no answer, and answers its exit status then, which is 3. Where there is no
@@ -52,19 +71,82 @@ pub fn tell<E: Write + Drop>(alloc: Global, fault: &CommandFault, errors: E) -> 
 }
 
 /// Does what the words say. The words are read before the input.
-fn answered<'a, R: Threads + Wait + Sync, I: Read + Drop, O: Write + Drop>(
+fn answered<
+    'a,
+    R: Threads + Wait + Sync,
+    T: Texts,
+    I: Read + Drop,
+    O: Write + Drop,
+    E: Write + Drop,
+>(
     rt: &R,
+    texts: &T,
     alloc: Global,
     words: &'a [&'a str],
     reader: I,
     writer: O,
+    errors: &mut E,
 ) -> Result<u8, CommandFault>
     ensures { IfOk result (λ status. status ≤ 3) }
 {
     let asked = read_words(alloc, words)?;
-    let mut source = ReadSource::new(reader);
     let mut sink = Buffered::new(alloc, WriteSink::new(writer))?;
-    performed(rt, alloc, asked, &mut source, &mut sink)
+    let Asked { command, files } = asked;
+    if files.is_empty() {
+        let mut source = ReadSource::new(reader);
+        return performed(rt, alloc, command, &mut source, &mut sink);
+    }
+    on_files(rt, texts, alloc, command, &files, &mut sink, errors)
+}
+
+/// Does what is asked with the texts of files: `check` takes several, the others one.
+fn on_files<R: Threads + Wait + Sync, T: Texts, O: Write + Drop, E: Write + Drop>(
+    rt: &R,
+    texts: &T,
+    alloc: Global,
+    command: Command<'_>,
+    files: &[&str],
+    sink: &mut Buffered<WriteSink<O>>,
+    errors: &mut E,
+) -> Result<u8, CommandFault>
+    requires { sink.old.sink.failures + 1 < 2 ^ 64 }
+    ensures bound { IfOk result (λ status. status ≤ 3) }
+    ensures writes { WritesOnce sink.old.sink.failures sink.new.sink.failures result }
+{
+    if let Command::Check { json } = command {
+        let status = check_files(alloc, texts, files, json, sink, errors)?;
+        return written_out(status, sink);
+    }
+    match files.first() {
+        Some(name) => on_file(rt, texts, alloc, command, name, sink, errors),
+        None => Ok(GOOD_STATUS),
+    }
+}
+
+/// Does what is asked with the text of a file. A file that can't be opened or read is told on a line of `errors`.
+fn on_file<R: Threads + Wait + Sync, T: Texts, O: Write + Drop, E: Write + Drop>(
+    rt: &R,
+    texts: &T,
+    alloc: Global,
+    command: Command<'_>,
+    name: &str,
+    sink: &mut Buffered<WriteSink<O>>,
+    errors: &mut E,
+) -> Result<u8, CommandFault>
+    requires { sink.old.sink.failures + 1 < 2 ^ 64 }
+    ensures opened { IfOk result (AnswersOpened (T.opens texts.now name.now)) }
+    ensures bound { IfOk result (λ status. status ≤ 3) }
+    ensures writes { WritesOnce sink.old.sink.failures sink.new.sink.failures result }
+{
+    let Ok(text) = texts.open(name) else {
+        return Ok(tell_file(alloc, name, "the file can't be opened", errors));
+    };
+    let mut source = ReadSource::new(text);
+    let answer = performed(rt, alloc, command, &mut source, sink);
+    if matches!(answer, Err(CommandFault::Engine(EngineFault::Read))) {
+        return Ok(tell_file(alloc, name, "the file can't be read", errors));
+    }
+    answer
 }
 
 /// Does what is asked, and sees that the answer is written out.
@@ -86,6 +168,19 @@ fn performed<R: Threads + Wait + Sync, I: Source, O: Write + Drop>(
     ensures writes { WritesOnce sink.old.sink.failures sink.new.sink.failures result }
 {
     let status = done(rt, alloc, asked, source, sink)?;
+    written_out(status, sink)
+}
+
+/// Answers this status where the whole answer is written out.
+fn written_out<O: Write + Drop>(
+    status: u8,
+    sink: &mut Buffered<WriteSink<O>>,
+) -> Result<u8, CommandFault>
+    requires { sink.old.sink.failures + 1 < 2 ^ 64 }
+    ensures status { IfOk result (λ s. s ≡ status) }
+    ensures fault { IfErr result (λ e. e ≡ Engine FailedWrite) }
+    ensures writes { WritesOnce sink.old.sink.failures sink.new.sink.failures result }
+{
     match sink.finish() {
         Ok(()) => Ok(status),
         Err(DeviceFailed) => Err(CommandFault::Engine(EngineFault::Write)),
@@ -113,7 +208,11 @@ fn done<R: Threads + Wait + Sync, I: Source, S: Sink>(
     match asked {
         Command::Check { json } => checked(alloc, source, json, sink),
         Command::Step { schedule } => stepped(alloc, source, schedule, sink),
-        Command::Run { seed, limit } => run_text(rt, alloc, source, seed, limit, sink),
+        Command::Run {
+            seed,
+            limit,
+            summary,
+        } => run_text(rt, alloc, source, seed, limit, summary, sink),
         Command::Emit => emit_text(alloc, source, sink),
         Command::Show(text) => shown(text.as_str(), sink),
     }

@@ -4,13 +4,15 @@
 pub mod command;
 pub mod emitting;
 pub mod fault;
+pub mod files;
 pub mod running;
 #[cfg(test)]
 mod tests;
 pub mod words;
 
-use command::{command, tell};
+use command::{command_over, tell};
 use fault::CommandFault;
+use files::SystemTexts;
 use std::process::ExitCode;
 use std::sync::Wait;
 use std::thread::Threads;
@@ -24,8 +26,16 @@ fn run<R: Threads + Wait + Sync>(rt: &HostRuntime, handle: &R) -> Result<u8, Wor
     for word in &words {
         list.push(word.as_str())?;
     }
-    let status = command(handle, alloc, &list, rt.stdin(), rt.stdout(), rt.stderr());
-    Ok(status)
+    let texts = SystemTexts { files: rt };
+    Ok(command_over(
+        handle,
+        &texts,
+        alloc,
+        &list,
+        rt.stdin(),
+        rt.stdout(),
+        rt.stderr(),
+    ))
 }
 
 fn main(rt: HostRuntime) -> ExitCode {

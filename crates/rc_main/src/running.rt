@@ -3,9 +3,10 @@
 ghost use Rattle.std.specs.Prelude.{◌≡◌, ◌+◌, ◌<◌, ◌≤◌, ◌^◌, IfErr, IfOk, OnOk};
 ghost use Rattle.std.specs.Arc.{arc_value};
 ghost use Rattle.std.specs.Io.KnownBytes.{Appends};
-ghost use Rattle.rc_main.specs.Answers.{AnswersRun, EndsRun, ReadsNothing, ReadsOnce, RunsProgram, WritesOnce};
+ghost use Rattle.rc_main.specs.Answers.{AnswersRun, EndsRun, ReadsNothing, ReadsOnce, RunsProgram, WritesOnce, run_text};
 ghost use Rattle.rc_main.specs.declared.fault.CommandFault.TheVariants.{OtherProgram};
 ghost use Rattle.rc_report.specs.Statuses.{status_of_verdict};
+ghost use Rattle.rc_report.specs.Streams.{FailsToWrite, Wrote};
 ghost use Rattle.rc_report.specs.Traces.{NamesItsThreads};
 ghost use Rattle.rc_report.specs.Verdicts.{verdict_text};
 
@@ -14,14 +15,18 @@ use rc_admit::admitted::Admitted;
 use rc_device::chooser::Seeded;
 use rc_device::device::Device;
 use rc_device::disk::Disk;
+use rc_lang::program::Program;
 use rc_report::check_engine::judged;
+use rc_report::engine_fault::EngineFault;
 use rc_report::reading::read_text;
 use rc_report::streams::{Sink, Source};
+use rc_report::summary::summary_text;
 use rc_report::trace::{End, trace_text};
 use rc_report::verdict::{Verdict, verdict_text};
 use rc_run::gate::OpenGate;
 use rc_run::report::{RunFault, RunReport};
 use rc_run::runner::run;
+use rc_world::event::Event;
 use std::alloc::{AllocError, Global};
 use std::sync::{Arc, Wait};
 use std::thread::Threads;
@@ -34,12 +39,13 @@ pub fn run_text<R: Threads + Wait + Sync, I: Source, S: Sink>(
     source: &mut I,
     seed: u32,
     limit: u32,
+    summary: bool,
     sink: &mut S,
 ) -> Result<u8, CommandFault>
     requires reads { I.read_count source.old + 2097152 < 2 ^ 64 }
     requires read_failures { I.failure_count source.old + 1 < 2 ^ 64 }
     requires write_failures { S.failure_count sink.old + 1 < 2 ^ 64 }
-    ensures answer { IfOk result (AnswersRun ⟦<Disk as Device>⟧.gives (I.remaining source.old) limit (S.contents sink.old) (S.contents sink.new)) }
+    ensures answer { IfOk result (AnswersRun ⟦<Disk as Device>⟧.gives (I.remaining source.old) limit summary (S.contents sink.old) (S.contents sink.new)) }
     ensures bound { IfOk result (λ status. status ≤ 3) }
     ensures reads { ReadsOnce
         (record { remaining = I.remaining source.old; reads = I.read_count source.old; ends = I.end_count source.old; failures = I.failure_count source.old })
@@ -49,7 +55,7 @@ pub fn run_text<R: Threads + Wait + Sync, I: Source, S: Sink>(
 {
     let text = read_text(alloc, source)?;
     match judged(alloc, &text)? {
-        Ok(admitted) => run_admitted(rt, alloc, admitted, seed, limit, sink),
+        Ok(admitted) => run_admitted(rt, alloc, admitted, seed, limit, summary, sink),
         Err(verdict) => tell_verdict(verdict, sink),
     }
 }
@@ -67,17 +73,18 @@ pub fn tell_verdict<S: Sink>(verdict: Verdict, sink: &mut S) -> Result<u8, Comma
     Ok(verdict.status())
 }
 
-/// Runs an admitted program, and writes the trace.
+/// Runs an admitted program, and writes the trace or the summary.
 fn run_admitted<R: Threads + Wait + Sync, S: Sink>(
     rt: &R,
     alloc: Global,
     admitted: Admitted,
     seed: u32,
     limit: u32,
+    summary: bool,
     sink: &mut S,
 ) -> Result<u8, CommandFault>
     requires { S.failure_count sink.old + 1 < 2 ^ 64 }
-    ensures answer { IfOk result (RunsProgram ⟦<Disk as Device>⟧.gives admitted limit (S.contents sink.old) (S.contents sink.new)) }
+    ensures answer { IfOk result (RunsProgram ⟦<Disk as Device>⟧.gives admitted limit summary (S.contents sink.old) (S.contents sink.new)) }
     ensures writes { WritesOnce (S.failure_count sink.old) (S.failure_count sink.new) result }
     ensures no_read { IfErr result ReadsNothing }
     ensures bound { IfOk result (λ status. status ≤ 3) }
@@ -86,8 +93,28 @@ fn run_admitted<R: Threads + Wait + Sync, S: Sink>(
     let admitted = Arc::new(alloc, admitted).map_err(|_| AllocError)?;
     let theirs = Arc::try_clone(&admitted)?;
     let (report, end) = played(rt, alloc, theirs, disk, seed, limit)?;
-    trace_text(admitted.program(), &report.history, end, sink)?;
+    write_run(admitted.program(), &report.history, end, summary, sink)?;
     Ok(end.status())
+}
+
+/// Writes what happened, as a summary or as a trace.
+fn write_run<S: Sink>(
+    program: &Program,
+    events: &[Event],
+    end: End,
+    summary: bool,
+    sink: &mut S,
+) -> Result<(), EngineFault>
+    requires threads { NamesItsThreads program.now events.now end }
+    requires failures { S.failure_count sink.old + 1 < 2 ^ 64 }
+    ensures text { Wrote (S.contents sink.old) (S.contents sink.new) (run_text summary program.now events.now end) result }
+    ensures failures { FailsToWrite (S.failure_count sink.old) (S.failure_count sink.new) result }
+{
+    if summary {
+        summary_text(program, events, end, sink)
+    } else {
+        trace_text(program, events, end, sink)
+    }
 }
 
 /// What a run did, and how it ended.

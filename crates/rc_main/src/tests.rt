@@ -3,6 +3,8 @@
 mod causes;
 mod checks;
 mod devices;
+mod emitting;
+mod files;
 mod flags;
 mod limits;
 mod long;
@@ -12,6 +14,7 @@ mod refused;
 mod runs;
 mod step_faults;
 mod steps;
+mod summaries;
 mod walks;
 mod words;
 

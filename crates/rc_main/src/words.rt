@@ -12,6 +12,14 @@ use thiserror::Error;
 
 const VERSION: &str = "0.1.0";
 
+/// What is shown behind the help of `check`.
+const CHECK_HELP: &str =
+    "Exit status: 0 accepted, 1 refused, 2 unreadable, 3 no answer; of several files the greatest.
+
+Example: ringcheck check examples/*.rc
+
+docs/causes.md explains the codes of refused and unreadable lines (V1 to V19, P1 to P11).";
+
 /// The most events that threads may be allowed.
 const MOST_EVENTS: u32 = 1_000_000;
 
@@ -19,15 +27,31 @@ const MOST_EVENTS: u32 = 1_000_000;
 #[derive(Debug, Drop)]
 pub enum Command<'a> {
     /// Check the program, with its verdict as JSON or as text.
-    Check { json: bool },
+    Check {
+        json: bool,
+    },
     /// Step the program through this schedule.
-    Step { schedule: &'a str },
+    Step {
+        schedule: &'a str,
+    },
     /// Run the program on threads: with the choices of this seed, and at most so many events of its threads, from 1.
-    Run { seed: u32, limit: u32 },
+    /// What happened is written as a summary or as a trace.
+    Run {
+        seed: u32,
+        limit: u32,
+        summary: bool,
+    },
     /// Write the program in C.
     Emit,
     /// Show this text: help, or the version.
     Show(String),
+}
+
+/// What the program is asked to do, and with the texts of which files. None: with that of standard input.
+#[derive(Debug, Drop)]
+pub struct Asked<'a> {
+    pub command: Command<'a>,
+    pub files: Vec<&'a str>,
 }
 
 /// Why the words are no command.
@@ -62,9 +86,24 @@ fn described_check<'a>(alloc: Global) -> Result<clap::Command<'a>, AllocError> {
         .long("json")
         .action(ArgAction::SetTrue)
         .help("Print the verdict as one JSON object");
+    let files = Arg::new(alloc, "file")
+        .value_name("FILE")
+        .num_args(0..)
+        .action(ArgAction::Append)
+        .help("Files to check, with one verdict a line; without any, or with -, standard input");
     clap::Command::new(alloc, "check")
-        .about("Check the program on standard input, and print the verdict")
-        .arg(json)
+        .about("Check programs, and print the verdict on each")
+        .after_help(CHECK_HELP)
+        .arg(json)?
+        .arg(files)
+}
+
+/// The file of a command that takes one.
+fn described_file<'a>(alloc: Global) -> Arg<'a> {
+    Arg::new(alloc, "file")
+        .value_name("FILE")
+        .action(ArgAction::Set)
+        .help("A file with the program; without any, or with -, standard input")
 }
 
 /// The words of `step`.
@@ -76,8 +115,9 @@ fn described_step<'a>(alloc: Global) -> Result<clap::Command<'a>, AllocError> {
         .default_value("")
         .help("Items joined by commas: NAME, NAME=R, k:U=R or k:U=R:H");
     clap::Command::new(alloc, "step")
-        .about("Step the program on standard input through a schedule, and print the trace")
-        .arg(schedule)
+        .about("Step a program through a schedule, and print the trace")
+        .arg(schedule)?
+        .arg(described_file(alloc))
 }
 
 /// The words of `run`.
@@ -94,17 +134,23 @@ fn described_run<'a>(alloc: Global) -> Result<clap::Command<'a>, AllocError> {
         .required(true)
         .value_parser(value_parser!(u32).range(1..=1000000))
         .help("How many events its threads may make, from 1 to 1000000");
+    let summary = Arg::new(alloc, "summary")
+        .long("summary")
+        .action(ArgAction::SetTrue)
+        .help("Print counts in place of the trace");
     clap::Command::new(alloc, "run")
-        .about("Run the program on standard input on threads, and print the trace")
+        .about("Run a program on threads, and print the trace")
         .arg(seed)?
-        .arg(limit)
+        .arg(limit)?
+        .arg(summary)?
+        .arg(described_file(alloc))
 }
 
 /// The words of `c`.
-fn described_c<'a>(alloc: Global) -> clap::Command<'a> {
-    clap::Command::new(alloc, "c").about(
-        "Print the accepted program on standard input as a C program over liburing",
-    )
+fn described_c<'a>(alloc: Global) -> Result<clap::Command<'a>, AllocError> {
+    clap::Command::new(alloc, "c")
+        .about("Print an accepted program as a C program over liburing")
+        .arg(described_file(alloc))
 }
 
 /// The words that the program takes.
@@ -118,7 +164,7 @@ fn described<'a>(alloc: Global) -> Result<clap::Command<'a>, AllocError> {
         .subcommand(described_check(alloc)?)?
         .subcommand(described_step(alloc)?)?
         .subcommand(described_run(alloc)?)?
-        .subcommand(described_c(alloc))
+        .subcommand(described_c(alloc)?)
 }
 
 /// The words of the command line, without the program's name.
@@ -139,35 +185,76 @@ pub fn given_words(rt: &(impl Env + AllocGlobal)) -> Result<Vec<String>, WordsFa
 }
 
 /// Reads the words behind the program's name.
-pub fn read_words<'a>(alloc: Global, words: &'a [&'a str]) -> Result<Command<'a>, WordsFault>
-    ensures { IfOk result HasRanges }
+pub fn read_words<'a>(alloc: Global, words: &'a [&'a str]) -> Result<Asked<'a>, WordsFault>
+    ensures { IfOk result (λ asked. HasRanges asked.command) }
 {
     match described(alloc)?.try_get_matches_from(words) {
-        Ok(matches) => command_of(alloc, &matches),
+        Ok(matches) => asked_of(alloc, &matches),
         Err(error) => match error.kind() {
-            ErrorKind::DisplayHelp | ErrorKind::DisplayVersion => {
-                Ok(Command::Show(format!(in alloc; "{error}")?))
-            }
+            ErrorKind::DisplayHelp | ErrorKind::DisplayVersion => Ok(Asked {
+                command: Command::Show(format!(in alloc; "{error}")?),
+                files: Vec::new(alloc),
+            }),
             ErrorKind::OutOfMemory => Err(WordsFault::OutOfMemory),
             _ => Err(wrong_words(alloc, words)?),
         },
     }
 }
 
-/// The command of words that were taken: there is one subcommand.
-fn command_of<'a>(alloc: Global, matches: &ArgMatches<'a>) -> Result<Command<'a>, WordsFault>
-    ensures { IfOk result HasRanges }
+/// What is asked by words that were taken: there is one subcommand.
+fn asked_of<'a>(alloc: Global, matches: &ArgMatches<'a>) -> Result<Asked<'a>, WordsFault>
+    ensures { IfOk result (λ asked. HasRanges asked.command) }
 {
     match matches.subcommand() {
-        Some(("check", check)) => Ok(Command::Check {
-            json: check.get_flag("json"),
+        Some((name, given)) => {
+            let files = files_of(alloc, given)?;
+            let command = command_of(alloc, name, given)?;
+            Ok(Asked { command, files })
+        }
+        None => Ok(Asked {
+            command: Command::Step { schedule: "" },
+            files: Vec::new(alloc),
         }),
-        Some(("run", run)) => run_of(alloc, run),
-        Some(("c", _)) => Ok(Command::Emit),
-        Some((_, step)) => Ok(Command::Step {
-            schedule: step.get_str("schedule").unwrap_or(""),
+    }
+}
+
+/// The files that are named. `-` is standard input, which stands alone.
+fn files_of<'a>(alloc: Global, given: &ArgMatches<'a>) -> Result<Vec<&'a str>, WordsFault> {
+    let mut files = Vec::new(alloc);
+    let mut is_input = false;
+    for name in given.get_strs("file").unwrap_or(&[]) {
+        if *name == "-" {
+            is_input = true;
+        }
+        files.push(*name)?;
+    }
+    if !is_input {
+        return Ok(files);
+    }
+    if files.len() > 1 {
+        let message = "'-' stands beside other files (see 'ringcheck --help')";
+        return Err(WordsFault::Wrong(String::from_str(alloc, message)?));
+    }
+    Ok(Vec::new(alloc))
+}
+
+/// The command of this name.
+fn command_of<'a>(
+    alloc: Global,
+    name: &str,
+    given: &ArgMatches<'a>,
+) -> Result<Command<'a>, WordsFault>
+    ensures { IfOk result HasRanges }
+{
+    match name {
+        "check" => Ok(Command::Check {
+            json: given.get_flag("json"),
         }),
-        None => Ok(Command::Step { schedule: "" }),
+        "run" => run_of(alloc, given),
+        "c" => Ok(Command::Emit),
+        _ => Ok(Command::Step {
+            schedule: given.get_str("schedule").unwrap_or(""),
+        }),
     }
 }
 
@@ -177,10 +264,15 @@ fn run_of<'a>(alloc: Global, run: &ArgMatches<'a>) -> Result<Command<'a>, WordsF
 {
     let seed = run.get_one::<u32>("seed").unwrap_or(0);
     let limit = run.get_one::<u32>("limit").unwrap_or(0);
+    let summary = run.get_flag("summary");
     if limit < 1 || limit > MOST_EVENTS {
         return Err(WordsFault::Wrong(format!(in alloc; "{limit} is no limit")?));
     }
-    Ok(Command::Run { seed, limit })
+    Ok(Command::Run {
+        seed,
+        limit,
+        summary,
+    })
 }
 
 /// What is wrong with words, in one line. They are read again with their control characters escaped, so that none of
@@ -207,17 +299,22 @@ fn wrong_words(alloc: Global, words: &[&str]) -> Result<WordsFault, AllocError> 
 fn escaped(alloc: Global, words: &[&str]) -> Result<Vec<String>, AllocError> {
     let mut shown = Vec::new(alloc);
     for word in words {
-        let mut text = String::new(alloc);
-        for character in word.chars() {
-            if character.is_control() {
-                text.push_str(format!(in alloc; "{}", character.escape_default())?.as_str())?;
-            } else {
-                text.push(character)?;
-            }
-        }
-        shown.push(text)?;
+        shown.push(escaped_word(alloc, word)?)?;
     }
     Ok(shown)
+}
+
+/// A word with each control character escaped.
+pub fn escaped_word(alloc: Global, word: &str) -> Result<String, AllocError> {
+    let mut text = String::new(alloc);
+    for character in word.chars() {
+        if character.is_control() {
+            text.push_str(format!(in alloc; "{}", character.escape_default())?.as_str())?;
+        } else {
+            text.push(character)?;
+        }
+    }
+    Ok(text)
 }
 
 /// The lines of a message up to the first blank one as one line, without the word that says that it is an error.

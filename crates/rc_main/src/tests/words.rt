@@ -70,6 +70,24 @@ fn wrong_words_are_told_on_one_line(rt: HostRuntime) {
     }
 }
 
+const CHECK_HELP: &str = "Check programs, and print the verdict on each
+
+Usage: ringcheck check [OPTIONS] [FILE]...
+
+Arguments:
+  [FILE]...  Files to check, with one verdict a line; without any, or with -, standard input
+
+Options:
+      --json  Print the verdict as one JSON object
+  -h, --help  Print help
+
+Exit status: 0 accepted, 1 refused, 2 unreadable, 3 no answer; of several files the greatest.
+
+Example: ringcheck check examples/*.rc
+
+docs/causes.md explains the codes of refused and unreadable lines (V1 to V19, P1 to P11).
+";
+
 const SHOWN: &[Case] = &[
     Case {
         words: &["--version"],
@@ -86,10 +104,10 @@ const SHOWN: &[Case] = &[
 Usage: ringcheck <COMMAND>
 
 Commands:
-  check  Check the program on standard input, and print the verdict
-  step   Step the program on standard input through a schedule, and print the trace
-  run    Run the program on standard input on threads, and print the trace
-  c      Print the accepted program on standard input as a C program over liburing
+  check  Check programs, and print the verdict on each
+  step   Step a program through a schedule, and print the trace
+  run    Run a program on threads, and print the trace
+  c      Print an accepted program as a C program over liburing
   help   Print this message or the help of the given subcommand(s)
 
 Options:
@@ -102,14 +120,14 @@ Options:
     Case {
         words: &["check", "--help"],
         text: "",
-        output: "Check the program on standard input, and print the verdict
-
-Usage: ringcheck check [OPTIONS]
-
-Options:
-      --json  Print the verdict as one JSON object
-  -h, --help  Print help
-",
+        output: CHECK_HELP,
+        errors: "",
+        status: 0,
+    },
+    Case {
+        words: &["help", "check"],
+        text: "",
+        output: CHECK_HELP,
         errors: "",
         status: 0,
     },

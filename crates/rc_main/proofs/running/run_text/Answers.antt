@@ -19,5 +19,5 @@ returns-clause-reads g c = text_was_read _ _ c.in_ok-text.text c.tell_verdict.re
 pub returns-clause-answer : goal.returns-clause-answer
 returns-clause-answer g c =
     let refused = rw (c.deref.ensures.value, c.in-Err.is) at c.in_ok-admitted.ensures in
-    verdict_told _ _ _ c.in_ok-text.text.items c.args.limit _ _ c.in-Err.verdict c.tell_verdict.result
+    verdict_told _ _ _ c.in_ok-text.text.items c.args.limit c.args.summary _ _ c.in-Err.verdict c.tell_verdict.result
     c.in_ok-text.ensures.text.0 c.in_ok-text.ensures.text.1 refused c.tell_verdict.ensures.status c.tell_verdict.ensures.text
