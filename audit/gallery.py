@@ -4,9 +4,9 @@
 usage: audit/gallery.py PROGRAM [--write]
 
 Of each pattern of examples/gallery that are: NAME.c, which is what `PROGRAM c` prints; and in page.md the verdict on
-broken.rc, and the last events and the end of the schedule that the file expected has for it. It also sees that each row
-of expected is what is printed. The status is 1 where something differs. The program is no part of this folder before it
-is built, so this is no part of the test.
+broken.rc and why, and the last events and the end of the schedule that the file expected has for it. It also sees that
+each row of expected is what is printed. The status is 1 where something differs. The test runs it on the program that
+it has built.
 """
 
 import re
@@ -41,13 +41,19 @@ def wrong_rows(program):
             yield f"{name} {words}: {answer} {output.splitlines()[-1:]}"
 
 
+def why_of(lines):
+    """An explanation up to where it says where more stands: without the lines of the thread."""
+    last = next((at for at, line in enumerate(lines) if line.startswith("see ")), len(lines))
+    return lines[: last + 1]
+
+
 def blocks(program, name):
     """The two blocks of a pattern's page that say what is printed."""
     broken = GALLERY / name / "broken.rc"
-    refused = printed(program, ["check"], broken)[0].splitlines()
+    refused = why_of(printed(program, ["check", "--explain"], broken)[0].splitlines())
     words = next(row[1] for row in rows() if row[0] == f"{name}/broken.rc" and row[1].startswith("step"))
     trace = printed(program, words.split(" "), broken)[0].splitlines()
-    verdict = [f"ringcheck check < examples/gallery/{name}/broken.rc", *refused]
+    verdict = [f"ringcheck check --explain < examples/gallery/{name}/broken.rc", *refused]
     return ["\n".join(lines) for lines in (verdict, trace[-SHOWN:])]
 
 

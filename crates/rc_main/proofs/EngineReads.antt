@@ -14,7 +14,7 @@ use Rattle.rc_report.specs.Verdicts.{verdict_text}
 use Rattle.rc_main.specs.declared.fault.CommandFault.{CommandFault}
 use Rattle.rc_main.specs.declared.fault.CommandFault.TheVariants.{Words, Engine, OtherProgram}
 use Rattle.rc_main.specs.declared.words.Command.{Command}
-use Rattle.rc_main.specs.declared.words.Command.TheVariants.{Check, Step, Run, Emit, Show}
+use Rattle.rc_main.specs.declared.words.Command.TheVariants.{Check, Explain, Step, State, Run, Emit, Show}
 use Rattle.rc_main.specs.Answers.{AnswersEmit, AnswersRun, ReadsAsAsked, ReadsNothing, ReadsOnce}
 
 -- a failure of an engine
@@ -43,7 +43,9 @@ text_was_read old new x (Err OtherProgram) c h = c
 -- The answer could not be written out.
 pub write_failed : (asked : Command) (old new : Given) (s : ℕ) → ReadsAsAsked asked old new (Ok s) → ReadsAsAsked asked old new (Err (Engine Write))
 write_failed (Check json) old new s h = h
+write_failed (Explain json) old new s h = h
 write_failed (Step schedule) old new s h = h
+write_failed (State schedule) old new s h = h
 write_failed (Run seed limit summary) old new s h = h
 write_failed Emit old new s h = h
 write_failed (Show text) old new s h = tt

@@ -19,18 +19,28 @@ use Rattle.rc_report.specs.Streams.{CountsReads, Given}
 use Rattle.rc_report.specs.Summaries.{summary_text}
 use Rattle.rc_report.specs.Traces.{trace_text}
 use Rattle.rc_report.specs.Verdicts.{verdict_text}
+use Rattle.rc_explain.specs.Explains.{ExplainsAs}
+use Rattle.rc_state.specs.Engine.{ShowsAs}
 use Rattle.rc_main.specs.declared.fault.CommandFault.{CommandFault}
 use Rattle.rc_main.specs.declared.fault.CommandFault.TheVariants.{Words, Engine, OtherProgram}
 use Rattle.rc_main.specs.declared.words.Command.{Command}
-use Rattle.rc_main.specs.declared.words.Command.TheVariants.{Check, Step, Run, Emit, Show}
+use Rattle.rc_main.specs.declared.words.Command.TheVariants.{Check, Explain, Step, State, Run, Emit, Show}
 
 -- The status of `check` is that of the verdict on the bytes, which was written.
 abbrev pub AnswersCheck : Option (List ℕ) → Bool → Option (List ℕ) → Option (List ℕ) → ℕ → Type 0
 AnswersCheck bytes json old new status = (verdict : Verdict) × ChecksAs bytes json old new (Ok verdict) × (status ≡ status_of_verdict verdict)
 
+-- The same where the verdict was written with what explains it.
+abbrev pub AnswersExplain : Option (List ℕ) → Bool → Option (List ℕ) → Option (List ℕ) → ℕ → Type 0
+AnswersExplain bytes json old new status = (verdict : Verdict) × ExplainsAs bytes json old new (Ok verdict) × (status ≡ status_of_verdict verdict)
+
 -- The status of `step` is that of the end to which the program was stepped, and the trace or the verdict was written.
 abbrev pub AnswersStep : Option (List ℕ) → List ℕ → Option (List ℕ) → Option (List ℕ) → ℕ → Type 0
 AnswersStep bytes schedule old new status = (end : StepEnd) × StepsAs bytes schedule old new (Ok end) × (status ≡ status_of_step end)
+
+-- The same where the world in which the trace ends was written behind it.
+abbrev pub AnswersState : Option (List ℕ) → List ℕ → Option (List ℕ) → Option (List ℕ) → ℕ → Type 0
+AnswersState bytes schedule old new status = (end : StepEnd) × ShowsAs bytes schedule old new (Ok end) × (status ≡ status_of_step end)
 
 -- A run with this report ended so.
 abbrev pub EndsRun : (ℕ → ℤ → Type 0) → Program → ℕ → RunReport → End → Type 0
@@ -78,7 +88,9 @@ ReadsOnce old new (Err OtherProgram) = CountsReads {X = ℕ} old new (Ok 3)
 -- The same of each command that reads.
 abbrev pub ReadsAsAsked : Command → Given → Given → Result ℕ CommandFault → Type 0
 ReadsAsAsked (Check json) old new r = ReadsOnce old new r
+ReadsAsAsked (Explain json) old new r = ReadsOnce old new r
 ReadsAsAsked (Step schedule) old new r = ReadsOnce old new r
+ReadsAsAsked (State schedule) old new r = ReadsOnce old new r
 ReadsAsAsked (Run seed limit summary) old new r = ReadsOnce old new r
 ReadsAsAsked Emit old new r = ReadsOnce old new r
 ReadsAsAsked (Show text) old new r = Unit {0}

@@ -4,7 +4,7 @@ ghost use Rattle.std.specs.Prelude.{◌≡◌, ◌+◌, ◌<◌, ◌≤◌, ◌^
 ghost use Rattle.std.specs.Io.KnownBytes.{Appends};
 ghost use Rattle.rc_report.specs.declared.engine_fault.EngineFault.TheVariants.{Write as FailedWrite};
 ghost use Rattle.rc_main.specs.declared.fault.CommandFault.TheVariants.{Engine};
-ghost use Rattle.rc_main.specs.Answers.{AnswersCheck, AnswersStep, ReadsAsAsked, ReadsOnce, WritesOnce};
+ghost use Rattle.rc_main.specs.Answers.{AnswersCheck, AnswersExplain, AnswersState, AnswersStep, ReadsAsAsked, ReadsOnce, WritesOnce};
 ghost use Rattle.rc_main.specs.Files.{AnswersOpened};
 
 use crate::emitting::emit_text;
@@ -12,6 +12,7 @@ use crate::fault::CommandFault;
 use crate::files::{NoTexts, Texts, check_files, tell_file};
 use crate::running::run_text;
 use crate::words::{Asked, Command, read_words};
+use rc_explain::engine::explain_engine;
 use rc_report::buffered::Buffered;
 use rc_report::check_engine::check_engine;
 use rc_report::engine_fault::EngineFault;
@@ -19,6 +20,7 @@ use rc_report::status::{DEVICE_STATUS, GOOD_STATUS};
 use rc_report::step_engine::step_engine;
 use rc_report::streams::{DeviceFailed, ReadSource, Sink, Source, WriteSink};
 use rc_report::writing::write_piece;
+use rc_state::state_engine::state_engine;
 use std::alloc::Global;
 use std::io::{Read, Write};
 use std::sync::Wait;
@@ -207,7 +209,9 @@ fn done<R: Threads + Wait + Sync, I: Source, S: Sink>(
 {
     match asked {
         Command::Check { json } => checked(alloc, source, json, sink),
+        Command::Explain { json } => explained(alloc, source, json, sink),
         Command::Step { schedule } => stepped(alloc, source, schedule, sink),
+        Command::State { schedule } => shown_at_end(alloc, source, schedule, sink),
         Command::Run {
             seed,
             limit,
@@ -251,6 +255,28 @@ fn checked<I: Source, S: Sink>(
     Ok(verdict.status())
 }
 
+/// Checks the text of a source, and explains the verdict.
+fn explained<I: Source, S: Sink>(
+    alloc: Global,
+    source: &mut I,
+    json: bool,
+    sink: &mut S,
+) -> Result<u8, CommandFault>
+    requires reads { I.read_count source.old + 2097152 < 2 ^ 64 }
+    requires read_failures { I.failure_count source.old + 1 < 2 ^ 64 }
+    requires write_failures { S.failure_count sink.old + 1 < 2 ^ 64 }
+    ensures answer { IfOk result (AnswersExplain (I.remaining source.old) json (S.contents sink.old) (S.contents sink.new)) }
+    ensures bound { IfOk result (λ status. status ≤ 3) }
+    ensures reads { ReadsOnce
+        (record { remaining = I.remaining source.old; reads = I.read_count source.old; ends = I.end_count source.old; failures = I.failure_count source.old })
+        (record { remaining = I.remaining source.new; reads = I.read_count source.new; ends = I.end_count source.new; failures = I.failure_count source.new })
+        result }
+    ensures writes { WritesOnce (S.failure_count sink.old) (S.failure_count sink.new) result }
+{
+    let verdict = explain_engine(alloc, source, json, sink)?;
+    Ok(verdict.status())
+}
+
 /// Steps the program of a source through a schedule.
 fn stepped<I: Source, S: Sink>(
     alloc: Global,
@@ -270,5 +296,27 @@ fn stepped<I: Source, S: Sink>(
     ensures writes { WritesOnce (S.failure_count sink.old) (S.failure_count sink.new) result }
 {
     let end = step_engine(alloc, source, schedule, sink)?;
+    Ok(end.status())
+}
+
+/// Steps the program of a source through a schedule, and shows the world in which the trace ends.
+fn shown_at_end<I: Source, S: Sink>(
+    alloc: Global,
+    source: &mut I,
+    schedule: &str,
+    sink: &mut S,
+) -> Result<u8, CommandFault>
+    requires reads { I.read_count source.old + 2097152 < 2 ^ 64 }
+    requires read_failures { I.failure_count source.old + 1 < 2 ^ 64 }
+    requires write_failures { S.failure_count sink.old + 1 < 2 ^ 64 }
+    ensures answer { IfOk result (AnswersState (I.remaining source.old) schedule.now (S.contents sink.old) (S.contents sink.new)) }
+    ensures bound { IfOk result (λ status. status ≤ 3) }
+    ensures reads { ReadsOnce
+        (record { remaining = I.remaining source.old; reads = I.read_count source.old; ends = I.end_count source.old; failures = I.failure_count source.old })
+        (record { remaining = I.remaining source.new; reads = I.read_count source.new; ends = I.end_count source.new; failures = I.failure_count source.new })
+        result }
+    ensures writes { WritesOnce (S.failure_count sink.old) (S.failure_count sink.new) result }
+{
+    let end = state_engine(alloc, source, schedule, sink)?;
     Ok(end.status())
 }

@@ -30,8 +30,16 @@ pub enum Command<'a> {
     Check {
         json: bool,
     },
+    /// Check the program, and explain the verdict, as JSON or as text.
+    Explain {
+        json: bool,
+    },
     /// Step the program through this schedule.
     Step {
+        schedule: &'a str,
+    },
+    /// Step the program through this schedule, and show the world in which the trace ends.
+    State {
         schedule: &'a str,
     },
     /// Run the program on threads: with the choices of this seed, and at most so many events of its threads, from 1.
@@ -86,6 +94,12 @@ fn described_check<'a>(alloc: Global) -> Result<clap::Command<'a>, AllocError> {
         .long("json")
         .action(ArgAction::SetTrue)
         .help("Print the verdict as one JSON object");
+    let explain = Arg::new(alloc, "explain")
+        .long("explain")
+        .action(ArgAction::SetTrue)
+        .help(
+            "Print why behind the verdict, and what is known before each line; of one file at most",
+        );
     let files = Arg::new(alloc, "file")
         .value_name("FILE")
         .num_args(0..)
@@ -95,6 +109,7 @@ fn described_check<'a>(alloc: Global) -> Result<clap::Command<'a>, AllocError> {
         .about("Check programs, and print the verdict on each")
         .after_help(CHECK_HELP)
         .arg(json)?
+        .arg(explain)?
         .arg(files)
 }
 
@@ -114,9 +129,14 @@ fn described_step<'a>(alloc: Global) -> Result<clap::Command<'a>, AllocError> {
         .action(ArgAction::Set)
         .default_value("")
         .help("Items joined by commas: NAME, NAME=R, k:U=R or k:U=R:H");
+    let state = Arg::new(alloc, "state")
+        .long("state")
+        .action(ArgAction::SetTrue)
+        .help("Print the world in which the trace ends, and what may come next");
     clap::Command::new(alloc, "step")
         .about("Step a program through a schedule, and print the trace")
         .arg(schedule)?
+        .arg(state)?
         .arg(described_file(alloc))
 }
 
@@ -209,6 +229,10 @@ fn asked_of<'a>(alloc: Global, matches: &ArgMatches<'a>) -> Result<Asked<'a>, Wo
         Some((name, given)) => {
             let files = files_of(alloc, given)?;
             let command = command_of(alloc, name, given)?;
+            if files.len() > 1 && matches!(command, Command::Explain { .. }) {
+                let message = "'--explain' takes one file (see 'ringcheck --help')";
+                return Err(WordsFault::Wrong(String::from_str(alloc, message)?));
+            }
             Ok(Asked { command, files })
         }
         None => Ok(Asked {
@@ -247,15 +271,33 @@ fn command_of<'a>(
     ensures { IfOk result HasRanges }
 {
     match name {
-        "check" => Ok(Command::Check {
-            json: given.get_flag("json"),
-        }),
+        "check" => Ok(check_of(given)),
         "run" => run_of(alloc, given),
         "c" => Ok(Command::Emit),
-        _ => Ok(Command::Step {
-            schedule: given.get_str("schedule").unwrap_or(""),
-        }),
+        _ => Ok(step_of(given)),
     }
+}
+
+/// The command `check`.
+fn check_of<'a>(check: &ArgMatches<'a>) -> Command<'a>
+    ensures { HasRanges result }
+{
+    let json = check.get_flag("json");
+    if check.get_flag("explain") {
+        return Command::Explain { json };
+    }
+    Command::Check { json }
+}
+
+/// The command `step`.
+fn step_of<'a>(step: &ArgMatches<'a>) -> Command<'a>
+    ensures { HasRanges result }
+{
+    let schedule = step.get_str("schedule").unwrap_or("");
+    if step.get_flag("state") {
+        return Command::State { schedule };
+    }
+    Command::Step { schedule }
 }
 
 /// The command `run`. That its numbers are there and in their ranges was seen before.

@@ -48,6 +48,28 @@ impl Texts for Folder {
     }
 }
 
+/// What explains the verdict on `early.ring`.
+const EXPLAINED: &str = "refused line 18 V8 NoShare
+asks for 1 share of a; held: 0
+a:1 is held before line 9, prep_read 3 a 16 0, and not behind it: given to the open entry
+why: Without a share of the buffer another thread or the kernel may be writing it at this moment.
+mend: Reap the request that has the share before this line, or let the thread begin with one.
+see V8 in docs/causes.md
+thread t0
+  line 7, lock {: holds a:1 t:7 c:1; unlocked
+  line 8, get_sqe: holds a:1 t:7 c:1; locked, q:0
+  line 9, prep_read 3 a 16 0: holds a:1 t:7; locked, q:1, entry vacant
+  line 10, set_data64 7: holds t:7; locked, q:1, entry prepared read a
+  line 11, loop keeps q:1 {: holds nothing; locked, q:1
+  line 12, r = submit: holds nothing; locked, q:1
+  line 13, if sq_ready == 0 {: holds nothing; locked, q:1
+  line 14, break: holds nothing; locked, q:0
+  line 15: nothing reaches this
+  line 16, }: holds nothing; locked, q:1
+  line 17, }: holds nothing; locked, q:0
+  line 18, v = load a 0: holds nothing; unlocked
+";
+
 /// Words, and what is written for them: the status, the output and the errors. Standard input is a text that is refused.
 type Row = (&'static [&'static str], u8, &'static str, &'static str);
 
@@ -119,6 +141,32 @@ const ROWS: &[Row] = &[
         "",
     ),
     (&["step", "-"], 0, "stopped after 0 events\n", ""),
+    (
+        &["step", "--state", "--schedule", "t0", "nop.ring"],
+        0,
+        "1 t0 5 lock
+stopped after 1 events
+thread t0: line 6, get_sqe
+  variables:
+entry: none
+pool:
+enabled: t0
+",
+        "",
+    ),
+    (&["check", "--explain", "early.ring"], 1, EXPLAINED, ""),
+    (
+        &["check", "--explain", "--json", "good.ring"],
+        0,
+        "{\"threads\":[{\"lines\":[],\"name\":\"t0\"}],\"verdict\":\"accepted\"}\n",
+        "",
+    ),
+    (
+        &["check", "--explain", "good.ring", "early.ring"],
+        3,
+        "",
+        "ringcheck: '--explain' takes one file (see 'ringcheck --help')\n",
+    ),
     (
         &["step", "empty.ring"],
         2,

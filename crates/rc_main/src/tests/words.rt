@@ -78,8 +78,9 @@ Arguments:
   [FILE]...  Files to check, with one verdict a line; without any, or with -, standard input
 
 Options:
-      --json  Print the verdict as one JSON object
-  -h, --help  Print help
+      --json     Print the verdict as one JSON object
+      --explain  Print why behind the verdict, and what is known before each line; of one file at most
+  -h, --help     Print help
 
 Exit status: 0 accepted, 1 refused, 2 unreadable, 3 no answer; of several files the greatest.
 
