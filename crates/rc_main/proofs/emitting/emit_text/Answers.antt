@@ -1,6 +1,6 @@
 use Rattle.std.proofs.Common.{ℕ}
 use Rattle.std.specs.Global.{Vec}
-use Rattle.rc_main.proofs.EngineReads.{engine_failed, memory_failed, program_emitted, text_was_read, verdict_emitted}
+use Rattle.rc_main.proofs.EngineReads.{engine_failed, memory_failed, text_was_read, verdict_emitted}
 use Rattle.rc_main.proofs.emitting.emit_text.Goals as goal
 
 pub returns-in_err-text-clause-reads : goal.returns-in_err-text-clause-reads
