@@ -1,0 +1,526 @@
+/* Written by `ringcheck c` from a text that it accepts. It needs POSIX threads and liburing 2.2 or later:
+   cc -std=c11 -Wall -Wextra -O2 THIS.c -luring -lpthread
+   With -DRINGCHECK_LOG=N, `--log FILE` has the first N events written to FILE, and the program ends behind them. */
+#define _GNU_SOURCE
+#include <errno.h>
+#include <fcntl.h>
+#include <inttypes.h>
+#include <liburing.h>
+#include <pthread.h>
+#include <stdarg.h>
+#include <stdbool.h>
+#include <stdint.h>
+#include <stdio.h>
+#include <stdlib.h>
+#include <string.h>
+#include <unistd.h>
+
+_Static_assert(EAGAIN == 11, "the text has -11 where no completion is there");
+
+/* Sums and differences of 64 bits, wrapping. */
+#define SUM(a, b) ((int64_t)((uint64_t)(a) + (uint64_t)(b)))
+#define DIFFERENCE(a, b) ((int64_t)((uint64_t)(a) - (uint64_t)(b)))
+
+/* The ring, and the lock that guards it and the pool. */
+static struct io_uring ring;
+static pthread_mutex_t ring_lock;
+
+/* Ends the program where a call of this line of the text answers what it never does in a program that is accepted. */
+__attribute__((unused)) _Noreturn static void stop(int line, const char *call, long answer)
+{
+    fprintf(stderr, "line %d: %s answers %ld\n", line, call, answer);
+    exit(EXIT_FAILURE);
+}
+
+/* Ends the program where it can't begin. */
+_Noreturn static void fail(const char *what, int error)
+{
+    fprintf(stderr, "%s: %s\n", what, strerror(error));
+    exit(EXIT_FAILURE);
+}
+
+/* A call that answers 0. */
+#define MUST(line, call) \
+    do { \
+        int answer_ = (call); \
+        if (answer_ != 0) \
+            stop(line, #call, answer_); \
+    } while (0)
+
+/* How many entries the rings have. */
+enum { ENTRIES = 2, COMPLETION_ENTRIES = 4 };
+
+/* The files, and what is made where the command line names none. */
+static int file_3;
+static const struct named_file {
+    int *opened;
+    int number;
+    long length;
+} files[] = {
+    {&file_3, 3, 65536},
+    {NULL, 0, 0},
+};
+
+/* The buffers, each from the beginning of a page on. */
+_Alignas(4096) unsigned char buffer_page1[4096];
+_Alignas(4096) unsigned char buffer_page2[4096];
+
+/* What is in the pool: shares of buffers, tokens, credits. */
+unsigned pool_buffer_page1;
+unsigned pool_buffer_page2;
+unsigned pool_token_1;
+unsigned pool_token_2;
+unsigned pool_credits;
+
+#ifdef RINGCHECK_LOG
+/* The buffers that reads fill, by their user data. */
+static const struct filling {
+    uint64_t data;
+    const unsigned char *bytes;
+} fillings[] = {
+    {0, NULL},
+};
+static FILE *log_file;
+static pthread_mutex_t log_lock = PTHREAD_MUTEX_INITIALIZER;
+static uint64_t log_count;
+static unsigned log_seen;
+
+/* Writes one event under the next number. */
+__attribute__((unused, format(printf, 1, 2))) static void log_event(const char *words, ...)
+{
+    va_list values;
+
+    if (log_file == NULL)
+        return;
+    pthread_mutex_lock(&log_lock);
+    log_count++;
+    fprintf(log_file, "%" PRIu64 " ", log_count);
+    va_start(values, words);
+    vfprintf(log_file, words, values);
+    va_end(values);
+    putc('\n', log_file);
+    if (log_count >= RINGCHECK_LOG)
+        exit(EXIT_SUCCESS);
+    pthread_mutex_unlock(&log_lock);
+}
+
+/* The byte that fills what a read moved; 0 where nothing was read, and -1 where these bytes aren't alike. */
+static int log_fill(uint64_t data, int moved)
+{
+    const struct filling *filling;
+    int at;
+
+    for (filling = fillings; filling->bytes != NULL; filling++) {
+        if (filling->data != data || moved <= 0)
+            continue;
+        for (at = 1; at < moved; at++)
+            if (filling->bytes[at] != filling->bytes[0])
+                return -1;
+        return filling->bytes[0];
+    }
+    return 0;
+}
+
+/* Writes each completion that stands in the ring and wasn't seen before, with the byte that fills what it moved. */
+__attribute__((unused)) static void log_completions(void)
+{
+    struct io_uring_cqe *cqe;
+    unsigned head;
+
+    io_uring_for_each_cqe(&ring, head, cqe) {
+        if ((int)(head - log_seen) < 0)
+            continue;
+        log_event("kernel %" PRIu64 " %d %d", (uint64_t)cqe->user_data, cqe->res,
+                  log_fill(cqe->user_data, cqe->res));
+        log_seen = head + 1;
+    }
+}
+
+#define EVENT(...) log_event(__VA_ARGS__)
+#define SEE_COMPLETIONS() log_completions()
+#else
+#define EVENT(...) ((void)0)
+#define SEE_COMPLETIONS() ((void)0)
+#endif
+
+/* 10: thread submitter holds page1:1 page2:1 t:1 t:2 c:2 { */
+static void *body_submitter(void *nothing)
+{
+    struct io_uring_sqe *sqe = NULL;
+    struct io_uring_cqe *cqe = NULL;
+    int answer = 0;
+    bool yes = false;
+    int64_t var_n = 0;
+    int64_t var_r = 0;
+
+    (void)nothing, (void)sqe, (void)cqe, (void)answer, (void)yes;
+    (void)var_n;
+    (void)var_r;
+    /* 11: lock { */
+    MUST(11, pthread_mutex_lock(&ring_lock));
+    EVENT("submitter 11 lock");
+    SEE_COMPLETIONS();
+    {
+        /* 12: put page1:1 page2:1 t:1 t:2 c:2 */
+        pool_buffer_page1 += 1;
+        pool_buffer_page2 += 1;
+        pool_token_1 += 1;
+        pool_token_2 += 1;
+        pool_credits += 2;
+        EVENT("submitter 12 put");
+    } /* 13: } */
+    EVENT("submitter 13 release");
+    MUST(13, pthread_mutex_unlock(&ring_lock));
+    /* 14: loop keeps { */
+    for (;;) {
+        EVENT("submitter 14 loop");
+        /* 16: loop keeps { */
+        for (;;) {
+            EVENT("submitter 16 loop");
+            /* 17: lock { */
+            MUST(17, pthread_mutex_lock(&ring_lock));
+            EVENT("submitter 17 lock");
+            SEE_COMPLETIONS();
+            {
+                /* 18: if take page1:1 t:1 c:1 { */
+                yes = true && pool_buffer_page1 >= 1 && pool_token_1 >= 1 && pool_credits >= 1;
+                if (yes) {
+                    pool_buffer_page1 -= 1;
+                    pool_token_1 -= 1;
+                    pool_credits -= 1;
+                }
+                EVENT("submitter 18 if %s", yes ? "yes" : "no");
+                if (yes) {
+                    /* 19: break */
+                    EVENT("submitter 19 break");
+                    MUST(19, pthread_mutex_unlock(&ring_lock));
+                    break;
+                } /* 20: } */
+            } /* 21: } */
+            EVENT("submitter 21 release");
+            MUST(21, pthread_mutex_unlock(&ring_lock));
+        } /* 22: } */
+        /* 23: n = n + 1 */
+        var_n = SUM(var_n, INT64_C(1));
+        EVENT("submitter 23 set %" PRId64, var_n);
+        /* 24: fill page1 n */
+        memset(buffer_page1, (unsigned char)var_n, sizeof buffer_page1);
+        EVENT("submitter 24 fill %d", buffer_page1[0]);
+        /* 25: lock { */
+        MUST(25, pthread_mutex_lock(&ring_lock));
+        EVENT("submitter 25 lock");
+        SEE_COMPLETIONS();
+        {
+            /* 26: get_sqe */
+            sqe = io_uring_get_sqe(&ring);
+            if (sqe == NULL)
+                stop(26, "io_uring_get_sqe", 0);
+            EVENT("submitter 26 get_sqe");
+            /* 27: prep_write 3 page1 4096 0 1 */
+            io_uring_prep_write(sqe, file_3, buffer_page1, 4096, 0);
+            EVENT("submitter 27 prep_write");
+            /* 28: set_data64 1 */
+            io_uring_sqe_set_data64(sqe, UINT64_C(1));
+            EVENT("submitter 28 set_data64 1");
+            /* 29: loop keeps q:1 { */
+            for (;;) {
+                EVENT("submitter 29 loop");
+                /* 30: r = submit */
+                var_r = io_uring_submit(&ring);
+                EVENT("submitter 30 submit %" PRId64, var_r);
+                SEE_COMPLETIONS();
+                /* 31: if sq_ready == 0 { */
+                yes = io_uring_sq_ready(&ring) == 0;
+                EVENT("submitter 31 if %s", yes ? "yes" : "no");
+                if (yes) {
+                    /* 32: break */
+                    EVENT("submitter 32 break");
+                    break;
+                } /* 33: } */
+            } /* 34: } */
+        } /* 35: } */
+        EVENT("submitter 35 release");
+        MUST(35, pthread_mutex_unlock(&ring_lock));
+        /* 37: loop keeps { */
+        for (;;) {
+            EVENT("submitter 37 loop");
+            /* 38: lock { */
+            MUST(38, pthread_mutex_lock(&ring_lock));
+            EVENT("submitter 38 lock");
+            SEE_COMPLETIONS();
+            {
+                /* 39: if take page2:1 t:2 c:1 { */
+                yes = true && pool_buffer_page2 >= 1 && pool_token_2 >= 1 && pool_credits >= 1;
+                if (yes) {
+                    pool_buffer_page2 -= 1;
+                    pool_token_2 -= 1;
+                    pool_credits -= 1;
+                }
+                EVENT("submitter 39 if %s", yes ? "yes" : "no");
+                if (yes) {
+                    /* 40: break */
+                    EVENT("submitter 40 break");
+                    MUST(40, pthread_mutex_unlock(&ring_lock));
+                    break;
+                } /* 41: } */
+            } /* 42: } */
+            EVENT("submitter 42 release");
+            MUST(42, pthread_mutex_unlock(&ring_lock));
+        } /* 43: } */
+        /* 44: n = n + 1 */
+        var_n = SUM(var_n, INT64_C(1));
+        EVENT("submitter 44 set %" PRId64, var_n);
+        /* 45: fill page2 n */
+        memset(buffer_page2, (unsigned char)var_n, sizeof buffer_page2);
+        EVENT("submitter 45 fill %d", buffer_page2[0]);
+        /* 46: lock { */
+        MUST(46, pthread_mutex_lock(&ring_lock));
+        EVENT("submitter 46 lock");
+        SEE_COMPLETIONS();
+        {
+            /* 47: get_sqe */
+            sqe = io_uring_get_sqe(&ring);
+            if (sqe == NULL)
+                stop(47, "io_uring_get_sqe", 0);
+            EVENT("submitter 47 get_sqe");
+            /* 48: prep_write 3 page2 4096 4096 1 */
+            io_uring_prep_write(sqe, file_3, buffer_page2, 4096, 4096);
+            EVENT("submitter 48 prep_write");
+            /* 49: set_data64 2 */
+            io_uring_sqe_set_data64(sqe, UINT64_C(2));
+            EVENT("submitter 49 set_data64 2");
+            /* 50: loop keeps q:1 { */
+            for (;;) {
+                EVENT("submitter 50 loop");
+                /* 51: r = submit */
+                var_r = io_uring_submit(&ring);
+                EVENT("submitter 51 submit %" PRId64, var_r);
+                SEE_COMPLETIONS();
+                /* 52: if sq_ready == 0 { */
+                yes = io_uring_sq_ready(&ring) == 0;
+                EVENT("submitter 52 if %s", yes ? "yes" : "no");
+                if (yes) {
+                    /* 53: break */
+                    EVENT("submitter 53 break");
+                    break;
+                } /* 54: } */
+            } /* 55: } */
+        } /* 56: } */
+        EVENT("submitter 56 release");
+        MUST(56, pthread_mutex_unlock(&ring_lock));
+    } /* 57: } */
+    return NULL;
+}
+
+/* 60: thread reaper holds { */
+static void *body_reaper(void *nothing)
+{
+    struct io_uring_sqe *sqe = NULL;
+    struct io_uring_cqe *cqe = NULL;
+    int answer = 0;
+    bool yes = false;
+    int64_t var_r = 0;
+    int64_t var_failed = 0;
+
+    (void)nothing, (void)sqe, (void)cqe, (void)answer, (void)yes;
+    (void)var_r;
+    (void)var_failed;
+    /* 61: loop keeps { */
+    for (;;) {
+        EVENT("reaper 61 loop");
+        /* 62: lock { */
+        MUST(62, pthread_mutex_lock(&ring_lock));
+        EVENT("reaper 62 lock");
+        SEE_COMPLETIONS();
+        {
+            /* 63: peek_cqe r { */
+            answer = io_uring_peek_cqe(&ring, &cqe);
+            if (answer == 0) {
+                var_r = cqe->res;
+                SEE_COMPLETIONS();
+                EVENT("reaper 63 peek_cqe %" PRIu64 " %" PRId64, (uint64_t)cqe->user_data, var_r);
+            } else if (answer == -EAGAIN) {
+                cqe = NULL;
+                var_r = -EAGAIN;
+                EVENT("reaper 63 peek_cqe none");
+                SEE_COMPLETIONS();
+            } else {
+                stop(63, "io_uring_peek_cqe", answer);
+            }
+            /* 64: case 1 { */
+            if (cqe != NULL && cqe->user_data == UINT64_C(1)) {
+                /* 65: cqe_seen */
+                EVENT("reaper 65 cqe_seen %" PRIu64, (uint64_t)cqe->user_data);
+                io_uring_cqe_seen(&ring, cqe);
+                /* 66: put page1:1 t:1 c:1 */
+                pool_buffer_page1 += 1;
+                pool_token_1 += 1;
+                pool_credits += 1;
+                EVENT("reaper 66 put");
+            } /* 67: } */
+            /* 68: case 2 { */
+            else if (cqe != NULL && cqe->user_data == UINT64_C(2)) {
+                /* 69: cqe_seen */
+                EVENT("reaper 69 cqe_seen %" PRIu64, (uint64_t)cqe->user_data);
+                io_uring_cqe_seen(&ring, cqe);
+                /* 70: put page2:1 t:2 c:1 */
+                pool_buffer_page2 += 1;
+                pool_token_2 += 1;
+                pool_credits += 1;
+                EVENT("reaper 70 put");
+            } /* 71: } */
+            /* 72: other { */
+            else if (cqe != NULL) {
+            } /* 73: } */
+            /* 74: none { */
+            else if (cqe == NULL) {
+            } /* 75: } */
+            /* 76: } */
+        } /* 77: } */
+        EVENT("reaper 77 release");
+        MUST(77, pthread_mutex_unlock(&ring_lock));
+        /* 78: if r != -11 { */
+        yes = var_r != -INT64_C(11);
+        EVENT("reaper 78 if %s", yes ? "yes" : "no");
+        if (yes) {
+            /* 79: if r != 4096 { */
+            yes = var_r != INT64_C(4096);
+            EVENT("reaper 79 if %s", yes ? "yes" : "no");
+            if (yes) {
+                /* 80: failed = failed + 1 */
+                var_failed = SUM(var_failed, INT64_C(1));
+                EVENT("reaper 80 set %" PRId64, var_failed);
+                /* 81: print failed */
+                printf("%" PRId64 "\n", var_failed);
+                EVENT("reaper 81 print %" PRId64, var_failed);
+            } /* 82: } */
+        } /* 83: } */
+    } /* 84: } */
+    return NULL;
+}
+
+/* The threads, in text order. */
+static void *(*const bodies[])(void *) = {
+    body_submitter,
+    body_reaper,
+    NULL,
+};
+
+/* A file that is opened for reading and writing, or for reading alone where it can't be written. */
+static int open_path(const char *path)
+{
+    int opened = open(path, O_RDWR | O_CLOEXEC);
+
+    if (opened < 0)
+        opened = open(path, O_RDONLY | O_CLOEXEC);
+    if (opened < 0)
+        fail(path, errno);
+    return opened;
+}
+
+/* A new file of so many zero bytes, which is gone when the program ends. */
+static int open_new(long length)
+{
+    FILE *made = tmpfile();
+
+    if (made == NULL || ftruncate(fileno(made), length) != 0)
+        fail("a temporary file", errno);
+    return fileno(made);
+}
+
+/* Opens the file that a word of the command line names, as 3=PATH. */
+static void open_named(const char *word)
+{
+    const struct named_file *file;
+    char *path;
+    long number = strtol(word, &path, 10);
+
+    for (file = files; file->opened != NULL; file++) {
+        if (path != word && *path == '=' && file->number == number) {
+            *file->opened = open_path(path + 1);
+            return;
+        }
+    }
+    fail(word, EINVAL);
+}
+
+/* Opens the files: new ones where no word names another. */
+static void open_files(char **words)
+{
+    const struct named_file *file;
+
+    for (file = files; file->opened != NULL; file++)
+        *file->opened = -1;
+    for (; *words != NULL; words++)
+        open_named(*words);
+    for (file = files; file->opened != NULL; file++)
+        if (*file->opened < 0)
+            *file->opened = open_new(file->length);
+}
+
+static void open_lock(void)
+{
+    pthread_mutexattr_t kind;
+    int error = pthread_mutexattr_init(&kind);
+
+    if (error == 0)
+        error = pthread_mutexattr_settype(&kind, PTHREAD_MUTEX_ERRORCHECK);
+    if (error == 0)
+        error = pthread_mutex_init(&ring_lock, &kind);
+    if (error != 0)
+        fail("pthread_mutex_init", error);
+}
+
+static void open_ring(void)
+{
+    struct io_uring_params params;
+    int error;
+
+    memset(&params, 0, sizeof params);
+    params.flags = IORING_SETUP_CQSIZE;
+    params.cq_entries = COMPLETION_ENTRIES;
+    error = io_uring_queue_init_params(ENTRIES, &ring, &params);
+    if (error < 0)
+        fail("io_uring_queue_init_params", -error);
+    /* An older kernel's library keeps one user data for itself. */
+    if (!(params.features & IORING_FEAT_EXT_ARG))
+        fail("io_uring_queue_init_params", ENOSYS);
+}
+
+/* The words of the command line behind what is said of the log. */
+static char **open_log(char **words)
+{
+#ifdef RINGCHECK_LOG
+    if (words[0] != NULL && strcmp(words[0], "--log") == 0 && words[1] != NULL) {
+        log_file = fopen(words[1], "we");
+        if (log_file == NULL)
+            fail(words[1], errno);
+        setvbuf(log_file, NULL, _IOLBF, BUFSIZ);
+        return words + 2;
+    }
+#endif
+    return words;
+}
+
+int main(int count, char **words)
+{
+    pthread_t threads[sizeof bodies / sizeof *bodies];
+    int at;
+    int error;
+
+    open_files(open_log(words + (count > 0)));
+    open_lock();
+    open_ring();
+    for (at = 0; bodies[at] != NULL; at++) {
+        error = pthread_create(&threads[at], NULL, bodies[at], NULL);
+        if (error != 0)
+            fail("pthread_create", error);
+    }
+    for (at = 0; bodies[at] != NULL; at++) {
+        error = pthread_join(threads[at], NULL);
+        if (error != 0)
+            fail("pthread_join", error);
+    }
+    io_uring_queue_exit(&ring);
+    return EXIT_SUCCESS;
+}
