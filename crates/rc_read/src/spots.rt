@@ -52,6 +52,7 @@ pub fn begins_number(word: &[u8]) -> bool
 }
 
 /// Whether a word stands in the place of a part: a name in one for a name, any word in one for a number.
+#[inline(always)]
 pub fn fits(part: Part, word: &[u8]) -> bool
     ensures { result ≡ spec.fits part word.now }
 {
@@ -279,6 +280,7 @@ fn find_row<'a>(spots: &mut Vec<Spot<'a>>, words: &[&'a [u8]]) -> Result<Option<
 }
 
 /// The form of a line with these words in a text of this version, whose places are put there.
+#[inline(always)]
 pub fn put_spots<'a>(
     version: u32,
     spots: &mut Vec<Spot<'a>>,

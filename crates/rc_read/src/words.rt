@@ -76,6 +76,7 @@ fn push_word<'a>(words: &mut Vec<&'a [u8]>, word: &'a [u8]) -> Result<(), AllocE
 }
 
 /// Puts the words of a line there, without its comment.
+#[inline(always)]
 pub fn put_words<'a>(words: &mut Vec<&'a [u8]>, line: &'a [u8]) -> Result<(), AllocError>
     ensures { OnOk result (texts_of words.new.items ≡ spec.words_of line.now) }
 {
