@@ -78,13 +78,13 @@ impl<'a> Side<'a> {
         }
     }
 
-    /// Becomes the same as another side of its program. The rows of a dead one aren't copied.
+    /// Becomes the same as another side. The rows of a dead one aren't copied.
     pub fn copy_from(&mut self, other: &Side<'a>)
-        requires { other.now.program ≡ self.old.program }
         ensures { self.new ≡ other.now }
     {
-        if other.mode.is_some() {
-            self.holding.copy_from(&other.holding);
+        match other.mode {
+            Some(_) => self.holding.copy_from(&other.holding),
+            None => self.holding.belong_to(other.holding.program()),
         }
         self.mode = other.mode;
     }

@@ -110,9 +110,8 @@ impl<'a> State<'a> {
         }
     }
 
-    /// Becomes the same state as another of its program, with no copy between.
+    /// Becomes the same state as another, with no copy between. Where a side is dead its rows aren't copied.
     pub fn copy_from(&mut self, other: &State<'a>)
-        requires { spec.program_of other.now ≡ spec.program_of self.old }
         ensures { self.new ≡ other.now }
     {
         self.flag = other.flag;

@@ -84,6 +84,15 @@ impl<'a> Holding<'a> {
         self.credits = other.credits;
     }
 
+    /// Becomes a holding of this program. What it holds then is of no meaning.
+    pub fn belong_to(&mut self, program: &'a Program)
+        ensures { self.new.program ≡ program.now }
+    {
+        // As in `nothing`.
+        let _ = program.entries();
+        self.program = program;
+    }
+
     /// The program whose parts are held.
     pub fn program(&self) -> &'a Program
         ensures value { result.now ≡ self.now.program }

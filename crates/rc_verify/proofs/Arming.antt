@@ -66,9 +66,6 @@ module _ (P : Program) (t : Thread) (j : ℕ) (w : Walk) (r : Reaches P t j w) w
       let h = peeked_is o a (opening o (opens_case t.lines r.thread.nested.each j o u e)) q in
       subst (λ (p : Program). DeclaresToken p u) (sym h.before.of.program) (r.thread.resolved j (Case o u) e)
 
-  arm_of_same : (o : ℕ) (a : Arms) → OpensArm t.lines j o → w.peek ≡ Some a → program_of a.before ≡ program_of w.state
-  arm_of_same o a c q = let h = peeked_is o a (opening o c) q in h.before.of.program ∙ sym r.at.here.of.program
-
   -- an arm's first state, from the one before the arms
   arm_turns : {X : Type 0} (s : Stmt) (o : ℕ) (a : Arms) (new : State) (x : Result X Cause) (B : Label → Label) (e : stmt_at t.lines j ≡ Some s) → OpensArm t.lines j o → w.peek ≡ Some a → ((labels : List Sides) → asked_at P t j labels s ≡ []) → ((labels : List Sides) → lead_at P t j labels s ≡ (λ z. B (label_at labels (o + 1) z) ∷ [])) → ((b : Bool) → locked_behind b s ≡ b) → ((b : Bool) (n : ℕ) (l : Label) → Fits b n l → Fits b n (B l)) → EndsNone s → Gives a.before new x (asks_both (label_of a.before) (λ z bag m. peek_premises m)) (λ z. B (label_of a.before z) ∷ []) → blocks_at t.lines (j + 1) ≡ blocks_at t.lines j ++ InArm o ∷ [] → Turns P t j (record { state = new; branches = w.branches; peek = w.peek; loops = w.loops }) x
   arm_turns s o a new x B e c q asked leads lock fits none g n =
@@ -92,15 +89,6 @@ module _ (P : Program) (t : Thread) (j : ℕ) (w : Walk) (r : Reaches P t j w) w
 
   pub none_turns : {X : Type 0} (o : ℕ) (a : Arms) (new : State) (x : Result X Cause) → stmt_at t.lines j ≡ Some (Nothing o) → w.peek ≡ Some a → Gives a.before new x (asks_both (label_of a.before) (λ z bag m. peek_premises m)) (λ z. peek_at Unseen (label_of a.before z) ∷ []) → Turns P t j (record { state = new; branches = w.branches; peek = w.peek; loops = w.loops }) x
   none_turns o a new x e q g = arm_turns (Nothing o) o a new x (peek_at Unseen) e (opens_nothing t.lines r.thread.nested.each j o e) q (λ ls. refl) (λ ls. refl) (λ b. refl) (peek_fits Unseen) (record { arms = λ p y. refl; breaks = λ p y. refl }) g (blocks_next t.lines j (Nothing o) e)
-
-  pub case_of : (o u : ℕ) (a : Arms) → stmt_at t.lines j ≡ Some (Case o u) → w.peek ≡ Some a → program_of a.before ≡ program_of w.state
-  case_of o u a e q = arm_of_same o a (opens_case t.lines r.thread.nested.each j o u e) q
-
-  pub other_of : (o : ℕ) (a : Arms) → stmt_at t.lines j ≡ Some (Other o) → w.peek ≡ Some a → program_of a.before ≡ program_of w.state
-  other_of o a e q = arm_of_same o a (opens_other t.lines r.thread.nested.each j o e) q
-
-  pub none_of : (o : ℕ) (a : Arms) → stmt_at t.lines j ≡ Some (Nothing o) → w.peek ≡ Some a → program_of a.before ≡ program_of w.state
-  none_of o a e q = arm_of_same o a (opens_nothing t.lines r.thread.nested.each j o e) q
 
   -- No arm is refused.
   pub arm_stays : {X : Type 0} (o : ℕ) (a : Arms) (new : State) (x : Result X Cause) (bs : Bool → List Label) → OpensArm t.lines j o → w.peek ≡ Some a → Gives a.before new x (asks_both (label_of a.before) (λ z bag m. peek_premises m)) bs → OnErr x (new ≡ w.state)

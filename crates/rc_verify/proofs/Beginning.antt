@@ -10,9 +10,9 @@ use Rattle.rc_rules.specs.Labellings.{HasLabels, IsGood, IsRefusedAt}
 use Rattle.rc_rules.specs.Sides.{Sides, on}
 use Rattle.rc_rules.specs.States.{State, BeginsAs, IsStart, label_of, sides_of}
 use Rattle.rc_rules.proofs.Headers.{thread_at}
-use Rattle.arrayvec.specs.ArrayVec.{ArrayVec}
 use Rattle.rc_verify.specs.declared.walk.Walk.{Walk}
-use Rattle.rc_verify.specs.Walk.{AreKept, Fits, IsBranch, IsLoop, OnKept, Reaches, most_at}
+use Rattle.rc_verify.specs.declared.arms.Arms.{Arms}
+use Rattle.rc_verify.specs.Walk.{AreKept, Fits, IsBranch, IsLoop, IsPeeked, OnKept, Reaches, listed, most_at}
 use Rattle.rc_verify.proofs.Fit.{start_fits}
 use Rattle.rc_verify.proofs.Strongest.{begins}
 
@@ -23,8 +23,8 @@ thread_is P parts i part e lt q = thread_at P parts i part e lt ∙ ap (λ x. So
 
 -- ---- its first place
 
-pub starts : (P : Program) (i : ℕ) (t : Thread) (s : State) (branches loops : ArrayVec (Option State)) → IsProgram P → slice_get P.threads i ≡ Some t → IsStart P i s → branches.items ≡ [] → loops.items ≡ [] → Reaches P t 0 (record { state = s; branches = branches; peek = None; loops = loops })
-starts P i t s branches loops made is h e f = record {
+pub starts : (P : Program) (i : ℕ) (t : Thread) (s : State) (branches loops : List (Option State)) (peek : Option Arms) → IsProgram P → slice_get P.threads i ≡ Some t → IsStart P i s → branches ≡ [] → loops ≡ [] → peek ≡ None → Reaches P t 0 (record { state = s; branches = branches; peek = peek; loops = loops })
+starts P i t s branches loops peek made is h e f g = record {
   made = made;
   thread = made.each i t is;
   labels = sides_of s ∷ [];
@@ -36,7 +36,7 @@ starts P i t s branches loops made is h e f = record {
     fits = fits;
     keeps = record {
       branches = subst (λ xs. AreKept (OnKept (IsBranch P t 0 (sides_of s ∷ []))) [] xs) (sym e) tt;
-      peek = tt;
+      peek = subst (λ (x : Option Arms). AreKept (IsPeeked P t 0 (sides_of s ∷ [])) [] (listed x)) (sym g) tt;
       loops = subst (λ xs. AreKept (OnKept (IsLoop P t 0 (sides_of s ∷ []))) [] xs) (sym f) tt;
     };
   };

@@ -28,7 +28,6 @@ use Rattle.rc_rules.specs.Premises.{Meets, Premise}
 use Rattle.rc_rules.specs.Rules.{asks, asks_both, goes, joins_both, take_effect, take_premises, test_effect, test_premises}
 use Rattle.rc_rules.specs.Sides.{Sides, gate, may_skip, nowhere, on, test_goes}
 use Rattle.rc_rules.specs.States.{State, AgreeOnLock, Becomes, Gives, IsOfSame, label_of, program_of, sides_of}
-use Rattle.arrayvec.specs.ArrayVec.{ArrayVec}
 use Rattle.rc_verify.specs.declared.walk.Walk.{Walk}
 use Rattle.rc_verify.specs.Arms.{two}
 use Rattle.rc_verify.specs.Branches.{KeepsOther, MayTest}
@@ -114,8 +113,8 @@ skipped_front : (t : Thread) (j : ℕ) (labels : List Sides) (o : ℕ) (z : Bool
 skipped_front t j labels o z lt = ap (λ x. gate (may_skip t.flag z x) (label_at labels o z)) (sym (stmt_front t.lines j o lt))
 
 module _ (P : Program) (t : Thread) (j : ℕ) (w : Walk) (r : Reaches P t j w) where
-  few_kept : length w.branches.items ≤ length (blocks_at t.lines j)
-  few_kept = omega (arith, kept_length (OnKept (IsBranch P t j r.labels)) (places branch_place (blocks_at t.lines j)) w.branches.items r.at.keeps.branches, few_places branch_place few_branches (blocks_at t.lines j))
+  few_kept : length w.branches ≤ length (blocks_at t.lines j)
+  few_kept = omega (arith, kept_length (OnKept (IsBranch P t j r.labels)) (places branch_place (blocks_at t.lines j)) w.branches r.at.keeps.branches, few_places branch_place few_branches (blocks_at t.lines j))
 
   -- the label of this place, where there is one more
   here_still : (new : Sides) (z : Bool) → label_at (r.labels ++ new ∷ []) j z ≡ label_of w.state z
@@ -123,12 +122,12 @@ module _ (P : Program) (t : Thread) (j : ℕ) (w : Walk) (r : Reaches P t j w) w
 
   -- ---- if
 
-  pub room_here : (test : Test) → stmt_at t.lines j ≡ Some (If test) → length w.branches.items < 31
+  pub room_here : (test : Test) → stmt_at t.lines j ≡ Some (If test) → length w.branches < 31
   room_here test e =
       let n : length (blocks_at t.lines (j + 1)) ≡ length (blocks_at t.lines j ++ InIf j ∷ []) = ap length (blocks_next t.lines j (If test) e) in
       omega (arith, n, length-append (blocks_at t.lines j) (InIf j ∷ []), few_kept, r.thread.nested.depth (j + 1))
 
-  kept_other : (test : Test) (new : Sides) (kept : List (Option State)) → stmt_at t.lines j ≡ Some (If test) → (k : KeepsOther test w.state w.branches.items kept) → IsBranch P t (j + 1) (r.labels ++ new ∷ []) j k.state
+  kept_other : (test : Test) (new : Sides) (kept : List (Option State)) → stmt_at t.lines j ≡ Some (If test) → (k : KeepsOther test w.state w.branches kept) → IsBranch P t (j + 1) (r.labels ++ new ∷ []) j k.state
   kept_other test new kept e k = record {
     of = of_same P t k.state w.state r.at.here.of k.other.of;
     before = omega arith;
@@ -148,7 +147,7 @@ module _ (P : Program) (t : Thread) (j : ℕ) (w : Walk) (r : Reaches P t j w) w
   pub may_test : (test : Test) (lists : List Items) → stmt_at t.lines j ≡ Some (If test) → lists ≡ t.lists → MayTest (program_of w.state) lists test
   may_test test lists e q = subst (λ (p : Program). MayTest p lists test) (sym r.at.here.of.program) (subst (λ (is : List Items). MayTest P is test) (sym q) (tests_here test e))
 
-  pub if_turns : {X : Type 0} (test : Test) (lists : List Items) (new : State) (kept : ArrayVec (Option State)) (x : Result X Cause) → stmt_at t.lines j ≡ Some (If test) → lists ≡ t.lists → Gives w.state new x (asks_both (label_of w.state) (λ z bag m. test_premises m test)) (λ z. gate (test_goes w.state.flag test z true) (goes (label_of w.state z) (λ bag m. test_effect (program_of w.state) lists bag m test)) ∷ []) → OnOk x (KeepsOther test w.state w.branches.items kept.items) → Turns P t j (record { state = new; branches = kept; peek = w.peek; loops = w.loops }) x
+  pub if_turns : {X : Type 0} (test : Test) (lists : List Items) (new : State) (kept : List (Option State)) (x : Result X Cause) → stmt_at t.lines j ≡ Some (If test) → lists ≡ t.lists → Gives w.state new x (asks_both (label_of w.state) (λ z bag m. test_premises m test)) (λ z. gate (test_goes w.state.flag test z true) (goes (label_of w.state z) (λ bag m. test_effect (program_of w.state) lists bag m test)) ∷ []) → OnOk x (KeepsOther test w.state w.branches kept) → Turns P t j (record { state = new; branches = kept; peek = w.peek; loops = w.loops }) x
   if_turns test lists new kept x e same_lists h k =
       let g = subst (λ (is : List Items). Gives w.state new x (asks_both (label_of w.state) (λ z bag m. test_premises m test)) (λ z. gate (test_goes w.state.flag test z true) (goes (label_of w.state z) (λ bag m. test_effect (program_of w.state) is bag m test)) ∷ [])) same_lists h in
       let w' : Walk = record { state = new; branches = kept; peek = w.peek; loops = w.loops } in
@@ -162,31 +161,28 @@ module _ (P : Program) (t : Thread) (j : ℕ) (w : Walk) (r : Reaches P t j w) w
       turns P t j w r (If test) e w' x gave
       (λ b z. fits_behind P t j w r (If test) e (label_of new z) (strongest_fits (in_lock bs) (most_at j + 18) (label_of new z) _ (gate_fits (test_goes t.flag test z true) (in_lock bs) (most_at j + 18) _ (f z), tt) (b z)))
       (λ y q. record {
-        branches = grown new kept n (on_ok (KeepsOther test w.state w.branches.items kept.items) x y k q);
+        branches = grown new kept n (on_ok (KeepsOther test w.state w.branches kept) x y k q);
         peek = peek_same P t j w r (If test) e (sides_of new) (λ o z. refl) (same peek_place refl);
         loops = loops_same P t j w r (If test) e (sides_of new) (λ o z. refl) (same loop_place refl);
       })
     where
-      grown : (new : State) (kept : ArrayVec (Option State)) → blocks_at t.lines (j + 1) ≡ blocks_at t.lines j ++ InIf j ∷ [] → KeepsOther test w.state w.branches.items kept.items → AreKept (OnKept (IsBranch P t (j + 1) (r.labels ++ sides_of new ∷ []))) (places branch_place (blocks_at t.lines (j + 1))) kept.items
+      grown : (new : State) (kept : List (Option State)) → blocks_at t.lines (j + 1) ≡ blocks_at t.lines j ++ InIf j ∷ [] → KeepsOther test w.state w.branches kept → AreKept (OnKept (IsBranch P t (j + 1) (r.labels ++ sides_of new ∷ []))) (places branch_place (blocks_at t.lines (j + 1))) kept
       grown new kept n k =
           let R = OnKept (IsBranch P t (j + 1) (r.labels ++ sides_of new ∷ [])) in
-          let more = keep_more R (places branch_place (blocks_at t.lines j)) w.branches.items j (Some k.state) (branches_stay P t j w r (If test) e (sides_of new) (places branch_place (blocks_at t.lines j)) w.branches.items r.at.keeps.branches) (kept_other test (sides_of new) kept.items e k) in
-          subst (λ os. AreKept R os kept.items) (sym (ap (places branch_place) n ∙ places_pushed branch_place (blocks_at t.lines j) (InIf j))) (subst (λ xs. AreKept R (places branch_place (blocks_at t.lines j) ++ j ∷ []) xs) (sym k.kept) more)
+          let more = keep_more R (places branch_place (blocks_at t.lines j)) w.branches j (Some k.state) (branches_stay P t j w r (If test) e (sides_of new) (places branch_place (blocks_at t.lines j)) w.branches r.at.keeps.branches) (kept_other test (sides_of new) kept e k) in
+          subst (λ os. AreKept R os kept) (sym (ap (places branch_place) n ∙ places_pushed branch_place (blocks_at t.lines j) (InIf j))) (subst (λ xs. AreKept R (places branch_place (blocks_at t.lines j) ++ j ∷ []) xs) (sym k.kept) more)
 
   -- ---- else
 
   -- The state that is kept last is the end of the branch that is read at the line at o.
-  kept_at : (o : ℕ) (outer : List Block) (b : Block) → branch_place b ≡ o ∷ [] → blocks_at t.lines j ≡ outer ++ b ∷ [] → KeepsLast (IsBranch P t j r.labels) (places branch_place outer) o w.branches.items
-  kept_at o outer b p n = last_kept (IsBranch P t j r.labels) (places branch_place outer) o w.branches.items (subst (λ os. AreKept (OnKept (IsBranch P t j r.labels)) os w.branches.items) (ap (places branch_place) n ∙ places_pushed branch_place outer b ∙ ap (λ os. places branch_place outer ++ os) p) r.at.keeps.branches)
+  kept_at : (o : ℕ) (outer : List Block) (b : Block) → branch_place b ≡ o ∷ [] → blocks_at t.lines j ≡ outer ++ b ∷ [] → KeepsLast (IsBranch P t j r.labels) (places branch_place outer) o w.branches
+  kept_at o outer b p n = last_kept (IsBranch P t j r.labels) (places branch_place outer) o w.branches (subst (λ os. AreKept (OnKept (IsBranch P t j r.labels)) os w.branches) (ap (places branch_place) n ∙ places_pushed branch_place outer b ∙ ap (λ os. places branch_place outer ++ os) p) r.at.keeps.branches)
 
-  else_kept : (o : ℕ) → stmt_at t.lines j ≡ Some (Else o) → KeepsLast (IsBranch P t j r.labels) (places branch_place (blocks_at t.lines o)) o w.branches.items
+  else_kept : (o : ℕ) → stmt_at t.lines j ≡ Some (Else o) → KeepsLast (IsBranch P t j r.labels) (places branch_place (blocks_at t.lines o)) o w.branches
   else_kept o e = kept_at o (blocks_at t.lines o) (InIf o) refl (turns_at t.lines r.thread.nested.each j o e).within
 
-  pub else_some : (o : ℕ) → stmt_at t.lines j ≡ Some (Else o) → IsSome (last_of w.branches.items)
-  else_some o e = some_last (IsBranch P t j r.labels) _ o w.branches.items (else_kept o e)
-
-  pub few_here : length w.branches.items < 32
-  few_here = omega (arith, few_kept, r.thread.nested.depth j)
+  pub else_some : (o : ℕ) → stmt_at t.lines j ≡ Some (Else o) → IsSome (last_of w.branches)
+  else_some o e = some_last (IsBranch P t j r.labels) _ o w.branches (else_kept o e)
 
   -- What comes from a branch fits as the label that it is read at does.
   branch_fits : (o : ℕ) (s : State) (z : Bool) → in_lock (blocks_at t.lines o) ≡ in_lock (blocks_at t.lines j) → IsBranch P t j r.labels o s → Fits (in_lock (blocks_at t.lines j)) (most_at j) (label_of s z)
@@ -196,12 +192,12 @@ module _ (P : Program) (t : Thread) (j : ℕ) (w : Walk) (r : Reaches P t j w) w
       let f : Fits (in_lock (blocks_at t.lines j)) (most_at j) (label_at r.labels o z) = subst (λ b. Fits b (most_at j) (label_at r.labels o z)) l (r.at.fits o (slice_index_or r.labels o nowhere) is z) in
       subst (λ x. Fits (in_lock (blocks_at t.lines j)) (most_at j) x) (sym (h.at z)) (gate_fits (may_skip t.flag z (stmt_at t.lines o)) (in_lock (blocks_at t.lines j)) (most_at j) (label_at r.labels o z) f)
 
-  pub else_turns : (o : ℕ) (new : State) (kept : ArrayVec (Option State)) → stmt_at t.lines j ≡ Some (Else o) → last_of w.branches.items ≡ Some new → kept.items ≡ rest_of w.branches.items ++ Some w.state ∷ [] → Reaches P t (j + 1) (record { state = new; branches = kept; peek = w.peek; loops = w.loops })
+  pub else_turns : (o : ℕ) (new : State) (kept : List (Option State)) → stmt_at t.lines j ≡ Some (Else o) → last_of w.branches ≡ Some new → kept ≡ rest_of w.branches ++ Some w.state ∷ [] → Reaches P t (j + 1) (record { state = new; branches = kept; peek = w.peek; loops = w.loops })
   else_turns o new kept e q k =
       let w' : Walk = record { state = new; branches = kept; peek = w.peek; loops = w.loops } in
       let c = turns_at t.lines r.thread.nested.each j o e in
       let last = else_kept o e in
-      let b = same_last (IsBranch P t j r.labels) (places branch_place (blocks_at t.lines o)) o w.branches.items new last q in
+      let b = same_last (IsBranch P t j r.labels) (places branch_place (blocks_at t.lines o)) o w.branches new last q in
       let l : in_lock (blocks_at t.lines o) ≡ in_lock (blocks_at t.lines j) = sym (ap in_lock c.within ∙ same_lock (blocks_at t.lines o) (InIf o) refl) in
       let best : AreStrongestOf new (lead_at P t j r.labels (Else o)) = λ z. subst (λ x. IsStrongest (label_of new z) (x ∷ [])) (b.at z ∙ skipped_front t j r.labels o z b.before) (only_itself (label_of new z)) in
       onward P t j w r (Else o) e w' tt best b.of
@@ -223,11 +219,11 @@ module _ (P : Program) (t : Thread) (j : ℕ) (w : Walk) (r : Reaches P t j w) w
         at = λ z. sym (here_still new z) ∙ ap (λ x. gate (may_skip t.flag z x) (label_at (r.labels ++ new ∷ []) j z)) (sym e);
       }
 
-      grown : (new : State) (kept : ArrayVec (Option State)) → blocks_at t.lines (j + 1) ≡ blocks_at t.lines o ++ InElse j ∷ [] → kept.items ≡ rest_of w.branches.items ++ Some w.state ∷ [] → AreKept (OnKept (IsBranch P t j r.labels)) (places branch_place (blocks_at t.lines o)) (rest_of w.branches.items) → AreKept (OnKept (IsBranch P t (j + 1) (r.labels ++ sides_of new ∷ []))) (places branch_place (blocks_at t.lines (j + 1))) kept.items
+      grown : (new : State) (kept : List (Option State)) → blocks_at t.lines (j + 1) ≡ blocks_at t.lines o ++ InElse j ∷ [] → kept ≡ rest_of w.branches ++ Some w.state ∷ [] → AreKept (OnKept (IsBranch P t j r.labels)) (places branch_place (blocks_at t.lines o)) (rest_of w.branches) → AreKept (OnKept (IsBranch P t (j + 1) (r.labels ++ sides_of new ∷ []))) (places branch_place (blocks_at t.lines (j + 1))) kept
       grown new kept n k rest =
           let R = OnKept (IsBranch P t (j + 1) (r.labels ++ sides_of new ∷ [])) in
-          let more = keep_more R (places branch_place (blocks_at t.lines o)) (rest_of w.branches.items) j (Some w.state) (branches_stay P t j w r (Else o) e (sides_of new) (places branch_place (blocks_at t.lines o)) (rest_of w.branches.items) rest) (ended (sides_of new)) in
-          subst (λ os. AreKept R os kept.items) (sym (ap (places branch_place) n ∙ places_pushed branch_place (blocks_at t.lines o) (InElse j))) (subst (λ xs. AreKept R (places branch_place (blocks_at t.lines o) ++ j ∷ []) xs) (sym k) more)
+          let more = keep_more R (places branch_place (blocks_at t.lines o)) (rest_of w.branches) j (Some w.state) (branches_stay P t j w r (Else o) e (sides_of new) (places branch_place (blocks_at t.lines o)) (rest_of w.branches) rest) (ended (sides_of new)) in
+          subst (λ os. AreKept R os kept) (sym (ap (places branch_place) n ∙ places_pushed branch_place (blocks_at t.lines o) (InElse j))) (subst (λ xs. AreKept R (places branch_place (blocks_at t.lines o) ++ j ∷ []) xs) (sym k) more)
 
   -- ---- the end of an if
 
@@ -266,29 +262,29 @@ module _ (P : Program) (t : Thread) (j : ℕ) (w : Walk) (r : Reaches P t j w) w
     }
   ]
 
-  end_kept : (o : ℕ) (e : stmt_at t.lines j ≡ Some (EndIf o)) → KeepsLast (IsBranch P t j r.labels) (places branch_place (ends_branch o e).outer) o w.branches.items
+  end_kept : (o : ℕ) (e : stmt_at t.lines j ≡ Some (EndIf o)) → KeepsLast (IsBranch P t j r.labels) (places branch_place (ends_branch o e).outer) o w.branches
   end_kept o e = let c = ends_branch o e in kept_at o c.outer c.block c.branch c.within
 
-  pub end_some : (o : ℕ) → stmt_at t.lines j ≡ Some (EndIf o) → IsSome (last_of w.branches.items)
-  end_some o e = some_last (IsBranch P t j r.labels) _ o w.branches.items (end_kept o e)
+  pub end_some : (o : ℕ) → stmt_at t.lines j ≡ Some (EndIf o) → IsSome (last_of w.branches)
+  end_some o e = some_last (IsBranch P t j r.labels) _ o w.branches (end_kept o e)
 
-  branch_last : (o : ℕ) (s : State) → stmt_at t.lines j ≡ Some (EndIf o) → last_of w.branches.items ≡ Some s → IsBranch P t j r.labels o s
-  branch_last o s e q = same_last (IsBranch P t j r.labels) _ o w.branches.items s (end_kept o e) q
+  branch_last : (o : ℕ) (s : State) → stmt_at t.lines j ≡ Some (EndIf o) → last_of w.branches ≡ Some s → IsBranch P t j r.labels o s
+  branch_last o s e q = same_last (IsBranch P t j r.labels) _ o w.branches s (end_kept o e) q
 
-  fits_last : (o : ℕ) (s : State) (z : Bool) → stmt_at t.lines j ≡ Some (EndIf o) → last_of w.branches.items ≡ Some s → Fits (in_lock (blocks_at t.lines j)) (most_at j) (label_of s z)
+  fits_last : (o : ℕ) (s : State) (z : Bool) → stmt_at t.lines j ≡ Some (EndIf o) → last_of w.branches ≡ Some s → Fits (in_lock (blocks_at t.lines j)) (most_at j) (label_of s z)
   fits_last o s z e q = branch_fits o s z (ends_branch o e).lock (branch_last o s e q)
 
-  pub end_of : (o : ℕ) (s : State) → stmt_at t.lines j ≡ Some (EndIf o) → last_of w.branches.items ≡ Some s → IsOfSame s w.state
+  pub end_of : (o : ℕ) (s : State) → stmt_at t.lines j ≡ Some (EndIf o) → last_of w.branches ≡ Some s → IsOfSame s w.state
   end_of o s e q = same_of P t s w.state (branch_last o s e q).of r.at.here.of
 
-  pub end_alike : (o : ℕ) (s : State) → stmt_at t.lines j ≡ Some (EndIf o) → last_of w.branches.items ≡ Some s → (y z : Bool) → AgreeOnLock (label_of w.state y) (label_of s z)
+  pub end_alike : (o : ℕ) (s : State) → stmt_at t.lines j ≡ Some (EndIf o) → last_of w.branches ≡ Some s → (y z : Bool) → AgreeOnLock (label_of w.state y) (label_of s z)
   end_alike o s e q y z = fits_alike (in_lock (blocks_at t.lines j)) (most_at j) (most_at j) (label_of w.state y) (label_of s z) (fits_here P t j w r (EndIf o) e y) (fits_last o s z e q)
 
   -- the labels of both branches, with one read at the line at o
   gave_both : {X : Type 0} (h m b : Bool → Label) (new : State) (x : Result X Cause) → ((z : Bool) → m z ≡ b z) → Gave P t new x (joins_both (two h m)) (two h m) → Gave P t new x (joins_both (two h b)) (two h b)
   gave_both h m b new x e g = subst (λ k. Gave P t new x (joins_both (two h k)) (two h k)) (fun_ext e) g
 
-  ends : {X : Type 0} (o : ℕ) (s new : State) (kept : ArrayVec (Option State)) (x : Result X Cause) → stmt_at t.lines j ≡ Some (EndIf o) → last_of w.branches.items ≡ Some s → Gives w.state new x (joins_both (two (label_of w.state) (label_of s))) (two (label_of w.state) (label_of s)) → kept.items ≡ rest_of w.branches.items → Turns P t j (record { state = new; branches = kept; peek = w.peek; loops = w.loops }) x
+  ends : {X : Type 0} (o : ℕ) (s new : State) (kept : List (Option State)) (x : Result X Cause) → stmt_at t.lines j ≡ Some (EndIf o) → last_of w.branches ≡ Some s → Gives w.state new x (joins_both (two (label_of w.state) (label_of s))) (two (label_of w.state) (label_of s)) → kept ≡ rest_of w.branches → Turns P t j (record { state = new; branches = kept; peek = w.peek; loops = w.loops }) x
   ends o s new kept x e q g k =
       let w' : Walk = record { state = new; branches = kept; peek = w.peek; loops = w.loops } in
       let c = ends_branch o e in
@@ -311,13 +307,13 @@ module _ (P : Program) (t : Thread) (j : ℕ) (w : Walk) (r : Reaches P t j w) w
       same : (f : Block → List ℕ) (outer : List Block) (b : Block) → blocks_at t.lines j ≡ outer ++ b ∷ [] → blocks_at t.lines (j + 1) ≡ outer → f b ≡ [] → places f (blocks_at t.lines (j + 1)) ≡ places f (blocks_at t.lines j)
       same f outer b n m z = ap (places f) m ∙ sym (ap (places f) n ∙ pushed_none f outer b z)
 
-      left : (new : State) (kept : ArrayVec (Option State)) (outer : List Block) → blocks_at t.lines (j + 1) ≡ outer → kept.items ≡ rest_of w.branches.items → AreKept (OnKept (IsBranch P t j r.labels)) (places branch_place outer) (rest_of w.branches.items) → AreKept (OnKept (IsBranch P t (j + 1) (r.labels ++ sides_of new ∷ []))) (places branch_place (blocks_at t.lines (j + 1))) kept.items
+      left : (new : State) (kept : List (Option State)) (outer : List Block) → blocks_at t.lines (j + 1) ≡ outer → kept ≡ rest_of w.branches → AreKept (OnKept (IsBranch P t j r.labels)) (places branch_place outer) (rest_of w.branches) → AreKept (OnKept (IsBranch P t (j + 1) (r.labels ++ sides_of new ∷ []))) (places branch_place (blocks_at t.lines (j + 1))) kept
       left new kept outer n k rest =
           let R = OnKept (IsBranch P t (j + 1) (r.labels ++ sides_of new ∷ [])) in
-          subst (λ bs. AreKept R (places branch_place bs) kept.items) (sym n) (subst (λ xs. AreKept R (places branch_place outer) xs) (sym k) (branches_stay P t j w r (EndIf o) e (sides_of new) (places branch_place outer) (rest_of w.branches.items) rest))
+          subst (λ bs. AreKept R (places branch_place bs) kept) (sym n) (subst (λ xs. AreKept R (places branch_place outer) xs) (sym k) (branches_stay P t j w r (EndIf o) e (sides_of new) (places branch_place outer) (rest_of w.branches) rest))
 
-  pub end_turns : {X : Type 0} (o : ℕ) (new : State) (kept : ArrayVec (Option State)) (x : Result X Cause) → stmt_at t.lines j ≡ Some (EndIf o) → ((s : State) → last_of w.branches.items ≡ Some s → Gives w.state new x (joins_both (two (label_of w.state) (label_of s))) (two (label_of w.state) (label_of s))) → kept.items ≡ rest_of w.branches.items → Turns P t j (record { state = new; branches = kept; peek = w.peek; loops = w.loops }) x
+  pub end_turns : {X : Type 0} (o : ℕ) (new : State) (kept : List (Option State)) (x : Result X Cause) → stmt_at t.lines j ≡ Some (EndIf o) → ((s : State) → last_of w.branches ≡ Some s → Gives w.state new x (joins_both (two (label_of w.state) (label_of s))) (two (label_of w.state) (label_of s))) → kept ≡ rest_of w.branches → Turns P t j (record { state = new; branches = kept; peek = w.peek; loops = w.loops }) x
   end_turns o new kept x e g k = let h = end_kept o e in ends o h.state new kept x e h.is (g h.state h.is) k
 
-  pub end_stays : {X : Type 0} (o : ℕ) (new : State) (x : Result X Cause) → stmt_at t.lines j ≡ Some (EndIf o) → ((s : State) → last_of w.branches.items ≡ Some s → Gives w.state new x (joins_both (two (label_of w.state) (label_of s))) (two (label_of w.state) (label_of s))) → OnErr x (new ≡ w.state)
+  pub end_stays : {X : Type 0} (o : ℕ) (new : State) (x : Result X Cause) → stmt_at t.lines j ≡ Some (EndIf o) → ((s : State) → last_of w.branches ≡ Some s → Gives w.state new x (joins_both (two (label_of w.state) (label_of s))) (two (label_of w.state) (label_of s))) → OnErr x (new ≡ w.state)
   end_stays o new x e g = let h = end_kept o e in gives_stays w.state new x _ _ (g h.state h.is)

@@ -14,7 +14,6 @@ use Rattle.rc_rules.specs.Premises.{Meets, Premise}
 use Rattle.rc_rules.specs.Rules.{asks, asks_both, may_break}
 use Rattle.rc_rules.specs.Sides.{Sides, on}
 use Rattle.rc_rules.specs.States.{State, Gives, IsLocked, OnBoth, label_of, program_of, sides_of}
-use Rattle.arrayvec.specs.ArrayVec.{ArrayVec}
 use Rattle.rc_verify.specs.declared.walk.Walk.{Walk}
 use Rattle.rc_verify.specs.Kept.{last_of, rest_of}
 use Rattle.rc_verify.specs.Arms.{two}
@@ -37,14 +36,14 @@ module _ (P : Program) (t : Thread) (j : ℕ) (w : Walk) (r : Reaches P t j w) (
   loops_here : places loop_place (blocks_at t.lines j) ≡ places loop_place (blocks_at t.lines o) ++ o ∷ []
   loops_here = ap (places loop_place) out.within ∙ places_more loop_place (blocks_at t.lines o) (InLoop o out.number ∷ out.inner) ∙ ap (λ os. places loop_place (blocks_at t.lines o) ++ (o ∷ os)) (no_loop_places out.inner out.no_loop_between)
 
-  loop_kept : KeepsLast (IsLoop P t j r.labels) (places loop_place (blocks_at t.lines o)) o w.loops.items
-  loop_kept = last_kept (IsLoop P t j r.labels) (places loop_place (blocks_at t.lines o)) o w.loops.items (subst (λ os. AreKept (OnKept (IsLoop P t j r.labels)) os w.loops.items) loops_here r.at.keeps.loops)
+  loop_kept : KeepsLast (IsLoop P t j r.labels) (places loop_place (blocks_at t.lines o)) o w.loops
+  loop_kept = last_kept (IsLoop P t j r.labels) (places loop_place (blocks_at t.lines o)) o w.loops (subst (λ os. AreKept (OnKept (IsLoop P t j r.labels)) os w.loops) loops_here r.at.keeps.loops)
 
-  pub break_some : IsSome (last_of w.loops.items)
-  break_some = some_last (IsLoop P t j r.labels) _ o w.loops.items loop_kept
+  pub break_some : IsSome (last_of w.loops)
+  break_some = some_last (IsLoop P t j r.labels) _ o w.loops loop_kept
 
-  loop_last : (s : State) → last_of w.loops.items ≡ Some s → IsLoop P t j r.labels o s
-  loop_last s q = same_last (IsLoop P t j r.labels) _ o w.loops.items s loop_kept q
+  loop_last : (s : State) → last_of w.loops ≡ Some s → IsLoop P t j r.labels o s
+  loop_last s q = same_last (IsLoop P t j r.labels) _ o w.loops s loop_kept q
 
   pub break_locked : releases ≡ true → OnBoth IsLocked w.state
   break_locked q z = fits_locked (most_at j) (label_of w.state z) (subst (λ b. Fits b (most_at j) (label_of w.state z)) (out.locked q) (fits_here P t j w r (Break o releases leaves) e z))
@@ -59,7 +58,7 @@ module _ (P : Program) (t : Thread) (j : ℕ) (w : Walk) (r : Reaches P t j w) (
   taken_closed : Meets Asked → (z : Bool) → IsClosed (taken releases w.state z)
   taken_closed m z = broken_closed (program_of w.state) releases (label_of w.state z) (each_meets (label_of w.state) (λ s. asks s (λ bag m. may_break (program_of w.state) releases m)) m z)
 
-  pub may_leave : (s : State) → last_of w.loops.items ≡ Some s → MayBreak s w.state releases
+  pub may_leave : (s : State) → last_of w.loops ≡ Some s → MayBreak s w.state releases
   may_leave s q =
       let h = loop_last s q in
       record {
@@ -70,7 +69,7 @@ module _ (P : Program) (t : Thread) (j : ℕ) (w : Walk) (r : Reaches P t j w) (
 
   -- ---- behind it
 
-  joined : (s : State) (new : Sides) (kept : List (Option State)) → Meets Asked → last_of w.loops.items ≡ Some s → (b : Breaks s (taken releases w.state) w.loops.items kept) → IsLoop P t (j + 1) (r.labels ++ new ∷ []) o b.keeps.state
+  joined : (s : State) (new : Sides) (kept : List (Option State)) → Meets Asked → last_of w.loops ≡ Some s → (b : Breaks s (taken releases w.state) w.loops kept) → IsLoop P t (j + 1) (r.labels ++ new ∷ []) o b.keeps.state
   joined s new kept m q b =
       let h = loop_last s q in
       let lock = in_lock (blocks_at t.lines o) in
@@ -100,9 +99,9 @@ module _ (P : Program) (t : Thread) (j : ℕ) (w : Walk) (r : Reaches P t j w) (
 
   -- what is kept behind the line
   abbrev KeepsBreak : List (Option State) → Type 0
-  KeepsBreak kept = (s : State) → last_of w.loops.items ≡ Some s → Breaks s (taken releases w.state) w.loops.items kept
+  KeepsBreak kept = (s : State) → last_of w.loops ≡ Some s → Breaks s (taken releases w.state) w.loops kept
 
-  pub break_turns : {X : Type 0} (new : State) (kept : ArrayVec (Option State)) (x : Result X Cause) → Gives w.state new x Asked (λ z. []) → OnOk x (KeepsBreak kept.items) → Turns P t j (record { state = new; branches = w.branches; peek = w.peek; loops = kept }) x
+  pub break_turns : {X : Type 0} (new : State) (kept : List (Option State)) (x : Result X Cause) → Gives w.state new x Asked (λ z. []) → OnOk x (KeepsBreak kept) → Turns P t j (record { state = new; branches = w.branches; peek = w.peek; loops = kept }) x
   break_turns new kept x g k =
       let w' : Walk = record { state = new; branches = w.branches; peek = w.peek; loops = kept } in
       let F : Program → Option ℕ → Sides → List (ℕ × Premise) = λ p f l. asks_both (λ z. on z l) (λ z bag m. may_break p releases m) in
@@ -112,16 +111,16 @@ module _ (P : Program) (t : Thread) (j : ℕ) (w : Walk) (r : Reaches P t j w) (
       (λ y q. record {
         branches = branches_same P t j w r (Break o releases leaves) e (sides_of new) (ap (places branch_place) out.behind);
         peek = peek_same P t j w r (Break o releases leaves) e (sides_of new) (λ p z. refl) (ap (places peek_place) out.behind);
-        loops = grown (sides_of new) (met x y q g) (on_ok (KeepsBreak kept.items) x y k q);
+        loops = grown (sides_of new) (met x y q g) (on_ok (KeepsBreak kept) x y k q);
       })
     where
       met : {X : Type 0} (x : Result X Cause) (y : X) → x ≡ Ok y → Gives w.state new x Asked (λ z. []) → Meets Asked
       met (Ok z) y q g = g.0
       met (Err c) y q g = absurd (cc)
 
-      grown : (l : Sides) → Meets Asked → KeepsBreak kept.items → AreKept (OnKept (IsLoop P t (j + 1) (r.labels ++ l ∷ []))) (places loop_place (blocks_at t.lines (j + 1))) kept.items
+      grown : (l : Sides) → Meets Asked → KeepsBreak kept → AreKept (OnKept (IsLoop P t (j + 1) (r.labels ++ l ∷ []))) (places loop_place (blocks_at t.lines (j + 1))) kept
       grown l m k =
           let R = OnKept (IsLoop P t (j + 1) (r.labels ++ l ∷ [])) in
           let b = k loop_kept.state loop_kept.is in
-          let more = keep_more R (places loop_place (blocks_at t.lines o)) (rest_of w.loops.items) o (Some b.keeps.state) (others l (rest_of w.loops.items) loop_kept.rest) (joined loop_kept.state l kept.items m loop_kept.is b) in
-          subst (λ os. AreKept R os kept.items) (sym (ap (places loop_place) out.behind ∙ loops_here)) (subst (λ xs. AreKept R (places loop_place (blocks_at t.lines o) ++ o ∷ []) xs) (sym b.keeps.kept) more)
+          let more = keep_more R (places loop_place (blocks_at t.lines o)) (rest_of w.loops) o (Some b.keeps.state) (others l (rest_of w.loops) loop_kept.rest) (joined loop_kept.state l kept m loop_kept.is b) in
+          subst (λ os. AreKept R os kept) (sym (ap (places loop_place) out.behind ∙ loops_here)) (subst (λ xs. AreKept R (places loop_place (blocks_at t.lines o) ++ o ∷ []) xs) (sym b.keeps.kept) more)

@@ -1,6 +1,9 @@
 -- What is kept of open blocks, as they open and close.
-use Rattle.std.proofs.Common.{◌≡◌, ℕ, suc, ◌-◌, ◌≤◌, List, [], ◌∷◌, ◌++◌, length, length-append, take, append_assoc, Option, Some, None, refl, sym, ap, subst, ◌∙◌, arith, slice_get}
+use Rattle.std.proofs.Common.{◌≡◌, ℕ, zero, suc, ◌-◌, ◌<◌, ◌≤◌, List, [], ◌∷◌, ◌++◌, length, length-append, length-set, take, drop, append_assoc, Option, Some, None, refl, sym, ap, subst, ◌∙◌, arith, slice_get, slice_index_or, slice_set}
 use Rattle.std.specs.Prelude.{IsSome}
+use Rattle.std.specs.List.{refill}
+use Rattle.std.proofs.lemmas.List.{length-take-le, take_at}
+use Rattle.std.proofs.Math.Seq.{take-suc-set}
 use Rattle.rc_lang.specs.declared.lines.Block.{Block}
 use Rattle.rc_lang.specs.declared.lines.Block.TheVariants.{InLock, InIf, InElse, InPeek, InArm, InLoop}
 use Rattle.rc_lang.specs.Nesting.{innermost, without_innermost}
@@ -120,3 +123,39 @@ some_last R os o xs k = subst (λ (x : Option State). IsSome x) (sym k.is) refl
 pub one_listed : {X : Type 0} (R : ℕ → X → Type 0) (o : ℕ) (x : Option X) → AreKept R (o ∷ []) (listed x) → (y : X) × (x ≡ Some y) × R o y
 one_listed R o None h = absurd h
 one_listed R o (Some y) h = (y, refl, h.0)
+
+-- ---- rooms, of which the first n are in use
+
+front_get : {X : Type 0} (xs : List X) (m : ℕ) (d : X) → m < length xs → slice_get (take (suc m) xs) m ≡ Some (slice_index_or xs m d)
+front_get [] m d lt = absurd (omega (arith, lt))
+front_get (x ∷ xs) zero d lt = refl
+front_get (x ∷ xs) (suc m) d lt = front_get xs m d (omega (arith, lt))
+
+front_take : {X : Type 0} (xs : List X) (m : ℕ) → take m (take (suc m) xs) ≡ take m xs
+front_take xs zero = refl
+front_take [] (suc m) = refl
+front_take (x ∷ xs) (suc m) = ap (λ ys. x ∷ ys) (front_take xs m)
+
+before : (m : ℕ) → m ≡ suc m - 1
+before m = omega arith
+
+-- The last of them has what is kept last,
+pub last_room : (rooms slice now : List (Option State)) (n : ℕ) (d x : Option State) → take n rooms ≡ now → n ≤ length rooms → IsSome (last_of now) → slice ≡ rooms → slice_index_or slice (n - 1) d ≡ x → last_of now ≡ x
+last_room rooms slice now zero d x e le h s is = absurd (cc (subst (λ (xs : List (Option State)). IsSome (last_of xs)) (sym e) h))
+last_room rooms slice now (suc m) d x e le h s is =
+    let size : length now ≡ suc m = sym (ap length e) ∙ length-take-le (suc m) rooms le in
+    let at : length now - 1 ≡ m = omega (arith, size) in
+    ap (λ xs. kept_in (slice_get xs (length now - 1))) (sym e) ∙ ap (λ i. kept_in (slice_get (take (suc m) rooms) i)) at ∙ ap kept_in (front_get rooms m d (omega (arith, le))) ∙ ap (λ xs. slice_index_or xs m d) (sym s) ∙ ap (λ i. slice_index_or slice i d) (before m) ∙ is
+
+-- and when another is written there, that is kept instead.
+pub room_written : (rooms slice now : List (Option State)) (n : ℕ) (x : Option State) → take n rooms ≡ now → n ≤ length rooms → IsSome (last_of now) → slice ≡ rooms → take n (refill (length rooms) rooms (slice_set slice (n - 1) x)) ≡ rest_of now ++ x ∷ []
+room_written rooms slice now zero x e le h s = absurd (cc (subst (λ (xs : List (Option State)). IsSome (last_of xs)) (sym e) h))
+room_written rooms slice now (suc m) x e le h s =
+    let size : length now ≡ suc m = sym (ap length e) ∙ length-take-le (suc m) rooms le in
+    let at : length now - 1 ≡ m = omega (arith, size) in
+    let rest : rest_of now ≡ take m rooms = ap (λ xs. take (length now - 1) xs) (sym e) ∙ ap (λ i. take i (take (suc m) rooms)) at ∙ front_take rooms m in
+    ap (λ i. take (suc m) (refill (length rooms) rooms (slice_set slice i x))) (sym (before m)) ∙ ap (λ xs. take (suc m) (refill (length rooms) rooms (slice_set xs m x))) s ∙ ap (take (suc m)) (take_at (slice_set rooms m x) (drop (length (slice_set rooms m x)) rooms) (length rooms) (length-set rooms m x)) ∙ take-suc-set rooms m x (omega (arith, le)) ∙ ap (λ xs. xs ++ x ∷ []) (sym rest)
+
+pub none_kept : (x : Option State) → IsSome x → x ≡ None → ⊥
+none_kept None h e = absurd (cc h)
+none_kept (Some s) h e = absurd (cc e)

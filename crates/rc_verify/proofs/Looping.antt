@@ -20,7 +20,6 @@ use Rattle.rc_rules.specs.Premises.{Premise}
 use Rattle.rc_rules.specs.Rules.{asks_both, broken, may_loop, top}
 use Rattle.rc_rules.specs.Sides.{Sides, brings, forgets, on, turns}
 use Rattle.rc_rules.specs.States.{State, Gives, IsOfSame, OnBoth, label_of, program_of, sides_of}
-use Rattle.arrayvec.specs.ArrayVec.{ArrayVec}
 use Rattle.rc_verify.specs.declared.walk.Walk.{Walk}
 use Rattle.rc_verify.specs.Kept.{last_of, rest_of}
 use Rattle.rc_verify.specs.Loops.{ClosesLoop, KeepsDead}
@@ -71,15 +70,12 @@ dead_closed : (s : Label) → s ≡ Dead → IsClosed s
 dead_closed s e = subst (λ z. IsClosed z) (sym e) tt
 
 module _ (P : Program) (t : Thread) (j : ℕ) (w : Walk) (r : Reaches P t j w) where
-  few_loops_kept : length w.loops.items ≤ length (blocks_at t.lines j)
-  few_loops_kept = omega (arith, kept_length (OnKept (IsLoop P t j r.labels)) (places loop_place (blocks_at t.lines j)) w.loops.items r.at.keeps.loops, few_places loop_place few_loops (blocks_at t.lines j))
-
-  pub few_loops_here : length w.loops.items < 32
-  few_loops_here = omega (arith, few_loops_kept, r.thread.nested.depth j)
+  few_loops_kept : length w.loops ≤ length (blocks_at t.lines j)
+  few_loops_kept = omega (arith, kept_length (OnKept (IsLoop P t j r.labels)) (places loop_place (blocks_at t.lines j)) w.loops r.at.keeps.loops, few_places loop_place few_loops (blocks_at t.lines j))
 
   -- ---- where a loop begins
 
-  pub loop_room : (k : ℕ) → stmt_at t.lines j ≡ Some (Loop k) → length w.loops.items < 31
+  pub loop_room : (k : ℕ) → stmt_at t.lines j ≡ Some (Loop k) → length w.loops < 31
   loop_room k e =
       let n : length (blocks_at t.lines (j + 1)) ≡ length (blocks_at t.lines j ++ InLoop j k ∷ []) = ap length (blocks_next t.lines j (Loop k) e) in
       omega (arith, n, length-append (blocks_at t.lines j) (InLoop j k ∷ []), few_loops_kept, r.thread.nested.depth (j + 1))
@@ -115,7 +111,7 @@ module _ (P : Program) (t : Thread) (j : ℕ) (w : Walk) (r : Reaches P t j w) w
   abbrev pub Loops : {X : Type 0} → Items → State → Result X Cause → Type 0
   Loops items new x = Gives w.state new x (asks_both (label_of w.state) (λ z bag m. may_loop (program_of w.state) 13 items z bag m)) (λ z. brings (λ y. turns (forgets w.state.flag) y z) (λ s. top (program_of w.state) items z s) (label_of w.state))
 
-  pub loop_turns : {X : Type 0} (k : ℕ) (items : Items) (new : State) (kept : ArrayVec (Option State)) (x : Result X Cause) → stmt_at t.lines j ≡ Some (Loop k) → items ≡ items_at t.lists k → Loops items new x → OnOk x (KeepsDead w.state w.loops.items kept.items) → Turns P t j (record { state = new; branches = w.branches; peek = w.peek; loops = kept }) x
+  pub loop_turns : {X : Type 0} (k : ℕ) (items : Items) (new : State) (kept : List (Option State)) (x : Result X Cause) → stmt_at t.lines j ≡ Some (Loop k) → items ≡ items_at t.lists k → Loops items new x → OnOk x (KeepsDead w.state w.loops kept) → Turns P t j (record { state = new; branches = w.branches; peek = w.peek; loops = kept }) x
   loop_turns k items new kept x e q g d =
       let w' : Walk = record { state = new; branches = w.branches; peek = w.peek; loops = kept } in
       let i = items_at t.lists k in
@@ -133,30 +129,30 @@ module _ (P : Program) (t : Thread) (j : ℕ) (w : Walk) (r : Reaches P t j w) w
       (λ y p. record {
         branches = branches_same P t j w r (Loop k) e (sides_of new) (same branch_place refl);
         peek = peek_same P t j w r (Loop k) e (sides_of new) (λ o z. refl) (same peek_place refl);
-        loops = grown new kept n (on_ok (KeepsDead w.state w.loops.items kept.items) x y d p);
+        loops = grown new kept n (on_ok (KeepsDead w.state w.loops kept) x y d p);
       })
     where
-      grown : (new : State) (kept : ArrayVec (Option State)) → blocks_at t.lines (j + 1) ≡ blocks_at t.lines j ++ InLoop j k ∷ [] → KeepsDead w.state w.loops.items kept.items → AreKept (OnKept (IsLoop P t (j + 1) (r.labels ++ sides_of new ∷ []))) (places loop_place (blocks_at t.lines (j + 1))) kept.items
+      grown : (new : State) (kept : List (Option State)) → blocks_at t.lines (j + 1) ≡ blocks_at t.lines j ++ InLoop j k ∷ [] → KeepsDead w.state w.loops kept → AreKept (OnKept (IsLoop P t (j + 1) (r.labels ++ sides_of new ∷ []))) (places loop_place (blocks_at t.lines (j + 1))) kept
       grown new kept n d =
           let R = OnKept (IsLoop P t (j + 1) (r.labels ++ sides_of new ∷ [])) in
-          let more = keep_more R (places loop_place (blocks_at t.lines j)) w.loops.items j (Some d.state) (loops_stay P t j w r (Loop k) e (sides_of new) (λ o z. refl) (places loop_place (blocks_at t.lines j)) w.loops.items r.at.keeps.loops) (begun k d.state (sides_of new) e d.dead d.of) in
-          subst (λ os. AreKept R os kept.items) (sym (ap (places loop_place) n ∙ places_pushed loop_place (blocks_at t.lines j) (InLoop j k))) (subst (λ xs. AreKept R (places loop_place (blocks_at t.lines j) ++ j ∷ []) xs) (sym d.kept) more)
+          let more = keep_more R (places loop_place (blocks_at t.lines j)) w.loops j (Some d.state) (loops_stay P t j w r (Loop k) e (sides_of new) (λ o z. refl) (places loop_place (blocks_at t.lines j)) w.loops r.at.keeps.loops) (begun k d.state (sides_of new) e d.dead d.of) in
+          subst (λ os. AreKept R os kept) (sym (ap (places loop_place) n ∙ places_pushed loop_place (blocks_at t.lines j) (InLoop j k))) (subst (λ xs. AreKept R (places loop_place (blocks_at t.lines j) ++ j ∷ []) xs) (sym d.kept) more)
 
   -- ---- where it ends
 
-  end_kept : (o k : ℕ) → stmt_at t.lines j ≡ Some (EndLoop o k) → KeepsLast (IsLoop P t j r.labels) (places loop_place (blocks_at t.lines o)) o w.loops.items
+  end_kept : (o k : ℕ) → stmt_at t.lines j ≡ Some (EndLoop o k) → KeepsLast (IsLoop P t j r.labels) (places loop_place (blocks_at t.lines o)) o w.loops
   end_kept o k e =
       let c = closes_loop t.lines r.thread.nested.each j o k e in
-      last_kept (IsLoop P t j r.labels) (places loop_place (blocks_at t.lines o)) o w.loops.items (subst (λ os. AreKept (OnKept (IsLoop P t j r.labels)) os w.loops.items) (ap (places loop_place) c.within ∙ places_pushed loop_place (blocks_at t.lines o) (InLoop o k)) r.at.keeps.loops)
+      last_kept (IsLoop P t j r.labels) (places loop_place (blocks_at t.lines o)) o w.loops (subst (λ os. AreKept (OnKept (IsLoop P t j r.labels)) os w.loops) (ap (places loop_place) c.within ∙ places_pushed loop_place (blocks_at t.lines o) (InLoop o k)) r.at.keeps.loops)
 
-  pub end_loop_some : (o k : ℕ) → stmt_at t.lines j ≡ Some (EndLoop o k) → IsSome (last_of w.loops.items)
-  end_loop_some o k e = some_last (IsLoop P t j r.labels) _ o w.loops.items (end_kept o k e)
+  pub end_loop_some : (o k : ℕ) → stmt_at t.lines j ≡ Some (EndLoop o k) → IsSome (last_of w.loops)
+  end_loop_some o k e = some_last (IsLoop P t j r.labels) _ o w.loops (end_kept o k e)
 
-  pub end_loop_of : (o k : ℕ) (s : State) → stmt_at t.lines j ≡ Some (EndLoop o k) → last_of w.loops.items ≡ Some s → program_of s ≡ program_of w.state
-  end_loop_of o k s e q = (same_last (IsLoop P t j r.labels) _ o w.loops.items s (end_kept o k e) q).breaks.of.program ∙ sym r.at.here.of.program
+  pub end_loop_of : (o k : ℕ) (s : State) → stmt_at t.lines j ≡ Some (EndLoop o k) → last_of w.loops ≡ Some s → program_of s ≡ program_of w.state
+  end_loop_of o k s e q = (same_last (IsLoop P t j r.labels) _ o w.loops s (end_kept o k e) q).breaks.of.program ∙ sym r.at.here.of.program
 
-  pub end_loop_turns : {X : Type 0} (o k : ℕ) (items : Items) (new : State) (kept : ArrayVec (Option State)) (x : Result X Cause) → stmt_at t.lines j ≡ Some (EndLoop o k) → items ≡ items_at t.lists k → ClosesLoop (asks_both (label_of w.state) (λ z bag m. may_loop (program_of w.state) 14 items z bag m)) w.loops.items kept.items new x → Turns P t j (record { state = new; branches = w.branches; peek = w.peek; loops = kept }) x
-  end_loop_turns o k items new kept x e q g = go x (subst (λ ps. ClosesLoop ps w.loops.items kept.items new x) asked g)
+  pub end_loop_turns : {X : Type 0} (o k : ℕ) (items : Items) (new : State) (kept : List (Option State)) (x : Result X Cause) → stmt_at t.lines j ≡ Some (EndLoop o k) → items ≡ items_at t.lists k → ClosesLoop (asks_both (label_of w.state) (λ z bag m. may_loop (program_of w.state) 14 items z bag m)) w.loops kept new x → Turns P t j (record { state = new; branches = w.branches; peek = w.peek; loops = kept }) x
+  end_loop_turns o k items new kept x e q g = go x (subst (λ ps. ClosesLoop ps w.loops kept new x) asked g)
     where
       asked : asks_both (label_of w.state) (λ z bag m. may_loop (program_of w.state) 14 items z bag m) ≡ asked_at P t j r.labels (EndLoop o k)
       asked =
@@ -167,19 +163,19 @@ module _ (P : Program) (t : Thread) (j : ℕ) (w : Walk) (r : Reaches P t j w) w
       same : (f : Block → List ℕ) → f (InLoop o k) ≡ [] → places f (blocks_at t.lines (j + 1)) ≡ places f (blocks_at t.lines j)
       same f n = let c = closes_loop t.lines r.thread.nested.each j o k e in ap (places f) c.behind ∙ sym (ap (places f) c.within ∙ pushed_none f (blocks_at t.lines o) (InLoop o k) n)
 
-      go : {X : Type 0} (x : Result X Cause) → ClosesLoop (asked_at P t j r.labels (EndLoop o k)) w.loops.items kept.items new x → Turns P t j (record { state = new; branches = w.branches; peek = w.peek; loops = kept }) x
+      go : {X : Type 0} (x : Result X Cause) → ClosesLoop (asked_at P t j r.labels (EndLoop o k)) w.loops kept new x → Turns P t j (record { state = new; branches = w.branches; peek = w.peek; loops = kept }) x
       go (Err c) h = refused P t j w r (EndLoop o k) e (premise_number c) h
       go (Ok y) h =
           let w' : Walk = record { state = new; branches = w.branches; peek = w.peek; loops = kept } in
           let c = closes_loop t.lines r.thread.nested.each j o k e in
           let last = end_kept o k e in
-          let m = (same_last (IsLoop P t j r.labels) _ o w.loops.items new last h.1).breaks in
+          let m = (same_last (IsLoop P t j r.labels) _ o w.loops new last h.1).breaks in
           let R = OnKept (IsLoop P t (j + 1) (r.labels ++ sides_of new ∷ [])) in
-          let stay = loops_stay P t j w r (EndLoop o k) e (sides_of new) (λ p z. refl) (places loop_place (blocks_at t.lines o)) (rest_of w.loops.items) last.rest in
+          let stay = loops_stay P t j w r (EndLoop o k) e (sides_of new) (λ p z. refl) (places loop_place (blocks_at t.lines o)) (rest_of w.loops) last.rest in
           onward P t j w r (EndLoop o k) e w' h.0 m.strongest m.of
           (λ z. subst (λ bs. Fits (in_lock bs) (most_at (j + 1)) (label_of new z)) (sym c.behind) (fits_more (in_lock (blocks_at t.lines o)) (most_at j) (most_at (j + 1)) (label_of new z) (omega arith) (m.fits z)))
           (record {
             branches = branches_same P t j w r (EndLoop o k) e (sides_of new) (same branch_place refl);
             peek = peek_same P t j w r (EndLoop o k) e (sides_of new) (λ p z. refl) (same peek_place refl);
-            loops = subst (λ bs. AreKept R (places loop_place bs) kept.items) (sym c.behind) (subst (λ xs. AreKept R (places loop_place (blocks_at t.lines o)) xs) (sym h.2) stay);
+            loops = subst (λ bs. AreKept R (places loop_place bs) kept) (sym c.behind) (subst (λ xs. AreKept R (places loop_place (blocks_at t.lines o)) xs) (sym h.2) stay);
           })

@@ -52,14 +52,14 @@ module _ (P : Program) (t : Thread) (j : ℕ) (w : Walk) (r : Reaches P t j w) (
 
   -- what is kept where the same places are
   module _ (new : Sides) where
-    pub branches_same : places branch_place (blocks_at t.lines (j + 1)) ≡ places branch_place (blocks_at t.lines j) → AreKept (OnKept (IsBranch P t (j + 1) (r.labels ++ new ∷ []))) (places branch_place (blocks_at t.lines (j + 1))) w.branches.items
-    branches_same p = subst (λ os. AreKept (OnKept (IsBranch P t (j + 1) (r.labels ++ new ∷ []))) os w.branches.items) (sym p) (branches_stay P t j w r s e new (places branch_place (blocks_at t.lines j)) w.branches.items r.at.keeps.branches)
+    pub branches_same : places branch_place (blocks_at t.lines (j + 1)) ≡ places branch_place (blocks_at t.lines j) → AreKept (OnKept (IsBranch P t (j + 1) (r.labels ++ new ∷ []))) (places branch_place (blocks_at t.lines (j + 1))) w.branches
+    branches_same p = subst (λ os. AreKept (OnKept (IsBranch P t (j + 1) (r.labels ++ new ∷ []))) os w.branches) (sym p) (branches_stay P t j w r s e new (places branch_place (blocks_at t.lines j)) w.branches r.at.keeps.branches)
 
     pub peek_same : ((o : ℕ) (x : Label) → arm_end s o x ≡ []) → places peek_place (blocks_at t.lines (j + 1)) ≡ places peek_place (blocks_at t.lines j) → AreKept (IsPeeked P t (j + 1) (r.labels ++ new ∷ [])) (places peek_place (blocks_at t.lines (j + 1))) (listed w.peek)
     peek_same n p = subst (λ os. AreKept (IsPeeked P t (j + 1) (r.labels ++ new ∷ [])) os (listed w.peek)) (sym p) (peek_stays P t j w r s e new n (places peek_place (blocks_at t.lines j)) (listed w.peek) r.at.keeps.peek)
 
-    pub loops_same : ((o : ℕ) (x : Label) → break_end s o x ≡ []) → places loop_place (blocks_at t.lines (j + 1)) ≡ places loop_place (blocks_at t.lines j) → AreKept (OnKept (IsLoop P t (j + 1) (r.labels ++ new ∷ []))) (places loop_place (blocks_at t.lines (j + 1))) w.loops.items
-    loops_same n p = subst (λ os. AreKept (OnKept (IsLoop P t (j + 1) (r.labels ++ new ∷ []))) os w.loops.items) (sym p) (loops_stay P t j w r s e new n (places loop_place (blocks_at t.lines j)) w.loops.items r.at.keeps.loops)
+    pub loops_same : ((o : ℕ) (x : Label) → break_end s o x ≡ []) → places loop_place (blocks_at t.lines (j + 1)) ≡ places loop_place (blocks_at t.lines j) → AreKept (OnKept (IsLoop P t (j + 1) (r.labels ++ new ∷ []))) (places loop_place (blocks_at t.lines (j + 1))) w.loops
+    loops_same n p = subst (λ os. AreKept (OnKept (IsLoop P t (j + 1) (r.labels ++ new ∷ []))) os w.loops) (sym p) (loops_stay P t j w r s e new n (places loop_place (blocks_at t.lines j)) w.loops r.at.keeps.loops)
 
   keeps_same : (new : State) → SamePlaces t j → EndsNone s → Keeps P t (j + 1) (r.labels ++ sides_of new ∷ []) (record { state = new; branches = w.branches; peek = w.peek; loops = w.loops })
   keeps_same new p n = record { branches = branches_same (sides_of new) p.branches; peek = peek_same (sides_of new) n.arms p.peek; loops = loops_same (sides_of new) n.breaks p.loops }

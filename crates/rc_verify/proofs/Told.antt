@@ -1,15 +1,15 @@
 -- The labels of a walk's state are the strongest at its place.
-use Rattle.std.proofs.Common.{◌≡◌, ℕ, ◌+◌, ◌≤◌, Bool, true, false, List, Ok, length, length-take, take, take_all, Option, Some, None, get_or, slice_get, slice_index_or, refl, sym, ap, subst, ◌∙◌, arith}
+use Rattle.std.proofs.Common.{◌≡◌, ℕ, ◌≤◌, Bool, true, false, Ok, length, length-take, take, take_all, Option, Some, None, get_or, slice_get, slice_index_or, sym, ap, subst, ◌∙◌, arith}
 use Rattle.std.proofs.lemmas.Option.{get_or_from_slice_get, slice_get_within}
 use Rattle.rc_lang.specs.declared.lines.Line.{Line}
 use Rattle.rc_lang.specs.Program.{Program, Thread}
 use Rattle.rc_rules.specs.declared.cause.Cause.{Cause}
 use Rattle.rc_rules.specs.Labellings.{HasLabels, IsGood, IsRefusedAt}
-use Rattle.rc_rules.specs.Sides.{Sides, nowhere, on}
+use Rattle.rc_rules.specs.Sides.{nowhere, on}
 use Rattle.rc_rules.specs.States.{program_of, sides_of}
 use Rattle.rc_verify.specs.declared.walk.Walk.{Walk}
 use Rattle.rc_verify.specs.Labels.{Goes, IsHere, IsRefusedFor, IsStrongestAt, Labels, Stands}
-use Rattle.rc_verify.specs.Walk.{IsOf, Reaches}
+use Rattle.rc_verify.specs.Walk.{Reaches}
 use Rattle.rc_verify.proofs.Beginning.{refuses_line, same_thread}
 
 pub told : (P : Program) (t : Thread) (j : ℕ) (w : Walk) → Reaches P t j w → IsStrongestAt P t j (sides_of w.state)

@@ -7,7 +7,7 @@ use Rattle.rc_rules.specs.Causes.{premise_number}
 use Rattle.rc_rules.specs.Labels.{Weaker}
 use Rattle.rc_rules.specs.Labellings.{label_at, HasLabels, IsGood, IsRefusedAt}
 use Rattle.rc_rules.specs.Sides.{Sides, on}
-use Rattle.rc_rules.specs.States.{State, program_of, sides_of}
+use Rattle.rc_rules.specs.States.{State, sides_of}
 use Rattle.rc_verify.specs.declared.walk.Walk.{Walk}
 use Rattle.rc_verify.specs.Walk.{IsOf, Reaches}
 

@@ -128,9 +128,9 @@ pub record IsLoop (P : Program) (t : Thread) (j : ℕ) (labels : List Sides) (o 
 
 -- What is kept of the blocks that are open at place j.
 pub record Keeps (P : Program) (t : Thread) (j : ℕ) (labels : List Sides) (w : Walk) : Type 0 where
-  pub branches : AreKept (OnKept (IsBranch P t j labels)) (places branch_place (blocks_at t.lines j)) w.branches.items
+  pub branches : AreKept (OnKept (IsBranch P t j labels)) (places branch_place (blocks_at t.lines j)) w.branches
   pub peek : AreKept (IsPeeked P t j labels) (places peek_place (blocks_at t.lines j)) (listed w.peek)
-  pub loops : AreKept (OnKept (IsLoop P t j labels)) (places loop_place (blocks_at t.lines j)) w.loops.items
+  pub loops : AreKept (OnKept (IsLoop P t j labels)) (places loop_place (blocks_at t.lines j)) w.loops
 
 -- With these labels, the strongest for the lines so far, the walk stands at place j.
 pub record IsAt (P : Program) (t : Thread) (j : ℕ) (labels : List Sides) (w : Walk) : Type 0 where

@@ -1,6 +1,6 @@
 //! The arms of the peek that is open.
 
-ghost use Rattle.std.specs.Prelude.{◌≡◌, ◌∷◌, [], Bool, true, false, IsSome, IfSome, OnErr, Some};
+ghost use Rattle.std.specs.Prelude.{◌≡◌, ◌∷◌, [], Bool, true, false, IsSome, IfSome, None, OnErr, Some};
 ghost use Rattle.rc_lang.specs.Program.{DeclaresToken};
 ghost use Rattle.rc_rules.specs.Labels.{Dead};
 ghost use Rattle.rc_rules.specs.Rules as rules;
@@ -11,8 +11,10 @@ ghost use Rattle.rc_rules.specs.declared.mode.Peeked.TheVariants as peeks;
 ghost use Rattle.rc_verify.specs.Arms as spec;
 ghost use Rattle.rc_verify.specs.declared.arms.Arms as parts;
 
+use rc_lang::program::Program;
 use rc_rules::cause::Cause;
 use rc_rules::state::State;
+use std::marker::Model;
 
 /// What is known of the peek that is open: the state before its arms, and where their ends join.
 #[derive(Drop)]
@@ -24,24 +26,62 @@ pub struct Arms<'a> {
     pub agree: bool,
 }
 
+/// The peek that is open, if one is. Arms are large, so their room stays where none is.
+#[derive(Drop)]
+pub struct Peek<'a> {
+    arms: Arms<'a>,
+    is_open: bool,
+}
+
+impl<'a> Model for Peek<'a> {
+    ghost use Rattle.std.specs.Prelude.{Option, Some, None, cond};
+    ghost use Rattle.rc_verify.specs.declared.arms.Arms.{Arms};
+
+    ghost Value = { Option Arms };
+
+    ghost view = { λ p. cond p.is_open (Some p.arms) None };
+}
+
+impl<'a> Peek<'a> {
+    /// None is open.
+    pub fn none(program: &'a Program) -> Peek<'a>
+        ensures { result ≡ None }
+    {
+        Peek {
+            arms: Arms {
+                before: State::dead(program, None),
+                ends: State::dead(program, None),
+                agree: true,
+            },
+            is_open: false,
+        }
+    }
+
+    /// None is open any more.
+    pub fn close(&mut self)
+        ensures { self.new ≡ None }
+    {
+        self.is_open = false;
+    }
+}
+
 /// `peek_cqe x {`, which asks for the lock, and then writes the variable: what was known of a flag is lost.
 pub fn open_peek<'a>(
     state: &mut State<'a>,
-    peek: &mut Option<Arms<'a>>,
+    peek: &mut Peek<'a>,
     variable: usize,
 ) -> Result<(), Cause>
     ensures opens { spec.OpensPeek variable state.old state.new peek.new result }
     ensures stays { OnErr result (state.new ≡ state.old) }
 {
-    let mut ends = state.again();
-    ends.arm_none()?;
-    ends.die();
+    let arms = &mut peek.arms;
+    arms.ends.copy_from(state);
+    arms.ends.arm_none()?;
+    arms.ends.die();
     peek_into(state, variable);
-    *peek = Some(Arms {
-        before: state.again(),
-        ends,
-        agree: true,
-    });
+    arms.before.copy_from(state);
+    arms.agree = true;
+    peek.is_open = true;
     Ok(())
 }
 
@@ -55,20 +95,16 @@ fn peek_into(state: &mut State, variable: usize)
 }
 
 /// The arms of the peek that is open. There is one.
-pub fn arms_of<'a, 'b>(peek: &'b Option<Arms<'a>>) -> &'b Arms<'a>
+pub fn arms_of<'a, 'b>(peek: &'b Peek<'a>) -> &'b Arms<'a>
     requires { IsSome peek.now }
     ensures { peek.now ≡ Some result.now }
 {
-    match peek {
-        Some(arms) => arms,
-        None => unreachable!(),
-    }
+    &peek.arms
 }
 
 /// `case U {`. The token is declared.
 pub fn enter_case<'a>(state: &mut State<'a>, arms: &Arms<'a>, user_data: u64) -> Result<(), Cause>
-    requires of { states.program_of arms.now.before ≡ states.program_of state.old }
-    requires declared { DeclaresToken (states.program_of arms.now.before) user_data }
+    requires { DeclaresToken (states.program_of arms.now.before) user_data }
     ensures { states.Gives arms.now.before state.new result (rules.asks_both (states.label_of arms.now.before) (λ z bag m. rules.peek_premises m)) (λ z. rules.case_at user_data (states.label_of arms.now.before z) ∷ []) }
 {
     state.copy_from(&arms.before);
@@ -78,7 +114,6 @@ pub fn enter_case<'a>(state: &mut State<'a>, arms: &Arms<'a>, user_data: u64) ->
 
 /// `other {`.
 pub fn enter_other<'a>(state: &mut State<'a>, arms: &Arms<'a>) -> Result<(), Cause>
-    requires { states.program_of arms.now.before ≡ states.program_of state.old }
     ensures { states.Gives arms.now.before state.new result (rules.asks_both (states.label_of arms.now.before) (λ z bag m. rules.peek_premises m)) (λ z. rules.peek_at peeks.SeesOther (states.label_of arms.now.before z) ∷ []) }
 {
     state.copy_from(&arms.before);
@@ -87,7 +122,6 @@ pub fn enter_other<'a>(state: &mut State<'a>, arms: &Arms<'a>) -> Result<(), Cau
 
 /// `none {`.
 pub fn enter_none<'a>(state: &mut State<'a>, arms: &Arms<'a>) -> Result<(), Cause>
-    requires { states.program_of arms.now.before ≡ states.program_of state.old }
     ensures { states.Gives arms.now.before state.new result (rules.asks_both (states.label_of arms.now.before) (λ z bag m. rules.peek_premises m)) (λ z. rules.peek_at peeks.Unseen (states.label_of arms.now.before z) ∷ []) }
 {
     state.copy_from(&arms.before);
@@ -131,7 +165,7 @@ fn end_arm<'a>(state: &mut State<'a>, arms: &mut Arms<'a>)
 }
 
 /// The closing brace of an arm, of the peek that is open. There is one.
-pub fn end_arms<'a>(state: &mut State<'a>, peek: &mut Option<Arms<'a>>)
+pub fn end_arms<'a>(state: &mut State<'a>, peek: &mut Peek<'a>)
     requires kept { IsSome peek.old }
     requires sides { states.AgreeOnLock (states.label_of state.old true) (states.label_of state.old false) }
     requires of { IfSome peek.old (λ a. states.IsOfSame state.old a.ends) }
@@ -140,25 +174,20 @@ pub fn end_arms<'a>(state: &mut State<'a>, peek: &mut Option<Arms<'a>>)
     ensures same { states.IsOfSame state.new state.old }
     ensures ends { (a : parts.Arms) → peek.old ≡ Some a → spec.EndsArmIn a peek.new state.old }
 {
-    match peek {
-        Some(arms) => end_arm(state, arms),
-        None => unreachable!(),
-    }
+    end_arm(state, &mut peek.arms);
 }
 
 /// The closing brace of a peek. There is one open.
-pub fn close_peek<'a>(state: &mut State<'a>, peek: &mut Option<Arms<'a>>) -> Result<(), Cause>
+pub fn close_peek<'a>(state: &mut State<'a>, peek: &mut Peek<'a>) -> Result<(), Cause>
     requires { IsSome peek.old }
     ensures closes { IfSome peek.old (λ a. spec.ClosesPeek a state.new result) }
     ensures none { peek.new ≡ None }
     ensures stays { OnErr result (state.new ≡ state.old) }
 {
-    let Some(arms) = peek.take() else {
-        unreachable!();
-    };
-    if !arms.agree {
+    peek.is_open = false;
+    if !peek.arms.agree {
         return Err(Cause::JoinMismatch);
     }
-    *state = arms.ends;
+    state.copy_from(&peek.arms.ends);
     Ok(())
 }

@@ -9,16 +9,15 @@ ghost use Rattle.rc_verify.specs.Arms.{two};
 ghost use Rattle.rc_verify.specs.Branches.{KeepsOther, MayTest};
 ghost use Rattle.rc_verify.specs.Kept.{last_of, rest_of};
 
-use crate::kept::{Kept, innermost, let_go};
+use crate::kept::Kept;
 use rc_lang::lines::Test;
 use rc_lang::program::Items;
 use rc_rules::cause::Cause;
 use rc_rules::state::State;
-use std::mem;
 
 /// What goes to a branch of a test, as far as the test is of the thread's flag: to the first, where the test holds, or
 /// to the other.
-fn take_branch(state: &mut State, test: Test, first: bool)
+pub fn take_branch(state: &mut State, test: Test, first: bool)
     ensures { states.Becomes state.old state.new (λ z. sides.gate (sides.test_goes state.old.flag test z first) (states.label_of state.old z) ∷ []) }
 {
     if let Test::Compare(variable, comparison, n) = test {
@@ -53,42 +52,34 @@ pub fn enter_if<'a>(
     test: Test,
     lists: &[Items],
 ) -> Result<(), Cause>
-    requires few { length branches.old.items < 31 }
+    requires few { length branches.old < 31 }
     requires test { MayTest (states.program_of state.old) (map view_items lists.now) test }
     requires small { states.OnBoth states.IsSmall state.old }
     ensures gives { states.Gives state.old state.new result (rules.asks_both (states.label_of state.old) (λ z bag m. rules.test_premises m test)) (λ z. sides.gate (sides.test_goes state.old.flag test z true) (rules.goes (states.label_of state.old z) (λ bag m. rules.test_effect (states.program_of state.old) (map view_items lists.now) bag m test)) ∷ []) }
-    ensures kept { OnOk result (KeepsOther test state.old branches.old.items branches.new.items) }
+    ensures kept { OnOk result (KeepsOther test state.old branches.old branches.new) }
 {
-    let mut other = state.again();
-    test_state(state, test, lists)?;
-    take_branch(&mut other, test, false);
-    branches.push(Some(other));
-    Ok(())
+    branches.keep_skipped(state, test);
+    test_state(state, test, lists)
 }
 
 /// `} else {`: where the test may fail goes on, and the end of the first branch is kept.
 pub fn turn<'a>(state: &mut State<'a>, branches: &mut Kept<'a>)
-    requires kept { IsSome (last_of branches.old.items) }
-    requires few { length branches.old.items < 32 }
-    ensures state { last_of branches.old.items ≡ Some state.new }
-    ensures kept { branches.new.items ≡ rest_of branches.old.items ++ Some state.old ∷ [] }
+    requires { IsSome (last_of branches.old) }
+    ensures state { last_of branches.old ≡ Some state.new }
+    ensures kept { branches.new ≡ rest_of branches.old ++ Some state.old ∷ [] }
 {
-    let last = branches.len() - 1;
-    match &mut branches.as_mut_slice()[last] {
-        Some(kept) => mem::swap(state, kept),
-        None => unreachable!(),
-    }
+    branches.swap(state);
 }
 
 /// The closing brace of an if.
 pub fn end_if<'a>(state: &mut State<'a>, branches: &mut Kept<'a>) -> Result<(), Cause>
-    requires kept { IsSome (last_of branches.old.items) }
-    requires of { (s : states.State) → last_of branches.old.items ≡ Some s → states.IsOfSame s state.old }
-    requires alike { (s : states.State) → last_of branches.old.items ≡ Some s → (y z : Bool) → states.AgreeOnLock (states.label_of state.old y) (states.label_of s z) }
-    ensures gives { (s : states.State) → last_of branches.old.items ≡ Some s → states.Gives state.old state.new result (rules.joins_both (two (states.label_of state.old) (states.label_of s))) (two (states.label_of state.old) (states.label_of s)) }
-    ensures rest { branches.new.items ≡ rest_of branches.old.items }
+    requires kept { IsSome (last_of branches.old) }
+    requires of { (s : states.State) → last_of branches.old ≡ Some s → states.IsOfSame s state.old }
+    requires alike { (s : states.State) → last_of branches.old ≡ Some s → (y z : Bool) → states.AgreeOnLock (states.label_of state.old y) (states.label_of s z) }
+    ensures gives { (s : states.State) → last_of branches.old ≡ Some s → states.Gives state.old state.new result (rules.joins_both (two (states.label_of state.old) (states.label_of s))) (two (states.label_of state.old) (states.label_of s)) }
+    ensures rest { branches.new ≡ rest_of branches.old }
 {
-    let answer = state.meet(innermost(branches));
-    let_go(branches);
+    let answer = state.meet(branches.innermost());
+    branches.let_go();
     answer
 }

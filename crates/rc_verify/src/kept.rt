@@ -1,41 +1,142 @@
 //! States that are kept until a block ends.
 
-ghost use Rattle.std.specs.Prelude.{◌≡◌, Some, IsSome};
+ghost use Rattle.std.specs.Prelude.{◌≡◌, ◌<◌, ◌∷◌, ◌++◌, [], length, Some, IsSome};
+ghost use Rattle.rc_rules.specs.States.{State as SpecState, label_of};
+ghost use Rattle.rc_verify.specs.Branches.{KeepsOther};
 ghost use Rattle.rc_verify.specs.Kept as spec;
+ghost use Rattle.rc_verify.specs.Loops.{FitsWith, KeepsDead, KeepsMeet};
 
+use crate::branches::take_branch;
 use arrayvec::ArrayVec;
+use rc_lang::lines::Test;
 use rc_rules::state::State;
+use std::marker::Model;
+use std::mem;
 
-/// A state for each open branch, or for each open loop, the innermost last: at most 31 blocks are open.
-pub type Kept<'a> = ArrayVec<Option<State<'a>>, 31>;
+/// A state for each open branch, or for each open loop, the innermost last: at most 31 blocks are open. States are
+/// large, so the room of one that was let go is written again.
+#[derive(Drop)]
+pub struct Kept<'a> {
+    rooms: ArrayVec<Option<State<'a>>, 31>,
+    // How many of the rooms are in use.
+    count: usize,
+}
 
-/// The innermost state. There is one.
-pub fn innermost<'a, 'b>(kept: &'b Kept<'a>) -> &'b State<'a>
-    requires { IsSome (spec.last_of kept.now.items) }
-    ensures { spec.last_of kept.now.items ≡ Some result.now }
+impl<'a> Model for Kept<'a> {
+    ghost use Rattle.std.specs.Prelude.{List, Option, length, take, ◌≤◌};
+    ghost use Rattle.rc_rules.specs.States.{State};
+
+    ghost Value = { List (Option State) };
+
+    ghost view = { λ k. take k.count k.rooms.items };
+
+    ghost invariant = { λ k. k.count ≤ length k.rooms.items };
+}
+
+// The state is in the room from now on.
+fn write<'a>(room: &mut Option<State<'a>>, state: &State<'a>)
+    ensures { room.new ≡ Some state.now }
 {
-    match kept.as_slice().last() {
-        Some(Some(state)) => state,
-        _ => unreachable!(),
+    match room {
+        Some(kept) => kept.copy_from(state),
+        None => *room = Some(state.again()),
     }
 }
 
-/// Lets the innermost state go.
-pub fn let_go(kept: &mut Kept)
-    ensures { kept.new.items ≡ spec.rest_of kept.old.items }
-{
-    let before = kept.len().saturating_sub(1);
-    kept.truncate(before);
-}
+impl<'a> Kept<'a> {
+    /// Nothing is kept yet.
+    pub fn new() -> Kept<'a>
+        ensures { result ≡ [] }
+    {
+        Kept {
+            rooms: ArrayVec::new(),
+            count: 0,
+        }
+    }
 
-/// Takes the innermost state. There is one.
-pub fn take<'a>(kept: &mut Kept<'a>) -> State<'a>
-    requires { IsSome (spec.last_of kept.old.items) }
-    ensures value { spec.last_of kept.old.items ≡ Some result }
-    ensures rest { kept.new.items ≡ spec.rest_of kept.old.items }
-{
-    match kept.pop() {
-        Some(Some(state)) => state,
-        _ => unreachable!(),
+    /// Nothing is kept any more.
+    pub fn clear(&mut self)
+        ensures { self.new ≡ [] }
+    {
+        self.count = 0;
+    }
+
+    /// Keeps the state too.
+    pub fn keep(&mut self, state: &State<'a>)
+        requires { length self.old < 31 }
+        ensures { self.new ≡ self.old ++ Some state.now ∷ [] }
+    {
+        if self.count < self.rooms.len() {
+            write(&mut self.rooms.as_mut_slice()[self.count], state);
+        } else {
+            self.rooms.push(Some(state.again()));
+        }
+        self.count += 1;
+    }
+
+    /// Keeps a state too that nothing reaches, of the same program and thread as this one.
+    pub fn keep_dead(&mut self, state: &State<'a>)
+        requires { length self.old < 31 }
+        ensures { KeepsDead state.now self.old self.new }
+    {
+        self.keep(state);
+        if let Some(kept) = &mut self.rooms.as_mut_slice()[self.count - 1] {
+            kept.die();
+        }
+    }
+
+    /// Keeps too what goes from this state to the second branch of a test, or past an if without one.
+    pub fn keep_skipped(&mut self, state: &State<'a>, test: Test)
+        requires { length self.old < 31 }
+        ensures { KeepsOther test state.now self.old self.new }
+    {
+        self.keep(state);
+        if let Some(kept) = &mut self.rooms.as_mut_slice()[self.count - 1] {
+            take_branch(kept, test, false);
+        }
+    }
+
+    /// The innermost state. There is one.
+    pub fn innermost(&self) -> &State<'a>
+        requires { IsSome (spec.last_of self.now) }
+        ensures { spec.last_of self.now ≡ Some result.now }
+    {
+        match &self.rooms.as_slice()[self.count - 1] {
+            Some(state) => state,
+            None => unreachable!(),
+        }
+    }
+
+    /// Puts the state in the place of the innermost one, which it becomes. There is one.
+    pub fn swap(&mut self, state: &mut State<'a>)
+        requires { IsSome (spec.last_of self.old) }
+        ensures state { spec.last_of self.old ≡ Some state.new }
+        ensures kept { self.new ≡ spec.rest_of self.old ++ Some state.old ∷ [] }
+    {
+        match &mut self.rooms.as_mut_slice()[self.count - 1] {
+            Some(kept) => mem::swap(state, kept),
+            None => unreachable!(),
+        }
+    }
+
+    /// The innermost state becomes the one where it and this end join. The slot is at the same stage in both.
+    pub fn join(&mut self, end: &State<'a>)
+        requires kept { IsSome (spec.last_of self.old) }
+        requires fits { (s : SpecState) → spec.last_of self.old ≡ Some s → FitsWith s end.now }
+        ensures { (s : SpecState) → spec.last_of self.old ≡ Some s → KeepsMeet s (label_of end.now) self.old self.new }
+    {
+        match &mut self.rooms.as_mut_slice()[self.count - 1] {
+            Some(exits) => {
+                let _ = exits.meet(end);
+            }
+            None => unreachable!(),
+        }
+    }
+
+    /// Lets the innermost state go.
+    pub fn let_go(&mut self)
+        ensures { self.new ≡ spec.rest_of self.old }
+    {
+        self.count = self.count.saturating_sub(1);
     }
 }

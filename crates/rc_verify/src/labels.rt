@@ -49,12 +49,11 @@ impl<'a> Labels<'a> {
         ensures thread { slice_get program.now.threads thread ≡ Some result.thread }
         ensures place { result.place ≡ 0 }
     {
-        let mut walk = Walk::new(program);
-        walk.begin(program, thread);
+        let part = &program.threads()[thread as usize];
         Labels {
-            walk,
+            walk: Walk::new(program, thread),
             program,
-            part: &program.threads()[thread as usize],
+            part,
             place: 0,
             refused: None,
         }

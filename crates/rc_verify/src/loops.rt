@@ -11,7 +11,7 @@ ghost use Rattle.rc_verify.specs.Kept.{last_of, rest_of};
 ghost use Rattle.rc_verify.specs.Loops as spec;
 
 use crate::arms::forget_peeked;
-use crate::kept::{Kept, innermost, let_go, take};
+use crate::kept::Kept;
 use rc_lang::program::Items;
 use rc_rules::cause::Cause;
 use rc_rules::state::State;
@@ -22,13 +22,13 @@ pub fn open_loop<'a>(
     loops: &mut Kept<'a>,
     items: &Items,
 ) -> Result<(), Cause>
-    requires few { length loops.old.items < 31 }
+    requires few { length loops.old < 31 }
     requires list { IsList (states.program_of state.old) (view_items items.now) }
     ensures gives { states.Gives state.old state.new result (rules.asks_both (states.label_of state.old) (λ z bag m. rules.may_loop (states.program_of state.old) 13 (view_items items.now) z bag m)) (λ z. sides.brings (λ y. sides.turns (sides.forgets state.old.flag) y z) (λ s. rules.top (states.program_of state.old) (view_items items.now) z s) (states.label_of state.old)) }
-    ensures kept { OnOk result (spec.KeepsDead state.old loops.old.items loops.new.items) }
+    ensures kept { OnOk result (spec.KeepsDead state.old loops.old loops.new) }
 {
     state.enter_loop(items)?;
-    loops.push(Some(State::dead(state.program(), state.flag())));
+    loops.keep_dead(state);
     Ok(())
 }
 
@@ -38,14 +38,14 @@ pub fn close_loop<'a>(
     loops: &mut Kept<'a>,
     items: &Items,
 ) -> Result<(), Cause>
-    requires kept { IsSome (last_of loops.old.items) }
-    requires of { (s : states.State) → last_of loops.old.items ≡ Some s → states.program_of s ≡ states.program_of state.old }
-    ensures closes { spec.ClosesLoop (rules.asks_both (states.label_of state.old) (λ z bag m. rules.may_loop (states.program_of state.old) 14 (view_items items.now) z bag m)) loops.old.items loops.new.items state.new result }
+    requires kept { IsSome (last_of loops.old) }
+    requires of { (s : states.State) → last_of loops.old ≡ Some s → states.program_of s ≡ states.program_of state.old }
+    ensures closes { spec.ClosesLoop (rules.asks_both (states.label_of state.old) (λ z bag m. rules.may_loop (states.program_of state.old) 14 (view_items items.now) z bag m)) loops.old loops.new state.new result }
     ensures stays { OnErr result (state.new ≡ state.old) }
 {
     state.loop_end(items)?;
-    state.copy_from(innermost(loops));
-    let_go(loops);
+    state.copy_from(loops.innermost());
+    loops.let_go();
     Ok(())
 }
 
@@ -63,18 +63,6 @@ fn carry(end: &mut State, releases: bool)
     }
 }
 
-/// A break joins the ones before it. The slot is at the same stage in all of them.
-fn join<'a>(loops: &mut Kept<'a>, end: &State<'a>)
-    requires few { length loops.old.items < 32 }
-    requires kept { IsSome (last_of loops.old.items) }
-    requires fits { (s : states.State) → last_of loops.old.items ≡ Some s → spec.FitsWith s end.now }
-    ensures { (s : states.State) → last_of loops.old.items ≡ Some s → spec.KeepsMeet s (states.label_of end.now) loops.old.items loops.new.items }
-{
-    let mut exits = take(loops);
-    let _ = exits.meet(end);
-    loops.push(Some(exits));
-}
-
 /// `break`, which may release the lock. Nothing comes from above behind it.
 pub fn leave_loop<'a>(
     state: &mut State<'a>,
@@ -83,15 +71,14 @@ pub fn leave_loop<'a>(
 ) -> Result<(), Cause>
     requires locked { releases ≡ true → states.OnBoth states.IsLocked state.old }
     requires sides { states.AgreeOnLock (states.label_of state.old true) (states.label_of state.old false) }
-    requires few { length loops.old.items < 32 }
-    requires kept { IsSome (last_of loops.old.items) }
-    requires fits { (s : states.State) → last_of loops.old.items ≡ Some s → spec.MayBreak s state.old releases }
+    requires kept { IsSome (last_of loops.old) }
+    requires fits { (s : states.State) → last_of loops.old ≡ Some s → spec.MayBreak s state.old releases }
     ensures gives { states.Gives state.old state.new result (rules.asks_both (states.label_of state.old) (λ z bag m. rules.may_break (states.program_of state.old) releases m)) (λ z. []) }
-    ensures kept { OnOk result ((s : states.State) → last_of loops.old.items ≡ Some s → spec.Breaks s (spec.taken releases state.old) loops.old.items loops.new.items) }
+    ensures kept { OnOk result ((s : states.State) → last_of loops.old ≡ Some s → spec.Breaks s (spec.taken releases state.old) loops.old loops.new) }
 {
     let mut end = state.again();
     state.break_out(releases)?;
     carry(&mut end, releases);
-    join(loops, &end);
+    loops.join(&end);
     Ok(())
 }

@@ -9,12 +9,11 @@ ghost use Rattle.rc_rules.specs.States.{OnBoth, program_of};
 ghost use Rattle.rc_verify.specs.Walk as spec;
 
 use crate::arms::{
-    Arms, arms_of, close_peek, end_arms, enter_case, enter_none, enter_other, open_peek,
+    Peek, arms_of, close_peek, end_arms, enter_case, enter_none, enter_other, open_peek,
 };
 use crate::branches::{end_if, enter_if, turn};
 use crate::kept::Kept;
 use crate::loops::{close_loop, leave_loop, open_loop};
-use arrayvec::ArrayVec;
 use rc_lang::lines::Stmt;
 use rc_lang::program::{Program, Thread};
 use rc_rules::cause::Cause;
@@ -27,22 +26,23 @@ pub struct Walk<'a> {
     /// Where the test of each open if may fail, or behind its else the end of its first branch.
     branches: Kept<'a>,
     /// At most one peek is open.
-    peek: Option<Arms<'a>>,
+    peek: Peek<'a>,
     /// What is known where the breaks so far of each open loop join.
     loops: Kept<'a>,
 }
 
 impl<'a> Walk<'a> {
-    /// A walk that stands nowhere yet. It is large, so all threads are walked over with one.
-    pub fn new(program: &'a Program) -> Walk<'a>
-        ensures nowhere { OnBoth (λ s. s ≡ Dead) result.state }
-        ensures of { program_of result.state ≡ program.now }
+    /// Stands before the first line of a thread. A walk is large, so all threads are walked over with one.
+    pub fn new(program: &'a Program, thread: u32) -> Walk<'a>
+        requires made { IsProgram program.now }
+        requires there { thread < length program.now.threads }
+        ensures { (t : programs.Thread) → slice_get program.now.threads thread ≡ Some t → spec.Reaches program.now t 0 result }
     {
         Walk {
-            state: State::dead(program, None),
-            branches: ArrayVec::new(),
-            peek: None,
-            loops: ArrayVec::new(),
+            state: State::first(program, thread),
+            branches: Kept::new(),
+            peek: Peek::none(program),
+            loops: Kept::new(),
         }
     }
 
@@ -54,7 +54,7 @@ impl<'a> Walk<'a> {
     {
         self.state = State::first(program, thread);
         self.branches.clear();
-        self.peek = None;
+        self.peek.close();
         self.loops.clear();
     }
 }

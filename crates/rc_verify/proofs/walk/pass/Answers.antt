@@ -2,11 +2,11 @@ use Rattle.std.proofs.Common.{ap, arith, map}
 use Rattle.rc_lang.specs.declared.lines.Stmt.TheVariants.{Put, Loop, EndLoop}
 use Rattle.rc_lang.specs.Parts.{view_items}
 use Rattle.rc_lang.proofs.Closing.{opens_case, opens_nothing, opens_other}
-use Rattle.rc_verify.proofs.Arming.{arm_stays, case_declared, case_of, case_some, case_turns, none_of, none_some, none_turns, other_of, other_some, other_turns}
-use Rattle.rc_verify.proofs.Branching.{else_some, else_turns, end_alike, end_of, end_some, end_stays, end_turns, few_here, if_turns, may_test, room_here}
+use Rattle.rc_verify.proofs.Arming.{arm_stays, case_declared, case_some, case_turns, none_some, none_turns, other_some, other_turns}
+use Rattle.rc_verify.proofs.Branching.{else_some, else_turns, end_alike, end_of, end_some, end_stays, end_turns, if_turns, may_test, room_here}
 use Rattle.rc_verify.proofs.Breaking.{break_locked, break_some, break_turns, may_leave}
 use Rattle.rc_verify.proofs.Ending.{arm_alike, arm_end_turns, arm_of, arm_some, end_peek_some, end_peek_turns}
-use Rattle.rc_verify.proofs.Looping.{end_loop_of, end_loop_some, end_loop_turns, few_loops_here, loop_list, loop_room, loop_turns}
+use Rattle.rc_verify.proofs.Looping.{end_loop_of, end_loop_some, end_loop_turns, loop_list, loop_room, loop_turns}
 use Rattle.rc_verify.proofs.Peeking.{peek_turns}
 use Rattle.rc_verify.proofs.Placing.{at, items_here, loop_there}
 use Rattle.rc_verify.proofs.Plainly.{do_turns, lock_turns, locked_here, put_turns, release_turns, sides_here, small_here, unlocked_here}
@@ -49,11 +49,8 @@ enter_if-requires-clause-small c = small_here _ _ _ _ c.requires.reaches _ c.req
 pub returns-in-If-clause-turns : goal.returns-in-If-clause-turns
 returns-in-If-clause-turns c = if_turns _ _ _ _ c.requires.reaches c.in-If.test _ c.enter_if.new.state c.enter_if.new.branches c.enter_if.result (at c.requires.stands c.in-If.is) (ap (map view_items) c.deref.ensures.value) c.enter_if.ensures.gives c.enter_if.ensures.kept
 
-pub turn-requires-clause-kept : goal.turn-requires-clause-kept
-turn-requires-clause-kept c = else_some _ _ _ _ c.requires.reaches c.in-Else.field-0 (at c.requires.stands c.in-Else.is)
-
-pub turn-requires-clause-few : goal.turn-requires-clause-few
-turn-requires-clause-few c = few_here _ _ _ _ c.requires.reaches
+pub turn-requires : goal.turn-requires
+turn-requires c = else_some _ _ _ _ c.requires.reaches c.in-Else.field-0 (at c.requires.stands c.in-Else.is)
 
 pub returns-in-Else-clause-turns : goal.returns-in-Else-clause-turns
 returns-in-Else-clause-turns c = else_turns _ _ _ _ c.requires.reaches c.in-Else.field-0 c.turn.new.state c.turn.new.branches (at c.requires.stands c.in-Else.is) c.turn.ensures.state c.turn.ensures.kept
@@ -76,11 +73,8 @@ returns-in-Peek-clause-turns c = peek_turns _ _ _ _ c.requires.reaches c.in-Peek
 pub arms_of-requires : goal.arms_of-requires
 arms_of-requires c = case_some _ _ _ _ c.requires.reaches c.in-Case.field-0 c.in-Case.user_data (at c.requires.stands c.in-Case.is)
 
-pub enter_case-requires-clause-of : goal.enter_case-requires-clause-of
-enter_case-requires-clause-of c = case_of _ _ _ _ c.requires.reaches c.in-Case.field-0 c.in-Case.user_data c.arms_of.result.now (at c.requires.stands c.in-Case.is) c.arms_of.ensures
-
-pub enter_case-requires-clause-declared : goal.enter_case-requires-clause-declared
-enter_case-requires-clause-declared c = case_declared _ _ _ _ c.requires.reaches c.in-Case.field-0 c.in-Case.user_data c.arms_of.result.now (at c.requires.stands c.in-Case.is) c.arms_of.ensures
+pub enter_case-requires : goal.enter_case-requires
+enter_case-requires c = case_declared _ _ _ _ c.requires.reaches c.in-Case.field-0 c.in-Case.user_data c.arms_of.result.now (at c.requires.stands c.in-Case.is) c.arms_of.ensures
 
 pub returns-in-Case-clause-turns : goal.returns-in-Case-clause-turns
 returns-in-Case-clause-turns c = case_turns _ _ _ _ c.requires.reaches c.in-Case.field-0 c.in-Case.user_data c.arms_of.result.now c.enter_case.new.state c.enter_case.result (at c.requires.stands c.in-Case.is) c.arms_of.ensures c.enter_case.ensures
@@ -88,17 +82,11 @@ returns-in-Case-clause-turns c = case_turns _ _ _ _ c.requires.reaches c.in-Case
 pub arms_of-requires-in-Other : goal.arms_of-requires-in-Other
 arms_of-requires-in-Other c = other_some _ _ _ _ c.requires.reaches c.in-Other.field-0 (at c.requires.stands c.in-Other.is)
 
-pub enter_other-requires : goal.enter_other-requires
-enter_other-requires c = other_of _ _ _ _ c.requires.reaches c.in-Other.field-0 c.arms_of-in-Other.result.now (at c.requires.stands c.in-Other.is) c.arms_of-in-Other.ensures
-
 pub returns-in-Other-clause-turns : goal.returns-in-Other-clause-turns
 returns-in-Other-clause-turns c = other_turns _ _ _ _ c.requires.reaches c.in-Other.field-0 c.arms_of-in-Other.result.now c.enter_other.new.state c.enter_other.result (at c.requires.stands c.in-Other.is) c.arms_of-in-Other.ensures c.enter_other.ensures
 
 pub arms_of-requires-in-Nothing : goal.arms_of-requires-in-Nothing
 arms_of-requires-in-Nothing c = none_some _ _ _ _ c.requires.reaches c.in-Nothing.field-0 (at c.requires.stands c.in-Nothing.is)
-
-pub enter_none-requires : goal.enter_none-requires
-enter_none-requires c = none_of _ _ _ _ c.requires.reaches c.in-Nothing.field-0 c.arms_of-in-Nothing.result.now (at c.requires.stands c.in-Nothing.is) c.arms_of-in-Nothing.ensures
 
 pub returns-in-Nothing-clause-turns : goal.returns-in-Nothing-clause-turns
 returns-in-Nothing-clause-turns c = none_turns _ _ _ _ c.requires.reaches c.in-Nothing.field-0 c.arms_of-in-Nothing.result.now c.enter_none.new.state c.enter_none.result (at c.requires.stands c.in-Nothing.is) c.arms_of-in-Nothing.ensures c.enter_none.ensures
@@ -153,9 +141,6 @@ leave_loop-requires-clause-locked c = break_locked _ _ _ _ c.requires.reaches c.
 
 pub leave_loop-requires-clause-sides : goal.leave_loop-requires-clause-sides
 leave_loop-requires-clause-sides c = sides_here _ _ _ _ c.requires.reaches _ c.requires.stands
-
-pub leave_loop-requires-clause-few : goal.leave_loop-requires-clause-few
-leave_loop-requires-clause-few c = few_loops_here _ _ _ _ c.requires.reaches
 
 pub leave_loop-requires-clause-kept : goal.leave_loop-requires-clause-kept
 leave_loop-requires-clause-kept c = break_some _ _ _ _ c.requires.reaches c.in-Break.field-0 c.in-Break.releases c.in-Break.field-2 (at c.requires.stands c.in-Break.is)
