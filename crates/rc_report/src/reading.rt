@@ -25,7 +25,7 @@ pub fn read_text<R: Source>(alloc: Global, reader: &mut R) -> Result<Vec<u8>, En
     ensures no_write { OnlyFailsToRead result }
 {
     let mut text = Vec::new(alloc);
-    let mut buffer = [0; 1024];
+    let mut buffer = [0; 8192];
     for turn in 0..MOST_READS {
         match reader.read(&mut buffer) {
             Ok(0) => return Ok(text),
