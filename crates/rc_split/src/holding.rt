@@ -84,9 +84,9 @@ impl<'a> Holding<'a> {
         self.credits = other.credits;
     }
 
-    /// Becomes a holding of this program. What it holds then is of no meaning.
+    /// Becomes a holding of this program, with the rows that it has.
     pub fn belong_to(&mut self, program: &'a Program)
-        ensures { self.new.program ≡ program.now }
+        ensures { self.new ≡ record self.old { program = program.now } }
     {
         // As in `nothing`.
         let _ = program.entries();
