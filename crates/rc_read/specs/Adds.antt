@@ -164,12 +164,12 @@ abbrev pub second_of : List (List ℕ) → List ℕ
 second_of ws = unwrap_or (slice_get ws 1) []
 
 -- the head with the rings that a line asks for
-abbrev pub with_rings : ℕ → Rings → Head
-with_rings version rings = record { version = version; entries = rings.entries; completion_entries = rings.completion_entries; left = rings.left }
+abbrev pub head_with_rings : ℕ → Rings → Head
+head_with_rings version rings = record { version = version; entries = rings.entries; completion_entries = rings.completion_entries; left = rings.left }
 
 abbrev pub added : Sheet → List (List ℕ) → List Item → Says → Sheet
 added s ws items (Version n) = record s { region = region.Second; head = record s.head { version = n } }
-added s ws items (Ring rings) = record s { region = region.Declarations; head = with_rings s.head.version rings }
+added s ws items (Ring rings) = record s { region = region.Declarations; head = head_with_rings s.head.version rings }
 added s ws items (File f) = record s { files = s.files ++ f ∷ [] }
 added s ws items (Buffer bytes shares) = record s { buffers = s.buffers ++ record { name = second_of ws; bytes = bytes; shares = shares } ∷ [] }
 added s ws items (Token t) = record s { tokens = s.tokens ++ t ∷ [] }

@@ -30,8 +30,8 @@ fn second_of<'a>(words: &[&'a [u8]]) -> &'a [u8]
 }
 
 // The head with the rings that a line asks for.
-fn with_rings(version: u32, rings: Rings) -> Head
-    ensures { result ≡ spec.with_rings version rings }
+fn head_with_rings(version: u32, rings: Rings) -> Head
+    ensures { result ≡ spec.head_with_rings version rings }
 {
     Head {
         version,
@@ -175,7 +175,7 @@ impl Parts {
             }
             Says::Ring(rings) => {
                 self.region = Region::Declarations;
-                self.head = with_rings(self.head.version, rings);
+                self.head = head_with_rings(self.head.version, rings);
                 Ok(())
             }
             Says::File(file) => Ok(self.files.push(file)?),
