@@ -28,7 +28,7 @@ use Rattle.rc_rules.specs.declared.mode.Slot.TheVariants.{Closed}
 use Rattle.rc_rules.specs.Labels.{Label, Dead, Live, Weaker, WeakerThanEach}
 use Rattle.rc_rules.specs.Labellings.{IsGood, IsGoodAt, here, label_at, skipped}
 use Rattle.rc_rules.specs.declared.flag.Write.TheVariants.{Anything}
-use Rattle.rc_rules.specs.Sides.{Sides, brings, forgets, may_skip, nowhere, on, test_goes, turns, write_of, write_to}
+use Rattle.rc_rules.specs.Sides.{Sides, brings, forgets, may_skip, on, test_goes, turns, unreached, write_of, write_to}
 use Rattle.rc_rules.specs.Premises.{Meets, Premise}
 use Rattle.rc_rules.specs.Rules.{asks, asks_both, broken, case_at, goes, may_break, may_loop, may_release, op_effect, op_premises, peek_at, peek_premises, put_effect, put_premises, test_effect, test_premises, top_mode, with_peeked}
 use Rattle.rc_rules.specs.States.{is_locked}
@@ -106,7 +106,7 @@ module _ (P : Program) (wf : IsProgram P) (i : ℕ) (thread : Thread) (labels : 
 
   -- the label of a place before a line, as the rule of that line sees it
   known_is : (k j : ℕ) (z : Bool) → k ≤ j → label_at (take (j + 1) labels) k z ≡ label_at labels k z
-  known_is k j z le = ap (on z) (get_or-take (j + 1) labels k nowhere (omega arith))
+  known_is k j z le = ap (on z) (get_or-take (j + 1) labels k unreached (omega arith))
 
   here_is : (k : ℕ) (z : Bool) (s : Stmt) → stmt_at lines k ≡ Some s → here (take k lines) (take (k + 1) labels) z ≡ label_at labels k z
   here_is k z s e = let l = line_with lines k s e in ap (λ n. label_at (take (k + 1) labels) n z) (len_take k lines l.0 l.1) ∙ known_is k k z (omega arith)

@@ -11,7 +11,7 @@ use Rattle.rc_split.specs.Bags.{Part, ShareOf, TokenOf, Credit, bag_of}
 use Rattle.rc_split.specs.Holdings.{mark_at}
 use Rattle.rc_split.specs.Pools.{Pool, empty_pool, overfills, pooled}
 use Rattle.rc_split.proofs.PoolBags.{one_share, one_token, shares_in, tokens_in}
-use Rattle.rc_rules.specs.Rules.{fits, has_room, limit}
+use Rattle.rc_rules.specs.Rules.{has_room, is_within_limit, limit}
 
 -- ---- the items of a put and of a take
 
@@ -82,17 +82,17 @@ token_there (t ∷ ts) u e = elim (or_cases (nat_eq t u) (list_any (λ v. nat_eq
 -- ---- tests of all parts that items name
 
 module _ (P : Program) (items : Items) (b : Part → ℕ) (few : (p : Part) → b p + bag_of items p ≤ limit P p) where
-  all_shares : (ss : List Share) → list_all (λ (s : Share). fits P b items (ShareOf s.buffer)) ss ≡ true
+  all_shares : (ss : List Share) → list_all (λ (s : Share). is_within_limit P b items (ShareOf s.buffer)) ss ≡ true
   all_shares [] = refl
-  all_shares (s ∷ ss) = and_from (fits P b items (ShareOf s.buffer)) _ (le-leb _ _ (few (ShareOf s.buffer))) (all_shares ss)
+  all_shares (s ∷ ss) = and_from (is_within_limit P b items (ShareOf s.buffer)) _ (le-leb _ _ (few (ShareOf s.buffer))) (all_shares ss)
 
-  all_tokens : (ts : List ℕ) → list_all (λ u. fits P b items (TokenOf u)) ts ≡ true
+  all_tokens : (ts : List ℕ) → list_all (λ u. is_within_limit P b items (TokenOf u)) ts ≡ true
   all_tokens [] = refl
-  all_tokens (u ∷ ts) = and_from (fits P b items (TokenOf u)) _ (le-leb _ _ (few (TokenOf u))) (all_tokens ts)
+  all_tokens (u ∷ ts) = and_from (is_within_limit P b items (TokenOf u)) _ (le-leb _ _ (few (TokenOf u))) (all_tokens ts)
 
   -- A thread has room for what nobody else has.
   pub room_for : has_room P b items ≡ true
-  room_for = and_from _ (fits P b items Credit) (and_from _ _ (all_shares items.shares) (all_tokens items.tokens)) (le-leb _ _ (few Credit))
+  room_for = and_from _ (is_within_limit P b items Credit) (and_from _ _ (all_shares items.shares) (all_tokens items.tokens)) (le-leb _ _ (few Credit))
 
 module _ (P : Program) (pool : Pool) (items : Items) (few : (p : Part) → pooled P pool p + bag_of items p ≤ limit P p) where
   no_share_over : (ss : List Share) → ((b : ℕ) → shares_in ss b ≤ bag_of items (ShareOf b)) → list_any (λ (s : Share). nat_lt (shares_at P.buffers s.buffer) (pooled P pool (ShareOf s.buffer) + s.count)) ss ≡ false

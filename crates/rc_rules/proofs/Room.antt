@@ -13,7 +13,7 @@ use Rattle.rc_rules.specs.declared.mode.Mode.TheVariants.{Unlocked, Locked}
 use Rattle.rc_rules.specs.declared.mode.Peeked.{Peeked}
 use Rattle.rc_rules.specs.declared.mode.Peeked.TheVariants.{Unseen, Sees, SeesOther}
 use Rattle.rc_rules.specs.Labels.{WeakerMode}
-use Rattle.rc_rules.specs.Rules.{limit, fits, has_room, names_peeked, names_peeked_in, can_take}
+use Rattle.rc_rules.specs.Rules.{limit, is_within_limit, has_room, names_peeked, names_peeked_in, can_take}
 use Rattle.rc_rules.specs.States.{IsFreeIn, IsFreeFor}
 
 -- ---- tests of all of a list
@@ -56,10 +56,10 @@ module _ (P : Program) (held : Part → ℕ) (items : Items) (of : IsItems P ite
     | inr s ↦ s.once
   ]
 
-  shares_same : list_all (λ (s : Share). nat_le (held (ShareOf s.buffer) + s.count) (shares_at P.buffers s.buffer)) items.shares ≡ list_all (λ (s : Share). fits P held items (ShareOf s.buffer)) items.shares
+  shares_same : list_all (λ (s : Share). nat_le (held (ShareOf s.buffer) + s.count) (shares_at P.buffers s.buffer)) items.shares ≡ list_all (λ (s : Share). is_within_limit P held items (ShareOf s.buffer)) items.shares
   shares_same = all_same _ _ items.shares no_share (λ i lt. ap (λ n. nat_le (held (ShareOf (get_or items.shares i no_share).buffer) + n) (shares_at P.buffers (get_or items.shares i no_share).buffer)) (sym (share_at items.shares i no_share of.distinct_buffers lt)))
 
-  tokens_same : list_all (λ u. nat_le (held (TokenOf u) + 1) 1) items.tokens ≡ list_all (λ u. fits P held items (TokenOf u)) items.tokens
+  tokens_same : list_all (λ u. nat_le (held (TokenOf u) + 1) 1) items.tokens ≡ list_all (λ u. is_within_limit P held items (TokenOf u)) items.tokens
   tokens_same = all_same _ _ items.tokens 0 (λ i lt. ap (λ n. nat_le (held (TokenOf (get_or items.tokens i 0)) + n) 1) (sym (token_once i lt)))
 
   -- There is room where each share, each token and the credits fit.
@@ -68,22 +68,22 @@ module _ (P : Program) (held : Part → ℕ) (items : Items) (of : IsItems P ite
 
   -- A part that they don't name stays as it is, and of one that they name no more is held with them than there is.
   pub room : has_room P held items ≡ true → (p : Part) → (bag_of items p ≡ 0) ⊎ (held p + bag_of items p ≤ limit P p)
-  room e p = let h = and_parts (shares && tokens) (fits P held items Credit) e in let f = and_parts shares tokens h.0 in go p f.0 f.1 h.1
+  room e p = let h = and_parts (shares && tokens) (is_within_limit P held items Credit) e in let f = and_parts shares tokens h.0 in go p f.0 f.1 h.1
     where
       shares : Bool
-      shares = list_all (λ (s : Share). fits P held items (ShareOf s.buffer)) items.shares
+      shares = list_all (λ (s : Share). is_within_limit P held items (ShareOf s.buffer)) items.shares
 
       tokens : Bool
-      tokens = list_all (λ u. fits P held items (TokenOf u)) items.tokens
+      tokens = list_all (λ u. is_within_limit P held items (TokenOf u)) items.tokens
 
-      go : (p : Part) → shares ≡ true → tokens ≡ true → fits P held items Credit ≡ true → (bag_of items p ≡ 0) ⊎ (held p + bag_of items p ≤ limit P p)
+      go : (p : Part) → shares ≡ true → tokens ≡ true → is_within_limit P held items Credit ≡ true → (bag_of items p ≡ 0) ⊎ (held p + bag_of items p ≤ limit P p)
       go (ShareOf b) h g f = elim (share_named items.shares b of.distinct_buffers) [
         | inl n ↦ inl n
-        | inr s ↦ inr (subst (λ c. held (ShareOf c) + bag_of items (ShareOf c) ≤ limit P (ShareOf c)) s.buffer (leb-true _ _ (all_at (λ (s : Share). fits P held items (ShareOf s.buffer)) items.shares s.place no_share h s.within)))
+        | inr s ↦ inr (subst (λ c. held (ShareOf c) + bag_of items (ShareOf c) ≤ limit P (ShareOf c)) s.buffer (leb-true _ _ (all_at (λ (s : Share). is_within_limit P held items (ShareOf s.buffer)) items.shares s.place no_share h s.within)))
       ]
       go (TokenOf u) h g f = elim (token_named items.tokens u of.distinct_tokens) [
         | inl n ↦ inl n
-        | inr s ↦ inr (subst (λ v. held (TokenOf v) + bag_of items (TokenOf v) ≤ limit P (TokenOf v)) s.token (leb-true _ _ (all_at (λ u. fits P held items (TokenOf u)) items.tokens s.place 0 g s.within)))
+        | inr s ↦ inr (subst (λ v. held (TokenOf v) + bag_of items (TokenOf v) ≤ limit P (TokenOf v)) s.token (leb-true _ _ (all_at (λ u. is_within_limit P held items (TokenOf u)) items.tokens s.place 0 g s.within)))
       ]
       go Credit h g f = inr (leb-true _ _ f)
 
@@ -144,20 +144,20 @@ fewer_named_in tokens Unlocked n v f = refl
 fewer_named_in tokens (Locked i) Unlocked v f = absurd v
 fewer_named_in tokens (Locked i) (Locked j) v f = fewer_named tokens i.peeked j.peeked v.peeked f
 
-still_fits : (P : Program) (items : Items) (b c : Part → ℕ) → IsWithin b c → (p : Part) → fits P c items p ≡ true → fits P b items p ≡ true
+still_fits : (P : Program) (items : Items) (b c : Part → ℕ) → IsWithin b c → (p : Part) → is_within_limit P c items p ≡ true → is_within_limit P b items p ≡ true
 still_fits P items b c w p e = let l : c p + bag_of items p ≤ limit P p = leb-true _ _ e in le-leb _ _ (omega (arith, l, w p))
 
 still_room : (P : Program) (items : Items) (b c : Part → ℕ) → IsWithin b c → has_room P c items ≡ true → has_room P b items ≡ true
 still_room P items b c w e =
-    let h = and_parts (shares c && tokens c) (fits P c items Credit) e in
+    let h = and_parts (shares c && tokens c) (is_within_limit P c items Credit) e in
     let f = and_parts (shares c) (tokens c) h.0 in
-    and_from (shares b && tokens b) (fits P b items Credit) (and_from (shares b) (tokens b) (all_pass _ _ items.shares (λ s. still_fits P items b c w (ShareOf s.buffer)) f.0) (all_pass _ _ items.tokens (λ u. still_fits P items b c w (TokenOf u)) f.1)) (still_fits P items b c w Credit h.1)
+    and_from (shares b && tokens b) (is_within_limit P b items Credit) (and_from (shares b) (tokens b) (all_pass _ _ items.shares (λ s. still_fits P items b c w (ShareOf s.buffer)) f.0) (all_pass _ _ items.tokens (λ u. still_fits P items b c w (TokenOf u)) f.1)) (still_fits P items b c w Credit h.1)
   where
     shares : (Part → ℕ) → Bool
-    shares a = list_all (λ (s : Share). fits P a items (ShareOf s.buffer)) items.shares
+    shares a = list_all (λ (s : Share). is_within_limit P a items (ShareOf s.buffer)) items.shares
 
     tokens : (Part → ℕ) → Bool
-    tokens a = list_all (λ u. fits P a items (TokenOf u)) items.tokens
+    tokens a = list_all (λ u. is_within_limit P a items (TokenOf u)) items.tokens
 
 -- Who holds and sees less can take what one who holds more can.
 pub still_can : (P : Program) (items : Items) (b c : Part → ℕ) (m n : Mode) → IsWithin b c → WeakerMode m n → can_take P c n items ≡ true → can_take P b m items ≡ true

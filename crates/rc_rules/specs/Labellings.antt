@@ -10,7 +10,7 @@ use Rattle.rc_rules.specs.declared.mode.Peeked.TheVariants.{Unseen, SeesOther}
 use Rattle.rc_rules.specs.declared.flag.Write.TheVariants.{Anything}
 use Rattle.rc_split.specs.Bags.{Part, ShareOf, TokenOf, Credit, bag_of}
 use Rattle.rc_rules.specs.Labels.{Label, Dead, Live, WeakerThanEach, IsSame}
-use Rattle.rc_rules.specs.Sides.{Sides, on, nowhere, gate, brings, turns, write_to, write_of, forgets, test_goes, may_skip}
+use Rattle.rc_rules.specs.Sides.{Sides, on, unreached, gate, brings, turns, write_to, write_of, forgets, test_goes, may_skip}
 use Rattle.rc_rules.specs.Premises.{Premise, Covers, Meets, MeetsBelow}
 use Rattle.rc_rules.specs.Rules.{limit, op_premises, op_effect, put_premises, put_effect, asks_both, goes, entered, may_release, released, test_premises, test_effect, peek_premises, peek_at, case_at, joins_both, may_loop, top, may_break, broken}
 
@@ -18,7 +18,7 @@ use Rattle.rc_rules.specs.Rules.{limit, op_premises, op_effect, put_premises, pu
 
 -- Labels belong to a place, one to each side of it. Those at j are the ones before the line at j.
 abbrev pub label_at : List Sides → ℕ → Bool → Label
-label_at labels k z = on z (slice_index_or labels k nowhere)
+label_at labels k z = on z (slice_index_or labels k unreached)
 
 -- the label before the line that these lines come before
 abbrev pub here : List Line → List Sides → Bool → Label

@@ -169,13 +169,13 @@ abbrev pub put_effect : (Part → ℕ) → Mode → Items → Label
 put_effect bag m items = Live (minus bag (bag_of items)) m
 
 -- With the items no more of the part is held than there is.
-abbrev pub fits : Program → (Part → ℕ) → Items → Part → Bool
-fits P bag items p = nat_le (bag p + bag_of items p) (limit P p)
+abbrev pub is_within_limit : Program → (Part → ℕ) → Items → Part → Bool
+is_within_limit P bag items p = nat_le (bag p + bag_of items p) (limit P p)
 
 -- So it is of each buffer and each token that they name, and of credits.
 abbrev pub has_room : Program → (Part → ℕ) → Items → Bool
 has_room P bag items =
-    list_all (λ (s : Share). fits P bag items (ShareOf s.buffer)) items.shares && list_all (λ u. fits P bag items (TokenOf u)) items.tokens && fits P bag items Credit
+    list_all (λ (s : Share). is_within_limit P bag items (ShareOf s.buffer)) items.shares && list_all (λ u. is_within_limit P bag items (TokenOf u)) items.tokens && is_within_limit P bag items Credit
 
 -- The request whose completion is peeked owns its token.
 abbrev pub names_peeked : List ℕ → Peeked → Bool

@@ -25,8 +25,9 @@ abbrev pub on : Bool → Sides → Label
 on true s = s.zero
 on false s = s.other
 
-abbrev pub nowhere : Sides
-nowhere = record { zero = Dead; other = Dead }
+-- the sides of a point that nothing reaches
+abbrev pub unreached : Sides
+unreached = record { zero = Dead; other = Dead }
 
 abbrev pub same_side : Bool → Bool → Bool
 same_side true z = z

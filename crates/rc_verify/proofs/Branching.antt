@@ -26,19 +26,19 @@ use Rattle.rc_rules.specs.Labels.{Label, Dead, Live, Weaker, WeakerInside, Weake
 use Rattle.rc_rules.specs.Labellings.{here, label_at, skipped}
 use Rattle.rc_rules.specs.Premises.{Meets, Premise}
 use Rattle.rc_rules.specs.Rules.{asks, asks_both, goes, joins_both, take_effect, take_premises, test_effect, test_premises}
-use Rattle.rc_rules.specs.Sides.{Sides, gate, may_skip, nowhere, on, test_goes}
+use Rattle.rc_rules.specs.Sides.{Sides, gate, may_skip, on, test_goes, unreached}
 use Rattle.rc_rules.specs.States.{State, AgreeOnLock, Becomes, Gives, IsOfSame, label_of, program_of, sides_of}
 use Rattle.rc_verify.specs.declared.walk.Walk.{Walk}
 use Rattle.rc_verify.specs.Arms.{two}
 use Rattle.rc_verify.specs.Branches.{KeepsOther, MayTest}
 use Rattle.rc_verify.specs.Kept.{last_of, rest_of}
-use Rattle.rc_verify.specs.Walk.{AreKept, Fits, IsBranch, OnKept, Reaches, Turns, branch_place, loop_place, most_at, peek_place, places}
+use Rattle.rc_verify.specs.Walk.{AreKept, Fits, IsBranch, OnKept, PassesLine, Reaches, branch_place, loop_place, most_at, peek_place, places}
 use Rattle.rc_verify.proofs.Fit.{fits_alike, fits_more, gate_fits, strongest_fits, test_fits}
 use Rattle.rc_verify.proofs.Joining.{above, below}
 use Rattle.rc_rules.proofs.Weaker.{meets_append, only_itself}
 use Rattle.rc_verify.proofs.Keeping.{KeepsLast, few_branches, few_places, keep_more, kept_length, last_kept, places_pushed, pushed_none, same_last, some_last}
 use Rattle.rc_verify.proofs.Plainly.{fits_behind, fits_known, loops_same, opens_none, peek_same}
-use Rattle.rc_verify.proofs.Standing.{AreStrongestOf, Gave, branches_stay, fits_here, gives_stays, here_is, lead_at, of_same, onward, same_of, seen_at, took, turns}
+use Rattle.rc_verify.proofs.Standing.{AreStrongestOf, Gave, branches_stay, fits_here, gives_stays, here_is, lead_at, of_same, onward, passes, same_of, seen_at, took}
 
 pub on_ok : {X : Type 0} (A : Type 0) (x : Result X Cause) (y : X) → OnOk x A → x ≡ Ok y → A
 on_ok A (Ok z) y h e = h
@@ -118,7 +118,7 @@ module _ (P : Program) (t : Thread) (j : ℕ) (w : Walk) (r : Reaches P t j w) w
 
   -- the label of this place, where there is one more
   here_still : (new : Sides) (z : Bool) → label_at (r.labels ++ new ∷ []) j z ≡ label_of w.state z
-  here_still new z = ap (on z) (get_or-append r.labels (new ∷ []) nowhere j (omega (arith, r.at.size)) ∙ get_or_from_slice_get r.labels j (sides_of w.state) nowhere r.at.here.at)
+  here_still new z = ap (on z) (get_or-append r.labels (new ∷ []) unreached j (omega (arith, r.at.size)) ∙ get_or_from_slice_get r.labels j (sides_of w.state) unreached r.at.here.at)
 
   -- ---- if
 
@@ -147,8 +147,8 @@ module _ (P : Program) (t : Thread) (j : ℕ) (w : Walk) (r : Reaches P t j w) w
   pub may_test : (test : Test) (lists : List Items) → stmt_at t.lines j ≡ Some (If test) → lists ≡ t.lists → MayTest (program_of w.state) lists test
   may_test test lists e q = subst (λ (p : Program). MayTest p lists test) (sym r.at.here.of.program) (subst (λ (is : List Items). MayTest P is test) (sym q) (tests_here test e))
 
-  pub if_turns : {X : Type 0} (test : Test) (lists : List Items) (new : State) (kept : List (Option State)) (x : Result X Cause) → stmt_at t.lines j ≡ Some (If test) → lists ≡ t.lists → Gives w.state new x (asks_both (label_of w.state) (λ z bag m. test_premises m test)) (λ z. gate (test_goes w.state.flag test z true) (goes (label_of w.state z) (λ bag m. test_effect (program_of w.state) lists bag m test)) ∷ []) → OnOk x (KeepsOther test w.state w.branches kept) → Turns P t j (record { state = new; branches = kept; peek = w.peek; loops = w.loops }) x
-  if_turns test lists new kept x e same_lists h k =
+  pub if_passes : {X : Type 0} (test : Test) (lists : List Items) (new : State) (kept : List (Option State)) (x : Result X Cause) → stmt_at t.lines j ≡ Some (If test) → lists ≡ t.lists → Gives w.state new x (asks_both (label_of w.state) (λ z bag m. test_premises m test)) (λ z. gate (test_goes w.state.flag test z true) (goes (label_of w.state z) (λ bag m. test_effect (program_of w.state) lists bag m test)) ∷ []) → OnOk x (KeepsOther test w.state w.branches kept) → PassesLine P t j (record { state = new; branches = kept; peek = w.peek; loops = w.loops }) x
+  if_passes test lists new kept x e same_lists h k =
       let g = subst (λ (is : List Items). Gives w.state new x (asks_both (label_of w.state) (λ z bag m. test_premises m test)) (λ z. gate (test_goes w.state.flag test z true) (goes (label_of w.state z) (λ bag m. test_effect (program_of w.state) is bag m test)) ∷ [])) same_lists h in
       let w' : Walk = record { state = new; branches = kept; peek = w.peek; loops = w.loops } in
       let F : Program → Option ℕ → Sides → List (ℕ × Premise) = λ p f l. asks_both (λ z. on z l) (λ z bag m. test_premises m test) in
@@ -158,7 +158,7 @@ module _ (P : Program) (t : Thread) (j : ℕ) (w : Walk) (r : Reaches P t j w) w
       let n : blocks_at t.lines (j + 1) ≡ bs ++ InIf j ∷ [] = blocks_next t.lines j (If test) e in
       let same = opens_none t j bs (InIf j) refl n in
       let f : (z : Bool) → Fits (in_lock bs) (most_at j + 18) (goes (here (take j t.lines) r.labels z) (λ bag m. test_effect P t.lists bag m test)) = λ z. fits_more (in_lock bs) (most_at j) (most_at j + 18) _ (omega arith) (test_fits P t.lists test (in_lock bs) (most_at j) _ r.made (tests_here test e) (omega arith) (fits_known P t j w r (If test) e z)) in
-      turns P t j w r (If test) e w' x gave
+      passes P t j w r (If test) e w' x gave
       (λ b z. fits_behind P t j w r (If test) e (label_of new z) (strongest_fits (in_lock bs) (most_at j + 18) (label_of new z) _ (gate_fits (test_goes t.flag test z true) (in_lock bs) (most_at j + 18) _ (f z), tt) (b z)))
       (λ y q. record {
         branches = grown new kept n (on_ok (KeepsOther test w.state w.branches kept) x y k q);
@@ -188,12 +188,12 @@ module _ (P : Program) (t : Thread) (j : ℕ) (w : Walk) (r : Reaches P t j w) w
   branch_fits : (o : ℕ) (s : State) (z : Bool) → in_lock (blocks_at t.lines o) ≡ in_lock (blocks_at t.lines j) → IsBranch P t j r.labels o s → Fits (in_lock (blocks_at t.lines j)) (most_at j) (label_of s z)
   branch_fits o s z l h =
       let lt : o < length r.labels = omega (arith, h.before, r.at.size) in
-      let is = slice_get-get_or r.labels o nowhere lt in
-      let f : Fits (in_lock (blocks_at t.lines j)) (most_at j) (label_at r.labels o z) = subst (λ b. Fits b (most_at j) (label_at r.labels o z)) l (r.at.fits o (slice_index_or r.labels o nowhere) is z) in
+      let is = slice_get-get_or r.labels o unreached lt in
+      let f : Fits (in_lock (blocks_at t.lines j)) (most_at j) (label_at r.labels o z) = subst (λ b. Fits b (most_at j) (label_at r.labels o z)) l (r.at.fits o (slice_index_or r.labels o unreached) is z) in
       subst (λ x. Fits (in_lock (blocks_at t.lines j)) (most_at j) x) (sym (h.at z)) (gate_fits (may_skip t.flag z (stmt_at t.lines o)) (in_lock (blocks_at t.lines j)) (most_at j) (label_at r.labels o z) f)
 
-  pub else_turns : (o : ℕ) (new : State) (kept : List (Option State)) → stmt_at t.lines j ≡ Some (Else o) → last_of w.branches ≡ Some new → kept ≡ rest_of w.branches ++ Some w.state ∷ [] → Reaches P t (j + 1) (record { state = new; branches = kept; peek = w.peek; loops = w.loops })
-  else_turns o new kept e q k =
+  pub else_passes : (o : ℕ) (new : State) (kept : List (Option State)) → stmt_at t.lines j ≡ Some (Else o) → last_of w.branches ≡ Some new → kept ≡ rest_of w.branches ++ Some w.state ∷ [] → Reaches P t (j + 1) (record { state = new; branches = kept; peek = w.peek; loops = w.loops })
+  else_passes o new kept e q k =
       let w' : Walk = record { state = new; branches = kept; peek = w.peek; loops = w.loops } in
       let c = turns_at t.lines r.thread.nested.each j o e in
       let last = else_kept o e in
@@ -284,7 +284,7 @@ module _ (P : Program) (t : Thread) (j : ℕ) (w : Walk) (r : Reaches P t j w) w
   gave_both : {X : Type 0} (h m b : Bool → Label) (new : State) (x : Result X Cause) → ((z : Bool) → m z ≡ b z) → Gave P t new x (joins_both (two h m)) (two h m) → Gave P t new x (joins_both (two h b)) (two h b)
   gave_both h m b new x e g = subst (λ k. Gave P t new x (joins_both (two h k)) (two h k)) (fun_ext e) g
 
-  ends : {X : Type 0} (o : ℕ) (s new : State) (kept : List (Option State)) (x : Result X Cause) → stmt_at t.lines j ≡ Some (EndIf o) → last_of w.branches ≡ Some s → Gives w.state new x (joins_both (two (label_of w.state) (label_of s))) (two (label_of w.state) (label_of s)) → kept ≡ rest_of w.branches → Turns P t j (record { state = new; branches = kept; peek = w.peek; loops = w.loops }) x
+  ends : {X : Type 0} (o : ℕ) (s new : State) (kept : List (Option State)) (x : Result X Cause) → stmt_at t.lines j ≡ Some (EndIf o) → last_of w.branches ≡ Some s → Gives w.state new x (joins_both (two (label_of w.state) (label_of s))) (two (label_of w.state) (label_of s)) → kept ≡ rest_of w.branches → PassesLine P t j (record { state = new; branches = kept; peek = w.peek; loops = w.loops }) x
   ends o s new kept x e q g k =
       let w' : Walk = record { state = new; branches = kept; peek = w.peek; loops = w.loops } in
       let c = ends_branch o e in
@@ -296,7 +296,7 @@ module _ (P : Program) (t : Thread) (j : ℕ) (w : Walk) (r : Reaches P t j w) w
       let gave' = gave_both h (label_of s) (skipped t (take j t.lines) r.labels o) new x known gave in
       let f : (z : Bool) → Fits (in_lock bs) (most_at j + 18) (h z) = λ z. fits_more (in_lock bs) (most_at j) (most_at j + 18) (h z) (omega arith) (fits_known P t j w r (EndIf o) e z) in
       let f' : (z : Bool) → Fits (in_lock bs) (most_at j + 18) (skipped t (take j t.lines) r.labels o z) = λ z. subst (λ y. Fits (in_lock bs) (most_at j + 18) y) (known z) (fits_more (in_lock bs) (most_at j) (most_at j + 18) (label_of s z) (omega arith) (fits_last o s z e q)) in
-      turns P t j w r (EndIf o) e w' x gave'
+      passes P t j w r (EndIf o) e w' x gave'
       (λ b z. fits_behind P t j w r (EndIf o) e (label_of new z) (strongest_fits (in_lock bs) (most_at j + 18) (label_of new z) _ (f z, (f' z, tt)) (b z)))
       (λ y q'. record {
         branches = left new kept c.outer c.behind k (end_kept o e).rest;
@@ -312,8 +312,8 @@ module _ (P : Program) (t : Thread) (j : ℕ) (w : Walk) (r : Reaches P t j w) w
           let R = OnKept (IsBranch P t (j + 1) (r.labels ++ sides_of new ∷ [])) in
           subst (λ bs. AreKept R (places branch_place bs) kept) (sym n) (subst (λ xs. AreKept R (places branch_place outer) xs) (sym k) (branches_stay P t j w r (EndIf o) e (sides_of new) (places branch_place outer) (rest_of w.branches) rest))
 
-  pub end_turns : {X : Type 0} (o : ℕ) (new : State) (kept : List (Option State)) (x : Result X Cause) → stmt_at t.lines j ≡ Some (EndIf o) → ((s : State) → last_of w.branches ≡ Some s → Gives w.state new x (joins_both (two (label_of w.state) (label_of s))) (two (label_of w.state) (label_of s))) → kept ≡ rest_of w.branches → Turns P t j (record { state = new; branches = kept; peek = w.peek; loops = w.loops }) x
-  end_turns o new kept x e g k = let h = end_kept o e in ends o h.state new kept x e h.is (g h.state h.is) k
+  pub end_passes : {X : Type 0} (o : ℕ) (new : State) (kept : List (Option State)) (x : Result X Cause) → stmt_at t.lines j ≡ Some (EndIf o) → ((s : State) → last_of w.branches ≡ Some s → Gives w.state new x (joins_both (two (label_of w.state) (label_of s))) (two (label_of w.state) (label_of s))) → kept ≡ rest_of w.branches → PassesLine P t j (record { state = new; branches = kept; peek = w.peek; loops = w.loops }) x
+  end_passes o new kept x e g k = let h = end_kept o e in ends o h.state new kept x e h.is (g h.state h.is) k
 
   pub end_stays : {X : Type 0} (o : ℕ) (new : State) (x : Result X Cause) → stmt_at t.lines j ≡ Some (EndIf o) → ((s : State) → last_of w.branches ≡ Some s → Gives w.state new x (joins_both (two (label_of w.state) (label_of s))) (two (label_of w.state) (label_of s))) → OnErr x (new ≡ w.state)
   end_stays o new x e g = let h = end_kept o e in gives_stays w.state new x _ _ (g h.state h.is)

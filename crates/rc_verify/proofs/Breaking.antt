@@ -18,7 +18,7 @@ use Rattle.rc_verify.specs.declared.walk.Walk.{Walk}
 use Rattle.rc_verify.specs.Kept.{last_of, rest_of}
 use Rattle.rc_verify.specs.Arms.{two}
 use Rattle.rc_verify.specs.Loops.{Breaks, MayBreak, taken}
-use Rattle.rc_verify.specs.Walk.{AreKept, Fits, IsClosed, IsLoop, OnKept, Reaches, Turns, branch_place, loop_place, most_at, peek_place, places}
+use Rattle.rc_verify.specs.Walk.{AreKept, Fits, IsClosed, IsLoop, OnKept, PassesLine, Reaches, branch_place, loop_place, most_at, peek_place, places}
 use Rattle.rc_verify.proofs.Agreeing.{closed_agree}
 use Rattle.rc_verify.proofs.Branching.{on_ok}
 use Rattle.rc_verify.proofs.Ends.{other_break, own_break, strongest_more}
@@ -27,7 +27,7 @@ use Rattle.rc_verify.proofs.Joining.{each_meets}
 use Rattle.rc_verify.proofs.Keeping.{KeepsLast, keep_more, kept_too, last_kept, nothing_more, places_more, same_last, some_last}
 use Rattle.rc_verify.proofs.Looping.{loops_before, no_loop_places}
 use Rattle.rc_verify.proofs.Plainly.{branches_same, fits_behind, peek_same}
-use Rattle.rc_verify.proofs.Standing.{breaks_next, fits_here, here_is, loop_on, of_same, same_of, seen_at, took, turns}
+use Rattle.rc_verify.proofs.Standing.{breaks_next, fits_here, here_is, loop_on, of_same, passes, same_of, seen_at, took}
 
 module _ (P : Program) (t : Thread) (j : ℕ) (w : Walk) (r : Reaches P t j w) (o : ℕ) (releases leaves : Bool) (e : stmt_at t.lines j ≡ Some (Break o releases leaves)) where
   out : LeavesLoop t.lines j o releases leaves
@@ -101,12 +101,12 @@ module _ (P : Program) (t : Thread) (j : ℕ) (w : Walk) (r : Reaches P t j w) (
   abbrev KeepsBreak : List (Option State) → Type 0
   KeepsBreak kept = (s : State) → last_of w.loops ≡ Some s → Breaks s (taken releases w.state) w.loops kept
 
-  pub break_turns : {X : Type 0} (new : State) (kept : List (Option State)) (x : Result X Cause) → Gives w.state new x Asked (λ z. []) → OnOk x (KeepsBreak kept) → Turns P t j (record { state = new; branches = w.branches; peek = w.peek; loops = kept }) x
-  break_turns new kept x g k =
+  pub break_passes : {X : Type 0} (new : State) (kept : List (Option State)) (x : Result X Cause) → Gives w.state new x Asked (λ z. []) → OnOk x (KeepsBreak kept) → PassesLine P t j (record { state = new; branches = w.branches; peek = w.peek; loops = kept }) x
+  break_passes new kept x g k =
       let w' : Walk = record { state = new; branches = w.branches; peek = w.peek; loops = kept } in
       let F : Program → Option ℕ → Sides → List (ℕ × Premise) = λ p f l. asks_both (λ z. on z l) (λ z bag m. may_break p releases m) in
       let gave = took P t w.state new (seen_at t j r.labels) x F (λ p f l z. []) r.at.here.of (here_is P t j w r (Break o releases leaves) e) g in
-      turns P t j w r (Break o releases leaves) e w' x gave
+      passes P t j w r (Break o releases leaves) e w' x gave
       (λ b z. fits_behind P t j w r (Break o releases leaves) e (label_of new z) (strongest_fits (in_lock (blocks_at t.lines j)) (most_at j + 18) (label_of new z) [] tt (b z)))
       (λ y q. record {
         branches = branches_same P t j w r (Break o releases leaves) e (sides_of new) (ap (places branch_place) out.behind);

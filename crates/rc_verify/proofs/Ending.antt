@@ -20,7 +20,7 @@ use Rattle.rc_rules.specs.States.{State, AgreeOnLock, IsLocked, IsOfSame, OnBoth
 use Rattle.rc_verify.specs.Arms.{ClosesPeek, EndsArm, EndsArmIn, JoinsOn, two}
 use Rattle.rc_verify.specs.declared.arms.Arms.{Arms}
 use Rattle.rc_verify.specs.declared.walk.Walk.{Walk}
-use Rattle.rc_verify.specs.Walk.{AreKept, Fits, IsMeet, IsPeeked, IsSaved, Reaches, Turns, branch_place, listed, loop_place, most_at, peek_place, places}
+use Rattle.rc_verify.specs.Walk.{AreKept, Fits, IsMeet, IsPeeked, IsSaved, PassesLine, Reaches, branch_place, listed, loop_place, most_at, peek_place, places}
 use Rattle.rc_verify.proofs.Agreeing.{all_agree, never_all, not_all}
 use Rattle.rc_verify.proofs.Arming.{Armed, armed, peek_alone, some_armed}
 use Rattle.rc_verify.proofs.Ends.{own_arm, strongest_more}
@@ -105,8 +105,8 @@ module _ (P : Program) (t : Thread) (j : ℕ) (w : Walk) (r : Reaches P t j w) w
         };
       }
 
-  pub arm_end_turns : (o : ℕ) (new : State) (peek : Option Arms) → stmt_at t.lines j ≡ Some (EndArm o) → OnBoth (λ s. s ≡ Dead) new → IsOfSame new w.state → ((a : Arms) → w.peek ≡ Some a → EndsArmIn a peek w.state) → Reaches P t (j + 1) (record { state = new; branches = w.branches; peek = peek; loops = w.loops })
-  arm_end_turns o new peek e d p g =
+  pub arm_end_passes : (o : ℕ) (new : State) (peek : Option Arms) → stmt_at t.lines j ≡ Some (EndArm o) → OnBoth (λ s. s ≡ Dead) new → IsOfSame new w.state → ((a : Arms) → w.peek ≡ Some a → EndsArmIn a peek w.state) → Reaches P t (j + 1) (record { state = new; branches = w.branches; peek = peek; loops = w.loops })
+  arm_end_passes o new peek e d p g =
       let w' : Walk = record { state = new; branches = w.branches; peek = peek; loops = w.loops } in
       let R = IsPeeked P t (j + 1) (r.labels ++ sides_of new ∷ []) in
       let c = closes_arm t.lines r.thread.nested.each j o e in
@@ -132,7 +132,7 @@ module _ (P : Program) (t : Thread) (j : ℕ) (w : Walk) (r : Reaches P t j w) w
   pub end_peek_some : (o : ℕ) → stmt_at t.lines j ≡ Some (EndPeek o) → IsSome w.peek
   end_peek_some o e = some_armed P t j w r o (closing o e)
 
-  closed : {X : Type 0} (o : ℕ) (a : Arms) (new : State) (peek : Option Arms) (x : Result X Cause) → stmt_at t.lines j ≡ Some (EndPeek o) → IsPeeked P t j r.labels o a → ClosesPeek a new x → peek ≡ None → Turns P t j (record { state = new; branches = w.branches; peek = peek; loops = w.loops }) x
+  closed : {X : Type 0} (o : ℕ) (a : Arms) (new : State) (peek : Option Arms) (x : Result X Cause) → stmt_at t.lines j ≡ Some (EndPeek o) → IsPeeked P t j r.labels o a → ClosesPeek a new x → peek ≡ None → PassesLine P t j (record { state = new; branches = w.branches; peek = peek; loops = w.loops }) x
   closed o a new peek (Ok y) e h g q =
       let w' : Walk = record { state = new; branches = w.branches; peek = peek; loops = w.loops } in
       let R = IsPeeked P t (j + 1) (r.labels ++ sides_of new ∷ []) in
@@ -152,7 +152,7 @@ module _ (P : Program) (t : Thread) (j : ℕ) (w : Walk) (r : Reaches P t j w) w
       same f n = let c = closes_peek t.lines r.thread.nested.each j o e in ap (places f) c.1.behind ∙ sym (ap (places f) c.1.within ∙ pushed_none f (blocks_at t.lines o) (InPeek o) n)
   closed o a new peek (Err c) e h g q = refused P t j w r (EndPeek o) e (premise_number c) (subst (λ v. FailsFirst v (joins_both (arm_ends (take j t.lines) r.labels o))) (sym g.1) (fails_join (arm_ends (take j t.lines) r.labels o true ++ arm_ends (take j t.lines) r.labels o false) (h.agree ∙ g.0)))
 
-  pub end_peek_turns : {X : Type 0} (o : ℕ) (new : State) (peek : Option Arms) (x : Result X Cause) → stmt_at t.lines j ≡ Some (EndPeek o) → IfSome w.peek (λ a. ClosesPeek a new x) → peek ≡ None → Turns P t j (record { state = new; branches = w.branches; peek = peek; loops = w.loops }) x
-  end_peek_turns o new peek x e g q =
+  pub end_peek_passes : {X : Type 0} (o : ℕ) (new : State) (peek : Option Arms) (x : Result X Cause) → stmt_at t.lines j ≡ Some (EndPeek o) → IfSome w.peek (λ a. ClosesPeek a new x) → peek ≡ None → PassesLine P t j (record { state = new; branches = w.branches; peek = peek; loops = w.loops }) x
+  end_peek_passes o new peek x e g q =
       let a = closing o e in
       closed o a.arms new peek x e a.holds (subst (λ (z : Option Arms). IfSome z (λ b. ClosesPeek b new x)) a.is g) q

@@ -23,13 +23,13 @@ use Rattle.rc_rules.specs.States.{State, Gives, IsOfSame, OnBoth, label_of, prog
 use Rattle.rc_verify.specs.declared.walk.Walk.{Walk}
 use Rattle.rc_verify.specs.Kept.{last_of, rest_of}
 use Rattle.rc_verify.specs.Loops.{ClosesLoop, KeepsDead}
-use Rattle.rc_verify.specs.Walk.{AreKept, Fits, IsClosed, IsLoop, OnKept, Reaches, Turns, branch_place, loop_place, most_at, peek_place, places}
+use Rattle.rc_verify.specs.Walk.{AreKept, Fits, IsClosed, IsLoop, OnKept, PassesLine, Reaches, branch_place, loop_place, most_at, peek_place, places}
 use Rattle.rc_verify.proofs.Branching.{on_ok}
 use Rattle.rc_verify.proofs.Fit.{brings_fit, fits_more, strongest_fits, top_fits}
 use Rattle.rc_verify.proofs.Keeping.{KeepsLast, few_loops, few_places, keep_more, kept_length, last_kept, nothing_more, places_pushed, pushed_none, same_last, some_last}
 use Rattle.rc_verify.proofs.Peeking.{dead_fits, dead_strongest}
 use Rattle.rc_verify.proofs.Plainly.{branches_same, fits_behind, fits_known, opens_none, peek_same}
-use Rattle.rc_verify.proofs.Standing.{asked_at, breaks_next, here_is, loops_stay, of_same, onward, refused, seen_at, took, turns as turns_on}
+use Rattle.rc_verify.proofs.Standing.{asked_at, breaks_next, here_is, loops_stay, of_same, onward, passes, refused, seen_at, took}
 use Rattle.rc_verify.proofs.Strongest.{get_front}
 
 -- ---- lists
@@ -111,8 +111,8 @@ module _ (P : Program) (t : Thread) (j : ℕ) (w : Walk) (r : Reaches P t j w) w
   abbrev pub Loops : {X : Type 0} → Items → State → Result X Cause → Type 0
   Loops items new x = Gives w.state new x (asks_both (label_of w.state) (λ z bag m. may_loop (program_of w.state) 13 items z bag m)) (λ z. brings (λ y. turns (forgets w.state.flag) y z) (λ s. top (program_of w.state) items z s) (label_of w.state))
 
-  pub loop_turns : {X : Type 0} (k : ℕ) (items : Items) (new : State) (kept : List (Option State)) (x : Result X Cause) → stmt_at t.lines j ≡ Some (Loop k) → items ≡ items_at t.lists k → Loops items new x → OnOk x (KeepsDead w.state w.loops kept) → Turns P t j (record { state = new; branches = w.branches; peek = w.peek; loops = kept }) x
-  loop_turns k items new kept x e q g d =
+  pub loop_passes : {X : Type 0} (k : ℕ) (items : Items) (new : State) (kept : List (Option State)) (x : Result X Cause) → stmt_at t.lines j ≡ Some (Loop k) → items ≡ items_at t.lists k → Loops items new x → OnOk x (KeepsDead w.state w.loops kept) → PassesLine P t j (record { state = new; branches = w.branches; peek = w.peek; loops = kept }) x
+  loop_passes k items new kept x e q g d =
       let w' : Walk = record { state = new; branches = w.branches; peek = w.peek; loops = kept } in
       let i = items_at t.lists k in
       let g' : Loops i new x = subst (λ (y : Items). Loops y new x) q g in
@@ -124,7 +124,7 @@ module _ (P : Program) (t : Thread) (j : ℕ) (w : Walk) (r : Reaches P t j w) w
       let same = opens_none t j bs (InLoop j k) refl n in
       let lt : k < length t.lists = r.thread.resolved j (Loop k) e in
       let f : (z y : Bool) → Fits (in_lock bs) (most_at j + 18) (top P i z (here (take j t.lines) r.labels y)) = λ z y. top_fits P i z (in_lock bs) (most_at j) (most_at j + 18) _ (loop_items k lt) (omega arith) (fits_known P t j w r (Loop k) e y) in
-      turns_on P t j w r (Loop k) e w' x gave
+      passes P t j w r (Loop k) e w' x gave
       (λ b z. fits_behind P t j w r (Loop k) e (label_of new z) (strongest_fits (in_lock bs) (most_at j + 18) (label_of new z) _ (brings_fit (λ y. turns (forgets t.flag) y z) (λ s. top P i z s) (here (take j t.lines) r.labels) (in_lock bs) (most_at j + 18) (f z)) (b z)))
       (λ y p. record {
         branches = branches_same P t j w r (Loop k) e (sides_of new) (same branch_place refl);
@@ -151,8 +151,8 @@ module _ (P : Program) (t : Thread) (j : ℕ) (w : Walk) (r : Reaches P t j w) w
   pub end_loop_of : (o k : ℕ) (s : State) → stmt_at t.lines j ≡ Some (EndLoop o k) → last_of w.loops ≡ Some s → program_of s ≡ program_of w.state
   end_loop_of o k s e q = (same_last (IsLoop P t j r.labels) _ o w.loops s (end_kept o k e) q).breaks.of.program ∙ sym r.at.here.of.program
 
-  pub end_loop_turns : {X : Type 0} (o k : ℕ) (items : Items) (new : State) (kept : List (Option State)) (x : Result X Cause) → stmt_at t.lines j ≡ Some (EndLoop o k) → items ≡ items_at t.lists k → ClosesLoop (asks_both (label_of w.state) (λ z bag m. may_loop (program_of w.state) 14 items z bag m)) w.loops kept new x → Turns P t j (record { state = new; branches = w.branches; peek = w.peek; loops = kept }) x
-  end_loop_turns o k items new kept x e q g = go x (subst (λ ps. ClosesLoop ps w.loops kept new x) asked g)
+  pub end_loop_passes : {X : Type 0} (o k : ℕ) (items : Items) (new : State) (kept : List (Option State)) (x : Result X Cause) → stmt_at t.lines j ≡ Some (EndLoop o k) → items ≡ items_at t.lists k → ClosesLoop (asks_both (label_of w.state) (λ z bag m. may_loop (program_of w.state) 14 items z bag m)) w.loops kept new x → PassesLine P t j (record { state = new; branches = w.branches; peek = w.peek; loops = kept }) x
+  end_loop_passes o k items new kept x e q g = go x (subst (λ ps. ClosesLoop ps w.loops kept new x) asked g)
     where
       asked : asks_both (label_of w.state) (λ z bag m. may_loop (program_of w.state) 14 items z bag m) ≡ asked_at P t j r.labels (EndLoop o k)
       asked =
@@ -163,7 +163,7 @@ module _ (P : Program) (t : Thread) (j : ℕ) (w : Walk) (r : Reaches P t j w) w
       same : (f : Block → List ℕ) → f (InLoop o k) ≡ [] → places f (blocks_at t.lines (j + 1)) ≡ places f (blocks_at t.lines j)
       same f n = let c = closes_loop t.lines r.thread.nested.each j o k e in ap (places f) c.behind ∙ sym (ap (places f) c.within ∙ pushed_none f (blocks_at t.lines o) (InLoop o k) n)
 
-      go : {X : Type 0} (x : Result X Cause) → ClosesLoop (asked_at P t j r.labels (EndLoop o k)) w.loops kept new x → Turns P t j (record { state = new; branches = w.branches; peek = w.peek; loops = kept }) x
+      go : {X : Type 0} (x : Result X Cause) → ClosesLoop (asked_at P t j r.labels (EndLoop o k)) w.loops kept new x → PassesLine P t j (record { state = new; branches = w.branches; peek = w.peek; loops = kept }) x
       go (Err c) h = refused P t j w r (EndLoop o k) e (premise_number c) h
       go (Ok y) h =
           let w' : Walk = record { state = new; branches = w.branches; peek = w.peek; loops = kept } in

@@ -25,7 +25,7 @@ use Rattle.rc_rules.specs.States.{State, Becomes, IsLocked, OnBoth, label_of, si
 use Rattle.rc_verify.specs.Arms.{IsOpened, OpensPeek}
 use Rattle.rc_verify.specs.declared.arms.Arms.{Arms}
 use Rattle.rc_verify.specs.declared.walk.Walk.{Walk}
-use Rattle.rc_verify.specs.Walk.{AreKept, Fits, IsOf, IsPeeked, IsSaved, Reaches, Turns, branch_place, listed, loop_place, most_at, peek_place, places}
+use Rattle.rc_verify.specs.Walk.{AreKept, Fits, IsOf, IsPeeked, IsSaved, PassesLine, Reaches, branch_place, listed, loop_place, most_at, peek_place, places}
 use Rattle.rc_verify.proofs.Fit.{brings_fit, brought_locked, fits_more, strongest_fits}
 use Rattle.rc_verify.proofs.Joining.{each_meets}
 use Rattle.rc_verify.proofs.Keeping.{nothing_more, places_pushed}
@@ -123,8 +123,8 @@ module _ (P : Program) (t : Thread) (j : ℕ) (w : Walk) (r : Reaches P t j w) w
   asked_is : (v : ℕ) → stmt_at t.lines j ≡ Some (Peek v) → asks_both (label_of w.state) (λ z bag m. peek_premises m) ≡ asks_both (λ z. on z (seen_at t j r.labels)) (λ z bag m. peek_premises m)
   asked_is v e = ap (λ (l : Sides). asks_both (λ z. on z l) (λ z bag m. peek_premises m)) (here_is P t j w r (Peek v) e)
 
-  pub peek_turns : {X : Type 0} (v : ℕ) (new : State) (peek : Option Arms) (x : Result X Cause) → stmt_at t.lines j ≡ Some (Peek v) → OpensPeek v w.state new peek x → Turns P t j (record { state = new; branches = w.branches; peek = peek; loops = w.loops }) x
-  peek_turns v new peek (Ok y) e g =
+  pub peek_passes : {X : Type 0} (v : ℕ) (new : State) (peek : Option Arms) (x : Result X Cause) → stmt_at t.lines j ≡ Some (Peek v) → OpensPeek v w.state new peek x → PassesLine P t j (record { state = new; branches = w.branches; peek = peek; loops = w.loops }) x
+  peek_passes v new peek (Ok y) e g =
       let w' : Walk = record { state = new; branches = w.branches; peek = peek; loops = w.loops } in
       let bs = blocks_at t.lines j in
       let may : Bool → Bool → Bool = λ z y. turns (write_to w.state.flag v Anything) y z in
@@ -146,4 +146,4 @@ module _ (P : Program) (t : Thread) (j : ℕ) (w : Walk) (r : Reaches P t j w) w
         peek = subst (λ os. AreKept (IsPeeked P t (j + 1) (r.labels ++ sides_of new ∷ [])) os (listed peek)) (sym p) (subst (λ (z : Option Arms). AreKept (IsPeeked P t (j + 1) (r.labels ++ sides_of new ∷ [])) (j ∷ []) (listed z)) (sym g.2.1) one);
         loops = loops_same P t j w r (Peek v) e (sides_of new) (λ o z. refl) (same loop_place refl);
       })
-  peek_turns v new peek (Err c) e g = refused P t j w r (Peek v) e (premise_number c) (subst (FailsFirst (premise_number c)) (asked_is v e) g)
+  peek_passes v new peek (Err c) e g = refused P t j w r (Peek v) e (premise_number c) (subst (FailsFirst (premise_number c)) (asked_is v e) g)

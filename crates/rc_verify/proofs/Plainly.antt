@@ -19,10 +19,10 @@ use Rattle.rc_rules.specs.Rules.{asks_both, entered, goes, may_release, op_effec
 use Rattle.rc_rules.specs.Sides.{Sides, brings, on, turns, write_of}
 use Rattle.rc_rules.specs.States.{State, AgreeOnLock, Gives, IsLocked, IsSmall, IsUnlocked, OnBoth, label_of, program_of, sides_of}
 use Rattle.rc_verify.specs.declared.walk.Walk.{Walk}
-use Rattle.rc_verify.specs.Walk.{AreKept, Fits, IsBranch, IsLoop, IsOf, IsPeeked, Keeps, OnKept, Reaches, Turns, branch_place, listed, loop_place, most_at, peek_place, places}
+use Rattle.rc_verify.specs.Walk.{AreKept, Fits, IsBranch, IsLoop, IsOf, IsPeeked, Keeps, OnKept, PassesLine, Reaches, branch_place, listed, loop_place, most_at, peek_place, places}
 use Rattle.rc_verify.proofs.Fit.{AreAll, brings_fit, entered_fits, fits_alike, fits_locked, fits_more, fits_small, fits_unlocked, op_fits, put_fits, released_fits, strongest_fits}
 use Rattle.rc_verify.proofs.Keeping.{popped_none, pushed_none}
-use Rattle.rc_verify.proofs.Standing.{Gave, asked_at, branches_stay, fits_here, here_is, lead_at, loops_stay, peek_stays, seen_at, took, turns as turns_on}
+use Rattle.rc_verify.proofs.Standing.{Gave, asked_at, branches_stay, fits_here, here_is, lead_at, loops_stay, passes, peek_stays, seen_at, took}
 
 -- The same places are kept behind the line at j.
 pub record SamePlaces (t : Thread) (j : ℕ) : Type 0 where
@@ -64,10 +64,10 @@ module _ (P : Program) (t : Thread) (j : ℕ) (w : Walk) (r : Reaches P t j w) (
   keeps_same : (new : State) → SamePlaces t j → EndsNone s → Keeps P t (j + 1) (r.labels ++ sides_of new ∷ []) (record { state = new; branches = w.branches; peek = w.peek; loops = w.loops })
   keeps_same new p n = record { branches = branches_same (sides_of new) p.branches; peek = peek_same (sides_of new) n.arms p.peek; loops = loops_same (sides_of new) n.breaks p.loops }
 
-  pub state_alone : {X : Type 0} (old new : State) (known : Sides) (x : Result X Cause) (F : Program → Option ℕ → Sides → List (ℕ × Premise)) (B : Program → Option ℕ → Sides → Bool → List Label) → IsOf P t old → sides_of old ≡ known → asked_at P t j r.labels s ≡ F P t.flag known → lead_at P t j r.labels s ≡ B P t.flag known → ((z : Bool) → AreAll (Fits (locked_behind (in_lock (blocks_at t.lines j)) s) (most_at j + 18)) (B P t.flag known z)) → SamePlaces t j → EndsNone s → Gives old new x (F (program_of old) old.flag (sides_of old)) (B (program_of old) old.flag (sides_of old)) → Turns P t j (record { state = new; branches = w.branches; peek = w.peek; loops = w.loops }) x
+  pub state_alone : {X : Type 0} (old new : State) (known : Sides) (x : Result X Cause) (F : Program → Option ℕ → Sides → List (ℕ × Premise)) (B : Program → Option ℕ → Sides → Bool → List Label) → IsOf P t old → sides_of old ≡ known → asked_at P t j r.labels s ≡ F P t.flag known → lead_at P t j r.labels s ≡ B P t.flag known → ((z : Bool) → AreAll (Fits (locked_behind (in_lock (blocks_at t.lines j)) s) (most_at j + 18)) (B P t.flag known z)) → SamePlaces t j → EndsNone s → Gives old new x (F (program_of old) old.flag (sides_of old)) (B (program_of old) old.flag (sides_of old)) → PassesLine P t j (record { state = new; branches = w.branches; peek = w.peek; loops = w.loops }) x
   state_alone old new known x F B p q a l f places_same none g =
       let h = subst (λ bs. Gave P t new x (asked_at P t j r.labels s) bs) (sym l) (subst (λ ps. Gave P t new x ps (B P t.flag known)) (sym a) (took P t old new known x F B p q g)) in
-      turns_on P t j w r s e (record { state = new; branches = w.branches; peek = w.peek; loops = w.loops }) x h
+      passes P t j w r s e (record { state = new; branches = w.branches; peek = w.peek; loops = w.loops }) x h
       (λ b z. fits_behind (label_of new z) (strongest_fits (locked_behind (in_lock (blocks_at t.lines j)) s) (most_at j + 18) (label_of new z) (B P t.flag known z) (f z) (subst (λ bs. IsStrongest (label_of new z) (bs z)) l (b z))))
       (λ y q. keeps_same new places_same none)
 
@@ -80,8 +80,8 @@ module _ (P : Program) (t : Thread) (j : ℕ) (w : Walk) (r : Reaches P t j w) w
   pub small_here : (s : Stmt) → stmt_at t.lines j ≡ Some s → OnBoth IsSmall w.state
   small_here s e z = let l = stands_within t.lines j s e in fits_small (in_lock (blocks_at t.lines j)) (most_at j) (label_of w.state z) (few_held j (length t.lines) l r.thread.few_lines) (fits_here P t j w r s e z)
 
-  pub do_turns : {X : Type 0} (op : Op) (new : State) (x : Result X Cause) → stmt_at t.lines j ≡ Some (Do op) → Gives w.state new x (asks_both (label_of w.state) (λ z bag m. op_premises (program_of w.state) bag m op)) (λ z. brings (λ y. turns (write_of w.state.flag op) y z) (λ s. goes s (λ bag m. op_effect (program_of w.state) bag m op)) (label_of w.state)) → Turns P t j (record { state = new; branches = w.branches; peek = w.peek; loops = w.loops }) x
-  do_turns op new x e g =
+  pub do_passes : {X : Type 0} (op : Op) (new : State) (x : Result X Cause) → stmt_at t.lines j ≡ Some (Do op) → Gives w.state new x (asks_both (label_of w.state) (λ z bag m. op_premises (program_of w.state) bag m op)) (λ z. brings (λ y. turns (write_of w.state.flag op) y z) (λ s. goes s (λ bag m. op_effect (program_of w.state) bag m op)) (label_of w.state)) → PassesLine P t j (record { state = new; branches = w.branches; peek = w.peek; loops = w.loops }) x
+  do_passes op new x e g =
       let n = blocks_next t.lines j (Do op) e in
       let lock = in_lock (blocks_at t.lines j) in
       state_alone P t j w r (Do op) e w.state new (seen_at t j r.labels) x (λ p f l. asks_both (λ z. on z l) (λ z bag m. op_premises p bag m op)) (λ p f l z. brings (λ y. turns (write_of f op) y z) (λ s. goes s (λ bag m. op_effect p bag m op)) (λ y. on y l)) r.at.here.of (here_is P t j w r (Do op) e) refl refl
@@ -89,8 +89,8 @@ module _ (P : Program) (t : Thread) (j : ℕ) (w : Walk) (r : Reaches P t j w) w
       (record { branches = ap (places branch_place) n; peek = ap (places peek_place) n; loops = ap (places loop_place) n })
       (record { arms = λ o x. refl; breaks = λ o x. refl }) g
 
-  pub put_turns : {X : Type 0} (k : ℕ) (items : Items) (new : State) (x : Result X Cause) → stmt_at t.lines j ≡ Some (Put k) → items ≡ items_at t.lists k → Gives w.state new x (asks_both (label_of w.state) (λ z bag m. put_premises bag m items)) (λ z. goes (label_of w.state z) (λ bag m. put_effect bag m items) ∷ []) → Turns P t j (record { state = new; branches = w.branches; peek = w.peek; loops = w.loops }) x
-  put_turns k items new x e q g =
+  pub put_passes : {X : Type 0} (k : ℕ) (items : Items) (new : State) (x : Result X Cause) → stmt_at t.lines j ≡ Some (Put k) → items ≡ items_at t.lists k → Gives w.state new x (asks_both (label_of w.state) (λ z bag m. put_premises bag m items)) (λ z. goes (label_of w.state z) (λ bag m. put_effect bag m items) ∷ []) → PassesLine P t j (record { state = new; branches = w.branches; peek = w.peek; loops = w.loops }) x
+  put_passes k items new x e q g =
       let n = blocks_next t.lines j (Put k) e in
       let lock = in_lock (blocks_at t.lines j) in
       let own : Items = items_at t.lists k in
@@ -107,8 +107,8 @@ module _ (P : Program) (t : Thread) (j : ℕ) (w : Walk) (r : Reaches P t j w) w
   pub unlocked_here : stmt_at t.lines j ≡ Some Lock → OnBoth IsUnlocked w.state
   unlocked_here e z = fits_unlocked (most_at j) (label_of w.state z) (subst (λ b. Fits b (most_at j) (label_of w.state z)) (nested_here t.lines r.thread.nested.each j Lock e).0 (fits_here P t j w r Lock e z))
 
-  pub lock_turns : {X : Type 0} (new : State) (x : Result X Cause) → stmt_at t.lines j ≡ Some Lock → Gives w.state new x [] (λ z. entered (program_of w.state) (label_of w.state z) ∷ []) → Turns P t j (record { state = new; branches = w.branches; peek = w.peek; loops = w.loops }) x
-  lock_turns new x e g =
+  pub lock_passes : {X : Type 0} (new : State) (x : Result X Cause) → stmt_at t.lines j ≡ Some Lock → Gives w.state new x [] (λ z. entered (program_of w.state) (label_of w.state z) ∷ []) → PassesLine P t j (record { state = new; branches = w.branches; peek = w.peek; loops = w.loops }) x
+  lock_passes new x e g =
       let n = opens_none t j (blocks_at t.lines j) (InLock j) refl (blocks_next t.lines j Lock e) in
       state_alone P t j w r Lock e w.state new (seen_at t j r.labels) x (λ p f l. []) (λ p f l z. entered p (on z l) ∷ []) r.at.here.of (here_is P t j w r Lock e) refl refl
       (λ z. (fits_more true (most_at j) (most_at j + 18) _ (omega arith) (entered_fits P (in_lock (blocks_at t.lines j)) (most_at j) _ (fits_known P t j w r Lock e z)), tt))
@@ -121,8 +121,8 @@ module _ (P : Program) (t : Thread) (j : ℕ) (w : Walk) (r : Reaches P t j w) w
       let b : in_lock (blocks_at t.lines j) ≡ true = ap in_lock c.within ∙ in_lock_pushed (blocks_at t.lines o) (InLock o) ∙ or-true (in_lock (blocks_at t.lines o)) in
       fits_locked (most_at j) (label_of w.state z) (subst (λ b. Fits b (most_at j) (label_of w.state z)) b (fits_here P t j w r (EndLock o) e z))
 
-  pub release_turns : {X : Type 0} (o : ℕ) (new : State) (x : Result X Cause) → stmt_at t.lines j ≡ Some (EndLock o) → Gives w.state new x (asks_both (label_of w.state) (λ z bag m. may_release (program_of w.state) m)) (λ z. released (label_of w.state z) ∷ []) → Turns P t j (record { state = new; branches = w.branches; peek = w.peek; loops = w.loops }) x
-  release_turns o new x e g =
+  pub release_passes : {X : Type 0} (o : ℕ) (new : State) (x : Result X Cause) → stmt_at t.lines j ≡ Some (EndLock o) → Gives w.state new x (asks_both (label_of w.state) (λ z bag m. may_release (program_of w.state) m)) (λ z. released (label_of w.state z) ∷ []) → PassesLine P t j (record { state = new; branches = w.branches; peek = w.peek; loops = w.loops }) x
+  release_passes o new x e g =
       let n = closes_none t j (blocks_at t.lines j) (InLock o) refl (nested_here t.lines r.thread.nested.each j (EndLock o) e) (blocks_next t.lines j (EndLock o) e) in
       state_alone P t j w r (EndLock o) e w.state new (seen_at t j r.labels) x (λ p f l. asks_both (λ z. on z l) (λ z bag m. may_release p m)) (λ p f l z. released (on z l) ∷ []) r.at.here.of (here_is P t j w r (EndLock o) e) refl refl
       (λ z. (fits_more false (most_at j) (most_at j + 18) _ (omega arith) (released_fits (in_lock (blocks_at t.lines j)) (most_at j) _ (fits_known P t j w r (EndLock o) e z)), tt))

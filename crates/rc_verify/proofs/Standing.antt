@@ -13,14 +13,14 @@ use Rattle.rc_rules.specs.declared.cause.Cause.{Cause}
 use Rattle.rc_rules.specs.Causes.{premise_number}
 use Rattle.rc_rules.specs.Labels.{Label, IsStrongest}
 use Rattle.rc_rules.specs.Labellings.{label_at, premises, befores, arm_end, arm_ends, break_end, break_ends, IsRefusedAt}
-use Rattle.rc_rules.specs.Sides.{Sides, gate, may_skip, nowhere, on}
+use Rattle.rc_rules.specs.Sides.{Sides, gate, may_skip, on, unreached}
 use Rattle.rc_rules.specs.Premises.{Premise, Meets, FailsFirst}
 use Rattle.rc_rules.specs.Rules.{agree_all}
 use Rattle.rc_rules.specs.States.{State, Gives, IsOfSame, label_of, program_of, sides_of}
 use Rattle.rc_verify.specs.declared.arms.Arms.{Arms}
 use Rattle.rc_verify.specs.declared.walk.Walk.{Walk}
 use Rattle.rc_verify.specs.Strongest.{AreStrongest}
-use Rattle.rc_verify.specs.Walk.{AreKept, Fits, IsBranch, IsLoop, IsMeet, IsOf, IsPeeked, IsSaved, Keeps, OnKept, Reaches, Turns, most_at}
+use Rattle.rc_verify.specs.Walk.{AreKept, Fits, IsBranch, IsLoop, IsMeet, IsOf, IsPeeked, IsSaved, Keeps, OnKept, PassesLine, Reaches, most_at}
 use Rattle.rc_verify.proofs.Best.{refused as refused_at}
 use Rattle.rc_verify.proofs.Ends.{arms_more, breaks_more}
 use Rattle.rc_verify.proofs.Fit.{fits_more}
@@ -33,7 +33,7 @@ asked_at P t j labels s = premises P t (take j t.lines) labels s
 
 -- both sides of the place before it
 abbrev pub seen_at : Thread → ℕ → List Sides → Sides
-seen_at t j labels = slice_index_or labels (length (take j t.lines)) nowhere
+seen_at t j labels = slice_index_or labels (length (take j t.lines)) unreached
 
 abbrev pub lead_at : Program → Thread → ℕ → List Sides → Stmt → Bool → List Label
 lead_at P t j labels s z = befores P t (take j t.lines) labels s z
@@ -80,7 +80,7 @@ branch_on : (P : Program) (t : Thread) (j : ℕ) (labels : List Sides) (new : Si
 branch_on P t j labels new n o None h = h
 branch_on P t j labels new n o (Some s) h =
     let lt : o < j = h.before in
-    record { of = h.of; before = omega arith; at = λ z. h.at z ∙ ap (λ x. gate (may_skip t.flag z (stmt_at t.lines o)) (on z x)) (sym (get_or-append labels (new ∷ []) nowhere o (omega (arith, n)))) }
+    record { of = h.of; before = omega arith; at = λ z. h.at z ∙ ap (λ x. gate (may_skip t.flag z (stmt_at t.lines o)) (on z x)) (sym (get_or-append labels (new ∷ []) unreached o (omega (arith, n)))) }
 
 branches_on : (P : Program) (t : Thread) (j : ℕ) (labels : List Sides) (new : Sides) → length labels ≡ j + 1 → (os : List ℕ) (xs : List (Option State)) → AreKept (OnKept (IsBranch P t j labels)) os xs → AreKept (OnKept (IsBranch P t (j + 1) (labels ++ new ∷ []))) os xs
 branches_on P t j labels new n os xs h = kept_too (OnKept (IsBranch P t j labels)) (OnKept (IsBranch P t (j + 1) (labels ++ new ∷ []))) os xs (λ k o x e r. branch_on P t j labels new n o x r) h
@@ -118,12 +118,12 @@ module _ (P : Program) (t : Thread) (j : ℕ) (w : Walk) (r : Reaches P t j w) (
   sized : length r.labels ≡ length (take j t.lines) + 1
   sized = omega (arith, r.at.size, front)
 
-  known_here : slice_index_or r.labels j nowhere ≡ sides_of w.state
-  known_here = get_or_from_slice_get r.labels j (sides_of w.state) nowhere r.at.here.at
+  known_here : slice_index_or r.labels j unreached ≡ sides_of w.state
+  known_here = get_or_from_slice_get r.labels j (sides_of w.state) unreached r.at.here.at
 
   -- the labels before the line are those of the walk's state
   pub here_is : sides_of w.state ≡ seen_at t j r.labels
-  here_is = sym (ap (λ k. slice_index_or r.labels k nowhere) front ∙ known_here)
+  here_is = sym (ap (λ k. slice_index_or r.labels k unreached) front ∙ known_here)
 
   pub fits_here : (z : Bool) → Fits (in_lock (blocks_at t.lines j)) (most_at j) (label_of w.state z)
   fits_here z = r.at.fits j (sides_of w.state) r.at.here.at z
@@ -194,9 +194,9 @@ module _ (P : Program) (t : Thread) (j : ℕ) (w : Walk) (r : Reaches P t j w) (
             };
           }
 
-  pub turns : {X : Type 0} (w' : Walk) (x : Result X Cause) → Gave P t w'.state x (asked_at P t j r.labels s) (lead_at P t j r.labels s) → (AreStrongestOf w'.state (lead_at P t j r.labels s) → (z : Bool) → Fits (in_lock (blocks_at t.lines (j + 1))) (most_at (j + 1)) (label_of w'.state z)) → ((y : X) → x ≡ Ok y → Keeps P t (j + 1) (r.labels ++ sides_of w'.state ∷ []) w') → Turns P t j w' x
-  turns w' (Ok y) g f k = onward w' g.0 g.1 g.2 (f g.1) (k y refl)
-  turns w' (Err c) g f k = refused (premise_number c) g
+  pub passes : {X : Type 0} (w' : Walk) (x : Result X Cause) → Gave P t w'.state x (asked_at P t j r.labels s) (lead_at P t j r.labels s) → (AreStrongestOf w'.state (lead_at P t j r.labels s) → (z : Bool) → Fits (in_lock (blocks_at t.lines (j + 1))) (most_at (j + 1)) (label_of w'.state z)) → ((y : X) → x ≡ Ok y → Keeps P t (j + 1) (r.labels ++ sides_of w'.state ∷ []) w') → PassesLine P t j w' x
+  passes w' (Ok y) g f k = onward w' g.0 g.1 g.2 (f g.1) (k y refl)
+  passes w' (Err c) g f k = refused (premise_number c) g
 
   -- ---- what is kept of blocks that stay open
 

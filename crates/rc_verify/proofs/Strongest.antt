@@ -14,7 +14,7 @@ use Rattle.rc_rules.specs.Labels.{Label, Weaker, WeakerThanEach, IsStrongest, Is
 use Rattle.rc_rules.specs.Premises.{Meets}
 use Rattle.rc_rules.specs.Labellings.{label_at, befores, premises, IsGoodAt, IsGood, start_of}
 use Rattle.rc_rules.specs.Laws.{EachWeaker, IsStronger}
-use Rattle.rc_rules.specs.Sides.{Sides, nowhere, on}
+use Rattle.rc_rules.specs.Sides.{Sides, on, unreached}
 use Rattle.rc_rules.proofs.Growth.{rules_grow}
 use Rattle.rc_rules.proofs.Weaker.{same_above, same_below, weaker_trans}
 use Rattle.rc_verify.specs.Strongest.{AreStrongest}
@@ -58,15 +58,15 @@ last_good P thread lines l ls g =
 -- a line more, with labels that are weaker than each that leads behind it
 pub good_more : (P : Program) (thread : Thread) (lines : List Line) (l : Line) (ls : List Sides) (s : Sides) → length ls ≡ length lines + 1 → IsGood P thread lines ls → Meets (premises P thread lines ls l.stmt) → ((z : Bool) → WeakerThanEach (on z s) (befores P thread lines ls l.stmt z)) → IsGood P thread (lines ++ l ∷ []) (ls ++ s ∷ [])
 good_more P thread lines l ls s size good meets weaker = record {
-  begins = λ z. rw (get_or-append ls (s ∷ []) nowhere 0 (omega (arith, size))) (good.begins z);
+  begins = λ z. rw (get_or-append ls (s ∷ []) unreached 0 (omega (arith, size))) (good.begins z);
   each = λ j m is. elim (get_push lines l j m is) [
     | inl at ↦
         let lt = slice_get_within lines j m at in
         let a = good.each j m at in
-        good_at P thread (lines ++ l ∷ []) (take j lines) (ls ++ s ∷ []) (take (j + 1) ls) j (label_at ls (j + 1)) m.stmt (take-append-le j lines (l ∷ []) (omega arith)) (take-append-le (j + 1) ls (s ∷ []) (omega (arith, size))) (λ z. ap (on z) (get_or-append ls (s ∷ []) nowhere (j + 1) (omega (arith, size)))) a.meets a.after
+        good_at P thread (lines ++ l ∷ []) (take j lines) (ls ++ s ∷ []) (take (j + 1) ls) j (label_at ls (j + 1)) m.stmt (take-append-le j lines (l ∷ []) (omega arith)) (take-append-le (j + 1) ls (s ∷ []) (omega (arith, size))) (λ z. ap (on z) (get_or-append ls (s ∷ []) unreached (j + 1) (omega (arith, size)))) a.meets a.after
     | inr e ↦
         let known : take (length lines + 1) (ls ++ s ∷ []) ≡ ls = rw (← size) (take-append_seam ls (s ∷ [])) in
-        let after : (z : Bool) → label_at (ls ++ s ∷ []) (length lines + 1) z ≡ on z s = λ z. rw (← size) (ap (on z) (get_or-append_seam ls s [] nowhere)) in
+        let after : (z : Bool) → label_at (ls ++ s ∷ []) (length lines + 1) z ≡ on z s = λ z. rw (← size) (ap (on z) (get_or-append_seam ls s [] unreached)) in
         rw (e.0, ← e.1) (good_at P thread (lines ++ l ∷ []) lines (ls ++ s ∷ []) ls (length lines) (λ z. on z s) l.stmt (take-append_seam lines (l ∷ [])) known after meets weaker)
   ];
 }
@@ -83,12 +83,12 @@ weaker_than_more s (x ∷ xs) (y ∷ ys) w g = (weaker_trans s x y w.0 g.0, weak
 -- Good labels up to a place say no more than the strongest.
 pub known_below : (P : Program) (thread : Thread) (lines : List Line) (ls ks : List Sides) → AreStrongest P thread lines ls → IsGood P thread lines ks → IsStronger (take (length lines + 1) ks) (take (length lines + 1) ls)
 known_below P thread lines ls ks s g k z = elim (cases_lt k (length lines + 1)) [
-  | inl lt ↦ rw (get_or-take (length lines + 1) ks k nowhere lt, get_or-take (length lines + 1) ls k nowhere lt) (s.strongest ks g k z (omega arith))
-  | inr le ↦ let past = get_or_past (take (length lines + 1) ls) k nowhere (omega (arith, le, length-take (length lines + 1) ls)) in rw past (anything z)
+  | inl lt ↦ rw (get_or-take (length lines + 1) ks k unreached lt, get_or-take (length lines + 1) ls k unreached lt) (s.strongest ks g k z (omega arith))
+  | inr le ↦ let past = get_or_past (take (length lines + 1) ls) k unreached (omega (arith, le, length-take (length lines + 1) ls)) in rw past (anything z)
 ]
   where
-    -- of nowhere everything is said
-    anything : (z : Bool) → Weaker (label_at (take (length lines + 1) ks) k z) (on z nowhere)
+    -- where nothing reaches everything is said
+    anything : (z : Bool) → Weaker (label_at (take (length lines + 1) ks) k z) (on z unreached)
     anything true = tt
     anything false = tt
 
@@ -115,11 +115,11 @@ goes_on P thread lines ls l s size strong meets best = record {
       let front = front_good P thread lines l ks g in
       elim (cases_lt k (length lines + 1)) [
         | inl lt ↦
-            let e : label_at (ls ++ s ∷ []) k z ≡ label_at ls k z = ap (on z) (get_or-append ls (s ∷ []) nowhere k (omega (arith, size))) in
+            let e : label_at (ls ++ s ∷ []) k z ≡ label_at ls k z = ap (on z) (get_or-append ls (s ∷ []) unreached k (omega (arith, size))) in
             rw e (strong.strongest ks front k z (omega arith))
         | inr ge ↦
             let y : k ≡ length lines + 1 = omega (arith, le, length-append lines (l ∷ [])) in
-            let after : label_at (ls ++ s ∷ []) (length lines + 1) z ≡ on z s = rw (← size) (ap (on z) (get_or-append_seam ls s [] nowhere)) in
+            let after : label_at (ls ++ s ∷ []) (length lines + 1) z ≡ on z s = rw (← size) (ap (on z) (get_or-append_seam ls s [] unreached)) in
             let last = last_good P thread lines l ks g in
             let below = below_strongest P thread lines ls ks size strong front in
             let grown = (rules_grow P thread lines (take (length lines + 1) ks) ls l.stmt below).gives_more last.0 z in

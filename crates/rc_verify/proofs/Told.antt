@@ -5,7 +5,7 @@ use Rattle.rc_lang.specs.declared.lines.Line.{Line}
 use Rattle.rc_lang.specs.Program.{Program, Thread}
 use Rattle.rc_rules.specs.declared.cause.Cause.{Cause}
 use Rattle.rc_rules.specs.Labellings.{HasLabels, IsGood, IsRefusedAt}
-use Rattle.rc_rules.specs.Sides.{nowhere, on}
+use Rattle.rc_rules.specs.Sides.{on, unreached}
 use Rattle.rc_rules.specs.States.{program_of, sides_of}
 use Rattle.rc_verify.specs.declared.walk.Walk.{Walk}
 use Rattle.rc_verify.specs.Labels.{Goes, IsHere, IsRefusedFor, IsStrongestAt, Labels, Stands}
@@ -18,8 +18,8 @@ told P t j w r = record {
   strongest = λ ks g z. rw (← known) (r.at.strongest.strongest ks g j z size);
 }
   where
-    known : slice_index_or r.labels j nowhere ≡ sides_of w.state
-    known = get_or_from_slice_get r.labels j (sides_of w.state) nowhere r.at.here.at
+    known : slice_index_or r.labels j unreached ≡ sides_of w.state
+    known = get_or_from_slice_get r.labels j (sides_of w.state) unreached r.at.here.at
 
     size : j ≤ length (take j t.lines)
     size = let within = r.at.within in omega (arith, within, length-take j t.lines)

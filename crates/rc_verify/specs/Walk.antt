@@ -148,6 +148,6 @@ pub record Reaches (P : Program) (t : Thread) (j : ℕ) (w : Walk) : Type 0 wher
   pub at : IsAt P t j labels w
 
 -- The walk goes on behind the line at j, or that line is refused.
-abbrev pub Turns : {X : Type 0} → Program → Thread → ℕ → Walk → Result X Cause → Type 0
-Turns P t j w (Ok x) = Reaches P t (j + 1) w
-Turns P t j w (Err cause) = (l : Line) × IsRefusedAt P t j l (premise_number cause)
+abbrev pub PassesLine : {X : Type 0} → Program → Thread → ℕ → Walk → Result X Cause → Type 0
+PassesLine P t j w (Ok x) = Reaches P t (j + 1) w
+PassesLine P t j w (Err cause) = (l : Line) × IsRefusedAt P t j l (premise_number cause)

@@ -63,7 +63,7 @@ impl<'a> Walk<'a> {
 pub fn pass<'a>(walk: &mut Walk<'a>, thread: &Thread, place: usize, stmt: Stmt) -> Result<(), Cause>
     requires stands { programs.stmt_at thread.now.lines.items place ≡ Some stmt }
     requires reaches { spec.Reaches (program_of walk.old.state) (view_thread thread.now) place walk.old }
-    ensures turns { spec.Turns (program_of walk.old.state) (view_thread thread.now) place walk.new result }
+    ensures passes { spec.PassesLine (program_of walk.old.state) (view_thread thread.now) place walk.new result }
     ensures stays { OnErr result (walk.new.state ≡ walk.old.state) }
 {
     match stmt {

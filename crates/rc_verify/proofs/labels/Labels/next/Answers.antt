@@ -8,4 +8,4 @@ returns-then-self-len-clause-goes c =
     (refl, r.0, r.1)
 
 pub invariant_of-self : goal.invariant_of-self
-invariant_of-self c = refused_here c.self.inside.program.now _ c.self.inside.place c.self.inside.walk c.pass.new.walk c.self.inside.refused c.in-Err.cause c.self.invariant c.in_default.is c.in-Err.ensures.turns c.in-Err.ensures.stays
+invariant_of-self c = refused_here c.self.inside.program.now _ c.self.inside.place c.self.inside.walk c.pass.new.walk c.self.inside.refused c.in-Err.cause c.self.invariant c.in_default.is c.in-Err.ensures.passes c.in-Err.ensures.stays
