@@ -4,7 +4,7 @@ use Rattle.std.specs.Io.KnownBytes.{Appends}
 use Rattle.std.specs.List.{flat_map}
 use Rattle.rc_report.specs.declared.streams.DeviceFailed.{DeviceFailed}
 use Rattle.rc_report.specs.declared.verdict.Verdict.{Verdict}
-use Rattle.rc_report.specs.Files.{Judges, file_json, file_text}
+use Rattle.rc_report.specs.Files.{AnswersVerdict, file_json, file_text}
 use Rattle.rc_report.specs.Statuses.{status_of_verdict}
 
 -- What is said of a file: a status, and what is written.
@@ -23,7 +23,7 @@ WritesVerdict json name verdict old new = (text : List ℕ) × TellsFile json na
 
 -- The status of a file is that of the verdict on its bytes, which is written. Of bytes that aren't known it may be any.
 abbrev pub HasVerdict : Option (List ℕ) → Bool → List ℕ → Said → Type 0
-HasVerdict bytes json name said = (verdict : Verdict) × Judges bytes (Ok verdict) × TellsFile json name verdict said.text × (said.status ≡ status_of_verdict verdict)
+HasVerdict bytes json name said = (verdict : Verdict) × AnswersVerdict bytes (Ok verdict) × TellsFile json name verdict said.text × (said.status ≡ status_of_verdict verdict)
 
 -- That of a file that can't be opened or read is 3, and nothing is written.
 abbrev pub IsUnread : Said → Type 0

@@ -23,21 +23,21 @@ file_text file (Refused r) = file_line file (codes "refused") r.line (codes "V")
 file_text file (Unreadable line cause) = file_line file (codes "unreadable") line (codes "P") (reading.number_of_cause cause) (reading.name_of_cause cause)
 
 -- one JSON object, its keys in order, and a line feed
-abbrev pub line_object : List ℕ → List ℕ → ℕ → ℕ → List ℕ → Data
-line_object file name code line word =
+abbrev pub file_line_object : List ℕ → List ℕ → ℕ → ℕ → List ℕ → Data
+file_line_object file name code line word =
     object (member (codes "cause") (string name) (member (codes "code") (number (unsigned code)) (member (codes "file") (string file)
     (member (codes "line") (number (unsigned line)) (member (codes "verdict") (string word) no_members)))))
 
 abbrev pub file_object : List ℕ → Verdict → Data
 file_object file Accepted = object (member (codes "file") (string file) (member (codes "verdict") (string (codes "accepted")) no_members))
-file_object file (Refused r) = line_object file (rules_of.name_of r.cause) (rules_of.premise_number r.cause) r.line (codes "refused")
-file_object file (Unreadable line cause) = line_object file (reading.name_of_cause cause) (reading.number_of_cause cause) line (codes "unreadable")
+file_object file (Refused r) = file_line_object file (rules_of.name_of r.cause) (rules_of.premise_number r.cause) r.line (codes "refused")
+file_object file (Unreadable line cause) = file_line_object file (reading.name_of_cause cause) (reading.number_of_cause cause) line (codes "unreadable")
 
 abbrev pub file_json : List ℕ → Verdict → List ℕ
 file_json file verdict = compact_text (file_object file verdict) ++ codes "\n"
 
 -- The verdict on the bytes is answered. Where the source doesn't tell its bytes nothing is claimed.
-abbrev pub Judges : Option (List ℕ) → Result Verdict EngineFault → Type 0
-Judges None r = Unit {0}
-Judges (Some bytes) (Ok verdict) = IsVerdict (answer_of bytes) verdict
-Judges (Some bytes) (Err e) = Unit {0}
+abbrev pub AnswersVerdict : Option (List ℕ) → Result Verdict EngineFault → Type 0
+AnswersVerdict None r = Unit {0}
+AnswersVerdict (Some bytes) (Ok verdict) = IsVerdict (answer_of bytes) verdict
+AnswersVerdict (Some bytes) (Err e) = Unit {0}

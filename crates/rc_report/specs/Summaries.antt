@@ -41,9 +41,9 @@ abbrev pub is_result : ℤ → Option ℤ → Bool
 is_result r None = false
 is_result r (Some s) = int_eq s r
 
-abbrev pub completes : ℕ → Event → Bool
-completes u (ByThread i line a) = false
-completes u (ByKernel c) = c.user_data == u
+abbrev pub is_completion_of : ℕ → Event → Bool
+is_completion_of u (ByThread i line a) = false
+is_completion_of u (ByKernel c) = c.user_data == u
 
 abbrev pub gives : ℕ → ℤ → Event → Bool
 gives u r e = is_result r (result_in u e)
@@ -65,7 +65,7 @@ kind_name Nop = codes "nop"
 
 abbrev pub token_head : List Event → Token → List ℕ
 token_head events token =
-    joined (codes "completions of " ∷ decimal token.user_data ∷ codes ", " ∷ kind_name token.kind ∷ codes ": " ∷ decimal (count_by (completes token.user_data) events) ∷ [])
+    joined (codes "completions of " ∷ decimal token.user_data ∷ codes ", " ∷ kind_name token.kind ∷ codes ": " ∷ decimal (count_by (is_completion_of token.user_data) events) ∷ [])
 
 abbrev pub token_line : List Event → ℕ → Token → List ℕ
 token_line events i token = token_head events token ++ (placed (result_text token.user_data events) 0 events ++ codes "\n")
@@ -82,15 +82,15 @@ longer s t = if nat_lt s.events t.events then t else s
 abbrev pub stretched : Stretches → Stretch → Stretches
 stretched s t = record { longest = longer s.longest t; last = t }
 
-abbrev pub after_event : Stretches → Event → Stretches
-after_event s (ByThread i line a) = stretched s (next_stretch s.last i)
-after_event s (ByKernel c) = s
+abbrev pub stretches_after : Stretches → Event → Stretches
+stretches_after s (ByThread i line a) = stretched s (next_stretch s.last i)
+stretches_after s (ByKernel c) = s
 
 abbrev pub no_stretch : Stretch
 no_stretch = record { thread = 0; events = 0 }
 
 abbrev pub longest_stretch : List Event → Stretch
-longest_stretch events = (fold after_event (record { longest = no_stretch; last = no_stretch }) events).longest
+longest_stretch events = (fold stretches_after (record { longest = no_stretch; last = no_stretch }) events).longest
 
 abbrev pub stretch_line : Program → Stretch → List ℕ
 stretch_line program s =

@@ -2,7 +2,7 @@
 
 ghost use Rattle.std.specs.Prelude.{◌≡◌, ◌+◌, ◌<◌, ◌^◌, IfOk};
 ghost use Rattle.serde_json.specs.View.{view};
-ghost use Rattle.rc_report.specs.Files.{Judges, file_json, file_line, file_object, file_text, line_object};
+ghost use Rattle.rc_report.specs.Files.{AnswersVerdict, file_json, file_line, file_line_object, file_object, file_text};
 ghost use Rattle.rc_report.specs.Streams.{CountsReads, FailsToWrite, FailsToWriteOrGrow, OnlyFailsToRead, Wrote};
 
 use crate::check_engine::verdict_on;
@@ -20,7 +20,7 @@ use std::alloc::{AllocError, Global};
 pub fn read_verdict<R: Source>(alloc: Global, reader: &mut R) -> Result<Verdict, EngineFault>
     requires reads { R.read_count reader.old + 2097152 < 2 ^ 64 }
     requires failures { R.failure_count reader.old + 1 < 2 ^ 64 }
-    ensures verdict { Judges (R.remaining reader.old) result }
+    ensures verdict { AnswersVerdict (R.remaining reader.old) result }
     ensures reads { CountsReads
         (record { remaining = R.remaining reader.old; reads = R.read_count reader.old; ends = R.end_count reader.old; failures = R.failure_count reader.old })
         (record { remaining = R.remaining reader.new; reads = R.read_count reader.new; ends = R.end_count reader.new; failures = R.failure_count reader.new })
@@ -109,17 +109,17 @@ fn object_of(alloc: Global, file: &str, verdict: &Verdict) -> Result<Value, Allo
         Verdict::Accepted => json!(in alloc; {"file": file, "verdict": "accepted"}),
         Verdict::Refused(Refusal { line, cause }) => {
             let code = cause.number();
-            line_object(alloc, file, cause.name(), code, line, "refused")
+            file_line_object(alloc, file, cause.name(), code, line, "refused")
         }
         Verdict::Unreadable { line, cause } => {
             let code = cause.number() as u32;
-            line_object(alloc, file, cause.name(), code, line, "unreadable")
+            file_line_object(alloc, file, cause.name(), code, line, "unreadable")
         }
     }
 }
 
 /// What is said of a line of a file as a JSON object.
-fn line_object(
+fn file_line_object(
     alloc: Global,
     file: &str,
     name: &str,
@@ -127,7 +127,7 @@ fn line_object(
     line: u32,
     word: &str,
 ) -> Result<Value, AllocError>
-    ensures { IfOk result (λ v. view v ≡ line_object file.now name.now code line word.now) }
+    ensures { IfOk result (λ v. view v ≡ file_line_object file.now name.now code line word.now) }
 {
     json!(in alloc; {"cause": name, "code": code, "file": file, "line": line, "verdict": word})
 }

@@ -3,7 +3,7 @@
 ghost use Rattle.std.specs.Prelude.{◌≡◌, ◌+◌, ◌<◌, ◌≤◌, ◌^◌, ℤ, Option, length, count_by};
 ghost use Rattle.std.specs.List.{list_any};
 ghost use Rattle.rc_report.specs.Streams.{FailsToWrite, Wrote};
-ghost use Rattle.rc_report.specs.Summaries.{after_event, completes, gives, is_of, is_result, kind_name, longest_stretch, next_stretch, placed, result_in, result_text, stretch_line, summary_text, thread_line, token_head, token_line, longer};
+ghost use Rattle.rc_report.specs.Summaries.{gives, is_completion_of, is_of, is_result, kind_name, longer, longest_stretch, next_stretch, placed, result_in, result_text, stretch_line, stretches_after, summary_text, thread_line, token_head, token_line};
 ghost use Rattle.rc_report.specs.Traces.{NamesItsThreads};
 
 use crate::engine_fault::EngineFault;
@@ -169,17 +169,17 @@ fn kind_name(kind: TokenKind) -> &'static str
 
 /// How many completions have this user data.
 fn completions_of(events: &[Event], user_data: u64) -> usize
-    ensures { result ≡ count_by (completes user_data) events.now }
+    ensures { result ≡ count_by (is_completion_of user_data) events.now }
 {
     events
         .iter()
-        .filter(|event| completes(user_data, **event))
+        .filter(|event| is_completion_of(user_data, **event))
         .count()
 }
 
 /// Whether an event is a completion with this user data.
-fn completes(user_data: u64, event: Event) -> bool
-    ensures { result ≡ completes user_data event }
+fn is_completion_of(user_data: u64, event: Event) -> bool
+    ensures { result ≡ is_completion_of user_data event }
 {
     match event {
         Event::ByThread { .. } => false,
@@ -288,15 +288,15 @@ fn longest_stretch(events: &[Event]) -> Stretch
         last: none,
     };
     for (index, event) in events.iter().enumerate() {
-        so_far = after_event(so_far, *event);
+        so_far = stretches_after(so_far, *event);
     }
     so_far.longest
 }
 
 /// The stretches with one event more.
-fn after_event(so_far: Stretches, event: Event) -> Stretches
+fn stretches_after(so_far: Stretches, event: Event) -> Stretches
     requires { so_far.last.events + 1 < 2 ^ 64 }
-    ensures { result ≡ after_event so_far event }
+    ensures { result ≡ stretches_after so_far event }
 {
     let Event::ByThread { thread, .. } = event else {
         return so_far;
