@@ -8,8 +8,8 @@ use Rattle.rc_run.specs.Machine.{IsSized, world_of}
 use Rattle.rc_world.specs.Machine.{start_world}
 use Rattle.rc_world.specs.Runs.{IsRun}
 
-abbrev pub live_of : Inside → Live
-live_of a = record { history = a.history.items; world = world_of a.machine; datasync = a.machine.ring.datasync; out = a.out.items }
+abbrev pub view_live : Inside → Live
+view_live a = record { history = a.history.items; world = world_of a.machine; datasync = a.machine.ring.datasync; out = a.out.items }
 
 -- The events are those of a run of the program, to where the machine stands; and there is room for what jobs that are
 -- out will bring.

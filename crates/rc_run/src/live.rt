@@ -49,9 +49,9 @@ impl Model for Live {
 
     ghost Value = { lives.Live };
 
-    ghost use Rattle.rc_run.specs.LiveParts.{IsLive, live_of};
+    ghost use Rattle.rc_run.specs.LiveParts.{IsLive, view_live};
 
-    ghost view = { live_of };
+    ghost view = { view_live };
 
     ghost invariant = { IsLive };
 }

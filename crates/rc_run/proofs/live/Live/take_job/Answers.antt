@@ -3,7 +3,7 @@ use Rattle.std.specs.Prelude.{slice_get}
 use Rattle.rc_lang.specs.declared.request.Request.{Request}
 use Rattle.rc_world.specs.declared.event.Event.{Event}
 use Rattle.rc_run.specs.declared.machine.Pending.{Pending}
-use Rattle.rc_run.specs.LiveParts.{live_of}
+use Rattle.rc_run.specs.LiveParts.{view_live}
 use Rattle.rc_run.specs.Lives.{IsJobOf, Lent, Live, free, is_free}
 use Rattle.rc_world.specs.Machine.{Pending as WorldPending}
 use Rattle.rc_run.specs.Machine.{world_of}
@@ -14,7 +14,7 @@ pub returns-then-count-eq0-clause-ok : goal.returns-then-count-eq0-clause-ok
 returns-then-count-eq0-clause-ok c =
     let a = c.self.inside in
     let none : length (filter (λ (p : Pending). is_free a.out.items p.request) a.machine.pending.items) ≡ 0 = search rules in
-    (ap free (sym c.self.view_is) ∙ none_free (live_of a) a.machine.pending.items refl none, refl)
+    (ap free (sym c.self.view_is) ∙ none_free (view_live a) a.machine.pending.items refl none, refl)
 
 pub unreachable-requires : goal.unreachable-requires
 unreachable-requires c =
@@ -22,7 +22,7 @@ unreachable-requires c =
     let counted : c.free_count-count.result ≡ length (filter (λ (p : Pending). is_free a.out.items p.request) a.machine.pending.items) = search rules in
     let some : c.free_count-count.result ≢ 0 = search rules in
     let none : slice_get (filter (λ (p : Pending). is_free a.out.items p.request) a.machine.pending.items) (c.args.choice % c.free_count-count.result) ≡ None = search rules in
-    some_free (live_of a) a.machine.pending.items c.args.choice c.free_count-count.result counted some none
+    some_free (view_live a) a.machine.pending.items c.args.choice c.free_count-count.result counted some none
 
 pub returns-clause-ok : goal.returns-clause-ok
 returns-clause-ok c =
@@ -41,4 +41,4 @@ returns-clause-ok c =
     let job = c.in_ok-job.job in
     let of = subst (λ (r : List Request). (p : WorldPending) → slice_get w.pending c.in-Some.place ≡ Some p → IsJobOf (record w { completed = r }) p job) c.reserve-2.ensures.items c.in_ok-job.ensures in
     subst (λ (s : Live). Lent s c.args.choice job (with c.reserve.new.self.items c.reserve-2.new.self.items c.push_reserved.new.self.items)) c.self.view_is
-    (lent (live_of a) _ m.pending.items c.args.choice c.free_count-count.result c.in-Some.place job c.request.result.serial refl counted lt at of (ap (λ (r : Request). r.serial) c.request.ensures.value) after)
+    (lent (view_live a) _ m.pending.items c.args.choice c.free_count-count.result c.in-Some.place job c.request.result.serial refl counted lt at of (ap (λ (r : Request). r.serial) c.request.ensures.value) after)
