@@ -15,10 +15,10 @@ IsCountIfAny None = Unit {0}
 IsCountIfAny (Some r) = IsCount r
 
 -- The item answers no errno, and fills with 0.
-abbrev pub IsPlain : Item → Type 0
-IsPlain (Thread i take) = IsCountIfAny take
-IsPlain (Kernel u res fill) = IsCount res × (fill ≡ 0)
+abbrev pub HasPlainAnswer : Item → Type 0
+HasPlainAnswer (Thread i take) = IsCountIfAny take
+HasPlainAnswer (Kernel u res fill) = IsCount res × (fill ≡ 0)
 
 -- Such an item is enabled exactly where it is listed.
 abbrev pub ListedIsEnabled : Type 0
-ListedIsEnabled = (w : World) (item : Item) → IsPlain item → is_enabled w item ≡ is_listed w item
+ListedIsEnabled = (w : World) (item : Item) → HasPlainAnswer item → is_enabled w item ≡ is_listed w item

@@ -28,19 +28,19 @@ use Rattle.rc_state.specs.Parts.{each}
 -- ---- threads
 
 -- a line, by its number and its words
-abbrev pub line_text : List ℕ → Option Line → List ℕ
-line_text text None = []
-line_text text (Some l) = joined (codes "line " ∷ decimal l.number ∷ codes ", " ∷ []) ++ line_words text l.number
+abbrev pub line_with_words : List ℕ → Option Line → List ℕ
+line_with_words text None = []
+line_with_words text (Some l) = joined (codes "line " ∷ decimal l.number ∷ codes ", " ∷ []) ++ line_words text l.number
 
 abbrev pub holder_text : Program → Option ℕ → List ℕ
 holder_text program None = []
 holder_text program (Some i) = joined (codes "; " ∷ thread_name program i ∷ codes " has it" ∷ [])
 
 -- what a thread has next
-abbrev pub next_text : List ℕ → World → ℕ → Next → List ℕ
-next_text text w i (Ready l) = line_text text (Some l)
-next_text text w i TakenLock = codes "waits for the lock at " ++ (line_text text (next_line w.program w.controls i) ++ holder_text w.program w.controls.holder)
-next_text text w i Ended = codes "ended"
+abbrev pub thread_next_text : List ℕ → World → ℕ → Next → List ℕ
+thread_next_text text w i (Ready l) = line_with_words text (Some l)
+thread_next_text text w i TakenLock = codes "waits for the lock at " ++ (line_with_words text (next_line w.program w.controls i) ++ holder_text w.program w.controls.holder)
+thread_next_text text w i Ended = codes "ended"
 
 -- A variable has the number that it got at its first use in the thread, from 0. Those that are 0 aren't shown.
 abbrev pub variable_text : ℕ → ℤ → List ℕ
@@ -57,7 +57,7 @@ variables_text w i = each (variables_of (slice_get w.program.threads i)) (λ x. 
 abbrev pub thread_text : List ℕ → World → ℕ → List ℕ
 thread_text text w i =
     joined (codes "thread " ∷ thread_name w.program i ∷ codes ": " ∷ [])
-    ++ (next_text text w i (next_of w.program w.controls i) ++ (codes "\n  variables:" ++ (variables_text w i ++ codes "\n")))
+    ++ (thread_next_text text w i (next_of w.program w.controls i) ++ (codes "\n  variables:" ++ (variables_text w i ++ codes "\n")))
 
 -- ---- requests
 
@@ -69,25 +69,25 @@ name_of_buffer (Some b) = b.name
 abbrev pub moved_text : List ℕ → Program → Request → List ℕ
 moved_text word program r = joined (word ∷ codes " " ∷ name_of_buffer (slice_get program.buffers r.buffer) ∷ codes " " ∷ decimal r.len ∷ [])
 
-abbrev pub kind_text : Program → Request → Kind → List ℕ
-kind_text program r Nop = codes "nop"
-kind_text program r Fsync = codes "fsync"
-kind_text program r Read = moved_text (codes "read") program r
-kind_text program r Write = moved_text (codes "write") program r
+abbrev pub request_kind_text : Program → Request → Kind → List ℕ
+request_kind_text program r Nop = codes "nop"
+request_kind_text program r Fsync = codes "fsync"
+request_kind_text program r Read = moved_text (codes "read") program r
+request_kind_text program r Write = moved_text (codes "write") program r
 
 -- the open entry: a prepared one has no user data yet
-abbrev pub slot_text : Program → Slot → List ℕ
-slot_text program Closed = codes "entry: none\n"
-slot_text program Vacant = codes "entry: vacant\n"
-slot_text program (Prepared r) = codes "entry: prepared " ++ (kind_text program r r.kind ++ codes "\n")
+abbrev pub open_entry_text : Program → Slot → List ℕ
+open_entry_text program Closed = codes "entry: none\n"
+open_entry_text program Vacant = codes "entry: vacant\n"
+open_entry_text program (Prepared r) = codes "entry: prepared " ++ (request_kind_text program r r.kind ++ codes "\n")
 
 -- a request that has its user data, behind the word for where it is
 abbrev pub request_text : List ℕ → Program → Option Request → List ℕ
 request_text word program None = []
-request_text word program (Some r) = joined (word ∷ codes ": " ∷ decimal r.user_data ∷ codes " " ∷ []) ++ (kind_text program r r.kind ++ codes "\n")
+request_text word program (Some r) = joined (word ∷ codes ": " ∷ decimal r.user_data ∷ codes " " ∷ []) ++ (request_kind_text program r r.kind ++ codes "\n")
 
-abbrev pub request_of : Option Pending → Option Request
-request_of pending = option_map (λ (p : Pending). p.request) pending
+abbrev pub pending_request : Option Pending → Option Request
+pending_request pending = option_map (λ (p : Pending). p.request) pending
 
 -- a completion, with the user data and the result
 abbrev pub completion_text : Option Completion → List ℕ
@@ -98,26 +98,26 @@ completion_text (Some c) = joined (codes "completed: " ∷ decimal c.user_data �
 abbrev pub requests_text : World → List ℕ
 requests_text w =
     each (length w.queued) (λ k. request_text (codes "queued") w.program (slice_get w.queued k))
-    ++ (each (length w.pending) (λ k. request_text (codes "pending") w.program (request_of (slice_get w.pending k))) ++ each (length w.completions) (λ k. completion_text (slice_get w.completions k)))
+    ++ (each (length w.pending) (λ k. request_text (codes "pending") w.program (pending_request (slice_get w.pending k))) ++ each (length w.completions) (λ k. completion_text (slice_get w.completions k)))
 
 -- ---- the pool
 
-abbrev pub share_text : List ℕ → ℕ → List ℕ
-share_text name count = if nat_eq count 0 then [] else joined (codes " " ∷ name ∷ codes ":" ∷ decimal count ∷ [])
+abbrev pub pool_share_text : List ℕ → ℕ → List ℕ
+pool_share_text name count = if nat_eq count 0 then [] else joined (codes " " ∷ name ∷ codes ":" ∷ decimal count ∷ [])
 
-abbrev pub token_text : ℕ → ℕ → List ℕ
-token_text u count = if nat_le 1 count then joined (codes " t:" ∷ decimal u ∷ []) else []
+abbrev pub pool_token_text : ℕ → ℕ → List ℕ
+pool_token_text u count = if nat_le 1 count then joined (codes " t:" ∷ decimal u ∷ []) else []
 
 abbrev pub token_in_pool : World → Option Token → List ℕ
 token_in_pool w None = []
-token_in_pool w (Some t) = token_text t.user_data (pooled w.program w.controls.pool (TokenOf t.user_data))
+token_in_pool w (Some t) = pool_token_text t.user_data (pooled w.program w.controls.pool (TokenOf t.user_data))
 
 -- the pool, as items: shares and tokens in the order of their declarations
 abbrev pub pool_text : World → List ℕ
 pool_text w =
     codes "pool:"
-    ++ (each (length w.program.buffers) (λ b. share_text (name_of_buffer (slice_get w.program.buffers b)) (pooled w.program w.controls.pool (ShareOf b)))
-    ++ (each (length w.program.tokens) (λ k. token_in_pool w (slice_get w.program.tokens k)) ++ (share_text (codes "c") (pooled w.program w.controls.pool Credit) ++ codes "\n")))
+    ++ (each (length w.program.buffers) (λ b. pool_share_text (name_of_buffer (slice_get w.program.buffers b)) (pooled w.program w.controls.pool (ShareOf b)))
+    ++ (each (length w.program.tokens) (λ k. token_in_pool w (slice_get w.program.tokens k)) ++ (pool_share_text (codes "c") (pooled w.program w.controls.pool Credit) ++ codes "\n")))
 
 -- ---- what is enabled
 
@@ -139,5 +139,5 @@ choices_text w =
 
 -- ---- the whole
 
-abbrev pub state_text : List ℕ → World → List ℕ
-state_text text w = each (length w.program.threads) (λ i. thread_text text w i) ++ (slot_text w.program w.slot ++ (requests_text w ++ (pool_text w ++ choices_text w)))
+abbrev pub world_text : List ℕ → World → List ℕ
+world_text text w = each (length w.program.threads) (λ i. thread_text text w i) ++ (open_entry_text w.program w.slot ++ (requests_text w ++ (pool_text w ++ choices_text w)))

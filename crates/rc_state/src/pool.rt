@@ -31,7 +31,7 @@ pub fn write_pool<W: Sink>(writer: &mut W, world: &World<'_>) -> Result<(), Engi
 fn write_shares<W: Sink>(writer: &mut W, world: &World<'_>) -> Result<(), EngineFault>
     requires { W.failure_count writer.old + 1 < 2 ^ 64 }
     ensures text { Wrote (W.contents writer.old) (W.contents writer.new)
-        (each (length world.now.program.buffers) (λ b. spec.share_text (spec.name_of_buffer (slice_get world.now.program.buffers b)) (pooled world.now.program world.now.controls.pool (ShareOf b)))) result }
+        (each (length world.now.program.buffers) (λ b. spec.pool_share_text (spec.name_of_buffer (slice_get world.now.program.buffers b)) (pooled world.now.program world.now.controls.pool (ShareOf b)))) result }
     ensures failures { FailsToWrite (W.failure_count writer.old) (W.failure_count writer.new) result }
 {
     let program = world.program();
@@ -45,7 +45,7 @@ fn write_shares<W: Sink>(writer: &mut W, world: &World<'_>) -> Result<(), Engine
 /// Writes how many shares of a name there are, where there is any.
 fn write_share<W: Sink>(writer: &mut W, name: &[u8], count: u32) -> Result<(), EngineFault>
     requires { W.failure_count writer.old + 1 < 2 ^ 64 }
-    ensures text { Wrote (W.contents writer.old) (W.contents writer.new) (spec.share_text name.now count) result }
+    ensures text { Wrote (W.contents writer.old) (W.contents writer.new) (spec.pool_share_text name.now count) result }
     ensures failures { FailsToWrite (W.failure_count writer.old) (W.failure_count writer.new) result }
 {
     if count == 0 {

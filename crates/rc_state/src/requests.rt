@@ -18,7 +18,7 @@ use rc_world::world::{Slot, World};
 /// Writes the open entry.
 pub fn write_slot<W: Sink>(writer: &mut W, program: &Program, slot: Slot) -> Result<(), EngineFault>
     requires { W.failure_count writer.old + 1 < 2 ^ 64 }
-    ensures text { Wrote (W.contents writer.old) (W.contents writer.new) (spec.slot_text program.now slot) result }
+    ensures text { Wrote (W.contents writer.old) (W.contents writer.new) (spec.open_entry_text program.now slot) result }
     ensures failures { FailsToWrite (W.failure_count writer.old) (W.failure_count writer.new) result }
 {
     match slot {
@@ -58,7 +58,7 @@ fn write_queued<W: Sink>(writer: &mut W, world: &World<'_>) -> Result<(), Engine
 fn write_pending<W: Sink>(writer: &mut W, world: &World<'_>) -> Result<(), EngineFault>
     requires { W.failure_count writer.old + 1 < 2 ^ 64 }
     ensures text { Wrote (W.contents writer.old) (W.contents writer.new)
-        (each (length world.now.pending) (λ k. spec.request_text (codes "pending") world.now.program (spec.request_of (slice_get world.now.pending k)))) result }
+        (each (length world.now.pending) (λ k. spec.request_text (codes "pending") world.now.program (spec.pending_request (slice_get world.now.pending k)))) result }
     ensures failures { FailsToWrite (W.failure_count writer.old) (W.failure_count writer.new) result }
 {
     for place in 0..world.pending_len() {

@@ -2,7 +2,7 @@
 
 ghost use Rattle.std.specs.Prelude.{◌+◌, ◌<◌, ◌^◌};
 ghost use Rattle.rc_report.specs.Streams.{FailsToWrite, Wrote};
-ghost use Rattle.rc_state.specs.State.{state_text};
+ghost use Rattle.rc_state.specs.State.{world_text};
 
 use crate::choices::write_choices;
 use crate::pool::write_pool;
@@ -20,7 +20,7 @@ pub fn write_state<W: Sink>(
     world: &World<'_>,
 ) -> Result<(), EngineFault>
     requires { W.failure_count writer.old + 1 < 2 ^ 64 }
-    ensures text { Wrote (W.contents writer.old) (W.contents writer.new) (state_text text.now world.now) result }
+    ensures text { Wrote (W.contents writer.old) (W.contents writer.new) (world_text text.now world.now) result }
     ensures failures { FailsToWrite (W.failure_count writer.old) (W.failure_count writer.new) result }
 {
     write_threads(writer, text, world)?;

@@ -4,7 +4,7 @@ ghost use Rattle.std.specs.Prelude.{◌≡◌, ◌+◌, ◌<◌, ◌^◌, IfOk};
 ghost use Rattle.rc_read.specs.Answer.{answer_of};
 ghost use Rattle.rc_report.specs.Engine.{EndsBy, EndsItems, WritesNothingOnRead, end_of};
 ghost use Rattle.rc_report.specs.Streams.{CountsReads, CountsWrites, FailsToWriteOrGrow, Wrote};
-ghost use Rattle.rc_state.specs.Engine.{ShowsAs, items_text, shown_text, trace_and_state};
+ghost use Rattle.rc_state.specs.Engine.{ShowsAs, items_with_state, stepped_with_state, trace_and_state};
 ghost use Rattle.rc_world.specs.Schedule.{items_of};
 ghost use Rattle.rc_world.specs.Trace.{trace_of};
 
@@ -59,7 +59,7 @@ fn show_bytes<W: Sink>(
     writer: &mut W,
 ) -> Result<StepEnd, EngineFault>
     requires { W.failure_count writer.old + 1 < 2 ^ 64 }
-    ensures text { Wrote (W.contents writer.old) (W.contents writer.new) (shown_text text.now schedule.now) result }
+    ensures text { Wrote (W.contents writer.old) (W.contents writer.new) (stepped_with_state text.now schedule.now) result }
     ensures end { IfOk result (EndsBy (answer_of text.now) schedule.now) }
     ensures failures { FailsToWriteOrGrow (W.failure_count writer.old) (W.failure_count writer.new) result }
 {
@@ -83,7 +83,7 @@ fn show_program<W: Sink>(
 ) -> Result<StepEnd, EngineFault>
     requires { W.failure_count writer.old + 1 < 2 ^ 64 }
     ensures text { Wrote (W.contents writer.old) (W.contents writer.new)
-        (items_text text.now program.now (items_of program.now schedule.now)) result }
+        (items_with_state text.now program.now (items_of program.now schedule.now)) result }
     ensures end { IfOk result (EndsItems program.now (items_of program.now schedule.now)) }
     ensures failures { FailsToWriteOrGrow (W.failure_count writer.old) (W.failure_count writer.new) result }
 {

@@ -62,7 +62,7 @@ fn write_next<W: Sink>(
 ) -> Result<(), EngineFault>
     requires { W.failure_count writer.old + 1 < 2 ^ 64 }
     ensures text { Wrote (W.contents writer.old) (W.contents writer.new)
-        (spec.next_text text.now world.now thread (next_of world.now.program world.now.controls thread)) result }
+        (spec.thread_next_text text.now world.now thread (next_of world.now.program world.now.controls thread)) result }
     ensures failures { FailsToWrite (W.failure_count writer.old) (W.failure_count writer.new) result }
 {
     match world.next(thread) {
@@ -79,7 +79,7 @@ fn write_next<W: Sink>(
 /// Writes the number and the words of a line.
 fn write_line<W: Sink>(writer: &mut W, text: &[u8], line: Option<Line>) -> Result<(), EngineFault>
     requires { W.failure_count writer.old + 1 < 2 ^ 64 }
-    ensures text { Wrote (W.contents writer.old) (W.contents writer.new) (spec.line_text text.now line) result }
+    ensures text { Wrote (W.contents writer.old) (W.contents writer.new) (spec.line_with_words text.now line) result }
     ensures failures { FailsToWrite (W.failure_count writer.old) (W.failure_count writer.new) result }
 {
     let Some(line) = line else {

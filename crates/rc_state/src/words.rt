@@ -4,7 +4,7 @@ ghost use Rattle.std.specs.Prelude.{◌≡◌, ◌+◌, ◌<◌, ◌^◌, [], �
 ghost use Rattle.rc_lang.specs.Program.{IsProgram};
 ghost use Rattle.rc_report.specs.Printed.{joined, thread_name};
 ghost use Rattle.rc_report.specs.Streams.{FailsToWrite, Wrote};
-ghost use Rattle.rc_state.specs.State.{kind_text, moved_text, name_of_buffer};
+ghost use Rattle.rc_state.specs.State.{moved_text, name_of_buffer, request_kind_text};
 
 use itoa::Buffer;
 use rc_lang::program::Program;
@@ -40,7 +40,7 @@ pub fn write_kind<W: Sink>(
     request: Request,
 ) -> Result<(), EngineFault>
     requires { W.failure_count writer.old + 1 < 2 ^ 64 }
-    ensures text { Wrote (W.contents writer.old) (W.contents writer.new) (kind_text program.now request request.kind) result }
+    ensures text { Wrote (W.contents writer.old) (W.contents writer.new) (request_kind_text program.now request request.kind) result }
     ensures failures { FailsToWrite (W.failure_count writer.old) (W.failure_count writer.new) result }
 {
     match request.kind {
