@@ -1,5 +1,5 @@
 -- What is known on a side of a line, in words.
-use Rattle.std.specs.Prelude.{ℕ, ◌+◌, Bool, true, false, cond, nat_eq, List, [], ◌∷◌, ◌++◌, codes, decimal, slice_index_or}
+use Rattle.std.specs.Prelude.{ℕ, Bool, true, false, cond, nat_eq, List, [], ◌∷◌, ◌++◌, codes, decimal, slice_index_or}
 use Rattle.rc_lang.specs.declared.program.Token.{Token}
 use Rattle.rc_lang.specs.declared.program.TokenKind.{TokenKind}
 use Rattle.rc_lang.specs.declared.program.TokenKind.TheVariants.{Read, Write, Fsync, Nop}
@@ -14,11 +14,7 @@ use Rattle.rc_rules.specs.declared.mode.Slot.TheVariants.{Closed, Vacant, Prepar
 use Rattle.rc_rules.specs.Labels.{Label, Dead, Live}
 use Rattle.rc_split.specs.Bags.{Part, ShareOf, TokenOf, Credit}
 use Rattle.rc_report.specs.Printed.{joined}
-
--- what is said of each member of a list, by its number, one after another
-abbrev pub numbered : {A : Type 0} → (ℕ → A → List ℕ) → ℕ → List A → List ℕ
-numbered f i [] = []
-numbered f i (x ∷ xs) = f i x ++ numbered f (i + 1) xs
+use Rattle.rc_report.specs.Summaries.{placed}
 
 -- ---- what is held: shares and tokens in the order of their declarations, and credits, with a blank before each
 
@@ -32,10 +28,10 @@ abbrev pub token_text : (Part → ℕ) → ℕ → Token → List ℕ
 token_text bag i token = cond (nat_eq (bag (TokenOf token.user_data)) 0) [] (joined (codes " t:" ∷ decimal token.user_data ∷ []))
 
 abbrev pub others_text : List Token → (Part → ℕ) → List ℕ
-others_text tokens bag = numbered (token_text bag) 0 tokens ++ item_text (codes "c") (bag Credit)
+others_text tokens bag = placed (token_text bag) 0 tokens ++ item_text (codes "c") (bag Credit)
 
-abbrev pub items_text : Program → (Part → ℕ) → List ℕ
-items_text program bag = numbered (share_text bag) 0 program.buffers ++ others_text program.tokens bag
+abbrev pub held_items_text : Program → (Part → ℕ) → List ℕ
+held_items_text program bag = placed (share_text bag) 0 program.buffers ++ others_text program.tokens bag
 
 -- whether there is a text
 abbrev pub has_some : List ℕ → Bool
@@ -47,7 +43,7 @@ or_nothing [] = codes " nothing"
 or_nothing (byte ∷ bytes) = byte ∷ bytes
 
 abbrev pub held_text : Program → (Part → ℕ) → List ℕ
-held_text program bag = codes "holds" ++ or_nothing (items_text program bag)
+held_text program bag = codes "holds" ++ or_nothing (held_items_text program bag)
 
 -- ---- what is known of the ring
 

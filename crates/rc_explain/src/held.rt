@@ -5,6 +5,7 @@ ghost use Rattle.rc_explain.specs.StateText as spec;
 ghost use Rattle.rc_lang.specs.Parts.{view_buffer};
 ghost use Rattle.rc_report.specs.Printed.{joined};
 ghost use Rattle.rc_report.specs.Streams.{FailsToWrite, Wrote};
+ghost use Rattle.rc_report.specs.Summaries.{placed};
 ghost use Rattle.rc_rules.specs.States.{held_at, side_label};
 
 use itoa::Buffer as Digits;
@@ -52,8 +53,8 @@ fn write_shares<W: Sink>(
     buffers: &[Buffer],
 ) -> Result<bool, EngineFault>
     requires { W.failure_count writer.old + 1 < 2 ^ 64 }
-    ensures text { Wrote (W.contents writer.old) (W.contents writer.new) (spec.numbered (λ i b. spec.share_text (held_at (side_label side.now)) i (view_buffer b)) 0 buffers.now) result }
-    ensures some { IfOk result (λ some. some ≡ spec.has_some (spec.numbered (λ i b. spec.share_text (held_at (side_label side.now)) i (view_buffer b)) 0 buffers.now)) }
+    ensures text { Wrote (W.contents writer.old) (W.contents writer.new) (placed (λ i b. spec.share_text (held_at (side_label side.now)) i (view_buffer b)) 0 buffers.now) result }
+    ensures some { IfOk result (λ some. some ≡ spec.has_some (placed (λ i b. spec.share_text (held_at (side_label side.now)) i (view_buffer b)) 0 buffers.now)) }
     ensures failures { FailsToWrite (W.failure_count writer.old) (W.failure_count writer.new) result }
 {
     let mut some = false;
@@ -82,8 +83,8 @@ fn write_token<W: Sink>(writer: &mut W, side: &Side, token: Token) -> Result<boo
 /// Writes the tokens that are held, and answers whether there are any.
 fn write_tokens<W: Sink>(writer: &mut W, side: &Side, tokens: &[Token]) -> Result<bool, EngineFault>
     requires { W.failure_count writer.old + 1 < 2 ^ 64 }
-    ensures text { Wrote (W.contents writer.old) (W.contents writer.new) (spec.numbered (spec.token_text (held_at (side_label side.now))) 0 tokens.now) result }
-    ensures some { IfOk result (λ some. some ≡ spec.has_some (spec.numbered (spec.token_text (held_at (side_label side.now))) 0 tokens.now)) }
+    ensures text { Wrote (W.contents writer.old) (W.contents writer.new) (placed (spec.token_text (held_at (side_label side.now))) 0 tokens.now) result }
+    ensures some { IfOk result (λ some. some ≡ spec.has_some (placed (spec.token_text (held_at (side_label side.now))) 0 tokens.now)) }
     ensures failures { FailsToWrite (W.failure_count writer.old) (W.failure_count writer.new) result }
 {
     let mut some = false;
@@ -109,8 +110,8 @@ fn write_others<W: Sink>(writer: &mut W, side: &Side, tokens: &[Token]) -> Resul
 /// Writes what is held, in the order of the declarations, and answers whether there is anything.
 fn write_items<W: Sink>(writer: &mut W, program: &Program, side: &Side) -> Result<bool, EngineFault>
     requires { W.failure_count writer.old + 1 < 2 ^ 64 }
-    ensures text { Wrote (W.contents writer.old) (W.contents writer.new) (spec.items_text program.now (held_at (side_label side.now))) result }
-    ensures some { IfOk result (λ some. some ≡ spec.has_some (spec.items_text program.now (held_at (side_label side.now)))) }
+    ensures text { Wrote (W.contents writer.old) (W.contents writer.new) (spec.held_items_text program.now (held_at (side_label side.now))) result }
+    ensures some { IfOk result (λ some. some ≡ spec.has_some (spec.held_items_text program.now (held_at (side_label side.now)))) }
     ensures failures { FailsToWrite (W.failure_count writer.old) (W.failure_count writer.new) result }
 {
     let shares = write_shares(writer, side, program.buffers())?;
@@ -121,7 +122,7 @@ fn write_items<W: Sink>(writer: &mut W, program: &Program, side: &Side) -> Resul
 /// Writes what is held, or that it is nothing.
 fn write_some<W: Sink>(writer: &mut W, program: &Program, side: &Side) -> Result<(), EngineFault>
     requires { W.failure_count writer.old + 1 < 2 ^ 64 }
-    ensures text { Wrote (W.contents writer.old) (W.contents writer.new) (spec.or_nothing (spec.items_text program.now (held_at (side_label side.now)))) result }
+    ensures text { Wrote (W.contents writer.old) (W.contents writer.new) (spec.or_nothing (spec.held_items_text program.now (held_at (side_label side.now)))) result }
     ensures failures { FailsToWrite (W.failure_count writer.old) (W.failure_count writer.new) result }
 {
     let some = write_items(writer, program, side)?;
