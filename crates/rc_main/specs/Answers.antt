@@ -52,14 +52,14 @@ EndsRun gives program limit report end.Limit = Tells gives program limit (Err (f
 EndsRun gives program limit report end.Memory = Tells gives program limit (Err (fault.OutOfMemory report))
 
 -- what is written of a run: a summary, or the trace
-abbrev pub run_text : Bool → Program → List Event → End → List ℕ
-run_text true program events end = summary_text program events end
-run_text false program events end = trace_text program events end
+abbrev pub summary_or_trace : Bool → Program → List Event → End → List ℕ
+summary_or_trace true program events end = summary_text program events end
+summary_or_trace false program events end = trace_text program events end
 
 -- The program ran, and what happened was written.
 abbrev pub RunsProgram : (ℕ → ℤ → Type 0) → Program → ℕ → Bool → Option (List ℕ) → Option (List ℕ) → ℕ → Type 0
 RunsProgram gives program limit summary old new status =
-    (report : RunReport) × (end : End) × EndsRun gives program limit report end × Appends old new (run_text summary program report.history.items end) × (status ≡ status_of_end end)
+    (report : RunReport) × (end : End) × EndsRun gives program limit report end × Appends old new (summary_or_trace summary program report.history.items end) × (status ≡ status_of_end end)
 
 -- The verdict that says why a text isn't admitted was written.
 abbrev pub TellsVerdict : List ℕ → Option (List ℕ) → Option (List ℕ) → ℕ → Type 0

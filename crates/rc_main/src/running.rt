@@ -3,7 +3,7 @@
 ghost use Rattle.std.specs.Prelude.{◌≡◌, ◌+◌, ◌<◌, ◌≤◌, ◌^◌, IfErr, IfOk, OnOk};
 ghost use Rattle.std.specs.Arc.{arc_value};
 ghost use Rattle.std.specs.Io.KnownBytes.{Appends};
-ghost use Rattle.rc_main.specs.Answers.{AnswersRun, EndsRun, ReadsNothing, ReadsOnce, RunsProgram, WritesOnce, run_text};
+ghost use Rattle.rc_main.specs.Answers.{AnswersRun, EndsRun, ReadsNothing, ReadsOnce, RunsProgram, WritesOnce, summary_or_trace};
 ghost use Rattle.rc_main.specs.declared.fault.CommandFault.TheVariants.{OtherProgram};
 ghost use Rattle.rc_report.specs.Statuses.{status_of_verdict};
 ghost use Rattle.rc_report.specs.Streams.{FailsToWrite, Wrote};
@@ -107,7 +107,7 @@ fn write_run<S: Sink>(
 ) -> Result<(), EngineFault>
     requires threads { NamesItsThreads program.now events.now end }
     requires failures { S.failure_count sink.old + 1 < 2 ^ 64 }
-    ensures text { Wrote (S.contents sink.old) (S.contents sink.new) (run_text summary program.now events.now end) result }
+    ensures text { Wrote (S.contents sink.old) (S.contents sink.new) (summary_or_trace summary program.now events.now end) result }
     ensures failures { FailsToWrite (S.failure_count sink.old) (S.failure_count sink.new) result }
 {
     if summary {
