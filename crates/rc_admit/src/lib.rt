@@ -4,5 +4,3 @@
 pub mod admitted;
 pub mod fault;
 pub mod laws;
-#[cfg(test)]
-mod tests;

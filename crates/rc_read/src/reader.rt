@@ -214,6 +214,3 @@ pub fn read_program(alloc: Global, bytes: &[u8]) -> Result<Program, ReadFault>
     let _ = reader.feed(bytes);
     reader.finish()
 }
-
-#[cfg(test)]
-mod tests;

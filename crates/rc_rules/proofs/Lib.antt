@@ -9,4 +9,3 @@ pub mod Meets
 pub mod Alike
 pub mod Both
 pub mod Growth
-mod Examples

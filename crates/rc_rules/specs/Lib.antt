@@ -9,4 +9,3 @@ pub mod States
 pub mod Readers
 pub mod OneRule
 pub mod Laws
-pub mod Example

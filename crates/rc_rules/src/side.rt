@@ -221,14 +221,3 @@ impl<'a> Side<'a> {
         self.holding.meet(&other.holding);
     }
 }
-
-#[cfg(test)]
-impl<'a> Side<'a> {
-    /// What is held, where something reaches the side.
-    pub fn held(&self) -> Option<&Holding<'a>> {
-        match self.mode {
-            Some(_) => Some(&self.holding),
-            None => None,
-        }
-    }
-}

@@ -385,11 +385,5 @@ impl<'a> State<'a> {
     }
 }
 
-#[cfg(test)]
-mod flag_tests;
 mod pool;
-#[cfg(test)]
-mod pool_tests;
 mod sides;
-#[cfg(test)]
-mod tests;

@@ -20,4 +20,3 @@ mod Placing
 mod Beginning
 mod Told
 mod Having
-mod Examples

@@ -9,4 +9,3 @@ pub mod Labels
 pub mod Held
 pub mod Headers
 pub mod Laws
-pub mod Example

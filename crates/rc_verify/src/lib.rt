@@ -13,7 +13,5 @@ pub mod labels;
 pub mod laws;
 mod loops;
 pub mod refusal;
-#[cfg(test)]
-mod tests;
 pub mod verify;
 mod walk;

@@ -151,6 +151,3 @@ pub fn read_schedule(
     }
     Ok(items)
 }
-
-#[cfg(test)]
-mod tests;

@@ -99,6 +99,3 @@ fn fill_first(bytes: &mut Vec<u8>, count: usize, fill: u8)
         bytes[i] = fill;
     }
 }
-
-#[cfg(test)]
-mod tests;

@@ -1,0 +1,2 @@
+mod RulesExamples
+mod VerifyExamples

@@ -1,0 +1,2 @@
+pub mod RulesExample
+pub mod VerifyExample

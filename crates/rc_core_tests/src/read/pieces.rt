@@ -1,0 +1,93 @@
+//! Texts that are fed in pieces.
+
+use super::programs::mark_of;
+use super::*;
+use rc_lang::program::Thread;
+use rc_read::ReadCause;
+
+fn read_bytes(rt: &impl AllocGlobal, bytes: &[u8]) -> Result<Program, ReadFault> {
+    let mut reader = Reader::new(rt.alloc());
+    for b in bytes {
+        let _ = reader.feed(&[*b]);
+    }
+    reader.finish()
+}
+
+fn same_threads(a: &Thread, b: &Thread) -> bool {
+    a.name.as_slice() == b.name.as_slice()
+        && a.ends.as_slice() == b.ends.as_slice()
+        && a.line == b.line
+        && a.variables == b.variables
+        && a.items.tokens.as_slice() == b.items.tokens.as_slice()
+        && a.items.credits == b.items.credits
+        && a.items.shares.len() == b.items.shares.len()
+        && a.lists.len() == b.lists.len()
+        && a.lines.len() == b.lines.len()
+        && a.lines.iter().zip(b.lines.iter()).all(|(l, m)| {
+            l.number == m.number && mark_of(l.stmt) == mark_of(m.stmt)
+        })
+}
+
+fn same_programs(a: &Program, b: &Program) -> bool {
+    a.entries() == b.entries()
+        && a.completion_entries() == b.completion_entries()
+        && a.left() == b.left()
+        && a.files().len() == b.files().len()
+        && a.buffers().len() == b.buffers().len()
+        && a.tokens().len() == b.tokens().len()
+        && a.threads().len() == b.threads().len()
+        && a.threads()
+            .iter()
+            .zip(b.threads().iter())
+            .all(|(s, t)| same_threads(s, t))
+}
+
+#[test]
+fn handoff_is_the_same_at_every_cut(rt: HostRuntime) -> Result<(), Fail> {
+    let text = HANDOFF.as_bytes();
+    let whole = read_program(rt.alloc(), text)?;
+    assert_eq!(rt; whole.threads().len(), 2);
+    for cut in 0..=text.len() {
+        if cut <= text.len() {
+            let program = read_pieces(&rt, &text[..cut], &text[cut..])?;
+            assert!(rt; same_programs(&program, &whole), "cut {cut}");
+        }
+    }
+    let program = read_bytes(&rt, text)?;
+    assert!(rt; same_programs(&program, &whole));
+    Ok(())
+}
+
+// A line of 1,000 bytes is kept whole, whatever the pieces are, and judged where it ends.
+#[test]
+fn a_long_line_is_read_in_any_pieces(rt: HostRuntime) -> Result<(), Fail> {
+    let text = repeated(&rt, "ringcheck 1\nring 1\n", "#", 1000, "")?;
+    for size in [1, 7, 64, 256, 299, 300, 301, 1000] {
+        let mut reader = Reader::new(rt.alloc());
+        for piece in text.chunks(size) {
+            reader.feed(piece)?;
+        }
+        assert_eq!(rt; reader.pending().len(), 1000, "pieces of {size}");
+        assert_eq!(rt; place_of(reader.finish()), (3, 8), "pieces of {size}");
+    }
+    Ok(())
+}
+
+#[test]
+fn a_fault_stays_and_pending_is_the_open_line(rt: HostRuntime) -> Result<(), Fail> {
+    let mut reader = Reader::new(rt.alloc());
+    reader.feed(b"ringcheck 1\nrin")?;
+    assert_eq!(rt; reader.pending(), b"rin".as_slice());
+    reader.feed(b"g x")?;
+    assert_eq!(rt; reader.pending(), b"ring x".as_slice());
+    let fault = ReadFault::Text {
+        line: 2,
+        cause: ReadCause::BadNumber,
+    };
+    assert_eq!(rt; reader.feed(b"\n"), Err(fault));
+    assert_eq!(rt; reader.feed(b"# more\n"), Err(fault));
+    assert_eq!(rt; reader.finish().err(), Some(fault));
+    let shown = format!(in rt.alloc(); "{fault}")?;
+    assert_eq!(rt; shown.as_str(), "unreadable line 2 P4 BadNumber");
+    Ok(())
+}

@@ -1,0 +1,6 @@
+//! Worlds of small programs, and schedules.
+
+mod bytes;
+mod ring_calls;
+mod schedules;
+pub mod worlds;

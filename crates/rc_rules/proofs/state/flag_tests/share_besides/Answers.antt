@@ -1,6 +1,0 @@
-use Rattle.rc_lang.specs.Parts.{view_items, view_more}
-use Rattle.rc_rules.proofs.Examples.{share_list}
-use Rattle.rc_rules.proofs.state.flag_tests.share_besides.Goals as goal
-
-pub returns : goal.returns
-returns c = share_list (view_items c.list.result) (view_more c.in_ok-share_more.field-0) c.list.ensures c.in_ok-share_more.ensures
