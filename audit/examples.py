@@ -1,13 +1,13 @@
 #!/usr/bin/env python3
-"""Holds the texts of the crates rc_examples, rc_gallery and rc_explain against the files of examples/, or writes them.
+"""Holds the texts of rc_examples, rc_gallery and rc_edge_tests against the files of examples/, or writes them.
 
 usage: audit/examples.py [--write]
 
 rc_examples has a constant for each program of examples/, named as its file, and a row for each text of examples/causes.
 rc_gallery has a row for each text of examples/gallery, and a constant for each file of examples/c. What the file expected
-says in causes and gallery they have too. rc_explain has a constant for each file of examples/causes/explained: what is
-printed for the text of that name with its explanation. Without --write nothing is changed, and the status is 1 where a
-text of a crate differs from its file by so much as a byte, or one is missing on either side.
+says in causes and gallery they have too. rc_edge_tests has a constant for each file of examples/causes/explained: what
+is printed for the text of that name with its explanation. Without --write nothing is changed, and the status is 1 where
+a text of a crate differs from its file by so much as a byte, or one is missing on either side.
 """
 
 import difflib
@@ -101,7 +101,7 @@ def wanted_files():
     files = {
         "rc_examples/src/programs.rt": programs(),
         "rc_examples/src/causes.rt": causes(),
-        "rc_explain/src/engine/tests/explained.rt": explained(),
+        "rc_edge_tests/src/explain/engine/explained.rt": explained(),
         "rc_gallery/src/c_programs.rt": c_programs(),
         "rc_gallery/src/gallery.rt": gallery(),
     }

@@ -10,8 +10,6 @@ mod operations;
 mod parts;
 mod place;
 mod pool;
-#[cfg(test)]
-mod tests;
 mod threads;
 mod words;
 

@@ -128,6 +128,3 @@ fn explained(alloc: Global, text: &[u8], verdict: &Verdict) -> Result<Vec<u8>, A
         Err(_) => Err(AllocError),
     }
 }
-
-#[cfg(test)]
-mod tests;

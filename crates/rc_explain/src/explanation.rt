@@ -195,6 +195,3 @@ fn write_code<W: Sink>(
         &[b"\nsee ", letter, number, b" in docs/causes.md\n"],
     )
 }
-
-#[cfg(test)]
-mod tests;

@@ -11,6 +11,4 @@ pub mod lost;
 pub mod object;
 mod parts;
 pub mod spot;
-#[cfg(test)]
-mod tests;
 mod words;

@@ -9,6 +9,4 @@ mod lines;
 mod near;
 mod others;
 mod places;
-#[cfg(test)]
-mod tests;
 mod wording;

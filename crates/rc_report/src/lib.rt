@@ -17,8 +17,6 @@ pub mod step_engine;
 pub mod stepping;
 pub mod streams;
 pub mod summary;
-#[cfg(test)]
-mod tests;
 pub mod trace;
 pub mod verdict;
 pub mod writing;

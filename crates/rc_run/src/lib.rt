@@ -1,8 +1,6 @@
 //! Runs admitted programs: a run under way, over rings of real entry bytes, and the threads that play it.
 #![tactic(auto)]
 
-#[cfg(test)]
-mod examples;
 pub mod gate;
 pub mod job;
 pub mod live;
@@ -11,5 +9,3 @@ mod machine;
 pub mod report;
 mod request_ring;
 pub mod runner;
-#[cfg(test)]
-mod stepping;

@@ -306,6 +306,3 @@ fn same_request(a: Request, b: Request) -> bool
 {
     a == b
 }
-
-#[cfg(test)]
-mod tests;

@@ -224,8 +224,3 @@ pub fn run<
         Blank::new(u64::from(threads) + u64::from(WORKERS)),
     )
 }
-
-#[cfg(test)]
-mod fair_tests;
-#[cfg(test)]
-mod tests;

@@ -7,7 +7,5 @@ mod pool;
 mod requests;
 pub mod state;
 pub mod state_engine;
-#[cfg(test)]
-mod tests;
 mod threads;
 mod words;

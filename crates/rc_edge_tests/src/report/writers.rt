@@ -2,11 +2,11 @@
 
 ghost use Rattle.std.specs.Prelude.{◌≡◌};
 
-use crate::buffered::Buffered;
-use crate::engine_fault::EngineFault;
-use crate::streams::{DeviceFailed, Sink, WriteSink};
-use crate::verdict::{Refusal, Verdict, verdict_text};
-use crate::writing::write_piece;
+use rc_report::buffered::Buffered;
+use rc_report::engine_fault::EngineFault;
+use rc_report::streams::{DeviceFailed, Sink, WriteSink};
+use rc_report::verdict::{Refusal, Verdict, verdict_text};
+use rc_report::writing::write_piece;
 use rc_rules::cause::Cause;
 use std::alloc::Global;
 use std::io::{self, ErrorKind, Write};

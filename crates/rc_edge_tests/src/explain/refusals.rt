@@ -1,9 +1,9 @@
 //! What is said of a refused line, at each cause.
 
-use crate::asks::write_asks;
-use crate::lost::write_lost;
 use rc_examples::causes::CAUSES;
 use rc_examples::example::text_named;
+use rc_explain::asks::write_asks;
+use rc_explain::lost::write_lost;
 use rc_read::read_program;
 use rc_report::streams::WriteSink;
 use rc_rules::cause::Cause;

@@ -1,6 +1,6 @@
 //! The C of whole examples, and sinks that fail.
 
-use crate::c_text;
+use rc_emit::c_text;
 use rc_examples::programs;
 use rc_gallery::c_programs;
 use rc_read::read_program;

@@ -3,11 +3,11 @@
 ghost use Rattle.std.specs.Prelude.{◌≡◌, length, nat_lt};
 ghost use Rattle.rc_report.specs.Traces.{EndsAtItsThread, NamesItsThread};
 
-use crate::streams::WriteSink;
-use crate::trace::{End, trace_text};
 use rc_examples::programs::EMPTY_THREAD;
 use rc_lang::program::Program;
 use rc_read::read_program;
+use rc_report::streams::WriteSink;
+use rc_report::trace::{End, trace_text};
 use rc_world::event::{Action, Completion, Event};
 use rc_world::fault::{Fault, FaultKind, Party};
 use std::alloc::Global;

@@ -1,8 +1,8 @@
 //! Worlds as text, at the end of traces of examples.
 
-use crate::state_engine::state_engine;
 use rc_examples::programs::{HAND_BACK, HANDOFF, NOP};
 use rc_report::streams::{ReadSource, WriteSink};
+use rc_state::state_engine::state_engine;
 
 /// A program, a schedule, and what is written.
 const SHOWN: &[(&str, &str, &str)] = &[

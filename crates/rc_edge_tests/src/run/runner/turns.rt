@@ -1,11 +1,11 @@
 //! When the threads of a run make their turns, and what a gate is told of them.
 
 use super::{Flags, LastButOne, Late, linger, prints};
-use crate::examples::{HANDOFF, admitted};
-use crate::gate::Gate;
-use crate::runner::run;
+use crate::run::examples::{HANDOFF, admitted};
 use rc_device::chooser::Seeded;
 use rc_device::disk::Disk;
+use rc_run::gate::Gate;
+use rc_run::runner::run;
 use std::alloc::Global;
 use std::sync::Arc;
 use std::sync::atomic::{AtomicU64, Ordering};

@@ -1,6 +1,6 @@
 //! The hint of each cause.
 
-use crate::hint::write_hint;
+use rc_hint::hint::write_hint;
 use rc_read::{ReadFault, read_program};
 use rc_report::streams::WriteSink;
 use std::alloc::{AllocError, Global};

@@ -2,11 +2,11 @@
 
 ghost use Rattle.std.specs.Prelude.{pos, negsuc, ◌≤ℤ◌};
 
-use crate::examples::{HANDOFF, SHARE, admitted};
-use crate::job::Job;
-use crate::live::{Live, Turn};
-use crate::stepping::is_run;
+use crate::run::examples::{HANDOFF, SHARE, admitted};
+use crate::run::stepping::is_run;
 use rc_device::disk::Disk;
+use rc_run::job::Job;
+use rc_run::live::{Live, Turn};
 use rc_world::event::{Action, Completion, Event};
 use std::alloc::Global;
 use std::sync::Arc;

@@ -1,11 +1,11 @@
 //! Texts that are checked, and sinks that take a beginning of the verdict.
 
 use super::writers::Narrow;
-use crate::check_engine::check_engine;
-use crate::engine_fault::EngineFault;
-use crate::streams::{ReadSource, Sink, WriteSink};
-use crate::verdict::verdict_text;
 use rc_examples::programs::{DRAIN, FULL};
+use rc_report::check_engine::check_engine;
+use rc_report::engine_fault::EngineFault;
+use rc_report::streams::{ReadSource, Sink, WriteSink};
+use rc_report::verdict::verdict_text;
 use std::alloc::Global;
 use std::process::Abort;
 

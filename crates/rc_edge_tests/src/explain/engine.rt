@@ -2,9 +2,9 @@
 
 mod explained;
 
-use super::explain_engine;
 use rc_examples::causes::CAUSES;
 use rc_examples::example::text_named;
+use rc_explain::engine::explain_engine;
 use rc_report::streams::{ReadSource, WriteSink};
 use std::alloc::Global;
 use std::process::Abort;

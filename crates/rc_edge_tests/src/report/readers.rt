@@ -1,8 +1,8 @@
 //! Readers: each read counts, an interrupted one is a failure, and nothing is read behind the end.
 
-use crate::engine_fault::EngineFault;
-use crate::reading::read_text;
-use crate::streams::{ReadSource, Source};
+use rc_report::engine_fault::EngineFault;
+use rc_report::reading::read_text;
+use rc_report::streams::{ReadSource, Source};
 use std::io::{self, ErrorKind, Read};
 
 /// Gives these pieces, one at each call: bytes, the end where there are none, or that the call was interrupted. Counts

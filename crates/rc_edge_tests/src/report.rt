@@ -6,9 +6,9 @@ mod readers;
 mod traces;
 mod writers;
 
-use crate::streams::WriteSink;
-use crate::verdict::{Refusal, Verdict, verdict_json, verdict_text};
 use rc_read::ReadCause;
+use rc_report::streams::WriteSink;
+use rc_report::verdict::{Refusal, Verdict, verdict_json, verdict_text};
 use rc_rules::cause::Cause;
 
 /// A verdict with its text and its JSON.

@@ -1,14 +1,14 @@
 //! What a device is handed and granted, and when.
 
 use super::{Flags, LastButOne, Late, prints};
-use crate::examples::{HANDOFF, SHARE, admitted};
-use crate::gate::{Gate, OpenGate};
-use crate::report::RunFault;
-use crate::runner::run;
+use crate::run::examples::{HANDOFF, SHARE, admitted};
 use rc_device::chooser::Chooser;
 use rc_device::device::Device;
 use rc_device::disk::Disk;
 use rc_lang::request::{Kind, Request};
+use rc_run::gate::{Gate, OpenGate};
+use rc_run::report::RunFault;
+use rc_run::runner::run;
 use rc_world::event::{Action, Completion, Event};
 use std::alloc::Global;
 use std::sync::Arc;

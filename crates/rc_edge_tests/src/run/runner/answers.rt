@@ -1,13 +1,13 @@
 //! What a run answers.
 
 use super::prints;
-use crate::examples::{EMPTY_THREAD, HANDOFF, admitted};
-use crate::gate::OpenGate;
-use crate::report::{RunFault, RunReport};
-use crate::runner::run;
-use crate::stepping::is_run;
+use crate::run::examples::{EMPTY_THREAD, HANDOFF, admitted};
+use crate::run::stepping::is_run;
 use rc_device::chooser::Seeded;
 use rc_device::disk::Disk;
+use rc_run::gate::OpenGate;
+use rc_run::report::{RunFault, RunReport};
+use rc_run::runner::run;
 use std::alloc::Global;
 use std::sync::Wait;
 use std::test::*;

@@ -2,11 +2,11 @@
 
 use super::readers::Slow;
 use super::writers::Narrow;
-use crate::check_engine::check_engine;
-use crate::engine_fault::EngineFault;
-use crate::step_engine::step_engine;
-use crate::streams::{ReadSource, Sink, Source, WriteSink};
 use rc_examples::programs::NOP;
+use rc_report::check_engine::check_engine;
+use rc_report::engine_fault::EngineFault;
+use rc_report::step_engine::step_engine;
+use rc_report::streams::{ReadSource, Sink, Source, WriteSink};
 use std::alloc::Global;
 use std::io::{self, ErrorKind, Read};
 use std::process::Abort;

@@ -1,11 +1,11 @@
 //! Threads that poll let each other, and the kernel, move.
 
-use crate::examples::admitted;
-use crate::gate::OpenGate;
-use crate::report::RunFault;
-use crate::runner::run;
+use crate::run::examples::admitted;
 use rc_device::chooser::Seeded;
 use rc_device::disk::Disk;
+use rc_run::gate::OpenGate;
+use rc_run::report::RunFault;
+use rc_run::runner::run;
 use rc_world::event::Event;
 use std::test::*;
 

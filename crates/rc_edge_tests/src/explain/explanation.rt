@@ -1,7 +1,7 @@
 //! What is printed behind the verdicts on texts of `examples/`.
 
-use super::write_explanation;
 use rc_examples::programs;
+use rc_explain::explanation::write_explanation;
 use rc_report::check_engine::judged;
 use rc_report::streams::WriteSink;
 use rc_report::verdict::Verdict;

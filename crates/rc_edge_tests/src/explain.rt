@@ -1,0 +1,5 @@
+//! What is said besides a verdict.
+
+mod engine;
+mod explanation;
+mod refusals;
