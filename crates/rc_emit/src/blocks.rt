@@ -11,7 +11,7 @@ use crate::parts::Part::{Compares, Data, Number, Signed, Text, Variable};
 use crate::parts::write_parts;
 use crate::place::Place;
 use crate::pool::{write_put, write_take};
-use rc_lang::lines::{Line, Stmt, Test};
+use rc_lang::lines::{Comparison, Line, Stmt, Test};
 use rc_report::engine_fault::EngineFault;
 use rc_report::streams::Sink;
 use rc_report::writing::write_piece;
@@ -122,42 +122,59 @@ fn write_test<W: Sink>(writer: &mut W, place: Place<'_>, test: Test) -> Result<(
 {
     match test {
         Test::Compare(_, comparison, number) => {
-            let x = Variable(place.word(1));
-            write_line(
-                writer,
-                place,
-                &[
-                    Text(b"yes = "),
-                    x,
-                    Text(b" "),
-                    Compares(comparison),
-                    Text(b" "),
-                    Signed(number),
-                    Text(b";"),
-                ],
-            )
+            write_comparison(writer, place, comparison, number)
         }
         Test::ReadyZero => write_line(
             writer,
             place,
             &[Text(b"yes = io_uring_sq_ready(&ring) == 0;")],
         ),
-        Test::SpaceAtLeast(count) => {
-            // As a comparison of unsigned numbers a compiler may find it to be always true.
-            let count = Number(u64::from(count));
-            write_line(
-                writer,
-                place,
-                &[Text(b"answer = (int)io_uring_sq_space_left(&ring);")],
-            )?;
-            write_line(
-                writer,
-                place,
-                &[Text(b"yes = answer >= "), count, Text(b";")],
-            )
-        }
+        Test::SpaceAtLeast(count) => write_space(writer, place, count),
         Test::Take(list) => write_take(writer, place, list),
     }
+}
+
+fn write_comparison<W: Sink>(
+    writer: &mut W,
+    place: Place<'_>,
+    comparison: Comparison,
+    number: i64,
+) -> Result<(), EngineFault>
+    requires { W.failure_count writer.old + 1 < 2 ^ 64 }
+    ensures { FailsToWrite (W.failure_count writer.old) (W.failure_count writer.new) result }
+{
+    let x = Variable(place.word(1));
+    write_line(
+        writer,
+        place,
+        &[
+            Text(b"yes = "),
+            x,
+            Text(b" "),
+            Compares(comparison),
+            Text(b" "),
+            Signed(number),
+            Text(b";"),
+        ],
+    )
+}
+
+// As a comparison of unsigned numbers a compiler may find it to be always true.
+fn write_space<W: Sink>(writer: &mut W, place: Place<'_>, count: u32) -> Result<(), EngineFault>
+    requires { W.failure_count writer.old + 1 < 2 ^ 64 }
+    ensures { FailsToWrite (W.failure_count writer.old) (W.failure_count writer.new) result }
+{
+    let count = Number(u64::from(count));
+    write_line(
+        writer,
+        place,
+        &[Text(b"answer = (int)io_uring_sq_space_left(&ring);")],
+    )?;
+    write_line(
+        writer,
+        place,
+        &[Text(b"yes = answer >= "), count, Text(b";")],
+    )
 }
 
 /// Writes the beginning of an if.
@@ -212,15 +229,12 @@ fn write_peek<W: Sink>(writer: &mut W, place: Place<'_>) -> Result<(), EngineFau
     write_event(writer, deeper, &[Text(b"peek_cqe none\"")])?;
     write_line(writer, deeper, &[Text(b"SEE_COMPLETIONS();")])?;
     write_line(writer, place, &[Text(b"} else {")])?;
-    write_line(
-        writer,
-        deeper,
-        &[
-            Text(b"stop("),
-            number,
-            Text(b", \"io_uring_peek_cqe\", answer);"),
-        ],
-    )?;
+    let words = [
+        Text(b"stop("),
+        number,
+        Text(b", \"io_uring_peek_cqe\", answer);"),
+    ];
+    write_line(writer, deeper, &words)?;
     write_line(writer, place, &[Text(b"}")])
 }
 

@@ -25,37 +25,24 @@ fn write_moved<'a, W: Sink>(
     for share in &items.shares {
         let name = Text(buffer_name(place.program, share.buffer));
         let count = Number(u64::from(share.count));
-        write_line(
-            writer,
-            place,
-            &[
-                Text(b"pool_buffer_"),
-                name,
-                Text(operator),
-                count,
-                Text(b";"),
-            ],
-        )?;
+        let words = [
+            Text(b"pool_buffer_"),
+            name,
+            Text(operator),
+            count,
+            Text(b";"),
+        ];
+        write_line(writer, place, &words)?;
     }
     for token in &items.tokens {
-        write_line(
-            writer,
-            place,
-            &[
-                Text(b"pool_token_"),
-                Number(*token),
-                Text(operator),
-                Text(b"1;"),
-            ],
-        )?;
+        let token = Number(*token);
+        let words = [Text(b"pool_token_"), token, Text(operator), Text(b"1;")];
+        write_line(writer, place, &words)?;
     }
     if items.credits > 0 {
         let count = Number(u64::from(items.credits));
-        write_line(
-            writer,
-            place,
-            &[Text(b"pool_credits"), Text(operator), count, Text(b";")],
-        )?;
+        let words = [Text(b"pool_credits"), Text(operator), count, Text(b";")];
+        write_line(writer, place, &words)?;
     }
     Ok(())
 }
