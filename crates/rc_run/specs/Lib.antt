@@ -9,4 +9,5 @@ pub mod Machine
 pub mod Reports
 pub mod Requests
 pub mod Rooms
+pub mod Roster
 pub mod Table

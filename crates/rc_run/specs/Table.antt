@@ -1,34 +1,27 @@
 -- What lies under the lock of a run, as contracts see it.
-use Rattle.std.specs.Prelude.{ℕ, ℤ, pos, negsuc, ◌≡◌, ◌≢◌, ◌⊎◌, ◌<◌, ◌≤◌, Bool, true, false, ◌||◌, if◌then◌else◌, List, count_by, length, nat_le, nat_lt, slice_get, Some}
-use Rattle.rc_lang.specs.declared.lines.Line.{Line}
-use Rattle.rc_lang.specs.Program.{Program}
+use Rattle.std.specs.Prelude.{ℕ, ℤ, ◌≡◌, ◌⊎◌, ◌<◌, ◌≤◌, Bool, true, false, ◌||◌, if◌then◌else◌, List, count_by, length, nat_le, Option, None, Some, slice_get}
+use Rattle.rc_lang.specs.declared.program.Token.{Token}
+use Rattle.rc_lang.specs.Program.{Program, token_place}
+use Rattle.rc_world.specs.declared.event.Completion.{Completion}
 use Rattle.rc_run.specs.declared.live.Turn.{Turn}
 use Rattle.rc_run.specs.declared.live.Turn.TheVariants as turn
 use Rattle.rc_run.specs.declared.locked.Ending.{Ending}
 use Rattle.rc_run.specs.declared.locked.Ending.TheVariants as ending
 use Rattle.rc_run.specs.Lives.{Live}
 use Rattle.rc_run.specs.Reports.{AllEnded, AllGiven, IsUnended, is_turn}
-use Rattle.rc_world.specs.declared.controls.Next.TheVariants.{Ready}
-use Rattle.rc_world.specs.declared.event.Action.{Action}
-use Rattle.rc_world.specs.declared.event.Action.TheVariants.{DataSet, ItemsPut, Reaped, Submitted}
-use Rattle.rc_world.specs.declared.event.Event.{Event}
-use Rattle.rc_world.specs.declared.event.Event.TheVariants.{ByThread, ByKernel}
-use Rattle.rc_world.specs.Items.{next_of}
 use Rattle.rc_world.specs.Machine.{World, start_world}
 use Rattle.rc_world.specs.Runs.{IsRun, IsSafe}
 
--- The run, how many of its events are of threads and how many may be, whether memory was refused, and whether a thread
--- sleeps until there is an event more.
+-- The run, how many of its events are of threads and how many may be, and whether memory was refused.
 pub record Table : Type 0 where
   pub run : Live
   pub turns : ℕ
   pub limit : ℕ
   pub memory : Bool
-  pub awaited : Bool
 
 -- nothing is counted
 abbrev pub new_table : Live → ℕ → Table
-new_table run limit = record { run = run; turns = 0; limit = limit; memory = false; awaited = false }
+new_table run limit = record { run = run; turns = 0; limit = limit; memory = false }
 
 -- Memory was refused, or the limit is reached.
 abbrev pub is_stopped : Table → Bool
@@ -58,50 +51,14 @@ EndsAs t ending.Ended = AllEnded t.run.world × (t.memory ≡ false)
 EndsAs t ending.Limit = (t.limit ≤ t.turns) × ((i : ℕ) × IsUnended t.run.world i)
 EndsAs t ending.Memory = (AllEnded t.run.world × (t.memory ≡ true)) ⊎ ((t.turns < t.limit) × ((i : ℕ) × IsUnended t.run.world i))
 
--- Another thread than the i-th can make a step.
-abbrev pub OtherMoves : World → ℕ → Type 0
-OtherMoves w i = (j : ℕ) × (j ≢ i) × ((l : Line) × (next_of w.program w.controls j ≡ Ready l))
+-- the place among the tokens of that of a completion
+abbrev pub place_of : List Token → Option Completion → Option ℕ
+place_of tokens None = None
+place_of tokens (Some c) = token_place tokens c.user_data
 
--- No event came since there were so many, and another thread can make one.
-pub record OthersMayGo (t : Table) (i seen : ℕ) : Type 0 where
-  pub same : length t.run.history ≡ seen
-  pub goes_on : is_stopped t ≡ false
-  pub others : OtherMoves t.run.world i
-
--- No event came since there were so many, the run isn't over, and there is something to wait for: that a request
--- completes, or that another thread makes an event.
-pub record MayWait (t : Table) (i seen : ℕ) : Type 0 where
-  pub same : length t.run.history ≡ seen
-  pub goes_on : IsOver t → ⊥
-  pub something : (0 < length t.run.world.pending) ⊎ OtherMoves t.run.world i
-
-abbrev pub took : ℤ → Bool
-took (pos n) = nat_lt 0 n
-took (negsuc n) = false
-
--- an entry was queued or taken, a completion reaped, or items put into the pool
-abbrev pub gives_news : Action → Bool
-gives_news (DataSet u) = true
-gives_news (Submitted r) = took r
-gives_news (Reaped u) = true
-gives_news ItemsPut = true
-gives_news _ = false
-
--- After the event a look at the rings or into the pool may find what it didn't find before.
-abbrev pub is_news : Event → Bool
-is_news (ByThread i line action) = gives_news action
-is_news (ByKernel completion) = true
-
--- No event since there were so many is news.
-abbrev pub HasNoNews : List Event → ℕ → Type 0
-HasNoNews history seen = (k : ℕ) (e : Event) → seen ≤ k → slice_get history k ≡ Some e → is_news e ≡ false
-
--- A thread that looked at the rings and into the pool when there were so many events, and made its last one then, would find nothing new;
--- the run isn't over, and there is something to wait for: a completion, or the next event of another thread.
-pub record MaySleep (t : Table) (i looked seen : ℕ) : Type 0 where
-  pub same : HasNoNews t.run.history looked
-  pub goes_on : IsOver t → ⊥
-  pub something : (0 < length t.run.world.pending) ⊎ ((length t.run.history ≡ seen) × OtherMoves t.run.world i)
+-- the place among the tokens of that of the front completion
+abbrev pub front_token : World → Option ℕ
+front_token w = place_of w.program.tokens (slice_get w.completions 0)
 
 -- What is kept of a run under the lock, of which the book has counted so many events: it is one of the program, which
 -- is safe, its results are given, and no more of its events are of threads than the limit says.

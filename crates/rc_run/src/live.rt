@@ -17,7 +17,7 @@ use rc_admit::admitted::Admitted;
 use rc_admit::laws::safe_worlds;
 use rc_lang::request::Request;
 use rc_world::controls::Next;
-use rc_world::event::Event;
+use rc_world::event::{Completion, Event};
 use std::alloc::{AllocError, Global};
 use std::marker::Model;
 use std::sync::Arc;
@@ -92,6 +92,20 @@ impl Live {
         ensures { result ≡ length (free self.now) }
     {
         free_count(&self.machine.pending, &self.out)
+    }
+
+    /// How many completions wait to be reaped.
+    pub fn completed(&self) -> usize
+        ensures { result ≡ length self.now.world.completed }
+    {
+        self.machine.completed.len()
+    }
+
+    /// The completion that is reaped next.
+    pub fn front(&self) -> Option<Completion>
+        ensures { result ≡ slice_get self.now.world.completions 0 }
+    {
+        self.machine.ring.front()
     }
 
     /// What a thread has next.

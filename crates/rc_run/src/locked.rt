@@ -4,7 +4,7 @@ ghost use Rattle.std.specs.Prelude.{◌≡◌, ◌≢◌, ◌⊎◌, ◌↔◌, 
 ghost use Rattle.rc_run.specs.Jobs.{allows};
 ghost use Rattle.rc_run.specs.Reports.{AllEnded, IsUnended};
 ghost use Rattle.rc_run.specs.Lives.{IsNotOut, Lent, Posted, Turned, begun, free};
-ghost use Rattle.rc_run.specs.Table.{EndsAs, HasNoNews, IsOver, IsTable, MaySleep, MayWait, OtherMoves, OthersMayGo, after_no_turn, after_refusal, is_news, is_stopped, new_table, turns_by};
+ghost use Rattle.rc_run.specs.Table.{EndsAs, IsOver, IsTable, after_no_turn, after_refusal, front_token, is_stopped, new_table, turns_by};
 ghost use Rattle.rc_world.specs.Items.{next_of};
 ghost use Rattle.rc_world.specs.Runs.{IsSafe};
 
@@ -65,8 +65,6 @@ pub struct Locked<D: Device, L: Ledger + Asked> {
     turns: u64,
     // Whether memory was refused.
     memory: bool,
-    // Whether a thread sleeps until there is an event more.
-    awaited: bool,
     of: PhantomData<D>,
 }
 
@@ -76,9 +74,9 @@ impl<D: Device, L: Ledger + Asked> Model for Locked<D, L> {
 
     ghost Value = { Table };
 
-    ghost view = { λ s. record { run = s.live; turns = s.turns; limit = s.limit; memory = s.memory; awaited = s.awaited } };
+    ghost view = { λ s. record { run = s.live; turns = s.turns; limit = s.limit; memory = s.memory } };
 
-    ghost invariant = { λ s. IsTable D.gives L.program L.limit s.events.total (record { run = s.live; turns = s.turns; limit = s.limit; memory = s.memory; awaited = s.awaited }) };
+    ghost invariant = { λ s. IsTable D.gives L.program L.limit s.events.total (record { run = s.live; turns = s.turns; limit = s.limit; memory = s.memory }) };
 }
 
 impl<D: Device, L: Ledger + Asked> Locked<D, L> {
@@ -96,7 +94,6 @@ impl<D: Device, L: Ledger + Asked> Locked<D, L> {
             limit,
             turns: 0,
             memory: false,
-            awaited: false,
             of: PhantomData,
         }
     }
@@ -121,6 +118,31 @@ impl<D: Device, L: Ledger + Asked> Locked<D, L> {
         ensures { IsTrue result ↔ (0 < length self.now.run.world.pending) }
     {
         self.live.pending() > 0
+    }
+
+    /// How many pending requests have no job that is out.
+    pub fn free(&self) -> usize
+        ensures { result ≡ length (free self.now.run) }
+    {
+        self.live.free()
+    }
+
+    /// How many completions wait to be reaped.
+    pub fn completed(&self) -> usize
+        ensures { result ≡ length self.now.run.world.completed }
+    {
+        self.live.completed()
+    }
+
+    /// The place among the tokens of that of the front completion.
+    pub fn front(&self) -> Option<usize>
+        ensures { result ≡ front_token self.now.run.world }
+    {
+        let completion = self.live.front()?;
+        self.live
+            .admitted()
+            .program()
+            .token_place(completion.user_data)
     }
 
     /// Whether no thread holds the lock of the program.
@@ -257,74 +279,11 @@ impl<D: Device, L: Ledger + Asked> Locked<D, L> {
         !self.is_over() && self.live.free() == 0
     }
 
-    /// Whether a thread that saw so many events has something to wait for: that a request completes, or that another
-    /// thread makes an event.
-    pub fn may_wait(&self, thread: u32, seen: usize) -> bool
-        ensures { IsTrue result ↔ MayWait self.now thread seen }
-    {
-        self.len() == seen && !self.is_over() && (self.has_pending() || self.other_moves(thread))
-    }
-
-    /// Whether another thread than this one, which saw so many events, can go on, and has made none since.
-    pub fn others_may_go(&self, thread: u32, seen: usize) -> bool
-        ensures { IsTrue result ↔ OthersMayGo self.now thread seen }
-    {
-        self.len() == seen && !self.is_stopped() && self.other_moves(thread)
-    }
-
-    /// Whether a thread that looked at the rings and into the pool when there were so many events, and then made its last one, would find
-    /// nothing new and has something to wait for: a completion, or the next event of another thread.
-    pub fn may_sleep(&self, thread: u32, looked: usize, seen: usize) -> bool
-        ensures { IsTrue result ↔ MaySleep self.now thread looked seen }
-    {
-        !self.is_over()
-            && has_no_news(self.live.history(), looked)
-            && (self.has_pending() || (self.len() == seen && self.other_moves(thread)))
-    }
-
-    /// The same; if so it is noted that the thread sleeps until it is told. Who is woken before that asks again, so that
-    /// the note stands whenever it sleeps.
-    pub fn listen(&mut self, thread: u32, looked: usize, seen: usize) -> bool
-        ensures value { IsTrue result ↔ MaySleep self.old thread looked seen }
-        ensures noted { self.new ≡ record self.old { awaited = self.old.awaited || result } }
-    {
-        let waits = self.may_sleep(thread, looked, seen);
-        self.awaited = self.awaited || waits;
-        waits
-    }
-
-    /// Whether a thread was noted to sleep since the last such question.
-    pub fn is_heard(&mut self) -> bool
-        ensures value { result ≡ self.old.awaited }
-        ensures forgotten { self.new ≡ record self.old { awaited = false } }
-    {
-        let heard = self.awaited;
-        self.awaited = false;
-        heard
-    }
-
-    // Whether the limit is reached or memory was refused.
-    fn is_stopped(&self) -> bool
+    /// Whether the limit is reached or memory was refused. For a thread that hasn't ended the run is over only then.
+    pub fn is_stopped(&self) -> bool
         ensures { result ≡ is_stopped self.now }
     {
         self.memory || self.turns >= self.limit
-    }
-
-    // Whether another thread than this one can go on.
-    fn other_moves(&self, thread: u32) -> bool
-        ensures { IsTrue result ↔ OtherMoves self.now.run.world thread }
-    {
-        for other in 0..self.live.admitted().program().threads().len() as u32 {
-            if other == thread {
-                continue;
-            }
-            match self.live.next(other) {
-                Next::Ready(_) => return true,
-                Next::TakenLock => {}
-                Next::Ended => {}
-            }
-        }
-        false
     }
 }
 
@@ -341,32 +300,4 @@ pub fn unended(live: &Live) -> Option<u32>
         }
     }
     None
-}
-
-// Whether a look at the rings or into the pool may find something new after the event.
-fn is_news(event: &Event) -> bool
-    ensures { result ≡ is_news event.now }
-{
-    match event {
-        Event::ByKernel(_) => true,
-        Event::ByThread { action, .. } => match action {
-            Action::DataSet(_) => true,
-            Action::Submitted(taken) => *taken > 0,
-            Action::Reaped(_) => true,
-            Action::ItemsPut => true,
-            _ => false,
-        },
-    }
-}
-
-// Whether no event since there were so many is news.
-fn has_no_news(history: &[Event], seen: usize) -> bool
-    ensures { IsTrue result ↔ HasNoNews history.now seen }
-{
-    for k in seen..history.len() {
-        if is_news(&history[k]) {
-            return false;
-        }
-    }
-    true
 }

@@ -12,10 +12,12 @@ mod player;
 mod shared;
 mod worker;
 
+use crate::board::Board;
 use crate::gate::Gate;
 use crate::live::Live;
 use crate::locked::{Asked, Ending, Locked};
 use crate::report::{RunFault, RunReport};
+use crate::roster::Roster;
 use crate::runner::crew::{Crew, Role};
 use crate::runner::shared::Shared;
 use rc_admit::admitted::Admitted;
@@ -31,18 +33,42 @@ use std::thread::Threads;
 // How many threads serve jobs.
 const WORKERS: u32 = 2;
 
-// The run at its start, and its crews: the players and the workers.
+// A run at its start: how its players stand, and its crews, the players and the workers.
+#[derive(Drop)]
+struct Start<L: Ledger> {
+    live: Live,
+    roster: Roster,
+    bells: Vec<Condvar>,
+    players: Crew<L>,
+    workers: Crew<L>,
+}
+
+// The run at its start.
 fn begin<L: Ledger>(
     alloc: Global,
     admitted: &Arc<Admitted, Global>,
     threads: u32,
-) -> Result<(Live, Crew<L>, Crew<L>), AllocError>
-    ensures live { IfOk result (λ r. r.0 ≡ begun (arc_value admitted.now)) }
-    ensures players { IfOk result (λ r. HasCapacity threads r.1.started × HasCapacity threads r.1.counts) }
-    ensures workers { IfOk result (λ r. HasCapacity WORKERS r.2.started × HasCapacity WORKERS r.2.counts) }
+) -> Result<Start<L>, AllocError>
+    ensures live { IfOk result (λ r. r.live ≡ begun (arc_value admitted.now)) }
+    ensures players { IfOk result (λ r. HasCapacity threads r.players.started × HasCapacity threads r.players.counts) }
+    ensures workers { IfOk result (λ r. HasCapacity WORKERS r.workers.started × HasCapacity WORKERS r.workers.counts) }
 {
-    let live = Live::start(alloc, Arc::try_clone(admitted)?)?;
-    Ok((live, Crew::new(alloc, threads)?, Crew::new(alloc, WORKERS)?))
+    Ok(Start {
+        live: Live::start(alloc, Arc::try_clone(admitted)?)?,
+        roster: Roster::new(alloc, admitted.program())?,
+        bells: bells_of(alloc, threads)?,
+        players: Crew::new(alloc, threads)?,
+        workers: Crew::new(alloc, WORKERS)?,
+    })
+}
+
+// A bell for each player.
+fn bells_of(alloc: Global, threads: u32) -> Result<Vec<Condvar>, AllocError> {
+    let mut bells = Vec::with_capacity(alloc, threads as usize)?;
+    for _ in 0..threads {
+        bells.push(Condvar::new())?;
+    }
+    Ok(bells)
 }
 
 // What the threads counted, with a share that has all their parts.
@@ -171,22 +197,31 @@ fn run_in<
     ensures { Tells D.gives (arc_value admitted) limit result }
 {
     let device = Mutex::new(device);
-    let Ok((live, players, workers)) = begin(alloc, &admitted, threads) else {
+    let Ok(start) = begin(alloc, &admitted, threads) else {
         return refused(&device, alloc, &admitted, limit);
     };
+    let Start {
+        live,
+        roster,
+        bells,
+        players,
+        workers,
+    } = start;
     let (book, all) = blank.open::<L>();
     admitted.program();
     let shared = Shared {
-        locked: Mutex::new(Locked::new(live, book, limit)),
+        board: Mutex::new(Board {
+            run: Locked::new(live, book, limit),
+            roster,
+        }),
         device,
         chooser: Mutex::new(chooser),
-        moved: Condvar::new(),
-        freed: Condvar::new(),
+        bells,
         offered: Condvar::new(),
     };
     let tally = together(rt, &shared, gate, threads, players, workers, all);
-    let Shared { locked, .. } = shared;
-    finished(&admitted, limit, locked.into_inner(), tally)
+    let Shared { board, .. } = shared;
+    finished(&admitted, limit, board.into_inner().run, tally)
 }
 
 /// Runs a program: a thread for each of its threads, and two workers, which have the device serve its requests, until

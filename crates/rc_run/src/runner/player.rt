@@ -5,6 +5,7 @@ ghost use Rattle.std.specs.Prelude.{◌≡◌, ◌⊎◌, ◌≤◌, ℤ, pos, n
 use crate::gate::Gate;
 use crate::live::Turn;
 use crate::locked::{Asked, Counted};
+use crate::roster::Stance;
 use crate::runner::shared::{Shared, draw};
 use rc_device::chooser::Chooser;
 use rc_device::device::Device;
@@ -15,12 +16,15 @@ use std::sync::Wait;
 use std::sync::ledger::Ledger;
 use std::thread;
 
-// How often a thread leaves the processor before it sleeps: mostly another has made an event by then, and neither has to
-// be woken.
-const YIELDS: u32 = 4;
+// How often a player looks at the taken lock of the program before it sleeps, and leaves the processor in between: mostly
+// it is released by then, and nobody has to be woken.
+const LOOKS: u32 = 200;
 
-// After how many events in a row a thread leaves the processor, and how often at most where another thread can go on.
-const ROW: usize = 64;
+// A player that polls on leaves the processor after so many polls.
+const POLLS_IN_A_ROW: u32 = 64;
+
+// After how many events in a row a player leaves the processor to others that can go on, and how often at most.
+const ROW: usize = 128;
 
 const ROW_YIELDS: u32 = 10000;
 
@@ -32,26 +36,20 @@ pub fn play<D: Device, C: Chooser, G: Gate, L: Ledger + Asked, R: Wait>(
     thread: u32,
     mut mine: Counted<L>,
 ) -> Counted<L> {
-    let mut pace = Pace {
-        is_idle: false,
-        rest: Rest::None,
-        looked: 0,
-        seen: 0,
-        row: 0,
-    };
+    let mut pace = Pace::new();
     for _ in rt.forever() {
         let turn = mine.events.saturating_add(1);
         gate.pass(thread, turn);
         match take_turn(rt, shared, thread, &mut mine, &mut pace) {
             None | Some(Brought::End) => break,
-            Some(Brought::TakenLock) => {}
-            Some(brought) => {
-                tell(shared, brought);
+            Some(Brought::TakenLock) => wait_for_lock(rt, shared, thread),
+            Some(_) => {
                 gate.answered(thread, turn);
-                pause(rt, shared, thread, &pace);
+                pause(rt, shared, thread, &mut pace);
             }
         }
     }
+    shared.hold(rt).roster.leave(thread as usize);
     shared.tell_all();
     mine
 }
@@ -69,18 +67,30 @@ enum Brought {
     FreeLock,
     // An event that queued an entry, reaped a completion or put items into the pool.
     Move,
-    // An event that took items from the pool.
+    // An event that took items from the pool, or none of the entries that are queued: the next submit may take them.
     Items,
-    // An event after which this many more requests are pending, at least one.
-    Requests(i32),
+    // An event after which more requests are pending.
+    Requests,
     // An event that found no completion.
     NoCompletion,
     // Another event.
     Event,
 }
 
-// What a turn brought; whether its line takes items from the pool, and whether the lock of the program is free then.
-fn brought_by(turn: Turn, takes: bool, is_free: bool) -> Brought {
+// What a thread looks at on its next line.
+#[derive(Clone, Copy)]
+enum Look {
+    Nothing,
+    // The front completion.
+    Completion,
+    // The entries.
+    Entries,
+    // The pool.
+    Pool,
+}
+
+// What a turn brought; what its line looks at, whether entries were queued, and whether the lock of the program is free then.
+fn brought_by(turn: Turn, look: Look, is_queued: bool, is_free: bool) -> Brought {
     let action = match turn {
         Turn::Ended => return Brought::End,
         Turn::Waits => return Brought::TakenLock,
@@ -91,8 +101,9 @@ fn brought_by(turn: Turn, takes: bool, is_free: bool) -> Brought {
         Action::Locked => Brought::Lock,
         Action::Released | Action::LoopLeft if is_free => Brought::FreeLock,
         Action::DataSet(_) | Action::Reaped(_) | Action::ItemsPut => Brought::Move,
-        Action::Branched(true) if takes => Brought::Items,
-        Action::Submitted(taken) if taken > 0 => Brought::Requests(taken),
+        Action::Branched(true) if matches!(look, Look::Pool) => Brought::Items,
+        Action::Submitted(taken) if taken > 0 => Brought::Requests,
+        Action::Submitted(_) if is_queued => Brought::Items,
         Action::PeekedNone => Brought::NoCompletion,
         _ => Brought::Event,
     }
@@ -111,17 +122,21 @@ fn draw_take<D: Device, C: Chooser, L: Ledger + Asked, R: Wait>(
     if take <= queued { take as i32 } else { -11 }
 }
 
-// Whether a thread's next line takes items from the pool.
-fn takes_items(next: Next) -> bool {
-    match next {
-        Next::Ready(line) => matches!(line.stmt, Stmt::If(Test::Take(_))),
-        _ => false,
+// What a thread's next line looks at.
+fn look_of(next: Next) -> Look {
+    let Next::Ready(line) = next else {
+        return Look::Nothing;
+    };
+    match line.stmt {
+        Stmt::Peek(_) => Look::Completion,
+        Stmt::If(Test::ReadyZero) | Stmt::If(Test::SpaceAtLeast(_)) => Look::Entries,
+        Stmt::If(Test::Take(_)) => Look::Pool,
+        _ => Look::Nothing,
     }
 }
 
-// Makes a turn of a thread, and answers what it brought. Who sleeps is woken by news, and by any event where no request
-// is pending. Where the thread stands at the lock of the program, which is taken, it waits until that is
-// released. None where the run is to stop.
+// Makes a turn of a thread, and answers what it brought; wakes those who are to go on behind it. None where the run is to
+// stop.
 fn take_turn<D: Device, C: Chooser, L: Ledger + Asked, R: Wait>(
     rt: &R,
     shared: &Shared<D, C, L>,
@@ -129,71 +144,163 @@ fn take_turn<D: Device, C: Chooser, L: Ledger + Asked, R: Wait>(
     mine: &mut Counted<L>,
     pace: &mut Pace,
 ) -> Option<Brought> {
-    let mut guard = shared.locked.lock(rt);
-    let take = draw_take(rt, shared, guard.queued());
-    let takes = takes_items(guard.next(thread));
-    let turn = guard.turn(thread, take, mine)?;
-    let brought = brought_by(turn, takes, guard.is_free());
-    let seen = guard.len();
-    if let Brought::TakenLock = brought {
-        shared
-            .freed
-            .wait_while(rt, guard, |l| l.may_wait(thread, seen));
+    let mut guard = shared.hold(rt);
+    let queued = guard.run.queued();
+    let take = draw_take(rt, shared, queued);
+    let look = look_of(guard.run.next(thread));
+    let turn = guard.run.turn(thread, take, mine)?;
+    guard.roster.arrive(thread as usize);
+    let brought = brought_by(turn, look, queued > 0, guard.run.is_free());
+    if let Brought::End | Brought::TakenLock = brought {
         return Some(brought);
     }
-    pace.note(brought, seen);
-    let wakes = is_news(brought) || !guard.has_pending();
-    if wakes && guard.is_heard() {
-        drop(guard);
-        shared.moved.notify_all();
+    let events = guard.run.len();
+    if let Brought::Move | Brought::Requests = brought {
+        guard.roster.move_at(Some(thread as usize), events);
     }
+    pace.note(brought, look, events);
+    if let Rest::Poll(_) = pace.rest {
+        pace.polls_on = guard.roster.polls_on(thread as usize, events);
+    }
+    let calls = guard.calls(
+        matches!(brought, Brought::FreeLock),
+        matches!(
+            brought,
+            Brought::Requests | Brought::NoCompletion | Brought::FreeLock
+        ),
+    );
+    drop(guard);
+    shared.tell(calls);
     Some(brought)
 }
 
-// Whether a look at the rings or into the pool may find something new.
-fn is_news(brought: Brought) -> bool {
-    matches!(brought, Brought::Move | Brought::Requests(_))
-}
-
-// Wakes those who wait for what a turn brought. One thread takes the free lock, and its release wakes the next.
-fn tell<D: Device, C, L: Ledger + Asked>(shared: &Shared<D, C, L>, brought: Brought) {
-    match brought {
-        Brought::FreeLock => shared.freed.notify_one(),
-        Brought::Requests(1) => shared.offered.notify_one(),
-        Brought::Requests(_) => shared.offered.notify_all(),
-        _ => {}
+// Waits until the lock of the program may be free.
+fn wait_for_lock<D: Device, C, L: Ledger + Asked, R: Wait>(
+    rt: &R,
+    shared: &Shared<D, C, L>,
+    thread: u32,
+) {
+    for _ in 0..LOOKS {
+        thread::yield_now();
+        let guard = shared.hold(rt);
+        if guard.run.is_free() || guard.run.is_stopped() {
+            return;
+        }
     }
+    sleep(rt, shared, thread as usize, Stance::ForLock);
 }
 
-// What a thread does between an event of its own and its next turn.
+// Sleeps until the player is called, or the run is over. Where nobody could call it, it goes on.
+fn sleep<D: Device, C, L: Ledger + Asked, R: Wait>(
+    rt: &R,
+    shared: &Shared<D, C, L>,
+    player: usize,
+    stance: Stance,
+) {
+    let Some(bell) = shared.bells.get(player) else {
+        return;
+    };
+    let mut guard = shared.hold(rt);
+    if !guard.may_sleep(player, stance) {
+        drop(guard);
+        thread::yield_now();
+        return;
+    }
+    guard.roster.sleep(player, stance);
+    if !guard.roster.is_anyone_up() {
+        shared.offered.notify_all();
+    }
+    let mut guard = bell.wait_while(rt, guard, |board| board.sleeps(player));
+    guard.roster.rise(player);
+}
+
+// What a player does between an event of its own and its next turn.
 #[derive(Clone, Copy)]
 enum Rest {
     None,
-    // It sleeps until a look at the rings or into the pool may find something new.
-    UntilChange,
-    // It leaves the processor to the others for a moment.
-    Shortly,
+    // It polls on, or sleeps.
+    Poll(Stance),
 }
 
 // What a player remembers from turn to turn.
 #[derive(Drop)]
 struct Pace {
-    // Whether its thread has moved nothing since it took the lock of the program: queued no entry, had none taken by a
-    // submit, reaped nothing, put nothing into the pool and took nothing from it.
+    // Whether its thread has moved nothing since it took the lock of the program: queued no entry, submitted none that were
+    // queued, reaped nothing, put nothing into the pool and took nothing from it.
     is_idle: bool,
-    // How it rests before its next turn.
-    rest: Rest,
-    // How many events there were when it last took that lock or found no completion: when it looked at the rings.
+    // Whether it looked at completions since then, and whether at the entries or the pool.
+    saw_completions: bool,
+    saw_others: bool,
+    // How often it found no completion since then.
+    misses: u32,
+    // How many events there were when it took that lock.
     looked: usize,
-    // How many there were at its last one, and how many it had made in a row.
+    // How it rests before its next turn, and whether it polls on where it polls.
+    rest: Rest,
+    polls_on: bool,
+    // How often it polled on.
+    polls: u32,
+    // How many events there were at its last one, how many it had made in a row, and whether it lets others go on now.
     seen: usize,
     row: usize,
+    is_long: bool,
 }
 
 impl Pace {
-    // Notes an event. A thread that found no completion sleeps, and so does one that moved nothing while it held the lock
-    // of the program: it would take the lock again before the others have woken up.
-    fn note(&mut self, brought: Brought, seen: usize) {
+    fn new() -> Pace {
+        Pace {
+            is_idle: false,
+            saw_completions: false,
+            saw_others: false,
+            misses: 0,
+            looked: 0,
+            rest: Rest::None,
+            polls_on: false,
+            polls: 0,
+            seen: 0,
+            row: 0,
+            is_long: false,
+        }
+    }
+
+    // Notes an event. A thread that moved nothing while it held the lock of the program polls, and so does one that holds
+    // it and finds no completion again.
+    fn note(&mut self, brought: Brought, look: Look, seen: usize) {
+        self.rest = Rest::None;
+        self.note_row(seen, matches!(brought, Brought::FreeLock));
+        match look {
+            Look::Nothing => {}
+            Look::Completion => self.saw_completions = true,
+            Look::Entries | Look::Pool => self.saw_others = true,
+        }
+        match brought {
+            Brought::Lock => self.begin(true, seen),
+            Brought::Move | Brought::Requests | Brought::Items => self.begin(false, seen),
+            Brought::NoCompletion => {
+                self.misses = self.misses.saturating_add(1);
+                if self.misses > 1 {
+                    self.rest = Rest::Poll(self.stance());
+                }
+            }
+            Brought::FreeLock if self.is_idle => {
+                self.is_idle = false;
+                self.rest = Rest::Poll(self.stance());
+            }
+            _ => {}
+        }
+    }
+
+    // Notes that it took the lock of the program, or moved something.
+    fn begin(&mut self, is_idle: bool, seen: usize) {
+        self.is_idle = is_idle;
+        self.saw_completions = false;
+        self.saw_others = false;
+        self.misses = 0;
+        self.looked = seen;
+    }
+
+    // Counts the events in a row. Who made many leaves the processor at each multiple, and where it releases the lock.
+    fn note_row(&mut self, seen: usize, is_released: bool) {
         let goes_on = seen == self.seen.saturating_add(1);
         self.row = if goes_on {
             self.row.saturating_add(1)
@@ -201,24 +308,15 @@ impl Pace {
             1
         };
         self.seen = seen;
-        let is_long = self.row % ROW == 0
-            || (self.row > ROW && matches!(brought, Brought::FreeLock));
-        self.rest = if is_long { Rest::Shortly } else { Rest::None };
-        match brought {
-            Brought::Lock => {
-                self.is_idle = true;
-                self.looked = seen;
-            }
-            Brought::Move | Brought::Requests(_) | Brought::Items => self.is_idle = false,
-            Brought::NoCompletion => {
-                self.rest = Rest::UntilChange;
-                self.looked = seen;
-            }
-            Brought::FreeLock if self.is_idle => {
-                self.is_idle = false;
-                self.rest = Rest::UntilChange;
-            }
-            _ => {}
+        self.is_long = self.row % ROW == 0 || (self.row > ROW && is_released);
+    }
+
+    // What it sleeps for, if it does.
+    fn stance(&self) -> Stance {
+        if self.saw_completions && !self.saw_others {
+            Stance::ForCompletion
+        } else {
+            Stance::ForMove(self.looked)
         }
     }
 }
@@ -228,29 +326,47 @@ fn pause<D: Device, C, L: Ledger + Asked, R: Wait>(
     rt: &R,
     shared: &Shared<D, C, L>,
     thread: u32,
-    pace: &Pace,
+    pace: &mut Pace,
 ) {
-    let seen = pace.seen;
-    let looked = match pace.rest {
-        Rest::None => return,
-        Rest::UntilChange => pace.looked,
-        Rest::Shortly => seen,
-    };
-    for _ in 0..YIELDS {
-        if !shared.locked.lock(rt).may_sleep(thread, looked, seen) {
-            return;
-        }
+    if let Rest::Poll(stance) = pace.rest {
+        poll(rt, shared, thread, stance, pace);
+    }
+    if pace.is_long {
+        let_others(rt, shared, thread, pace.seen);
+    }
+}
+
+// Polls on, and leaves the processor now and then; or sleeps.
+fn poll<D: Device, C, L: Ledger + Asked, R: Wait>(
+    rt: &R,
+    shared: &Shared<D, C, L>,
+    thread: u32,
+    stance: Stance,
+    pace: &mut Pace,
+) {
+    let goes_on = shared
+        .board
+        .lock(rt)
+        .roster
+        .polls_on(thread as usize, pace.seen);
+    if !goes_on {
+        return sleep(rt, shared, thread as usize, stance);
+    }
+    pace.polls = pace.polls.wrapping_add(1);
+    if pace.polls % POLLS_IN_A_ROW == 0 {
         thread::yield_now();
     }
-    if let Rest::UntilChange = pace.rest {
-        let guard = shared.locked.lock(rt);
-        shared
-            .moved
-            .wait_while(rt, guard, |l| l.listen(thread, looked, seen));
-        return;
-    }
+}
+
+// Leaves the processor until another player has made an event, if one can.
+fn let_others<D: Device, C, L: Ledger + Asked, R: Wait>(
+    rt: &R,
+    shared: &Shared<D, C, L>,
+    thread: u32,
+    seen: usize,
+) {
     for _ in 0..ROW_YIELDS {
-        if !shared.locked.lock(rt).others_may_go(thread, seen) {
+        if !shared.hold(rt).others_go(thread as usize, seen) {
             return;
         }
         thread::yield_now();

@@ -19,18 +19,20 @@ pub fn work<D: Device, C: Chooser, L: Ledger + Asked, R: Wait>(
 ) -> Counted<L> {
     for _ in rt.forever() {
         let choice = draw(rt, shared, 65536);
-        let mut guard = shared.locked.lock(rt);
-        if guard.is_over() {
+        let mut guard = shared.hold(rt);
+        if guard.run.is_over() {
             break;
         }
-        match guard.take_job(choice) {
+        match guard.run.take_job(choice) {
             Some(job) => {
                 drop(guard);
                 let (job, res) = served(rt, shared, job);
                 post(rt, shared, job, res, &mut mine);
             }
             None => {
-                shared.offered.wait_while(rt, guard, |l| l.is_idle());
+                shared
+                    .offered
+                    .wait_while(rt, guard, |board| board.run.is_idle());
             }
         }
     }
@@ -90,12 +92,12 @@ fn post<D: Device, C, L: Ledger + Asked, R: Wait>(
     requires allowed { allows job res ≡ true }
     requires given { D.gives job.request.user_data res ⊎ (res ≡ negsuc 11) }
 {
-    let mut guard = shared.locked.lock(rt);
-    let posted = guard.post(job, res, mine);
-    let heard = guard.is_heard();
+    let mut guard = shared.hold(rt);
+    let posted = guard.run.post(job, res, mine);
+    let called = guard.calls_after_post();
     drop(guard);
-    if heard {
-        shared.moved.notify_all();
+    if let Some(player) = called {
+        shared.ring(player);
     }
     if let Err(job) = posted {
         job.give_up();

@@ -28,6 +28,6 @@ pub returns-in-Err-clause-err : goal.returns-in-Err-clause-err
 returns-in-Err-clause-err g c =
     let a = c.self.inside in
     let e = c.in-Err.ensures.err in
-    let table : Live → Table = λ s. record { run = s; turns = a.turns; limit = a.limit; memory = a.memory; awaited = a.awaited } in
+    let table : Live → Table = λ s. record { run = s; turns = a.turns; limit = a.limit; memory = a.memory } in
     let F : Table → Type 0 = λ t. (c.in-Err.job ≡ c.args.job) × (table c.post.new.self ≡ t) × IsNotOut t.run c.args.job.request in
     subst F c.self.view_is (e.0, ap table e.1, e.2)
