@@ -344,12 +344,7 @@ fn poll<D: Device, C, L: Ledger + Asked, R: Wait>(
     stance: Stance,
     pace: &mut Pace,
 ) {
-    let goes_on = shared
-        .board
-        .lock(rt)
-        .roster
-        .polls_on(thread as usize, pace.seen);
-    if !goes_on {
+    if !pace.polls_on {
         return sleep(rt, shared, thread as usize, stance);
     }
     pace.polls = pace.polls.wrapping_add(1);
