@@ -1,5 +1,5 @@
 -- Requests behind entries, and their serial numbers in the table.
-use Rattle.std.proofs.Common.{◌≡◌, ◌≢◌, ℕ, zero, suc, ◌+◌, ◌-◌, ℤ, negsuc, List, [], ◌∷◌, ◌++◌, map, drop, Some, None, false, if◌then◌else◌, nat_eq, slice_get, option_map, Result, Ok, Err, ◌↔◌, refl, sym, ap, subst, ◌∙◌, arith, eq-eqb}
+use Rattle.std.proofs.Common.{◌≡◌, ◌≢◌, ℕ, zero, suc, ◌+◌, ℤ, negsuc, List, [], ◌∷◌, ◌++◌, map, drop, Some, None, false, if◌then◌else◌, nat_eq, slice_get, option_map, Result, Ok, Err, ◌↔◌, refl, sym, ap, subst, ◌∙◌, arith, eq-eqb}
 use Rattle.std.proofs.lemmas.Bool.Decides.{nat_tests}
 use Rattle.std.proofs.lemmas.List.{map-append}
 use Rattle.std.proofs.lemmas.Option.{same_Some, slice_get-map}

@@ -11,3 +11,5 @@ mod Finding
 mod Posting
 pub mod TurnEvents
 mod Growing
+mod CaseTable
+mod Boards

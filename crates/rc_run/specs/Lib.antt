@@ -1,3 +1,4 @@
+pub mod Board
 pub mod Calm
 pub mod Held
 pub mod JobParts
@@ -10,4 +11,5 @@ pub mod Reports
 pub mod Requests
 pub mod Rooms
 pub mod Roster
+pub mod RosterParts
 pub mod Table

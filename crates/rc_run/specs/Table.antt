@@ -1,5 +1,5 @@
 -- What lies under the lock of a run, as contracts see it.
-use Rattle.std.specs.Prelude.{ℕ, ℤ, ◌≡◌, ◌⊎◌, ◌<◌, ◌≤◌, Bool, true, false, ◌||◌, if◌then◌else◌, List, count_by, length, nat_le, Option, None, Some, slice_get}
+use Rattle.std.specs.Prelude.{ℕ, ℤ, ◌≡◌, ◌⊎◌, ◌<◌, ◌≤◌, Bool, true, false, ◌||◌, if◌then◌else◌, List, count_by, length, nat_le, Option, None, Some, is_none, slice_get}
 use Rattle.rc_lang.specs.declared.program.Token.{Token}
 use Rattle.rc_lang.specs.Program.{Program, token_place}
 use Rattle.rc_world.specs.declared.event.Completion.{Completion}
@@ -52,13 +52,17 @@ EndsAs t ending.Limit = (t.limit ≤ t.turns) × ((i : ℕ) × IsUnended t.run.w
 EndsAs t ending.Memory = (AllEnded t.run.world × (t.memory ≡ true)) ⊎ ((t.turns < t.limit) × ((i : ℕ) × IsUnended t.run.world i))
 
 -- the place among the tokens of that of a completion
-abbrev pub place_of : List Token → Option Completion → Option ℕ
-place_of tokens None = None
-place_of tokens (Some c) = token_place tokens c.user_data
+abbrev pub completion_token : List Token → Option Completion → Option ℕ
+completion_token tokens None = None
+completion_token tokens (Some c) = token_place tokens c.user_data
 
 -- the place among the tokens of that of the front completion
 abbrev pub front_token : World → Option ℕ
-front_token w = place_of w.program.tokens (slice_get w.completions 0)
+front_token w = completion_token w.program.tokens (slice_get w.completions 0)
+
+-- no thread holds the lock of the program
+abbrev pub is_lock_free : World → Bool
+is_lock_free w = is_none w.controls.holder
 
 -- What is kept of a run under the lock, of which the book has counted so many events: it is one of the program, which
 -- is safe, its results are given, and no more of its events are of threads than the limit says.

@@ -4,7 +4,7 @@ ghost use Rattle.std.specs.Prelude.{◌≡◌, ◌≢◌, ◌⊎◌, ◌↔◌, 
 ghost use Rattle.rc_run.specs.Jobs.{allows};
 ghost use Rattle.rc_run.specs.Reports.{AllEnded, IsUnended};
 ghost use Rattle.rc_run.specs.Lives.{IsNotOut, Lent, Posted, Turned, begun, free};
-ghost use Rattle.rc_run.specs.Table.{EndsAs, IsOver, IsTable, after_no_turn, after_refusal, front_token, is_stopped, new_table, turns_by};
+ghost use Rattle.rc_run.specs.Table.{EndsAs, IsOver, IsTable, after_no_turn, after_refusal, front_token, is_lock_free, is_stopped, new_table, turns_by};
 ghost use Rattle.rc_world.specs.Items.{next_of};
 ghost use Rattle.rc_world.specs.Runs.{IsSafe};
 
@@ -147,7 +147,7 @@ impl<D: Device, L: Ledger + Asked> Locked<D, L> {
 
     /// Whether no thread holds the lock of the program.
     pub fn is_free(&self) -> bool
-        ensures { IsTrue result ↔ (self.now.run.world.controls.holder ≡ None) }
+        ensures { result ≡ is_lock_free self.now.run.world }
     {
         self.live.holder().is_none()
     }

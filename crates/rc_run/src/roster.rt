@@ -1,14 +1,20 @@
 //! Which players of a run are up, and which sleep for what.
 //!
-//! Nothing that is promised of a run rests on it: it decides who is woken when.
+//! Nothing that is promised of a history rests on it: it decides who is woken when.
 
-ghost use Rattle.std.specs.Prelude.{◌≡◌, ◌↔◌, ℕ, IsTrue, slice_set};
-ghost use Rattle.rc_run.specs.Roster.{IsUp, OtherIsUp, sleeps, stance_at};
-ghost use Rattle.rc_run.specs.declared.roster.Stance.TheVariants.{Up};
+ghost use Rattle.std.specs.Prelude.{◌≡◌, ◌↔◌, ◌<◌, ◌≤◌, ℕ, true, false, IfOk, IsTrue, MatchOption, length};
+ghost use Rattle.rc_run.specs.Roster.{AnyIsUp, Calls, IsCaseTable, IsFirstIn, IsInTurn, NobodyIn, OtherIsUp, arrived, fresh_roster, is_due, left_by, may_poll, moved_at, moved_by, polled, polls_on, raised, sleeps, stance_at, stance_due, stands_as, unless};
 
-use rc_lang::lines::Stmt;
+mod cases;
+mod stances;
+
+use crate::roster::cases::{cases_of, has_case};
+use crate::roster::stances::{
+    is_anyone_up, is_asleep, next_asleep, others_up, set_stance, wake_all,
+};
 use rc_lang::program::Program;
 use std::alloc::{AllocError, Global};
+use std::marker::Model;
 
 // So many events without news are made by a player that polls on.
 const POLLS: usize = 48;
@@ -40,87 +46,85 @@ pub struct Roster {
     poller: Option<usize>,
     // How many events there were when something moved last.
     moved: usize,
-    // Whether nobody sleeps for what has come since then, but at the lock.
-    is_settled: bool,
-    // How many sleep until the lock is free.
-    at_lock: usize,
     // Where the next search for a sleeper begins, so that each gets its turn.
     next: usize,
 }
 
+impl Model for Roster {
+    ghost use Rattle.rc_run.specs.Roster as roster;
+    ghost use Rattle.rc_run.specs.RosterParts.{view_roster};
+
+    ghost Value = { roster.Roster };
+
+    ghost view = { view_roster };
+}
+
 impl Roster {
     /// All are up.
-    pub fn new(alloc: Global, program: &Program) -> Result<Roster, AllocError> {
+    pub fn new(alloc: Global, program: &Program) -> Result<Roster, AllocError>
+        ensures fresh { IfOk result (λ r. r ≡ fresh_roster (length program.now.threads) r.cases) }
+        ensures cases { IfOk result (λ r. IsCaseTable program.now r.cases) }
+    {
         let threads = program.threads().len();
-        let mut stances = Vec::with_capacity(alloc, threads)?;
-        for _ in 0..threads {
-            stances.push(Stance::Up)?;
-        }
         Ok(Roster {
-            stances,
+            stances: vec![in alloc; Stance::Up; threads]?,
             cases: cases_of(alloc, program)?,
             called: None,
             poller: None,
             moved: 0,
-            is_settled: true,
-            at_lock: 0,
             next: 0,
         })
     }
 
     /// Whether a player sleeps.
     pub fn is_asleep(&self, thread: usize) -> bool
-        ensures { result ≡ sleeps (stance_at self.now.stances.items thread) }
+        ensures { result ≡ sleeps (stance_at self.now.stances thread) }
     {
         is_asleep(self.stance(thread))
     }
 
     /// Whether another player than this one is up.
     pub fn others_up(&self, thread: usize) -> bool
-        ensures { IsTrue result ↔ OtherIsUp self.now.stances.items thread }
+        ensures { IsTrue result ↔ OtherIsUp self.now.stances thread }
     {
-        for other in 0..self.stances.len() {
-            if other != thread && matches!(self.stances[other], Stance::Up) {
-                return true;
-            }
-        }
-        false
+        others_up(&self.stances, thread)
     }
 
     /// Whether a player is up.
     pub fn is_anyone_up(&self) -> bool
-        ensures { IsTrue result ↔ ((j : ℕ) × IsUp self.now.stances.items j) }
+        ensures { IsTrue result ↔ AnyIsUp self.now.stances }
     {
-        for thread in 0..self.stances.len() {
-            if matches!(self.stances[thread], Stance::Up) {
-                return true;
-            }
-        }
-        false
+        is_anyone_up(&self.stances)
     }
 
     /// Notes that a player makes turns.
-    pub fn arrive(&mut self, thread: usize) {
-        if self.called == Some(thread) {
-            self.called = None;
-        }
+    pub fn arrive(&mut self, thread: usize)
+        ensures { self.new ≡ arrived self.old thread }
+    {
+        self.called = unless(thread, self.called);
     }
 
-    /// Notes that something moved when there were so many events, by this player or by a worker.
-    pub fn move_at(&mut self, thread: Option<usize>, events: usize) {
+    /// Notes that a worker moved something when there were so many events.
+    pub fn move_at(&mut self, events: usize)
+        ensures { self.new ≡ moved_at self.old events }
+    {
         self.moved = events;
-        self.is_settled = false;
-        if self.poller == thread {
-            self.poller = None;
-        }
+    }
+
+    /// Notes that a player moved something when there were so many events: it doesn't poll.
+    pub fn move_by(&mut self, thread: usize, events: usize)
+        ensures { self.new ≡ moved_by self.old thread events }
+    {
+        self.moved = events;
+        self.poller = unless(thread, self.poller);
     }
 
     /// Whether a player that found nothing new when there were so many events polls on: one does for a while.
-    pub fn polls_on(&mut self, thread: usize, events: usize) -> bool {
-        let is_free = match self.poller {
-            None => true,
-            Some(poller) => poller == thread,
-        };
+    pub fn polls_on(&mut self, thread: usize, events: usize) -> bool
+        ensures answer { result ≡ polls_on self.old thread events }
+        ensures after { self.new ≡ polled self.old thread events }
+    {
+        let is_free = may_poll(self.poller, thread);
         let goes_on = is_free && events.saturating_sub(self.moved) < POLLS;
         if is_free {
             self.poller = if goes_on { Some(thread) } else { None };
@@ -128,162 +132,119 @@ impl Roster {
         goes_on
     }
 
-    /// Notes that a player sleeps.
-    pub fn sleep(&mut self, thread: usize, stance: Stance)
-        ensures { self.new.stances.items ≡ slice_set self.old.stances.items thread stance }
+    /// Notes how a player stands.
+    pub fn stand(&mut self, thread: usize, stance: Stance)
+        ensures { self.new ≡ stands_as self.old thread stance }
     {
-        self.stand(thread, stance);
-    }
-
-    /// Notes that a player is up.
-    pub fn rise(&mut self, thread: usize)
-        ensures { self.new.stances.items ≡ slice_set self.old.stances.items thread Up }
-    {
-        self.stand(thread, Stance::Up);
+        set_stance(&mut self.stances, thread, stance);
+        self.poller = unless(thread, self.poller);
     }
 
     /// Notes that a player has stopped; all others are up, since it may have been what they slept for.
-    pub fn leave(&mut self, thread: usize) {
-        self.arrive(thread);
-        self.stand(thread, Stance::Gone);
-        for other in 0..self.stances.len() {
-            if self.is_asleep(other) {
-                self.rise(other);
-            }
-        }
+    pub fn leave(&mut self, thread: usize)
+        ensures { self.new ≡ left_by self.old thread }
+    {
+        set_stance(&mut self.stances, thread, Stance::Gone);
+        wake_all(&mut self.stances);
+        self.called = unless(thread, self.called);
+        self.poller = unless(thread, self.poller);
     }
 
     /// Whether what the stance is for has come: where the front completion is for this token, and the lock of the program is
     /// free or not.
-    pub fn is_due(
-        &self,
-        thread: usize,
-        stance: Stance,
-        front: Option<usize>,
-        is_free: bool,
-    ) -> bool {
+    pub fn is_due(&self, thread: usize, stance: Stance, front: Option<usize>, is_free: bool) -> bool
+        ensures { result ≡ stance_due self.now front is_free thread stance }
+    {
         match stance {
             Stance::Up | Stance::Gone => false,
-            Stance::ForCompletion => self.has_case(thread, front),
+            Stance::ForCompletion => has_case(&self.cases, front, thread),
             Stance::ForMove(looked) => looked < self.moved,
             Stance::ForLock => is_free && self.called.is_none(),
         }
     }
 
     /// Has a player rise for which what it sleeps for has come.
-    pub fn call_due(&mut self, front: Option<usize>, is_free: bool) -> Option<usize> {
-        if self.is_settled && self.at_lock == 0 {
-            return None;
-        }
-        for place in 0..self.stances.len() {
-            let thread = self.turned(place);
-            if self.is_due(thread, self.stance(thread), front, is_free) {
-                self.call(thread);
-                return Some(thread);
-            }
-        }
-        self.is_settled = true;
-        None
+    pub fn call_due(&mut self, front: Option<usize>, is_free: bool) -> Option<usize>
+        ensures { Calls (is_due self.old front is_free) self.old result self.new }
+    {
+        let thread = next_due(self, front, is_free)?;
+        self.raise(thread);
+        Some(thread)
     }
 
     /// Has a player rise that sleeps, whatever it sleeps for.
-    pub fn call_any(&mut self) -> Option<usize> {
-        for place in 0..self.stances.len() {
-            let thread = self.turned(place);
-            if self.is_asleep(thread) {
-                self.call(thread);
-                return Some(thread);
-            }
-        }
-        None
+    pub fn call_any(&mut self) -> Option<usize>
+        ensures { Calls (λ i. sleeps (stance_at self.old.stances i)) self.old result self.new }
+    {
+        let thread = next_asleep(&self.stances, self.next)?;
+        self.raise(thread);
+        Some(thread)
     }
 
-    // The thread at a place of the search.
-    fn turned(&self, place: usize) -> usize {
-        let threads = self.stances.len();
-        if threads == 0 {
-            return 0;
-        }
-        self.next.wrapping_add(place) % threads
-    }
-
-    fn call(&mut self, thread: usize) {
+    // Has a player rise.
+    fn raise(&mut self, thread: usize)
+        requires { thread < length self.old.stances }
+        ensures { self.new ≡ raised self.old thread }
+    {
         if let Stance::ForLock = self.stance(thread) {
             self.called = Some(thread);
         }
-        self.rise(thread);
-        self.next = thread.wrapping_add(1);
+        self.stand(thread, Stance::Up);
+        self.next = thread + 1;
     }
 
     fn stance(&self, thread: usize) -> Stance
-        ensures { result ≡ stance_at self.now.stances.items thread }
+        ensures { result ≡ stance_at self.now.stances thread }
     {
         self.stances.get(thread).copied().unwrap_or(Stance::Gone)
     }
-
-    fn stand(&mut self, thread: usize, stance: Stance)
-        ensures { self.new.stances.items ≡ slice_set self.old.stances.items thread stance }
-    {
-        if self.poller == Some(thread) {
-            self.poller = None;
-        }
-        if let Stance::ForLock = self.stance(thread) {
-            self.at_lock = self.at_lock.saturating_sub(1);
-        }
-        if let Stance::ForLock = stance {
-            self.at_lock = self.at_lock.saturating_add(1);
-        }
-        if let Some(old) = self.stances.get_mut(thread) {
-            *old = stance;
-        }
-    }
-
-    // Whether the thread has a case for the token at this place.
-    fn has_case(&self, thread: usize, token: Option<usize>) -> bool {
-        let Some(token) = token else { return false };
-        match self.cases.get(token) {
-            Some(threads) => threads.contains(&thread),
-            None => false,
-        }
-    }
 }
 
-fn is_asleep(stance: Stance) -> bool
-    ensures { result ≡ sleeps stance }
+// The player that a place names, unless it is this one.
+fn unless(thread: usize, player: Option<usize>) -> Option<usize>
+    ensures { result ≡ unless thread player }
 {
-    match stance {
-        Stance::Up | Stance::Gone => false,
-        Stance::ForCompletion | Stance::ForMove(_) | Stance::ForLock => true,
+    match player {
+        Some(other) if other != thread => Some(other),
+        _ => None,
     }
 }
 
-// For each token the threads that have a case for it.
-fn cases_of(alloc: Global, program: &Program) -> Result<Vec<Vec<usize>>, AllocError> {
-    let mut cases = Vec::with_capacity(alloc, program.tokens().len())?;
-    for _ in program.tokens() {
-        cases.push(Vec::new(alloc))?;
+// Whether nobody else polls on.
+fn may_poll(poller: Option<usize>, thread: usize) -> bool
+    ensures { result ≡ may_poll poller thread }
+{
+    match poller {
+        None => true,
+        Some(other) => other == thread,
     }
-    for (number, thread) in program.threads().iter().enumerate() {
-        for line in &thread.lines {
-            let Stmt::Case(_, user_data) = line.stmt else {
-                continue;
-            };
-            let Some(token) = program.token_place(user_data) else {
-                continue;
-            };
-            add_case(&mut cases, token, number)?;
+}
+
+// The next player in turn for which what it sleeps for has come.
+fn next_due(roster: &Roster, front: Option<usize>, is_free: bool) -> Option<usize>
+    ensures { MatchOption result ((i : ℕ) → is_due roster.now front is_free i ≡ false) (IsInTurn (is_due roster.now front is_free) roster.now.next (length roster.now.stances)) }
+{
+    let next = roster.next;
+    match due_in(roster, next, roster.stances.len(), front, is_free) {
+        Some(thread) => Some(thread),
+        None => due_in(roster, 0, next, front, is_free),
+    }
+}
+
+// The first of them from one place to another.
+fn due_in(
+    roster: &Roster,
+    from: usize,
+    to: usize,
+    front: Option<usize>,
+    is_free: bool,
+) -> Option<usize>
+    ensures { MatchOption result (NobodyIn (is_due roster.now front is_free) from to) (IsFirstIn (is_due roster.now front is_free) from to) }
+{
+    for thread in from..to {
+        if roster.is_due(thread, roster.stance(thread), front, is_free) {
+            return Some(thread);
         }
     }
-    Ok(cases)
-}
-
-// Adds a thread to those that have a case for a token, once.
-fn add_case(cases: &mut Vec<Vec<usize>>, token: usize, thread: usize) -> Result<(), AllocError> {
-    let Some(threads) = cases.get_mut(token) else {
-        return Ok(());
-    };
-    if !threads.contains(&thread) {
-        threads.push(thread)?;
-    }
-    Ok(())
+    None
 }

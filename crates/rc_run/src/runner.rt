@@ -5,6 +5,7 @@ ghost use Rattle.std.specs.Arc.{arc_value};
 ghost use Rattle.rc_run.specs.Lives.{begun};
 ghost use Rattle.rc_run.specs.Reports.{Tells};
 ghost use Rattle.rc_run.specs.Rooms.{HasCapacity};
+ghost use Rattle.rc_run.specs.Roster.{AllAreUp};
 ghost use Rattle.rc_world.specs.Runs.{IsSafe};
 
 mod crew;
@@ -50,6 +51,7 @@ fn begin<L: Ledger>(
     threads: u32,
 ) -> Result<Start<L>, AllocError>
     ensures live { IfOk result (λ r. r.live ≡ begun (arc_value admitted.now)) }
+    ensures roster { IfOk result (λ r. AllAreUp r.roster.stances) }
     ensures players { IfOk result (λ r. HasCapacity threads r.players.started × HasCapacity threads r.players.counts) }
     ensures workers { IfOk result (λ r. HasCapacity WORKERS r.workers.started × HasCapacity WORKERS r.workers.counts) }
 {
@@ -210,10 +212,7 @@ fn run_in<
     let (book, all) = blank.open::<L>();
     admitted.program();
     let shared = Shared {
-        board: Mutex::new(Board {
-            run: Locked::new(live, book, limit),
-            roster,
-        }),
+        board: Mutex::new(Board::new(Locked::new(live, book, limit), roster)),
         device,
         chooser: Mutex::new(chooser),
         bells,
@@ -221,7 +220,7 @@ fn run_in<
     };
     let tally = together(rt, &shared, gate, threads, players, workers, all);
     let Shared { board, .. } = shared;
-    finished(&admitted, limit, board.into_inner().run, tally)
+    finished(&admitted, limit, board.into_inner().into_run(), tally)
 }
 
 /// Runs a program: a thread for each of its threads, and two workers, which have the device serve its requests, until

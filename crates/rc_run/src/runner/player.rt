@@ -2,6 +2,7 @@
 
 ghost use Rattle.std.specs.Prelude.{◌≡◌, ◌⊎◌, ◌≤◌, ℤ, pos, negsuc, ◌≤ℤ◌};
 
+use crate::board::Board;
 use crate::gate::Gate;
 use crate::live::Turn;
 use crate::locked::{Asked, Counted};
@@ -49,7 +50,7 @@ pub fn play<D: Device, C: Chooser, G: Gate, L: Ledger + Asked, R: Wait>(
             }
         }
     }
-    shared.hold(rt).roster.leave(thread as usize);
+    shared.hold(rt).leave(thread as usize);
     shared.tell_all();
     mine
 }
@@ -145,33 +146,49 @@ fn take_turn<D: Device, C: Chooser, L: Ledger + Asked, R: Wait>(
     pace: &mut Pace,
 ) -> Option<Brought> {
     let mut guard = shared.hold(rt);
-    let queued = guard.run.queued();
+    let queued = guard.run().queued();
     let take = draw_take(rt, shared, queued);
-    let look = look_of(guard.run.next(thread));
-    let turn = guard.run.turn(thread, take, mine)?;
-    guard.roster.arrive(thread as usize);
-    let brought = brought_by(turn, look, queued > 0, guard.run.is_free());
+    let look = look_of(guard.run().next(thread));
+    let turn = guard.turn(thread, take, mine)?;
+    let brought = brought_by(turn, look, queued > 0, guard.run().is_free());
     if let Brought::End | Brought::TakenLock = brought {
         return Some(brought);
     }
-    let events = guard.run.len();
     if let Brought::Move | Brought::Requests = brought {
-        guard.roster.move_at(Some(thread as usize), events);
+        guard.move_by(thread as usize);
     }
-    pace.note(brought, look, events);
+    pace.note(brought, look, guard.run().len());
     if let Rest::Poll(_) = pace.rest {
-        pace.polls_on = guard.roster.polls_on(thread as usize, events);
+        pace.polls_on = guard.polls_on(thread as usize);
     }
-    let calls = guard.calls(
-        matches!(brought, Brought::FreeLock),
-        matches!(
-            brought,
-            Brought::Requests | Brought::NoCompletion | Brought::FreeLock
-        ),
-    );
+    let player = called_behind(&mut guard, brought);
+    let workers = workers_behind(&guard, brought);
     drop(guard);
-    shared.tell(calls);
+    shared.tell(player, workers);
     Some(brought)
+}
+
+// Whom an event calls: where the lock of the program is free behind it, one that sleeps for what has come; else, now and
+// then, one in turn.
+fn called_behind<D: Device, L: Ledger + Asked>(
+    board: &mut Board<D, L>,
+    brought: Brought,
+) -> Option<usize> {
+    if let Brought::FreeLock = brought {
+        let called = board.call_due();
+        if called.is_some() {
+            return called;
+        }
+    }
+    board.call_in_turn()
+}
+
+// How many workers an event wakes: as many as there are jobs, where its thread may wait for them.
+fn workers_behind<D: Device, L: Ledger + Asked>(board: &Board<D, L>, brought: Brought) -> usize {
+    match brought {
+        Brought::Requests | Brought::NoCompletion | Brought::FreeLock => board.workers(),
+        _ => 0,
+    }
 }
 
 // Waits until the lock of the program may be free.
@@ -183,7 +200,7 @@ fn wait_for_lock<D: Device, C, L: Ledger + Asked, R: Wait>(
     for _ in 0..LOOKS {
         thread::yield_now();
         let guard = shared.hold(rt);
-        if guard.run.is_free() || guard.run.is_stopped() {
+        if guard.run().is_free() || guard.run().is_stopped() {
             return;
         }
     }
@@ -201,17 +218,16 @@ fn sleep<D: Device, C, L: Ledger + Asked, R: Wait>(
         return;
     };
     let mut guard = shared.hold(rt);
-    if !guard.may_sleep(player, stance) {
+    if !guard.sleep(player, stance) {
         drop(guard);
         thread::yield_now();
         return;
     }
-    guard.roster.sleep(player, stance);
-    if !guard.roster.is_anyone_up() {
+    if !guard.is_anyone_up() {
         shared.offered.notify_all();
     }
     let mut guard = bell.wait_while(rt, guard, |board| board.sleeps(player));
-    guard.roster.rise(player);
+    guard.rise(player);
 }
 
 // What a player does between an event of its own and its next turn.

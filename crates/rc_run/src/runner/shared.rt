@@ -2,7 +2,7 @@
 
 ghost use Rattle.std.specs.Prelude.{◌<◌};
 
-use crate::board::{Board, Calls};
+use crate::board::Board;
 use crate::locked::Asked;
 use rc_device::chooser::Chooser;
 use rc_device::device::Device;
@@ -41,12 +41,12 @@ impl<D: Device, C, L: Ledger + Asked> Shared<D, C, L> {
         self.board.lock(rt)
     }
 
-    /// Wakes those who are called.
-    pub fn tell(&self, calls: Calls) {
-        if let Some(player) = calls.player {
+    /// Wakes the player that is called, and so many workers.
+    pub fn tell(&self, player: Option<usize>, workers: usize) {
+        if let Some(player) = player {
             self.ring(player);
         }
-        match calls.workers {
+        match workers {
             0 => {}
             1 => self.offered.notify_one(),
             _ => self.offered.notify_all(),
@@ -70,7 +70,7 @@ impl<D: Device, C, L: Ledger + Asked> Shared<D, C, L> {
 
     /// Has the run stop, since memory was refused.
     pub fn stop<R: Wait>(&self, rt: &R) {
-        self.hold(rt).run.refuse();
+        self.hold(rt).refuse();
         self.tell_all();
     }
 }

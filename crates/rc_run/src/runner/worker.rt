@@ -20,10 +20,10 @@ pub fn work<D: Device, C: Chooser, L: Ledger + Asked, R: Wait>(
     for _ in rt.forever() {
         let choice = draw(rt, shared, 65536);
         let mut guard = shared.hold(rt);
-        if guard.run.is_over() {
+        if guard.run().is_over() {
             break;
         }
-        match guard.run.take_job(choice) {
+        match guard.take_job(choice) {
             Some(job) => {
                 drop(guard);
                 let (job, res) = served(rt, shared, job);
@@ -32,7 +32,7 @@ pub fn work<D: Device, C: Chooser, L: Ledger + Asked, R: Wait>(
             None => {
                 shared
                     .offered
-                    .wait_while(rt, guard, |board| board.run.is_idle());
+                    .wait_while(rt, guard, |board| board.run().is_idle());
             }
         }
     }
@@ -93,8 +93,7 @@ fn post<D: Device, C, L: Ledger + Asked, R: Wait>(
     requires given { D.gives job.request.user_data res ⊎ (res ≡ negsuc 11) }
 {
     let mut guard = shared.hold(rt);
-    let posted = guard.run.post(job, res, mine);
-    let called = guard.calls_after_post();
+    let (posted, called) = guard.post(job, res, mine);
     drop(guard);
     if let Some(player) = called {
         shared.ring(player);
