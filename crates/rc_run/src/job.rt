@@ -3,11 +3,12 @@
 ghost use Rattle.std.specs.Prelude.{◌≡◌, ◌≤◌, false, true, length};
 ghost use Rattle.std.specs.Borrow.{sem};
 ghost use Rattle.rc_lang.specs.declared.request.Kind.TheVariants.{Write};
-ghost use Rattle.rc_lang.specs.Requests.{may_complete, most_moved};
+ghost use Rattle.rc_lang.specs.Requests.{may_complete};
 ghost use Rattle.rc_run.specs.Jobs.{IsJob, allows};
 ghost use Rattle.rc_run.specs.Lending.{LendsBytes};
 
-use rc_lang::request::{Kind, Request};
+use rc_lang::request::Request;
+use rc_world::world::requests::may_complete;
 use std::marker::Model;
 
 /// A request that is with a device, and bytes for it. It has to be spent, by `Live::post` or by `give_up`.
@@ -99,27 +100,5 @@ impl Job {
             starved: _,
         } = self;
         (request, bytes)
-    }
-}
-
-// How many bytes a request moves at most.
-fn most_moved(request: Request) -> u32
-    ensures { result ≡ most_moved request.len request.kind }
-{
-    match request.kind {
-        Kind::Nop => 0,
-        Kind::Fsync => 0,
-        Kind::Read => request.len,
-        Kind::Write => request.len,
-    }
-}
-
-// Whether the request may complete with this result.
-fn may_complete(request: Request, res: i32) -> bool
-    ensures { result ≡ may_complete request res }
-{
-    match u32::try_from(res) {
-        Ok(count) => count <= most_moved(request),
-        Err(_) => res >= -4095,
     }
 }

@@ -15,7 +15,8 @@ ghost use Rattle.rc_run.specs.Requests.{data_of};
 use super::{Machine, Pending};
 use crate::request_ring::RequestRing;
 use rc_lang::lines::{Op, Stmt};
-use rc_lang::request::{Kind, Request};
+use rc_lang::request::Request;
+use rc_world::world::requests::is_read;
 use std::alloc::AllocError;
 
 impl Machine {
@@ -194,17 +195,6 @@ fn taken_bytes(buffers: &mut Vec<Option<Vec<u8>>>, request: Request) -> Option<V
     match buffers.get_mut(request.buffer as usize) {
         Some(bytes) => bytes.take(),
         None => None,
-    }
-}
-
-fn is_read(kind: Kind) -> bool
-    ensures { result ≡ machine.is_read kind }
-{
-    match kind {
-        Kind::Nop => false,
-        Kind::Fsync => false,
-        Kind::Read => true,
-        Kind::Write => false,
     }
 }
 

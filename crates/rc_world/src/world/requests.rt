@@ -7,7 +7,8 @@ ghost use Rattle.rc_world.specs.Machine as machine;
 use super::Pending;
 use rc_lang::request::{Kind, Request};
 
-pub(super) fn is_read(kind: Kind) -> bool
+/// Whether a request of this kind fills a buffer.
+pub fn is_read(kind: Kind) -> bool
     ensures { result ≡ machine.is_read kind }
 {
     match kind {
@@ -30,8 +31,8 @@ pub fn most_moved(request: Request) -> u32
     }
 }
 
-// Whether the request may complete with this result.
-fn may_complete(request: Request, res: i32) -> bool
+/// Whether a request may complete with this result (io_uring_enter(2)).
+pub fn may_complete(request: Request, res: i32) -> bool
     ensures { result ≡ requests.may_complete request res }
 {
     match u32::try_from(res) {
