@@ -5,9 +5,9 @@ ghost use Rattle.rc_report.specs.Streams.{FailsToWrite};
 
 use crate::parts::Part::{Data, Number, Text};
 use crate::parts::write_parts;
-use crate::place::buffer_name;
 use rc_lang::program::{Program, TokenKind};
 use rc_report::engine_fault::EngineFault;
+use rc_report::printed::buffer_name;
 use rc_report::streams::Sink;
 use rc_report::writing::write_piece;
 

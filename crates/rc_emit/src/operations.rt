@@ -6,9 +6,10 @@ ghost use Rattle.rc_report.specs.Streams.{FailsToWrite};
 use crate::lines::{write_event, write_line};
 use crate::parts::Part;
 use crate::parts::Part::{Data, Number, Signed, Text, Variable};
-use crate::place::{Place, buffer_name};
+use crate::place::Place;
 use rc_lang::lines::{Op, Operand};
 use rc_report::engine_fault::EngineFault;
+use rc_report::printed::buffer_name;
 use rc_report::streams::Sink;
 
 /// Writes what a statement without a block does.

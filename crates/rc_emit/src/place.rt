@@ -70,11 +70,3 @@ impl<'a> Place<'a> {
         word_of(self.line, index)
     }
 }
-
-/// The name of a buffer, and nothing where there is none of this number.
-pub fn buffer_name(program: &Program, buffer: usize) -> &[u8] {
-    match program.buffers().get(buffer) {
-        Some(buffer) => &buffer.name,
-        None => &[],
-    }
-}

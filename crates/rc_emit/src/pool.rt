@@ -6,9 +6,10 @@ ghost use Rattle.rc_report.specs.Streams.{FailsToWrite};
 use crate::lines::{write_event, write_indentation, write_line, write_said};
 use crate::parts::Part::{Number, Text};
 use crate::parts::{Part, write_parts};
-use crate::place::{Place, buffer_name};
+use crate::place::Place;
 use rc_lang::program::Items;
 use rc_report::engine_fault::EngineFault;
+use rc_report::printed::buffer_name;
 use rc_report::streams::Sink;
 use rc_report::writing::write_piece;
 

@@ -13,7 +13,7 @@ use Rattle.rc_rules.specs.declared.mode.Slot.{Slot}
 use Rattle.rc_rules.specs.declared.mode.Slot.TheVariants.{Closed, Vacant, Prepared}
 use Rattle.rc_rules.specs.Labels.{Label, Dead, Live}
 use Rattle.rc_split.specs.Bags.{Part, ShareOf, TokenOf, Credit}
-use Rattle.rc_report.specs.Printed.{joined}
+use Rattle.rc_report.specs.Printed.{buffer_name, joined}
 use Rattle.rc_report.specs.Summaries.{placed}
 
 -- ---- what is held: shares and tokens in the order of their declarations, and credits, with a blank before each
@@ -46,9 +46,6 @@ abbrev pub held_text : Program → (Part → ℕ) → List ℕ
 held_text program bag = codes "holds" ++ or_nothing (held_items_text program bag)
 
 -- ---- what is known of the ring
-
-abbrev pub buffer_name : Program → ℕ → List ℕ
-buffer_name program b = (slice_index_or program.buffers b no_buffer).name
 
 -- a request, by its kind
 abbrev pub kind_text : Program → TokenKind → List ℕ

@@ -11,6 +11,7 @@ ghost use Rattle.rc_rules.specs.States.{held_at, side_label};
 use itoa::Buffer as Digits;
 use rc_lang::program::{Buffer, Program, Token, TokenKind};
 use rc_report::engine_fault::EngineFault;
+use rc_report::printed::buffer_name;
 use rc_report::streams::Sink;
 use rc_report::writing::{write_piece, write_pieces};
 use rc_rules::mode::{Inside, Mode, Peeked, Slot};
@@ -141,16 +142,6 @@ fn write_held<W: Sink>(writer: &mut W, program: &Program, side: &Side) -> Result
     write_piece(writer, b"holds")?;
     write_some(writer, program, side)?;
     Ok(())
-}
-
-/// The name of the buffer with this number.
-fn buffer_name(program: &Program, buffer: usize) -> &[u8]
-    ensures { result.now ≡ spec.buffer_name program.now buffer }
-{
-    match program.buffers().get(buffer) {
-        Some(buffer) => &buffer.name,
-        None => &[],
-    }
 }
 
 /// Writes a request, by its kind.

@@ -6,6 +6,7 @@ ghost use Rattle.rc_report.specs.Streams.{FailsToWrite};
 use crate::words::{Word, write_words};
 use rc_lang::program::{Items, Program, Share};
 use rc_report::engine_fault::EngineFault;
+use rc_report::printed::buffer_name;
 use rc_report::streams::Sink;
 use rc_rules::side::Side;
 use rc_split::part::Part;
@@ -129,14 +130,6 @@ pub fn first_missing(program: &Program, said: Claim, side: &Side) -> Option<Part
         return Some(Part::Credits(said.credits()));
     }
     None
-}
-
-/// The name of a buffer, and nothing where there is none with this number.
-pub fn buffer_name(program: &Program, buffer: usize) -> &[u8] {
-    match program.buffers().get(buffer) {
-        Some(buffer) => &buffer.name,
-        None => &[],
-    }
 }
 
 /// Writes a part as in the notation.

@@ -2,7 +2,7 @@
 use Rattle.std.specs.Prelude.{ℕ, ◌+◌, List, [], ◌∷◌, ◌++◌, codes, true, false, Option, Some, None, decimal, slice_get}
 use Rattle.std.specs.Fmt.{signed_decimal}
 use Rattle.std.specs.List.{flat_map}
-use Rattle.rc_lang.specs.Program.{Program, Thread}
+use Rattle.rc_lang.specs.Program.{Buffer, Program, Thread}
 use Rattle.rc_world.specs.declared.event.Action.{Action}
 use Rattle.rc_world.specs.declared.event.Action.TheVariants.{VariableSet, Loaded, Stored, Filled, Printed, Locked, Released, EntryOpened, ReadPrepared, WritePrepared, FsyncPrepared, NopPrepared, DataSet, Submitted, Peeked, PeekedNone, Reaped, ItemsPut, Branched, Looped, LoopLeft}
 use Rattle.rc_world.specs.declared.event.Event.{Event}
@@ -23,6 +23,14 @@ name_in (Some thread) = thread.name
 
 abbrev pub thread_name : Program → ℕ → List ℕ
 thread_name program i = name_in (slice_get program.threads i)
+
+-- the name of a buffer
+abbrev pub name_of_buffer : Option Buffer → List ℕ
+name_of_buffer None = []
+name_of_buffer (Some buffer) = buffer.name
+
+abbrev pub buffer_name : Program → ℕ → List ℕ
+buffer_name program b = name_of_buffer (slice_get program.buffers b)
 
 -- a word, with its blanks, and a value
 abbrev pub valued : List ℕ → List ℕ → List ℕ

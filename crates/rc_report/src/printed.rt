@@ -4,7 +4,7 @@ ghost use Rattle.std.specs.Prelude.{◌≡◌, ◌+◌, ◌<◌, ◌≤◌, ◌^
 ghost use Rattle.std.specs.Fmt.{signed_decimal};
 ghost use Rattle.rc_lang.specs.Program.{IsProgram};
 ghost use Rattle.rc_world.specs.FaultNames.{name_of_fault, number_of_fault};
-ghost use Rattle.rc_report.specs.Printed.{action_text, end_line, event_text, event_line, fault_line, item_line, joined, party_text, place_text, schedule_line, thread_name, valued};
+ghost use Rattle.rc_report.specs.Printed.{action_text, buffer_name, end_line, event_text, event_line, fault_line, item_line, joined, party_text, place_text, schedule_line, thread_name, valued};
 ghost use Rattle.rc_report.specs.Streams.{FailsToWrite, Wrote};
 
 use crate::engine_fault::EngineFault;
@@ -18,12 +18,22 @@ use rc_world::fault::{Fault, FaultKind, Party};
 
 /// The name of a thread, and nothing where the program has no such thread.
 #[inline]
-pub(crate) fn thread_name(program: &Program, thread: u32) -> &[u8]
+pub fn thread_name(program: &Program, thread: u32) -> &[u8]
     ensures name { result.now ≡ thread_name program.now thread }
     ensures made { IsProgram program.now }
 {
     match program.threads().get(thread as usize) {
         Some(thread) => &thread.name,
+        None => &[],
+    }
+}
+
+/// The name of a buffer, and nothing where the program has no such buffer.
+pub fn buffer_name(program: &Program, buffer: usize) -> &[u8]
+    ensures { result.now ≡ buffer_name program.now buffer }
+{
+    match program.buffers().get(buffer) {
+        Some(buffer) => &buffer.name,
         None => &[],
     }
 }

@@ -9,7 +9,7 @@ use Rattle.rc_lang.specs.declared.request.Kind.{Kind}
 use Rattle.rc_lang.specs.declared.request.Kind.TheVariants.{Nop, Fsync, Read, Write}
 use Rattle.rc_lang.specs.declared.request.Request.{Request}
 use Rattle.rc_lang.specs.Program.{Buffer, Program, Thread}
-use Rattle.rc_report.specs.Printed.{joined, thread_name}
+use Rattle.rc_report.specs.Printed.{joined, name_of_buffer, thread_name}
 use Rattle.rc_report.specs.Source.{line_words}
 use Rattle.rc_split.specs.Bags.{ShareOf, TokenOf, Credit}
 use Rattle.rc_split.specs.Pools.{pooled}
@@ -60,10 +60,6 @@ thread_text text w i =
     ++ (thread_next_text text w i (next_of w.program w.controls i) ++ (codes "\n  variables:" ++ (variables_text w i ++ codes "\n")))
 
 -- ---- requests
-
-abbrev pub name_of_buffer : Option Buffer → List ℕ
-name_of_buffer None = []
-name_of_buffer (Some b) = b.name
 
 -- a kind, with the buffer and the length where it has them
 abbrev pub moved_text : List ℕ → Program → Request → List ℕ

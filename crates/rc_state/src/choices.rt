@@ -6,10 +6,10 @@ ghost use Rattle.rc_state.specs.Choices.{pending_choice, thread_choice};
 ghost use Rattle.rc_state.specs.Parts.{each};
 ghost use Rattle.rc_state.specs.State as spec;
 
-use crate::words::name_of_thread;
 use itoa::Buffer;
 use rc_lang::lines::{Op, Stmt};
 use rc_report::engine_fault::EngineFault;
+use rc_report::printed::thread_name;
 use rc_report::streams::Sink;
 use rc_report::writing::{write_piece, write_pieces};
 use rc_world::controls::Next;
@@ -55,7 +55,7 @@ fn write_thread_choice<W: Sink>(
     let Next::Ready(line) = world.next(thread) else {
         return Ok(());
     };
-    let name = name_of_thread(world.program(), thread);
+    let name = thread_name(world.program(), thread);
     match line.stmt {
         Stmt::Do(Op::Submit(_) | Op::SubmitAndWait(_, _)) => {
             let mut buffer = Buffer::new();

@@ -1,16 +1,17 @@
 //! What is in the pool.
 
 ghost use Rattle.std.specs.Prelude.{◌≡◌, ◌+◌, ◌<◌, ◌^◌, Some, codes, length, slice_get};
+ghost use Rattle.rc_report.specs.Printed.{name_of_buffer};
 ghost use Rattle.rc_report.specs.Streams.{FailsToWrite, Wrote};
 ghost use Rattle.rc_split.specs.Bags.{ShareOf};
 ghost use Rattle.rc_split.specs.Pools.{pooled};
 ghost use Rattle.rc_state.specs.Parts.{each};
 ghost use Rattle.rc_state.specs.State as spec;
 
-use crate::words::name_of_buffer;
 use itoa::Buffer;
 use rc_lang::program::Token;
 use rc_report::engine_fault::EngineFault;
+use rc_report::printed::buffer_name;
 use rc_report::streams::Sink;
 use rc_report::writing::{write_piece, write_pieces};
 use rc_world::world::World;
@@ -31,12 +32,12 @@ pub fn write_pool<W: Sink>(writer: &mut W, world: &World<'_>) -> Result<(), Engi
 fn write_shares<W: Sink>(writer: &mut W, world: &World<'_>) -> Result<(), EngineFault>
     requires { W.failure_count writer.old + 1 < 2 ^ 64 }
     ensures text { Wrote (W.contents writer.old) (W.contents writer.new)
-        (each (length world.now.program.buffers) (λ b. spec.pool_share_text (spec.name_of_buffer (slice_get world.now.program.buffers b)) (pooled world.now.program world.now.controls.pool (ShareOf b)))) result }
+        (each (length world.now.program.buffers) (λ b. spec.pool_share_text (name_of_buffer (slice_get world.now.program.buffers b)) (pooled world.now.program world.now.controls.pool (ShareOf b)))) result }
     ensures failures { FailsToWrite (W.failure_count writer.old) (W.failure_count writer.new) result }
 {
     let program = world.program();
     for buffer in 0..program.buffers().len() {
-        let name = name_of_buffer(program, buffer);
+        let name = buffer_name(program, buffer);
         write_share(writer, name, world.pool().shares_of(buffer))?;
     }
     Ok(())

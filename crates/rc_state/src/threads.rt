@@ -6,11 +6,11 @@ ghost use Rattle.rc_state.specs.Parts.{each};
 ghost use Rattle.rc_state.specs.State as spec;
 ghost use Rattle.rc_world.specs.Items.{next_of};
 
-use crate::words::name_of_thread;
 use itoa::Buffer;
 use rc_lang::lines::Line;
 use rc_lang::program::Program;
 use rc_report::engine_fault::EngineFault;
+use rc_report::printed::thread_name;
 use rc_report::source::write_words;
 use rc_report::streams::Sink;
 use rc_report::writing::{write_piece, write_pieces};
@@ -45,7 +45,7 @@ fn write_thread<W: Sink>(
     ensures text { Wrote (W.contents writer.old) (W.contents writer.new) (spec.thread_text text.now world.now thread) result }
     ensures failures { FailsToWrite (W.failure_count writer.old) (W.failure_count writer.new) result }
 {
-    let name = name_of_thread(world.program(), thread);
+    let name = thread_name(world.program(), thread);
     write_pieces(writer, &[b"thread ", name, b": "])?;
     write_next(writer, text, world, thread)?;
     write_piece(writer, b"\n  variables:")?;
@@ -102,12 +102,7 @@ fn write_holder<W: Sink>(
     ensures failures { FailsToWrite (W.failure_count writer.old) (W.failure_count writer.new) result }
 {
     match holder {
-        Some(holder) => {
-            write_pieces(
-                writer,
-                &[b"; ", name_of_thread(program, holder), b" has it"],
-            )
-        }
+        Some(holder) => { write_pieces(writer, &[b"; ", thread_name(program, holder), b" has it"]) }
         None => Ok(()),
     }
 }

@@ -2,36 +2,17 @@
 
 ghost use Rattle.std.specs.Prelude.{◌≡◌, ◌+◌, ◌<◌, ◌^◌, [], ◌∷◌, codes, decimal, slice_get};
 ghost use Rattle.rc_lang.specs.Program.{IsProgram};
-ghost use Rattle.rc_report.specs.Printed.{joined, thread_name};
+ghost use Rattle.rc_report.specs.Printed.{joined};
 ghost use Rattle.rc_report.specs.Streams.{FailsToWrite, Wrote};
-ghost use Rattle.rc_state.specs.State.{moved_text, name_of_buffer, request_kind_text};
+ghost use Rattle.rc_state.specs.State.{moved_text, request_kind_text};
 
 use itoa::Buffer;
 use rc_lang::program::Program;
 use rc_lang::request::{Kind, Request};
 use rc_report::engine_fault::EngineFault;
+use rc_report::printed::buffer_name;
 use rc_report::streams::Sink;
 use rc_report::writing::{write_piece, write_pieces};
-
-/// The name of a thread, and nothing where the program has no such thread.
-pub fn name_of_thread(program: &Program, thread: u32) -> &[u8]
-    ensures { result.now ≡ thread_name program.now thread }
-{
-    match program.threads().get(thread as usize) {
-        Some(thread) => &thread.name,
-        None => &[],
-    }
-}
-
-/// The name of a buffer, and nothing where the program has no such buffer.
-pub fn name_of_buffer(program: &Program, buffer: usize) -> &[u8]
-    ensures { result.now ≡ name_of_buffer (slice_get program.now.buffers buffer) }
-{
-    match program.buffers().get(buffer) {
-        Some(buffer) => &buffer.name,
-        None => &[],
-    }
-}
 
 /// Writes what a request asks for, with its buffer and its length where it has them.
 pub fn write_kind<W: Sink>(
@@ -62,7 +43,7 @@ fn write_moved<W: Sink>(
     ensures text { Wrote (W.contents writer.old) (W.contents writer.new) (moved_text word.now program.now request) result }
     ensures failures { FailsToWrite (W.failure_count writer.old) (W.failure_count writer.new) result }
 {
-    let name = name_of_buffer(program, request.buffer as usize);
+    let name = buffer_name(program, request.buffer as usize);
     let mut buffer = Buffer::new();
     let len = buffer.format(request.len).as_bytes();
     write_pieces(writer, &[word, b" ", name, b" ", len])

@@ -3,10 +3,11 @@
 ghost use Rattle.std.specs.Prelude.{◌≡◌, ◌+◌, ◌<◌, ◌^◌};
 ghost use Rattle.rc_report.specs.Streams.{FailsToWrite};
 
-use crate::parts::{buffer_name, shares_of};
+use crate::parts::shares_of;
 use crate::words::{Word, write_words};
 use rc_lang::program::{Program, Thread};
 use rc_report::engine_fault::EngineFault;
+use rc_report::printed::buffer_name;
 use rc_report::streams::Sink;
 
 /// The threads up to this one, in text order.

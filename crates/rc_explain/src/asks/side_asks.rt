@@ -3,10 +3,11 @@
 ghost use Rattle.std.specs.Prelude.{◌≡◌, ◌+◌, ◌<◌, ◌^◌};
 ghost use Rattle.rc_report.specs.Streams.{FailsToWrite};
 
-use crate::parts::{Counted, buffer_name, first_missing, said, write_parts};
+use crate::parts::{Counted, first_missing, said, write_parts};
 use crate::words::{Word, write_words};
 use rc_lang::program::{Program, TokenKind};
 use rc_report::engine_fault::EngineFault;
+use rc_report::printed::buffer_name;
 use rc_report::streams::Sink;
 use rc_rules::asks::Asks;
 use rc_rules::mode::{Inside, Mode, Peeked, Slot};

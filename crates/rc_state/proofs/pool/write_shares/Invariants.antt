@@ -3,7 +3,8 @@ use Rattle.std.specs.Io.KnownBytes.{Appends}
 use Rattle.rc_split.specs.Bags.{ShareOf}
 use Rattle.rc_split.specs.Pools.{pooled}
 use Rattle.rc_state.specs.Parts.{each}
-use Rattle.rc_state.specs.State.{name_of_buffer, pool_share_text}
+use Rattle.rc_report.specs.Printed.{name_of_buffer}
+use Rattle.rc_state.specs.State.{pool_share_text}
 use Rattle.rc_state.proofs.pool.write_shares.Given as goal
 
 abbrev pub invariant-loop-buffer : goal.invariant-loop-buffer
