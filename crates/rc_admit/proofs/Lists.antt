@@ -1,20 +1,13 @@
 -- Sums over threads and over requests, and what one change does to them.
-use Rattle.std.proofs.Common.{◌≡◌, ℕ, zero, suc, ◌+◌, ◌<◌, ◌≤◌, Bool, true, false, List, [], ◌∷◌, ◌++◌, map, take, drop, Some, refl, sym, ap, subst, ◌⊎◌, inl, inr, arith}
-use Rattle.std.specs.Prelude.{slice_get, nat_eq}
-use Rattle.std.proofs.lemmas.Bool.{eqb-true, eqb-false}
+use Rattle.std.proofs.Common.{◌≡◌, ℕ, zero, suc, ◌+◌, ◌<◌, ◌≤◌, List, [], ◌∷◌, ◌++◌, map, take, drop, Some, refl, sym, ap, subst, inl, inr, arith}
+use Rattle.std.specs.Prelude.{slice_get}
+use Rattle.rc_split.proofs.PoolBags.{same_or_not}
 use Rattle.rc_world.specs.Machine.{without}
 
 -- f 0 + .. + f (n - 1)
 abbrev pub sum_to : (ℕ → ℕ) → ℕ → ℕ
 sum_to f zero = 0
 sum_to f (suc n) = sum_to f n + f n
-
-pub nat_eq_cases : (i j : ℕ) → ((i ≡ j) × (nat_eq i j ≡ true)) ⊎ ((i ≡ j → ⊥) × (nat_eq i j ≡ false))
-nat_eq_cases i j = go (nat_eq i j) refl
-  where
-    go : (b : Bool) → nat_eq i j ≡ b → ((i ≡ j) × (nat_eq i j ≡ true)) ⊎ ((i ≡ j → ⊥) × (nat_eq i j ≡ false))
-    go true e = inl (eqb-true i j e, e)
-    go false e = inr (eqb-false i j e, e)
 
 pub sum_to_same : (f g : ℕ → ℕ) (n : ℕ) → ((j : ℕ) → j < n → f j ≡ g j) → sum_to f n ≡ sum_to g n
 sum_to_same f g zero h = refl
@@ -26,7 +19,7 @@ sum_to_same f g (suc n) h =
 -- a change at one place
 pub sum_to_changed : (f g : ℕ → ℕ) (n i : ℕ) → i < n → ((j : ℕ) → (j ≡ i → ⊥) → g j ≡ f j) → sum_to g n + f i ≡ sum_to f n + g i
 sum_to_changed f g zero i lt h = absurd (omega arith)
-sum_to_changed f g (suc n) i lt h = elim (nat_eq_cases n i) [
+sum_to_changed f g (suc n) i lt h = elim (same_or_not n i) [
   | inl e ↦
       let a : sum_to g n ≡ sum_to f n = sum_to_same g f n (λ j l. h j (λ x. omega (arith, e.0))) in
       let b : f n ≡ f i = ap f e.0 in
@@ -43,16 +36,16 @@ sum_to_changed f g (suc n) i lt h = elim (nat_eq_cases n i) [
 
 pub sum_to_one : (f : ℕ → ℕ) (n i : ℕ) → i < n → f i ≤ sum_to f n
 sum_to_one f zero i lt = absurd (omega arith)
-sum_to_one f (suc n) i lt = elim (nat_eq_cases n i) [
+sum_to_one f (suc n) i lt = elim (same_or_not n i) [
   | inl e ↦ let b : f n ≡ f i = ap f e.0 in omega arith
   | inr e ↦ let h : n ≡ i → ⊥ = e.0 in let a : f i ≤ sum_to f n = sum_to_one f n i (omega arith) in omega arith
 ]
 
 pub sum_to_two : (f : ℕ → ℕ) (n i j : ℕ) → (i ≡ j → ⊥) → i < n → j < n → f i + f j ≤ sum_to f n
 sum_to_two f zero i j ne lt lt' = absurd (omega arith)
-sum_to_two f (suc n) i j ne lt lt' = elim (nat_eq_cases n i) [
+sum_to_two f (suc n) i j ne lt lt' = elim (same_or_not n i) [
   | inl e ↦ let b : f n ≡ f i = ap f e.0 in let h : n ≡ i = e.0 in let a : f j ≤ sum_to f n = sum_to_one f n j (omega arith) in omega arith
-  | inr e ↦ let h : n ≡ i → ⊥ = e.0 in elim (nat_eq_cases n j) [
+  | inr e ↦ let h : n ≡ i → ⊥ = e.0 in elim (same_or_not n j) [
     | inl d ↦ let b : f n ≡ f j = ap f d.0 in let k : n ≡ j = d.0 in let a : f i ≤ sum_to f n = sum_to_one f n i (omega arith) in omega arith
     | inr d ↦ let k : n ≡ j → ⊥ = d.0 in let a : f i + f j ≤ sum_to f n = sum_to_two f n i j ne (omega arith) (omega arith) in omega arith
   ]

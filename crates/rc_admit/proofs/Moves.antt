@@ -16,7 +16,8 @@ use Rattle.rc_world.specs.Controls.{Standing, passes_arm, rest_at}
 use Rattle.rc_world.specs.Faults.{is_holder}
 use Rattle.rc_world.specs.Machine.{World, slot_len}
 use Rattle.rc_admit.proofs.Flight.{data_in, data_of}
-use Rattle.rc_admit.proofs.Lists.{sum_to, sum_to_changed, nat_eq_cases, Each}
+use Rattle.rc_split.proofs.PoolBags.{same_or_not}
+use Rattle.rc_admit.proofs.Lists.{sum_to, sum_to_changed, Each}
 use Rattle.rc_admit.proofs.Owned.{Stand, Leads, HasEdge, slot_bag, mode_bag, unheld, SlotFits, FrontFits, Fits, held, HasKind, HasKindPending, Owned, WellOwned, IsUnseen, settle, fits_weaker}
 
 -- The world in which thread i went to this place, with these variables: it comes to rest, and at the end of an arm
@@ -35,16 +36,16 @@ abbrev pub upd : {A : Type 0} → (ℕ → A) → ℕ → A → ℕ → A
 upd f i x j = cond (nat_eq i j) x (f j)
 
 pub upd_at : {A : Type 0} (f : ℕ → A) (i : ℕ) (x : A) (k : ℕ) → k ≡ i → upd f i x k ≡ x
-upd_at f i x k e = elim (nat_eq_cases i k) [ inl h ↦ ap (λ b. cond b x (f k)) h.1 | inr h ↦ absurd (h.0 (sym e)) ]
+upd_at f i x k e = elim (same_or_not i k) [ inl h ↦ ap (λ b. cond b x (f k)) h.1 | inr h ↦ absurd (h.0 (sym e)) ]
 
 pub upd_off : {A : Type 0} (f : ℕ → A) (i : ℕ) (x : A) (k : ℕ) → (k ≡ i → ⊥) → upd f i x k ≡ f k
-upd_off f i x k e = elim (nat_eq_cases i k) [ inl h ↦ absurd (e (sym h.0)) | inr h ↦ ap (λ b. cond b x (f k)) h.1 ]
+upd_off f i x k e = elim (same_or_not i k) [ inl h ↦ absurd (e (sym h.0)) | inr h ↦ ap (λ b. cond b x (f k)) h.1 ]
 
 pub holder_one : (o : Option ℕ) (i k : ℕ) → is_holder o i ≡ true → (k ≡ i → ⊥) → is_holder o k ≡ false
 holder_one None i k e ne = refl
-holder_one (Some j) i k e ne = elim (nat_eq_cases j k) [
+holder_one (Some j) i k e ne = elim (same_or_not j k) [
   | inr h ↦ h.1
-  | inl h ↦ elim (nat_eq_cases j i) [ inl g ↦ absurd (ne (sym h.0 ∙ g.0)) | inr g ↦ absurd (cc (g.1, e)) ]
+  | inl h ↦ elim (same_or_not j i) [ inl g ↦ absurd (ne (sym h.0 ∙ g.0)) | inr g ↦ absurd (cc (g.1, e)) ]
 ]
 
 pub mode_bag_same : (P : Program) (n m : Mode) (p : Part) → WeakerMode n m → mode_bag P n p ≡ mode_bag P m p
@@ -129,7 +130,7 @@ module _ (P : Program) (S : Stand) (edge : HasEdge P S) (w w1 : World) (bags : �
               let n : sum_to g (length ts) ≡ sum_to g (length w.controls.threads) = ap (λ x. sum_to g x) len in
               omega (arith, local);
           free = v.free;
-          each = λ k. elim (nat_eq_cases k i) [
+          each = λ k. elim (same_or_not k i) [
             | inl h ↦ subst (λ x. Fits (later w1 ts e) (is_holder w1.controls.holder k) x) (sym (upd_at modes i s.mode k h.0))
                 (subst (λ j. Fits (later w1 ts e) (is_holder w1.controls.holder j) s.mode) (sym h.0) (fits_later w1 ts e (is_holder w1.controls.holder i) s.mode z.unseen mine))
             | inr h ↦ subst (λ x. Fits (later w1 ts e) (is_holder w1.controls.holder k) x) (sym (upd_off modes i s.mode k h.0))

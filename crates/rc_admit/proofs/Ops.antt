@@ -30,7 +30,8 @@ use Rattle.rc_world.specs.Controls.{Controls, Move, Standing, does, goes_on, loa
 use Rattle.rc_world.specs.Faults.{is_holder, is_ring_op}
 use Rattle.rc_world.specs.Machine.{Pending, World, bytes_of, byte_of, count_in, fills, fits_buffer, front_of, hands_over, is_take, op_answer, op_in_rings, opens_entry, prepares, queues, reaps_front, slot_len, stores, submits_by, with_bytes, without_data}
 use Rattle.rc_admit.proofs.Flight.{FrontOf, begun, data_in, data_of, front_is, taken_sum}
-use Rattle.rc_admit.proofs.Lists.{sum_over, sum_over-append, nat_eq_cases, Each, Each-append, Each-take, Each-drop, Each-map}
+use Rattle.rc_split.proofs.PoolBags.{same_or_not}
+use Rattle.rc_admit.proofs.Lists.{sum_over, sum_over-append, Each, Each-append, Each-take, Each-drop, Each-map}
 use Rattle.rc_admit.proofs.Moves.{Moved, moves, put, rung_moved, fits_parts}
 use Rattle.rc_admit.proofs.Owned.{Stand, Leads, MayBecome, HasEdge, slot_bag, owns, owns_pending, FitsKind, SlotFits, StartsWith, IsNonempty, FrontFits, Fits, HasKind, HasKindPending, Owned, WellOwned}
 use Rattle.rc_admit.proofs.Rule.{AtLive, Claim, InRing, in_ring, prepared_as}
@@ -42,14 +43,14 @@ credit_covered b h Credit = h
 
 pub token_covered : (b : Part → ℕ) (u : ℕ) → 1 ≤ b (TokenOf u) → (p : Part) → token_bag u p ≤ b p
 token_covered b u h (ShareOf c) = omega arith
-token_covered b u h (TokenOf v) = elim (nat_eq_cases u v) [
+token_covered b u h (TokenOf v) = elim (same_or_not u v) [
   | inl e ↦ let x : b (TokenOf u) ≡ b (TokenOf v) = ap (λ k. b (TokenOf k)) e.0 in let y : token_bag u (TokenOf v) ≡ 1 = ap (λ t. cond t 1 0) e.1 in omega arith
   | inr e ↦ let y : token_bag u (TokenOf v) ≡ 0 = ap (λ t. cond t 1 0) e.1 in omega arith
 ]
 token_covered b u h Credit = omega arith
 
 pub shares_covered : (b : Part → ℕ) (c k : ℕ) → k ≤ b (ShareOf c) → (p : Part) → shares_bag c k p ≤ b p
-shares_covered b c k h (ShareOf d) = elim (nat_eq_cases c d) [
+shares_covered b c k h (ShareOf d) = elim (same_or_not c d) [
   | inl e ↦ let x : b (ShareOf c) ≡ b (ShareOf d) = ap (λ n. b (ShareOf n)) e.0 in let y : shares_bag c k (ShareOf d) ≡ k = ap (λ t. cond t k 0) e.1 in omega arith
   | inr e ↦ let y : shares_bag c k (ShareOf d) ≡ 0 = ap (λ t. cond t k 0) e.1 in omega arith
 ]

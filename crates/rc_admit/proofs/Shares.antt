@@ -14,12 +14,13 @@ use Rattle.rc_split.specs.Bags.{ShareOf, TokenOf, Credit, shares_bag}
 use Rattle.rc_world.specs.Faults.{clash, clashes, clashes_with, has_buffer, has_data, names}
 use Rattle.rc_world.specs.Machine.{Pending, is_read}
 use Rattle.rc_world.proofs.Lists.{found}
-use Rattle.rc_admit.proofs.Lists.{sum_over, sum_over_one, nat_eq_cases, Each, Each-get}
+use Rattle.rc_split.proofs.PoolBags.{same_or_not}
+use Rattle.rc_admit.proofs.Lists.{sum_over, sum_over_one, Each, Each-get}
 use Rattle.rc_admit.proofs.Owned.{FitsKind, HasKind, HasKindPending, owns, owns_pending}
 use Rattle.rc_admit.proofs.Steps.{token_owned}
 
 same_shares : (c d k : ℕ) → c ≡ d → shares_bag c k (ShareOf d) ≡ k
-same_shares c d k e = elim (nat_eq_cases c d) [ inl h ↦ ap (λ t. cond t k 0) h.1 | inr h ↦ absurd (h.0 e) ]
+same_shares c d k e = elim (same_or_not c d) [ inl h ↦ ap (λ t. cond t k 0) h.1 | inr h ↦ absurd (h.0 e) ]
 
 pub buffer_shared : (P : Program) → IsProgram P → (b : ℕ) → b < length P.buffers → 1 ≤ shares_at P.buffers b
 buffer_shared P made b lt = (made.buffers b no_buffer lt).shares.0

@@ -1,5 +1,5 @@
 -- What a step does to the side of its flag on which a thread stands.
-use Rattle.std.proofs.Common.{◌≡◌, ℕ, ◌<◌, inl, inr, Bool, true, false, ◌&&◌, not, cond, List, [], ◌∷◌, ◌++◌, length, Option, Some, None, refl, sym, ap, ◌∙◌, subst, arith, eq-eqb}
+use Rattle.std.proofs.Common.{◌≡◌, ℕ, ◌<◌, inl, inr, Bool, true, false, ◌&&◌, not, cond, List, ◌++◌, length, Option, Some, None, refl, sym, ap, ◌∙◌, subst, arith, eq-eqb}
 use Rattle.std.specs.Prelude.{slice_index_or, slice_set, ℤ, pos}
 use Rattle.std.specs.Ordering.{int_eq}
 use Rattle.std.proofs.lemmas.Bool.{cases_eq, ne_eqb}
@@ -17,6 +17,7 @@ use Rattle.rc_rules.specs.Premises.{Meets, Premise}
 use Rattle.rc_rules.specs.declared.flag.Write.{Write}
 use Rattle.rc_rules.specs.declared.flag.Write.TheVariants.{Anything, Number, Untouched}
 use Rattle.rc_rules.specs.Sides.{brings, forgets, gate, same_side, side_goes, test_goes, turns, write_of, write_to}
+use Rattle.rc_rules.proofs.Weaker.{meets_left, meets_right}
 use Rattle.rc_admit.proofs.Owned.{MayBecome, MayPass}
 
 -- the side of a thread that has these variables; without a flag there is one alone
@@ -135,14 +136,6 @@ brought may F before t true e h = ungate (may true) t _ e h.0
 brought may F before t false e h = ungate (may false) t _ e h.1.0
 
 -- ---- premises of a side
-
-meets_left : (ps qs : List (ℕ × Premise)) → Meets (ps ++ qs) → Meets ps
-meets_left [] qs h = tt
-meets_left (p ∷ ps) qs h = (h.0, meets_left ps qs h.1)
-
-meets_right : (ps qs : List (ℕ × Premise)) → Meets (ps ++ qs) → Meets qs
-meets_right [] qs h = h
-meets_right (p ∷ ps) qs h = meets_right ps qs h.1
 
 pub meets_side : (F : Bool → List (ℕ × Premise)) (z : Bool) → Meets (F true ++ F false) → Meets (F z)
 meets_side F true h = meets_left (F true) (F false) h

@@ -23,7 +23,8 @@ use Rattle.rc_rules.specs.States.{State, label_of, program_of, is_locked, Gives,
 use Rattle.rc_rules.specs.Labellings.{start_of}
 use Rattle.rc_core_tests.specs.RulesExample.{share, share_thread, IsAtMost, IsOfShare}
 use Rattle.rc_rules.proofs.Lines.{effect_by}
-use Rattle.rc_rules.proofs.Headers.{few, few_of, count_once}
+use Rattle.rc_rules.proofs.Headers.{few_of, count_once}
+use Rattle.rc_verify.proofs.Fit.{AreAll, gate_keeps, kept_few}
 use Rattle.std.specs.List.{IsDistinct}
 use Rattle.std.specs.Str.{bytes_eq}
 use Rattle.std.specs.Prelude.{nat_eq, codes, IsOkAnd, IfOk}
@@ -31,18 +32,18 @@ use Rattle.rc_lang.specs.declared.program.Share.{Share}
 use Rattle.rc_lang.specs.declared.program.Token.{Token}
 use Rattle.rc_lang.specs.declared.program.TokenKind.TheVariants.{Write}
 
-one : {X : Type 0} (P : X → Type 0) (x : X) → P x → All P (x ∷ [])
+pub one : {X : Type 0} (P : X → Type 0) (x : X) → P x → All P (x ∷ [])
 one P x h zero d lt = h
 one P x h (suc k) d lt = absurd (omega (arith, lt))
 
-none : {X : Type 0} (P : X → Type 0) → All P []
+pub none : {X : Type 0} (P : X → Type 0) → All P []
 none P k d lt = absurd (omega (arith, lt))
 
-distinct : {K : Type 0} (e : K → K → Bool) → IsDistinct e []
+pub distinct : {K : Type 0} (e : K → K → Bool) → IsDistinct e []
 unfolding IsDistinct
 distinct e = tt
 
-single : {K : Type 0} (e : K → K → Bool) (x : K) → IsDistinct e (x ∷ [])
+pub single : {K : Type 0} (e : K → K → Bool) (x : K) → IsDistinct e (x ∷ [])
 unfolding IsDistinct
 single e x = (tt, tt)
 
@@ -115,20 +116,16 @@ is_share = record {
 
 -- ---- what is true of each label that leads to one is true of it
 
-abbrev Each : (Label → Type 0) → List Label → Type 0
-Each Q [] = Unit {0}
-Each Q (t ∷ ts) = Q t × Each Q ts
-
 -- It is true of a dead label, and of one that says less than a live label of which it is.
 record IsLowered (Q : Label → Type 0) : Type 0 where
   dead : Q Dead
   lower : (a b : Part → ℕ) (m n : Mode) → IsWithin a b → WeakerMode m n → Q (Live b n) → Q (Live a m)
 
-led_by : (Q : Label → Type 0) → IsLowered Q → (s : Label) (ts : List Label) → IsStrongest s ts → Each Q ts → Q s
+led_by : (Q : Label → Type 0) → IsLowered Q → (s : Label) (ts : List Label) → IsStrongest s ts → AreAll Q ts → Q s
 led_by Q q Dead ts h e = q.dead
 led_by Q q (Live a m) ts h e = go ts h.weaker e (λ w. h.strongest Dead w)
   where
-    go : (ts : List Label) → WeakerThanEach (Live a m) ts → Each Q ts → (WeakerThanEach Dead ts → ⊥) → Q (Live a m)
+    go : (ts : List Label) → WeakerThanEach (Live a m) ts → AreAll Q ts → (WeakerThanEach Dead ts → ⊥) → Q (Live a m)
     go [] w e f = absurd (f tt)
     go (Dead ∷ ts) w e f = go ts w.1 e.1 (λ v. f (tt, v))
     go (Live b n ∷ ts) w e f = q.lower a b m n w.0.0 w.0.1 e.0
@@ -144,24 +141,20 @@ locked_lowered = record { dead = tt; lower = go }
     go a b Unlocked (Locked j) w v h = absurd v
     go a b (Locked i) n w v h = tt
 
-gate_by : (Q : Label → Type 0) → Q Dead → (g : Bool) (s : Label) → Q s → Q (gate g s)
-gate_by Q d true s h = h
-gate_by Q d false s h = d
-
 goes_by : (Q : Label → Type 0) (E : (Part → ℕ) → Mode → Label) → Q Dead → ((a : Part → ℕ) (m : Mode) → Q (Live a m) → Q (E a m)) → (s : Label) → Q s → Q (goes s E)
 goes_by Q E d f Dead h = d
 goes_by Q E d f (Live a m) h = f a m h
 
 -- a property of each label before a line, and what the line makes of it behind
-became : (R : Label → Type 0) → IsLowered R → (old new : State) (bs : Bool → List Label) → Becomes old new bs → ((z : Bool) → Each R (bs z)) → OnBoth R new
+became : (R : Label → Type 0) → IsLowered R → (old new : State) (bs : Bool → List Label) → Becomes old new bs → ((z : Bool) → AreAll R (bs z)) → OnBoth R new
 became R q old new bs h e z = led_by R q (label_of new z) (bs z) (h.each z) (e z)
 
-gave : {X : Type 0} (R : Label → Type 0) → IsLowered R → (old new : State) (r : Result X Cause) (ps : List (ℕ × Premise)) (bs : Bool → List Label) → Gives old new r ps bs → ((z : Bool) → Each R (bs z)) → OnBoth R old → OnBoth R new
+gave : {X : Type 0} (R : Label → Type 0) → IsLowered R → (old new : State) (r : Result X Cause) (ps : List (ℕ × Premise)) (bs : Bool → List Label) → Gives old new r ps bs → ((z : Bool) → AreAll R (bs z)) → OnBoth R old → OnBoth R new
 gave R q old new (Ok x) ps bs g e h = became R q old new bs g.1 e
 gave R q old new (Err c) ps bs g e h = subst (OnBoth R) (sym g.1) h
 
-brought : (R : Label → Type 0) → R Dead → (may : Bool → Bool) (F : Label → Label) (before : Bool → Label) → ((z : Bool) → R (F (before z))) → Each R (brings may F before)
-brought R d may F before h = (gate_by R d (may true) _ (h true), (gate_by R d (may false) _ (h false), tt))
+brought : (R : Label → Type 0) → R Dead → (may : Bool → Bool) (F : Label → Label) (before : Bool → Label) → ((z : Bool) → R (F (before z))) → AreAll R (brings may F before)
+brought R d may F before h = (gate_keeps R d (may true) _ (h true), (gate_keeps R d (may false) _ (h false), tt))
 
 -- ---- counts stay few
 
@@ -224,13 +217,9 @@ lock_locked old new (Err c) g = absurd (g.0.fails tt)
 
 -- ---- loops
 
-list_few : (P : Program) (items : Items) (z : Bool) (p : Part) → IsList P items → bag_on z items p ≤ 4096
-list_few P items true p h = omega (arith, few P items p h.first)
-list_few P items false p h = omega (arith, few P items p h.first, few P (besides items) p h.more)
-
 top_few : (P : Program) (n : ℕ) (items : Items) (z : Bool) (s : Label) → 4096 ≤ n → IsList P items → IsAtMost n (top P items z s)
 top_few P n items z Dead l h = tt
-top_few P n items z (Live a m) l h = λ p. omega (arith, list_few P items z p h, l)
+top_few P n items z (Live a m) l h = λ p. omega (arith, kept_few P items z p h, l)
 
 pub loop_few : {X : Type 0} (old new : State) (r : Result X Cause) (ps : List (ℕ × Premise)) (items : Items) (n : ℕ) → 4096 ≤ n → program_of old ≡ share → IsList share items → Gives old new r ps (λ z. brings (λ y. turns (forgets old.flag) y z) (λ s. top (program_of old) items z s) (label_of old)) → OnBoth (IsAtMost n) old → OnBoth (IsAtMost n) new
 loop_few old new r ps items n k e l g h = gave (IsAtMost n) (few_lowered n) old new r ps _ g (λ z. brought (IsAtMost n) tt (λ y. turns (forgets old.flag) y z) (λ s. top (program_of old) items z s) (label_of old) (λ y. top_few (program_of old) n items z (label_of old y) k (subst (λ P. IsList P items) (sym e) l))) h

@@ -15,18 +15,8 @@ use Rattle.rc_lang.specs.Nesting.{IsNested, IsNestedIn, blocks_at}
 use Rattle.rc_lang.specs.Parts.{view_program, view_thread, view_buffer}
 use Rattle.rc_lang.specs.Program.{Thread, IsFlag, IsProgram, IsThread, IsItems, IsResolved, IsLinked, line_numbers, stmt_at}
 use Rattle.rc_lang.proofs.Rising.{by_test}
+use Rattle.rc_core_tests.proofs.RulesExamples.{distinct, none, single}
 use Rattle.rc_core_tests.specs.VerifyExample.{example, example_ends, example_lines, example_thread, example_version, if_not_zero}
-
-none : {X : Type 0} (P : X → Type 0) → All P []
-none P k d lt = absurd (omega (arith, lt))
-
-empty : {K : Type 0} (e : K → K → Bool) → IsDistinct e []
-unfolding IsDistinct
-empty e = tt
-
-single : {K : Type 0} (e : K → K → Bool) (x : K) → IsDistinct e (x ∷ [])
-unfolding IsDistinct
-single e x = (tt, tt)
 
 -- ---- the lines
 
@@ -99,9 +89,9 @@ is_items : (n : ℕ) (calls branch flag : Bool) → n ≤ 2048 → IsItems (exam
 is_items n calls branch flag h = record {
   buffers = none _;
   counts = none _;
-  distinct_buffers = empty nat_eq;
+  distinct_buffers = distinct nat_eq;
   tokens = none _;
-  distinct_tokens = empty nat_eq;
+  distinct_tokens = distinct nat_eq;
   credits = h;
   queue = tt;
 }
@@ -153,13 +143,13 @@ is_example n calls branch flag h = record {
   left = lit≤ tt;
   few_files = lit≤ tt;
   files = none _;
-  distinct_files = empty nat_eq;
+  distinct_files = distinct nat_eq;
   few_buffers = lit≤ tt;
   buffers = none _;
-  distinct_buffers = empty bytes_eq;
+  distinct_buffers = distinct bytes_eq;
   few_tokens = lit≤ tt;
   tokens = none _;
-  distinct_tokens = empty nat_eq;
+  distinct_tokens = distinct nat_eq;
   few_threads = lit≤ tt;
   distinct_names = single bytes_eq (codes "t0");
   each = each;

@@ -15,6 +15,7 @@ use Rattle.rc_rules.specs.States.{State, sides_of}
 use Rattle.rc_verify.specs.Labels.{IsStrongestAt, IsRefusedFor, Labels, Goes}
 use Rattle.rc_explain.specs.declared.listing.Run.{Run}
 use Rattle.rc_explain.specs.Listed.{Shown, AreShown, IsShown, EndsAt, ListsLines, Lists, has_flag, or_no_lines, next_text, run_after, run_text, lines_text}
+use Rattle.rc_explain.proofs.Writes.{no_front}
 
 -- what is told before the end, and the run that is left then
 abbrev pub told : (ℕ → List ℕ) → Program → Bool → Option Run → List Shown → List ℕ
@@ -50,10 +51,6 @@ pub record IsListed (words : ℕ → List ℕ) (P : Program) (f : Bool) (t : Thr
   pub written : Appends old new (told words P f None shown)
 
 -- ---- the next line
-
-pub goes_further : (old new : Labels) (b : Bool) → b ≡ true → Goes old new (Ok b) → new.place ≡ old.place + 1
-goes_further old new true e g = g.1
-goes_further old new false e g = absurd cc
 
 got_more : {A : Type 0} (xs : List A) (y : A) (k : ℕ) (z : A) → slice_get (xs ++ (y ∷ [])) k ≡ Some z → (slice_get xs k ≡ Some z) ⊎ ((length xs ≡ k) × (y ≡ z))
 got_more [] y zero z h = inr (refl, cc h)
@@ -146,10 +143,6 @@ told_lines words P t (s ∷ rest) h = refl
 some_line : (P : Program) (t : Thread) (n : ℕ) → 0 < length t.lines → EndsAt P t n → 0 < n
 some_line P t n h (inl e) = omega (arith, h, e)
 some_line P t n h (inr (k, cause, e, r)) = omega (arith, e)
-
-no_front : (xs ys : List ℕ) → xs ++ ys ≡ [] → xs ≡ []
-no_front [] ys h = refl
-no_front (x ∷ xs) ys h = absurd (cc h)
 
 began_lines : (words : ℕ → List ℕ) (P : Program) (t : Thread) (shown : List Shown) (old new : Option (List ℕ)) → Began old new (lines_text words P (has_flag t.flag) None shown) → Began old new (or_no_lines shown (lines_text words P (has_flag t.flag) None shown))
 began_lines words P t [] old new q = record { done = []; rest = codes "  no lines\n"; cut = refl; written = appends_along old new _ _ (no_front q.done q.rest (sym q.cut)) q.written }

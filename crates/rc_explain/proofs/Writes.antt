@@ -36,7 +36,7 @@ pub no_text : (xs : List ℕ) → has_some xs ≡ false → (xs ≡ []) × (or_n
 no_text [] h = (refl, refl)
 no_text (x ∷ xs) h = absurd (cc h)
 
-no_front : (xs ys : List ℕ) → xs ++ ys ≡ [] → xs ≡ []
+pub no_front : (xs ys : List ℕ) → xs ++ ys ≡ [] → xs ≡ []
 no_front [] ys h = refl
 no_front (x ∷ xs) ys h = absurd (cc h)
 

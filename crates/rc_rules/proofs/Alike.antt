@@ -68,7 +68,7 @@ kind_refl (Write b k) = and_from _ _ (eq-eqb b b refl) (eq-eqb k k refl)
 kind_refl Fsync = refl
 kind_refl Nop = refl
 
-slot_refl : (s : Slot) → same_slot s s ≡ true
+pub slot_refl : (s : Slot) → same_slot s s ≡ true
 slot_refl Closed = refl
 slot_refl Vacant = refl
 slot_refl (Prepared k) = kind_refl k

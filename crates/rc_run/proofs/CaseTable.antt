@@ -1,7 +1,7 @@
 -- The threads with a case for a token, as they are added.
 use Rattle.std.proofs.Common.{◌≡◌, ℕ, ◌<◌, Bool, true, false, ◌&&◌, ◌||◌, List, [], ◌∷◌, ◌++◌, length, Some, inl, inr, nat_eq, slice_index_or, slice_set, refl, sym, ap, ◌∙◌}
 use Rattle.std.specs.List.{list_any}
-use Rattle.std.proofs.lemmas.Bool.{eqb-true}
+use Rattle.std.proofs.lemmas.Bool.{and_parts, eqb-true}
 use Rattle.std.proofs.lemmas.Bool.Decides.{eqb_tells}
 use Rattle.std.proofs.lemmas.List.{get_or-set_other, get_or-set_same, length-set}
 use Rattle.std.proofs.Math.Bool.{or-false}
@@ -31,15 +31,10 @@ absorbed true b h = refl
 absorbed false true h = h refl
 absorbed false false h = refl
 
-both : (a b : Bool) → (a && b) ≡ true → (a ≡ true) × (b ≡ true)
-both true true e = (refl, refl)
-both true false e = absurd (cc)
-both false b e = absurd (cc)
-
 pub added_before : (rows : List (List ℕ)) (t i : ℕ) → has_case rows (Some t) i ≡ true → IsAdded (nat_eq t) i rows rows
 added_before rows t i here = record {
   long = refl;
   has = λ k j. absorbed (has_case rows (Some k) j) (nat_eq t k && nat_eq i j) (λ e.
-      let h = both (nat_eq t k) (nat_eq i j) e in
+      let h = and_parts (nat_eq t k) (nat_eq i j) e in
       ap (λ n. has_case rows (Some n) j) (sym (eqb-true t k h.0)) ∙ (ap (has_case rows (Some t)) (sym (eqb-true i j h.1)) ∙ here));
 }

@@ -6,9 +6,9 @@ use Rattle.rc_rules.specs.declared.mode.Slot.{Slot}
 use Rattle.rc_rules.specs.declared.mode.Slot.TheVariants.{Closed}
 use Rattle.rc_rules.specs.Labels.{Label, Dead, Live, Weaker, WeakerThanEach, IsStrongest}
 use Rattle.rc_rules.specs.Rules.{agree, agree_all, agree_each, same_slot}
+use Rattle.rc_rules.proofs.Alike.{slot_refl}
 use Rattle.rc_rules.proofs.Weaker.{same_slot_is}
 use Rattle.rc_verify.specs.Walk.{IsClosed}
-use Rattle.rc_verify.proofs.Best.{slot_same}
 use Rattle.rc_verify.proofs.Fit.{AreAll, kept_by}
 
 -- In a lock the slot is at this stage.
@@ -24,7 +24,7 @@ at_own k Dead t h g = refl
 at_own k (Live b m) Dead h g = refl
 at_own k (Live b Unlocked) (Live c n) h g = refl
 at_own k (Live b (Locked i)) (Live c Unlocked) h g = refl
-at_own k (Live b (Locked i)) (Live c (Locked j)) h g = subst (λ x. same_slot i.slot x ≡ true) (h ∙ sym g) (slot_same i.slot)
+at_own k (Live b (Locked i)) (Live c (Locked j)) h g = subst (λ x. same_slot i.slot x ≡ true) (h ∙ sym g) (slot_refl i.slot)
 
 at_each : (k : Slot) (s : Label) (ts : List Label) → IsAtSlot k s → AreAll (IsAtSlot k) ts → agree_each s ts ≡ true
 at_each k s [] h g = refl

@@ -1,27 +1,23 @@
 -- Where some labels are good, there are strongest ones, and refusals can be read off them.
 use Rattle.std.proofs.Common.{◌≡◌, ℕ, zero, suc, ◌+◌, ◌≤◌, ◌↔◌, Bool, true, false, List, [], ◌∷◌, ◌++◌, length, take, Some, refl, sym, ap, inl, inr, arith, length-append}
 use Rattle.std.specs.Prelude.{slice_get}
-use Rattle.std.proofs.lemmas.Bool.{eq-eqb}
 use Rattle.std.proofs.lemmas.List.{length-take}
 use Rattle.std.proofs.lemmas.Option.{slice_get_within, slice_get_cases}
 use Rattle.std.proofs.Math.Seq.{take-length}
 use Rattle.std.proofs.Math.Numerals.{add-one}
 use Rattle.rc_lang.specs.declared.lines.Line.{Line}
-use Rattle.rc_lang.specs.declared.program.TokenKind.{TokenKind}
-use Rattle.rc_lang.specs.declared.program.TokenKind.TheVariants.{Read, Write, Fsync, Nop}
 use Rattle.rc_lang.specs.Program.{Program, Thread}
 use Rattle.rc_split.specs.Bags.{Part, least}
 use Rattle.rc_rules.specs.declared.mode.Mode.{Mode}
 use Rattle.rc_rules.specs.declared.mode.Mode.TheVariants.{Unlocked, Locked}
-use Rattle.rc_rules.specs.declared.mode.Slot.{Slot}
-use Rattle.rc_rules.specs.declared.mode.Slot.TheVariants.{Closed, Vacant, Prepared}
 use Rattle.rc_rules.specs.Labels.{Label, Dead, Live, Weaker, WeakerMode, WeakerThanEach, IsSame, IsStrongest}
 use Rattle.rc_rules.specs.Labellings.{label_at, befores, premises, IsGood, HasLabels, IsRefusedAt, start_of}
 use Rattle.rc_rules.specs.Premises.{MeetsBelow, FailsFirst}
 use Rattle.rc_rules.specs.Sides.{Sides, on}
-use Rattle.rc_rules.specs.Rules.{same_kind, same_slot, agree_modes}
+use Rattle.rc_rules.specs.Rules.{agree_modes}
 use Rattle.rc_rules.specs.States.{both, AgreeOnLock}
 use Rattle.rc_rules.proofs.Growth.{modes_agree, rules_grow}
+use Rattle.rc_rules.proofs.Alike.{slot_refl}
 use Rattle.rc_rules.proofs.Meets.{both_strongest}
 use Rattle.rc_rules.proofs.Weaker.{meets_below, weaker_each, weaker_refl}
 use Rattle.rc_verify.proofs.Strongest.{take_suc_at, front_good, last_good, weaker_than_more, begins, goes_on, below_strongest, known_below}
@@ -29,20 +25,9 @@ use Rattle.rc_verify.specs.Strongest.{AreStrongest}
 
 -- ---- labels that have a common bound have a meet
 
-kind_same : (k : TokenKind) → same_kind k k ≡ true
-kind_same (Read b) = eq-eqb b b refl
-kind_same (Write b k) = rw (eq-eqb b b refl, eq-eqb k k refl) refl
-kind_same Fsync = refl
-kind_same Nop = refl
-
-pub slot_same : (s : Slot) → same_slot s s ≡ true
-slot_same Closed = refl
-slot_same Vacant = refl
-slot_same (Prepared k) = kind_same k
-
 mode_agrees : (m : Mode) → agree_modes m m ≡ true
 mode_agrees Unlocked = refl
-mode_agrees (Locked i) = slot_same i.slot
+mode_agrees (Locked i) = slot_refl i.slot
 
 -- two modes, where both say more than a third
 modes_alike : (a b : Part → ℕ) (k m n : Mode) → WeakerMode k m → WeakerMode k n → AgreeOnLock (Live a m) (Live b n)

@@ -4,7 +4,7 @@ use Rattle.rc_lang.specs.declared.lines.Op.{Op}
 use Rattle.rc_lang.specs.declared.lines.Test.{Test}
 use Rattle.rc_lang.specs.declared.lines.Test.TheVariants.{Compare, ReadyZero, SpaceAtLeast, Take}
 use Rattle.rc_lang.specs.Program.{Program, Items, Thread, IsProgram, IsItems, IsList, besides, items_at}
-use Rattle.rc_split.specs.Bags.{Part, ShareOf, TokenOf, Credit, bag_of, bag_on, plus}
+use Rattle.rc_split.specs.Bags.{Part, TokenOf, bag_of, bag_on, plus}
 use Rattle.rc_rules.specs.declared.mode.Mode.{Mode}
 use Rattle.rc_rules.specs.declared.mode.Mode.TheVariants.{Unlocked, Locked}
 use Rattle.rc_rules.specs.declared.mode.Peeked.{Peeked}
@@ -16,7 +16,7 @@ use Rattle.rc_rules.specs.Sides.{brings, gate, on}
 use Rattle.rc_rules.specs.Rules.{same_slot, op_effect, put_effect, can_take, has_room, names_peeked_in, take_effect, goes, entered, released, test_effect, with_peeked, peek_at, case_at, top, broken, asks, may_break}
 use Rattle.rc_rules.specs.Premises.{Meets}
 use Rattle.rc_rules.specs.States.{is_locked, IsLocked, IsUnlocked, AgreeOnLock, IsSmall}
-use Rattle.rc_rules.proofs.Headers.{few_of, once}
+use Rattle.rc_rules.proofs.Headers.{few}
 use Rattle.rc_rules.proofs.Weaker.{locked_same, peeked_locked, test_locked}
 use Rattle.rc_rules.proofs.Lines.{effect_by}
 use Rattle.rc_rules.proofs.Room.{limit_few, room}
@@ -139,14 +139,9 @@ case_fits u b n (Live a m) f = go (nat_lt 0 (a (TokenOf u)))
     go true = tt
     go false = peek_fits (Sees u) b n (Live a m) f
 
-items_few : (P : Program) (items : Items) (p : Part) → IsItems P items → bag_of items p ≤ 2048
-items_few P items (ShareOf b) h = omega (arith, few_of b items.shares h.distinct_buffers h.counts)
-items_few P items (TokenOf u) h = omega (arith, once P items u h)
-items_few P items Credit h = h.credits
-
-kept_few : (P : Program) (items : Items) (z : Bool) (p : Part) → IsList P items → bag_on z items p ≤ 4096
-kept_few P items true p h = omega (arith, items_few P items p h.first)
-kept_few P items false p h = omega (arith, items_few P items p h.first, items_few P (besides items) p h.more)
+pub kept_few : (P : Program) (items : Items) (z : Bool) (p : Part) → IsList P items → bag_on z items p ≤ 4096
+kept_few P items true p h = omega (arith, few P items p h.first)
+kept_few P items false p h = omega (arith, few P items p h.first, few P (besides items) p h.more)
 
 pub top_fits : (P : Program) (items : Items) (z b : Bool) (n k : ℕ) (s : Label) → IsList P items → 4096 ≤ k → Fits b n s → Fits b k (top P items z s)
 top_fits P items z b n k Dead h l f = tt
@@ -170,7 +165,7 @@ broken_closed P false (Live a (Locked i)) h = h.0
 
 start_fits_zero : (P : Program) (t : Thread) (s : Label) → IsItems P t.items → IsSame s (start_of t).zero → Fits false 4096 s
 start_fits_zero P t Dead h e = tt
-start_fits_zero P t (Live a m) h e = (ap is_locked e.1, λ p. omega (arith, e.0 p, items_few P t.items p h))
+start_fits_zero P t (Live a m) h e = (ap is_locked e.1, λ p. omega (arith, e.0 p, few P t.items p h))
 
 pub start_fits : (P : Program) (t : Thread) (z : Bool) (s : Label) → IsItems P t.items → IsSame s (on z (start_of t)) → Fits false 4096 s
 start_fits P t true s h e = start_fits_zero P t s h e
@@ -179,7 +174,7 @@ start_fits P t false (Live a m) h e = absurd e
 
 -- ---- labels that come through a gate
 
-gate_keeps : (Q : Label → Type 0) → Q Dead → (g : Bool) (s : Label) → Q s → Q (gate g s)
+pub gate_keeps : (Q : Label → Type 0) → Q Dead → (g : Bool) (s : Label) → Q s → Q (gate g s)
 gate_keeps Q d false s f = d
 gate_keeps Q d true s f = f
 

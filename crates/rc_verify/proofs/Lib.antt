@@ -4,7 +4,7 @@ pub mod Threads
 pub mod Best
 pub mod Refusals
 mod Joining
-mod Fit
+pub mod Fit
 mod Keeping
 mod Ends
 mod Standing
@@ -19,4 +19,4 @@ mod Breaking
 mod Placing
 mod Beginning
 mod Told
-mod Having
+pub mod Having

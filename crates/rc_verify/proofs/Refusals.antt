@@ -1,14 +1,14 @@
 -- A program that is refused is refused once, and not accepted.
-use Rattle.std.proofs.Common.{◌≡◌, ℕ, ◌+◌, ◌≤◌, ◌⊎◌, inl, inr, List, [], ◌∷◌, take, Some, refl, sym, ap, ◌∙◌, arith}
+use Rattle.std.proofs.Common.{◌≡◌, ℕ, ◌+◌, ◌≤◌, ◌⊎◌, inl, inr, List, take, Some, refl, sym, ap, ◌∙◌, arith}
 use Rattle.std.specs.Prelude.{slice_get}
 use Rattle.std.proofs.lemmas.Bool.{cases_lt}
 use Rattle.std.proofs.lemmas.List.{take-take}
 use Rattle.rc_lang.specs.declared.lines.Line.{Line}
 use Rattle.rc_lang.specs.Program.{Program, Thread}
 use Rattle.rc_rules.specs.Labellings.{IsGood, HasLabels, Passes, Accepts, IsRefused, IsRefusedAt, IsHeaderRefused, IsBodyRefused, header_premises, label_at}
-use Rattle.rc_rules.specs.Premises.{Premise, Meets, MeetsBelow}
+use Rattle.rc_rules.specs.Premises.{Meets}
 use Rattle.rc_rules.specs.Sides.{Sides}
-use Rattle.rc_rules.proofs.Weaker.{meets_below}
+use Rattle.rc_rules.proofs.Weaker.{below_fewer, meets_below}
 use Rattle.rc_verify.proofs.Strongest.{get_front, good_at}
 
 -- ---- a beginning of the lines
@@ -25,19 +25,13 @@ good_front P thread lines n ls g = record {
 pub has_front : (P : Program) (thread : Thread) (lines : List Line) (m n : ℕ) → m ≤ n → HasLabels P thread (take n lines) → HasLabels P thread (take m lines)
 has_front P thread lines m n le h = let g = good_front P thread (take n lines) m h.0 h.1 in (h.0, rw (take-take m n lines le) at g)
 
--- ---- lists of premises
-
-below_less : (m n : ℕ) (ps : List (ℕ × Premise)) → m ≤ n → MeetsBelow n ps → MeetsBelow m ps
-below_less m n [] le h = tt
-below_less m n (p ∷ ps) le h = (λ lt. h.0 (omega (arith, lt, le)), below_less m n ps le h.1)
-
 -- ---- one line and one cause
 
 one_cause : (P : Program) (thread : Thread) (j : ℕ) (k l : Line) (v w : ℕ) → IsRefusedAt P thread j k v → IsRefusedAt P thread j l w → v ≤ w
 one_cause P thread j k l v w a b = elim (cases_lt w v) [
   | inl lt ↦
       let z : k ≡ l = let e = a.line_is in let f = b.line_is in cc (e, f) in
-      absurd (b.never_met a.met_below.0 a.met_below.1 (below_less (w + 1) v _ (omega (arith, lt)) (rw z at a.met_below.2)))
+      absurd (b.never_met a.met_below.0 a.met_below.1 (below_fewer (w + 1) v _ (omega (arith, lt)) (rw z at a.met_below.2)))
   | inr le ↦ le
 ]
 
@@ -49,7 +43,7 @@ least_place P thread i j k l v w a b = elim (cases_lt i j) [
 
 one_header : (P : Program) (i v w : ℕ) → IsHeaderRefused P i v → IsHeaderRefused P i w → v ≤ w
 one_header P i v w a b = elim (cases_lt w v) [
-  | inl lt ↦ absurd (b.fails (below_less (w + 1) v (header_premises P (take (i + 1) P.threads)) (omega (arith, lt)) a.below))
+  | inl lt ↦ absurd (b.fails (below_fewer (w + 1) v (header_premises P (take (i + 1) P.threads)) (omega (arith, lt)) a.below))
   | inr le ↦ le
 ]
 

@@ -1,5 +1,6 @@
 use Rattle.std.proofs.Common.{inl, arith, ◌≡◌, ◌+◌, length, ◌∙◌, ap}
-use Rattle.rc_explain.proofs.ToldLines.{ends_at, goes_further, listed_more, lists_ends, lists_fails, shown_at}
+use Rattle.rc_verify.proofs.Having.{goes_further}
+use Rattle.rc_explain.proofs.ToldLines.{ends_at, listed_more, lists_ends, lists_fails, shown_at}
 use Rattle.rc_explain.proofs.listing.write_lines.Goals as goal
 
 pub returns-in_err-run-clause-text : goal.returns-in_err-run-clause-text
