@@ -68,6 +68,7 @@ impl<D: Device, L: Ledger + Asked> Board<D, L> {
     pub fn turn(&mut self, thread: u32, take: i32, mine: &mut Counted<L>) -> Option<Turn>
         requires { negsuc 4094 ≤ℤ take }
         ensures some { IfSome result (λ t. Turned self.old.run.run thread take t self.new.run.run) }
+        ensures goes_on { IfSome result (λ _. is_stopped self.old.run ≡ false) }
         ensures counted { IfSome result (λ t. self.new.run ≡ record self.old.run { run = self.new.run.run; turns = self.old.run.turns + turns_by t }) }
         ensures none { IfNone result (self.new.run ≡ after_no_turn self.old.run) }
         ensures roster { self.new.roster ≡ arrived self.old.roster thread }
