@@ -229,7 +229,7 @@ pub fed_ok : (r : Result (Unit {0}) ReadFault) (s s' : Sheet) (p p' : List ℕ) 
 fed_ok r s s' p p' bytes more whole er e k h =
     subst (λ (x : List ℕ). Reads None s' p' x) e (subst (λ (x : Result (Unit {0}) ReadFault). Reads (fault_in x) s' p' (bytes ++ more)) er (k bytes h))
 
-split_at : (piece : List ℕ) (at i : ℕ) → take (at + i) piece ≡ take at piece ++ take i (drop at piece)
+pub split_at : (piece : List ℕ) (at i : ℕ) → take (at + i) piece ≡ take at piece ++ take i (drop at piece)
 split_at piece at i =
     sym (take-append-drop at (take (at + i) piece)) ∙ ap (λ (x : List ℕ). x ++ drop at (take (at + i) piece)) (take-take at (at + i) piece (omega arith)) ∙ ap (λ (x : List ℕ). take at piece ++ x) (drop-take at i piece)
 

@@ -1,17 +1,23 @@
 -- Faster ways to what the definitions of the notation say. Nothing that is told of it speaks of these.
-use Rattle.std.specs.Prelude.{ℕ, ◌+◌, List, [], ◌∷◌, length, slice_index_or, Option, Some, None, Bool, true, false, ◌&&◌, ◌||◌, ◌==◌, nat_le, nat_lt, if◌then◌else◌}
+use Rattle.std.specs.Prelude.{ℕ, ◌+◌, List, [], ◌∷◌, length, take, slice_index_or, Option, Some, None, Bool, true, false, ◌&&◌, not, ◌==◌, nat_le, nat_lt, if◌then◌else◌}
 use Rattle.std.specs.List.{list_any}
 use Rattle.rc_read.specs.declared.table.Part.{Part}
 use Rattle.rc_read.specs.declared.table.Part.TheVariants.{Fixed}
 use Rattle.rc_read.specs.declared.table.Row.{Row}
 use Rattle.rc_read.specs.declared.values.Item.{Item}
 use Rattle.rc_read.specs.declared.values.Item.TheVariants as item
+use Rattle.rc_read.specs.Sentences.{is_strange}
 use Rattle.rc_read.specs.Spots.{are_items, fits, is_item}
 use Rattle.rc_read.specs.Table.{text_of, parts_of}
 
--- Among these is a byte above 126 or below 32, as each strange one is.
-abbrev pub any_outside : List ℕ → Bool
-any_outside bytes = list_any (λ b. nat_lt 126 b || nat_lt b 32) bytes
+-- A strange byte is among these, but for line feeds. Then one is in none of their lines.
+abbrev pub has_strange : List ℕ → Bool
+has_strange bytes = list_any (λ b. is_strange b && not (b == 10)) bytes
+
+-- The bytes before a place, and all where there is none.
+abbrev pub before : Option ℕ → List ℕ → List ℕ
+before None bytes = bytes
+before (Some i) bytes = take i bytes
 
 -- The forms of which the first word, where it is fixed, begins with this byte.
 abbrev pub starts_with : ℕ → List ℕ → Bool
@@ -29,6 +35,10 @@ beginning b (row ∷ rows) = if may_begin b (parts_of row) then row ∷ beginnin
 abbrev pub first_byte : List (List ℕ) → ℕ
 first_byte ((b ∷ w) ∷ ws) = b
 first_byte _ = 0
+
+-- Items stand among these parts. Each other part takes one word.
+abbrev pub has_items : List Part → Bool
+has_items parts = list_any are_items parts
 
 -- How many words a part takes, where they stand there.
 abbrev pub items_in_front : List (List ℕ) → ℕ

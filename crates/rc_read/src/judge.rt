@@ -1,9 +1,10 @@
 //! The fault sentences about a line, and what becomes of the parts at it.
 
-ghost use Rattle.std.specs.Prelude.{◌≡◌, option_map};
+ghost use Rattle.std.specs.Prelude.{◌≡◌, false, option_map, take};
 ghost use Rattle.rc_read.specs.Causes.{number_of_cause};
 ghost use Rattle.rc_read.specs.Judging.{JudgesRow, JudgesWords, later_sentences};
 ghost use Rattle.rc_read.specs.Sentences as spec;
+ghost use Rattle.rc_read.specs.Sentences.{any_strange};
 ghost use Rattle.rc_read.specs.Spots.{spots_of};
 ghost use Rattle.rc_read.specs.Stream.{Judges};
 ghost use Rattle.rc_read.specs.Table.{parts_of};
@@ -37,7 +38,8 @@ pub struct Found<'a> {
 /// Memory that each line of a piece uses again.
 #[derive(Drop)]
 pub struct Scratch<'a> {
-    words: Vec<&'a [u8]>,
+    /// The words of the line.
+    pub words: Vec<&'a [u8]>,
     found: Found<'a>,
 }
 
@@ -188,6 +190,27 @@ fn judge_words<'a>(
     judge_row(alloc, parts, found, line, words, row)
 }
 
+/// Judges a line with these words and no strange byte among its first 256, and adds it where no sentence is true of it.
+pub fn judge_plain<'a>(
+    alloc: Global,
+    parts: &mut Parts,
+    scratch: &mut Scratch<'a>,
+    line: &'a [u8],
+) -> Result<(), ReadFault>
+    requires words { texts_of scratch.old.words.items ≡ words_of line.now }
+    requires plain { any_strange (take 256 line.now) ≡ false }
+    ensures { Judges (view_sheet parts.old) line.now (view_sheet parts.new) result }
+{
+    let number = parts.count + 1;
+    match judge_words(alloc, parts, &mut scratch.found, line, &scratch.words)? {
+        None => Ok(()),
+        Some(cause) => Err(ReadFault::Text {
+            line: number,
+            cause,
+        }),
+    }
+}
+
 /// Judges a line, and adds it where no sentence is true of it.
 pub fn judge<'a>(
     alloc: Global,
@@ -197,20 +220,12 @@ pub fn judge<'a>(
 ) -> Result<(), ReadFault>
     ensures { Judges (view_sheet parts.old) line.now (view_sheet parts.new) result }
 {
-    let number = parts.count + 1;
     if begins_strange(line) {
-        let cause = ReadCause::NotAscii;
         return Err(ReadFault::Text {
-            line: number,
-            cause,
+            line: parts.count + 1,
+            cause: ReadCause::NotAscii,
         });
     }
     put_words(&mut scratch.words, line)?;
-    match judge_words(alloc, parts, &mut scratch.found, line, &scratch.words)? {
-        None => Ok(()),
-        Some(cause) => Err(ReadFault::Text {
-            line: number,
-            cause,
-        }),
-    }
+    judge_plain(alloc, parts, scratch, line)
 }

@@ -238,6 +238,29 @@ fn is_form(version: u32, row: Row, spots: &[Spot]) -> bool
     version_of(row) <= version && (version < 2 || !any_reserved(version, spots))
 }
 
+// Whether items stand in a form.
+fn has_items(row: Row) -> bool
+    ensures { result ≡ quick.has_items (spec_parts_of row) }
+{
+    match row {
+        Row::Thread | Row::Put | Row::IfTake | Row::Loop | Row::LoopWhen => true,
+        _ => false,
+    }
+}
+
+// Puts the places of a line with these words there, where it has this form.
+fn put_form<'a>(spots: &mut Vec<Spot<'a>>, row: Row, words: &[&'a [u8]]) -> Result<bool, AllocError>
+    ensures matches { IfOk result (λ b. b ≡ spec.matches (spec_parts_of row) (texts_of words.now)) }
+    ensures spots { IfOk result (λ b. b ≡ true → view_spots spots.new.items ≡ spec.spots_of (spec_parts_of row) (texts_of words.now)) }
+{
+    let parts = parts_of(row);
+    // Each part takes one word, but for items.
+    if parts.len() != words.len() && !has_items(row) {
+        return Ok(false);
+    }
+    put_places(spots, parts, words)
+}
+
 // The first of these rows whose parts the words are. Their places are put there.
 fn first_row<'a>(
     spots: &mut Vec<Spot<'a>>,
@@ -248,7 +271,7 @@ fn first_row<'a>(
     ensures spots { IfOk result (λ o. IfSome o (λ row. view_spots spots.new.items ≡ spec.spots_of (spec_parts_of row) (texts_of words.now))) }
 {
     for row in rows {
-        if put_places(spots, parts_of(*row), words)? {
+        if put_form(spots, *row, words)? {
             return Ok(Some(*row));
         }
     }

@@ -1,14 +1,16 @@
 //! The words of a line, as slices of it.
 
-ghost use Rattle.std.specs.Prelude.{◌≡◌, ◌++◌, OnOk, take};
+ghost use Rattle.std.specs.Prelude.{◌≡◌, ◌≤◌, ◌++◌, IfOk, None, OnOk, false, true, length, take};
 ghost use Rattle.std.specs.Str.{bytes_eq};
+ghost use Rattle.memchr.specs.Find.{IsFirst, IsFirstByte, Passes, is_byte};
 ghost use Rattle.rc_lang.specs.Names as names;
-ghost use Rattle.rc_read.specs.Quick.{any_outside};
+ghost use Rattle.rc_read.specs.Quick.{before, has_strange};
 ghost use Rattle.rc_read.specs.Sentences.{any_strange, is_strange};
 ghost use Rattle.rc_read.specs.Texts.{texts_of};
 ghost use Rattle.rc_read.specs.Words as spec;
 
 use crate::reserved::is_reserved;
+use memchr::memchr;
 use std::alloc::AllocError;
 
 /// Whether a word is this text.
@@ -30,33 +32,26 @@ fn any_strange(bytes: &[u8]) -> bool
     bytes.iter().any(|b| is_strange(*b))
 }
 
-// Whether a byte is above 126 or below 32, as each strange one is. There seldom is one.
-fn any_outside(bytes: &[u8]) -> bool
-    ensures { result ≡ any_outside bytes.now }
-{
-    let mut any = false;
-    for b in bytes {
-        any = any | ((*b > 126) | (*b < 32));
-    }
-    any
-}
-
-// Whether a strange byte is among these.
-fn has_strange(bytes: &[u8]) -> bool
-    ensures { result ≡ any_strange bytes.now }
-{
-    any_outside(bytes) && any_strange(bytes)
-}
-
 /// Whether a strange byte is among a line's first 256.
 pub fn begins_strange(line: &[u8]) -> bool
     ensures { result ≡ any_strange (take 256 line.now) }
 {
     if line.len() > 256 {
-        has_strange(&line[..256])
+        any_strange(&line[..256])
     } else {
-        has_strange(line)
+        any_strange(line)
     }
+}
+
+/// Whether a strange byte is among these, but for line feeds.
+pub fn has_strange(piece: &[u8]) -> bool
+    ensures { result ≡ has_strange piece.now }
+{
+    let mut any = false;
+    for b in piece {
+        any = any | (is_strange(*b) & (*b != b'\n'));
+    }
+    any
 }
 
 fn is_blank(b: u8) -> bool
@@ -75,26 +70,69 @@ fn push_word<'a>(words: &mut Vec<&'a [u8]>, word: &'a [u8]) -> Result<(), AllocE
     Ok(())
 }
 
-/// Puts the words of a line there, without its comment.
+// The place of the first line feed from a place on.
+#[inline(never)]
+fn feed_from(bytes: &[u8], from: usize) -> Option<usize>
+    requires { from ≤ length bytes.now }
+    ensures { IsFirst (Passes (is_byte 10) bytes.now) from (length bytes.now) result }
+{
+    Some(from + memchr(b'\n', &bytes[from..])?)
+}
+
+// Puts the words of a line there, without its comment. If line feeds count, the line ends at the first, and the answer
+// is its place.
 #[inline(always)]
-pub fn put_words<'a>(words: &mut Vec<&'a [u8]>, line: &'a [u8]) -> Result<(), AllocError>
-    ensures { OnOk result (texts_of words.new.items ≡ spec.words_of line.now) }
+fn put_words_before<'a>(
+    words: &mut Vec<&'a [u8]>,
+    bytes: &'a [u8],
+    feeds: bool,
+) -> Result<Option<usize>, AllocError>
+    ensures none { feeds ≡ false → IfOk result (λ o. o ≡ None) }
+    ensures feed { feeds ≡ true → IfOk result (λ o. IsFirstByte (is_byte 10) bytes.now o) }
+    ensures words { IfOk result (λ o. texts_of words.new.items ≡ spec.words_of (before o bytes.now)) }
 {
     words.clear();
     let mut start = 0;
-    for i in 0..line.len() {
+    for i in 0..bytes.len() {
         // Most bytes are of words.
-        if line[i] <= b'#' {
-            if line[i] == b'#' {
-                return push_word(words, &line[start..i]);
+        if bytes[i] <= b'#' {
+            if feeds && bytes[i] == b'\n' {
+                push_word(words, &bytes[start..i])?;
+                return Ok(Some(i));
             }
-            if is_blank(line[i]) {
-                push_word(words, &line[start..i])?;
+            if bytes[i] == b'#' {
+                push_word(words, &bytes[start..i])?;
+                return Ok(if feeds { feed_from(bytes, i) } else { None });
+            }
+            if is_blank(bytes[i]) {
+                push_word(words, &bytes[start..i])?;
                 start = i + 1;
             }
         }
     }
-    push_word(words, &line[start..])
+    push_word(words, &bytes[start..])?;
+    Ok(None)
+}
+
+/// Puts the words of a line there, without its comment.
+pub fn put_words<'a>(words: &mut Vec<&'a [u8]>, line: &'a [u8]) -> Result<(), AllocError>
+    ensures { OnOk result (texts_of words.new.items ≡ spec.words_of line.now) }
+{
+    put_words_before(words, line, false)?;
+    Ok(())
+}
+
+/// Puts the words of the first line there, without its comment. The answer is the place of its line feed; where there is
+/// none, all bytes are that line.
+#[inline(always)]
+pub fn put_first_words<'a>(
+    words: &mut Vec<&'a [u8]>,
+    lines: &'a [u8],
+) -> Result<Option<usize>, AllocError>
+    ensures feed { IfOk result (λ o. IsFirstByte (is_byte 10) lines.now o) }
+    ensures words { IfOk result (λ o. texts_of words.new.items ≡ spec.words_of (before o lines.now)) }
+{
+    put_words_before(words, lines, true)
 }
 
 fn is_name_byte(b: u8) -> bool
