@@ -1,4 +1,5 @@
--- The forms that a line can have whose first word begins with a byte are enough.
+-- The forms that a line can have whose first word begins with a byte are enough, and of those without items the ones
+-- with as many parts as it has words.
 use Rattle.std.proofs.Common.{◌≡◌, ℕ, suc, List, [], ◌∷◌, ◌++◌, length, Bool, true, false, cond, eqb, Option, Some, None, refl, sym, ap, ◌∙◌}
 use Rattle.std.proofs.lemmas.Bool.{and_parts, or_parts}
 use Rattle.std.specs.Option.{option_or}

@@ -10,7 +10,7 @@ use Rattle.rc_read.specs.Sentences.{is_strange}
 use Rattle.rc_read.specs.Spots.{are_items, fits, is_item}
 use Rattle.rc_read.specs.Table.{text_of, parts_of}
 
--- A strange byte is among these, but for line feeds. Then one is in none of their lines.
+-- A strange byte is among these, but for line feeds. Where none is, none is in their lines.
 abbrev pub has_strange : List ℕ → Bool
 has_strange bytes = list_any (λ b. is_strange b && not (b == 10)) bytes
 
