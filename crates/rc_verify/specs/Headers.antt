@@ -1,14 +1,13 @@
--- Whether the threads before a header left what it asks for.
-use Rattle.std.specs.Prelude.{ℕ, ◌+◌, Bool, List, nat_eq, nat_le}
+-- Whether what is held leaves what a header asks for.
+use Rattle.std.specs.Prelude.{ℕ, ◌+◌, Bool, nat_eq, nat_le}
 use Rattle.rc_lang.specs.declared.program.Share.{Share}
-use Rattle.rc_lang.specs.Program.{Program, Thread, shares_at}
-use Rattle.rc_split.specs.Bags.{ShareOf, TokenOf}
-use Rattle.rc_rules.specs.Labellings.{headers_bag}
+use Rattle.rc_lang.specs.Program.{Program, shares_at}
+use Rattle.rc_split.specs.Bags.{Part, ShareOf, TokenOf}
 
--- There are so many shares of the buffer beside those that the threads hold.
-abbrev pub share_fits : Program → List Thread → Share → Bool
-share_fits P threads s = nat_le (headers_bag threads (ShareOf s.buffer) + s.count) (shares_at P.buffers s.buffer)
+-- There are so many shares of the buffer beside those that are held.
+abbrev pub share_fits : Program → (Part → ℕ) → Share → Bool
+share_fits P held s = nat_le (held (ShareOf s.buffer) + s.count) (shares_at P.buffers s.buffer)
 
--- None of the threads holds the token.
-abbrev pub token_fits : List Thread → ℕ → Bool
-token_fits threads u = nat_eq (headers_bag threads (TokenOf u)) 0
+-- The token isn't held.
+abbrev pub token_fits : (Part → ℕ) → ℕ → Bool
+token_fits held u = nat_eq (held (TokenOf u)) 0

@@ -1,137 +1,74 @@
 //! The headers of threads: what they hold together is at most what there is.
 
-ghost use Rattle.std.specs.Prelude.{◌≡◌, ◌+◌, ◌<◌, ◌≤◌, ◌^◌, ℕ, length, ◌++◌, ◌∷◌, [], map, take, All};
+ghost use Rattle.std.specs.Prelude.{◌≡◌, ◌+◌, ◌<◌, List, length, nat_le, take, OnOk};
 ghost use Rattle.std.specs.List.{list_all};
-ghost use Rattle.rc_lang.specs.Parts.{view_items, view_thread};
-ghost use Rattle.rc_lang.specs.declared.program.Share as rows;
-ghost use Rattle.rc_lang.specs.Program.{IsItems, IsProgram, Thread as Spec};
+ghost use Rattle.rc_lang.specs.Parts.{view_items};
+ghost use Rattle.rc_lang.specs.Program.{IsItems, Thread};
 ghost use Rattle.rc_rules.specs.Labellings.{header_premises, headers_bag};
 ghost use Rattle.rc_rules.specs.Premises.{Meets, Tests};
+ghost use Rattle.rc_rules.specs.Rules.{limit};
 ghost use Rattle.rc_split.specs.Bags as bags;
+ghost use Rattle.rc_split.specs.Holdings.{bag, Holds};
 ghost use Rattle.rc_verify.specs.Headers as spec;
 
-use rc_lang::program::{Items, Program, Share, Thread};
+use rc_lang::program::{Items, Program, Share};
 use rc_rules::cause::Cause;
+use rc_split::holding::Holding;
+use rc_split::part::Part;
 
-/// How many shares of a buffer these are.
-fn shares_in(shares: &[Share], buffer: usize) -> u32
-    requires { bags.bag_of (bags.shares_alone shares.now) (bags.ShareOf buffer) < 2 ^ 32 }
-    ensures { result ≡ bags.bag_of (bags.shares_alone shares.now) (bags.ShareOf buffer) }
+/// Whether so many more are there beside those that are held.
+fn fits(held: u32, more: u32, there: u32) -> bool
+    ensures { result ≡ nat_le (held + more) there }
 {
-    let mut count = 0;
-    for share in shares {
-        if share.buffer == buffer {
-            count += share.count;
-        }
-    }
-    count
+    u64::from(held) + u64::from(more) <= u64::from(there)
 }
 
-/// How often a token is among these.
-fn tokens_in(tokens: &[u64], user_data: u64) -> u32
-    requires { bags.bag_of (bags.tokens_alone tokens.now) (bags.TokenOf user_data) < 2 ^ 32 }
-    ensures { result ≡ bags.bag_of (bags.tokens_alone tokens.now) (bags.TokenOf user_data) }
+/// Whether the shares are there beside those that are held.
+fn shares_fit(program: &Program, held: &Holding, shares: &[Share]) -> bool
+    ensures { result ≡ list_all (spec.share_fits program.now (bag held.now)) shares.now }
 {
-    let mut count = 0;
-    for token in tokens {
-        if *token == user_data {
-            count += 1;
-        }
-    }
-    count
+    shares.iter().all(|share| {
+        let there = program.shares_at(share.buffer);
+        fits(held.shares(share.buffer), share.count, there)
+    })
 }
 
-/// How many shares of a buffer these threads begin with.
-fn shares_held(threads: &[Thread], buffer: usize) -> u32
-    requires { headers_bag (map view_thread threads.now) (bags.ShareOf buffer) < 2 ^ 32 }
-    ensures { result ≡ headers_bag (map view_thread threads.now) (bags.ShareOf buffer) }
+/// Whether none of the tokens is held.
+fn tokens_fit(held: &Holding, tokens: &[u64]) -> bool
+    ensures { result ≡ list_all (spec.token_fits (bag held.now)) tokens.now }
 {
-    let mut count = 0;
-    for thread in threads {
-        count += shares_in(&thread.items.shares, buffer);
-    }
-    count
+    tokens.iter().all(|token| !held.holds(Part::Token(*token)))
 }
 
-/// How many of these threads begin with a token.
-fn tokens_held(threads: &[Thread], user_data: u64) -> u32
-    requires { headers_bag (map view_thread threads.now) (bags.TokenOf user_data) < 2 ^ 32 }
-    ensures { result ≡ headers_bag (map view_thread threads.now) (bags.TokenOf user_data) }
-{
-    let mut count = 0;
-    for thread in threads {
-        count += tokens_in(&thread.items.tokens, user_data);
-    }
-    count
-}
-
-/// How many credits these threads begin with.
-fn credits_held(threads: &[Thread]) -> u32
-    requires { headers_bag (map view_thread threads.now) bags.Credit < 2 ^ 32 }
-    ensures { result ≡ headers_bag (map view_thread threads.now) bags.Credit }
-{
-    let mut count = 0;
-    for thread in threads {
-        count += thread.items.credits;
-    }
-    count
-}
-
-/// Whether the shares are left by the threads before.
-fn shares_fit(program: &Program, before: &[Thread], shares: &[Share]) -> bool
-    requires few { (b : ℕ) → headers_bag (map view_thread before.now) (bags.ShareOf b) ≤ 16 }
-    requires counts { All (λ (s : rows.Share). s.count ≤ 16) shares.now }
-    ensures { result ≡ list_all (spec.share_fits program.now (map view_thread before.now)) shares.now }
-{
-    for share in shares {
-        let held = shares_held(before, share.buffer);
-        if held + share.count > program.shares_at(share.buffer) {
-            return false;
-        }
-    }
-    true
-}
-
-/// Whether no thread before has one of the tokens.
-fn tokens_fit(before: &[Thread], tokens: &[u64]) -> bool
-    requires { (u : ℕ) → headers_bag (map view_thread before.now) (bags.TokenOf u) ≤ 1 }
-    ensures { result ≡ list_all (spec.token_fits (map view_thread before.now)) tokens.now }
-{
-    for token in tokens {
-        if tokens_held(before, *token) > 0 {
-            return false;
-        }
-    }
-    true
-}
-
-/// Judges the items of a header that comes behind these.
-fn judge_items(program: &Program, before: &[Thread], items: &Items) -> Result<(), Cause>
-    requires before { Meets (header_premises program.now (map view_thread before.now)) }
-    requires made { IsProgram program.now }
+/// Judges the items of a header, beside what those above it hold.
+fn judge_items(program: &Program, held: &Holding, items: &Items) -> Result<(), Cause>
+    requires within { bags.IsWithin (bag held.now) (limit program.now) }
     requires items { IsItems program.now (view_items items.now) }
-    ensures { (t : Spec) → t.items ≡ view_items items.now → Tests result (header_premises program.now (map view_thread before.now ++ t ∷ [])) }
+    ensures { (ts : List Thread) → bags.IsSameBag (headers_bag ts) (bags.plus (bag held.now) (bags.bag_of (view_items items.now))) → Tests result (header_premises program.now ts) }
 {
-    if !shares_fit(program, before, &items.shares) {
+    if !shares_fit(program, held, &items.shares) {
         return Err(Cause::OverShares);
     }
-    if !tokens_fit(before, &items.tokens) {
+    if !tokens_fit(held, &items.tokens) {
         return Err(Cause::TokenTwice);
     }
-    if credits_held(before) + items.credits > program.completion_entries() {
+    if !fits(held.credits(), items.credits, program.completion_entries()) {
         return Err(Cause::OverCredits);
     }
     Ok(())
 }
 
-/// Judges the header of a thread, where those before it were judged: all of them hold together at most what there is,
-/// or this is the least premise that fails.
-pub fn judge_header(program: &Program, thread: u32) -> Result<(), Cause>
+/// Judges the header of a thread, where those above it were judged and what they hold together is held: all of them hold
+/// together at most what there is, and all of it is held from now on, or this is the least premise that fails.
+pub fn judge_header(program: &Program, thread: u32, held: &mut Holding) -> Result<(), Cause>
     requires there { thread < length program.now.threads }
     requires before { Meets (header_premises program.now (take thread program.now.threads)) }
-    ensures { Tests result (header_premises program.now (take (thread + 1) program.now.threads)) }
+    requires held { Holds held.old program.now (headers_bag (take thread program.now.threads)) }
+    ensures tests { Tests result (header_premises program.now (take (thread + 1) program.now.threads)) }
+    ensures held { OnOk result (Holds held.new program.now (headers_bag (take (thread + 1) program.now.threads))) }
 {
-    let threads = program.threads();
-    let place = thread as usize;
-    judge_items(program, &threads[..place], &threads[place].items)
+    let items = &program.threads()[thread as usize].items;
+    judge_items(program, held, items)?;
+    held.gain(items);
+    Ok(())
 }

@@ -1,15 +1,17 @@
 //! The verifier.
 
-ghost use Rattle.std.specs.Prelude.{◌≡◌, ◌<◌, length, slice_get, Some, take};
+ghost use Rattle.std.specs.Prelude.{◌≡◌, ◌+◌, ◌<◌, length, slice_get, Some, take, OnOk};
 ghost use Rattle.rc_lang.specs.Program.{Thread};
-ghost use Rattle.rc_rules.specs.Labellings.{header_premises};
+ghost use Rattle.rc_rules.specs.Labellings.{header_premises, headers_bag};
 ghost use Rattle.rc_rules.specs.Premises.{Meets};
+ghost use Rattle.rc_split.specs.Holdings.{Holds};
 ghost use Rattle.rc_verify.specs.Answer.{IsJudged, IsWalked, Verifies};
 
 use crate::headers::judge_header;
 use crate::labels::Labels;
 use crate::refusal::{Refusal, VerifyFault};
 use rc_lang::program::Program;
+use rc_split::holding::Holding;
 use std::alloc::Global;
 
 /// Walks over the lines of a thread, and answers the first that the rules refuse.
@@ -37,19 +39,22 @@ fn walk_thread<'a>(
     }
 }
 
-/// Judges a thread, where the headers before it were judged: its header, and then its lines.
+/// Judges a thread, where the headers before it were judged and what they hold is held: its header, and then its lines.
 fn judge_thread<'a>(
     labels: &mut Labels<'a>,
+    held: &mut Holding,
     program: &'a Program,
     thread: u32,
 ) -> Result<(), Refusal>
     requires there { thread < length program.now.threads }
     requires of { labels.old.program ≡ program.now }
     requires before { Meets (header_premises program.now (take thread program.now.threads)) }
+    requires held { Holds held.old program.now (headers_bag (take thread program.now.threads)) }
     ensures judged { (t : Thread) → slice_get program.now.threads thread ≡ Some t → IsJudged program.now thread t result }
     ensures same { labels.new.program ≡ program.now }
+    ensures held { OnOk result (Holds held.new program.now (headers_bag (take (thread + 1) program.now.threads))) }
 {
-    if let Err(cause) = judge_header(program, thread) {
+    if let Err(cause) = judge_header(program, thread, held) {
         let line = program.threads()[thread as usize].line;
         return Err(Refusal { line, cause });
     }
@@ -67,8 +72,9 @@ pub fn verify(_alloc: Global, program: &Program) -> Result<(), VerifyFault>
         return Ok(());
     }
     let mut labels = Labels::new(program, 0);
+    let mut held = Holding::nothing(program);
     for thread in 0..count {
-        if let Err(refusal) = judge_thread(&mut labels, program, thread) {
+        if let Err(refusal) = judge_thread(&mut labels, &mut held, program, thread) {
             return Err(VerifyFault::Refused(refusal));
         }
     }
