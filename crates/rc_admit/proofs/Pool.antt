@@ -8,8 +8,7 @@ use Rattle.std.proofs.lemmas.List.Elements.{All-get_or, All-nil}
 use Rattle.rc_lang.specs.declared.program.Share.{Share}
 use Rattle.rc_lang.specs.Program.{IsItems, IsList, IsProgram, Items, Program, Thread, items_at, lists_in, lists_of, no_items, shares_at, token_place}
 use Rattle.rc_split.specs.Bags.{Part, ShareOf, TokenOf, Credit, bag_of}
-use Rattle.rc_split.specs.Holdings.{mark_at}
-use Rattle.rc_split.specs.Pools.{Pool, empty_pool, overfills, pooled}
+use Rattle.rc_split.specs.Pools.{Pool, empty_pool, mark_at, overfills, pooled}
 use Rattle.rc_split.proofs.PoolBags.{one_share, one_token, shares_in, tokens_in}
 use Rattle.rc_rules.specs.Rules.{has_room, is_within_limit, limit}
 

@@ -19,7 +19,7 @@ use Rattle.rc_rules.specs.declared.mode.Peeked.TheVariants.{Unseen, Sees, SeesOt
 use Rattle.rc_rules.specs.declared.mode.Slot.{Slot}
 use Rattle.rc_rules.specs.declared.mode.Slot.TheVariants.{Closed, Vacant, Prepared}
 use Rattle.rc_rules.specs.declared.rule.Rule.{Rule}
-use Rattle.rc_rules.specs.declared.rule.Rule.TheVariants.{Do, Put, Lock, Release, If, Take, Case, Other, Nothing, Break}
+use Rattle.rc_rules.specs.declared.rule.Rule.TheVariants.{Do, Put, Lock, Release, If, Take, Case, Other, Nothing}
 use Rattle.rc_rules.specs.Labels.{Label, Dead, Live, Weaker, WeakerMode, IsStrongest, IsSame}
 use Rattle.rc_rules.specs.OneRule.{rule_effect}
 use Rattle.rc_rules.specs.Rules.{same_kind, same_slot, if_locked, op_effect, goes, test_mode, with_peeked, case_at, can_take, take_effect, agree_modes, agree, agree_all}
@@ -170,7 +170,6 @@ rule_alike P (Take items) a b m n l = take_alike P (view_items items.now) a b m 
 rule_alike P (Case u) a b m n l = case_alike u a b m n l
 rule_alike P Other a b m n l = with_alike SeesOther SeesOther m n l
 rule_alike P Nothing a b m n l = with_alike Unseen Unseen m n l
-rule_alike P (Break releases) a b m n l = l
 
 goes_dead : (P : Program) (rule : Rule) (s : Label) → Alike s Dead
 goes_dead P rule Dead = tt

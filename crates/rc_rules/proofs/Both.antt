@@ -3,16 +3,20 @@ use Rattle.std.proofs.Common.{◌≡◌, ℕ, Bool, true, false, List, [], ◌�
 use Rattle.std.specs.Prelude.{ℤ, pos}
 use Rattle.std.specs.Ordering.{int_eq}
 use Rattle.std.proofs.lemmas.Bool.{and_parts}
+use Rattle.rc_lang.specs.declared.lines.Op.{Op}
+use Rattle.rc_lang.specs.declared.lines.Op.TheVariants as ops
 use Rattle.rc_lang.specs.Program.{Program}
 use Rattle.rc_rules.specs.declared.cause.Cause.{Cause}
+use Rattle.rc_rules.specs.declared.mode.Mode.{Mode}
+use Rattle.rc_split.specs.Bags.{Part}
 use Rattle.rc_rules.specs.declared.flag.Write.{Write}
 use Rattle.rc_rules.specs.declared.flag.Write.TheVariants.{Number}
 use Rattle.rc_rules.specs.declared.rule.Rule.{Rule}
 use Rattle.rc_rules.specs.Causes.{premise_number}
 use Rattle.rc_rules.specs.Labels.{Label, Dead, Live, Weaker, IsStrongest, IsSame}
-use Rattle.rc_rules.specs.OneRule.{rule_premises, rule_effect, MayFollow}
+use Rattle.rc_rules.specs.OneRule.{rule_premises, rule_effect, only_computes, MayFollow}
 use Rattle.rc_rules.specs.Premises.{Premise, Meets, FailsFirst, Tests}
-use Rattle.rc_rules.specs.Rules.{asks, asks_both, goes}
+use Rattle.rc_rules.specs.Rules.{asks, asks_both, goes, op_premises, op_effect}
 use Rattle.rc_rules.specs.Sides.{gate, brings, turns}
 use Rattle.rc_rules.specs.States.{Side, State, side_label, label_of, program_of, is_live, IsState, GivesSide, Gives, Becomes, OnBoth, AgreeOnLock}
 use Rattle.rc_rules.proofs.Alike.{Alike, Joined, alike, alike_lock, alike_slot, alike_sym, same_alike, goes_alike, joins_alike, agree_swap}
@@ -187,3 +191,40 @@ met_kept x y f g a b c d s t e q h k l j m n p r =
     (alike_sym (side_label b) (side_label c) (alike (side_label b) (side_label c) (l' false true) (agree_swap (side_label c) (side_label b) cb.0)))
     (alike (side_label c) (side_label d) k.lock k.slot) in
     record { program = r ∙ h.program ∙ sym p; lock = alike_lock _ _ w; slot = alike_slot _ _ w }
+
+-- ---- statements that only compute
+
+module _ (P : Program) where
+  computes : (op : Op) (a : Part → ℕ) (m : Mode) → only_computes op ≡ true → (op_premises P a m op ≡ []) × (op_effect P a m op ≡ Live a m)
+  computes (ops.Set x n) a m e = (refl, refl)
+  computes (ops.Assign x y) a m e = (refl, refl)
+  computes (ops.Add x y z) a m e = (refl, refl)
+  computes (ops.Subtract x y z) a m e = (refl, refl)
+  computes (ops.Print x) a m e = (refl, refl)
+  computes (ops.Load x b i) a m e = absurd (cc)
+  computes (ops.Store b i x) a m e = absurd (cc)
+  computes (ops.Fill b x) a m e = absurd (cc)
+  computes ops.GetSqe a m e = absurd (cc)
+  computes (ops.PrepRead fd b len off) a m e = absurd (cc)
+  computes (ops.PrepWrite fd b len off k) a m e = absurd (cc)
+  computes (ops.PrepFsync fd datasync) a m e = absurd (cc)
+  computes ops.PrepNop a m e = absurd (cc)
+  computes (ops.SetData64 u) a m e = absurd (cc)
+  computes (ops.Submit x) a m e = absurd (cc)
+  computes (ops.SubmitAndWait x n) a m e = absurd (cc)
+  computes ops.CqeSeen a m e = absurd (cc)
+
+  asks_nothing : (op : Op) (s : Label) → only_computes op ≡ true → asks s (λ b m. op_premises P b m op) ≡ []
+  asks_nothing op Dead e = refl
+  asks_nothing op (Live a m) e = (computes op a m e).0
+
+  stays_as : (op : Op) (s : Label) → only_computes op ≡ true → IsStrongest s (goes s (λ b m. op_effect P b m op) ∷ [])
+  stays_as op Dead e = strongest Dead Dead tt
+  stays_as op (Live a m) e = subst (λ t. IsStrongest (Live a m) (t ∷ [])) (sym (computes op a m e).1) (strongest (Live a m) (Live a m) (λ p. refl, refl))
+
+-- Such a statement leaves a state as it is.
+pub computes_only : (x : State) (op : Op) → only_computes op ≡ true → Meets (asks_both (label_of x) (λ z b m. op_premises (program_of x) b m op)) × Becomes x x (λ z. goes (label_of x z) (λ b m. op_effect (program_of x) b m op) ∷ [])
+computes_only x op e = (
+  rw (asks_nothing (program_of x) op (label_of x true) e, asks_nothing (program_of x) op (label_of x false) e) tt,
+  record { each = λ z. stays_as (program_of x) op (label_of x z) e; of = record { program = refl; flag = refl } },
+)

@@ -17,7 +17,7 @@ use Rattle.rc_rules.specs.declared.mode.Mode.TheVariants.{Unlocked, Locked}
 use Rattle.rc_rules.specs.declared.mode.Peeked.{Peeked}
 use Rattle.rc_rules.specs.declared.mode.Peeked.TheVariants.{Unseen, Sees, SeesOther}
 use Rattle.rc_rules.specs.declared.rule.Rule.{Rule}
-use Rattle.rc_rules.specs.declared.rule.Rule.TheVariants.{Do, Put, Lock, Release, If, Take, Case, Other, Nothing, Break}
+use Rattle.rc_rules.specs.declared.rule.Rule.TheVariants.{Do, Put, Lock, Release, If, Take, Case, Other, Nothing}
 use Rattle.rc_rules.specs.Labels.{Label, Dead, Live, IsSame}
 use Rattle.rc_rules.specs.OneRule.{rule_premises, rule_effect, MayFollow}
 use Rattle.rc_rules.specs.Premises.{Meets}
@@ -105,7 +105,6 @@ rule_free P a m (Take items) f h = take_free P a m (view_items items.now) f
 rule_free P a m (Case u) f h = case_free P a u m h
 rule_free P a m Other f h = with_free P a SeesOther m tt
 rule_free P a m Nothing f h = with_free P a Unseen m tt
-rule_free P a m (Break releases) f h = f
 
 pub mode_free : (h : Holding) (o : Option Mode) (m : Mode) → o ≡ Some m → IsFree h.program (label_in (live_of h o)) → IsFreeIn h.program (bag h) m
 mode_free h o m e f = subst (λ x. IsFree h.program (label_in (live_of h x))) e f

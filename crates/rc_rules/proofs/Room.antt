@@ -7,7 +7,8 @@ use Rattle.rc_lang.specs.Program.{Program, Items, IsItems, IsProgram, shares_at}
 use Rattle.rc_split.specs.Bags.{Part, ShareOf, TokenOf, Credit, bag_of, plus, IsWithin}
 use Rattle.rc_split.specs.Holdings.{Holding, bag, AreDeclared}
 use Rattle.rc_split.proofs.Named.{all_at, few_shares, no_share, share_at, share_named, token_named}
-use Rattle.rc_split.proofs.PoolBags.{mark_most, one_token, tokens_in}
+use Rattle.rc_split.proofs.PoolBags.{one_token, tokens_in}
+use Rattle.rc_split.proofs.Tokens.{token_most}
 use Rattle.rc_rules.specs.declared.mode.Mode.{Mode}
 use Rattle.rc_rules.specs.declared.mode.Mode.TheVariants.{Unlocked, Locked}
 use Rattle.rc_rules.specs.declared.mode.Peeked.{Peeked}
@@ -100,7 +101,7 @@ module _ (P : Program) (held : Part → ℕ) (items : Items) (of : IsItems P ite
 -- No token is held twice.
 pub with_once : (h : Holding) (items : Items) (m : Mode) → IsItems h.program items → can_take h.program (bag h) m items ≡ true → (u : ℕ) → bag h (TokenOf u) + bag_of items (TokenOf u) ≤ 1
 with_once h items m of e u = elim (room h.program (bag h) items of (and_parts (has_room h.program (bag h) items) (not (names_peeked_in items.tokens m)) e).0 (TokenOf u)) [
-  | inl x ↦ let o : bag h (TokenOf u) ≤ 1 = mark_most h.marks _ in omega (arith, x, o)
+  | inl x ↦ let o : bag h (TokenOf u) ≤ 1 = token_most h.marks _ in omega (arith, x, o)
   | inr x ↦ x
 ]
 

@@ -1,15 +1,17 @@
 -- Lines that are one rule for each side of a state.
-use Rattle.std.specs.Prelude.{ℕ, List, []}
+use Rattle.std.specs.Prelude.{ℕ, Bool, true, false, List, []}
+use Rattle.rc_lang.specs.declared.lines.Op.{Op}
+use Rattle.rc_lang.specs.declared.lines.Op.TheVariants as ops
 use Rattle.rc_lang.specs.Parts.{view_items}
 use Rattle.rc_lang.specs.Program.{Program, DeclaresToken, IsItems}
 use Rattle.rc_split.specs.Bags.{Part}
 use Rattle.rc_rules.specs.declared.mode.Mode.{Mode}
 use Rattle.rc_rules.specs.declared.mode.Peeked.TheVariants.{Unseen, SeesOther}
 use Rattle.rc_rules.specs.declared.rule.Rule.{Rule}
-use Rattle.rc_rules.specs.declared.rule.Rule.TheVariants.{Do, Put, Lock, Release, If, Take, Case, Other, Nothing, Break}
+use Rattle.rc_rules.specs.declared.rule.Rule.TheVariants.{Do, Put, Lock, Release, If, Take, Case, Other, Nothing}
 use Rattle.rc_rules.specs.Labels.{Label, Live}
 use Rattle.rc_rules.specs.Premises.{Premise}
-use Rattle.rc_rules.specs.Rules.{op_premises, op_effect, put_premises, put_effect, entered, may_release, released, test_premises, test_mode, take_premises, take_effect, peek_premises, peek_at, case_at, may_break}
+use Rattle.rc_rules.specs.Rules.{op_premises, op_effect, put_premises, put_effect, entered, may_release, released, test_premises, test_mode, take_premises, take_effect, peek_premises, peek_at, case_at}
 use Rattle.rc_rules.specs.States.{IsSmall}
 
 abbrev pub rule_premises : Program → Rule → (Part → ℕ) → Mode → List (ℕ × Premise)
@@ -22,10 +24,8 @@ rule_premises P (Take items) bag m = take_premises m
 rule_premises P (Case u) bag m = peek_premises m
 rule_premises P Other bag m = peek_premises m
 rule_premises P Nothing bag m = peek_premises m
-rule_premises P (Break releases) bag m = may_break P releases m
 
--- Of a test it is what is known of the ring; what a take brings is told by its own rule. A break leaves what is held,
--- which then goes to the end of its loop.
+-- Of a test it is what is known of the ring; what a take brings is told by its own rule.
 abbrev pub rule_effect : Program → Rule → (Part → ℕ) → Mode → Label
 rule_effect P (Do op) bag m = op_effect P bag m op
 rule_effect P (Put items) bag m = put_effect bag m (view_items items.now)
@@ -36,7 +36,15 @@ rule_effect P (Take items) bag m = take_effect P bag m (view_items items.now)
 rule_effect P (Case u) bag m = case_at u (Live bag m)
 rule_effect P Other bag m = peek_at SeesOther (Live bag m)
 rule_effect P Nothing bag m = peek_at Unseen (Live bag m)
-rule_effect P (Break releases) bag m = Live bag m
+
+-- whether a statement only computes: it asks for nothing, and what is held and known of the ring stays
+abbrev pub only_computes : Op → Bool
+only_computes (ops.Set x n) = true
+only_computes (ops.Assign x y) = true
+only_computes (ops.Add x y z) = true
+only_computes (ops.Subtract x y z) = true
+only_computes (ops.Print x) = true
+only_computes _ = false
 
 -- what a rule is handed: counts that stay small where a request is reaped or items are taken, those of a program, and a
 -- declared token

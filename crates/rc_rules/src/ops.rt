@@ -2,6 +2,7 @@
 
 ghost use Rattle.std.specs.Prelude.{◌≡◌, ◌≤◌, ◌^◌, ℕ, MatchResult, true};
 ghost use Rattle.rc_lang.specs.Program.{IsProgram, IsTokenKind};
+ghost use Rattle.rc_rules.specs.OneRule.{only_computes};
 ghost use Rattle.rc_rules.specs.Rules as rules;
 ghost use Rattle.rc_rules.specs.States as states;
 ghost use Rattle.rc_split.specs.Bags as bags;
@@ -44,6 +45,20 @@ pub fn step(holding: &mut Holding, mode: Mode, op: &Op) -> Result<Mode, Cause>
         Op::Add(_, _, _) => Ok(mode),
         Op::Subtract(_, _, _) => Ok(mode),
         Op::Print(_) => Ok(mode),
+    }
+}
+
+/// Whether a statement only computes: it asks for nothing, and what is held and known of the ring stays.
+pub fn only_computes(op: &Op) -> bool
+    ensures { result ≡ only_computes op.now }
+{
+    match *op {
+        Op::Set(_, _) => true,
+        Op::Assign(_, _) => true,
+        Op::Add(_, _, _) => true,
+        Op::Subtract(_, _, _) => true,
+        Op::Print(_) => true,
+        _ => false,
     }
 }
 

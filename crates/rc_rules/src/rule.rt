@@ -37,8 +37,6 @@ pub enum Rule<'a> {
     Other,
     /// `none {`, and what is known behind an arm.
     Nothing,
-    /// `break`, which may release the lock. What is held stays, and goes on elsewhere.
-    Break(bool),
 }
 
 /// What is known behind the line, or None where nothing comes there.
@@ -64,10 +62,6 @@ pub fn follow(holding: &mut Holding, mode: Mode, rule: Rule) -> Result<Option<Mo
         Rule::Case(user_data) => in_case(holding, mode, user_data),
         Rule::Other => Ok(Some(blocks::in_arm(Peeked::SeesOther, mode)?)),
         Rule::Nothing => Ok(Some(blocks::in_arm(Peeked::Unseen, mode)?)),
-        Rule::Break(releases) => {
-            blocks::may_break(holding.program(), releases, mode)?;
-            Ok(Some(mode))
-        }
     }
 }
 

@@ -11,11 +11,12 @@ ghost use Rattle.rc_rules.specs.Readers.{has_part};
 ghost use Rattle.rc_rules.specs.Rules as rules;
 ghost use Rattle.rc_rules.specs.States as spec;
 ghost use Rattle.rc_rules.specs.declared.mode.Mode.TheVariants as modes;
+ghost use Rattle.rc_rules.specs.declared.mode.Peeked.TheVariants as peeks;
 ghost use Rattle.rc_split.specs.Bags.{Credit, ShareOf, TokenOf, bag_on, bag_of};
 
 use crate::blocks;
 use crate::cause::Cause;
-use crate::mode::Mode;
+use crate::mode::{Mode, Peeked};
 use crate::rule::{Rule, follow};
 use rc_lang::program::{Items, Program};
 use rc_split::holding::Holding;
@@ -93,6 +94,14 @@ impl<'a> Side<'a> {
     pub fn die(&mut self)
         ensures { self.new ≡ record { program = self.old.program; live = None } }
     {
+        self.mode = None;
+    }
+
+    /// Becomes a side of the program that nothing reaches.
+    pub fn die_in(&mut self, program: &'a Program)
+        ensures { self.new ≡ record { program = program.now; live = None } }
+    {
+        self.holding.belong_to(program);
         self.mode = None;
     }
 
@@ -178,6 +187,37 @@ impl<'a> Side<'a> {
             return Ok(());
         };
         blocks::may_loop(&self.holding, items, zero, mode, cause)
+    }
+
+    /// Whether the thread may leave its loop here. Where nothing reaches the side it may.
+    pub fn may_break(&self, releases: bool) -> Result<(), Cause>
+        ensures { Tests result (rules.asks (spec.side_label self.now) (λ bag m. rules.may_break self.now.program releases m)) }
+    {
+        let Some(mode) = self.mode else {
+            return Ok(());
+        };
+        blocks::may_break(self.holding.program(), releases, mode)
+    }
+
+    /// Whether the arms of a peek may be entered here. Where nothing reaches the side they may.
+    pub fn may_peek(&self) -> Result<(), Cause>
+        ensures { Tests result (rules.asks (spec.side_label self.now) (λ bag m. rules.peek_premises m)) }
+    {
+        let Some(mode) = self.mode else {
+            return Ok(());
+        };
+        blocks::in_arm(Peeked::Unseen, mode)?;
+        Ok(())
+    }
+
+    /// What the front completion is isn't known any more.
+    pub fn forget_peeked(&mut self)
+        ensures label { IsSame (spec.side_label self.new) (rules.peek_at peeks.Unseen (spec.side_label self.old)) }
+        ensures of { self.new.program ≡ self.old.program }
+    {
+        if let Some(Mode::Locked(inside)) = &mut self.mode {
+            inside.peeked = Peeked::Unseen;
+        }
     }
 
     /// What holds on this side at the top of a loop that is entered with this known of the ring.

@@ -16,14 +16,14 @@ ghost use Rattle.rc_rules.specs.Sides as sides;
 ghost use Rattle.rc_rules.specs.States as spec;
 ghost use Rattle.rc_rules.specs.declared.mode.Peeked.TheVariants as peeks;
 
-use crate::blocks;
 use crate::cause::Cause;
 use crate::flag::{Write, is_zero, side_goes, write_of};
 use crate::mode::Mode;
 use crate::premises::lesser;
 use crate::rule::Rule;
 use crate::side::Side;
-use rc_lang::lines::{Comparison, Stmt, Test};
+use crate::{blocks, ops};
+use rc_lang::lines::{Comparison, Op, Stmt, Test};
 use rc_lang::program::{Items, Program};
 use std::alloc::{AllocError, Global};
 use std::marker::Model;
@@ -57,7 +57,7 @@ pub fn transfer(state: &mut State, stmt: &Stmt) -> Result<(), Cause>
     let Stmt::Do(op) = stmt else {
         return Ok(());
     };
-    state.follow(Rule::Do(*op))?;
+    state.follow_op(op)?;
     state.turn(write_of(state.flag, *op));
     Ok(())
 }
@@ -141,6 +141,16 @@ impl<'a> State<'a> {
         self.other.die();
     }
 
+    /// Becomes a state of the same program and thread as another, that nothing reaches.
+    pub fn die_as(&mut self, other: &State<'a>)
+        ensures dead { spec.OnBoth (λ s. s ≡ Dead) self.new }
+        ensures of { spec.IsOfSame self.new other.now }
+    {
+        self.flag = other.flag;
+        self.zero.die_in(other.program());
+        self.other.die_in(other.program());
+    }
+
     /// The program of the state.
     pub fn program(&self) -> &'a Program
         ensures { result.now ≡ spec.program_of self.now }
@@ -188,7 +198,19 @@ impl<'a> State<'a> {
         self.follow_both(rule)
     }
 
+    /// Goes over a statement on each side by itself. One that only computes asks for nothing and leaves what is held.
+    fn follow_op(&mut self, op: &Op) -> Result<(), Cause>
+        requires { spec.OnBoth spec.IsSmall self.old }
+        ensures { spec.Gives self.old self.new result (rules.asks_both (spec.label_of self.old) (λ z bag m. rules.op_premises (spec.program_of self.old) bag m op.now)) (λ z. rules.goes (spec.label_of self.old z) (λ bag m. rules.op_effect (spec.program_of self.old) bag m op.now) ∷ []) }
+    {
+        if ops::only_computes(op) {
+            return Ok(());
+        }
+        self.follow(Rule::Do(*op))
+    }
+
     /// A rule tests and changes at once, so each side is changed on a copy until both sides meet their premises.
+    #[inline(never)]
     fn follow_both(&mut self, rule: Rule) -> Result<(), Cause>
         requires { spec.OnBoth (one.MayFollow (spec.program_of self.old) rule) self.old }
         ensures { spec.Gives self.old self.new result (rules.asks_both (spec.label_of self.old) (λ z bag m. one.rule_premises (spec.program_of self.old) rule.entry bag m)) (λ z. rules.goes (spec.label_of self.old z) (λ bag m. one.rule_effect (spec.program_of self.old) rule.entry bag m) ∷ []) }
@@ -261,6 +283,13 @@ impl<'a> State<'a> {
         self.follow(Rule::Release)
     }
 
+    /// Whether the arms of a peek may be entered here.
+    pub fn may_peek(&self) -> Result<(), Cause>
+        ensures { Tests result (rules.asks_both (spec.label_of self.now) (λ z bag m. rules.peek_premises m)) }
+    {
+        lesser(self.zero.may_peek(), self.other.may_peek())
+    }
+
     /// `case U {`, on the state before the arms; whether the arm can be reached. Where the token is held it can't: no
     /// request under it is in flight. The token is declared.
     pub fn arm_case(&mut self, user_data: u64) -> Result<bool, Cause>
@@ -277,6 +306,14 @@ impl<'a> State<'a> {
         ensures { spec.Gives self.old self.new result (rules.asks_both (spec.label_of self.old) (λ z bag m. rules.peek_premises m)) (λ z. rules.peek_at peeks.SeesOther (spec.label_of self.old z) ∷ []) }
     {
         self.follow(Rule::Other)
+    }
+
+    /// Behind an arm, and behind a break that keeps the lock, nothing is peeked.
+    pub fn forget_peeked(&mut self)
+        ensures { spec.Becomes self.old self.new (λ z. rules.peek_at peeks.Unseen (spec.label_of self.old z) ∷ []) }
+    {
+        self.zero.forget_peeked();
+        self.other.forget_peeked();
     }
 
     /// `none {`, on the state before the arms, and what is known behind an arm: nothing is peeked.
@@ -298,67 +335,6 @@ impl<'a> State<'a> {
         ensures { spec.Gives self.old self.new result (rules.asks_both (spec.label_of self.old) (λ z bag m. rules.test_premises m (tests.SpaceAtLeast n))) (λ z. rules.goes (spec.label_of self.old z) (λ bag m. Live bag (rules.test_mode (spec.program_of self.old) (tests.SpaceAtLeast n) m)) ∷ []) }
     {
         self.follow(Rule::If(Test::SpaceAtLeast(n)))
-    }
-
-    /// Whether each side holds what a loop's items say of it; the cause says whether at the loop's top or at its end.
-    fn may_loop(&self, items: &Items, cause: Cause) -> Result<(), Cause>
-        ensures { Tests result (rules.asks_both (spec.label_of self.now) (λ z bag m. rules.may_loop (spec.program_of self.now) (premise_number cause) (view_items items.now) z bag m)) }
-    {
-        lesser(
-            self.zero.may_loop(items, true, cause),
-            self.other.may_loop(items, false, cause),
-        )
-    }
-
-    /// `loop keeps ITEMS {`: behind it exactly the items are held, on each side what they say of it. A loop is turned
-    /// back to with any flag, so where there is one both sides are there. The items are those of a loop of the thread.
-    pub fn enter_loop(&mut self, items: &Items) -> Result<(), Cause>
-        requires { IsList (spec.program_of self.old) (view_items items.now) }
-        ensures { spec.Gives self.old self.new result (rules.asks_both (spec.label_of self.old) (λ z bag m. rules.may_loop (spec.program_of self.old) 13 (view_items items.now) z bag m)) (λ z. sides.brings (λ y. sides.turns (sides.forgets self.old.flag) y z) (λ s. rules.top (spec.program_of self.old) (view_items items.now) z s) (spec.label_of self.old)) }
-    {
-        self.may_loop(items, Cause::LoopEntry)?;
-        if let Some(mode) = self.mode() {
-            self.enter(items, mode);
-        }
-        Ok(())
-    }
-
-    /// What holds at the top of a loop that a state with this known of the ring enters.
-    fn enter(&mut self, items: &Items, mode: Mode)
-        requires made { IsList (spec.program_of self.old) (view_items items.now) }
-        requires mode { spec.mode_of self.old ≡ Some mode }
-        ensures { spec.Becomes self.old self.new (λ z. sides.brings (λ y. sides.turns (sides.forgets self.old.flag) y z) (λ s. rules.top (spec.program_of self.old) (view_items items.now) z s) (spec.label_of self.old)) }
-    {
-        match self.flag {
-            None => {
-                self.zero.keep(items, true);
-                self.other.keep(items, false);
-            }
-            Some(_) => {
-                self.zero.enter(items, true, mode);
-                self.other.enter(items, false, mode);
-            }
-        }
-    }
-
-    /// The closing brace of a loop. Nothing goes on behind it from here, so the state is dead.
-    pub fn loop_end(&mut self, items: &Items) -> Result<(), Cause>
-        ensures { spec.Gives self.old self.new result (rules.asks_both (spec.label_of self.old) (λ z bag m. rules.may_loop (spec.program_of self.old) 14 (view_items items.now) z bag m)) (λ z. []) }
-    {
-        self.may_loop(items, Cause::LoopBody)?;
-        self.die();
-        Ok(())
-    }
-
-    /// `break`, which may release the lock. The state is dead behind it. What goes to the loop's end is a copy made
-    /// before. Unless the state is dead, it is locked where the lock is released.
-    pub fn break_out(&mut self, releases: bool) -> Result<(), Cause>
-        requires { releases ≡ true → spec.OnBoth spec.IsLocked self.old }
-        ensures { spec.Gives self.old self.new result (rules.asks_both (spec.label_of self.old) (λ z bag m. rules.may_break (spec.program_of self.old) releases m)) (λ z. []) }
-    {
-        self.follow(Rule::Break(releases))?;
-        self.die();
-        Ok(())
     }
 
     /// Whether the slots of all sides of both states that something reaches are at one stage. Those of one state are.
@@ -385,5 +361,6 @@ impl<'a> State<'a> {
     }
 }
 
+mod loops;
 mod pool;
 mod sides;

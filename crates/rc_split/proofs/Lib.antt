@@ -1,4 +1,5 @@
-mod Tokens
+pub mod Tokens
+mod Marks
 pub mod Turns
 mod Alike
 mod Small

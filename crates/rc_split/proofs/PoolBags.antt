@@ -6,8 +6,7 @@ use Rattle.std.proofs.lemmas.List.Sums.{sum_by-cons}
 use Rattle.rc_lang.specs.declared.program.Share.{Share}
 use Rattle.rc_lang.specs.Program.{Program, Items, token_place}
 use Rattle.rc_split.specs.Bags.{Part, ShareOf, TokenOf, Credit, bag_of, shares_alone, tokens_alone}
-use Rattle.rc_split.specs.Holdings.{mark_at}
-use Rattle.rc_split.specs.Pools.{Pool, pooled, more_shares, fewer_shares, with_mark, with_marks, with_items, without_items}
+use Rattle.rc_split.specs.Pools.{Pool, mark_at, pooled, more_shares, fewer_shares, with_mark, with_marks, with_items, without_items}
 use Rattle.rc_split.proofs.Tokens.{one_place}
 
 pub same_or_not : (i j : ℕ) → ((i ≡ j) × (nat_eq i j ≡ true)) ⊎ ((i ≡ j → ⊥) × (nat_eq i j ≡ false))
@@ -112,7 +111,7 @@ most : (b : Bool) → cond {A = ℕ} b 1 0 ≤ 1
 most true = omega arith
 most false = omega arith
 
-pub mark_most : (marks : List Bool) (x : Option ℕ) → mark_at marks x ≤ 1
+mark_most : (marks : List Bool) (x : Option ℕ) → mark_at marks x ≤ 1
 mark_most marks None = omega arith
 mark_most marks (Some i) = most (slice_index_or marks i false)
 

@@ -1,5 +1,6 @@
 -- What a `Holding` stands for: the bag that is in its rows.
-use Rattle.std.specs.Prelude.{ℕ, ◌≡◌, ◌^◌, ◌<◌, Bool, true, false, cond, List, length, Option, Some, None, nat_eq, nat_le, slice_index, slice_index_or, All}
+use Rattle.std.specs.Prelude.{ℕ, ◌≡◌, ◌/◌, ◌%◌, ◌^◌, ◌<◌, Bool, true, false, cond, List, length, Option, Some, None, nat_eq, nat_le, slice_index, All}
+use Rattle.std.specs.Int.{bit_at}
 use Rattle.rc_lang.specs.Program.{Program, IsProgram, DeclaresToken, token_place}
 use Rattle.rc_lang.specs.declared.program.Share.{Share}
 use Rattle.rc_split.specs.declared.part.Part.{Part as Given}
@@ -7,22 +8,26 @@ use Rattle.rc_split.specs.declared.part.Part.TheVariants.{Shares, Token, Credits
 use Rattle.rc_lang.specs.Program.{Items, besides}
 use Rattle.rc_split.specs.Bags.{Part, ShareOf, TokenOf, Credit, shares_bag, token_bag, credits_bag, bag_of, minus, IsWithin}
 
--- a program's shares by the numbers of its buffers, which of its tokens are held by their places, and the credits
+-- a program's shares by the numbers of its buffers, marks at the places of its tokens that are held, and the credits
 pub record Holding : Type 0 where
   pub program : Program
   pub shares : List ℕ
-  pub marks : List Bool
+  pub marks : List ℕ
   pub credits : ℕ
 
+-- whether there is a mark at a place: each of four words has each fourth place, from its lowest bit on
+abbrev pub is_marked : List ℕ → ℕ → Bool
+is_marked words place = nat_eq (bit_at (slice_index words (place % 4)) (place / 4)) 1
+
 -- 1 at the place of a token that is held
-abbrev pub mark_at : List Bool → Option ℕ → ℕ
-mark_at marks None = 0
-mark_at marks (Some place) = cond (slice_index_or marks place false) 1 0
+abbrev pub token_at : List ℕ → Option ℕ → ℕ
+token_at words None = 0
+token_at words (Some place) = cond (is_marked words place) 1 0
 
 -- how many of each part are held
 abbrev pub bag : Holding → Part → ℕ
 bag h (ShareOf b) = slice_index h.shares b
-bag h (TokenOf u) = mark_at h.marks (token_place h.program.tokens u)
+bag h (TokenOf u) = token_at h.marks (token_place h.program.tokens u)
 bag h Credit = h.credits
 
 -- Every count is below 2^20, and the program was made.

@@ -1,10 +1,9 @@
 -- The pool: what threads put where each of them can take it, under the lock.
-use Rattle.std.specs.Prelude.{ℕ, ◌+◌, ◌-◌, Bool, true, false, ◌&&◌, ◌||◌, List, fold, replicate, Option, Some, None, nat_le, nat_lt, slice_index, slice_set}
+use Rattle.std.specs.Prelude.{ℕ, ◌+◌, ◌-◌, Bool, true, false, cond, ◌&&◌, ◌||◌, List, fold, replicate, Option, Some, None, nat_le, nat_lt, slice_index, slice_index_or, slice_set}
 use Rattle.std.specs.List.{list_all, list_any}
 use Rattle.rc_lang.specs.declared.program.Share.{Share}
 use Rattle.rc_lang.specs.Program.{Program, Items, shares_at, token_place}
 use Rattle.rc_split.specs.Bags.{Part, ShareOf, TokenOf, Credit}
-use Rattle.rc_split.specs.Holdings.{mark_at}
 
 -- shares by the numbers of their buffers, whether a token is there by its place among the program's, and credits
 pub record Pool : Type 0 where
@@ -14,6 +13,11 @@ pub record Pool : Type 0 where
 
 abbrev pub empty_pool : Pool
 empty_pool = record { shares = replicate 64 0; marks = replicate 256 false; credits = 0 }
+
+-- 1 at the place of a token that is there
+abbrev pub mark_at : List Bool → Option ℕ → ℕ
+mark_at marks None = 0
+mark_at marks (Some place) = cond (slice_index_or marks place false) 1 0
 
 -- how many of each part are in the pool
 abbrev pub pooled : Program → Pool → Part → ℕ

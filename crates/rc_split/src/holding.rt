@@ -13,13 +13,22 @@ use rc_lang::program::{Items, Program, Share};
 use std::alloc::{AllocError, Global};
 use std::marker::Model;
 
+/// How many of each part are held, apart from the program, so that one copy takes all.
+#[derive(Clone, Copy, Drop)]
+struct Rows {
+    /// By the numbers of the buffers.
+    shares: [u32; 64],
+    /// Marks at the places of the tokens, as bits, so that a copy is small. Neighbours stand in different words, so that
+    /// one needn't wait until the other is written.
+    marks: [u64; 4],
+    credits: u32,
+}
+
 /// What a thread holds at some point of a program.
 #[derive(Drop)]
 pub struct Holding<'a> {
     program: &'a Program,
-    shares: [u32; 64],
-    marks: [bool; 256],
-    credits: u32,
+    rows: Rows,
 }
 
 impl<'a> Model for Holding<'a> {
@@ -27,9 +36,9 @@ impl<'a> Model for Holding<'a> {
 
     ghost Value = { spec.Holding };
 
-    ghost view = { λ h. record { program = h.program.now; shares = h.shares; marks = h.marks; credits = h.credits } };
+    ghost view = { λ h. record { program = h.program.now; shares = h.rows.shares; marks = h.rows.marks; credits = h.rows.credits } };
 
-    ghost invariant = { λ h. spec.IsSound (record { program = h.program.now; shares = h.shares; marks = h.marks; credits = h.credits }) };
+    ghost invariant = { λ h. spec.IsSound (record { program = h.program.now; shares = h.rows.shares; marks = h.rows.marks; credits = h.rows.credits }) };
 }
 
 impl<'a> Holding<'a> {
@@ -48,9 +57,11 @@ impl<'a> Holding<'a> {
         let _ = program.entries();
         Holding {
             program,
-            shares: [0; 64],
-            marks: [false; 256],
-            credits: 0,
+            rows: Rows {
+                shares: [0; 64],
+                marks: [0; 4],
+                credits: 0,
+            },
         }
     }
 
@@ -68,9 +79,7 @@ impl<'a> Holding<'a> {
     {
         Holding {
             program: self.program,
-            shares: self.shares,
-            marks: self.marks,
-            credits: self.credits,
+            rows: self.rows,
         }
     }
 
@@ -79,9 +88,7 @@ impl<'a> Holding<'a> {
         ensures { self.new ≡ other.now }
     {
         self.program = other.program;
-        self.shares = other.shares;
-        self.marks = other.marks;
-        self.credits = other.credits;
+        self.rows = other.rows;
     }
 
     /// Becomes a holding of this program, with the rows that it has.
@@ -108,7 +115,7 @@ impl<'a> Holding<'a> {
         match part {
             Part::Shares(buffer, count) => count <= self.shares(buffer),
             Part::Token(user_data) => self.holds_token(user_data),
-            Part::Credits(count) => count <= self.credits,
+            Part::Credits(count) => count <= self.rows.credits,
         }
     }
 
@@ -116,21 +123,21 @@ impl<'a> Holding<'a> {
     pub fn shares(&self, buffer: usize) -> u32
         ensures { result ≡ spec.bag self.now (bags.ShareOf buffer) }
     {
-        self.shares.get(buffer).copied().unwrap_or(0)
+        self.rows.shares.get(buffer).copied().unwrap_or(0)
     }
 
     /// How many credits are held.
     pub fn credits(&self) -> u32
         ensures { result ≡ spec.bag self.now bags.Credit }
     {
-        self.credits
+        self.rows.credits
     }
 
     fn holds_token(&self, user_data: u64) -> bool
         ensures { result ≡ spec.covers_part (spec.bag self.now) (Part.Token user_data) }
     {
         match self.program.token_place(user_data) {
-            Some(place) => self.marks.get(place).copied().unwrap_or(false),
+            Some(place) => rows::is_marked(&self.rows.marks, place),
             None => false,
         }
     }
@@ -254,9 +261,9 @@ impl<'a> Holding<'a> {
     fn clear(&mut self)
         ensures { spec.Holds self.new self.old.program bags.nothing }
     {
-        self.shares = [0; 64];
-        self.marks = [false; 256];
-        self.credits = 0;
+        self.rows.shares = [0; 64];
+        self.rows.marks = [0; 4];
+        self.rows.credits = 0;
     }
 
     fn give_shares(&mut self, shares: &[Share])
@@ -288,9 +295,9 @@ impl<'a> Holding<'a> {
         ensures { spec.Holds self.new self.old.program (bags.plus (spec.bag self.old) (spec.given_bag part)) }
     {
         match part {
-            Part::Shares(buffer, count) => rows::raise(&mut self.shares, buffer, count),
+            Part::Shares(buffer, count) => rows::raise(&mut self.rows.shares, buffer, count),
             Part::Token(user_data) => self.mark(user_data, true),
-            Part::Credits(count) => self.credits += count,
+            Part::Credits(count) => self.rows.credits += count,
         }
     }
 
@@ -310,10 +317,10 @@ impl<'a> Holding<'a> {
         ensures { spec.Takes self.old self.new (Part.Token user_data) result }
     {
         let place = self.program.token_place(user_data)?;
-        if !self.marks[place] {
+        if !rows::is_marked(&self.rows.marks, place) {
             return None;
         }
-        self.marks[place] = false;
+        rows::mark(&mut self.rows.marks, place, false);
         Some(())
     }
 
@@ -322,9 +329,9 @@ impl<'a> Holding<'a> {
         ensures { spec.Holds self.new self.old.program (bags.minus (spec.bag self.old) (spec.given_bag part)) }
     {
         match part {
-            Part::Shares(buffer, count) => rows::lessen(&mut self.shares, buffer, count),
+            Part::Shares(buffer, count) => rows::lessen(&mut self.rows.shares, buffer, count),
             Part::Token(user_data) => self.mark(user_data, false),
-            Part::Credits(count) => self.credits -= count,
+            Part::Credits(count) => self.rows.credits -= count,
         }
     }
 
@@ -333,7 +340,7 @@ impl<'a> Holding<'a> {
         ensures { spec.Marks self.old self.new user_data held }
     {
         if let Some(place) = self.program.token_place(user_data) {
-            rows::mark(&mut self.marks, place, held);
+            rows::mark(&mut self.rows.marks, place, held);
         }
     }
 
@@ -342,8 +349,8 @@ impl<'a> Holding<'a> {
         requires { other.now.program ≡ self.old.program }
         ensures { spec.Holds self.new self.old.program (bags.least (spec.bag self.old) (spec.bag other.now)) }
     {
-        rows::least_counts(&mut self.shares, &other.shares);
-        rows::least_marks(&mut self.marks, &other.marks);
-        self.credits = self.credits.min(other.credits);
+        rows::least_counts(&mut self.rows.shares, &other.rows.shares);
+        rows::least_marks(&mut self.rows.marks, &other.rows.marks);
+        self.rows.credits = self.rows.credits.min(other.rows.credits);
     }
 }

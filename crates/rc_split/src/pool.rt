@@ -6,8 +6,8 @@ ghost use Rattle.rc_lang.specs.Parts.{view_items};
 ghost use Rattle.rc_lang.specs.declared.program.Share as given;
 ghost use Rattle.rc_lang.specs.Program.{IsItems, shares_at, token_place};
 ghost use Rattle.rc_split.specs.Bags.{ShareOf, bag_of, shares_alone};
-ghost use Rattle.rc_split.specs.Holdings.{mark_at};
 ghost use Rattle.rc_split.specs.Pools as spec;
+ghost use Rattle.rc_split.specs.Pools.{mark_at};
 
 use crate::rows;
 use rc_lang::program::{Items, Program, Share};

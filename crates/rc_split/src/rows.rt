@@ -1,6 +1,7 @@
 //! Rows of counts and marks.
 
-ghost use Rattle.std.specs.Prelude.{◌≡◌, ◌+◌, ◌-◌, ◌^◌, ◌<◌, ◌≤◌, ℕ, cond, min, nat_eq, slice_index, slice_index_or, slice_set, false, ◌&&◌};
+ghost use Rattle.std.specs.Prelude.{◌≡◌, ◌+◌, ◌-◌, ◌^◌, ◌<◌, ◌≤◌, ℕ, cond, min, nat_eq, slice_index, slice_set, ◌&&◌};
+ghost use Rattle.rc_split.specs.Holdings as spec;
 
 /// Takes so many from the count at a place.
 pub fn lessen(counts: &mut [u32; 64], place: usize, by: u32)
@@ -30,12 +31,25 @@ pub fn raise(counts: &mut [u32; 64], place: usize, by: u32)
     counts[place] += by;
 }
 
-/// Marks a place, or takes its mark away.
-pub fn mark(marks: &mut [bool; 256], place: usize, held: bool)
+/// Whether the place is marked.
+pub fn is_marked(marks: &[u64; 4], place: usize) -> bool
     requires { place < 256 }
-    ensures { marks.new ≡ slice_set marks.old place held }
+    ensures { result ≡ spec.is_marked marks.now place }
 {
-    marks[place] = held;
+    marks[place % 4] >> (place / 4) & 1 == 1
+}
+
+/// Marks a place, or takes its mark away.
+pub fn mark(marks: &mut [u64; 4], place: usize, held: bool)
+    requires { place < 256 }
+    ensures { (k : ℕ) → spec.is_marked marks.new k ≡ cond (nat_eq place k) held (spec.is_marked marks.old k) }
+{
+    let bit = 1 << (place / 4);
+    if held {
+        marks[place % 4] |= bit;
+    } else {
+        marks[place % 4] &= !bit;
+    }
 }
 
 /// Leaves the least count at each place.
@@ -48,10 +62,10 @@ pub fn least_counts(mine: &mut [u32; 64], theirs: &[u32; 64])
 }
 
 /// Leaves the marks that are in both.
-pub fn least_marks(mine: &mut [bool; 256], theirs: &[bool; 256])
-    ensures { (k : ℕ) → slice_index_or mine.new k false ≡ (slice_index_or mine.old k false && slice_index_or theirs.now k false) }
+pub fn least_marks(mine: &mut [u64; 4], theirs: &[u64; 4])
+    ensures { (k : ℕ) → spec.is_marked mine.new k ≡ (spec.is_marked mine.old k && spec.is_marked theirs.now k) }
 {
-    for place in 0..256 {
-        mine[place] &= theirs[place];
+    for word in 0..4 {
+        mine[word] &= theirs[word];
     }
 }

@@ -3,14 +3,13 @@ use Rattle.std.proofs.Common.{◌≡◌, ℕ, ◌<◌, Bool, true, false, ◌&&�
 use Rattle.std.specs.Result.{is_ok}
 use Rattle.rc_rules.specs.declared.cause.Cause.{Cause}
 use Rattle.rc_rules.specs.declared.mode.Mode.TheVariants.{Unlocked, Locked}
-use Rattle.rc_rules.specs.declared.mode.Peeked.TheVariants.{Unseen}
 use Rattle.rc_rules.specs.Causes.{premise_number}
 use Rattle.rc_rules.specs.Labels.{Label, Dead, Live, Weaker, IsStrongest}
 use Rattle.rc_rules.specs.Premises.{Premise, Meets, FailsFirst}
-use Rattle.rc_rules.specs.Rules.{agree, agree_all, asks, asks_both, joins_both, may_break, may_join, peek_at, peek_premises}
-use Rattle.rc_rules.specs.States.{State, Becomes, IsOfSame, IsUnlocked, label_of, program_of, AgreeOnLock, Gives}
+use Rattle.rc_rules.specs.Rules.{agree, agree_all, asks_both, joins_both, may_break, may_join}
+use Rattle.rc_rules.specs.States.{State, Becomes, IsOfSame, label_of, program_of, AgreeOnLock, Gives}
 use Rattle.rc_rules.proofs.Growth.{agree_grows}
-use Rattle.rc_rules.proofs.Weaker.{meets_left, meets_right, not_both, only_itself, weaker_refl}
+use Rattle.rc_rules.proofs.Weaker.{meets_left, meets_right, not_both, weaker_refl}
 use Rattle.rc_verify.specs.declared.arms.Arms.{Arms}
 use Rattle.rc_verify.specs.Arms.{Joins, JoinsOn, two}
 use Rattle.rc_verify.specs.Kept.{last_of, rest_of}
@@ -44,34 +43,6 @@ each_meets labels F h false = meets_right (F (labels true)) (F (labels false)) h
 
 same_state : (s t : State) → s ≡ t → IsOfSame s t
 same_state s t e = record { program = ap program_of e; flag = ap (λ (x : State). x.flag) e }
-
--- ---- what is forgotten
-
--- A live side without the lock fails the test for it, and then neither side has it.
-neither_locked : (s t : Label) (n : ℕ) → AgreeOnLock s t → FailsFirst n (asks s (λ bag m. peek_premises m) ++ asks t (λ bag m. peek_premises m)) → IsUnlocked s × IsUnlocked t
-neither_locked Dead Dead n l f = (tt, tt)
-neither_locked Dead (Live b Unlocked) n l f = (tt, tt)
-neither_locked Dead (Live b (Locked j)) n l f = absurd (f.fails tt)
-neither_locked (Live a Unlocked) Dead n l f = (tt, tt)
-neither_locked (Live a Unlocked) (Live b Unlocked) n l f = (tt, tt)
-neither_locked (Live a Unlocked) (Live b (Locked j)) n l f = absurd l
-neither_locked (Live a (Locked i)) Dead n l f = absurd (f.fails tt)
-neither_locked (Live a (Locked i)) (Live b Unlocked) n l f = absurd l
-neither_locked (Live a (Locked i)) (Live b (Locked j)) n l f = absurd (f.fails tt)
-
-not_peeked : (s : Label) → IsUnlocked s → IsStrongest s (peek_at Unseen s ∷ [])
-not_peeked Dead h = only_itself Dead
-not_peeked (Live b Unlocked) h = only_itself (Live b Unlocked)
-not_peeked (Live b (Locked i)) h = absurd h
-
-pub forgets : {X : Type 0} (old new : State) (x : Result X Cause) → AgreeOnLock (label_of old true) (label_of old false) → Gives old new x (asks_both (label_of old) (λ z bag m. peek_premises m)) (λ z. peek_at Unseen (label_of old z) ∷ []) → Becomes old new (λ z. peek_at Unseen (label_of old z) ∷ [])
-forgets old new (Ok x) k g = g.1
-forgets old new (Err c) k g =
-    let u = neither_locked (label_of old true) (label_of old false) (premise_number c) k g.0 in
-    record {
-      each = λ z. subst (λ (s : State). IsStrongest (label_of s z) (peek_at Unseen (label_of old z) ∷ [])) (sym g.1) (elim z as (λ y. IsStrongest (label_of old y) (peek_at Unseen (label_of old y) ∷ [])) [ true ↦ not_peeked (label_of old true) u.0 | false ↦ not_peeked (label_of old false) u.1 ]);
-      of = same_state new old g.1;
-    }
 
 -- ---- two that join
 

@@ -74,10 +74,9 @@ pub fn open_peek<'a>(
     ensures opens { spec.OpensPeek variable state.old state.new peek.new result }
     ensures stays { OnErr result (state.new ≡ state.old) }
 {
+    state.may_peek()?;
     let arms = &mut peek.arms;
-    arms.ends.copy_from(state);
-    arms.ends.arm_none()?;
-    arms.ends.die();
+    arms.ends.die_as(state);
     peek_into(state, variable);
     arms.before.copy_from(state);
     arms.agree = true;
@@ -128,15 +127,6 @@ pub fn enter_none<'a>(state: &mut State<'a>, arms: &Arms<'a>) -> Result<(), Caus
     state.arm_none()
 }
 
-/// Behind an arm, and behind a break, nothing is peeked.
-pub fn forget_peeked(state: &mut State)
-    requires { states.AgreeOnLock (states.label_of state.old true) (states.label_of state.old false) }
-    ensures { states.Becomes state.old state.new (λ z. rules.peek_at peeks.Unseen (states.label_of state.old z) ∷ []) }
-{
-    // Without the lock nothing was peeked, and this answers so.
-    let _ = state.arm_none();
-}
-
 /// An arm's end joins the ends before it, as long as they agree.
 fn join_end<'a>(arms: &mut Arms<'a>, end: &State<'a>)
     requires of { states.IsOfSame end.now arms.old.ends }
@@ -152,14 +142,13 @@ fn join_end<'a>(arms: &mut Arms<'a>, end: &State<'a>)
 
 /// The closing brace of an arm: nothing comes from above behind it.
 fn end_arm<'a>(state: &mut State<'a>, arms: &mut Arms<'a>)
-    requires sides { states.AgreeOnLock (states.label_of state.old true) (states.label_of state.old false) }
     requires of { states.IsOfSame state.old arms.old.ends }
     requires alike { arms.old.agree ≡ true → (y z : Bool) → states.AgreeOnLock (states.label_of arms.old.ends y) (rules.peek_at peeks.Unseen (states.label_of state.old z)) }
     ensures dead { states.OnBoth (λ s. s ≡ Dead) state.new }
     ensures same { states.IsOfSame state.new state.old }
     ensures ends { spec.EndsArm arms.old arms.new state.old }
 {
-    forget_peeked(state);
+    state.forget_peeked();
     join_end(arms, state);
     state.die();
 }
@@ -167,7 +156,6 @@ fn end_arm<'a>(state: &mut State<'a>, arms: &mut Arms<'a>)
 /// The closing brace of an arm, of the peek that is open. There is one.
 pub fn end_arms<'a>(state: &mut State<'a>, peek: &mut Peek<'a>)
     requires kept { IsSome peek.old }
-    requires sides { states.AgreeOnLock (states.label_of state.old true) (states.label_of state.old false) }
     requires of { IfSome peek.old (λ a. states.IsOfSame state.old a.ends) }
     requires alike { IfSome peek.old (λ a. a.agree ≡ true → (y z : Bool) → states.AgreeOnLock (states.label_of a.ends y) (rules.peek_at peeks.Unseen (states.label_of state.old z))) }
     ensures dead { states.OnBoth (λ s. s ≡ Dead) state.new }

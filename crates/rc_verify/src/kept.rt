@@ -1,6 +1,8 @@
 //! States that are kept until a block ends.
 
 ghost use Rattle.std.specs.Prelude.{◌≡◌, ◌<◌, ◌∷◌, ◌++◌, [], length, Some, IsSome};
+ghost use Rattle.rc_rules.specs.Labels.{Dead};
+ghost use Rattle.rc_rules.specs.States as states;
 ghost use Rattle.rc_rules.specs.States.{State as SpecState, label_of};
 ghost use Rattle.rc_verify.specs.Branches.{KeepsOther};
 ghost use Rattle.rc_verify.specs.Kept as spec;
@@ -43,6 +45,16 @@ fn write<'a>(room: &mut Option<State<'a>>, state: &State<'a>)
     }
 }
 
+// A state that nothing reaches is in the room from now on, of the same program and thread as this one.
+fn write_dead<'a>(room: &mut Option<State<'a>>, state: &State<'a>)
+    ensures { (s : SpecState) × (room.new ≡ Some s) × states.OnBoth (λ l. l ≡ Dead) s × states.IsOfSame s state.now }
+{
+    match room {
+        Some(kept) => kept.die_as(state),
+        None => *room = Some(State::dead(state.program(), state.flag())),
+    }
+}
+
 impl<'a> Kept<'a> {
     /// Nothing is kept yet.
     pub fn new() -> Kept<'a>
@@ -79,10 +91,13 @@ impl<'a> Kept<'a> {
         requires { length self.old < 31 }
         ensures { KeepsDead state.now self.old self.new }
     {
-        self.keep(state);
-        if let Some(kept) = &mut self.rooms.as_mut_slice()[self.count - 1] {
-            kept.die();
+        if self.count < self.rooms.len() {
+            write_dead(&mut self.rooms.as_mut_slice()[self.count], state);
+        } else {
+            let dead = State::dead(state.program(), state.flag());
+            self.rooms.push(Some(dead));
         }
+        self.count += 1;
     }
 
     /// Keeps too what goes from this state to the second branch of a test, or past an if without one.

@@ -10,7 +10,6 @@ ghost use Rattle.rc_rules.specs.States as states;
 ghost use Rattle.rc_verify.specs.Kept.{last_of, rest_of};
 ghost use Rattle.rc_verify.specs.Loops as spec;
 
-use crate::arms::forget_peeked;
 use crate::kept::Kept;
 use rc_lang::program::Items;
 use rc_rules::cause::Cause;
@@ -53,13 +52,12 @@ pub fn close_loop<'a>(
 fn carry(end: &mut State, releases: bool)
     requires meets { Meets (rules.asks_both (states.label_of end.old) (λ z bag m. rules.may_break (states.program_of end.old) releases m)) }
     requires locked { releases ≡ true → states.OnBoth states.IsLocked end.old }
-    requires sides { states.AgreeOnLock (states.label_of end.old true) (states.label_of end.old false) }
     ensures { states.Becomes end.old end.new (λ z. spec.taken releases end.old z ∷ []) }
 {
     if releases {
         let _ = end.release();
     } else {
-        forget_peeked(end);
+        end.forget_peeked();
     }
 }
 
@@ -70,15 +68,14 @@ pub fn leave_loop<'a>(
     releases: bool,
 ) -> Result<(), Cause>
     requires locked { releases ≡ true → states.OnBoth states.IsLocked state.old }
-    requires sides { states.AgreeOnLock (states.label_of state.old true) (states.label_of state.old false) }
     requires kept { IsSome (last_of loops.old) }
     requires fits { (s : states.State) → last_of loops.old ≡ Some s → spec.MayBreak s state.old releases }
     ensures gives { states.Gives state.old state.new result (rules.asks_both (states.label_of state.old) (λ z bag m. rules.may_break (states.program_of state.old) releases m)) (λ z. []) }
     ensures kept { OnOk result ((s : states.State) → last_of loops.old ≡ Some s → spec.Breaks s (spec.taken releases state.old) loops.old loops.new) }
 {
-    let mut end = state.again();
-    state.break_out(releases)?;
-    carry(&mut end, releases);
-    loops.join(&end);
+    state.may_break(releases)?;
+    carry(state, releases);
+    loops.join(state);
+    state.die();
     Ok(())
 }

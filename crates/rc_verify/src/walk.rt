@@ -23,10 +23,10 @@ use rc_rules::state::{State, transfer};
 #[derive(Drop)]
 pub struct Walk<'a> {
     pub state: State<'a>,
-    /// Where the test of each open if may fail, or behind its else the end of its first branch.
-    branches: Kept<'a>,
     /// At most one peek is open.
     peek: Peek<'a>,
+    /// Where the test of each open if may fail, or behind its else the end of its first branch.
+    branches: Kept<'a>,
     /// What is known where the breaks so far of each open loop join.
     loops: Kept<'a>,
 }
@@ -40,8 +40,8 @@ impl<'a> Walk<'a> {
     {
         Walk {
             state: State::first(program, thread),
-            branches: Kept::new(),
             peek: Peek::none(program),
+            branches: Kept::new(),
             loops: Kept::new(),
         }
     }

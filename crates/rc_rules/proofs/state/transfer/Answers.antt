@@ -10,6 +10,6 @@ pub returns : goal.returns
 returns c = λ op e.
     let old = c.args.state.now in
     let q : c.in-Do.op ≡ op = cc (c.in-Do.is, e) in
-    let w : c.write_of.result ≡ write_of old.flag c.in-Do.op = c.write_of.ensures ∙ ap (λ f. write_of f c.in-Do.op) (ap (λ (s : State). s.flag) c.turn.view_is ∙ c.in_ok-follow.ensures.1.of.flag) in
+    let w : c.write_of.result ≡ write_of old.flag c.in-Do.op = c.write_of.ensures ∙ ap (λ f. write_of f c.in-Do.op) (ap (λ (s : State). s.flag) c.turn.view_is ∙ c.in_ok-follow_op.ensures.1.of.flag) in
     subst (λ o. Meets (asks_both (label_of old) (λ z b m. op_premises (program_of old) b m o)) × Becomes old c.turn-2.new.self (λ z. brings (λ y. turns (write_of old.flag o) y z) (λ s. goes s (λ b m. op_effect (program_of old) b m o)) (label_of old))) q
-    (c.in_ok-follow.ensures.0, then_turned old c.follow.new.self c.turn-2.new.self (λ s. goes s (λ b m. op_effect (program_of old) b m c.in-Do.op)) (write_of old.flag c.in-Do.op) c.in_ok-follow.ensures.1 (subst (λ v. Turned v c.follow.new.self c.turn-2.new.self) w c.turn-2.ensures))
+    (c.in_ok-follow_op.ensures.0, then_turned old c.follow_op.new.self c.turn-2.new.self (λ s. goes s (λ b m. op_effect (program_of old) b m c.in-Do.op)) (write_of old.flag c.in-Do.op) c.in_ok-follow_op.ensures.1 (subst (λ v. Turned v c.follow_op.new.self c.turn-2.new.self) w c.turn-2.ensures))

@@ -1,8 +1,9 @@
-use Rattle.std.proofs.Common.{◌≡◌, ℕ, ◌<◌, ◌≤◌, ◌&&◌, false, get_or}
+use Rattle.std.proofs.Common.{◌≡◌, ℕ, ◌<◌, ◌≤◌, get_or}
+use Rattle.std.specs.Prelude.{bit_and}
 use Rattle.rc_split.proofs.rows.least_marks.Given as goal
 
-abbrev pub invariant-loop-place : goal.invariant-loop-place
-invariant-loop-place l = record {
-  done : (k : ℕ) → k < l.place → get_or l.mine k false ≡ (get_or l.initial.mine k false && get_or l.theirs k false);
-  rest : (k : ℕ) → l.place ≤ k → get_or l.mine k false ≡ get_or l.initial.mine k false;
+abbrev pub invariant-loop-word : goal.invariant-loop-word
+invariant-loop-word l = record {
+  done : (k : ℕ) → k < l.word → get_or l.mine k 0 ≡ bit_and (get_or l.initial.mine k 0) (get_or l.theirs k 0);
+  rest : (k : ℕ) → l.word ≤ k → get_or l.mine k 0 ≡ get_or l.initial.mine k 0;
 }

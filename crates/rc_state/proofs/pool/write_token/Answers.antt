@@ -3,8 +3,7 @@ use Rattle.std.specs.Prelude.{decimal, nat_le, true}
 use Rattle.rc_lang.specs.Program.{Program, token_place}
 use Rattle.rc_report.specs.Printed.{joined}
 use Rattle.rc_split.specs.Bags.{TokenOf}
-use Rattle.rc_split.specs.Holdings.{mark_at}
-use Rattle.rc_split.specs.Pools.{Pool, pooled}
+use Rattle.rc_split.specs.Pools.{Pool, mark_at, pooled}
 use Rattle.rc_report.proofs.Pieces.{wrote_along}
 use Rattle.rc_state.proofs.pool.write_token.Goals as goal
 

@@ -9,7 +9,7 @@ use Rattle.rc_verify.proofs.Ending.{arm_alike, arm_end_passes, arm_of, arm_some,
 use Rattle.rc_verify.proofs.Looping.{end_loop_of, end_loop_passes, end_loop_some, loop_list, loop_passes, loop_room}
 use Rattle.rc_verify.proofs.Peeking.{peek_passes}
 use Rattle.rc_verify.proofs.Placing.{at, items_here, loop_there}
-use Rattle.rc_verify.proofs.Plainly.{do_passes, lock_passes, locked_here, put_passes, release_passes, sides_here, small_here, unlocked_here}
+use Rattle.rc_verify.proofs.Plainly.{do_passes, lock_passes, locked_here, put_passes, release_passes, small_here, unlocked_here}
 use Rattle.rc_verify.proofs.Standing.{gives_stays}
 use Rattle.rc_verify.proofs.walk.pass.Goals as goal
 
@@ -94,9 +94,6 @@ returns-in-Nothing-clause-passes c = none_passes _ _ _ _ c.requires.reaches c.in
 pub end_arms-requires-clause-kept : goal.end_arms-requires-clause-kept
 end_arms-requires-clause-kept c = arm_some _ _ _ _ c.requires.reaches c.in-EndArm.field-0 (at c.requires.stands c.in-EndArm.is)
 
-pub end_arms-requires-clause-sides : goal.end_arms-requires-clause-sides
-end_arms-requires-clause-sides c = sides_here _ _ _ _ c.requires.reaches _ c.requires.stands
-
 pub end_arms-requires-clause-of : goal.end_arms-requires-clause-of
 end_arms-requires-clause-of c = arm_of _ _ _ _ c.requires.reaches c.in-EndArm.field-0 (at c.requires.stands c.in-EndArm.is)
 
@@ -138,9 +135,6 @@ returns-in-EndLoop-clause-passes c = end_loop_passes _ _ _ _ c.requires.reaches 
 
 pub leave_loop-requires-clause-locked : goal.leave_loop-requires-clause-locked
 leave_loop-requires-clause-locked c = break_locked _ _ _ _ c.requires.reaches c.in-Break.field-0 c.in-Break.releases c.in-Break.field-2 (at c.requires.stands c.in-Break.is)
-
-pub leave_loop-requires-clause-sides : goal.leave_loop-requires-clause-sides
-leave_loop-requires-clause-sides c = sides_here _ _ _ _ c.requires.reaches _ c.requires.stands
 
 pub leave_loop-requires-clause-kept : goal.leave_loop-requires-clause-kept
 leave_loop-requires-clause-kept c = break_some _ _ _ _ c.requires.reaches c.in-Break.field-0 c.in-Break.releases c.in-Break.field-2 (at c.requires.stands c.in-Break.is)

@@ -7,4 +7,4 @@ pub invariant_of-self : goal.invariant_of-self
 invariant_of-self c = record { made = c.self.invariant.made; shares = λ b. subst (λ x. x < 2 ^ 20) (sym (all_alike 64 b 0)) (lit< tt); credits = lit< tt }
 
 pub returns : goal.returns
-returns c = record { of = ap (λ (h : Holding). h.program) c.self.view_is; each = λ p. nothing_held c.self.inside.program.now 64 256 p }
+returns c = record { of = ap (λ (h : Holding). h.program) c.self.view_is; each = λ p. nothing_held c.self.inside.program.now 64 4 p }

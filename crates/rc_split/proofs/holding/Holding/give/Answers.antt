@@ -16,7 +16,7 @@ mark-requires c =
     placed c.args.self.now.program.tokens c.in-Token.user_data d.0 d.1 d.2
 
 pub overflow_add-self : goal.overflow_add-self
-overflow_add-self c = let s : c.self-in-Credits.inside.credits + c.in-Credits.count < 2 ^ 20 = credits_small _ _ _ _ c.self-in-Credits.view_is c.in-Credits.is c.requires.small in omega arith
+overflow_add-self c = let s : c.self-in-Credits.inside.rows.credits + c.in-Credits.count < 2 ^ 20 = credits_small _ _ _ _ c.self-in-Credits.view_is c.in-Credits.is c.requires.small in omega arith
 
 pub invariant_of-self-in-Credits : goal.invariant_of-self-in-Credits
 invariant_of-self-in-Credits c = record {

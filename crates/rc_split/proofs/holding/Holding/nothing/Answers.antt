@@ -6,4 +6,4 @@ pub invariant_of-result : goal.invariant_of-result
 invariant_of-result c = record { made = c.entries.ensures.made; shares = λ b. subst (λ x. x < 2 ^ 20) (sym (all_alike 64 b 0)) (lit< tt); credits = lit< tt }
 
 pub returns : goal.returns
-returns c = record { of = refl; each = λ p. nothing_held c.args.program.now 64 256 p }
+returns c = record { of = refl; each = λ p. nothing_held c.args.program.now 64 4 p }

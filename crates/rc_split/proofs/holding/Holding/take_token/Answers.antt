@@ -1,4 +1,4 @@
-use Rattle.std.proofs.Common.{◌<◌, sym, ◌∙◌, length, arith}
+use Rattle.std.proofs.Common.{◌<◌, sym, ◌∙◌, length}
 use Rattle.rc_split.proofs.Tokens.{place_within, token_taken}
 use Rattle.rc_split.proofs.holding.Holding.take_token.Goals as goal
 
@@ -7,4 +7,4 @@ returns c =
     let s = c.self.inside in
     let e = sym c.token_place.ensures.value ∙ c.in_ok-place.was in
     let lt : c.in_ok-place.place < length s.program.now.tokens = place_within s.program.now.tokens c.args.user_data c.in_ok-place.place e in
-    rw (← c.self.view_is) (token_taken s.program.now s.shares s.marks s.credits c.args.user_data c.in_ok-place.place e (omega arith) c.if-not-self-place.false)
+    rw (← c.self.view_is) (token_taken s.program.now s.rows.shares s.rows.marks c.mark.new.marks s.rows.credits c.args.user_data c.in_ok-place.place e c.mark.ensures (sym c.is_marked.ensures ∙ c.if-not-is_marked.false))
