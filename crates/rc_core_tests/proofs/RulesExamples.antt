@@ -10,7 +10,7 @@ use Rattle.rc_lang.specs.declared.program.Thread.{Thread as ThreadPart}
 use Rattle.rc_lang.specs.Program.{Program, Thread, IsProgram, IsThread, IsFile, IsBuffer, IsTokenKind, DeclaresToken, line_numbers}
 use Rattle.rc_lang.proofs.Rising.{by_test}
 use Rattle.rc_lang.specs.Program.{Items, More, IsItems, IsList, besides, no_more}
-use Rattle.rc_split.specs.Bags.{Part, ShareOf, TokenOf, Credit, bag_of, bag_on, IsWithin}
+use Rattle.rc_split.specs.Bags.{Part, ShareOf, TokenOf, Credit, bag_of, IsWithin}
 use Rattle.rc_rules.specs.declared.cause.Cause.{Cause}
 use Rattle.rc_rules.specs.declared.mode.Mode.{Mode}
 use Rattle.rc_rules.specs.declared.mode.Mode.TheVariants.{Unlocked, Locked}
@@ -18,7 +18,7 @@ use Rattle.rc_rules.specs.declared.mode.Peeked.TheVariants.{Sees}
 use Rattle.rc_rules.specs.Labels.{Label, Dead, Live, WeakerMode, WeakerThanEach, IsStrongest, IsSame}
 use Rattle.rc_rules.specs.Premises.{Premise}
 use Rattle.rc_rules.specs.Rules.{op_effect, put_effect, goes, case_at, with_peeked, entered, top}
-use Rattle.rc_rules.specs.Sides.{on, gate, brings, turns, write_of, forgets}
+use Rattle.rc_rules.specs.Sides.{on, brings, turns, write_of, forgets}
 use Rattle.rc_rules.specs.States.{State, label_of, program_of, is_locked, Gives, Becomes, OnBoth, AgreeOnLock, IsStart, IsUnlocked, IsLocked, IsSmall}
 use Rattle.rc_rules.specs.Labellings.{start_of}
 use Rattle.rc_core_tests.specs.RulesExample.{share, share_thread, IsAtMost, IsOfShare}

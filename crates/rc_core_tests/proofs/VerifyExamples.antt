@@ -1,7 +1,6 @@
 -- The programs of the tests of `rc_verify` are made.
 use Rattle.std.proofs.Common.{◌≡◌, ℕ, zero, suc, ◌≤◌, Bool, true, false, List, [], ◌∷◌, ◌++◌, map, length, Some, refl, sym, ap, subst, inl, inr, arith, lit≤}
 use Rattle.std.specs.Prelude.{All, slice_get, nat_eq, codes}
-use Rattle.std.specs.List.{IsDistinct}
 use Rattle.std.specs.List.Sorted.{IsStrictlyIncreasing}
 use Rattle.std.specs.Str.{bytes_eq}
 use Rattle.rc_lang.specs.declared.lines.Line.{Line}

@@ -12,7 +12,7 @@ use Rattle.rc_report.specs.Printed.{joined}
 use Rattle.rc_report.specs.Streams.{Began, Wrote}
 use Rattle.rc_rules.specs.declared.cause.Cause.{Cause}
 use Rattle.rc_rules.specs.States.{State, sides_of}
-use Rattle.rc_verify.specs.Labels.{IsStrongestAt, IsRefusedFor, Labels, Goes}
+use Rattle.rc_verify.specs.Labels.{IsStrongestAt, IsRefusedFor, Labels}
 use Rattle.rc_explain.specs.declared.listing.Run.{Run}
 use Rattle.rc_explain.specs.Listed.{Shown, AreShown, IsShown, EndsAt, ListsLines, Lists, has_flag, or_no_lines, next_text, run_after, run_text, lines_text}
 use Rattle.rc_explain.proofs.Writes.{no_front}

@@ -1,15 +1,13 @@
 //! A text is checked, and its verdict is written with what explains it.
 
-ghost use Rattle.std.specs.Prelude.{◌≡◌, ◌+◌, ◌<◌, ◌^◌, IfOk, Some, false, true};
+ghost use Rattle.std.specs.Prelude.{◌+◌, ◌<◌, ◌^◌, Some, false, true};
 ghost use Rattle.rc_explain.specs.Explains.{ExplainsAs, TellsWith};
-ghost use Rattle.rc_read.specs.Answer.{answer_of};
-ghost use Rattle.rc_report.specs.Checks.{IsVerdict};
 ghost use Rattle.rc_report.specs.Engine.{WritesNothingOnRead};
 ghost use Rattle.rc_report.specs.Streams.{CountsReads, CountsWrites, FailsToWriteOrGrow};
 
 use crate::explanation::write_explanation;
 use crate::object::object_text;
-use rc_report::check_engine::judged;
+use rc_report::check_engine::verdict_on;
 use rc_report::engine_fault::EngineFault;
 use rc_report::reading::read_text;
 use rc_report::streams::{Sink, Source, WriteSink};
@@ -58,16 +56,6 @@ fn explain_bytes<W: Sink>(
     let verdict = verdict_on(alloc, text)?;
     write_explained(alloc, text, &verdict, json, writer)?;
     Ok(verdict)
-}
-
-/// The verdict on a text.
-fn verdict_on(alloc: Global, text: &[u8]) -> Result<Verdict, AllocError>
-    ensures { IfOk result (IsVerdict (answer_of text.now)) }
-{
-    match judged(alloc, text)? {
-        Ok(_) => Ok(Verdict::Accepted),
-        Err(verdict) => Ok(verdict),
-    }
 }
 
 /// Writes a verdict with what explains it, as JSON or as text.

@@ -2,9 +2,10 @@
 
 use crate::lines::{between, from, place_of};
 use rc_read::parts::Region;
-use rc_read::spots::fits;
+use rc_read::reserved::is_reserved_by;
+use rc_read::spots::{fits, has_name};
 use rc_read::table::{Part, Row, Stand, parts_of, stand_of, version_of};
-use rc_read::words::{is, is_name};
+use rc_read::words::{is, is_name, is_spelt};
 
 /// Each form, in the order in which they are tried.
 pub fn all_rows() -> &'static [Row] {
@@ -70,30 +71,9 @@ pub fn may_stand(version: u32, region: Region, row: Row) -> bool {
         }
 }
 
-fn is_name_byte(b: u8) -> bool {
-    b.is_ascii_lowercase() || b.is_ascii_digit() || b == b'_'
-}
-
 /// Whether a word would be a name, if it weren't reserved in this version.
 pub fn is_reserved(version: u32, word: &[u8]) -> bool {
-    let spelt = match word {
-        [] => false,
-        [first, ..] => {
-            first.is_ascii_lowercase() && word.len() <= 16 && word.iter().all(|b| is_name_byte(*b))
-        }
-    };
-    let later = (version >= 2 && is(word, b"when"))
-        || (version >= 3 && (is(word, b"put") || is(word, b"take")));
-    spelt && (later || !is_name(word))
-}
-
-/// Whether a name stands in a place.
-pub fn has_name(part: Part) -> bool {
-    match part {
-        Part::Variable | Part::Operand | Part::Flag => true,
-        Part::Buffer | Part::NewBuffer | Part::NewThread => true,
-        _ => false,
-    }
+    is_spelt(word) && (is_reserved_by(version, word) || !is_name(word))
 }
 
 fn stands(version: u32, part: Part, word: &[u8]) -> bool {

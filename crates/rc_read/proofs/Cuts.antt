@@ -8,7 +8,7 @@ use Rattle.memchr.specs.Find.{IsFirst, NoneBefore, Nowhere, Passes, is_byte}
 use Rattle.rc_read.specs.Quick.{before, has_strange}
 use Rattle.rc_read.specs.Sentences.{any_strange, is_strange}
 use Rattle.rc_read.specs.Words.{without_comment, words_after, words_of, word_if_any, is_blank}
-use Rattle.rc_read.proofs.Streams.{split_at}
+use Rattle.rc_read.proofs.Streams.{NoFeedBefore, split_at}
 
 -- ---- strange bytes
 
@@ -127,9 +127,6 @@ comment_in bytes i (Some j) lt e h = by_place (eq-or-lt_of_le h.0.low)
 pub never : {b : Bool} {A : Type 0} → b ≡ true → b ≡ false → A
 never {b = true} f g = absurd cc
 never {b = false} f g = absurd cc
-
-abbrev pub NoFeedBefore : List ℕ → ℕ → Type 0
-NoFeedBefore bytes i = Nowhere (Passes (is_byte 10) bytes) 0 i
 
 pub no_feed_more : (bytes : List ℕ) (i : ℕ) → ¬ (get_or bytes i 0 ≡ 10) → NoFeedBefore bytes i → NoFeedBefore bytes (i + 1)
 no_feed_more bytes i ne h = λ k low high p. by_case k low p (eq-or-lt_of_le (omega (arith, high)))

@@ -16,35 +16,24 @@ use Rattle.rc_read.specs.Spots.{Spot, row_of, spots_of, spots_by}
 use Rattle.rc_read.specs.Table.{parts_of, stand_of}
 use Rattle.rc_read.specs.Texts.{texts_of}
 use Rattle.rc_read.specs.Values.{any_lacks, flag_in, items_in, start}
+use Rattle.rc_read.proofs.Numbered.{double_kept, full_kept, unknown_kept}
 
 -- ---- sentence by sentence
 
 or_same : (a b c d : Bool) → a ≡ b → c ≡ d → (a || c) ≡ (b || d)
 or_same a b c d e f = rw (e, f) refl
 
-unknown_same : (p : Part) (s : Sheet) (vs : List Spot) (w : List ℕ) → is_unknown (with_names s vs) p w ≡ is_unknown s p w
-unknown_same part.File s vs w = refl
-unknown_same _ s vs w = refl
-
 any_unknown_same : (s : Sheet) (vs ps : List Spot) → any_unknown (with_names s vs) ps ≡ any_unknown s ps
 any_unknown_same s vs [] = refl
-any_unknown_same s vs (p ∷ ps) = or_same (is_unknown (with_names s vs) p.part p.word) (is_unknown s p.part p.word) (any_unknown (with_names s vs) ps) (any_unknown s ps) (unknown_same p.part s vs p.word) (any_unknown_same s vs ps)
-
-double_same : (p : Part) (s : Sheet) (vs : List Spot) (w : List ℕ) → is_double (with_names s vs) p w ≡ is_double s p w
-double_same part.NewFile s vs w = refl
-double_same _ s vs w = refl
+any_unknown_same s vs (p ∷ ps) = or_same (is_unknown (with_names s vs) p.part p.word) (is_unknown s p.part p.word) (any_unknown (with_names s vs) ps) (any_unknown s ps) (unknown_kept p.part p.word s vs) (any_unknown_same s vs ps)
 
 any_double_same : (s : Sheet) (vs ps : List Spot) → any_double (with_names s vs) ps ≡ any_double s ps
 any_double_same s vs [] = refl
-any_double_same s vs (p ∷ ps) = or_same (is_double (with_names s vs) p.part p.word) (is_double s p.part p.word) (any_double (with_names s vs) ps) (any_double s ps) (double_same p.part s vs p.word) (any_double_same s vs ps)
-
-full_same : (p : Part) (s : Sheet) (vs : List Spot) → is_full (with_names s vs) p ≡ is_full s p
-full_same part.NewFile s vs = refl
-full_same _ s vs = refl
+any_double_same s vs (p ∷ ps) = or_same (is_double (with_names s vs) p.part p.word) (is_double s p.part p.word) (any_double (with_names s vs) ps) (any_double s ps) (double_kept p.part p.word s vs) (any_double_same s vs ps)
 
 any_full_same : (s : Sheet) (vs ps : List Spot) → any_full (with_names s vs) ps ≡ any_full s ps
 any_full_same s vs [] = refl
-any_full_same s vs (p ∷ ps) = or_same (is_full (with_names s vs) p.part) (is_full s p.part) (any_full (with_names s vs) ps) (any_full s ps) (full_same p.part s vs) (any_full_same s vs ps)
+any_full_same s vs (p ∷ ps) = or_same (is_full (with_names s vs) p.part) (is_full s p.part) (any_full (with_names s vs) ps) (any_full s ps) (full_kept p.part s vs) (any_full_same s vs ps)
 
 brace_same : (what : Says) (s : Sheet) (vs : List Spot) → bad_brace (with_names s vs) what ≡ bad_brace s what
 brace_same Close s vs = refl

@@ -87,15 +87,15 @@ behind_kept (part.Number range.Size) w s seen ps = refl
 behind_kept (part.Number _) w s seen ps = refl
 behind_kept _ w s seen ps = refl
 
-unknown_kept : (part : Part) (w : List ℕ) (s : Sheet) (ps : List Spot) → is_unknown (with_names s ps) part w ≡ is_unknown s part w
+pub unknown_kept : (part : Part) (w : List ℕ) (s : Sheet) (ps : List Spot) → is_unknown (with_names s ps) part w ≡ is_unknown s part w
 unknown_kept part.File w s ps = refl
 unknown_kept _ w s ps = refl
 
-double_kept : (part : Part) (w : List ℕ) (s : Sheet) (ps : List Spot) → is_double (with_names s ps) part w ≡ is_double s part w
+pub double_kept : (part : Part) (w : List ℕ) (s : Sheet) (ps : List Spot) → is_double (with_names s ps) part w ≡ is_double s part w
 double_kept part.NewFile w s ps = refl
 double_kept _ w s ps = refl
 
-full_kept : (part : Part) (s : Sheet) (ps : List Spot) → is_full (with_names s ps) part ≡ is_full s part
+pub full_kept : (part : Part) (s : Sheet) (ps : List Spot) → is_full (with_names s ps) part ≡ is_full s part
 full_kept part.NewFile s ps = refl
 full_kept _ s ps = refl
 

@@ -1,7 +1,7 @@
 -- The forms that a line can have whose first word begins with a byte are enough, and of those without items the ones
 -- with as many parts as it has words.
 use Rattle.std.proofs.Common.{◌≡◌, ℕ, suc, List, [], ◌∷◌, ◌++◌, length, Bool, true, false, cond, eqb, Option, Some, None, refl, sym, ap, ◌∙◌}
-use Rattle.std.proofs.lemmas.Bool.{and_parts, or_parts}
+use Rattle.std.proofs.lemmas.Bool.{and_parts, false_from_ne_true, or_parts, true≢false}
 use Rattle.std.specs.Option.{option_or}
 use Rattle.std.specs.Prelude.{option_map, unwrap_or}
 use Rattle.std.specs.Str.{bytes_eq}
@@ -31,10 +31,6 @@ begins_so (_ ∷ parts) ws h = refl
 
 -- ---- so no other form is found
 
-not_both : (m b : Bool) → (m ≡ true → b ≡ true) → b ≡ false → m ≡ false
-not_both true b k e = sym (k refl) ∙ e
-not_both false b k e = refl
-
 one_row : (b : Bool) (row : Row) (rest all : List Row) (ws : List (List ℕ)) → (b ≡ false → matches (parts_of row) ws ≡ false) → first_row rest ws ≡ first_row all ws → first_row (cond b (row ∷ rest) rest) ws ≡ first_row (row ∷ all) ws
 one_row true row rest all ws k e = ap (λ (x : Option Row). cond (matches (parts_of row) ws) (Some row) x) e
 one_row false row rest all ws k e = e ∙ sym (ap (λ (x : Bool). cond x (Some row) (first_row all ws)) (k refl))
@@ -42,7 +38,7 @@ one_row false row rest all ws k e = e ∙ sym (ap (λ (x : Bool). cond x (Some r
 rows_by : (all : List Row) (ws : List (List ℕ)) → first_row (beginning (first_byte ws) all) ws ≡ first_row all ws
 rows_by [] ws = refl
 rows_by (row ∷ all) ws =
-    one_row (may_begin (first_byte ws) (parts_of row)) row (beginning (first_byte ws) all) all ws (not_both (matches (parts_of row) ws) (may_begin (first_byte ws) (parts_of row)) (begins_so (parts_of row) ws)) (rows_by all ws)
+    one_row (may_begin (first_byte ws) (parts_of row)) row (beginning (first_byte ws) all) all ws (λ e. false_from_ne_true (matches (parts_of row) ws) (λ m. true≢false (sym (begins_so (parts_of row) ws m) ∙ e))) (rows_by all ws)
 
 -- the rows of a first byte, and then the others
 rows_then : (all more : List Row) (ws : List (List ℕ)) (o : Option Row) → first_row all ws ≡ o → first_row (all ++ more) ws ≡ option_or o (first_row more ws)

@@ -63,8 +63,11 @@ cut-push_line (b ∷ bytes) =
     (rw e refl) (rw e (push_line_by b (cut bytes)))
 
 -- bytes of a line
+abbrev pub NoFeedBefore : List ℕ → ℕ → Type 0
+NoFeedBefore bytes i = Nowhere (Passes (is_byte 10) bytes) 0 i
+
 abbrev pub NoFeed : List ℕ → Type 0
-NoFeed front = Nowhere (Passes (is_byte 10) front) 0 (length front)
+NoFeed front = NoFeedBefore front (length front)
 
 grows : (c : Bool) (b : ℕ) (front : List ℕ) (p : List (List ℕ) × List ℕ) (q : List (List ℕ) × List ℕ) → c ≡ false → p ≡ ([], front) → cond c q (before_line b p) ≡ ([], b ∷ front)
 grows true b front p q e f = absurd cc

@@ -14,7 +14,7 @@ mod noted;
 mod numbers;
 pub mod parts;
 mod reader;
-mod reserved;
+pub mod reserved;
 mod says;
 pub mod spots;
 pub mod table;

@@ -73,7 +73,7 @@ pub fn is_reserved_by(version: u32, w: &[u8]) -> bool
 }
 
 /// Whether a word is reserved.
-pub fn is_reserved(w: &[u8]) -> bool
+pub(crate) fn is_reserved(w: &[u8]) -> bool
     ensures { result ≡ spec.is_reserved w.now }
 {
     match w {

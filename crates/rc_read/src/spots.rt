@@ -206,8 +206,8 @@ fn put_places<'a>(
     Ok(at == words.len())
 }
 
-// Whether a name stands in a place.
-fn has_name(part: Part) -> bool
+/// Whether a name stands in a place.
+pub fn has_name(part: Part) -> bool
     ensures { result ≡ spec.has_name part }
 {
     match part {

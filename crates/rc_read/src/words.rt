@@ -147,7 +147,8 @@ fn all_name_bytes(bytes: &[u8]) -> bool
     bytes.iter().all(|b| is_name_byte(*b))
 }
 
-fn is_spelt(word: &[u8]) -> bool
+/// Whether a word is spelt as a name is: a small letter, and then at most 15 small letters, digits and `_`.
+pub fn is_spelt(word: &[u8]) -> bool
     ensures { result ≡ names.is_spelt word.now }
 {
     match word {

@@ -1,6 +1,5 @@
 -- Verdicts on the texts of files: where something is stands in front, as compilers tell it.
-use Rattle.std.specs.Prelude.{ℕ, ◌≡◌, Bool, true, false, List, [], ◌∷◌, ◌++◌, codes, decimal, Option, Some, None, Result, Ok, Err}
-use Rattle.std.specs.Io.KnownBytes.{Appends}
+use Rattle.std.specs.Prelude.{ℕ, List, [], ◌∷◌, ◌++◌, codes, decimal, Option, Some, None, Result, Ok, Err}
 use Rattle.serde_json.specs.Data.{Data, member, no_members, number, object, string, unsigned}
 use Rattle.serde_json.specs.Written.{compact_text}
 use Rattle.rc_read.specs.Answer.{answer_of}

@@ -1,6 +1,6 @@
 -- A summary of a run, in place of its trace: how many events each thread made, how the requests of each token completed,
 -- the longest stretch of one thread, and how the run ended.
-use Rattle.std.specs.Prelude.{ℕ, ◌+◌, ◌==◌, if◌then◌else◌, ℤ, Bool, true, false, List, [], ◌∷◌, ◌++◌, length, codes, decimal, take, Option, Some, None, count_by, fold, nat_lt}
+use Rattle.std.specs.Prelude.{ℕ, ◌+◌, ◌==◌, if◌then◌else◌, ℤ, Bool, false, List, [], ◌∷◌, ◌++◌, length, codes, decimal, take, Option, Some, None, count_by, fold, nat_lt}
 use Rattle.std.specs.List.{list_any}
 use Rattle.std.specs.Fmt.{signed_decimal}
 use Rattle.std.specs.Ordering.{int_eq}

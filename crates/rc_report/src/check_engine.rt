@@ -58,7 +58,7 @@ fn check_bytes<W: Sink>(
 }
 
 /// The verdict on a text.
-pub(crate) fn verdict_on(alloc: Global, text: &[u8]) -> Result<Verdict, AllocError>
+pub fn verdict_on(alloc: Global, text: &[u8]) -> Result<Verdict, AllocError>
     ensures { IfOk result (IsVerdict (answer_of text.now)) }
 {
     match judged(alloc, text)? {

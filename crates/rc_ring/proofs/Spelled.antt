@@ -1,5 +1,5 @@
 -- Bytes that spell entries, in a list.
-use Rattle.std.proofs.Common.{◌≡◌, ℕ, List, [], Some, subst}
+use Rattle.std.proofs.Common.{◌≡◌, ℕ, List, Some, subst}
 use Rattle.std.specs.Prelude.{slice_get, All}
 use Rattle.std.proofs.lemmas.Option.{get_or_from_slice_get, slice_get_within}
 use Rattle.rc_ring.specs.Spelled.{IsSpelling}

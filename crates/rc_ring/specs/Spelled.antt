@@ -1,5 +1,5 @@
 -- That bytes spell entries (io_uring_enter(2)), in a slot and in the rings.
-use Rattle.std.specs.Prelude.{ℕ, List, [], All}
+use Rattle.std.specs.Prelude.{ℕ, List, All}
 use Rattle.rc_entry.specs.declared.Entry.{Entry}
 use Rattle.rc_entry.specs.Spelling.{SpellsEntry}
 use Rattle.rc_ring.specs.Rings.{Rings, OpenSlot, NoSlot, VacantSlot, PreparedSlot}

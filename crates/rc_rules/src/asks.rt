@@ -6,13 +6,14 @@ ghost use Rattle.rc_lang.specs.declared.lines.Line.{Line};
 ghost use Rattle.rc_rules.specs.Asks as spec;
 ghost use Rattle.rc_rules.specs.Causes.{premise_number};
 ghost use Rattle.rc_rules.specs.Labellings.{premises};
-ghost use Rattle.rc_rules.specs.Rules.{op_premises};
+ghost use Rattle.rc_rules.specs.Rules.{kind_of, op_premises};
 ghost use Rattle.rc_rules.specs.Sides.{Sides};
 ghost use Rattle.rc_rules.specs.declared.mode.Mode.{Mode};
 ghost use Rattle.rc_split.specs.Bags as bags;
 
 use crate::cause::Cause;
-use rc_lang::lines::{Op, Stmt, Test};
+use rc_lang::lines::{Op, Stmt};
+use rc_lang::program::{Program, TokenKind};
 use rc_split::part::Part;
 
 /// What a premise of a line is about.
@@ -49,6 +50,14 @@ pub enum Asks {
     Left,
     /// That the slots of all ends that join are at one stage.
     Agreeing,
+}
+
+/// What the line of a token says that its request is.
+pub fn kind_of(program: &Program, user_data: u64) -> Option<TokenKind>
+    ensures { result ≡ kind_of program.now user_data }
+{
+    let place = program.token_place(user_data)?;
+    program.tokens().get(place).map(|token| token.kind)
 }
 
 /// What the first of these says that has the cause.

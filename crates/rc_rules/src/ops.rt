@@ -1,6 +1,6 @@
 //! The rules of statements without a block, on a holding and a mode.
 
-ghost use Rattle.std.specs.Prelude.{◌≡◌, ◌≤◌, ◌^◌, ℕ, MatchResult, true};
+ghost use Rattle.std.specs.Prelude.{◌≡◌, ◌≤◌, ◌^◌, MatchResult, true};
 ghost use Rattle.rc_lang.specs.Program.{IsProgram, IsTokenKind};
 ghost use Rattle.rc_rules.specs.OneRule.{only_computes};
 ghost use Rattle.rc_rules.specs.Rules as rules;
@@ -13,11 +13,12 @@ ghost use Rattle.rc_rules.specs.declared.mode.Peeked.TheVariants as peeks;
 ghost use Rattle.rc_rules.specs.declared.mode.Slot.TheVariants as slots;
 ghost use Rattle.rc_lang.specs.declared.lines.Op.TheVariants as ops;
 
+use crate::asks::kind_of;
 use crate::cause::Cause;
 use crate::mode::{Inside, Mode, Peeked, Slot, has_kind, is_prepared_as, is_seen, same_slot};
 use crate::premises::tested;
 use rc_lang::lines::Op;
-use rc_lang::program::{Program, TokenKind};
+use rc_lang::program::TokenKind;
 use rc_split::holding::Holding;
 use rc_split::part::Part;
 
@@ -188,14 +189,6 @@ fn prep_nop(holding: &Holding, mode: Mode) -> Result<Mode, Cause>
     let inside = locked(mode)?;
     tested(&[(same_slot(inside.slot, Slot::Vacant), Cause::NoSlot)])?;
     Ok(prepared(inside, TokenKind::Nop))
-}
-
-/// What the token's line says that its request is.
-fn kind_of(program: &Program, user_data: u64) -> Option<TokenKind>
-    ensures { result ≡ rules.kind_of program.now user_data }
-{
-    let place = program.token_place(user_data)?;
-    program.tokens().get(place).map(|token| token.kind)
 }
 
 /// `io_uring_sqe_set_data64(3)`: the token goes to the request, which is queued.

@@ -8,7 +8,7 @@ use Rattle.rc_lang.specs.declared.program.Token.{Token}
 use Rattle.rc_lang.specs.declared.request.Kind.{Kind}
 use Rattle.rc_lang.specs.declared.request.Kind.TheVariants.{Nop, Fsync, Read, Write}
 use Rattle.rc_lang.specs.declared.request.Request.{Request}
-use Rattle.rc_lang.specs.Program.{Buffer, Program, Thread}
+use Rattle.rc_lang.specs.Program.{Program, Thread}
 use Rattle.rc_report.specs.Printed.{joined, name_of_buffer, thread_name}
 use Rattle.rc_report.specs.Source.{line_words}
 use Rattle.rc_split.specs.Bags.{ShareOf, TokenOf, Credit}

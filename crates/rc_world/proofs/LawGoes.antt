@@ -1,6 +1,6 @@
 -- In a world of a run without a fault each thread with something left has a step, and each pending request can complete.
 use Rattle.std.proofs.Common.{◌≡◌, ℕ, ◌+◌, ◌<◌, ◌≤◌, Bool, true, false, ◌&&◌, not, if◌then◌else◌, List, [], ◌∷◌, ◌++◌, length, nat_eq, nat_le, nat_lt, Option, Some, None, refl, sym, ap, ◌∙◌, subst, slice_get, slice_index, slice_index_or, slice_set, replicate, inl, inr, ℤ, pos, arith, eq-eqb, leb-false, lt-ltb}
-use Rattle.std.proofs.lemmas.Bool.{le-leb, and_parts, and_from, or_cases, or_left, or_right, not-false}
+use Rattle.std.proofs.lemmas.Bool.{le-leb, and_parts, and_from, false_from_ne_true, or_cases, or_left, or_right, not-false, true≢false}
 use Rattle.rc_lang.specs.declared.lines.Line.{Line}
 use Rattle.rc_lang.specs.declared.lines.Op.{Op}
 use Rattle.rc_lang.specs.declared.lines.Op.TheVariants.{Load, Store, Fill, GetSqe, PrepRead, PrepWrite, PrepFsync, PrepNop, SetData64, Submit, SubmitAndWait, CqeSeen}
@@ -42,10 +42,6 @@ use Rattle.rc_world.proofs.LawSteps.{StandsAt, next_of_standing, step_is}
 pub and_false : (a b : Bool) → (a && b) ≡ false → a ≡ true → b ≡ false
 and_false true b e h = e
 and_false false b e h = absurd (cc)
-
-not_both : (a b : Bool) → (a ≡ true → b ≡ true) → b ≡ false → a ≡ false
-not_both true b h e = let d = h refl in absurd (cc)
-not_both false b h e = refl
 
 -- ---- buffers
 
@@ -129,7 +125,7 @@ module _ (w : World) (i : ℕ) (t : Standing) (r : ℤ) where
     stands b lt f = buffer_stands w.program w.pending w.buffers b m lt f
 
     not_named : (b : ℕ) → is_named w.pending b ≡ false → is_filling w.pending b ≡ false
-    not_named b e = not_both (is_filling w.pending b) (is_named w.pending b) (filling_is_named b w.pending) e
+    not_named b e = false_from_ne_true (is_filling w.pending b) (λ t. true≢false (sym (filling_is_named b w.pending t) ∙ e))
 
     -- the place lies in the buffer
     inside : (b k : ℕ) → nat_le (bytes_at w.program.buffers b) k ≡ false → (s : Stands w.program w.buffers b) → nat_lt k (length s.bytes) ≡ true
@@ -269,7 +265,7 @@ module _ (w : World) (safe : clashes w.pending ≡ false) where
   -- the bytes of its buffer stand with a read
   given : (m : IsMemory w.program w.pending w.buffers) (k : ℕ) (p : Pending) → slice_get w.pending k ≡ Some p → (bytes : List ℕ) (stood : Option (List ℕ)) → p.bytes ≡ stood → (b : List (Option (List ℕ))) × (given_back w p.request bytes stood ≡ Some b)
   given m k p e bytes (Some stood) q = (_, refl)
-  given m k p e bytes None q = (w.buffers, ap (λ c. if c then None else Some w.buffers) (not_both (is_read p.request.kind) (clashes w.pending) (λ r. (m.pending k p e).stands r q) safe))
+  given m k p e bytes None q = (w.buffers, ap (λ c. if c then None else Some w.buffers) (false_from_ne_true (is_read p.request.kind) (λ r. true≢false (sym ((m.pending k p e).stands r q) ∙ safe))))
 
   pub completes_freely : IsMemory w.program w.pending w.buffers → CompletesFreely w
   completes_freely m k p res bytes e may n =

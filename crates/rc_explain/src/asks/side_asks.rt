@@ -9,7 +9,7 @@ use rc_lang::program::{Program, TokenKind};
 use rc_report::engine_fault::EngineFault;
 use rc_report::printed::buffer_name;
 use rc_report::streams::Sink;
-use rc_rules::asks::Asks;
+use rc_rules::asks::{Asks, kind_of};
 use rc_rules::mode::{Inside, Mode, Peeked, Slot};
 use rc_rules::side::Side;
 use rc_split::part::Part;
@@ -42,21 +42,6 @@ fn is_peeked(side: &Side) -> bool {
     }
 }
 
-/// Whether a part is held.
-fn has_part(side: &Side, part: Part) -> bool {
-    match part {
-        Part::Shares(buffer, count) => count <= side.shares(buffer),
-        Part::Token(user_data) => side.has_token(user_data),
-        Part::Credits(count) => count <= side.credits(),
-    }
-}
-
-/// What the line of a token says that its request is.
-fn kind_of(program: &Program, user_data: u64) -> Option<TokenKind> {
-    let place = program.token_place(user_data)?;
-    program.tokens().get(place).map(|token| token.kind)
-}
-
 /// The part that is asked for and isn't there, if it is one.
 pub fn missing_part(side: &Side, thread: usize, zero: bool, asks: Asks) -> Option<Part> {
     let program = side.program();
@@ -67,11 +52,7 @@ pub fn missing_part(side: &Side, thread: usize, zero: bool, asks: Asks) -> Optio
         Asks::Loop(list) => return first_missing(program, said(program, thread, list, zero), side),
         _ => return None,
     };
-    if has_part(side, part) {
-        None
-    } else {
-        Some(part)
-    }
+    if side.holds(part) { None } else { Some(part) }
 }
 
 /// How many entries a loop's items allow to be queued.

@@ -1,6 +1,6 @@
 //! What the steps of threads do to the rings and the buffers.
 
-ghost use Rattle.std.specs.Prelude.{◌≡◌, ◌+◌, ◌<◌, ◌≤◌, ◌^◌, IsSome, MatchResult, Some, true, length, map, nat_eq, position, take};
+ghost use Rattle.std.specs.Prelude.{◌≡◌, ◌+◌, ◌<◌, ◌≤◌, ◌^◌, IsSome, MatchResult, Some, true, length, map, take};
 ghost use Rattle.std.specs.Arc.{arc_value};
 ghost use Rattle.std.specs.Vec.{vec_capacity, vec_len};
 ghost use Rattle.rc_world.specs.Changes.{CallIsSmall, StmtIsSmall, standing_at};
@@ -16,7 +16,7 @@ use super::{Machine, Pending};
 use crate::request_ring::RequestRing;
 use rc_lang::lines::{Op, Stmt};
 use rc_lang::request::Request;
-use rc_world::world::requests::is_read;
+use rc_world::world::requests::{is_read, remove_first};
 use std::alloc::AllocError;
 
 impl Machine {
@@ -203,24 +203,4 @@ fn count_in(number: i32) -> u32
     ensures { result ≡ machine.count_in number }
 {
     u32::try_from(number).unwrap_or(0)
-}
-
-// The requests without the first that has this user data.
-fn remove_first(requests: &mut Vec<Request>, user_data: u64)
-    ensures items { requests.new.items ≡ machine.without_data user_data requests.old.items }
-    ensures fewer { vec_len requests.new ≤ vec_len requests.old }
-    ensures capacity { vec_capacity requests.new ≡ vec_capacity requests.old }
-{
-    if let Some(place) = place_of(requests, user_data) {
-        requests.remove(place);
-    }
-}
-
-// The place of the first request with this user data.
-fn place_of(requests: &[Request], user_data: u64) -> Option<usize>
-    ensures { result ≡ position (λ r. nat_eq r.user_data user_data) requests.now }
-{
-    requests
-        .iter()
-        .position(|request| request.user_data == user_data)
 }

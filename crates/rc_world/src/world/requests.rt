@@ -1,6 +1,7 @@
 //! Requests: what they may complete with, and where they stand.
 
-ghost use Rattle.std.specs.Prelude.{◌≡◌, ◌<◌, ◌&&◌, ◌||◌, length, nat_eq, position, IfSome};
+ghost use Rattle.std.specs.Prelude.{◌≡◌, ◌<◌, ◌≤◌, ◌&&◌, ◌||◌, length, nat_eq, position, IfSome};
+ghost use Rattle.std.specs.Vec.{vec_capacity, vec_len};
 ghost use Rattle.rc_lang.specs.Requests as requests;
 ghost use Rattle.rc_world.specs.Machine as machine;
 
@@ -67,9 +68,11 @@ fn place_of(requests: &[Request], user_data: u64) -> Option<usize>
         .position(|request| request.user_data == user_data)
 }
 
-// The requests without the first that has this user data.
-pub(super) fn remove_first(requests: &mut Vec<Request>, user_data: u64)
-    ensures { requests.new.items ≡ machine.without_data user_data requests.old.items }
+/// Leaves the requests without the first that has this user data. The room stays.
+pub fn remove_first(requests: &mut Vec<Request>, user_data: u64)
+    ensures items { requests.new.items ≡ machine.without_data user_data requests.old.items }
+    ensures fewer { vec_len requests.new ≤ vec_len requests.old }
+    ensures capacity { vec_capacity requests.new ≡ vec_capacity requests.old }
 {
     if let Some(place) = place_of(requests, user_data) {
         requests.remove(place);

@@ -1,6 +1,7 @@
 use Rattle.std.proofs.Common.{◌≡◌, ◌≤◌, true}
 use Rattle.rc_read.specs.Texts.{texts_of}
-use Rattle.rc_read.proofs.Cuts.{CutAt, NoFeedBefore}
+use Rattle.rc_read.proofs.Cuts.{CutAt}
+use Rattle.rc_read.proofs.Streams.{NoFeedBefore}
 use Rattle.rc_read.proofs.words.put_words_before.Given as goal
 
 abbrev pub invariant-loop-i : goal.invariant-loop-i
