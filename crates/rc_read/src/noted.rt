@@ -124,12 +124,14 @@ fn find_about(parts: &Parts, near: usize, word: &[u8]) -> (usize, Option<u32>)
     find_buffer(&parts.buffers, word)
 }
 
-fn look_at_buffer(parts: &Parts, near: usize, noted: &mut Noted, word: &[u8]) -> Option<Value>
+// A buffer, which is looked for first near the one that was named last.
+fn look_at_buffer(parts: &Parts, near: &mut usize, noted: &mut Noted, word: &[u8]) -> Option<Value>
     ensures value { result ≡ spec.value_at (view_sheet parts.now) noted.old.seen Part.Buffer word.now }
     ensures seen { noted.new.seen ≡ spec.seen_behind (view_sheet parts.now) noted.old.seen Part.Buffer word.now }
     ensures wrong { noted.new.wrong ≡ judging.wrong_with (view_sheet parts.now) Part.Buffer word.now noted.old.wrong }
 {
-    let (buffer, shares) = find_about(parts, near, word);
+    let (buffer, shares) = find_about(parts, *near, word);
+    *near = buffer;
     noted.lack(shares.is_none());
     noted.seen.buffer = buffer;
     noted.seen.shares = shares;
@@ -227,7 +229,7 @@ fn operand_of(alloc: Global, parts: &mut Parts, word: &[u8]) -> Result<Option<Va
 }
 
 // What the word of a place says. What it says of the places behind it, and what is wrong with its name, is noted, and a
-// variable is added where it is new. A buffer is looked for first near the one that was named last.
+// variable is added where it is new.
 fn look_at(
     alloc: Global,
     parts: &mut Parts,
@@ -249,11 +251,7 @@ fn look_at(
         Part::Signed => signed_value(word),
         Part::Number(Range::Size) => look_at_size(noted, word),
         Part::Number(range) => small_value(number_at(parts, noted.seen, range, word)),
-        Part::Buffer => {
-            let value = look_at_buffer(parts, *near, noted, word);
-            *near = noted.seen.buffer;
-            value
-        }
+        Part::Buffer => look_at_buffer(parts, near, noted, word),
         Part::Token => user_data_value(look_at_token(parts, noted, word)),
         Part::File => look_at_file(parts, noted, word),
         Part::NewFile => look_at_new_file(parts, noted, word),

@@ -148,9 +148,6 @@ module _ (P : Program) (t : Thread) (j : ℕ) (w : Walk) (r : Reaches P t j w) w
   pub end_loop_some : (o k : ℕ) → stmt_at t.lines j ≡ Some (EndLoop o k) → IsSome (last_of w.loops)
   end_loop_some o k e = some_last (IsLoop P t j r.labels) _ o w.loops (end_kept o k e)
 
-  pub end_loop_of : (o k : ℕ) (s : State) → stmt_at t.lines j ≡ Some (EndLoop o k) → last_of w.loops ≡ Some s → program_of s ≡ program_of w.state
-  end_loop_of o k s e q = (same_last (IsLoop P t j r.labels) _ o w.loops s (end_kept o k e) q).breaks.of.program ∙ sym r.at.here.of.program
-
   pub end_loop_passes : {X : Type 0} (o k : ℕ) (items : Items) (new : State) (kept : List (Option State)) (x : Result X Cause) → stmt_at t.lines j ≡ Some (EndLoop o k) → items ≡ items_at t.lists k → ClosesLoop (asks_both (label_of w.state) (λ z bag m. may_loop (program_of w.state) 14 items z bag m)) w.loops kept new x → PassesLine P t j (record { state = new; branches = w.branches; peek = w.peek; loops = kept }) x
   end_loop_passes o k items new kept x e q g = go x (subst (λ ps. ClosesLoop ps w.loops kept new x) asked g)
     where

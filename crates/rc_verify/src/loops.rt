@@ -37,8 +37,7 @@ pub fn close_loop<'a>(
     loops: &mut Kept<'a>,
     items: &Items,
 ) -> Result<(), Cause>
-    requires kept { IsSome (last_of loops.old) }
-    requires of { (s : states.State) → last_of loops.old ≡ Some s → states.program_of s ≡ states.program_of state.old }
+    requires { IsSome (last_of loops.old) }
     ensures closes { spec.ClosesLoop (rules.asks_both (states.label_of state.old) (λ z bag m. rules.may_loop (states.program_of state.old) 14 (view_items items.now) z bag m)) loops.old loops.new state.new result }
     ensures stays { OnErr result (state.new ≡ state.old) }
 {

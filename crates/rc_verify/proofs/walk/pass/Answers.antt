@@ -6,7 +6,7 @@ use Rattle.rc_verify.proofs.Arming.{arm_stays, case_declared, case_passes, case_
 use Rattle.rc_verify.proofs.Branching.{else_passes, else_some, end_alike, end_of, end_passes, end_some, end_stays, if_passes, may_test, room_here}
 use Rattle.rc_verify.proofs.Breaking.{break_locked, break_passes, break_some, may_leave}
 use Rattle.rc_verify.proofs.Ending.{arm_alike, arm_end_passes, arm_of, arm_some, end_peek_passes, end_peek_some}
-use Rattle.rc_verify.proofs.Looping.{end_loop_of, end_loop_passes, end_loop_some, loop_list, loop_passes, loop_room}
+use Rattle.rc_verify.proofs.Looping.{end_loop_passes, end_loop_some, loop_list, loop_passes, loop_room}
 use Rattle.rc_verify.proofs.Peeking.{peek_passes}
 use Rattle.rc_verify.proofs.Placing.{at, items_here, loop_there}
 use Rattle.rc_verify.proofs.Plainly.{do_passes, lock_passes, locked_here, put_passes, release_passes, small_here, unlocked_here}
@@ -124,11 +124,8 @@ returns-in-Loop-clause-passes c = loop_passes _ _ _ _ c.requires.reaches c.in-Lo
 pub index-requires-in-EndLoop : goal.index-requires-in-EndLoop
 index-requires-in-EndLoop c = omega (arith, c.args.thread.now.lists.ok.0, loop_there c.args.thread.now.lists.items c.in-EndLoop.k (c.requires.reaches.thread.resolved c.args.place (EndLoop c.in-EndLoop.field-0 c.in-EndLoop.k) (at c.requires.stands c.in-EndLoop.is)))
 
-pub close_loop-requires-clause-of : goal.close_loop-requires-clause-of
-close_loop-requires-clause-of c = λ s q. end_loop_of _ _ _ _ c.requires.reaches c.in-EndLoop.field-0 c.in-EndLoop.k s (at c.requires.stands c.in-EndLoop.is) q
-
-pub close_loop-requires-clause-kept : goal.close_loop-requires-clause-kept
-close_loop-requires-clause-kept c = end_loop_some _ _ _ _ c.requires.reaches c.in-EndLoop.field-0 c.in-EndLoop.k (at c.requires.stands c.in-EndLoop.is)
+pub close_loop-requires : goal.close_loop-requires
+close_loop-requires c = end_loop_some _ _ _ _ c.requires.reaches c.in-EndLoop.field-0 c.in-EndLoop.k (at c.requires.stands c.in-EndLoop.is)
 
 pub returns-in-EndLoop-clause-passes : goal.returns-in-EndLoop-clause-passes
 returns-in-EndLoop-clause-passes c = end_loop_passes _ _ _ _ c.requires.reaches c.in-EndLoop.field-0 c.in-EndLoop.k _ c.close_loop.new.state c.close_loop.new.loops c.close_loop.result (at c.requires.stands c.in-EndLoop.is) (items_here c.args.thread.now.lists.items c.in-EndLoop.k c.index-in-EndLoop.result.now (c.requires.reaches.thread.resolved c.args.place (EndLoop c.in-EndLoop.field-0 c.in-EndLoop.k) (at c.requires.stands c.in-EndLoop.is)) c.index-in-EndLoop.ensures) c.close_loop.ensures.closes
