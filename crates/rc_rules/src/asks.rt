@@ -52,7 +52,7 @@ pub enum Asks {
     Agreeing,
 }
 
-/// What the line of a token says that its request is.
+/// What the line of a token says that its request is: none where no token has this user_data.
 pub fn kind_of(program: &Program, user_data: u64) -> Option<TokenKind>
     ensures { result ≡ kind_of program.now user_data }
 {

@@ -26,7 +26,7 @@ use rc_device::chooser::Chooser;
 use rc_device::device::Device;
 use std::alloc::{AllocError, Global};
 use std::marker::Brand;
-use std::sync::ledger::{Blank, Ledger, Share};
+use std::sync::ledger::{Blank, Book, Ledger, Share};
 use std::sync::{Arc, Condvar, Mutex, Wait};
 use std::thread;
 use std::thread::Threads;
@@ -34,14 +34,56 @@ use std::thread::Threads;
 // How many threads serve jobs.
 const WORKERS: u32 = 2;
 
-// A run at its start: how its players stand, and its crews, the players and the workers.
+// The crews of a run: its players, and its workers.
 #[derive(Drop)]
-struct Start<L: Ledger> {
+struct Crews<L: Ledger> {
+    players: Crew<L>,
+    workers: Crew<L>,
+}
+
+// A run at its start: no event, all players up, and a bell for each.
+#[derive(Drop)]
+struct Scene {
     live: Live,
     roster: Roster,
     bells: Vec<Condvar>,
-    players: Crew<L>,
-    workers: Crew<L>,
+}
+
+impl Scene {
+    // What the threads share then, with a book of no event.
+    fn into_shared<D: Device, C, L: Ledger + Asked>(
+        self,
+        book: Book<L>,
+        limit: u64,
+        device: Mutex<D>,
+        chooser: C,
+    ) -> Shared<D, C, L>
+        requires live { self.live ≡ begun L.program }
+        requires roster { AllAreUp self.roster.stances }
+        requires safe { IsSafe L.program }
+        requires limit { limit ≡ L.limit }
+        requires total { book.total ≡ 0 }
+    {
+        let Scene {
+            live,
+            roster,
+            bells,
+        } = self;
+        Shared {
+            board: Mutex::new(Board::new(Locked::new(live, book, limit), roster)),
+            device,
+            chooser: Mutex::new(chooser),
+            bells,
+            offered: Condvar::new(),
+        }
+    }
+}
+
+// A run at its start, and crews with room for all of its threads.
+#[derive(Drop)]
+struct Start<L: Ledger> {
+    scene: Scene,
+    crews: Crews<L>,
 }
 
 // The run at its start.
@@ -50,18 +92,21 @@ fn begin<L: Ledger>(
     admitted: &Arc<Admitted, Global>,
     threads: u32,
 ) -> Result<Start<L>, AllocError>
-    ensures live { IfOk result (λ r. r.live ≡ begun (arc_value admitted.now)) }
-    ensures roster { IfOk result (λ r. AllAreUp r.roster.stances) }
-    ensures players { IfOk result (λ r. HasCapacity threads r.players.started × HasCapacity threads r.players.counts) }
-    ensures workers { IfOk result (λ r. HasCapacity WORKERS r.workers.started × HasCapacity WORKERS r.workers.counts) }
+    ensures live { IfOk result (λ r. r.scene.live ≡ begun (arc_value admitted.now)) }
+    ensures roster { IfOk result (λ r. AllAreUp r.scene.roster.stances) }
+    ensures players { IfOk result (λ r. HasCapacity threads r.crews.players.started × HasCapacity threads r.crews.players.counts) }
+    ensures workers { IfOk result (λ r. HasCapacity WORKERS r.crews.workers.started × HasCapacity WORKERS r.crews.workers.counts) }
 {
-    Ok(Start {
+    let scene = Scene {
         live: Live::start(alloc, Arc::try_clone(admitted)?)?,
         roster: Roster::new(alloc, admitted.program())?,
         bells: bells_of(alloc, threads)?,
+    };
+    let crews = Crews {
         players: Crew::new(alloc, threads)?,
         workers: Crew::new(alloc, WORKERS)?,
-    })
+    };
+    Ok(Start { scene, crews })
 }
 
 // A bell for each player.
@@ -93,14 +138,12 @@ fn together<
     shared: &Shared<D, C, L>,
     gate: &G,
     threads: u32,
-    players: Crew<L>,
-    workers: Crew<L>,
+    crews: Crews<L>,
     all: Share<L>,
 ) -> Tally<L>
-    requires players { HasCapacity threads players.started × HasCapacity threads players.counts }
-    requires workers { HasCapacity WORKERS workers.started × HasCapacity WORKERS workers.counts }
-    requires parts { all.parts ≡ threads + WORKERS }
-    requires amount { all.amount ≡ 0 }
+    requires players { HasCapacity threads crews.players.started × HasCapacity threads crews.players.counts }
+    requires workers { HasCapacity WORKERS crews.workers.started × HasCapacity WORKERS crews.workers.counts }
+    requires share { (all.parts ≡ threads + WORKERS) × (all.amount ≡ 0) }
     ensures parts { result.all.parts ≡ threads + WORKERS }
     ensures amount { result.all.amount ≡ sum result.turns.items + sum result.posts.items }
 {
@@ -108,14 +151,14 @@ fn together<
         thread::scope_env(),
         rt,
         move |scope| -> Tally<L>
-            requires players { HasCapacity threads players.started × HasCapacity threads players.counts }
-            requires workers { HasCapacity WORKERS workers.started × HasCapacity WORKERS workers.counts }
-            requires parts { all.parts ≡ threads + WORKERS }
-            requires amount { all.amount ≡ 0 }
+            requires players { HasCapacity threads crews.players.started × HasCapacity threads crews.players.counts }
+            requires workers { HasCapacity WORKERS crews.workers.started × HasCapacity WORKERS crews.workers.counts }
+            requires share { (all.parts ≡ threads + WORKERS) × (all.amount ≡ 0) }
             ensures parts { result.all.parts ≡ threads + WORKERS }
             ensures amount { result.all.amount ≡ sum result.turns.items + sum result.posts.items }
         {
             let mut all = all;
+            let Crews { players, workers } = crews;
             let players = players.start(scope, rt, shared, gate, Role::Player, threads, &mut all);
             let workers = workers.start(scope, rt, shared, gate, Role::Worker, WORKERS, &mut all);
             let turns = players.join(rt, threads, &mut all);
@@ -202,23 +245,11 @@ fn run_in<
     let Ok(start) = begin(alloc, &admitted, threads) else {
         return refused(&device, alloc, &admitted, limit);
     };
-    let Start {
-        live,
-        roster,
-        bells,
-        players,
-        workers,
-    } = start;
+    let Start { scene, crews } = start;
     let (book, all) = blank.open::<L>();
     admitted.program();
-    let shared = Shared {
-        board: Mutex::new(Board::new(Locked::new(live, book, limit), roster)),
-        device,
-        chooser: Mutex::new(chooser),
-        bells,
-        offered: Condvar::new(),
-    };
-    let tally = together(rt, &shared, gate, threads, players, workers, all);
+    let shared = scene.into_shared(book, limit, device, chooser);
+    let tally = together(rt, &shared, gate, threads, crews, all);
     let Shared { board, .. } = shared;
     finished(&admitted, limit, board.into_inner().into_run(), tally)
 }

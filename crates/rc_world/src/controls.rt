@@ -261,53 +261,34 @@ impl Controls {
         requires step { IsSome (spec.does self.old (standing_at self.old thread) op answer) }
         ensures { spec.made program.now self.old thread (spec.does self.old (standing_at self.old thread) op answer) ≡ Some (result, self.new) }
     {
-        match op {
-            Op::Set(x, n) => self.assign(program, thread, place, x, n),
+        let action = match op {
+            Op::Set(x, n) => return self.assign(program, thread, place, x, n),
             Op::Assign(x, y) => {
-                let value = self.variable(thread, y);
-                self.assign(program, thread, place, x, value)
+                return self.assign(program, thread, place, x, self.variable(thread, y));
             }
             Op::Add(x, a, b) => {
                 let value = sum(self.operand(thread, a), self.operand(thread, b));
-                self.assign(program, thread, place, x, value)
+                return self.assign(program, thread, place, x, value);
             }
             Op::Subtract(x, a, b) => {
                 let value = difference(self.operand(thread, a), self.operand(thread, b));
-                self.assign(program, thread, place, x, value)
+                return self.assign(program, thread, place, x, value);
             }
-            Op::Load(x, _, _) => self.load(program, thread, place, x, answer),
-            Op::Store(_, _, x) => {
-                let byte = self.byte(thread, x);
-                self.pass(program, thread, place, Action::Stored(byte))
-            }
-            Op::Fill(_, x) => {
-                let byte = self.byte(thread, x);
-                self.pass(program, thread, place, Action::Filled(byte))
-            }
-            Op::Print(x) => {
-                let value = self.variable(thread, x);
-                self.pass(program, thread, place, Action::Printed(value))
-            }
-            Op::GetSqe => self.pass(program, thread, place, Action::EntryOpened),
-            Op::PrepRead(_, _, _, _) => self.pass(program, thread, place, Action::ReadPrepared),
-            Op::PrepWrite(_, _, _, _, _) => self.pass(
-                program,
-                thread,
-                place,
-                Action::WritePrepared,
-            ),
-            Op::PrepFsync(_, _) => self.pass(program, thread, place, Action::FsyncPrepared),
-            Op::PrepNop => self.pass(program, thread, place, Action::NopPrepared),
-            Op::SetData64(user_data) => self.pass(
-                program,
-                thread,
-                place,
-                Action::DataSet(user_data),
-            ),
-            Op::Submit(x) => self.submit(program, thread, place, x, answer),
-            Op::SubmitAndWait(x, _) => self.submit(program, thread, place, x, answer),
-            Op::CqeSeen => self.reap(program, thread, place, answer),
-        }
+            Op::Load(x, _, _) => return self.load(program, thread, place, x, answer),
+            Op::Submit(x) => return self.submit(program, thread, place, x, answer),
+            Op::SubmitAndWait(x, _) => return self.submit(program, thread, place, x, answer),
+            Op::CqeSeen => return self.reap(program, thread, place, answer),
+            Op::Store(_, _, x) => Action::Stored(self.byte(thread, x)),
+            Op::Fill(_, x) => Action::Filled(self.byte(thread, x)),
+            Op::Print(x) => Action::Printed(self.variable(thread, x)),
+            Op::GetSqe => Action::EntryOpened,
+            Op::PrepRead(_, _, _, _) => Action::ReadPrepared,
+            Op::PrepWrite(_, _, _, _, _) => Action::WritePrepared,
+            Op::PrepFsync(_, _) => Action::FsyncPrepared,
+            Op::PrepNop => Action::NopPrepared,
+            Op::SetData64(user_data) => Action::DataSet(user_data),
+        };
+        self.pass(program, thread, place, action)
     }
 
     // The value of an operand.

@@ -64,41 +64,26 @@ impl Machine {
             Op::Store(buffer, i, x) => {
                 let byte = self.controls.byte(thread, x);
                 self.store(buffer, i, byte);
-                Ok(())
             }
             Op::Fill(buffer, x) => {
                 let byte = self.controls.byte(thread, x);
                 self.fill(buffer, byte);
-                Ok(())
             }
-            Op::GetSqe => {
-                self.ring.open();
-                Ok(())
-            }
+            Op::GetSqe => self.ring.open(),
             Op::PrepRead(fd, buffer, len, off) => {
                 self.ring.prepare_read(fd as i32, buffer as u32, len, off);
-                Ok(())
             }
             Op::PrepWrite(fd, buffer, len, off, _) => {
                 self.ring.prepare_write(fd as i32, buffer as u32, len, off);
-                Ok(())
             }
-            Op::PrepFsync(fd, datasync) => {
-                self.ring.prepare_fsync(fd as i32, datasync);
-                Ok(())
-            }
-            Op::PrepNop => {
-                self.ring.prepare_nop();
-                Ok(())
-            }
-            Op::SetData64(user_data) => self.ring.queue(user_data),
-            Op::Submit(_) | Op::SubmitAndWait(_, _) => self.hand_over(taken),
-            Op::CqeSeen => {
-                self.reap();
-                Ok(())
-            }
-            _ => Ok(()),
+            Op::PrepFsync(fd, datasync) => self.ring.prepare_fsync(fd as i32, datasync),
+            Op::PrepNop => self.ring.prepare_nop(),
+            Op::SetData64(user_data) => self.ring.queue(user_data)?,
+            Op::Submit(_) | Op::SubmitAndWait(_, _) => self.hand_over(taken)?,
+            Op::CqeSeen => self.reap(),
+            _ => {}
         }
+        Ok(())
     }
 
     // A byte is written at a place of a buffer.

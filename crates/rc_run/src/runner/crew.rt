@@ -38,6 +38,37 @@ pub struct Crew<L: Ledger> {
     pub counts: Vec<u64>,
 }
 
+// Starts a thread of a crew. Where it can't be made the run is to stop, and its part is played here.
+fn spawn<
+    's,
+    E,
+    D: Device + Drop + Send + 's,
+    C: Chooser + Drop + Send + 's,
+    G: Gate + Sync + 's,
+    L: Ledger + Asked + Send + Sync + 's,
+    R: Threads + Wait + Sync + 's,
+>(
+    scope: &Scope<'s, E>,
+    rt: &'s R,
+    shared: &'s Shared<D, C, L>,
+    gate: &'s G,
+    role: Role,
+    number: u32,
+    mine: Counted<L>,
+) -> Started<L> {
+    let act = move || match role {
+        Role::Player => play(rt, shared, gate, number, mine),
+        Role::Worker => work(rt, shared, mine),
+    };
+    match scope.spawn(act) {
+        Ok(handle) => Started::Running(handle),
+        Err(refused) => {
+            shared.stop(rt);
+            Started::Over((refused.value)())
+        }
+    }
+}
+
 impl<L: Ledger> Crew<L> {
     /// Nobody, with room for so many.
     pub fn new(alloc: Global, count: u32) -> Result<Crew<L>, AllocError>
@@ -49,8 +80,7 @@ impl<L: Ledger> Crew<L> {
         })
     }
 
-    /// Starts its threads, each with a part of the share. Where one can't be made the run is to stop, and its part is
-    /// played here.
+    /// Starts its threads, each with a part of the share. The part of one that can't be made is played here.
     pub fn start<
         's,
         E,
@@ -86,17 +116,7 @@ impl<L: Ledger> Crew<L> {
                 events: 0,
                 share: all.split_off(1, 0),
             };
-            let act = move || match role {
-                Role::Player => play(rt, shared, gate, number, mine),
-                Role::Worker => work(rt, shared, mine),
-            };
-            match scope.spawn(act) {
-                Ok(handle) => started.push_reserved(Started::Running(handle)),
-                Err(refused) => {
-                    shared.stop(rt);
-                    started.push_reserved(Started::Over((refused.value)()));
-                }
-            }
+            started.push_reserved(spawn(scope, rt, shared, gate, role, number, mine));
         }
         Crew { started, counts }
     }

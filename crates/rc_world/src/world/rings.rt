@@ -49,40 +49,27 @@ impl<'a> World<'a> {
         match op {
             Op::Store(buffer, i, x) => {
                 let byte = self.controls.byte(thread, x);
-                self.store(buffer, i, byte)
+                self.store(buffer, i, byte)?;
             }
             Op::Fill(buffer, x) => {
                 let byte = self.controls.byte(thread, x);
-                self.fill(buffer, byte)
+                self.fill(buffer, byte)?;
             }
-            Op::GetSqe => {
-                self.open();
-                Ok(())
-            }
+            Op::GetSqe => self.open(),
             Op::PrepRead(fd, buffer, len, off) => {
                 self.prepare(request_of(Kind::Read, fd, buffer, len, off));
-                Ok(())
             }
             Op::PrepWrite(fd, buffer, len, off, _) => {
                 self.prepare(request_of(Kind::Write, fd, buffer, len, off));
-                Ok(())
             }
-            Op::PrepFsync(fd, _) => {
-                self.prepare(request_of(Kind::Fsync, fd, 0, 0, 0));
-                Ok(())
-            }
-            Op::PrepNop => {
-                self.prepare(new_request(Kind::Nop, -1, 0, 0, 0));
-                Ok(())
-            }
-            Op::SetData64(user_data) => self.queue(user_data),
-            Op::Submit(_) | Op::SubmitAndWait(_, _) => self.hand_over(taken),
-            Op::CqeSeen => {
-                self.reap();
-                Ok(())
-            }
-            _ => Ok(()),
+            Op::PrepFsync(fd, _) => self.prepare(request_of(Kind::Fsync, fd, 0, 0, 0)),
+            Op::PrepNop => self.prepare(new_request(Kind::Nop, -1, 0, 0, 0)),
+            Op::SetData64(user_data) => self.queue(user_data)?,
+            Op::Submit(_) | Op::SubmitAndWait(_, _) => self.hand_over(taken)?,
+            Op::CqeSeen => self.reap(),
+            _ => {}
         }
+        Ok(())
     }
 
     // A byte is written at a place of a buffer.
