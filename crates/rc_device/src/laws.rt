@@ -1,6 +1,6 @@
 //! Laws of the definitions that serving keeps to, over lists alone.
 
-ghost use Rattle.std.specs.Prelude.{◌≡◌, ◌≢◌, ℕ, ℤ, ◌+◌, ◌<◌, ◌≤◌, ◌⊎◌, max, List, length, slice_index, Some};
+ghost use Rattle.std.specs.Prelude.{◌≡◌, ◌≢◌, ℕ, ℤ, ◌+◌, ◌<◌, ◌≤◌, max, List, length, slice_index, Some};
 ghost use Rattle.rc_device.specs.Files.{DiskFile, read_from, written_to, place_of, content_of, with_content};
 
 /// Where bytes were written, they are read.

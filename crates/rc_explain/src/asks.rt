@@ -1,6 +1,6 @@
 //! What a refused line asks for, and what is there.
 
-ghost use Rattle.std.specs.Prelude.{◌≡◌, ◌+◌, ◌<◌, ◌^◌, length};
+ghost use Rattle.std.specs.Prelude.{◌+◌, ◌<◌, ◌^◌, length};
 ghost use Rattle.rc_report.specs.Streams.{FailsToWrite};
 
 mod ends;

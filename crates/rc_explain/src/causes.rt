@@ -1,6 +1,6 @@
 //! Why each cause is a mistake, and how it is mended as a rule.
 
-ghost use Rattle.std.specs.Prelude.{◌≡◌, codes};
+ghost use Rattle.std.specs.Prelude.{◌≡◌};
 ghost use Rattle.rc_explain.specs.Causes as spec;
 
 use rc_read::ReadCause;

@@ -1,6 +1,6 @@
 //! Where a part that a refused line asks for was last held, and how it went.
 
-ghost use Rattle.std.specs.Prelude.{◌≡◌, ◌+◌, ◌<◌, ◌^◌, length};
+ghost use Rattle.std.specs.Prelude.{◌+◌, ◌<◌, ◌^◌, length};
 ghost use Rattle.rc_report.specs.Streams.{FailsToWrite};
 
 use crate::asks::{labels_at, missing_part_of};

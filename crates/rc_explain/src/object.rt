@@ -1,6 +1,6 @@
 //! A verdict and what explains it, as JSON.
 
-ghost use Rattle.std.specs.Prelude.{◌<◌, IfSome, length};
+ghost use Rattle.std.specs.Prelude.{◌<◌, length};
 
 mod parts;
 

@@ -1,6 +1,6 @@
 //! Short texts of words and numbers.
 
-ghost use Rattle.std.specs.Prelude.{◌≡◌, ◌+◌, ◌<◌, ◌^◌};
+ghost use Rattle.std.specs.Prelude.{◌+◌, ◌<◌, ◌^◌};
 ghost use Rattle.rc_explain.specs.Words as spec;
 ghost use Rattle.rc_report.specs.Streams.{FailsToWrite, Wrote};
 

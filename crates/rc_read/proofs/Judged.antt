@@ -5,7 +5,6 @@ use Rattle.rc_read.specs.Adds.{added, counted, form_in, items, places_in, says, 
 use Rattle.rc_read.specs.declared.fault.ReadCause.{ReadCause}
 use Rattle.rc_read.specs.declared.says.Says.{Says}
 use Rattle.rc_read.specs.declared.says.Says.TheVariants.{Case, Close}
-use Rattle.rc_read.specs.declared.table.Part.{Part}
 use Rattle.rc_read.specs.declared.table.Part.TheVariants as part
 use Rattle.rc_read.specs.declared.table.Row.{Row}
 use Rattle.rc_read.specs.Judging.{named_sentences, JudgesRow, JudgesWords}

@@ -1,6 +1,6 @@
 //! What a line adds to the open thread.
 
-ghost use Rattle.std.specs.Prelude.{◌≡◌, ◌++◌, ◌∷◌, [], length, map, slice_set, unwrap_or, OnOk, IfOk};
+ghost use Rattle.std.specs.Prelude.{◌≡◌, ◌++◌, ◌∷◌, [], map, slice_set, unwrap_or, OnOk, IfOk};
 ghost use Rattle.rc_lang.specs.Nesting as nesting;
 ghost use Rattle.rc_lang.specs.Parts.{view_items, view_thread};
 ghost use Rattle.rc_read.specs.Adds as spec;

@@ -1,6 +1,6 @@
 //! A text is checked, and its verdict is written.
 
-ghost use Rattle.std.specs.Prelude.{◌≡◌, ◌+◌, ◌<◌, ◌^◌, IfOk, Some};
+ghost use Rattle.std.specs.Prelude.{◌+◌, ◌<◌, ◌^◌, IfOk, Some};
 ghost use Rattle.rc_read.specs.Answer.{answer_of};
 ghost use Rattle.rc_report.specs.Checks.{ChecksAs, IsVerdict, GivesVerdict, told};
 ghost use Rattle.rc_report.specs.Engine.{WritesNothingOnRead};

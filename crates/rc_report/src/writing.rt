@@ -1,6 +1,6 @@
 //! Texts that are written in pieces.
 
-ghost use Rattle.std.specs.Prelude.{◌≡◌, ◌+◌, ◌<◌, ◌^◌, map};
+ghost use Rattle.std.specs.Prelude.{◌+◌, ◌<◌, ◌^◌};
 ghost use Rattle.std.specs.List.{flat_map};
 ghost use Rattle.rc_report.specs.Streams.{FailsToWrite, Wrote};
 

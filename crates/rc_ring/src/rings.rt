@@ -1,6 +1,6 @@
 //! Both rings of an io_uring.
 
-ghost use Rattle.std.specs.Prelude.{◌≡◌, ◌+◌, ◌*◌, ◌%◌, ◌<◌, ◌≤◌, ◌↔◌, Bool, true, false, [], ◌∷◌, ◌++◌, length, drop, slice_get, IsTrue, IsNone, IfSome, Some, OnSome, IfNone, IsErr, IfOk, OnOk, OnErr};
+ghost use Rattle.std.specs.Prelude.{◌≡◌, ◌+◌, ◌*◌, ◌%◌, ◌<◌, ◌≤◌, ◌↔◌, true, false, [], length, slice_get, IsNone, IfSome, Some, OnSome, IfNone, IsErr, IfOk, OnOk, OnErr};
 ghost use Rattle.std.specs.Int.{IsPowerOfTwo};
 ghost use Rattle.std.specs.Option.{option_copied};
 ghost use Rattle.rc_index.specs.RingList.{IsRingList};

@@ -1,6 +1,6 @@
 //! Slots of the submission ring, with their stage in their type.
 
-ghost use Rattle.std.specs.Prelude.{◌≡◌, negsuc, Bool, true, false, Some};
+ghost use Rattle.std.specs.Prelude.{◌≡◌, Bool, true, false, Some};
 ghost use Rattle.rc_ring.specs.Rings.{Prepares, SetData64Call, AbandonCall, ParkCall, after_call, open_place, is_prepared_slot, slot_bytes, entry_with_data, bytes_with_data};
 ghost use Rattle.rc_entry.specs.declared.Entry.{Entry};
 ghost use Rattle.rc_entry.specs.declared.Entry.TheVariants.{Nop, Fsync, Read, Write};

@@ -1,6 +1,6 @@
 //! Why a line is refused.
 
-ghost use Rattle.std.specs.Prelude.{◌≡◌, codes};
+ghost use Rattle.std.specs.Prelude.{◌≡◌};
 ghost use Rattle.rc_rules.specs.Causes as spec;
 
 /// The premise of a rule that a line doesn't meet.

@@ -1,6 +1,6 @@
 //! The rules of the pool, on a holding and what is known of the ring.
 
-ghost use Rattle.std.specs.Prelude.{◌≡◌, ◌+◌, ◌≤◌, ◌^◌, ℕ, nat_eq, nat_le};
+ghost use Rattle.std.specs.Prelude.{◌≡◌, ◌+◌, ◌≤◌, ◌^◌, nat_eq, nat_le};
 ghost use Rattle.std.specs.List.{list_all, list_any};
 ghost use Rattle.rc_lang.specs.Parts.{view_items};
 ghost use Rattle.rc_lang.specs.Program.{IsItems, IsProgram, shares_at};

@@ -1,7 +1,5 @@
 //! The rule of one line, on what is held on one side of a state and what is known of the ring there.
 
-ghost use Rattle.std.specs.Prelude.{◌≡◌};
-ghost use Rattle.rc_lang.specs.Program.{DeclaresToken};
 ghost use Rattle.rc_rules.specs.Labels.{Live};
 ghost use Rattle.rc_rules.specs.OneRule as rules;
 ghost use Rattle.rc_rules.specs.Rules.{case_at, peek_premises};

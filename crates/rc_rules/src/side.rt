@@ -4,7 +4,7 @@ ghost use Rattle.std.specs.Prelude.{◌≡◌, ◌∷◌, [], nat_le, None, true
 ghost use Rattle.rc_lang.specs.Parts.{view_items};
 ghost use Rattle.rc_lang.specs.Program.{IsItems, IsList};
 ghost use Rattle.rc_rules.specs.Causes.{premise_number};
-ghost use Rattle.rc_rules.specs.Labels.{Dead, Live, IsSame, IsStrongest};
+ghost use Rattle.rc_rules.specs.Labels.{Live, IsSame, IsStrongest};
 ghost use Rattle.rc_rules.specs.OneRule as one;
 ghost use Rattle.rc_rules.specs.Premises.{Tests};
 ghost use Rattle.rc_rules.specs.Readers.{has_part};

@@ -3,11 +3,10 @@
 ghost use Rattle.std.specs.Prelude.{◌≡◌, ◌<◌, ◌∷◌, [], Bool, true, IsOkAnd, IfOk, Some, slice_get, length};
 ghost use Rattle.rc_lang.specs.Parts.{view_items};
 ghost use Rattle.rc_lang.specs.Program as programs;
-ghost use Rattle.rc_lang.specs.Program.{DeclaresToken, IsItems, IsList};
+ghost use Rattle.rc_lang.specs.Program.{DeclaresToken, IsItems};
 ghost use Rattle.rc_lang.specs.declared.lines.Op.{Op};
 ghost use Rattle.rc_lang.specs.declared.lines.Stmt.TheVariants as stmts;
 ghost use Rattle.rc_lang.specs.declared.lines.Test.TheVariants as tests;
-ghost use Rattle.rc_rules.specs.Causes.{premise_number};
 ghost use Rattle.rc_rules.specs.Labels.{Dead, Live};
 ghost use Rattle.rc_rules.specs.OneRule as one;
 ghost use Rattle.rc_rules.specs.Premises.{Tests};

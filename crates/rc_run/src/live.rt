@@ -1,15 +1,13 @@
 //! A run under way.
 
-ghost use Rattle.std.specs.Prelude.{◌≡◌, ◌≢◌, ◌+◌, ◌≤◌, ◌<◌, ◌↔◌, ℕ, ℤ, negsuc, ◌≤ℤ◌, [], true, not, None, IsTrue, IfOk, IfErr, IfSome, IfNone, OnOk, OnErr, MatchOption, Some, length, slice_get, filter, map};
+ghost use Rattle.std.specs.Prelude.{◌≡◌, ◌≢◌, ◌+◌, ◌≤◌, ◌<◌, ◌↔◌, ℕ, ℤ, negsuc, ◌≤ℤ◌, [], true, not, None, IsTrue, IfOk, IfErr, IfSome, IfNone, OnOk, OnErr, MatchOption, Some, length, slice_get, filter};
 ghost use Rattle.std.specs.Arc.{arc_value};
-ghost use Rattle.rc_lang.specs.Program.{Program as SpecProgram};
 ghost use Rattle.rc_world.specs.Items.{next_of};
 ghost use Rattle.rc_world.specs.Machine.{start_world};
 ghost use Rattle.rc_world.specs.Runs.{IsRun, IsSafe};
 ghost use Rattle.rc_run.specs.Calm.{IsCalm};
 ghost use Rattle.rc_run.specs.Jobs.{allows};
 ghost use Rattle.rc_run.specs.Lives.{IsAsked, IsInOrder, IsNotOut, IsOut, Lent, Posted, Turned, begun, free, is_free};
-ghost use Rattle.rc_run.specs.Machine.{pending_of, world_of};
 
 use crate::job::Job;
 use crate::machine::{Machine, Pending};

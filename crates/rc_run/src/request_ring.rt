@@ -1,9 +1,7 @@
 //! The requests that the entries of a ring ask for.
 
-ghost use Rattle.std.specs.Prelude.{◌≡◌, ◌+◌, ◌<◌, ◌≤◌, ◌^◌, false, [], ◌∷◌, ◌++◌, length, drop, slice_get, Some, IfOk, OnOk, OnErr, ℤ};
+ghost use Rattle.std.specs.Prelude.{◌≡◌, ◌+◌, ◌<◌, ◌≤◌, ◌^◌, false, [], ◌∷◌, ◌++◌, length, drop, slice_get, Some, IfOk, OnOk, OnErr};
 ghost use Rattle.std.specs.Int.{IsPowerOfTwo};
-ghost use Rattle.rc_entry.specs.Spelling.{SpellsEntry};
-ghost use Rattle.rc_entry.specs.declared.Entry.{Entry as SpecEntry};
 ghost use Rattle.rc_lang.specs.declared.request.Kind.TheVariants.{Nop, Fsync, Read, Write};
 ghost use Rattle.rc_lang.specs.declared.request.Request.{Request as SpecRequest};
 ghost use Rattle.rc_world.specs.declared.world.Slot.TheVariants.{Closed, Vacant, Prepared};

@@ -2,7 +2,7 @@
 //!
 //! Nothing that is promised of a history rests on it: it decides who is woken when.
 
-ghost use Rattle.std.specs.Prelude.{◌≡◌, ◌↔◌, ◌<◌, ◌≤◌, ℕ, true, false, IfOk, IsTrue, MatchOption, length};
+ghost use Rattle.std.specs.Prelude.{◌≡◌, ◌↔◌, ◌<◌, ℕ, true, false, IfOk, IsTrue, MatchOption, length};
 ghost use Rattle.rc_run.specs.Roster.{AnyIsUp, Calls, IsCaseTable, IsFirstIn, IsInTurn, NobodyIn, OtherIsUp, arrived, fresh_roster, is_due, left_by, may_poll, moved_at, moved_by, polled, polls_on, raised, sleeps, stance_at, stance_due, stands_as, unless};
 
 mod cases;

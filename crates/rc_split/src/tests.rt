@@ -1,10 +1,8 @@
 //! A holding of credits, of a program that declares nothing.
 
-ghost use Rattle.std.specs.Prelude.{◌≡◌, ◌≤◌, [], None};
+ghost use Rattle.std.specs.Prelude.{◌≡◌, [], None};
 ghost use Rattle.rc_lang.specs.Parts.{view_items};
-ghost use Rattle.rc_split.specs.Bags.{Credit};
 ghost use Rattle.rc_lang.specs.Program.{IsItems};
-ghost use Rattle.rc_split.specs.Holdings as spec;
 
 use crate::holding::Holding;
 use crate::part::Part;

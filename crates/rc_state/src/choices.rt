@@ -1,6 +1,6 @@
 //! What may be done next, as it is listed for a schedule.
 
-ghost use Rattle.std.specs.Prelude.{◌≡◌, ◌+◌, ◌<◌, ◌^◌, length};
+ghost use Rattle.std.specs.Prelude.{◌+◌, ◌<◌, ◌^◌, length};
 ghost use Rattle.rc_report.specs.Streams.{FailsToWrite, Wrote};
 ghost use Rattle.rc_state.specs.Choices.{pending_choice, thread_choice};
 ghost use Rattle.rc_state.specs.Parts.{each};

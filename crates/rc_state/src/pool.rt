@@ -1,6 +1,6 @@
 //! What is in the pool.
 
-ghost use Rattle.std.specs.Prelude.{◌≡◌, ◌+◌, ◌<◌, ◌^◌, Some, codes, length, slice_get};
+ghost use Rattle.std.specs.Prelude.{◌+◌, ◌<◌, ◌^◌, Some, length, slice_get};
 ghost use Rattle.rc_report.specs.Printed.{name_of_buffer};
 ghost use Rattle.rc_report.specs.Streams.{FailsToWrite, Wrote};
 ghost use Rattle.rc_split.specs.Bags.{ShareOf};

@@ -1,6 +1,6 @@
 //! The open entry, and the requests that are queued, pending and completed.
 
-ghost use Rattle.std.specs.Prelude.{◌≡◌, ◌+◌, ◌<◌, ◌^◌, Some, codes, length, slice_get};
+ghost use Rattle.std.specs.Prelude.{◌+◌, ◌<◌, ◌^◌, Some, codes, length, slice_get};
 ghost use Rattle.rc_report.specs.Streams.{FailsToWrite, Wrote};
 ghost use Rattle.rc_state.specs.Parts.{each};
 ghost use Rattle.rc_state.specs.State as spec;

@@ -1,8 +1,6 @@
 //! Words that several parts of a state have.
 
-ghost use Rattle.std.specs.Prelude.{◌≡◌, ◌+◌, ◌<◌, ◌^◌, [], ◌∷◌, codes, decimal, slice_get};
-ghost use Rattle.rc_lang.specs.Program.{IsProgram};
-ghost use Rattle.rc_report.specs.Printed.{joined};
+ghost use Rattle.std.specs.Prelude.{◌+◌, ◌<◌, ◌^◌};
 ghost use Rattle.rc_report.specs.Streams.{FailsToWrite, Wrote};
 ghost use Rattle.rc_state.specs.State.{moved_text, request_kind_text};
 

@@ -1,13 +1,13 @@
 //! Loops and their breaks.
 
-ghost use Rattle.std.specs.Prelude.{◌≡◌, ◌<◌, ◌∷◌, ◌++◌, [], true, false, length, IsSome, Some, OnErr, OnOk};
+ghost use Rattle.std.specs.Prelude.{◌≡◌, ◌<◌, ◌∷◌, [], true, length, IsSome, Some, OnErr, OnOk};
 ghost use Rattle.rc_lang.specs.Parts.{view_items};
 ghost use Rattle.rc_lang.specs.Program.{IsList};
 ghost use Rattle.rc_rules.specs.Premises.{Meets};
 ghost use Rattle.rc_rules.specs.Rules as rules;
 ghost use Rattle.rc_rules.specs.Sides as sides;
 ghost use Rattle.rc_rules.specs.States as states;
-ghost use Rattle.rc_verify.specs.Kept.{last_of, rest_of};
+ghost use Rattle.rc_verify.specs.Kept.{last_of};
 ghost use Rattle.rc_verify.specs.Loops as spec;
 
 use crate::kept::Kept;

@@ -4,8 +4,7 @@ ghost use Rattle.std.specs.Prelude.{◌≡◌, ◌<◌, length, OnErr, Some, sli
 ghost use Rattle.rc_lang.specs.Parts.{view_thread};
 ghost use Rattle.rc_lang.specs.Program as programs;
 ghost use Rattle.rc_lang.specs.Program.{IsProgram};
-ghost use Rattle.rc_rules.specs.Labels.{Dead};
-ghost use Rattle.rc_rules.specs.States.{OnBoth, program_of};
+ghost use Rattle.rc_rules.specs.States.{program_of};
 ghost use Rattle.rc_verify.specs.Walk as spec;
 
 use crate::arms::{

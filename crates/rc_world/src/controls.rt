@@ -1,9 +1,9 @@
 //! Where each thread stands, its variables, the lock, whether the front completion is peeked, and the pool.
 
-ghost use Rattle.std.specs.Prelude.{◌≡◌, ◌<◌, ◌≤◌, length, map, option_map, pos, replicate, ◌+ℤ◌, ◌-ℤ◌, slice_get, IfOk, IfSome, IsSome, IsOkAnd};
+ghost use Rattle.std.specs.Prelude.{◌≡◌, ◌<◌, ◌≤◌, length, map, option_map, pos, replicate, ◌+ℤ◌, ◌-ℤ◌, slice_get, IfOk, IsSome, IsOkAnd};
 ghost use Rattle.rc_lang.specs.declared.lines.Stmt.TheVariants.{Peek};
-ghost use Rattle.rc_lang.specs.Program.{IsProgram, IsOperand, end_at, lines_of, stmt_at};
-ghost use Rattle.rc_world.specs.Changes.{CallIsSmall, StandsAt, TestIsSmall, gone_to, hop_at, standing_at, with_pool, with_variable};
+ghost use Rattle.rc_lang.specs.Program.{IsProgram, IsOperand, end_at};
+ghost use Rattle.rc_world.specs.Changes.{CallIsSmall, StandsAt, TestIsSmall, hop_at, standing_at, with_pool};
 ghost use Rattle.rc_world.specs.Controls as spec;
 
 use self::places::ready_or_taken;

@@ -1,15 +1,12 @@
 //! The world of a running program.
 
-ghost use Rattle.std.specs.Prelude.{◌≡◌, ◌+◌, ◌<◌, ◌≤◌, ◌^◌, ◌&&◌, ◌||◌, Some, true, false, not, length, map, nat_eq, position, replicate, IfOk, IfSome, IsSome, MatchResult, ◌++◌, drop};
-ghost use Rattle.std.specs.Vec.{vec_capacity, vec_len};
-ghost use Rattle.rc_lang.specs.Program.{IsResolvedOp, IsResolved};
+ghost use Rattle.std.specs.Prelude.{◌≡◌, ◌+◌, ◌<◌, ◌≤◌, ◌^◌, ◌&&◌, Some, true, false, map, replicate, IfOk, IsSome, MatchResult};
 ghost use Rattle.rc_lang.specs.Requests as requests;
 ghost use Rattle.rc_world.specs.Applies.{Applies};
-ghost use Rattle.rc_world.specs.Changes.{standing_at};
 ghost use Rattle.rc_world.specs.Faults as faults;
 ghost use Rattle.rc_world.specs.Items as items;
 ghost use Rattle.rc_world.specs.Machine as machine;
-ghost use Rattle.rc_world.specs.WorldParts.{begun_buffers, begun_pending, view_pending};
+ghost use Rattle.rc_world.specs.WorldParts.{view_pending};
 
 use self::bytes::Bytes;
 use self::requests::{kernel_may, place_of_pending};

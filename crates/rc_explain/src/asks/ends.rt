@@ -1,6 +1,6 @@
 //! The ends of branches and arms that join, and at which stage the slot is at each.
 
-ghost use Rattle.std.specs.Prelude.{◌≡◌, ◌+◌, ◌<◌, ◌^◌, length};
+ghost use Rattle.std.specs.Prelude.{◌+◌, ◌<◌, ◌^◌, length};
 ghost use Rattle.rc_report.specs.Streams.{FailsToWrite};
 
 use super::side_asks::write_slot;

@@ -1,6 +1,6 @@
 //! What is asked for of one side of a state.
 
-ghost use Rattle.std.specs.Prelude.{◌≡◌, ◌+◌, ◌<◌, ◌^◌};
+ghost use Rattle.std.specs.Prelude.{◌+◌, ◌<◌, ◌^◌};
 ghost use Rattle.rc_report.specs.Streams.{FailsToWrite};
 
 use crate::parts::{Counted, first_missing, said, write_parts};

@@ -8,7 +8,7 @@ ghost use Rattle.rc_world.specs.Machine.{bytes_brought};
 ghost use Rattle.rc_world.specs.WorldParts.{view_bytes};
 ghost use Rattle.rc_run.specs.Calm.{IsCalm};
 ghost use Rattle.rc_run.specs.Lives.{IsJobOf, bytes_for};
-ghost use Rattle.rc_run.specs.Machine.{IsSized, completed_by, given_to, pending_of, world_of};
+ghost use Rattle.rc_run.specs.Machine.{IsSized, completed_by, given_to, world_of};
 
 use super::{Machine, Pending};
 use crate::job::Job;

@@ -1,6 +1,6 @@
 //! Crews: the players of a run, or its workers, from their start to what they counted.
 
-ghost use Rattle.std.specs.Prelude.{◌≡◌, ◌+◌, ◌<◌, ◌≤◌, [], IfOk, sum, vec_capacity, vec_len};
+ghost use Rattle.std.specs.Prelude.{◌≡◌, ◌+◌, ◌<◌, ◌≤◌, IfOk, sum};
 ghost use Rattle.rc_run.specs.Rooms.{HasCapacity, IsAtWork};
 
 use crate::gate::Gate;

@@ -1,6 +1,6 @@
 //! What a statement does with a buffer, and what it asks of the lock and of the open entry.
 
-ghost use Rattle.std.specs.Prelude.{◌≡◌, ◌&&◌, not, option_map};
+ghost use Rattle.std.specs.Prelude.{◌≡◌, ◌&&◌, option_map};
 ghost use Rattle.rc_world.specs.Faults as spec;
 ghost use Rattle.rc_world.specs.WorldParts.{view_access};
 
