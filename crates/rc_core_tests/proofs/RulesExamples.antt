@@ -9,7 +9,7 @@ use Rattle.rc_lang.specs.declared.program.Declarations.{Declarations}
 use Rattle.rc_lang.specs.declared.program.Thread.{Thread as ThreadPart}
 use Rattle.rc_lang.specs.Program.{Program, Thread, IsProgram, IsThread, IsFile, IsBuffer, IsTokenKind, DeclaresToken, line_numbers}
 use Rattle.rc_lang.proofs.Rising.{by_test}
-use Rattle.rc_lang.specs.Program.{Items, More, IsItems, IsList, besides, no_more}
+use Rattle.rc_lang.specs.Program.{Items, More, IsItems, IsList, no_more}
 use Rattle.rc_split.specs.Bags.{Part, ShareOf, TokenOf, Credit, bag_of, IsWithin}
 use Rattle.rc_rules.specs.declared.cause.Cause.{Cause}
 use Rattle.rc_rules.specs.declared.mode.Mode.{Mode}

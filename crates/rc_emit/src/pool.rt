@@ -5,7 +5,7 @@ ghost use Rattle.rc_report.specs.Streams.{FailsToWrite};
 
 use crate::lines::{write_event, write_indentation, write_line, write_said};
 use crate::parts::Part::{Number, Text};
-use crate::parts::{Part, write_parts};
+use crate::parts::write_parts;
 use crate::place::Place;
 use rc_lang::program::Items;
 use rc_report::engine_fault::EngineFault;

@@ -9,7 +9,7 @@ use crate::lines::{write_comment, write_line};
 use crate::parts::Part::{Text, Variable};
 use crate::place::Place;
 use crate::words::{line_of, word_of};
-use rc_lang::lines::{Line, Op, Operand, Stmt, Test};
+use rc_lang::lines::{Op, Operand, Stmt, Test};
 use rc_lang::program::{Program, Thread};
 use rc_report::engine_fault::EngineFault;
 use rc_report::streams::Sink;

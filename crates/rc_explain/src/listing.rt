@@ -1,6 +1,6 @@
 //! What is known before each line of a thread.
 
-ghost use Rattle.std.specs.Prelude.{◌≡◌, ◌+◌, ◌<◌, ◌^◌, [], ◌∷◌, ◌++◌, codes, decimal, IfOk, Option, Some, length, slice_get};
+ghost use Rattle.std.specs.Prelude.{◌≡◌, ◌+◌, ◌<◌, ◌^◌, [], ◌∷◌, ◌++◌, codes, decimal, IfOk, Some, length, slice_get};
 ghost use Rattle.rc_explain.specs.Listed as spec;
 ghost use Rattle.rc_explain.specs.StateText.{state_text};
 ghost use Rattle.rc_lang.specs.Parts.{view_thread};

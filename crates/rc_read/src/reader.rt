@@ -1,12 +1,12 @@
 //! A reader of a text that comes in pieces.
 
-ghost use Rattle.std.specs.Prelude.{◌≡◌, ◌+◌, ◌<◌, ◌++◌, ◌∷◌, ◌↔◌, [], List, ℕ, None, Some, Err, IsSome, false, true, length};
+ghost use Rattle.std.specs.Prelude.{◌≡◌, ◌+◌, ◌++◌, ◌∷◌, ◌↔◌, [], List, ℕ, None, Some, Err, IsSome, false, true, length};
 ghost use Rattle.memchr.specs.Find.{Nowhere, Passes, is_byte};
 ghost use Rattle.rc_lang.specs.Program.{IsProgram};
 ghost use Rattle.rc_read.specs.Answer.{program_in as read_in};
 ghost use Rattle.rc_read.specs.Pieces.{IsSoundBy, ReadsMore};
 ghost use Rattle.rc_read.specs.Quick.{has_strange};
-ghost use Rattle.rc_read.specs.Stream.{Judges, JudgesAll, JudgesEnd, Ends, IsAnswer, IsReached};
+ghost use Rattle.rc_read.specs.Stream.{JudgesAll, JudgesEnd, Ends, IsAnswer, IsReached};
 ghost use Rattle.rc_read.specs.Texts.{texts_of};
 ghost use Rattle.rc_read.specs.View.{view_sheet};
 ghost use Rattle.rc_read.specs.Words.{last_line, words_of};

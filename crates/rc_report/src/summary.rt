@@ -1,6 +1,6 @@
 //! Summaries of runs.
 
-ghost use Rattle.std.specs.Prelude.{◌≡◌, ◌+◌, ◌<◌, ◌^◌, Option, length, count_by};
+ghost use Rattle.std.specs.Prelude.{◌≡◌, ◌+◌, ◌<◌, ◌^◌, length, count_by};
 ghost use Rattle.std.specs.List.{list_any};
 ghost use Rattle.rc_report.specs.Streams.{FailsToWrite, Wrote};
 ghost use Rattle.rc_report.specs.Summaries.{gives, is_completion_of, is_of, kind_name, longer, longest_stretch, next_stretch, placed, result_in, result_text, stretch_line, stretches_after, summary_text, thread_line, token_head, token_line};

@@ -1,6 +1,6 @@
 //! A run under way.
 
-ghost use Rattle.std.specs.Prelude.{◌≡◌, ◌≢◌, ◌+◌, ◌≤◌, ◌<◌, ◌↔◌, ℕ, ℤ, negsuc, ◌≤ℤ◌, [], true, not, None, IsTrue, IfOk, IfErr, IfSome, IfNone, OnOk, OnErr, MatchOption, Some, length, slice_get, filter};
+ghost use Rattle.std.specs.Prelude.{◌≡◌, ◌≢◌, ◌+◌, ◌≤◌, ◌<◌, ◌↔◌, ℕ, negsuc, ◌≤ℤ◌, [], true, not, None, IsTrue, IfOk, IfErr, IfSome, IfNone, OnOk, OnErr, MatchOption, Some, length, slice_get, filter};
 ghost use Rattle.std.specs.Arc.{arc_value};
 ghost use Rattle.rc_world.specs.Items.{next_of};
 ghost use Rattle.rc_world.specs.Machine.{start_world};

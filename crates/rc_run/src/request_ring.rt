@@ -2,7 +2,7 @@
 
 ghost use Rattle.std.specs.Prelude.{◌≡◌, ◌+◌, ◌<◌, ◌≤◌, ◌^◌, false, [], ◌∷◌, ◌++◌, length, drop, slice_get, Some, IfOk, OnOk, OnErr};
 ghost use Rattle.std.specs.Int.{IsPowerOfTwo};
-ghost use Rattle.rc_lang.specs.declared.request.Kind.TheVariants.{Nop, Fsync, Read, Write};
+ghost use Rattle.rc_lang.specs.declared.request.Kind.TheVariants.{Fsync, Read, Write};
 ghost use Rattle.rc_lang.specs.declared.request.Request.{Request as SpecRequest};
 ghost use Rattle.rc_world.specs.declared.world.Slot.TheVariants.{Closed, Vacant, Prepared};
 ghost use Rattle.rc_world.specs.Machine.{new_request, prepared_nop, slot_len};

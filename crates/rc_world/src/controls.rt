@@ -1,7 +1,6 @@
 //! Where each thread stands, its variables, the lock, whether the front completion is peeked, and the pool.
 
 ghost use Rattle.std.specs.Prelude.{◌≡◌, ◌<◌, ◌≤◌, length, map, option_map, pos, replicate, ◌+ℤ◌, ◌-ℤ◌, slice_get, IfOk, IsSome, IsOkAnd};
-ghost use Rattle.rc_lang.specs.declared.lines.Stmt.TheVariants.{Peek};
 ghost use Rattle.rc_lang.specs.Program.{IsProgram, IsOperand, end_at};
 ghost use Rattle.rc_world.specs.Changes.{CallIsSmall, StandsAt, TestIsSmall, hop_at, standing_at, with_pool};
 ghost use Rattle.rc_world.specs.Controls as spec;

@@ -3,7 +3,7 @@
 ghost use Rattle.std.specs.Prelude.{◌≡◌, ◌≤◌, ◌+◌, ◌∷◌, [], None, IfOk, cond, nat_eq};
 ghost use Rattle.rc_core_tests.specs.RulesExample.{share, IsAtMost, IsOfShare};
 ghost use Rattle.rc_lang.specs.Parts.{view_items};
-ghost use Rattle.rc_lang.specs.Program.{IsItems, no_more};
+ghost use Rattle.rc_lang.specs.Program.{IsItems};
 ghost use Rattle.rc_rules.specs.States.{OnBoth};
 
 use super::{Parts, case, expect_held, held, locked, more, number, over, program, started};

@@ -3,7 +3,7 @@
 use super::worlds::{THREAD, apply};
 use rc_read::read_program;
 use rc_world::event::{Action, Event, Item};
-use rc_world::fault::{Fault, FaultKind, Party};
+use rc_world::fault::{Fault, FaultKind};
 use rc_world::world::World;
 use std::alloc::Global;
 use std::process::Abort;

@@ -1,6 +1,6 @@
 //! Crews: the players of a run, or its workers, from their start to what they counted.
 
-ghost use Rattle.std.specs.Prelude.{◌≡◌, ◌+◌, ◌<◌, ◌≤◌, IfOk, sum};
+ghost use Rattle.std.specs.Prelude.{◌≡◌, ◌+◌, ◌≤◌, IfOk, sum};
 ghost use Rattle.rc_run.specs.Rooms.{HasCapacity, IsAtWork};
 
 use crate::gate::Gate;
@@ -80,7 +80,8 @@ impl<L: Ledger> Crew<L> {
         })
     }
 
-    /// Starts its threads, each with a part of the share. The part of one that can't be made is played here.
+    /// Starts its threads, each with a part of the share. Where one can't be made the run is to stop, and its
+    /// part is played here.
     pub fn start<
         's,
         E,

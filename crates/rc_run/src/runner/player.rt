@@ -1,6 +1,6 @@
 //! Players: each makes the turns of one thread of the program.
 
-ghost use Rattle.std.specs.Prelude.{◌≡◌, ◌⊎◌, ◌≤◌, ℤ, pos, negsuc, ◌≤ℤ◌};
+ghost use Rattle.std.specs.Prelude.{◌≡◌, ◌⊎◌, ◌≤◌, pos, negsuc, ◌≤ℤ◌};
 
 use crate::board::Board;
 use crate::gate::Gate;

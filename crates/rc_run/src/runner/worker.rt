@@ -1,6 +1,6 @@
 //! Workers: threads that are the modelled kernel.
 
-ghost use Rattle.std.specs.Prelude.{◌≡◌, ◌⊎◌, ◌≤◌, ℤ, pos, negsuc, ◌≤ℤ◌, true, false, drop};
+ghost use Rattle.std.specs.Prelude.{◌≡◌, ◌⊎◌, ◌≤◌, pos, negsuc, ◌≤ℤ◌, true, false, drop};
 ghost use Rattle.rc_run.specs.Jobs.{allows};
 
 use crate::job::Job;

@@ -1,6 +1,6 @@
 //! The least fault of a world.
 
-ghost use Rattle.std.specs.Prelude.{◌≡◌, ◌+◌, ◌&&◌, ◌<◌, ◌≤◌, ℕ, None, map, not, option_map, slice_get, true};
+ghost use Rattle.std.specs.Prelude.{◌≡◌, ◌+◌, ◌&&◌, ◌<◌, ◌≤◌, ℕ, None, map, option_map, slice_get, true};
 ghost use Rattle.std.specs.Bool.{OnFalse};
 ghost use Rattle.std.specs.List.{list_any};
 ghost use Rattle.rc_lang.specs.Program.{items_at, lists_of};
@@ -15,7 +15,6 @@ use self::statements::{
 };
 use super::requests::is_read;
 use super::{Pending, World};
-use crate::event::Completion;
 use crate::fault::{Fault, FaultKind, Party};
 use rc_lang::lines::{Op, Stmt};
 use rc_lang::request::{Kind, Request};
