@@ -30,12 +30,19 @@ def of_page():
 
 
 def of_source():
-    """The same, as the source describes them: a function for each command."""
+    """The same, as the source describes them: a function for each command, and for words that it takes."""
+    functions = {re.match(r"\w+", text)[0]: text for text in re.split(r"^fn ", WORDS.read_text(), flags=re.MULTILINE)[1:]}
+
+    def options(text):
+        own = re.findall(r'(?:\.long\(|described_\w+\(alloc, )"([a-z-]+)"', text)
+        called = re.findall(r"(described_\w+)\(alloc\b", text)
+        return set(own).union(*(options(functions[name]) for name in called))
+
     found = {"help": set()}
-    for text in re.split(r"^fn ", WORDS.read_text(), flags=re.MULTILINE)[1:]:
+    for text in functions.values():
         names = re.findall(r'Command::new\(alloc, "(\w+)"\)', text)
         if names and names != ["ringcheck"]:
-            found[names[0]] = set(re.findall(r'\.long\("([a-z-]+)"\)', text))
+            found[names[0]] = options(text)
     return found
 
 

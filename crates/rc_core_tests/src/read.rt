@@ -1,7 +1,7 @@
 //! Texts and their answers.
 
 use rc_examples::programs::{HANDOFF, NOP};
-use rc_lang::program::Program;
+use rc_lang::program::{Items, Program, Share};
 use rc_read::{ReadFault, Reader, read_program};
 use std::process::Abort;
 use std::test::Fail;
@@ -35,12 +35,57 @@ fn read_pieces(rt: &impl AllocGlobal, first: &[u8], second: &[u8]) -> Result<Pro
     reader.finish()
 }
 
+// The answer of a text of two pieces.
+fn check_pieces(rt: &(impl AllocGlobal + Abort), first: &[u8], second: &str, fault: (u32, u8)) {
+    let answer = read_pieces(rt, first, second.as_bytes());
+    assert_eq!(rt; place_of(answer), fault, "{second}");
+}
+
 // The answers of texts that go on from a head.
 fn check_all(rt: &(impl AllocGlobal + Abort), head: &str, rows: &[(&str, (u32, u8))]) {
     for (lines, fault) in rows {
-        let answer = read_pieces(rt, head.as_bytes(), lines.as_bytes());
-        assert_eq!(rt; place_of(answer), *fault, "{lines}");
+        check_pieces(rt, head.as_bytes(), lines, *fault);
     }
+}
+
+// A beginning, a middle that stands there so many times, an end, and the answer of the text.
+type Repeated = (&'static str, &'static str, u32, &'static str, (u32, u8));
+
+fn check_repeated(rt: &(impl AllocGlobal + Abort), rows: &[Repeated]) -> Result<(), Fail> {
+    for (front, middle, count, back, fault) in rows {
+        let text = repeated(rt, front, middle, *count, back)?;
+        assert_eq!(rt; fault_of(rt, &text), *fault, "{count} times {middle}{back}");
+    }
+    Ok(())
+}
+
+// Adds a piece for each number below a count: what stands in front of the number, and behind it.
+fn push_numbered(
+    rt: &impl AllocGlobal,
+    text: &mut Vec<u8>,
+    front: &str,
+    count: u32,
+    back: &str,
+) -> Result<(), Fail> {
+    for number in 0..count {
+        let piece = format!(in rt.alloc(); "{front}{number}{back}")?;
+        text.extend_from_slice(piece.as_bytes())?;
+    }
+    Ok(())
+}
+
+// How many shares, tokens and credits a list has.
+fn size_of(items: &Items) -> (usize, usize, u32) {
+    (items.shares.len(), items.tokens.len(), items.credits)
+}
+
+// Whether shares are these: the buffer of each, and its count.
+fn are_shares(shares: &[Share], told: &[(usize, u32)]) -> bool {
+    shares.len() == told.len()
+        && shares
+            .iter()
+            .zip(told.iter())
+            .all(|(share, row)| (share.buffer, share.count) == *row)
 }
 
 // A text of a beginning, a middle that stands there so many times, and an end.

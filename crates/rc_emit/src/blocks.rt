@@ -11,7 +11,7 @@ use crate::parts::Part::{Compares, Data, Number, Signed, Text, Variable};
 use crate::parts::write_parts;
 use crate::place::Place;
 use crate::pool::{write_put, write_take};
-use rc_lang::lines::{Comparison, Line, Stmt, Test};
+use rc_lang::lines::{Comparison, Stmt, Test};
 use rc_report::engine_fault::EngineFault;
 use rc_report::streams::Sink;
 use rc_report::writing::write_piece;
@@ -198,12 +198,41 @@ fn write_else<W: Sink>(writer: &mut W, place: Place<'_>) -> Result<(), EngineFau
     write_comment(writer, place)
 }
 
+/// Writes what a peek does that finds a completion.
+fn write_found<W: Sink>(writer: &mut W, place: Place<'_>) -> Result<(), EngineFault>
+    requires { W.failure_count writer.old + 1 < 2 ^ 64 }
+    ensures { FailsToWrite (W.failure_count writer.old) (W.failure_count writer.new) result }
+{
+    let x = Variable(place.word(1));
+    write_line(writer, place, &[x, Text(b" = cqe->res;")])?;
+    write_line(writer, place, &[Text(b"SEE_COMPLETIONS();")])?;
+    write_event(
+        writer,
+        place,
+        &[
+            Text(b"peek_cqe %\" PRIu64 \" %\" PRId64, (uint64_t)cqe->user_data, "),
+            x,
+        ],
+    )
+}
+
+/// Writes what a peek does that finds none.
+fn write_none_found<W: Sink>(writer: &mut W, place: Place<'_>) -> Result<(), EngineFault>
+    requires { W.failure_count writer.old + 1 < 2 ^ 64 }
+    ensures { FailsToWrite (W.failure_count writer.old) (W.failure_count writer.new) result }
+{
+    let x = Variable(place.word(1));
+    write_line(writer, place, &[Text(b"cqe = NULL;")])?;
+    write_line(writer, place, &[x, Text(b" = -EAGAIN;")])?;
+    write_event(writer, place, &[Text(b"peek_cqe none\"")])?;
+    write_line(writer, place, &[Text(b"SEE_COMPLETIONS();")])
+}
+
 /// Writes a peek before its arms: its answer, and what is logged of it.
 fn write_peek<W: Sink>(writer: &mut W, place: Place<'_>) -> Result<(), EngineFault>
     requires { W.failure_count writer.old + 1 < 2 ^ 64 }
     ensures { FailsToWrite (W.failure_count writer.old) (W.failure_count writer.new) result }
 {
-    let x = Variable(place.word(1));
     let number = Number(u64::from(place.number));
     let deeper = place.deeper();
     write_said(writer, place)?;
@@ -213,21 +242,9 @@ fn write_peek<W: Sink>(writer: &mut W, place: Place<'_>) -> Result<(), EngineFau
         &[Text(b"answer = io_uring_peek_cqe(&ring, &cqe);")],
     )?;
     write_line(writer, place, &[Text(b"if (answer == 0) {")])?;
-    write_line(writer, deeper, &[x, Text(b" = cqe->res;")])?;
-    write_line(writer, deeper, &[Text(b"SEE_COMPLETIONS();")])?;
-    write_event(
-        writer,
-        deeper,
-        &[
-            Text(b"peek_cqe %\" PRIu64 \" %\" PRId64, (uint64_t)cqe->user_data, "),
-            x,
-        ],
-    )?;
+    write_found(writer, deeper)?;
     write_line(writer, place, &[Text(b"} else if (answer == -EAGAIN) {")])?;
-    write_line(writer, deeper, &[Text(b"cqe = NULL;")])?;
-    write_line(writer, deeper, &[x, Text(b" = -EAGAIN;")])?;
-    write_event(writer, deeper, &[Text(b"peek_cqe none\"")])?;
-    write_line(writer, deeper, &[Text(b"SEE_COMPLETIONS();")])?;
+    write_none_found(writer, deeper)?;
     write_line(writer, place, &[Text(b"} else {")])?;
     let words = [
         Text(b"stop("),

@@ -24,7 +24,7 @@ docs/causes.md explains the codes of refused and unreadable lines (V1 to V19, P1
 const MOST_EVENTS: u32 = 1_000_000;
 
 /// What the program is asked to do.
-#[derive(Debug, Drop)]
+#[derive(Drop)]
 pub enum Command<'a> {
     /// Check the program, with its verdict as JSON or as text.
     Check {
@@ -56,7 +56,7 @@ pub enum Command<'a> {
 }
 
 /// What the program is asked to do, and with the texts of which files. None: with that of standard input.
-#[derive(Debug, Drop)]
+#[derive(Drop)]
 pub struct Asked<'a> {
     pub command: Command<'a>,
     pub files: Vec<&'a str>,
@@ -88,29 +88,34 @@ impl<T: Drop> From<AllocFailed<T>> for WordsFault {
     }
 }
 
-/// The words of `check`.
-fn described_check<'a>(alloc: Global) -> Result<clap::Command<'a>, AllocError> {
-    let json = Arg::new(alloc, "json")
-        .long("json")
+/// A flag, which may stand or not.
+fn described_flag<'a>(alloc: Global, name: &'a str, help: &'a str) -> Arg<'a> {
+    Arg::new(alloc, name)
+        .long(name)
         .action(ArgAction::SetTrue)
-        .help("Print the verdict as one JSON object");
-    let explain = Arg::new(alloc, "explain")
-        .long("explain")
-        .action(ArgAction::SetTrue)
-        .help(
-            "Print why behind the verdict, and what is known before each line; of one file at most",
-        );
-    let files = Arg::new(alloc, "file")
+        .help(help)
+}
+
+/// The files of a command that takes any number of them.
+fn described_files<'a>(alloc: Global) -> Arg<'a> {
+    Arg::new(alloc, "file")
         .value_name("FILE")
         .num_args(0..)
         .action(ArgAction::Append)
-        .help("Files to check, with one verdict a line; without any, or with -, standard input");
+        .help("Files to check, with one verdict a line; without any, or with -, standard input")
+}
+
+/// The words of `check`.
+fn described_check<'a>(alloc: Global) -> Result<clap::Command<'a>, AllocError> {
+    let json = "Print the verdict as one JSON object";
+    let explain =
+        "Print why behind the verdict, and what is known before each line; of one file at most";
     clap::Command::new(alloc, "check")
         .about("Check programs, and print the verdict on each")
         .after_help(CHECK_HELP)
-        .arg(json)?
-        .arg(explain)?
-        .arg(files)
+        .arg(described_flag(alloc, "json", json))?
+        .arg(described_flag(alloc, "explain", explain))?
+        .arg(described_files(alloc))
 }
 
 /// The file of a command that takes one.
@@ -121,48 +126,56 @@ fn described_file<'a>(alloc: Global) -> Arg<'a> {
         .help("A file with the program; without any, or with -, standard input")
 }
 
-/// The words of `step`.
-fn described_step<'a>(alloc: Global) -> Result<clap::Command<'a>, AllocError> {
-    let schedule = Arg::new(alloc, "schedule")
+/// The schedule of `step`.
+fn described_schedule<'a>(alloc: Global) -> Arg<'a> {
+    Arg::new(alloc, "schedule")
         .long("schedule")
         .value_name("ITEMS")
         .action(ArgAction::Set)
         .default_value("")
-        .help("Items joined by commas: NAME, NAME=R, k:U=R or k:U=R:H");
-    let state = Arg::new(alloc, "state")
-        .long("state")
-        .action(ArgAction::SetTrue)
-        .help("Print the world in which the trace ends, and what may come next");
+        .help("Items joined by commas: NAME, NAME=R, k:U=R or k:U=R:H")
+}
+
+/// The words of `step`.
+fn described_step<'a>(alloc: Global) -> Result<clap::Command<'a>, AllocError> {
+    let state = "Print the world in which the trace ends, and what may come next";
     clap::Command::new(alloc, "step")
         .about("Step a program through a schedule, and print the trace")
-        .arg(schedule)?
-        .arg(state)?
+        .arg(described_schedule(alloc))?
+        .arg(described_flag(alloc, "state", state))?
         .arg(described_file(alloc))
+}
+
+/// A number that `run` asks for.
+fn described_number<'a>(alloc: Global, name: &'a str) -> Arg<'a> {
+    Arg::new(alloc, name)
+        .long(name)
+        .value_name("N")
+        .required(true)
+}
+
+/// The seed of `run`.
+fn described_seed<'a>(alloc: Global) -> Arg<'a> {
+    described_number(alloc, "seed")
+        .value_parser(value_parser!(u32))
+        .help("What the choices are made by, from 0 to 4294967295")
+}
+
+/// The limit of `run`.
+fn described_limit<'a>(alloc: Global) -> Arg<'a> {
+    described_number(alloc, "limit")
+        .value_parser(value_parser!(u32).range(1..=1000000))
+        .help("How many events its threads may make, from 1 to 1000000")
 }
 
 /// The words of `run`.
 fn described_run<'a>(alloc: Global) -> Result<clap::Command<'a>, AllocError> {
-    let seed = Arg::new(alloc, "seed")
-        .long("seed")
-        .value_name("N")
-        .required(true)
-        .value_parser(value_parser!(u32))
-        .help("What the choices are made by, from 0 to 4294967295");
-    let limit = Arg::new(alloc, "limit")
-        .long("limit")
-        .value_name("N")
-        .required(true)
-        .value_parser(value_parser!(u32).range(1..=1000000))
-        .help("How many events its threads may make, from 1 to 1000000");
-    let summary = Arg::new(alloc, "summary")
-        .long("summary")
-        .action(ArgAction::SetTrue)
-        .help("Print counts in place of the trace");
+    let summary = "Print counts in place of the trace";
     clap::Command::new(alloc, "run")
         .about("Run a program on threads, and print the trace")
-        .arg(seed)?
-        .arg(limit)?
-        .arg(summary)?
+        .arg(described_seed(alloc))?
+        .arg(described_limit(alloc))?
+        .arg(described_flag(alloc, "summary", summary))?
         .arg(described_file(alloc))
 }
 
@@ -346,15 +359,19 @@ fn escaped(alloc: Global, words: &[&str]) -> Result<Vec<String>, AllocError> {
     Ok(shown)
 }
 
+/// Adds a character, or how a control character is escaped.
+fn push_escaped(alloc: Global, text: &mut String, character: char) -> Result<(), AllocError> {
+    if character.is_control() {
+        return text.push_str(format!(in alloc; "{}", character.escape_default())?.as_str());
+    }
+    text.push(character)
+}
+
 /// A word with each control character escaped.
 pub fn escaped_word(alloc: Global, word: &str) -> Result<String, AllocError> {
     let mut text = String::new(alloc);
     for character in word.chars() {
-        if character.is_control() {
-            text.push_str(format!(in alloc; "{}", character.escape_default())?.as_str())?;
-        } else {
-            text.push(character)?;
-        }
+        push_escaped(alloc, &mut text, character)?;
     }
     Ok(text)
 }

@@ -1,7 +1,6 @@
 //! Texts from version 2 on: what a loop holds under a flag.
 
 use super::*;
-use rc_lang::program::Share;
 
 // A thread that has a request in flight over many turns of its loop: lines 2 to 5, 7 to 11 and 13 to 33.
 const PUMP: [&str; 3] = [
@@ -19,11 +18,21 @@ fn pump(rt: &impl AllocGlobal, first: &str, outer: &str, inner: &str) -> Result<
     Ok(text)
 }
 
+// A row of pump's lines 1, 6 and 12, and the text's answer.
+type Pump = (&'static str, &'static str, &'static str, (u32, u8));
+
+fn check_pump(rt: &(impl AllocGlobal + Abort), row: Pump) -> Result<(), Fail> {
+    let (first, outer, inner, fault) = row;
+    let text = pump(rt, first, outer, inner)?;
+    assert_eq!(rt; fault_of(rt, &text), fault, "{first}{outer}{inner}");
+    Ok(())
+}
+
 #[test]
 fn pump_is_read_from_the_second_version_on(rt: HostRuntime) -> Result<(), Fail> {
     let when = "loop keeps when h t:7 c:1 {\n";
     let queue = "loop keeps q:1 {\n";
-    for (first, outer, inner, fault) in [
+    for row in [
         ("ringcheck 2\n", when, queue, (0, 0)),
         ("ringcheck 1\n", when, queue, (6, 3)),
         ("ringcheck 3\n", when, queue, (0, 0)),
@@ -38,43 +47,55 @@ fn pump_is_read_from_the_second_version_on(rt: HostRuntime) -> Result<(), Fail> 
         ),
         ("ringcheck 2\n", "loop keeps when g {\n", queue, (0, 0)),
     ] {
-        let text = pump(&rt, first, outer, inner)?;
-        assert_eq!(rt; fault_of(&rt, &text), fault, "{first}{outer}{inner}");
+        check_pump(&rt, row)?;
     }
     Ok(())
 }
 
+// How many shares, tokens and credits a list has under the flag.
+fn more_of(items: &Items) -> (usize, usize, u32) {
+    let more = &items.more;
+    (more.shares.len(), more.tokens.len(), more.credits)
+}
+
+// Two threads, one with a flag, and a loop that holds other items under it.
+const BOTH: &str =
+    "ringcheck 2\nring 4\nbuffer a 16 2\nbuffer b 16 2\ntoken 7 nop\ntoken 8 nop\nthread t0 holds a:1 t:8 {\ng = 0\nloop keeps {\nlock {\nloop keeps b:2 c:3 q:1 t:8 when h a:1 t:7 b:1 c:2 {\n}\n}\n}\n}\nthread t1 holds {\nloop keeps t:7 {\n}\n}\n";
+
 #[test]
-fn flag_and_both_lists_stand_in_the_program(rt: HostRuntime) -> Result<(), Fail> {
-    let text =
-        b"ringcheck 2\nring 4\nbuffer a 16 2\nbuffer b 16 2\ntoken 7 nop\ntoken 8 nop\nthread t0 holds a:1 t:8 {\ng = 0\nloop keeps {\nlock {\nloop keeps b:2 c:3 q:1 t:8 when h a:1 t:7 b:1 c:2 {\n}\n}\n}\n}\nthread t1 holds {\nloop keeps t:7 {\n}\n}\n";
-    let program = read_program(rt.alloc(), text)?;
+fn threads_have_their_flags(rt: HostRuntime) -> Result<(), Fail> {
+    let program = read_program(rt.alloc(), BOTH.as_bytes())?;
     assert_eq!(rt; program.version(), 2);
-    let threads = program.threads();
-    let first = threads.get(0).ok_or("a thread")?;
-    assert_eq!(rt; first.flag(), Some(1));
-    assert_eq!(rt; first.variables, 2);
-    assert_eq!(rt;
-        first.items.more.shares.len() + first.items.more.tokens.len(),
-        0
-    );
-    assert_eq!(rt; first.lists.len(), 2);
-    let plain = first.lists.get(0).ok_or("a list")?;
-    assert_eq!(rt; plain.more.shares.len() + plain.more.tokens.len(), 0);
-    assert_eq!(rt; plain.more.credits, 0);
-    let both = first.lists.get(1).ok_or("a list")?;
-    assert_eq!(rt;
-        (both.credits, both.queue, both.more.credits),
-        (3, Some(1), 2)
-    );
-    assert_eq!(rt; both.tokens.as_slice(), [8].as_slice());
-    assert_eq!(rt; both.more.tokens.as_slice(), [7].as_slice());
-    let share = |of: Option<&Share>| of.map(|share| (share.buffer, share.count));
-    assert_eq!(rt; share(both.shares.get(0)), Some((1, 2)));
-    assert_eq!(rt; share(both.more.shares.get(0)), Some((0, 1)));
-    assert_eq!(rt; share(both.more.shares.get(1)), Some((1, 1)));
-    let second = threads.get(1).ok_or("a thread")?;
-    assert_eq!(rt; second.flag(), None);
+    let first = program.threads().get(0).ok_or("a thread")?;
+    assert!(rt; first.flag() == Some(1) && first.variables == 2);
+    assert!(rt; size_of(&first.items) == (1, 1, 0));
+    assert!(rt; more_of(&first.items) == (0, 0, 0));
+    let second = program.threads().get(1).ok_or("a thread")?;
+    assert!(rt; second.flag().is_none());
+    Ok(())
+}
+
+#[test]
+fn both_lists_of_a_loop_stand_in_the_program(rt: HostRuntime) -> Result<(), Fail> {
+    let program = read_program(rt.alloc(), BOTH.as_bytes())?;
+    let lists = program.lists_of(0);
+    assert_eq!(rt; lists.len(), 2);
+    let plain = lists.get(0).ok_or("a list")?;
+    assert!(rt; size_of(plain) == (0, 0, 0) && more_of(plain) == (0, 0, 0));
+    let both = lists.get(1).ok_or("a list")?;
+    assert!(rt; size_of(both) == (1, 1, 3) && more_of(both) == (2, 1, 2));
+    assert!(rt; both.queue == Some(1));
+    Ok(())
+}
+
+#[test]
+fn both_lists_of_a_loop_have_their_items(rt: HostRuntime) -> Result<(), Fail> {
+    let program = read_program(rt.alloc(), BOTH.as_bytes())?;
+    let both = program.lists_of(0).get(1).ok_or("a list")?;
+    assert!(rt; both.tokens.as_slice() == [8].as_slice());
+    assert!(rt; both.more.tokens.as_slice() == [7].as_slice());
+    assert!(rt; are_shares(both.shares.as_slice(), &[(1, 2)]));
+    assert!(rt; are_shares(both.more.shares.as_slice(), &[(0, 1), (1, 1)]));
     Ok(())
 }
 
@@ -163,30 +184,31 @@ fn a_thread_has_one_flag(rt: HostRuntime) {
 
 #[test]
 fn when_is_reserved_in_the_second_version(rt: HostRuntime) {
-    for (lines, fault) in [
-        ("buffer when 1 1\n", (3, 3)),
-        ("token when nop\n", (3, 4)),
-        ("token 7 read when\n", (3, 3)),
-        ("token 7 write when 1\n", (3, 3)),
-        ("thread when holds {\n}\n", (3, 3)),
-        ("thread x holds when:1 {\n}\n", (3, 3)),
-        ("thread x holds {\nwhen = 1\n}\n", (4, 3)),
-        ("thread x holds {\nx = when\n}\n", (4, 3)),
-        ("thread x holds {\nx = when + 1\n}\n", (4, 3)),
-        ("thread x holds {\nx = 1 - when\n}\n", (4, 3)),
-        ("thread x holds {\nwhen = submit\n}\n", (4, 3)),
-        ("thread x holds {\nx = load when 0\n}\n", (4, 3)),
-        ("thread x holds {\nprint when\n}\n", (4, 3)),
-        ("thread x holds {\nfill when x\n}\n", (4, 3)),
-        ("thread x holds {\nif when == 0 {\n}\n}\n", (4, 3)),
-        ("thread x holds {\npeek_cqe when {\n", (4, 3)),
-        ("thread x holds {\nloop keeps when:1 {\n", (4, 3)),
-        ("thread x holds {\nloop keeps when h when:1 {\n", (4, 3)),
-        ("thread whe holds {\nwhen_ = 1\n}\n", (0, 0)),
-    ] {
-        let answer = read_pieces(&rt, b"ringcheck 2\nring 1\n", lines.as_bytes());
-        assert_eq!(rt; place_of(answer), fault, "{lines}");
-    }
+    check_all(
+        &rt,
+        "ringcheck 2\nring 1\n",
+        &[
+            ("buffer when 1 1\n", (3, 3)),
+            ("token when nop\n", (3, 4)),
+            ("token 7 read when\n", (3, 3)),
+            ("token 7 write when 1\n", (3, 3)),
+            ("thread when holds {\n}\n", (3, 3)),
+            ("thread x holds when:1 {\n}\n", (3, 3)),
+            ("thread x holds {\nwhen = 1\n}\n", (4, 3)),
+            ("thread x holds {\nx = when\n}\n", (4, 3)),
+            ("thread x holds {\nx = when + 1\n}\n", (4, 3)),
+            ("thread x holds {\nx = 1 - when\n}\n", (4, 3)),
+            ("thread x holds {\nwhen = submit\n}\n", (4, 3)),
+            ("thread x holds {\nx = load when 0\n}\n", (4, 3)),
+            ("thread x holds {\nprint when\n}\n", (4, 3)),
+            ("thread x holds {\nfill when x\n}\n", (4, 3)),
+            ("thread x holds {\nif when == 0 {\n}\n}\n", (4, 3)),
+            ("thread x holds {\npeek_cqe when {\n", (4, 3)),
+            ("thread x holds {\nloop keeps when:1 {\n", (4, 3)),
+            ("thread x holds {\nloop keeps when h when:1 {\n", (4, 3)),
+            ("thread whe holds {\nwhen_ = 1\n}\n", (0, 0)),
+        ],
+    );
 }
 
 #[test]
@@ -213,12 +235,8 @@ fn a_flag_is_counted_as_a_variable(rt: HostRuntime) -> Result<(), Fail> {
     ] {
         let head = b"ringcheck 2\nring 1\nthread t0 holds {\n";
         let mut text = Vec::from_slice(rt.alloc(), head)?;
-        for i in 0..count {
-            let line = format!(in rt.alloc(); "v{i} = {i}\n")?;
-            text.extend_from_slice(line.as_bytes())?;
-        }
-        text.extend_from_slice(back.as_bytes())?;
-        assert_eq!(rt; fault_of(&rt, &text), fault, "{count} variables");
+        push_numbered(&rt, &mut text, "v", count, " = 0\n")?;
+        check_pieces(&rt, &text, back, fault);
     }
     Ok(())
 }

@@ -6,7 +6,7 @@ use super::*;
 fn limits_are_kept(rt: HostRuntime) -> Result<(), Fail> {
     let head = "ringcheck 1\nring 1\n";
     let thread = "ringcheck 1\nring 1\nthread t0 holds {\n";
-    for (front, middle, count, back, fault) in [
+    let rows = [
         (thread, "if x == 0 {\n", 32, "", (35, 8)),
         (thread, "if x == 0 {\n", 31, "}}", (35, 3)),
         (head, "#\n", 4094, "", (0, 0)),
@@ -23,11 +23,8 @@ fn limits_are_kept(rt: HostRuntime) -> Result<(), Fail> {
         (head, " ", 1, "#~\x0b", (3, 1)),
         (head, "#", 100000, "", (3, 8)),
         (head, "a ", 50000, "", (3, 3)),
-    ] {
-        let text = repeated(&rt, front, middle, count, back)?;
-        let said = fault_of(&rt, &text);
-        assert_eq!(rt; said, fault, "{count} times {middle}{back}");
-    }
+    ];
+    check_repeated(&rt, &rows)?;
     let mut text = repeated(&rt, thread, "if x == 0 {\n", 31, "")?;
     for _ in 0..32 {
         text.extend_from_slice(b"}\n")?;
@@ -41,41 +38,45 @@ fn limits_are_kept(rt: HostRuntime) -> Result<(), Fail> {
     Ok(())
 }
 
+// What stands in front of the declarations, a declaration in front of its number and behind it, the most of its kind,
+// what ends a text of so many, and the line of one more.
+type Most = (
+    &'static str,
+    &'static str,
+    &'static str,
+    u32,
+    &'static str,
+    u32,
+);
+
+fn check_most(rt: &(impl AllocGlobal + Abort), row: Most) -> Result<(), Fail> {
+    let (head, front, back, most, end, line) = row;
+    let mut text = Vec::from_slice(rt.alloc(), b"ringcheck 1\nring 1\n")?;
+    text.extend_from_slice(head.as_bytes())?;
+    push_numbered(rt, &mut text, front, most, back)?;
+    check_pieces(rt, &text, end, (0, 0));
+    let one_more = format!(in rt.alloc(); "{front}{most}{back}")?;
+    check_pieces(rt, &text, one_more.as_str(), (line, 8));
+    Ok(())
+}
+
 #[test]
 fn no_more_than_so_many_are_declared(rt: HostRuntime) -> Result<(), Fail> {
-    for (kind, most) in [
-        ("file", 16),
-        ("buffer", 64),
-        ("token", 256),
-        ("thread", 16),
-        ("set", 64),
+    for row in [
+        ("", "file ", " 1\n", 16, "", 19),
+        ("", "buffer b", " 1 1\n", 64, "", 67),
+        ("", "token ", " nop\n", 256, "", 259),
+        ("", "thread t", " holds {\n}\n", 16, "", 35),
+        (
+            "thread t0 holds {\n",
+            "v",
+            " = 0\n",
+            64,
+            "v1 = v2 + v3\n}\n",
+            68,
+        ),
     ] {
-        for count in [most, most + 1] {
-            let mut text = Vec::from_slice(rt.alloc(), b"ringcheck 1\nring 1\n")?;
-            if kind == "set" {
-                text.extend_from_slice(b"thread t0 holds {\n")?;
-            }
-            for i in 0..count {
-                let line = match kind {
-                    "file" => format!(in rt.alloc(); "file {i} 1\n")?,
-                    "buffer" => format!(in rt.alloc(); "buffer b{i} 1 1\n")?,
-                    "token" => format!(in rt.alloc(); "token {i} nop\n")?,
-                    "thread" => format!(in rt.alloc(); "thread t{i} holds {{\n}}\n")?,
-                    _ => format!(in rt.alloc(); "v{i} = {i}\n")?,
-                };
-                text.extend_from_slice(line.as_bytes())?;
-            }
-            if kind == "set" && count == most {
-                text.extend_from_slice(b"v1 = v2 + v3\n}\n")?;
-            }
-            let last = match kind {
-                "thread" => 3 + 2 * most,
-                "set" => 4 + most,
-                _ => 3 + most,
-            };
-            let fault = if count == most { (0, 0) } else { (last, 8) };
-            assert_eq!(rt; fault_of(&rt, &text), fault, "{count} times {kind}");
-        }
+        check_most(&rt, row)?;
     }
     Ok(())
 }
@@ -83,32 +84,13 @@ fn no_more_than_so_many_are_declared(rt: HostRuntime) -> Result<(), Fail> {
 #[test]
 fn a_header_of_many_items_is_read(rt: HostRuntime) -> Result<(), Fail> {
     let mut text = Vec::from_slice(rt.alloc(), b"ringcheck 1\nring 1\n")?;
-    for i in 0..256 {
-        let line = format!(in rt.alloc(); "token {i} nop\n")?;
-        text.extend_from_slice(line.as_bytes())?;
-    }
-    for i in 0..44 {
-        let line = format!(in rt.alloc(); "buffer b{i} 1 1\n")?;
-        text.extend_from_slice(line.as_bytes())?;
-    }
+    push_numbered(&rt, &mut text, "token ", 256, " nop\n")?;
+    push_numbered(&rt, &mut text, "buffer b", 44, " 1 1\n")?;
     text.extend_from_slice(b"thread t0 holds")?;
-    for i in 0..256 {
-        let item = format!(in rt.alloc(); " t:{i}")?;
-        text.extend_from_slice(item.as_bytes())?;
-    }
-    for i in 0..44 {
-        let item = format!(in rt.alloc(); " b{i}:1")?;
-        text.extend_from_slice(item.as_bytes())?;
-    }
-    for (back, fault) in [
-        (" {\n}\n", (303, 8)),
-        (" b0:1 {\n", (303, 6)),
-        ("", (303, 3)),
-    ] {
-        let end = text.len();
-        text.extend_from_slice(back.as_bytes())?;
-        assert_eq!(rt; fault_of(&rt, &text), fault, "{back}");
-        text.truncate(end);
-    }
+    push_numbered(&rt, &mut text, " t:", 256, "")?;
+    push_numbered(&rt, &mut text, " b", 44, ":1")?;
+    check_pieces(&rt, &text, " {\n}\n", (303, 8));
+    check_pieces(&rt, &text, " b0:1 {\n", (303, 6));
+    check_pieces(&rt, &text, "", (303, 3));
     Ok(())
 }

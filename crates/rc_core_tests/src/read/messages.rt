@@ -1,7 +1,18 @@
 //! What is told of a text that can't be read.
 
 use rc_read::{ReadCause, ReadFault};
+use std::process::Abort;
 use std::test::Fail;
+
+fn check_message(
+    rt: &(impl AllocGlobal + Abort),
+    fault: ReadFault,
+    text: &str,
+) -> Result<(), Fail> {
+    let message = format!(in rt.alloc(); "{fault}")?;
+    assert_eq!(rt; message.as_str(), text);
+    Ok(())
+}
 
 #[test]
 fn faults_are_printed(rt: HostRuntime) -> Result<(), Fail> {
@@ -18,11 +29,7 @@ fn faults_are_printed(rt: HostRuntime) -> Result<(), Fail> {
         (ReadCause::BadCase, "unreadable line 3 P10 BadCase"),
         (ReadCause::OtherFlag, "unreadable line 3 P11 OtherFlag"),
     ] {
-        let fault = ReadFault::Text { line: 3, cause };
-        let message = format!(in rt.alloc(); "{fault}")?;
-        assert_eq!(rt; message.as_str(), text);
+        check_message(&rt, ReadFault::Text { line: 3, cause }, text)?;
     }
-    let message = format!(in rt.alloc(); "{}", ReadFault::OutOfMemory)?;
-    assert_eq!(rt; message.as_str(), "out of memory");
-    Ok(())
+    check_message(&rt, ReadFault::OutOfMemory, "out of memory")
 }

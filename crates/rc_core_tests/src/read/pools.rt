@@ -2,7 +2,6 @@
 
 use super::*;
 use rc_lang::lines::{Stmt, Test};
-use rc_lang::program::{Items, Share};
 
 // A thread that has two writes in flight and takes their buffers back in any order.
 const ANY_ORDER: &str =
@@ -18,9 +17,12 @@ fn list_of(stmt: Stmt) -> Option<(u8, usize)> {
     }
 }
 
-// How many shares, tokens and credits a list has.
-fn size_of(items: &Items) -> (usize, usize, u32) {
-    (items.shares.len(), items.tokens.len(), items.credits)
+// Whether a place has the line with this number, which names this list.
+fn names(program: &Program, place: usize, number: u32, list: (u8, usize)) -> bool {
+    match program.line_at(0, place) {
+        Some(line) => line.number == number && list_of(line.stmt) == Some(list),
+        None => false,
+    }
 }
 
 #[test]
@@ -35,14 +37,26 @@ fn puts_and_takes_stand_with_their_lists(rt: HostRuntime) -> Result<(), Fail> {
         (26, 35, (1, 4)),
         (33, 42, (2, 5)),
     ] {
-        let line = program.line_at(0, place).ok_or("a line")?;
-        assert_eq!(rt; line.number, number, "place {place}");
-        assert_eq!(rt; list_of(line.stmt), Some(list), "place {place}");
+        assert!(rt; names(&program, place, number, list), "place {place}");
     }
     assert_eq!(rt; program.end_at(0, 33), 35);
+    Ok(())
+}
+
+// Whether there is a list of this number, with so many items.
+fn has_size(lists: &[Items], number: usize, size: (usize, usize, u32)) -> bool {
+    match lists.get(number) {
+        Some(list) => size_of(list) == size,
+        None => false,
+    }
+}
+
+#[test]
+fn lists_have_their_sizes(rt: HostRuntime) -> Result<(), Fail> {
+    let program = read_program(rt.alloc(), ANY_ORDER.as_bytes())?;
     let lists = program.lists_of(0);
     assert_eq!(rt; lists.len(), 6);
-    for (k, size) in [
+    for (number, size) in [
         (0, (2, 2, 2)),
         (1, (0, 0, 0)),
         (2, (0, 0, 0)),
@@ -50,15 +64,27 @@ fn puts_and_takes_stand_with_their_lists(rt: HostRuntime) -> Result<(), Fail> {
         (4, (1, 1, 1)),
         (5, (2, 2, 2)),
     ] {
-        assert_eq!(rt; size_of(lists.get(k).ok_or("a list")?), size, "list {k}");
+        assert!(rt; has_size(lists, number, size), "list {number}");
     }
-    let put = lists.get(4).ok_or("a list")?;
-    let share = |of: Option<&Share>| of.map(|share| (share.buffer, share.count));
-    assert_eq!(rt; share(put.shares.get(0)), Some((1, 1)));
-    assert_eq!(rt; put.tokens.as_slice(), [2].as_slice());
-    assert_eq!(rt; (put.queue, put.more.credits), (None, 0));
-    let flag = program.threads().get(0).ok_or("a thread")?.flag;
-    assert_eq!(rt; flag, None);
+    Ok(())
+}
+
+// Whether a list is that of the second put: a share of the second buffer, token 2 and a credit.
+fn is_second_put(list: &Items) -> bool {
+    are_shares(list.shares.as_slice(), &[(1, 1)])
+        && list.tokens.as_slice() == [2].as_slice()
+        && list.credits == 1
+        && list.queue.is_none()
+        && list.more.credits == 0
+}
+
+#[test]
+fn a_list_of_the_pool_has_its_items(rt: HostRuntime) -> Result<(), Fail> {
+    let program = read_program(rt.alloc(), ANY_ORDER.as_bytes())?;
+    let put = program.lists_of(0).get(4).ok_or("a list")?;
+    assert!(rt; is_second_put(put));
+    let thread = program.threads().get(0).ok_or("a thread")?;
+    assert!(rt; thread.flag.is_none());
     Ok(())
 }
 
@@ -85,8 +111,7 @@ fn the_pool_is_of_the_third_version(rt: HostRuntime) {
         ("ringcheck 2", take, (4, 3)),
         ("ringcheck 1", take, (4, 3)),
     ] {
-        let answer = read_pieces(&rt, first.as_bytes(), text.as_bytes());
-        assert_eq!(rt; place_of(answer), fault, "{first}{text}");
+        check_pieces(&rt, first.as_bytes(), text, fault);
     }
 }
 
@@ -157,16 +182,16 @@ fn puts_and_takes_are_judged(rt: HostRuntime) {
 #[test]
 fn a_take_is_a_block(rt: HostRuntime) -> Result<(), Fail> {
     let thread = "ringcheck 3\nring 1\nthread t0 holds {\n";
-    for (count, back, fault) in [
-        (30, "if take q:1 {\n", (34, 9)),
-        (31, "if take q:1 {\n", (35, 8)),
-        (31, "if take {\n", (35, 8)),
-        (31, "put q:1\n", (35, 9)),
-    ] {
-        let text = repeated(&rt, thread, "if take {\n", count, back)?;
-        assert_eq!(rt; fault_of(&rt, &text), fault, "{count} blocks, {back}");
-    }
-    Ok(())
+    let take = "if take {\n";
+    check_repeated(
+        &rt,
+        &[
+            (thread, take, 30, "if take q:1 {\n", (34, 9)),
+            (thread, take, 31, "if take q:1 {\n", (35, 8)),
+            (thread, take, 31, "if take {\n", (35, 8)),
+            (thread, take, 31, "put q:1\n", (35, 9)),
+        ],
+    )
 }
 
 #[test]

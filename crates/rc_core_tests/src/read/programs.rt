@@ -32,12 +32,21 @@ pub fn mark_of(stmt: Stmt) -> (u8, usize, usize) {
     }
 }
 
+// Whether a place has the line with this number, and a statement of this mark.
+fn stands(program: &Program, row: (usize, u32, (u8, usize, usize))) -> bool {
+    let (place, number, mark) = row;
+    match program.line_at(0, place) {
+        Some(line) => line.number == number && mark_of(line.stmt) == mark,
+        None => false,
+    }
+}
+
 #[test]
 fn nop_is_read_with_its_links(rt: HostRuntime) -> Result<(), Fail> {
     let program = read_program(rt.alloc(), NOP.as_bytes())?;
     assert_eq!(rt; program.entries(), 1);
     assert_eq!(rt; program.completion_entries(), 2);
-    for (place, number, mark) in [
+    for row in [
         (0, 5, (1, 0, 0)),
         (1, 6, (14, 0, 0)),
         (2, 7, (16, 0, 0)),
@@ -54,9 +63,7 @@ fn nop_is_read_with_its_links(rt: HostRuntime) -> Result<(), Fail> {
         (13, 18, (13, 5, 0)),
         (14, 19, (2, 0, 0)),
     ] {
-        let line = program.line_at(0, place).ok_or("a line")?;
-        assert_eq!(rt; line.number, number, "place {place}");
-        assert_eq!(rt; mark_of(line.stmt), mark, "place {place}");
+        assert!(rt; stands(&program, row), "place {}", row.0);
     }
     assert!(rt; program.line_at(0, 15).is_none());
     assert_eq!(rt; program.end_at(0, 5), 13);
@@ -67,63 +74,84 @@ fn nop_is_read_with_its_links(rt: HostRuntime) -> Result<(), Fail> {
 const FORMS: &str =
     "ringcheck 1\nring 3 cq 5 left 2\nfile 3 64\nbuffer a 16 2\ntoken 6 read a\ntoken 7 write a 2\ntoken 8 fsync\ntoken 9 nop\nthread t0 holds a:1 t:9 c:2 {\nx = -5\ny = x\nx = x + y\nx = 1 - z\nx = load a 15\nstore a 2 y\nfill a x\nprint z\nprep_write 3 a 4 5 2\nprep_fsync 3 1\nr = submit_and_wait 7\nif x <= -1 {\n} else {\n}\nif sq_space_left >= 4 {\n}\nlock {\nloop keeps a:2 q:3 {\nloop keeps t:9 {\nbreak\n}\n}\n}\n}\n";
 
+// Whether the operation is what the form at the place says.
+fn is_said(place: usize, op: Op) -> bool {
+    match (place, op) {
+        (0, Op::Set(0, -5)) => true,
+        (1, Op::Assign(1, 0)) => true,
+        (2, Op::Add(0, Operand::Variable(0), Operand::Variable(1))) => true,
+        (3, Op::Subtract(0, Operand::Number(1), Operand::Variable(2))) => true,
+        (4, Op::Load(0, 0, 15)) => true,
+        (5, Op::Store(0, 2, 1)) => true,
+        (6, Op::Fill(0, 0)) => true,
+        (7, Op::Print(2)) => true,
+        (8, Op::PrepWrite(3, 0, 4, 5, 2)) => true,
+        (9, Op::PrepFsync(3, true)) => true,
+        (10, Op::SubmitAndWait(3, 7)) => true,
+        _ => false,
+    }
+}
+
+// Whether the statement is the one with a block at the place.
+fn is_block(place: usize, stmt: Stmt) -> bool {
+    match (place, stmt) {
+        (11, Stmt::If(Test::Compare(0, Comparison::AtMost, -1))) => true,
+        (12, Stmt::Else(11)) => true,
+        (13, Stmt::EndIf(12)) => true,
+        (14, Stmt::If(Test::SpaceAtLeast(4))) => true,
+        (15, Stmt::EndIf(14)) => true,
+        (16, Stmt::Lock) => true,
+        (17, Stmt::Loop(0)) => true,
+        (18, Stmt::Loop(1)) => true,
+        (19, Stmt::Break(18, false, false)) => true,
+        (20, Stmt::EndLoop(18, 1)) => true,
+        (21, Stmt::EndLoop(17, 0)) => true,
+        (22, Stmt::EndLock(16)) => true,
+        _ => false,
+    }
+}
+
 #[test]
 fn each_form_says_what_stands_there(rt: HostRuntime) -> Result<(), Fail> {
-    let p = read_program(rt.alloc(), FORMS.as_bytes())?;
-    assert_eq!(rt; (p.entries(), p.completion_entries(), p.left()), (4, 8, 2));
-    let s = |place: usize| p.line_at(0, place).map(|line| line.stmt);
-    let all = [
-        matches!(s(0), Some(Stmt::Do(Op::Set(0, -5)))),
-        matches!(s(1), Some(Stmt::Do(Op::Assign(1, 0)))),
-        matches!(
-            s(2),
-            Some(Stmt::Do(Op::Add(0, Operand::Variable(0), Operand::Variable(1))))
-        ),
-        matches!(
-            s(3),
-            Some(Stmt::Do(Op::Subtract(0, Operand::Number(1), Operand::Variable(2))))
-        ),
-        matches!(s(4), Some(Stmt::Do(Op::Load(0, 0, 15)))),
-        matches!(s(5), Some(Stmt::Do(Op::Store(0, 2, 1)))),
-        matches!(s(6), Some(Stmt::Do(Op::Fill(0, 0)))),
-        matches!(s(7), Some(Stmt::Do(Op::Print(2)))),
-        matches!(s(8), Some(Stmt::Do(Op::PrepWrite(3, 0, 4, 5, 2)))),
-        matches!(s(9), Some(Stmt::Do(Op::PrepFsync(3, true)))),
-        matches!(s(10), Some(Stmt::Do(Op::SubmitAndWait(3, 7)))),
-        matches!(
-            s(11),
-            Some(Stmt::If(Test::Compare(0, Comparison::AtMost, -1)))
-        ),
-        matches!(s(12), Some(Stmt::Else(11))),
-        matches!(s(13), Some(Stmt::EndIf(12))),
-        matches!(s(14), Some(Stmt::If(Test::SpaceAtLeast(4)))),
-        matches!(s(15), Some(Stmt::EndIf(14))),
-        matches!(s(16), Some(Stmt::Lock)),
-        matches!(s(17), Some(Stmt::Loop(0))),
-        matches!(s(18), Some(Stmt::Loop(1))),
-        matches!(s(19), Some(Stmt::Break(18, false, false))),
-        matches!(s(20), Some(Stmt::EndLoop(18, 1))),
-        matches!(s(21), Some(Stmt::EndLoop(17, 0))),
-        matches!(s(22), Some(Stmt::EndLock(16))),
-        s(23).is_none(),
-    ];
-    for (place, holds) in all.iter().enumerate() {
-        assert!(rt; *holds, "place {place}");
+    let program = read_program(rt.alloc(), FORMS.as_bytes())?;
+    for place in 0..23 {
+        let holds = match program.line_at(0, place).ok_or("a line")?.stmt {
+            Stmt::Do(op) => is_said(place, op),
+            stmt => is_block(place, stmt),
+        };
+        assert!(rt; holds, "place {place}");
     }
+    assert!(rt; program.line_at(0, 23).is_none());
+    Ok(())
+}
+
+#[test]
+fn blocks_have_their_ends(rt: HostRuntime) -> Result<(), Fail> {
+    let program = read_program(rt.alloc(), FORMS.as_bytes())?;
     for (place, end) in [(11, 12), (12, 13), (14, 15), (17, 21), (18, 20)] {
-        assert_eq!(rt; p.end_at(0, place), end, "place {place}");
+        assert_eq!(rt; program.end_at(0, place), end, "place {place}");
     }
+    Ok(())
+}
+
+#[test]
+fn heads_and_tokens_are_read(rt: HostRuntime) -> Result<(), Fail> {
+    let program = read_program(rt.alloc(), FORMS.as_bytes())?;
+    let sizes = (
+        program.entries(),
+        program.completion_entries(),
+        program.left(),
+    );
+    assert!(rt; sizes == (4, 8, 2));
     let kinds = [
-        matches!(p.tokens().get(0).map(|t| t.kind), Some(TokenKind::Read(0))),
-        matches!(
-            p.tokens().get(1).map(|t| t.kind),
-            Some(TokenKind::Write(0, 2))
-        ),
-        matches!(p.tokens().get(2).map(|t| t.kind), Some(TokenKind::Fsync)),
-        matches!(p.tokens().get(3).map(|t| t.kind), Some(TokenKind::Nop)),
+        TokenKind::Read(0),
+        TokenKind::Write(0, 2),
+        TokenKind::Fsync,
+        TokenKind::Nop,
     ];
-    for (i, holds) in kinds.iter().enumerate() {
-        assert!(rt; *holds, "token {i}");
+    assert_eq!(rt; program.tokens().len(), kinds.len());
+    for (token, kind) in program.tokens().iter().zip(kinds) {
+        assert!(rt; token.kind == kind);
     }
     Ok(())
 }

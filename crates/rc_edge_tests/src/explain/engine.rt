@@ -2,8 +2,7 @@
 
 mod explained;
 
-use rc_examples::causes::CAUSES;
-use rc_examples::example::text_named;
+use super::cause_text;
 use rc_explain::engine::explain_engine;
 use rc_report::streams::{ReadSource, WriteSink};
 use std::alloc::Global;
@@ -95,13 +94,13 @@ const UNKNOWN_NAME_OBJECT: &str = "\
 
 /// Explains a text of examples/causes, and sees what is written.
 fn shows(rt: &impl Abort, alloc: Global, name: &str, expected: &str) -> Result<(), Fail> {
-    let text = text_named(CAUSES, name).ok_or("a text")?;
+    let text = cause_text(name).ok_or("a text")?;
     writes(rt, alloc, text, false, expected)
 }
 
 /// Explains a text of examples/causes as JSON, and sees what is written.
 fn object_is(rt: &impl Abort, alloc: Global, name: &str, expected: &str) -> Result<(), Fail> {
-    let text = text_named(CAUSES, name).ok_or("a text")?;
+    let text = cause_text(name).ok_or("a text")?;
     writes(rt, alloc, text, true, expected)
 }
 

@@ -1,15 +1,14 @@
 //! What is said of a refused line, at each cause.
 
-use rc_examples::causes::CAUSES;
-use rc_examples::example::text_named;
+use super::cause_text;
 use rc_explain::asks::write_asks;
 use rc_explain::lost::write_lost;
+use rc_lang::program::Program;
 use rc_read::read_program;
 use rc_report::streams::WriteSink;
 use rc_rules::cause::Cause;
 use std::alloc::Global;
 use std::process::Abort;
-use std::str;
 use std::test::Fail;
 
 /// A text of examples/causes, the thread and the place of the refused line, the cause, and what is said: what the line
@@ -171,29 +170,34 @@ const ROWS: [Row; 19] = [
     ),
 ];
 
-/// Sees what is said of a line.
-fn says(rt: &impl Abort, alloc: Global, text: &str, row: Row) -> Result<(), Fail> {
-    let (name, thread, place, cause, asks, lost) = row;
-    let program = read_program(alloc, text.as_bytes()).map_err(|_| "a program")?;
-    if thread as usize >= program.threads().len() {
-        return Err(Fail::from("a thread"));
-    }
+/// Sees what a line is said to ask for.
+fn asks(rt: &impl Abort, alloc: Global, program: &Program, row: Row) {
+    let (name, thread, place, cause, asks, _) = row;
+    assert!(rt; (thread as usize) < program.threads().len());
     let mut sink = WriteSink::new(Vec::new(alloc));
-    let written = write_asks(&mut sink, &program, thread, place, cause);
+    let written = write_asks(&mut sink, program, thread, place, cause);
     assert!(rt; written.is_ok());
-    assert_eq!(rt; str::from_utf8(sink.writer.as_slice()), Ok(asks), "{name}");
+    assert!(rt; sink.writer.as_slice() == asks.as_bytes(), "{name}");
+}
+
+/// Sees where what a line lacks is said to be lost.
+fn loses(rt: &impl Abort, alloc: Global, program: &Program, text: &str, row: Row) {
+    let (name, thread, place, cause, _, lost) = row;
+    assert!(rt; (thread as usize) < program.threads().len());
     let mut sink = WriteSink::new(Vec::new(alloc));
-    let written = write_lost(&mut sink, text.as_bytes(), &program, thread, place, cause);
+    let written = write_lost(&mut sink, text.as_bytes(), program, thread, place, cause);
     assert!(rt; written.is_ok());
-    assert_eq!(rt; str::from_utf8(sink.writer.as_slice()), Ok(lost), "{name}");
-    Ok(())
+    assert!(rt; sink.writer.as_slice() == lost.as_bytes(), "{name}");
 }
 
 #[test]
 fn each_cause_is_told(rt: HostRuntime) -> Result<(), Fail> {
+    let alloc = rt.alloc();
     for row in ROWS {
-        let text = text_named(CAUSES, row.0).ok_or("a text")?;
-        says(&rt, rt.alloc(), text, row)?;
+        let text = cause_text(row.0).ok_or("a text")?;
+        let program = read_program(alloc, text.as_bytes()).or(Err("a program"))?;
+        asks(&rt, alloc, &program, row);
+        loses(&rt, alloc, &program, text, row);
     }
     Ok(())
 }

@@ -9,7 +9,6 @@ use rc_run::job::Job;
 use rc_run::live::{Live, Turn};
 use rc_world::event::{Action, Completion, Event};
 use std::alloc::Global;
-use std::sync::Arc;
 use std::test::*;
 
 fn live(alloc: Global, text: &str) -> Result<Live, Fail> {
@@ -49,28 +48,65 @@ fn posts(live: &mut Live, job: Job, res: i32) -> bool {
     }
 }
 
+// Whether a turn of the thread, whose submit may take so many entries, is this one.
+fn makes(live: &mut Live, thread: u32, take: i32, turn: Turn) -> bool
+    requires { negsuc 4094 ≤ℤ take }
+{
+    match live.turn(thread, take) {
+        Ok(made) => made == turn,
+        Err(_) => false,
+    }
+}
+
 #[test]
 fn a_thread_waits_for_the_lock_that_another_took(rt: HostRuntime) -> Result<(), Fail> {
     let mut live = live(rt.alloc(), HANDOFF)?;
-    assert_eq!(rt; live.turn(0, 0)?, done(0, 7, Action::Locked));
-    assert_eq!(rt; live.turn(1, 0)?, done(1, 20, Action::Looped));
-    assert_eq!(rt; live.turn(1, 0)?, Turn::Waits);
-    assert_eq!(rt; live.turn(2, 0)?, Turn::Ended);
+    assert!(rt; makes(&mut live, 0, 0, done(0, 7, Action::Locked)));
+    assert!(rt; makes(&mut live, 1, 0, done(1, 20, Action::Looped)));
+    assert!(rt; makes(&mut live, 1, 0, Turn::Waits));
+    assert!(rt; makes(&mut live, 2, 0, Turn::Ended));
     assert_eq!(rt; live.history().len(), 2);
     Ok(())
 }
 
 #[test]
-fn a_submit_takes_no_more_than_is_queued(rt: HostRuntime) -> Result<(), Fail> {
+fn a_submit_may_be_answered_with_an_error(rt: HostRuntime) -> Result<(), Fail> {
     let mut live = played(rt.alloc(), SHARE, 4)?;
-    assert_eq!(rt; live.turn(0, 0)?, done(0, 11, Action::Looped));
+    assert!(rt; makes(&mut live, 0, 0, done(0, 11, Action::Looped)));
     assert_eq!(rt; live.queued(), 1);
-    assert_eq!(rt; live.turn(0, -11)?, done(0, 12, Action::Submitted(-11)));
+    assert!(rt; makes(&mut live, 0, -11, done(0, 12, Action::Submitted(-11))));
     assert_eq!(rt; live.queued(), 1);
+    Ok(())
+}
+
+#[test]
+fn a_submit_takes_no_more_than_is_queued(rt: HostRuntime) -> Result<(), Fail> {
     let mut live = played(rt.alloc(), SHARE, 5)?;
-    assert_eq!(rt; live.turn(0, 9)?, done(0, 12, Action::Submitted(1)));
+    assert!(rt; makes(&mut live, 0, 9, done(0, 12, Action::Submitted(1))));
     assert_eq!(rt; live.queued(), 0);
     Ok(())
+}
+
+// Whether a job may be taken besides; it is given up.
+fn another_is_out(live: &mut Live) -> bool {
+    match live.take_job(0) {
+        Ok(Some(other)) => {
+            other.give_up();
+            true
+        }
+        Ok(None) => false,
+        Err(_) => true,
+    }
+}
+
+// Whether the job has its bytes, so many, and the request of this user data.
+fn is_whole(job: &mut Job, len: usize, user_data: u64) -> bool {
+    !job.starved() && job.bytes().len() == len && job.request().user_data == user_data
+}
+
+// Whether the least and the greatest result are allowed, and none beyond.
+fn has_bounds(job: &Job) -> bool {
+    job.allows(16) && job.allows(-4095) && !job.allows(17) && !job.allows(-4096)
 }
 
 #[test]
@@ -80,65 +116,79 @@ fn a_job_is_out_once_and_posted_once(rt: HostRuntime) -> Result<(), Fail> {
     let Some(mut job) = live.take_job(3)? else {
         return Err("a job".into());
     };
-    let another = match live.take_job(0) {
-        Ok(Some(other)) => {
-            other.give_up();
-            true
-        }
-        Ok(None) => false,
-        Err(_) => true,
-    };
-    let starved = job.starved();
-    let len = if starved { 0 } else { job.bytes().len() };
-    let user_data = job.request().user_data;
-    let bounds = [
-        job.allows(16),
-        job.allows(-4095),
-        job.allows(17),
-        job.allows(-4096),
-    ];
+    let alone = !another_is_out(&mut live);
+    let whole = is_whole(&mut job, 16, 9) && has_bounds(&job);
     let posted = posts(&mut live, job, 16);
-    assert!(rt; !another);
-    assert_eq!(rt; (starved, len, user_data), (false, 16, 9));
-    assert_eq!(rt; bounds, [true, true, false, false]);
-    assert!(rt; posted);
+    assert!(rt; alone && whole && posted);
     let completion = Completion {
         user_data: 9,
         res: 16,
     };
-    assert_eq!(rt; live.close().last(), Some(&Event::ByKernel(completion)));
+    assert!(rt; live.close().last() == Some(&Event::ByKernel(completion)));
     Ok(())
+}
+
+// A run of HANDOFF whose request is pending.
+fn submitted(alloc: Global) -> Result<Live, Fail> {
+    let mut live = played(alloc, HANDOFF, 5)?;
+    live.turn(0, 1)?;
+    Ok(live)
+}
+
+// The job, where it comes back with its result.
+fn refused(live: &mut Live, job: Job, res: i32) -> Option<Job> {
+    if !job.allows(res) {
+        return Some(job);
+    }
+    match live.post(job, res) {
+        Ok(()) => None,
+        Err(job) => Some(job),
+    }
+}
+
+// Whether the job of one run comes back from another, which stays as it is, and is posted to its own.
+fn comes_back(one: &mut Live, other: &mut Live) -> Result<bool, Fail> {
+    let Some(job) = one.take_job(0)? else {
+        return Ok(false);
+    };
+    let Some(job) = refused(other, job, 16) else {
+        return Ok(false);
+    };
+    let stays = (other.history().len(), other.pending(), other.free()) == (6, 1, 1);
+    Ok(posts(one, job, 16) && stays)
 }
 
 #[test]
 fn a_job_of_another_run_comes_back(rt: HostRuntime) -> Result<(), Fail> {
-    let mut one = played(rt.alloc(), HANDOFF, 5)?;
-    one.turn(0, 1)?;
-    let mut other = played(rt.alloc(), HANDOFF, 5)?;
-    other.turn(0, 1)?;
-    let Some(job) = one.take_job(0)? else {
-        return Err("a job".into());
+    let mut one = submitted(rt.alloc())?;
+    let mut other = submitted(rt.alloc())?;
+    assert!(rt; comes_back(&mut one, &mut other)?);
+    assert!(rt; !another_is_out(&mut one));
+    Ok(())
+}
+
+// Makes so many turns of a thread, whose submit takes an entry.
+fn make_turns(live: &mut Live, thread: u32, count: u32) -> Result<(), Fail> {
+    for _ in 0..count {
+        live.turn(thread, 1)?;
+    }
+    Ok(())
+}
+
+// Whether a job has its bytes, and what a disk that is granted this answers to it is posted.
+fn serves(live: &mut Live, disk: &mut Disk, grant: i32) -> Result<bool, Fail>
+    requires { (negsuc 4094 ≤ℤ grant) × (grant ≤ℤ pos 4096) }
+{
+    let Some(mut job) = live.take_job(0)? else {
+        return Ok(false);
     };
-    if !job.allows(16) {
+    if job.starved() {
         job.give_up();
-        return Err("allowed".into());
+        return Ok(false);
     }
-    match other.post(job, 16) {
-        Ok(()) => return Err("posted to another run".into()),
-        Err(job) => {
-            let stays = (other.history().len(), other.pending(), other.free()) == (6, 1, 1);
-            let posted = posts(&mut one, job, 16);
-            assert!(rt; stays);
-            assert!(rt; posted);
-        }
-    }
-    match one.take_job(0)? {
-        None => Ok(()),
-        Some(job) => {
-            job.give_up();
-            Err("a job twice".into())
-        }
-    }
+    let request = job.request();
+    let res = disk.serve(&request, job.bytes(), grant);
+    Ok(posts(live, job, res))
 }
 
 // A run of HANDOFF whose one job is served by a disk that is granted this.
@@ -148,24 +198,11 @@ fn served(alloc: Global, grant: i32) -> Result<Vec<Event>, Fail>
     let admitted = admitted(alloc, HANDOFF)?;
     let mut disk = Disk::new(alloc, admitted.program())?;
     let mut live = Live::start(alloc, admitted)?;
-    for _ in 0..9 {
-        live.turn(0, 1)?;
+    make_turns(&mut live, 0, 9)?;
+    if !serves(&mut live, &mut disk, grant)? {
+        return Err("a job that is served".into());
     }
-    let Some(mut job) = live.take_job(0)? else {
-        return Err("a job".into());
-    };
-    if job.starved() {
-        job.give_up();
-        return Err("bytes".into());
-    }
-    let request = job.request();
-    let res = disk.serve(&request, job.bytes(), grant);
-    if !posts(&mut live, job, res) {
-        return Err("posted".into());
-    }
-    for _ in 0..7 {
-        live.turn(1, 0)?;
-    }
+    make_turns(&mut live, 1, 7)?;
     Ok(live.close())
 }
 

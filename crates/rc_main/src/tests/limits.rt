@@ -2,7 +2,7 @@
 
 use crate::command::command;
 use rc_examples::programs::NOP;
-use std::alloc::Global;
+use std::alloc::{AllocError, Global};
 use std::process::Abort;
 use std::sync::Wait;
 use std::test::Fail;
@@ -80,14 +80,26 @@ fn checked(rt: &(impl Abort + Threads + Wait + Sync), alloc: Global, text: &[u8]
     (status, writer)
 }
 
+/// A beginning, a piece that follows so often, and an end.
+fn large(
+    alloc: Global,
+    begin: &[u8],
+    piece: &[u8],
+    count: u32,
+    end: &[u8],
+) -> Result<Vec<u8>, AllocError> {
+    let mut text = begin.to_vec(alloc)?;
+    for _ in 0..count {
+        text.extend_from_slice(piece)?;
+    }
+    text.extend_from_slice(end)?;
+    Ok(text)
+}
+
 #[test]
 fn limits_are_met_exactly(rt: HostRuntime) -> Result<(), Fail> {
     for (begin, piece, count, end, verdict, wanted) in LARGE {
-        let mut text = begin.to_vec(rt.alloc())?;
-        for _ in 0..count {
-            text.extend_from_slice(piece)?;
-        }
-        text.extend_from_slice(end)?;
+        let text = large(rt.alloc(), begin, piece, count, end)?;
         let (status, written) = checked(&rt, rt.alloc(), &text);
         assert_eq!(rt; written.as_slice(), verdict);
         assert_eq!(rt; status, wanted);

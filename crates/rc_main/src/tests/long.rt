@@ -10,21 +10,27 @@ const TOKENS: u32 = 250;
 /// How often that many requests are made and reaped.
 const TURNS: u32 = 4;
 
+/// Adds a piece for each token: what stands in front of its number, and behind it.
+fn push_tokens(
+    alloc: Global,
+    text: &mut String,
+    front: &str,
+    back: &str,
+) -> Result<(), AllocError> {
+    for token in 0..TOKENS {
+        text.push_str(format!(in alloc; "{front}{token}{back}")?.as_str())?;
+    }
+    Ok(())
+}
+
 /// A thread that makes a request for each token, hands all of them over, and reaps until none is left, for ever.
 fn text(alloc: Global) -> Result<String, AllocError> {
     let mut text = String::from_str(alloc, "ringcheck 1\nring 256\n")?;
-    for token in 0..TOKENS {
-        text.push_str(format!(in alloc; "token {token} nop\n")?.as_str())?;
-    }
+    push_tokens(alloc, &mut text, "token ", " nop\n")?;
     text.push_str("thread t0 holds {\nloop keeps {\nlock {\n")?;
-    for token in 0..TOKENS {
-        let made = format!(in alloc; "get_sqe\nprep_nop\nset_data64 {token}\n")?;
-        text.push_str(made.as_str())?;
-    }
+    push_tokens(alloc, &mut text, "get_sqe\nprep_nop\nset_data64 ", "\n")?;
     text.push_str("r = submit\n}\nloop keeps {\nlock {\npeek_cqe r {\n")?;
-    for token in 0..TOKENS {
-        text.push_str(format!(in alloc; "case {token} {{\ncqe_seen\n}}\n")?.as_str())?;
-    }
+    push_tokens(alloc, &mut text, "case ", " {\ncqe_seen\n}\n")?;
     text.push_str("other {\n}\nnone {\nbreak\n}\n}\n}\n}\n}\n}\n")?;
     Ok(text)
 }
@@ -42,22 +48,26 @@ fn push_steps(schedule: &mut String, count: u32) -> Result<(), AllocError> {
 fn push_turn(alloc: Global, schedule: &mut String) -> Result<(), AllocError> {
     // The lock, three calls a request, the submit and the release.
     push_steps(schedule, 1 + 3 * TOKENS + 2)?;
-    for token in 0..TOKENS {
-        schedule.push_str(format!(in alloc; ",k:{token}=0")?.as_str())?;
-    }
+    push_tokens(alloc, schedule, ",k:", "=0")?;
     // The inner loop; the lock, the peek, the reap, the release and the loop for each; the lock, the peek and the break;
     // the loop.
     push_steps(schedule, 1 + 5 * TOKENS + 3 + 1)
+}
+
+/// Names the steps of so many turns.
+fn schedule(alloc: Global, turns: u32) -> Result<String, AllocError> {
+    let mut schedule = String::from_str(alloc, "t0")?;
+    for _ in 0..turns {
+        push_turn(alloc, &mut schedule)?;
+    }
+    Ok(schedule)
 }
 
 #[test]
 fn a_thousand_requests_are_made_and_reaped(rt: HostRuntime) -> Result<(), Fail> {
     let alloc = rt.alloc();
     let text = text(alloc)?;
-    let mut schedule = String::from_str(alloc, "t0")?;
-    for _ in 0..TURNS {
-        push_turn(alloc, &mut schedule)?;
-    }
+    let schedule = schedule(alloc, TURNS)?;
     let words = ["step", "--schedule", schedule.as_str()];
     let mut writer = Vec::new(alloc);
     let mut errors = Vec::new(alloc);
