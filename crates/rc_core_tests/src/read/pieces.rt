@@ -59,15 +59,16 @@ fn handoff_is_the_same_at_every_cut(rt: HostRuntime) -> Result<(), Fail> {
     Ok(())
 }
 
-// A reader that has the whole text, in pieces of this size.
-fn fed_in_pieces(rt: &impl AllocGlobal, text: &[u8], size: usize) -> Reader
+// Whether a reader takes each piece of a text, of this size, without a fault.
+fn takes(reader: &mut Reader, text: &[u8], size: usize) -> bool
     requires { 0 < size }
 {
-    let mut reader = Reader::new(rt.alloc());
     for piece in text.chunks(size) {
-        let _ = reader.feed(piece);
+        if reader.feed(piece).is_err() {
+            return false;
+        }
     }
-    reader
+    true
 }
 
 // A line of 1,000 bytes is kept whole, whatever the pieces are, and judged where it ends.
@@ -75,7 +76,8 @@ fn fed_in_pieces(rt: &impl AllocGlobal, text: &[u8], size: usize) -> Reader
 fn a_long_line_is_read_in_any_pieces(rt: HostRuntime) -> Result<(), Fail> {
     let text = repeated(&rt, "ringcheck 1\nring 1\n", "#", 1000, "")?;
     for size in [1, 7, 64, 256, 299, 300, 301, 1000] {
-        let reader = fed_in_pieces(&rt, &text, size);
+        let mut reader = Reader::new(rt.alloc());
+        assert!(rt; takes(&mut reader, &text, size), "pieces of {size}");
         assert_eq!(rt; reader.pending().len(), 1000, "pieces of {size}");
         assert_eq!(rt; place_of(reader.finish()), (3, 8), "pieces of {size}");
     }
