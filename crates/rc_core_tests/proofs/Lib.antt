@@ -1,2 +1,4 @@
+mod DevicePrograms
+mod Plain
 mod RulesExamples
 mod VerifyExamples

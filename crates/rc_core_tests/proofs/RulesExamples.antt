@@ -22,6 +22,7 @@ use Rattle.rc_rules.specs.Sides.{on, brings, turns, write_of, forgets}
 use Rattle.rc_rules.specs.States.{State, label_of, program_of, is_locked, Gives, Becomes, OnBoth, AgreeOnLock, IsStart, IsUnlocked, IsLocked, IsSmall}
 use Rattle.rc_rules.specs.Labellings.{start_of}
 use Rattle.rc_core_tests.specs.RulesExample.{share, share_thread, IsAtMost, IsOfShare}
+use Rattle.rc_core_tests.proofs.Plain.{distinct, none, plain_items}
 use Rattle.rc_rules.proofs.Lines.{effect_by}
 use Rattle.rc_rules.proofs.Headers.{few_of, count_once}
 use Rattle.rc_verify.proofs.Fit.{AreAll, gate_keeps, kept_few}
@@ -35,13 +36,6 @@ use Rattle.rc_lang.specs.declared.program.TokenKind.TheVariants.{Write}
 pub one : {X : Type 0} (P : X → Type 0) (x : X) → P x → All P (x ∷ [])
 one P x h zero d lt = h
 one P x h (suc k) d lt = absurd (omega (arith, lt))
-
-pub none : {X : Type 0} (P : X → Type 0) → All P []
-none P k d lt = absurd (omega (arith, lt))
-
-pub distinct : {K : Type 0} (e : K → K → Bool) → IsDistinct e []
-unfolding IsDistinct
-distinct e = tt
 
 pub single : {K : Type 0} (e : K → K → Bool) (x : K) → IsDistinct e (x ∷ [])
 unfolding IsDistinct
@@ -225,12 +219,6 @@ pub loop_few : {X : Type 0} (old new : State) (r : Result X Cause) (ps : List (�
 loop_few old new r ps items n k e l g h = gave (IsAtMost n) (few_lowered n) old new r ps _ g (λ z. brought (IsAtMost n) tt (λ y. turns (forgets old.flag) y z) (λ s. top (program_of old) items z s) (label_of old) (λ y. top_few (program_of old) n items z (label_of old y) k (subst (λ P. IsList P items) (sym e) l))) h
 
 -- lists of credits alone, and of credits, and a token or a share besides
-plain : (n : ℕ) → n ≤ 2048 → IsItems share (record { shares = []; tokens = []; credits = n; queue = None; more = no_more })
-plain n l = record { buffers = none _; counts = none _; distinct_buffers = distinct _; tokens = none _; distinct_tokens = distinct _; credits = l; queue = tt }
-
-first_plain : (n : ℕ) (more : More) → n ≤ 2048 → IsItems share (record { shares = []; tokens = []; credits = n; queue = None; more = more })
-first_plain n more l = record { buffers = none _; counts = none _; distinct_buffers = distinct _; tokens = none _; distinct_tokens = distinct _; credits = l; queue = tt }
-
 abbrev listed : ℕ → More → Items
 listed n more = record { shares = []; tokens = []; credits = n; queue = None; more = more }
 
@@ -238,18 +226,18 @@ list_of : (n : ℕ) (i : Items) (m k : More) → i ≡ listed n m → m ≡ k �
 list_of n i m k e f h = subst (IsList share) (sym e) (subst (λ x. IsList share (listed n x)) (sym f) h)
 
 pub credits_list : (n k : ℕ) (i : Items) (m : More) → n ≤ 2048 → k ≤ 2048 → i ≡ listed n m → m ≡ record { shares = []; tokens = []; credits = k } → IsList share i
-credits_list n k i m l h e f = list_of n i m _ e f (record { first = first_plain n _ l; more = plain k h; apart = distinct _ })
+credits_list n k i m l h e f = list_of n i m _ e f (record { first = plain_items share n _ l; more = plain_items share k no_more h; apart = distinct _ })
 
 pub token_list : (i : Items) (m : More) → i ≡ listed 0 m → m ≡ record { shares = []; tokens = 9 ∷ []; credits = 0 } → IsList share i
 token_list i m e f = list_of 0 i m _ e f (record {
-  first = first_plain 0 _ (lit≤ tt);
+  first = plain_items share 0 _ (lit≤ tt);
   more = record { buffers = none _; counts = none _; distinct_buffers = distinct _; tokens = tokens; distinct_tokens = single nat_eq 9; credits = lit≤ tt; queue = tt };
   apart = single nat_eq 9;
 })
 
 pub share_list : (i : Items) (m : More) → i ≡ listed 0 m → m ≡ record { shares = record { buffer = 0; count = 1 } ∷ []; tokens = []; credits = 0 } → IsList share i
 share_list i m e f = list_of 0 i m _ e f (record {
-  first = first_plain 0 _ (lit≤ tt);
+  first = plain_items share 0 _ (lit≤ tt);
   more = record {
     buffers = one (λ (s : Share). s.buffer < 1) (record { buffer = 0; count = 1 }) (lit≤ tt);
     counts = one (λ (s : Share). (1 ≤ s.count) × (s.count ≤ 16)) (record { buffer = 0; count = 1 }) (lit≤ tt, lit≤ tt);

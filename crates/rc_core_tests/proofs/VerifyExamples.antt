@@ -14,7 +14,8 @@ use Rattle.rc_lang.specs.Nesting.{IsNested, IsNestedIn, blocks_at}
 use Rattle.rc_lang.specs.Parts.{view_program, view_thread, view_buffer}
 use Rattle.rc_lang.specs.Program.{Thread, IsFlag, IsProgram, IsThread, IsItems, IsResolved, IsLinked, line_numbers, stmt_at}
 use Rattle.rc_lang.proofs.Rising.{by_test}
-use Rattle.rc_core_tests.proofs.RulesExamples.{distinct, none, single}
+use Rattle.rc_core_tests.proofs.Plain.{distinct, none}
+use Rattle.rc_core_tests.proofs.RulesExamples.{single}
 use Rattle.rc_core_tests.specs.VerifyExample.{example, example_ends, example_lines, example_thread, example_version, if_not_zero}
 
 -- ---- the lines

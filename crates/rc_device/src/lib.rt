@@ -6,5 +6,3 @@ pub mod device;
 pub mod disk;
 mod file;
 pub mod laws;
-#[cfg(test)]
-mod tests;

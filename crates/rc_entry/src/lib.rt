@@ -11,8 +11,6 @@ mod completion;
 pub mod laws;
 mod numbers;
 mod submission;
-#[cfg(test)]
-mod tests;
 
 pub use crate::completion::{decode_cqe, encode_cqe};
 pub use crate::submission::{decode_sqe, encode_sqe};

@@ -312,36 +312,3 @@ impl Program {
         }
     }
 }
-
-#[cfg(test)]
-mod tests {
-    use super::*;
-
-    #[test]
-    fn a_program_without_threads_is_made_of_its_head(rt: HostRuntime) {
-        let alloc = rt.alloc();
-        let head = Head {
-            version: 1,
-            entries: 4,
-            completion_entries: 8,
-            left: 3,
-        };
-        let declarations = Declarations {
-            files: Vec::new(alloc),
-            buffers: Vec::new(alloc),
-            tokens: Vec::new(alloc),
-        };
-        let program = Program::new(head, declarations, Vec::new(alloc));
-        let sizes = (program.entries(), program.completion_entries());
-        assert_eq!(rt; sizes, (4, 8));
-        assert_eq!(rt; (program.version(), program.left()), (1, 3));
-        assert_eq!(rt; program.threads().len(), 0);
-        assert_eq!(rt; program.files().len(), 0);
-        assert!(rt; program.line_at(0, 0).is_none());
-        assert_eq!(rt; program.lists_of(0).len(), 0);
-        assert_eq!(rt; program.end_at(0, 0), 0);
-        assert_eq!(rt; program.bytes_at(0), 0);
-        assert_eq!(rt; program.shares_at(0), 0);
-        assert_eq!(rt; program.token_place(7), None);
-    }
-}

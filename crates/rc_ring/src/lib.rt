@@ -8,8 +8,6 @@
 pub mod laws;
 mod rings;
 mod slots;
-#[cfg(test)]
-mod tests;
 
 pub use crate::rings::{Overflow, Ring};
 pub use crate::slots::{Prepared, Slot, SlotStage, Vacant};

@@ -4,6 +4,5 @@ pub mod Turns
 mod Alike
 mod Small
 mod Held
-mod Plain
 pub mod PoolBags
 pub mod Named

@@ -8,5 +8,3 @@ pub mod holding;
 pub mod part;
 pub mod pool;
 mod rows;
-#[cfg(test)]
-mod tests;

@@ -1,8 +1,8 @@
 ghost use Rattle.std.specs.Prelude.{◌≤◌, ◌<◌};
 
-use crate::chooser::{Chooser, Listed, Seeded};
-use crate::device::Device;
-use crate::disk::Disk;
+use rc_device::chooser::{Chooser, Listed, Seeded};
+use rc_device::device::Device;
+use rc_device::disk::Disk;
 use rc_lang::program::{Declarations, File, Head, Program};
 use rc_lang::request::{Kind, Request};
 use std::alloc::{AllocError, Global};

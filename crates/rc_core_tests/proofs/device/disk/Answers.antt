@@ -1,5 +1,5 @@
-use Rattle.rc_device.proofs.Programs.{one_file}
-use Rattle.rc_device.proofs.tests.disk.Goals as goal
+use Rattle.rc_core_tests.proofs.DevicePrograms.{one_file}
+use Rattle.rc_core_tests.proofs.device.disk.Goals as goal
 
 pub new-program-requires : goal.new-program-requires
 new-program-requires c =

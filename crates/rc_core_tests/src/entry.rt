@@ -1,6 +1,6 @@
-// Bytes from outside: what the preps of liburing 2.3 wrote, and a completion as the kernel posts it.
+//! Bytes from outside: what the preps of liburing 2.3 wrote, and a completion as the kernel posts it.
 
-use super::*;
+use rc_entry::{Cqe, Entry, EntryFault, decode_cqe, decode_sqe, encode_cqe, encode_sqe};
 
 // Writes the bytes that pairs of hexadecimal digits give; what is not one (a space) is passed over.
 fn write_hex(bytes: &mut [u8], text: &str) {

@@ -3,8 +3,8 @@
 ghost use Rattle.std.specs.Prelude.{◌≡◌, ◌<◌, ◌^◌, false, Some};
 ghost use Rattle.rc_ring.specs.Rings.{NoSlot, VacantSlot, open_place};
 
-use crate::{Overflow, Ring, Slot, Vacant};
 use rc_entry::Cqe;
+use rc_ring::{Overflow, Ring, Slot, Vacant};
 use std::process::Abort;
 use std::test::Fail;
 

@@ -1,5 +1,5 @@
 use Rattle.std.proofs.Common.{refl}
-use Rattle.rc_index.proofs.tests.a_ring_that_wraps_fills_up.Goals as goal
+use Rattle.rc_core_tests.proofs.index.a_ring_that_wraps_fills_up.Goals as goal
 
 -- 4 is 2 to the second
 pub opened_at-ring-requires-clause-power : goal.opened_at-ring-requires-clause-power

@@ -1,6 +1,6 @@
 use Rattle.std.proofs.Common.{lit≤}
-use Rattle.rc_split.proofs.Plain.{credits_alone}
-use Rattle.rc_split.proofs.tests.what_is_put_is_there_until_it_is_taken.Goals as goal
+use Rattle.rc_core_tests.proofs.Plain.{credits_alone}
+use Rattle.rc_core_tests.proofs.split.what_is_put_is_there_until_it_is_taken.Goals as goal
 
 pub put-requires : goal.put-requires
 put-requires g c = credits_alone _ _ 1 _ (lit≤ tt) c.credits-one.ensures

@@ -1,4 +1,4 @@
--- A program that declares nothing.
+-- Lists without an item, items that are credits alone, and a program that declares nothing.
 use Rattle.std.proofs.Common.{◌≡◌, ◌≤◌, ℕ, Bool, List, [], None, map, refl, sym, subst, arith, lit≤}
 use Rattle.std.specs.Prelude.{All}
 use Rattle.std.specs.List.{IsDistinct}
@@ -7,14 +7,14 @@ use Rattle.rc_lang.specs.declared.program.Declarations.{Declarations}
 use Rattle.rc_lang.specs.declared.program.Thread.{Thread as ThreadPart}
 use Rattle.rc_lang.specs.Program.{IsItems, IsProgram, Items, More, Program}
 
-none : {X : Type 0} (P : X → Type 0) → All P []
+pub none : {X : Type 0} (P : X → Type 0) → All P []
 none P k d lt = absurd (omega (arith, lt))
 
-distinct : {K : Type 0} (e : K → K → Bool) → IsDistinct e []
+pub distinct : {K : Type 0} (e : K → K → Bool) → IsDistinct e []
 unfolding IsDistinct
 distinct e = tt
 
-pub is_plain : IsProgram (record { version = 1; entries = 1; completion_entries = 2; left = 0; files = []; buffers = []; tokens = []; threads = [] })
+is_plain : IsProgram (record { version = 1; entries = 1; completion_entries = 2; left = 0; files = []; buffers = []; tokens = []; threads = [] })
 is_plain = record {
   version = (lit≤ tt, lit≤ tt);
   entries = record { power = (0, refl); within = lit≤ tt };
@@ -37,7 +37,7 @@ is_plain = record {
 }
 
 -- Credits alone are items of each program.
-plain_items : (P : Program) (n : ℕ) (more : More) → n ≤ 2048 → IsItems P (record { shares = []; tokens = []; credits = n; queue = None; more = more })
+pub plain_items : (P : Program) (n : ℕ) (more : More) → n ≤ 2048 → IsItems P (record { shares = []; tokens = []; credits = n; queue = None; more = more })
 plain_items P n more l = record { buffers = none _; counts = none _; distinct_buffers = distinct _; tokens = none _; distinct_tokens = distinct _; credits = l; queue = tt }
 
 pub credits_alone : (P : Program) (items : Items) (n : ℕ) (more : More) → n ≤ 2048 → items ≡ record { shares = []; tokens = []; credits = n; queue = None; more = more } → IsItems P items

@@ -4,10 +4,10 @@ ghost use Rattle.std.specs.Prelude.{◌≡◌, [], None};
 ghost use Rattle.rc_lang.specs.Parts.{view_items};
 ghost use Rattle.rc_lang.specs.Program.{IsItems};
 
-use crate::holding::Holding;
-use crate::part::Part;
-use crate::pool::Pool;
 use rc_lang::program::{Declarations, Head, Items, More, Program};
+use rc_split::holding::Holding;
+use rc_split::part::Part;
+use rc_split::pool::Pool;
 use std::alloc::Global;
 use std::test::Fail;
 

@@ -1,16 +1,12 @@
-use Rattle.std.proofs.Common.{Bool, List, [], map, refl, sym, subst, lit≤, arith}
-use Rattle.std.specs.List.{IsDistinct}
+use Rattle.std.proofs.Common.{List, [], map, refl, sym, subst, lit≤, arith}
 use Rattle.rc_lang.specs.declared.program.Buffer.{Buffer}
 use Rattle.rc_lang.specs.declared.program.File.{File}
 use Rattle.rc_lang.specs.declared.program.Thread.{Thread}
 use Rattle.rc_lang.specs.declared.program.Token.{Token}
 use Rattle.rc_lang.specs.Parts.{view_buffer, view_thread}
 use Rattle.rc_lang.specs.Program.{IsProgram, Program}
-use Rattle.rc_lang.proofs.program.tests.a_program_without_threads_is_made_of_its_head.Goals as goal
-
-none_twice : {K : Type 0} (eq : K → K → Bool) → IsDistinct eq []
-unfolding IsDistinct
-none_twice eq = tt
+use Rattle.rc_core_tests.proofs.Plain.{distinct, none}
+use Rattle.rc_core_tests.proofs.lang.a_program_without_threads_is_made_of_its_head.Goals as goal
 
 -- the program of these parts
 abbrev parts : List File → List Buffer → List Token → List Thread → Program
@@ -33,16 +29,16 @@ bare = record {
   room = lit≤ tt;
   left = lit≤ tt;
   few_files = lit≤ tt;
-  files = λ k d lt. absurd (omega arith);
-  distinct_files = none_twice _;
+  files = none _;
+  distinct_files = distinct _;
   few_buffers = lit≤ tt;
-  buffers = λ k d lt. absurd (omega arith);
-  distinct_buffers = none_twice _;
+  buffers = none _;
+  distinct_buffers = distinct _;
   few_tokens = lit≤ tt;
-  tokens = λ k d lt. absurd (omega arith);
-  distinct_tokens = none_twice _;
+  tokens = none _;
+  distinct_tokens = distinct _;
   few_threads = lit≤ tt;
-  distinct_names = none_twice _;
+  distinct_names = distinct _;
   each = λ i t e. absurd (cc);
   numbers = λ k lt. absurd (omega arith);
 }

@@ -1,6 +1,6 @@
 use Rattle.std.proofs.Common.{◌≡◌}
 use Rattle.rc_ring.specs.Rings.{NoSlot}
-use Rattle.rc_ring.proofs.tests.submit_four.Given as goal
+use Rattle.rc_core_tests.proofs.ring.submit_four.Given as goal
 
 -- no slot is open
 abbrev pub invariant-loop-user_data : goal.invariant-loop-user_data
