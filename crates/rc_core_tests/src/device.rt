@@ -1,3 +1,5 @@
+//! Requests that a disk answers, and numbers that are chosen.
+
 ghost use Rattle.std.specs.Prelude.{◌≤◌, ◌<◌};
 
 use rc_device::chooser::{Chooser, Listed, Seeded};
