@@ -10,6 +10,7 @@ use Rattle.rc_run.specs.declared.live.Turn.TheVariants.{Done, Waits, Ended}
 use Rattle.rc_run.specs.declared.machine.Pending.{Pending as PendingPart}
 use Rattle.rc_run.specs.Jobs.{Job}
 use Rattle.rc_run.specs.Machine.{completed_by, datasync_after, submit_answer}
+use Rattle.rc_world.specs.declared.controls.Next.{Next}
 use Rattle.rc_world.specs.declared.controls.Next.TheVariants as next
 use Rattle.rc_world.specs.declared.event.Event.{Event}
 use Rattle.rc_world.specs.Controls.{next_line}
@@ -40,6 +41,18 @@ abbrev pub Turned : Live → ℕ → ℤ → Turn → Live → Type 0
 Turned s i t (Done e) v = (thread_step s.world i (submit_answer s.world t) ≡ Some (e, v.world)) × (v ≡ grown s e v.world (datasync_next s i))
 Turned s i t Waits v = (next_of s.world.program s.world.controls i ≡ next.TakenLock) × (v ≡ s)
 Turned s i t Ended v = (next_of s.world.program s.world.controls i ≡ next.Ended) × (v ≡ s)
+
+-- ---- who can make an event
+
+-- a next that isn't a taken lock
+abbrev pub is_ready : Next → Bool
+is_ready (next.Ready line) = true
+is_ready next.TakenLock = false
+is_ready next.Ended = false
+
+-- The i-th thread can make an event.
+abbrev pub can_move : World → ℕ → Bool
+can_move w i = is_ready (next_of w.program w.controls i)
 
 -- ---- jobs
 

@@ -1,17 +1,25 @@
 -- How the players of a run stand, and which one is called.
-use Rattle.std.specs.Prelude.{ℕ, ◌≡◌, ◌≢◌, ◌⊎◌, ◌+◌, ◌-◌, ◌<◌, ◌≤◌, Bool, true, false, ◌&&◌, ◌||◌, if◌then◌else◌, List, [], length, map, replicate, Option, None, Some, is_none, nat_eq, nat_lt, slice_get, slice_index_or, slice_set}
+use Rattle.std.specs.Prelude.{ℕ, ◌≡◌, ◌≢◌, ◌⊎◌, ◌+◌, ◌-◌, ◌<◌, ◌≤◌, Bool, true, false, ◌&&◌, ◌||◌, if◌then◌else◌, List, [], length, map, replicate, Option, None, Some, is_none, nat_eq, nat_lt, slice_get, slice_index_or, slice_set, pos, int_le}
 use Rattle.std.specs.List.{list_any}
 use Rattle.rc_lang.specs.declared.lines.Line.{Line}
 use Rattle.rc_lang.specs.declared.lines.Stmt.{Stmt}
 use Rattle.rc_lang.specs.declared.lines.Stmt.TheVariants.{Case}
 use Rattle.rc_lang.specs.declared.program.Token.{Token}
 use Rattle.rc_lang.specs.Program.{Program, lines_of, token_place}
+use Rattle.rc_world.specs.declared.event.Action.{Action}
+use Rattle.rc_world.specs.declared.event.Action.TheVariants.{DataSet, Submitted, Reaped, ItemsPut}
+use Rattle.rc_world.specs.declared.event.Event.{Event}
+use Rattle.rc_world.specs.declared.event.Event.TheVariants.{ByThread, ByKernel}
+use Rattle.rc_world.specs.Machine.{World}
+use Rattle.rc_run.specs.Lives.{can_move}
+use Rattle.rc_run.specs.declared.roster.Sought.{Sought}
+use Rattle.rc_run.specs.declared.roster.Sought.TheVariants.{Due, Any}
 use Rattle.rc_run.specs.declared.roster.Stance.{Stance}
 use Rattle.rc_run.specs.declared.roster.Stance.TheVariants.{Up, ForCompletion, ForMove, ForLock, Gone}
 
 -- How the players stand, by the numbers of their threads; for each token the threads that have a case for it; who was
--- called to the lock and has made no turn since; who polls on; how many events there were when something moved last; and
--- who is next to be asked.
+-- called to the lock and has made no turn since; who polls on; how many events there were when something moved last; who
+-- is next to be asked; whose the last events of threads are, and how many events of threads there were before them.
 pub record Roster : Type 0 where
   pub stances : List Stance
   pub cases : List (List ℕ)
@@ -19,6 +27,8 @@ pub record Roster : Type 0 where
   pub poller : Option ℕ
   pub moved : ℕ
   pub next : ℕ
+  pub mover : ℕ
+  pub began : ℕ
 
 -- ---- how a player stands
 
@@ -38,17 +48,17 @@ stance_at stances i = slice_index_or stances i Gone
 abbrev pub IsUp : List Stance → ℕ → Type 0
 IsUp stances i = slice_get stances i ≡ Some Up
 
--- A player is up.
-abbrev pub AnyIsUp : List Stance → Type 0
-AnyIsUp stances = (j : ℕ) × IsUp stances j
-
 -- All are up.
 abbrev pub AllAreUp : List Stance → Type 0
 AllAreUp stances = stances ≡ replicate (length stances) Up
 
--- Another player than the i-th is up.
-abbrev pub OtherIsUp : List Stance → ℕ → Type 0
-OtherIsUp stances i = (j : ℕ) × (j ≢ i) × IsUp stances j
+-- A player is up whose thread can make an event.
+abbrev pub AnyCanMove : World → List Stance → Type 0
+AnyCanMove w stances = (j : ℕ) × IsUp stances j × (can_move w j ≡ true)
+
+-- Another player than the i-th is up whose thread can make one.
+abbrev pub OtherCanMove : World → List Stance → ℕ → Type 0
+OtherCanMove w stances i = (j : ℕ) × (j ≢ i) × IsUp stances j × (can_move w j ≡ true)
 
 -- ---- what a player sleeps for
 
@@ -88,9 +98,6 @@ stance_due r front is_free i (ForMove looked) = nat_lt looked r.moved
 stance_due r front is_free i ForLock = is_free && is_none r.called
 stance_due r front is_free i Gone = false
 
-abbrev pub is_due : Roster → Option ℕ → Bool → ℕ → Bool
-is_due r front is_free i = stance_due r front is_free i (stance_at r.stances i)
-
 -- ---- changes
 
 -- the player that is named, unless it is this one
@@ -100,11 +107,28 @@ unless i (Some j) = if nat_eq j i then None else Some j
 
 -- all are up
 abbrev pub fresh_roster : ℕ → List (List ℕ) → Roster
-fresh_roster threads cases = record { stances = replicate threads Up; cases = cases; called = None; poller = None; moved = 0; next = 0 }
+fresh_roster threads cases = record { stances = replicate threads Up; cases = cases; called = None; poller = None; moved = 0; next = 0; mover = 0; began = 0 }
 
 -- The i-th makes turns.
 abbrev pub arrived : Roster → ℕ → Roster
 arrived r i = record r { called = unless i r.called }
+
+-- The i-th made an event, the one after so many of threads.
+abbrev pub noted : Roster → ℕ → ℕ → Roster
+noted r i turns = if nat_eq r.mover i then r else record r { mover = i; began = turns }
+
+-- What a player that sleeps may wait for: an entry is queued, requests become pending, a completion is reaped, or items are
+-- put into the pool.
+abbrev pub moves : Action → Bool
+moves (DataSet u) = true
+moves (Submitted n) = int_le (pos 1) n
+moves (Reaped u) = true
+moves ItemsPut = true
+moves _ = false
+
+abbrev pub event_moves : Event → Bool
+event_moves (ByThread i line action) = moves action
+event_moves (ByKernel completion) = true
 
 -- Something moved when there were so many events.
 abbrev pub moved_at : Roster → ℕ → Roster
@@ -155,6 +179,15 @@ raised r i = record r {
   poller = unless i r.poller;
   next = i + 1;
 }
+
+-- Whether such a player is sought: one for which what it sleeps for has come, or any that sleeps.
+abbrev pub is_sought : Roster → Sought → ℕ → Stance → Bool
+is_sought r (Due front is_free) i s = stance_due r front is_free i s
+is_sought r Any i s = sleeps s
+
+-- The i-th is sought, and its thread can make an event.
+abbrev pub answers : Roster → World → Sought → ℕ → Bool
+answers r w sought i = is_sought r sought i (stance_at r.stances i) && can_move w i
 
 -- From one place to another, without it, nobody passes the test.
 abbrev pub NobodyIn : (ℕ → Bool) → ℕ → ℕ → Type 0

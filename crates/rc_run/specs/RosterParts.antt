@@ -8,4 +8,4 @@ abbrev pub numbers_in : Vec ℕ → List ℕ
 numbers_in v = v.items
 
 abbrev pub view_roster : Inside → Roster
-view_roster r = record { stances = r.stances.items; cases = map numbers_in r.cases.items; called = r.called; poller = r.poller; moved = r.moved; next = r.next }
+view_roster r = record { stances = r.stances.items; cases = map numbers_in r.cases.items; called = r.called; poller = r.poller; moved = r.moved; next = r.next; mover = r.mover; began = r.began }

@@ -1,18 +1,19 @@
 //! What lies under the lock of a run: the run itself, and how its players stand.
 
-ghost use Rattle.std.specs.Prelude.{◌≡◌, ◌↔◌, ◌⊎◌, ◌&&◌, ◌+◌, ◌<◌, ◌%◌, ◌≤ℤ◌, negsuc, true, false, not, [], length, if◌then◌else◌, nat_lt, IfErr, IfNone, IfSome, IsTrue, None, OnOk};
+ghost use Rattle.std.specs.Prelude.{◌≡◌, ◌↔◌, ◌⊎◌, ◌&&◌, ◌+◌, ◌<◌, ◌≤ℤ◌, negsuc, true, false, not, [], length, if◌then◌else◌, nat_lt, IfErr, IfNone, IfSome, IsTrue, OnOk};
 ghost use Rattle.rc_run.specs.declared.roster.Stance.TheVariants.{Up};
-ghost use Rattle.rc_run.specs.Board.{CallsBehind, HasPending, MaySleep, asleep_on, due_on};
+ghost use Rattle.rc_run.specs.Board.{CallsAfter, CallsBehind, CallsNext, HasPending, MaySleep, MovesOn, due_on, frees_lock, row_of};
 ghost use Rattle.rc_run.specs.Jobs.{allows};
 ghost use Rattle.rc_run.specs.Lives.{IsNotOut, Lent, Posted, Turned, free};
-ghost use Rattle.rc_run.specs.Roster.{AllAreUp, AnyIsUp, Calls, OtherIsUp, arrived, left_by, moved_at, moved_by, polled, polls_on, sleeps, stance_at, stands_as};
+ghost use Rattle.rc_run.specs.Roster.{AllAreUp, AnyCanMove, Calls, OtherCanMove, event_moves, left_by, moved_at, moved_by, noted, polled, polls_on, sleeps, stance_at, stands_as};
 ghost use Rattle.rc_run.specs.Table.{after_no_turn, after_refusal, is_stopped, turns_by};
 
 use crate::job::Job;
 use crate::live::Turn;
 use crate::locked::{Asked, Counted, Locked};
-use crate::roster::{Roster, Stance};
+use crate::roster::{Roster, Sought, Stance};
 use rc_device::device::Device;
+use rc_world::event::{Action, Event};
 use std::marker::Model;
 use std::sync::ledger::Ledger;
 
@@ -22,7 +23,8 @@ const ENOUGH: usize = 4;
 // After so many events a player that sleeps is called in any case.
 const ROUND: usize = 1024;
 
-/// A run, and how its players stand. No player sleeps alone: another is up, or a request is pending, or the run is to stop.
+/// A run, and how its players stand. Nobody who could make an event sleeps but where the run moves on: another player is up
+/// whose thread can make one, or a request is pending, or the run is to stop.
 #[derive(Drop)]
 pub struct Board<D: Device, L: Ledger + Asked> {
     run: Locked<D, L>,
@@ -64,24 +66,25 @@ impl<D: Device, L: Ledger + Asked> Board<D, L> {
         run
     }
 
-    /// Makes the next statement of a thread, and counts it. None where the run is to stop.
-    pub fn turn(&mut self, thread: u32, take: i32, mine: &mut Counted<L>) -> Option<Turn>
+    /// Makes the next statement of a thread, and counts it; none where the run is to stop. Answers also whom the event
+    /// calls.
+    pub fn turn(
+        &mut self,
+        thread: u32,
+        take: i32,
+        mine: &mut Counted<L>,
+    ) -> (Option<Turn>, Option<usize>)
         requires { negsuc 4094 ≤ℤ take }
-        ensures some { IfSome result (λ t. Turned self.old.run.run thread take t self.new.run.run) }
-        ensures goes_on { IfSome result (λ _. is_stopped self.old.run ≡ false) }
-        ensures counted { IfSome result (λ t. self.new.run ≡ record self.old.run { run = self.new.run.run; turns = self.old.run.turns + turns_by t }) }
-        ensures none { IfNone result (self.new.run ≡ after_no_turn self.old.run) }
-        ensures roster { self.new.roster ≡ arrived self.old.roster thread }
+        ensures some { IfSome result.0 (λ t. Turned self.old.run.run thread take t self.new.run.run) }
+        ensures goes_on { IfSome result.0 (λ _. is_stopped self.old.run ≡ false) }
+        ensures counted { IfSome result.0 (λ t. self.new.run ≡ record self.old.run { run = self.new.run.run; turns = self.old.run.turns + turns_by t }) }
+        ensures none { IfNone result.0 (self.new.run ≡ after_no_turn self.old.run) }
+        ensures called { CallsAfter result.0 thread self.old.run.turns self.new.run self.old.roster result.1 self.new.roster }
     {
-        self.roster.arrive(thread as usize);
-        self.run.turn(thread, take, mine)
-    }
-
-    /// Notes that a player moved something: queued an entry, had requests become pending, reaped or put items.
-    pub fn move_by(&mut self, thread: usize)
-        ensures { self.new ≡ record self.old { roster = moved_by self.old.roster thread (length self.old.run.run.history) } }
-    {
-        self.roster.move_by(thread, self.run.len());
+        let turns = self.run.turns();
+        let turn = self.run.turn(thread, take, mine);
+        let called = call_after(&self.run, &mut self.roster, thread as usize, turns, turn);
+        (turn, called)
     }
 
     /// Whether a player that found nothing new polls on.
@@ -101,8 +104,7 @@ impl<D: Device, L: Ledger + Asked> Board<D, L> {
         self.run.take_job(choice)
     }
 
-    /// Makes the result of a job an event, and answers whom it calls: who sleeps for it, or anyone where no player is up. A
-    /// job that isn't out comes back.
+    /// Makes the result of a job an event, and answers whom it calls. A job that isn't out comes back.
     pub fn post(
         &mut self,
         job: Job,
@@ -114,11 +116,11 @@ impl<D: Device, L: Ledger + Asked> Board<D, L> {
         ensures ok { OnOk result.0 (Posted self.old.run.run job res self.new.run.run) }
         ensures rest { OnOk result.0 (self.new.run ≡ record self.old.run { run = self.new.run.run }) }
         ensures err { IfErr result.0 (λ j. (j ≡ job) × (self.new.run ≡ self.old.run) × IsNotOut self.old.run.run job.request) }
-        ensures called { CallsBehind self.new.run (moved_at self.old.roster (length self.new.run.run.history)) result.1 self.new.roster }
+        ensures called { CallsBehind true self.new.run (moved_at self.old.roster (length self.new.run.run.history)) result.1 self.new.roster }
     {
         let posted = self.run.post(job, res, mine);
         self.roster.move_at(self.run.len());
-        let called = call_behind(&self.run, &mut self.roster);
+        let called = call_behind(&self.run, &mut self.roster, true);
         (posted, called)
     }
 
@@ -127,26 +129,6 @@ impl<D: Device, L: Ledger + Asked> Board<D, L> {
         ensures { self.new ≡ record self.old { run = after_refusal self.old.run } }
     {
         self.run.refuse();
-    }
-
-    /// Calls a player for which what it sleeps for has come.
-    pub fn call_due(&mut self) -> Option<usize>
-        ensures run { self.new.run ≡ self.old.run }
-        ensures called { Calls (due_on self.old.run self.old.roster) self.old.roster result self.new.roster }
-    {
-        call_due(&self.run, &mut self.roster)
-    }
-
-    /// Calls a player that sleeps, whatever it sleeps for, after each 1,024th event.
-    pub fn call_in_turn(&mut self) -> Option<usize>
-        ensures run { self.new.run ≡ self.old.run }
-        ensures called { length self.old.run.run.history % 1024 ≡ 0 → Calls (asleep_on self.old.roster) self.old.roster result self.new.roster }
-        ensures none { 0 < length self.old.run.run.history % 1024 → (result ≡ None) × (self.new.roster ≡ self.old.roster) }
-    {
-        if self.run.len() % ROUND == 0 {
-            return self.roster.call_any();
-        }
-        None
     }
 
     /// How many workers to wake: for each job one, unless four completions wait to be reaped.
@@ -179,11 +161,11 @@ impl<D: Device, L: Ledger + Asked> Board<D, L> {
         self.roster.is_asleep(thread) && !self.run.is_stopped()
     }
 
-    /// Whether a player is up.
-    pub fn is_anyone_up(&self) -> bool
-        ensures { IsTrue result ↔ AnyIsUp self.now.roster.stances }
+    /// Whether a player is up whose thread can make an event.
+    pub fn anyone_moves(&self) -> bool
+        ensures { IsTrue result ↔ AnyCanMove self.now.run.run.world self.now.roster.stances }
     {
-        self.roster.is_anyone_up()
+        self.roster.anyone_moves(self.run.live())
     }
 
     /// Notes that a player is up.
@@ -200,36 +182,131 @@ impl<D: Device, L: Ledger + Asked> Board<D, L> {
         self.roster.leave(thread);
     }
 
-    /// Whether others may go on where this player doesn't, and none has made an event since there were so many: another
-    /// player is up, or a request is pending.
-    pub fn others_go(&self, thread: usize, seen: usize) -> bool
-        ensures { IsTrue result ↔ ((length self.now.run.run.history ≡ seen) × (is_stopped self.now.run ≡ false) × (OtherIsUp self.now.roster.stances thread ⊎ HasPending self.now)) }
+    /// How many of the last events of threads are this player's, in a row.
+    pub fn row(&self, thread: usize) -> u64
+        ensures { result ≡ row_of self.now thread }
     {
-        self.run.len() == seen
-            && !self.run.is_stopped()
-            && (self.roster.others_up(thread) || self.run.has_pending())
+        let (mover, began) = self.roster.row();
+        if mover == thread {
+            self.run.turns().saturating_sub(began)
+        } else {
+            0
+        }
+    }
+
+    /// Whether another player is up whose thread can make an event, and the run goes on.
+    pub fn others_move(&self, thread: usize) -> bool
+        ensures { IsTrue result ↔ ((is_stopped self.now.run ≡ false) × OtherCanMove self.now.run.run.world self.now.roster.stances thread) }
+    {
+        !self.run.is_stopped() && self.roster.others_move(self.run.live(), thread)
+    }
+
+    /// Whether a request is pending, and the run goes on.
+    pub fn has_pending(&self) -> bool
+        ensures { IsTrue result ↔ ((is_stopped self.now.run ≡ false) × HasPending self.now.run) }
+    {
+        !self.run.is_stopped() && self.run.has_pending()
     }
 }
 
-// Calls a player for which what it sleeps for has come.
-fn call_due<D: Device, L: Ledger + Asked>(run: &Locked<D, L>, roster: &mut Roster) -> Option<usize>
-    ensures { Calls (due_on run.now roster.old) roster.old result roster.new }
+// Notes a player's turn, before which there were so many events of threads, and calls whom its event calls.
+fn call_after<D: Device, L: Ledger + Asked>(
+    run: &Locked<D, L>,
+    roster: &mut Roster,
+    thread: usize,
+    turns: u64,
+    turn: Option<Turn>,
+) -> Option<usize>
+    ensures { CallsAfter turn thread turns run.now roster.old result roster.new }
 {
-    roster.call_due(run.front(), run.is_free())
+    roster.arrive(thread);
+    let Some(Turn::Done(event)) = turn else {
+        return None;
+    };
+    note_event(roster, thread, turns, run.len(), event);
+    call_behind(run, roster, frees_lock(run, event))
 }
 
-// Calls a player for which what it sleeps for has come, or anyone where no player is up.
+// Notes that a player made an event, after which there are so many; before it there were so many of threads.
+fn note_event(roster: &mut Roster, thread: usize, turns: u64, events: usize, event: Event)
+    ensures { roster.new ≡ (if event_moves event then moved_by (noted roster.old thread turns) thread events else noted roster.old thread turns) }
+{
+    roster.note(thread, turns);
+    if event_moves(event) {
+        roster.move_by(thread, events);
+    }
+}
+
+// Whether a player that sleeps may wait for the event: an entry is queued, requests become pending, a completion is posted or
+// reaped, or items are put into the pool.
+fn event_moves(event: Event) -> bool
+    ensures { result ≡ event_moves event }
+{
+    let Event::ByThread { action, .. } = event else {
+        return true;
+    };
+    match action {
+        Action::DataSet(_) | Action::Reaped(_) | Action::ItemsPut => true,
+        Action::Submitted(taken) => taken >= 1,
+        _ => false,
+    }
+}
+
+// Whether an event released the lock of the program.
+fn frees_lock<D: Device, L: Ledger + Asked>(run: &Locked<D, L>, event: Event) -> bool
+    ensures { result ≡ frees_lock run.now event }
+{
+    match event {
+        Event::ByThread { action, .. } => {
+            matches!(action, Action::Released | Action::LoopLeft) && run.is_free()
+        }
+        Event::ByKernel(_) => false,
+    }
+}
+
+// Calls a player after an event. Where a sleeper may wait for it, the next for which what it sleeps for has come.
 fn call_behind<D: Device, L: Ledger + Asked>(
     run: &Locked<D, L>,
     roster: &mut Roster,
+    looks: bool,
 ) -> Option<usize>
-    ensures { CallsBehind run.now roster.old result roster.new }
+    ensures { CallsBehind looks run.now roster.old result roster.new }
 {
-    let called = call_due(run, roster);
-    if called.is_some() || roster.is_anyone_up() {
-        return called;
+    if looks {
+        let called = call_due(run, roster);
+        if called.is_some() {
+            return called;
+        }
     }
-    roster.call_any()
+    call_next(run, roster)
+}
+
+// Calls the next player for which what it sleeps for has come.
+fn call_due<D: Device, L: Ledger + Asked>(run: &Locked<D, L>, roster: &mut Roster) -> Option<usize>
+    ensures { Calls (due_on run.now roster.old) roster.old result roster.new }
+{
+    let sought = Sought::Due {
+        front: run.front(),
+        is_free: run.is_free(),
+    };
+    roster.call(run.live(), sought)
+}
+
+// Calls the next player that could make an event, after each 1,024th event and where the run would not move on.
+fn call_next<D: Device, L: Ledger + Asked>(run: &Locked<D, L>, roster: &mut Roster) -> Option<usize>
+    ensures { CallsNext run.now roster.old result roster.new }
+{
+    if run.len() % ROUND == 0 || !moves_on(run, roster) {
+        return roster.call(run.live(), Sought::Any);
+    }
+    None
+}
+
+// Whether the run moves on.
+fn moves_on<D: Device, L: Ledger + Asked>(run: &Locked<D, L>, roster: &Roster) -> bool
+    ensures { IsTrue result ↔ MovesOn run.now roster.now }
+{
+    run.has_pending() || run.is_stopped() || roster.anyone_moves(run.live())
 }
 
 // Whether a player may sleep so.
@@ -243,5 +320,5 @@ fn may_sleep<D: Device, L: Ledger + Asked>(
 {
     !run.is_stopped()
         && !roster.is_due(thread, stance, run.front(), run.is_free())
-        && (roster.others_up(thread) || run.has_pending())
+        && (run.has_pending() || roster.others_move(run.live(), thread))
 }

@@ -98,6 +98,20 @@ impl<D: Device, L: Ledger + Asked> Locked<D, L> {
         }
     }
 
+    /// The run itself.
+    pub fn live(&self) -> &Live
+        ensures { result.now ≡ self.now.run }
+    {
+        &self.live
+    }
+
+    /// How many events there are of threads.
+    pub fn turns(&self) -> u64
+        ensures { result ≡ self.now.turns }
+    {
+        self.turns
+    }
+
     /// How many events there are.
     pub fn len(&self) -> usize
         ensures { result ≡ length self.now.run.history }

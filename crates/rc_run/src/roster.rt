@@ -3,15 +3,14 @@
 //! Nothing that is promised of a history rests on it: it decides who is woken when.
 
 ghost use Rattle.std.specs.Prelude.{◌≡◌, ◌↔◌, ◌<◌, ℕ, true, false, IfOk, IsTrue, MatchOption, length};
-ghost use Rattle.rc_run.specs.Roster.{AnyIsUp, Calls, IsCaseTable, IsFirstIn, IsInTurn, NobodyIn, OtherIsUp, arrived, fresh_roster, is_due, left_by, may_poll, moved_at, moved_by, polled, polls_on, raised, sleeps, stance_at, stance_due, stands_as, unless};
+ghost use Rattle.rc_run.specs.Roster.{AnyCanMove, Calls, IsCaseTable, IsFirstIn, IsInTurn, NobodyIn, OtherCanMove, answers, arrived, fresh_roster, is_sought, left_by, may_poll, moved_at, moved_by, noted, polled, polls_on, raised, sleeps, stance_at, stance_due, stands_as, unless};
 
 mod cases;
 mod stances;
 
+use crate::live::Live;
 use crate::roster::cases::{cases_of, has_case};
-use crate::roster::stances::{
-    is_anyone_up, is_asleep, next_asleep, others_up, set_stance, wake_all,
-};
+use crate::roster::stances::{anyone_moves, is_asleep, others_move, set_stance, wake_all};
 use rc_lang::program::Program;
 use std::alloc::{AllocError, Global};
 use std::marker::Model;
@@ -34,6 +33,16 @@ pub enum Stance {
     Gone,
 }
 
+/// Which sleepers are sought, of those whose threads can make an event.
+#[derive(Clone, Copy)]
+pub enum Sought {
+    /// One for which what it sleeps for has come: where the front completion is for this token, and the lock of the program
+    /// is free or not.
+    Due { front: Option<usize>, is_free: bool },
+    /// Any.
+    Any,
+}
+
 /// How the players of a run stand, by the numbers of their threads.
 #[derive(Drop)]
 pub struct Roster {
@@ -48,6 +57,9 @@ pub struct Roster {
     moved: usize,
     // Where the next search for a sleeper begins, so that each gets its turn.
     next: usize,
+    // The player that made the last event of a thread, and how many there were before its first one in a row.
+    mover: usize,
+    began: u64,
 }
 
 impl Model for Roster {
@@ -73,6 +85,8 @@ impl Roster {
             poller: None,
             moved: 0,
             next: 0,
+            mover: 0,
+            began: 0,
         })
     }
 
@@ -83,18 +97,25 @@ impl Roster {
         is_asleep(self.stance(thread))
     }
 
-    /// Whether another player than this one is up.
-    pub fn others_up(&self, thread: usize) -> bool
-        ensures { IsTrue result ↔ OtherIsUp self.now.stances thread }
+    /// Whether another player than this one is up whose thread can make an event.
+    pub fn others_move(&self, live: &Live, thread: usize) -> bool
+        ensures { IsTrue result ↔ OtherCanMove live.now.world self.now.stances thread }
     {
-        others_up(&self.stances, thread)
+        others_move(&self.stances, live, thread)
     }
 
-    /// Whether a player is up.
-    pub fn is_anyone_up(&self) -> bool
-        ensures { IsTrue result ↔ AnyIsUp self.now.stances }
+    /// Whether a player is up whose thread can make an event.
+    pub fn anyone_moves(&self, live: &Live) -> bool
+        ensures { IsTrue result ↔ AnyCanMove live.now.world self.now.stances }
     {
-        is_anyone_up(&self.stances)
+        anyone_moves(&self.stances, live)
+    }
+
+    /// The player that made the last event of a thread, and how many there were before its first one in a row.
+    pub fn row(&self) -> (usize, u64)
+        ensures { (result.0 ≡ self.now.mover) × (result.1 ≡ self.now.began) }
+    {
+        (self.mover, self.began)
     }
 
     /// Notes that a player makes turns.
@@ -102,6 +123,16 @@ impl Roster {
         ensures { self.new ≡ arrived self.old thread }
     {
         self.called = unless(thread, self.called);
+    }
+
+    /// Notes that a player made an event, the one after so many of threads.
+    pub fn note(&mut self, thread: usize, turns: u64)
+        ensures { self.new ≡ noted self.old thread turns }
+    {
+        if self.mover != thread {
+            self.mover = thread;
+            self.began = turns;
+        }
     }
 
     /// Notes that a worker moved something when there were so many events.
@@ -163,22 +194,30 @@ impl Roster {
         }
     }
 
-    /// Has a player rise for which what it sleeps for has come.
-    pub fn call_due(&mut self, front: Option<usize>, is_free: bool) -> Option<usize>
-        ensures { Calls (is_due self.old front is_free) self.old result self.new }
+    /// Has the next player in turn rise that is sought.
+    pub fn call(&mut self, live: &Live, sought: Sought) -> Option<usize>
+        ensures { Calls (answers self.old live.now.world sought) self.old result self.new }
     {
-        let thread = next_due(self, front, is_free)?;
+        let thread = next_sought(self, live, sought)?;
         self.raise(thread);
         Some(thread)
     }
 
-    /// Has a player rise that sleeps, whatever it sleeps for.
-    pub fn call_any(&mut self) -> Option<usize>
-        ensures { Calls (λ i. sleeps (stance_at self.old.stances i)) self.old result self.new }
+    // Whether a player is sought, and its thread can make an event.
+    fn answers(&self, live: &Live, sought: Sought, thread: usize) -> bool
+        ensures { result ≡ answers self.now live.now.world sought thread }
     {
-        let thread = next_asleep(&self.stances, self.next)?;
-        self.raise(thread);
-        Some(thread)
+        self.is_sought(sought, thread, self.stance(thread)) && live.can_move(thread)
+    }
+
+    // Whether a player that stands so is sought.
+    fn is_sought(&self, sought: Sought, thread: usize, stance: Stance) -> bool
+        ensures { result ≡ is_sought self.now sought thread stance }
+    {
+        match sought {
+            Sought::Due { front, is_free } => self.is_due(thread, stance, front, is_free),
+            Sought::Any => is_asleep(stance),
+        }
     }
 
     // Has a player rise.
@@ -220,29 +259,23 @@ fn may_poll(poller: Option<usize>, thread: usize) -> bool
     }
 }
 
-// The next player in turn for which what it sleeps for has come.
-fn next_due(roster: &Roster, front: Option<usize>, is_free: bool) -> Option<usize>
-    ensures { MatchOption result ((i : ℕ) → is_due roster.now front is_free i ≡ false) (IsInTurn (is_due roster.now front is_free) roster.now.next (length roster.now.stances)) }
+// The next player in turn that is sought.
+fn next_sought(roster: &Roster, live: &Live, sought: Sought) -> Option<usize>
+    ensures { MatchOption result ((i : ℕ) → answers roster.now live.now.world sought i ≡ false) (IsInTurn (answers roster.now live.now.world sought) roster.now.next (length roster.now.stances)) }
 {
     let next = roster.next;
-    match due_in(roster, next, roster.stances.len(), front, is_free) {
+    match sought_in(roster, live, sought, next, roster.stances.len()) {
         Some(thread) => Some(thread),
-        None => due_in(roster, 0, next, front, is_free),
+        None => sought_in(roster, live, sought, 0, next),
     }
 }
 
 // The first of them from one place to another.
-fn due_in(
-    roster: &Roster,
-    from: usize,
-    to: usize,
-    front: Option<usize>,
-    is_free: bool,
-) -> Option<usize>
-    ensures { MatchOption result (NobodyIn (is_due roster.now front is_free) from to) (IsFirstIn (is_due roster.now front is_free) from to) }
+fn sought_in(roster: &Roster, live: &Live, sought: Sought, from: usize, to: usize) -> Option<usize>
+    ensures { MatchOption result (NobodyIn (answers roster.now live.now.world sought) from to) (IsFirstIn (answers roster.now live.now.world sought) from to) }
 {
     for thread in from..to {
-        if roster.is_due(thread, roster.stance(thread), front, is_free) {
+        if roster.answers(live, sought, thread) {
             return Some(thread);
         }
     }

@@ -1,8 +1,9 @@
 //! How the players stand, one after another.
 
-ghost use Rattle.std.specs.Prelude.{◌≡◌, ◌↔◌, ℕ, false, IsTrue, MatchOption, length, map, slice_set};
-ghost use Rattle.rc_run.specs.Roster.{AnyIsUp, IsFirstIn, IsInTurn, NobodyIn, OtherIsUp, sleeps, stance_at, woken};
+ghost use Rattle.std.specs.Prelude.{◌≡◌, ◌↔◌, IsTrue, map, slice_set};
+ghost use Rattle.rc_run.specs.Roster.{AnyCanMove, OtherCanMove, sleeps, woken};
 
+use crate::live::Live;
 use crate::roster::Stance;
 
 /// Whether who stands so sleeps.
@@ -15,24 +16,24 @@ pub fn is_asleep(stance: Stance) -> bool
     }
 }
 
-/// Whether another player than this one is up.
-pub fn others_up(stances: &[Stance], thread: usize) -> bool
-    ensures { IsTrue result ↔ OtherIsUp stances.now thread }
+/// Whether another player than this one is up whose thread can make an event.
+pub fn others_move(stances: &[Stance], live: &Live, thread: usize) -> bool
+    ensures { IsTrue result ↔ OtherCanMove live.now.world stances.now thread }
 {
     for other in 0..stances.len() {
-        if other != thread && matches!(stances[other], Stance::Up) {
+        if other != thread && matches!(stances[other], Stance::Up) && live.can_move(other) {
             return true;
         }
     }
     false
 }
 
-/// Whether a player is up.
-pub fn is_anyone_up(stances: &[Stance]) -> bool
-    ensures { IsTrue result ↔ AnyIsUp stances.now }
+/// Whether a player is up whose thread can make an event.
+pub fn anyone_moves(stances: &[Stance], live: &Live) -> bool
+    ensures { IsTrue result ↔ AnyCanMove live.now.world stances.now }
 {
     for thread in 0..stances.len() {
-        if matches!(stances[thread], Stance::Up) {
+        if matches!(stances[thread], Stance::Up) && live.can_move(thread) {
             return true;
         }
     }
@@ -66,26 +67,4 @@ fn woken(stance: Stance) -> Stance
     } else {
         stance
     }
-}
-
-/// The next player in turn that sleeps.
-pub fn next_asleep(stances: &[Stance], next: usize) -> Option<usize>
-    ensures { MatchOption result ((i : ℕ) → sleeps (stance_at stances.now i) ≡ false) (IsInTurn (λ i. sleeps (stance_at stances.now i)) next (length stances.now)) }
-{
-    match asleep_in(stances, next, stances.len()) {
-        Some(thread) => Some(thread),
-        None => asleep_in(stances, 0, next),
-    }
-}
-
-// The first that sleeps from one place to another.
-fn asleep_in(stances: &[Stance], from: usize, to: usize) -> Option<usize>
-    ensures { MatchOption result (NobodyIn (λ i. sleeps (stance_at stances.now i)) from to) (IsFirstIn (λ i. sleeps (stance_at stances.now i)) from to) }
-{
-    for thread in from..to {
-        if is_asleep(stances.get(thread).copied().unwrap_or(Stance::Gone)) {
-            return Some(thread);
-        }
-    }
-    None
 }

@@ -24,8 +24,8 @@ const LOOKS: u32 = 200;
 // A player that polls on leaves the processor after so many polls.
 const POLLS_IN_A_ROW: u32 = 64;
 
-// After how many events in a row a player leaves the processor to others that can go on, and how often at most.
-const ROW: usize = 128;
+// After how many events of threads in a row a player leaves the processor to others that can go on, and how often at most.
+const ROW: u64 = 128;
 
 const ROW_YIELDS: u32 = 10000;
 
@@ -136,7 +136,7 @@ fn look_of(next: Next) -> Look {
     }
 }
 
-// Makes a turn of a thread, and answers what it brought; wakes those who are to go on behind it. None where the run is to
+// Makes a turn of a thread, and answers what it brought; wakes those who are to go on after it. None where the run is to
 // stop.
 fn take_turn<D: Device, C: Chooser, L: Ledger + Asked, R: Wait>(
     rt: &R,
@@ -149,38 +149,20 @@ fn take_turn<D: Device, C: Chooser, L: Ledger + Asked, R: Wait>(
     let queued = guard.run().queued();
     let take = draw_take(rt, shared, queued);
     let look = look_of(guard.run().next(thread));
-    let turn = guard.turn(thread, take, mine)?;
-    let brought = brought_by(turn, look, queued > 0, guard.run().is_free());
+    let (turn, player) = guard.turn(thread, take, mine);
+    let brought = brought_by(turn?, look, queued > 0, guard.run().is_free());
     if let Brought::End | Brought::TakenLock = brought {
         return Some(brought);
     }
-    if let Brought::Move | Brought::Requests = brought {
-        guard.move_by(thread as usize);
-    }
-    pace.note(brought, look, guard.run().len());
+    let row = guard.row(thread as usize);
+    pace.note(brought, look, guard.run().len(), row);
     if let Rest::Poll(_) = pace.rest {
         pace.polls_on = guard.polls_on(thread as usize);
     }
-    let player = called_behind(&mut guard, brought);
     let workers = workers_behind(&guard, brought);
     drop(guard);
     shared.tell(player, workers);
     Some(brought)
-}
-
-// Whom an event calls: where the lock of the program is free behind it, one that sleeps for what has come; else, now and
-// then, one in turn.
-fn called_behind<D: Device, L: Ledger + Asked>(
-    board: &mut Board<D, L>,
-    brought: Brought,
-) -> Option<usize> {
-    if let Brought::FreeLock = brought {
-        let called = board.call_due();
-        if called.is_some() {
-            return called;
-        }
-    }
-    board.call_in_turn()
 }
 
 // How many workers an event wakes: as many as there are jobs, where its thread may wait for them.
@@ -223,7 +205,7 @@ fn sleep<D: Device, C, L: Ledger + Asked, R: Wait>(
         thread::yield_now();
         return;
     }
-    if !guard.is_anyone_up() {
+    if !guard.anyone_moves() {
         shared.offered.notify_all();
     }
     let mut guard = bell.wait_while(rt, guard, |board| board.sleeps(player));
@@ -256,9 +238,8 @@ struct Pace {
     polls_on: bool,
     // How often it polled on.
     polls: u32,
-    // How many events there were at its last one, how many it had made in a row, and whether it lets others go on now.
+    // How many events there were at its last one, and whether it made so many in a row that it lets others go on now.
     seen: usize,
-    row: usize,
     is_long: bool,
 }
 
@@ -274,16 +255,16 @@ impl Pace {
             polls_on: false,
             polls: 0,
             seen: 0,
-            row: 0,
             is_long: false,
         }
     }
 
     // Notes an event. A thread that moved nothing while it held the lock of the program polls, and so does one that holds
     // it and finds no completion again.
-    fn note(&mut self, brought: Brought, look: Look, seen: usize) {
+    fn note(&mut self, brought: Brought, look: Look, seen: usize, row: u64) {
         self.rest = Rest::None;
-        self.note_row(seen, matches!(brought, Brought::FreeLock));
+        self.seen = seen;
+        self.is_long = is_long(row, matches!(brought, Brought::FreeLock));
         match look {
             Look::Nothing => {}
             Look::Completion => self.saw_completions = true,
@@ -315,18 +296,6 @@ impl Pace {
         self.looked = seen;
     }
 
-    // Counts the events in a row. Who made many leaves the processor at each multiple, and where it releases the lock.
-    fn note_row(&mut self, seen: usize, is_released: bool) {
-        let goes_on = seen == self.seen.saturating_add(1);
-        self.row = if goes_on {
-            self.row.saturating_add(1)
-        } else {
-            1
-        };
-        self.seen = seen;
-        self.is_long = self.row % ROW == 0 || (self.row > ROW && is_released);
-    }
-
     // What it sleeps for, if it does.
     fn stance(&self) -> Stance {
         if self.saw_completions && !self.saw_others {
@@ -335,6 +304,11 @@ impl Pace {
             Stance::ForMove(self.looked)
         }
     }
+}
+
+// Whether a player that made so many events in a row lets others go on: at each multiple, and where it releases the lock.
+fn is_long(row: u64, is_released: bool) -> bool {
+    row % ROW == 0 || (row > ROW && is_released)
 }
 
 // Rests as its last event says.
@@ -369,7 +343,8 @@ fn poll<D: Device, C, L: Ledger + Asked, R: Wait>(
     }
 }
 
-// Leaves the processor until another player has made an event, if one can.
+// Leaves the processor until another player has made an event, if one can; else until the kernel has, if a request is
+// pending.
 fn let_others<D: Device, C, L: Ledger + Asked, R: Wait>(
     rt: &R,
     shared: &Shared<D, C, L>,
@@ -377,9 +352,22 @@ fn let_others<D: Device, C, L: Ledger + Asked, R: Wait>(
     seen: usize,
 ) {
     for _ in 0..ROW_YIELDS {
-        if !shared.hold(rt).others_go(thread as usize, seen) {
+        if !may_others_go(&shared.hold(rt), thread as usize, seen) {
             return;
         }
         thread::yield_now();
+    }
+}
+
+// Whether others may go on, and none has since there were so many events.
+fn may_others_go<D: Device, L: Ledger + Asked>(
+    board: &Board<D, L>,
+    thread: usize,
+    seen: usize,
+) -> bool {
+    if board.others_move(thread) {
+        board.row(thread) > 0
+    } else {
+        board.has_pending() && board.run().len() == seen
     }
 }

@@ -1,6 +1,0 @@
-use Rattle.std.proofs.Common.{◌≢◌, ℕ, ◌<◌, Some, slice_get}
-use Rattle.rc_run.specs.declared.roster.Stance.TheVariants.{Up}
-use Rattle.rc_run.proofs.roster.stances.is_anyone_up.Given as goal
-
-abbrev pub invariant-loop-thread : goal.invariant-loop-thread
-invariant-loop-thread l = (j : ℕ) → j < l.thread → slice_get l.stances j ≢ Some Up
