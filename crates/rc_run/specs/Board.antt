@@ -8,6 +8,7 @@ use Rattle.rc_run.specs.declared.live.Turn.{Turn}
 use Rattle.rc_run.specs.declared.live.Turn.TheVariants as turn
 use Rattle.rc_run.specs.declared.roster.Sought.TheVariants.{Due, Any}
 use Rattle.rc_run.specs.declared.roster.Stance.{Stance}
+use Rattle.rc_run.specs.Lives.{has_ended}
 use Rattle.rc_run.specs.Roster.{AnyCanMove, Calls, OtherCanMove, Roster, answers, arrived, event_moves, moved_by, noted, stance_due}
 use Rattle.rc_run.specs.Table.{Table, front_token, is_lock_free, is_stopped}
 
@@ -39,10 +40,11 @@ IsAwake b = (i : ℕ) → waiting_on b.run b.roster i ≡ true → MovesOn b.run
 abbrev pub is_due_on : Board → ℕ → Stance → Bool
 is_due_on b i s = stance_due b.roster (front_token b.run.run.world) (is_lock_free b.run.run.world) i s
 
--- The i-th player may sleep so: the run goes on, what it would sleep for hasn't come, and another player is up whose thread
--- can make an event, or a request is pending, whose completion calls one.
+-- The i-th player may sleep so: the run goes on, its thread hasn't ended, what it would sleep for hasn't come, and another
+-- player is up whose thread can make an event, or a request is pending, whose completion calls one.
 pub record MaySleep (b : Board) (i : ℕ) (s : Stance) : Type 0 where
   pub goes_on : is_stopped b.run ≡ false
+  pub unended : has_ended b.run.run.world i ≡ false
   pub not_yet : is_due_on b i s ≡ false
   pub woken : OtherCanMove b.run.run.world b.roster.stances i ⊎ HasPending b.run
 

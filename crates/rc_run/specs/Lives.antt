@@ -50,6 +50,15 @@ is_ready (next.Ready line) = true
 is_ready next.TakenLock = false
 is_ready next.Ended = false
 
+abbrev pub is_end : Next → Bool
+is_end (next.Ready line) = false
+is_end next.TakenLock = false
+is_end next.Ended = true
+
+-- The i-th thread has ended.
+abbrev pub has_ended : World → ℕ → Bool
+has_ended w i = is_end (next_of w.program w.controls i)
+
 -- The i-th thread can make an event.
 abbrev pub can_move : World → ℕ → Bool
 can_move w i = is_ready (next_of w.program w.controls i)

@@ -319,6 +319,7 @@ fn may_sleep<D: Device, L: Ledger + Asked>(
     ensures { IsTrue result ↔ MaySleep (record { run = run.now; roster = roster.now }) thread stance }
 {
     !run.is_stopped()
+        && !run.live().has_ended(thread)
         && !roster.is_due(thread, stance, run.front(), run.is_free())
         && (run.has_pending() || roster.others_move(run.live(), thread))
 }

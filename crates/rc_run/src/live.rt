@@ -7,7 +7,7 @@ ghost use Rattle.rc_world.specs.Machine.{start_world};
 ghost use Rattle.rc_world.specs.Runs.{IsRun, IsSafe};
 ghost use Rattle.rc_run.specs.Calm.{IsCalm};
 ghost use Rattle.rc_run.specs.Jobs.{allows};
-ghost use Rattle.rc_run.specs.Lives.{IsAsked, IsInOrder, IsNotOut, IsOut, Lent, Posted, Turned, begun, can_move, free, is_free};
+ghost use Rattle.rc_run.specs.Lives.{IsAsked, IsInOrder, IsNotOut, IsOut, Lent, Posted, Turned, begun, can_move, free, has_ended, is_free};
 
 use crate::job::Job;
 use crate::machine::{Machine, Pending};
@@ -112,6 +112,17 @@ impl Live {
         ensures { result ≡ next_of self.now.world.program self.now.world.controls thread }
     {
         self.machine.next(thread)
+    }
+
+    /// Whether a thread has ended, or there is no such thread.
+    pub fn has_ended(&self, thread: usize) -> bool
+        ensures { result ≡ has_ended self.now.world thread }
+    {
+        self.look();
+        match u32::try_from(thread) {
+            Ok(thread) => matches!(self.machine.next(thread), Next::Ended),
+            Err(_) => true,
+        }
     }
 
     /// Whether a thread can make an event: it has a next that isn't a taken lock.
