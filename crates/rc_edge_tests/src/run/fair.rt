@@ -75,41 +75,6 @@ none {
 }
 ";
 
-/// One thread polls with the lock held, for what the other submits only once it has the lock.
-const HOLDING: &str = "ringcheck 1
-ring 4
-token 7 nop
-thread reap holds {
-lock {
-loop keeps q:0 {
-peek_cqe r {
-case 7 {
-cqe_seen
-break
-}
-other {
-}
-none {
-}
-}
-}
-}
-}
-thread sub holds t:7 c:1 {
-lock {
-get_sqe
-prep_nop
-set_data64 7
-loop keeps q:1 {
-r = submit
-if sq_ready == 0 {
-break
-}
-}
-}
-}
-";
-
 fn is_completion(event: &Event) -> bool {
     match event {
         Event::ByKernel(_) => true,
@@ -135,19 +100,5 @@ fn threads_that_poll_take_turns(rt: HostRuntime) -> Result<(), Fail> {
     for turns in &report.turns {
         assert!(rt; *turns > 1000, "{turns} turns");
     }
-    Ok(())
-}
-
-// Nothing else can move, so the thread that polls goes on to the limit.
-#[test]
-fn a_thread_that_holds_the_lock_polls_to_the_limit(rt: HostRuntime) -> Result<(), Fail> {
-    let alloc = rt.alloc();
-    let admitted = admitted(alloc, HOLDING)?;
-    let disk = Disk::new(alloc, admitted.program())?;
-    let chooser = Seeded::new(0);
-    assert!(rt; matches!(
-        run(&rt, alloc, admitted, disk, chooser, OpenGate, 300),
-        Err(RunFault::Limit(_))
-    ));
     Ok(())
 }
