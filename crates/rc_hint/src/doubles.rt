@@ -2,7 +2,7 @@
 
 use crate::fitting::is_item;
 use crate::lines::{between, column_of, place_of, word_at};
-use crate::places::{Kind, Place, has_buffer, has_file, has_thread, has_token, word_of};
+use crate::places::{Kind, Place, has_buffer, has_file, has_thread, has_token, put_place, word_of};
 use crate::wording::{put, put_column, put_word};
 use rc_read::parts::Parts;
 use rc_read::table::Part;
@@ -39,7 +39,7 @@ fn is_token(item: &[u8]) -> bool {
 }
 
 // Whether the item at a place names what an earlier one names: in its list, or a token in either.
-fn repeats(words: &[&[u8]], place: usize) -> bool {
+fn repeats(version: u32, words: &[&[u8]], place: usize) -> bool {
     let item = word_at(words, place);
     let mut found = false;
     for i in 0..place {
@@ -47,7 +47,7 @@ fn repeats(words: &[&[u8]], place: usize) -> bool {
         if is(other, b"when") && !is_token(item) {
             found = false;
         }
-        if is_item(other) && is(key_of(other), key_of(item)) {
+        if is_item(version, other) && is(key_of(other), key_of(item)) {
             found = true;
         }
     }
@@ -64,15 +64,16 @@ pub fn put_double_name(
 ) -> Result<(), AllocError> {
     for place in places {
         if let Some(kind) = known_at(parts, *place) {
-            put_column(text, place.column)?;
+            put_place(text, line, *place)?;
             put(text, word_of(kind))?;
             put(text, b" ")?;
             put_word(text, place.word)?;
             return put(text, b" is declared above already");
         }
     }
+    let version = parts.head.version;
     for i in 0..words.len() {
-        if is_item(words[i]) && repeats(words, i) {
+        if is_item(version, words[i]) && repeats(version, words, i) {
             put_column(text, column_of(line, i))?;
             put_word(text, words[i])?;
             put(text, b" names ")?;

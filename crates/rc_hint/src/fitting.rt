@@ -80,21 +80,22 @@ fn stands(version: u32, part: Part, word: &[u8]) -> bool {
     fits(part, word) && !(has_name(part) && is_reserved(version, word))
 }
 
-/// Whether a word is an item.
-pub fn is_item(word: &[u8]) -> bool {
+/// Whether a word is an item in this version.
+pub fn is_item(version: u32, word: &[u8]) -> bool {
     match place_of(word, b':') {
         None => false,
         Some(i) => {
             let name = between(word, 0, i);
-            is(name, b"t") || is(name, b"c") || is(name, b"q") || is_name(name)
+            let is_name = is_name(name) && !is_reserved_by(version, name);
+            is(name, b"t") || is(name, b"c") || is(name, b"q") || is_name
         }
     }
 }
 
-/// How many items stand in front.
-pub fn items_in_front(words: &[&[u8]]) -> usize {
+/// How many items of this version stand in front.
+pub fn items_in_front(version: u32, words: &[&[u8]]) -> usize {
     for i in 0..words.len() {
-        if !is_item(words[i]) {
+        if !is_item(version, words[i]) {
             return i;
         }
     }
@@ -115,7 +116,7 @@ pub fn reach_of(version: u32, parts: &[Part], words: &[&[u8]]) -> Reach {
     let mut items = false;
     for part in parts {
         if let Part::Items = *part {
-            at = at.saturating_add(items_in_front(from(words, at)));
+            at = at.saturating_add(items_in_front(version, from(words, at)));
             items = true;
         } else {
             match from(words, at) {

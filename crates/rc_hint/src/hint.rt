@@ -1,6 +1,8 @@
 //! What could stand where a line can't be read.
 
-ghost use Rattle.std.specs.Prelude.{◌+◌, ◌<◌, ◌^◌};
+ghost use Rattle.std.specs.Prelude.{◌≡◌, ◌+◌, ◌<◌, ◌^◌, ◌++◌, List, ℕ, None, Ok, OnOk, true};
+ghost use Rattle.rc_hint.specs.Above.{HasMemory};
+ghost use Rattle.rc_read.specs.Stream.{HasRead};
 ghost use Rattle.rc_report.specs.Streams.{FailsToWriteOrGrow};
 
 use crate::doubles::put_double_name;
@@ -10,37 +12,46 @@ use crate::others::{
     put_braces, put_case, put_flag, put_head, put_nesting, put_strange, put_too_large,
 };
 use crate::places::{places_of, put_bad_number, put_unknown_name};
-use rc_read::parts::Parts;
 use rc_read::words::put_words;
-use rc_read::{ReadCause, Reader};
+use rc_read::{ReadCause, ReadFault, Reader};
 use rc_report::engine_fault::EngineFault;
 use rc_report::streams::Sink;
 use rc_report::writing::write_piece;
 use std::alloc::{AllocError, Global};
 
-// Whether a line can be read, so that the fault is that of the text's end.
-fn is_read(alloc: Global, before: &[u8], line: &[u8]) -> bool {
-    let mut reader = Reader::new(alloc);
-    reader.feed(before).is_ok() && reader.feed(line).is_ok() && reader.feed(b"\n").is_ok()
+// Feeds a reader, and says whether each line that a line feed has ended so far can be read.
+fn feeds(reader: &mut Reader, piece: &[u8]) -> Result<bool, AllocError>
+    ensures reads { (bytes : List ℕ) → HasRead reader.old bytes → HasRead reader.new (bytes ++ piece.now) }
+    ensures memory { OnOk result (HasMemory reader.new.fault) }
+    ensures no_fault { result ≡ Ok true → reader.new.fault ≡ None }
+{
+    match reader.feed(piece) {
+        Ok(()) => Ok(true),
+        Err(ReadFault::Text { .. }) => Ok(false),
+        Err(ReadFault::OutOfMemory) => Err(AllocError),
+    }
 }
 
 // Adds the hint for a line, by what was read above it.
 fn put_hint(
     alloc: Global,
     text: &mut Vec<u8>,
-    parts: &Parts,
+    above: &Reader,
     line: &[u8],
     cause: ReadCause,
-) -> Result<(), AllocError> {
+) -> Result<(), AllocError>
+    requires { HasMemory above.now.fault }
+{
+    let parts = above.parts();
     let mut words = Vec::new(alloc);
     put_words(&mut words, line)?;
-    let places = places_of(alloc, parts.head.version, line, &words)?;
+    let places = places_of(alloc, parts.head.version, &words)?;
     match cause {
         ReadCause::NotAscii => put_strange(text, line),
         ReadCause::BadHead => put_head(text, parts),
         ReadCause::BadLine => put_form(alloc, text, parts, line, &words),
-        ReadCause::BadNumber => put_bad_number(text, parts, &places),
-        ReadCause::UnknownName => put_unknown_name(alloc, text, parts, &places),
+        ReadCause::BadNumber => put_bad_number(text, parts, line, &places),
+        ReadCause::UnknownName => put_unknown_name(alloc, text, parts, line, &places),
         ReadCause::DoubleName => put_double_name(text, parts, &places, line, &words),
         ReadCause::Braces => put_braces(text, parts, &words, false),
         ReadCause::TooLarge => put_too_large(text, parts, line, &words),
@@ -50,14 +61,33 @@ fn put_hint(
     }
 }
 
-// The hint for the end of the text.
-fn put_end(text: &mut Vec<u8>, parts: &Parts, cause: ReadCause) -> Result<(), AllocError> {
+// Adds the hint for the end of a text whose lines can all be read.
+fn put_end(text: &mut Vec<u8>, whole: &Reader, cause: ReadCause) -> Result<(), AllocError>
+    requires { whole.now.fault ≡ None }
+{
     match cause {
-        ReadCause::BadHead => put_head(text, parts),
-        _ => put_braces(text, parts, &[], true),
+        ReadCause::BadHead => put_head(text, whole.parts()),
+        _ => put_braces(text, whole.parts(), &[], true),
     }
 }
 
+// Whether all lines can be read, so that the fault is that of the text's end; and adds its hint then.
+fn ends_whole(
+    alloc: Global,
+    text: &mut Vec<u8>,
+    lines: &[u8],
+    cause: ReadCause,
+) -> Result<bool, AllocError> {
+    let mut whole = Reader::new(alloc);
+    feeds(&mut whole, lines)?;
+    if !feeds(&mut whole, b"\n")? {
+        return Ok(false);
+    }
+    put_end(text, &whole, cause)?;
+    Ok(true)
+}
+
+// Whether it may be the fault of the text's end.
 fn ends_text(cause: ReadCause) -> bool {
     match cause {
         ReadCause::BadHead | ReadCause::Braces => true,
@@ -73,17 +103,12 @@ fn hint_of(
     cause: ReadCause,
 ) -> Result<Vec<u8>, AllocError> {
     let (start, end) = line_at(bytes, number);
-    let before = between(bytes, 0, start);
-    let line = between(bytes, start, end);
     let mut text = Vec::new(alloc);
     let mut reader = Reader::new(alloc);
-    let _ = reader.feed(before);
-    if ends_text(cause) && is_read(alloc, before, line) {
-        let _ = reader.feed(line);
-        let _ = reader.feed(b"\n");
-        put_end(&mut text, reader.parts(), cause)?;
-    } else {
-        put_hint(alloc, &mut text, reader.parts(), line, cause)?;
+    feeds(&mut reader, between(bytes, 0, start))?;
+    let line = between(bytes, start, end);
+    if !(ends_text(cause) && ends_whole(alloc, &mut text, between(bytes, 0, end), cause)?) {
+        put_hint(alloc, &mut text, &reader, line, cause)?;
     }
     text.push(b'\n')?;
     Ok(text)

@@ -59,28 +59,45 @@ fn kind_of(block: Block) -> &'static [u8] {
     }
 }
 
-// Adds which block is open, innermost.
-fn put_open(text: &mut Vec<u8>, parts: &Parts) -> Result<(), AllocError> {
-    let blocks = parts.draft.blocks.as_slice();
+// Adds that a block is open.
+fn put_block(text: &mut Vec<u8>, parts: &Parts, block: Block) -> Result<(), AllocError> {
     let lines = parts.draft.lines.as_slice();
-    match blocks {
-        [.., block] => {
-            put(text, b"the ")?;
-            put(text, kind_of(*block))?;
-            let place = place_of_block(*block);
-            if place < lines.len() {
-                put(text, b" of line ")?;
-                put_number(text, u64::from(lines[place].number))?;
-            }
-        }
-        [] => {
-            put(text, b"thread ")?;
-            put_word(text, &parts.draft.name)?;
-            put(text, b" of line ")?;
-            put_number(text, u64::from(parts.draft.line))?;
-        }
+    put(text, b"the ")?;
+    put(text, kind_of(block))?;
+    let place = place_of_block(block);
+    if place < lines.len() {
+        put(text, b" of line ")?;
+        put_number(text, u64::from(lines[place].number))?;
     }
     put(text, b" is open")
+}
+
+// Adds which block is open, innermost.
+fn put_open(text: &mut Vec<u8>, parts: &Parts) -> Result<(), AllocError> {
+    if let [.., block] = parts.draft.blocks.as_slice() {
+        return put_block(text, parts, *block);
+    }
+    put(text, b"thread ")?;
+    put_word(text, &parts.draft.name)?;
+    put(text, b" of line ")?;
+    put_number(text, u64::from(parts.draft.line))?;
+    put(text, b" is open")
+}
+
+// Adds which block is open that keeps a line out: a peek or an arm, and of a lock also a lock; else the innermost.
+fn put_outer(text: &mut Vec<u8>, parts: &Parts, is_lock: bool) -> Result<(), AllocError> {
+    let mut found = None;
+    for block in &parts.draft.blocks {
+        found = match *block {
+            Block::InPeek(_) | Block::InArm(_) => Some(*block),
+            Block::InLock(_) if is_lock => Some(*block),
+            _ => found,
+        };
+    }
+    match found {
+        Some(block) => put_block(text, parts, block),
+        None => put_open(text, parts),
+    }
 }
 
 /// Adds the hint for a brace that closes nothing, or a block that is open.
@@ -175,13 +192,13 @@ pub fn put_nesting(text: &mut Vec<u8>, parts: &Parts, words: &[&[u8]]) -> Result
         put(text, b": 'q:' stands in a lock alone")
     } else if is(first, b"lock") || is(first, b"peek_cqe") {
         put(text, b" doesn't stand here: ")?;
-        put_open(text, parts)
+        put_outer(text, parts, is(first, b"lock"))
     } else {
         put(
             text,
             b": a loop stands in no peek, and 'q:' before 'when', in a lock alone; ",
         )?;
-        put_open(text, parts)
+        put_outer(text, parts, false)
     }
 }
 

@@ -11,20 +11,22 @@ use rc_read::table::{Part, Range, parts_of};
 use rc_read::words::is;
 use std::alloc::{AllocError, Global};
 
-/// A word in its place, and the column at which it begins.
+/// A word in its place: in which word of the line it stands, and from which byte of that on.
 #[derive(Clone, Copy)]
 pub struct Place<'a> {
     pub part: Part,
     pub word: &'a [u8],
-    pub column: usize,
+    pub at: usize,
+    pub offset: usize,
+}
+
+/// Adds `column C: ` for a place.
+pub fn put_place(text: &mut Vec<u8>, line: &[u8], place: Place) -> Result<(), AllocError> {
+    put_column(text, column_of(line, place.at).saturating_add(place.offset))
 }
 
 // Adds the places of an item.
-fn push_item<'a>(
-    places: &mut Vec<Place<'a>>,
-    item: &'a [u8],
-    column: usize,
-) -> Result<(), AllocError> {
+fn push_item<'a>(places: &mut Vec<Place<'a>>, item: &'a [u8], at: usize) -> Result<(), AllocError> {
     let Some(i) = place_of(item, b':') else {
         return Ok(());
     };
@@ -39,14 +41,16 @@ fn push_item<'a>(
         places.push(Place {
             part: Part::Buffer,
             word: name,
-            column,
+            at,
+            offset: 0,
         })?;
         Part::HeldShares
     };
     places.push(Place {
         part,
         word: between(item, i.saturating_add(1), item.len()),
-        column: column.saturating_add(i).saturating_add(1),
+        at,
+        offset: i.saturating_add(1),
     })?;
     Ok(())
 }
@@ -55,7 +59,6 @@ fn push_item<'a>(
 pub fn places_of<'a>(
     alloc: Global,
     version: u32,
-    line: &[u8],
     words: &[&'a [u8]],
 ) -> Result<Vec<Place<'a>>, AllocError> {
     let mut places = Vec::new(alloc);
@@ -66,16 +69,19 @@ pub fn places_of<'a>(
     let mut at: usize = 0;
     for part in parts_of(row) {
         if let Part::Items = *part {
-            let count = items_in_front(from(words, at));
+            let count = items_in_front(version, from(words, at));
             for i in 0..count {
                 let place = at.saturating_add(i);
-                push_item(&mut places, word_at(words, place), column_of(line, place))?;
+                push_item(&mut places, word_at(words, place), place)?;
             }
             at = at.saturating_add(count);
         } else {
-            let (word, column) = (word_at(words, at), column_of(line, at));
-            let part = *part;
-            places.push(Place { part, word, column })?;
+            places.push(Place {
+                part: *part,
+                word: word_at(words, at),
+                at,
+                offset: 0,
+            })?;
             at = at.saturating_add(1);
         }
     }
@@ -160,8 +166,14 @@ fn lacks_sign(place: Place) -> bool {
     is_signed && signed_number_of(i64::MIN, i64::MAX, place.word).is_none()
 }
 
-fn put_range(text: &mut Vec<u8>, place: Place, low: u64, high: u64) -> Result<(), AllocError> {
-    put_column(text, place.column)?;
+fn put_range(
+    text: &mut Vec<u8>,
+    line: &[u8],
+    place: Place,
+    low: u64,
+    high: u64,
+) -> Result<(), AllocError> {
+    put_place(text, line, place)?;
     put_word(text, place.word)?;
     if is_number(place.word) {
         put(text, b" is out of the range ")?;
@@ -177,6 +189,7 @@ fn put_range(text: &mut Vec<u8>, place: Place, low: u64, high: u64) -> Result<()
 pub fn put_bad_number(
     text: &mut Vec<u8>,
     parts: &Parts,
+    line: &[u8],
     places: &[Place],
 ) -> Result<(), AllocError> {
     let mut seen = Seen {
@@ -186,11 +199,11 @@ pub fn put_bad_number(
     for place in places {
         if let Some((low, high)) = range_of(parts, seen, place.part) {
             if number_of(low, high, place.word).is_none() {
-                return put_range(text, *place, low, high);
+                return put_range(text, line, *place, low, high);
             }
         }
         if lacks_sign(*place) {
-            put_column(text, place.column)?;
+            put_place(text, line, *place)?;
             put_word(text, place.word)?;
             return put(
                 text,
@@ -222,9 +235,9 @@ pub fn has_buffer(parts: &Parts, word: &[u8]) -> bool {
     parts.buffers.iter().any(|b| is(&b.name, word))
 }
 
-/// Whether the thread with this name stands above.
+/// Whether the thread with this name stands above, or is the open one. Where none is open the draft has no name.
 pub fn has_thread(parts: &Parts, word: &[u8]) -> bool {
-    parts.threads.iter().any(|t| is(&t.name, word))
+    is(&parts.draft.name, word) || parts.threads.iter().any(|t| is(&t.name, word))
 }
 
 // Adds what stands before the name with this place in a list, and says whether the name is shown.
@@ -318,10 +331,11 @@ fn put_unknown(
     alloc: Global,
     text: &mut Vec<u8>,
     parts: &Parts,
+    line: &[u8],
     place: Place,
     kind: Kind,
 ) -> Result<(), AllocError> {
-    put_column(text, place.column)?;
+    put_place(text, line, place)?;
     put(text, b"no ")?;
     put(text, word_of(kind))?;
     put(text, b" ")?;
@@ -343,11 +357,12 @@ pub fn put_unknown_name(
     alloc: Global,
     text: &mut Vec<u8>,
     parts: &Parts,
+    line: &[u8],
     places: &[Place],
 ) -> Result<(), AllocError> {
     for place in places {
         if let Some(kind) = unknown_at(parts, *place) {
-            return put_unknown(alloc, text, parts, *place, kind);
+            return put_unknown(alloc, text, parts, line, *place, kind);
         }
     }
     Ok(())
