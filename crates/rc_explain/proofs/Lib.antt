@@ -1,3 +1,4 @@
 pub mod Explained
+pub mod Objects
 pub mod ToldLines
 pub mod Writes

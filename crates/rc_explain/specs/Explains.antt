@@ -1,25 +1,62 @@
 -- What the engine that explains a verdict answers and writes.
-use Rattle.std.specs.Prelude.{ℕ, Bool, true, false, List, ◌++◌, Option, Some, None, Result, Ok, Err}
+use Rattle.std.specs.Prelude.{ℕ, ◌≡◌, ◌⊎◌, Bool, true, false, List, ◌++◌, codes, Option, Some, None, Result, Ok, Err}
 use Rattle.std.specs.Io.KnownBytes.{Appends}
+use Rattle.json.specs.Lex.{tokens}
+use Rattle.json.specs.Print.{print}
+use Rattle.serde_json.specs.Data.{Data, number, string, unsigned}
+use Rattle.serde_json.specs.Find.{get}
+use Rattle.serde_json.specs.Written.{IsInOrder}
 use Rattle.rc_read.specs.Answer.{answer_of}
+use Rattle.rc_read.specs.Causes as reading
+use Rattle.rc_rules.specs.Causes as rules_of
 use Rattle.rc_report.specs.declared.engine_fault.EngineFault.{EngineFault}
 use Rattle.rc_report.specs.declared.verdict.Verdict.{Verdict}
+use Rattle.rc_report.specs.declared.verdict.Verdict.TheVariants.{Accepted, Refused, Unreadable}
 use Rattle.rc_report.specs.Checks.{IsVerdict}
-use Rattle.rc_report.specs.Streams.{Began, Wrote}
+use Rattle.rc_report.specs.Streams.{Began}
 use Rattle.rc_report.specs.Verdicts.{verdict_text}
 
--- as JSON any text, and else one that begins with the verdict's line
-abbrev pub told_with : Bool → Verdict → List ℕ → List ℕ
-told_with true verdict rest = rest
-told_with false verdict rest = verdict_text verdict ++ rest
+-- ---- as JSON
 
--- Such a text is written whole, or a beginning of it.
+abbrev pub HasMember : List ℕ → Data → Data → Type 0
+HasMember key value whole = get key whole ≡ Some value
+
+abbrev pub LacksMember : List ℕ → Data → Type 0
+LacksMember key whole = get key whole ≡ None
+
+-- a line that isn't good, with its cause by name and number; the other members are what explains it
+abbrev pub TellsLine : List ℕ → List ℕ → ℕ → ℕ → Data → Type 0
+TellsLine word name code line whole =
+    HasMember (codes "verdict") (string word) whole × HasMember (codes "cause") (string name) whole
+    × HasMember (codes "code") (number (unsigned code)) whole × HasMember (codes "line") (number (unsigned line)) whole
+
+abbrev pub TellsVerdict : Verdict → Data → Type 0
+TellsVerdict Accepted whole =
+    HasMember (codes "verdict") (string (codes "accepted")) whole × LacksMember (codes "cause") whole
+    × LacksMember (codes "code") whole × LacksMember (codes "line") whole
+TellsVerdict (Refused r) whole = TellsLine (codes "refused") (rules_of.name_of r.cause) (rules_of.premise_number r.cause) r.line whole
+TellsVerdict (Unreadable line cause) whole = TellsLine (codes "unreadable") (reading.name_of_cause cause) (reading.number_of_cause cause) line whole
+
+-- The text of such an object: without spaces, each member once and in the order of the keys.
+abbrev pub IsObjectOf : Verdict → List ℕ → Type 0
+IsObjectOf verdict json = (whole : Data) × TellsVerdict verdict whole × IsInOrder json whole × (json ≡ print (tokens json))
+
+-- ---- in both forms
+
+-- As JSON it is such an object and a line feed, and else a text that begins with the verdict's line.
+abbrev pub Tells : Bool → Verdict → List ℕ → Type 0
+Tells true verdict text = (json : List ℕ) × IsObjectOf verdict json × (text ≡ json ++ codes "\n")
+Tells false verdict text = (rest : List ℕ) × (text ≡ verdict_text verdict ++ rest)
+
+-- Such a text is written whole; or nothing is written, or a beginning of one.
 abbrev pub TellsWith : {X : Type 0} → Bool → Verdict → Option (List ℕ) → Option (List ℕ) → Result X EngineFault → Type 0
-TellsWith json verdict old new r = (rest : List ℕ) × Wrote old new (told_with json verdict rest) r
+TellsWith json verdict old new (Ok x) = (text : List ℕ) × Tells json verdict text × Appends old new text
+TellsWith json verdict old new (Err e) = (new ≡ old) ⊎ ((text : List ℕ) × Tells json verdict text × Began old new text)
 
--- The verdict on the bytes is answered, and it is written with what explains it. Or a beginning of that is, where the sink
--- failed or memory ran out. Where the source doesn't tell its bytes nothing is claimed.
+-- The verdict on the bytes is answered, and it is written with what explains it. Or nothing is written, or a beginning of
+-- that, where the sink failed or memory ran out. Where the source doesn't tell its bytes nothing is claimed.
 abbrev pub ExplainsAs : Option (List ℕ) → Bool → Option (List ℕ) → Option (List ℕ) → Result Verdict EngineFault → Type 0
 ExplainsAs None json old new r = Unit {0}
-ExplainsAs (Some bytes) json old new (Ok verdict) = IsVerdict (answer_of bytes) verdict × ((rest : List ℕ) × Appends old new (told_with json verdict rest))
-ExplainsAs (Some bytes) json old new (Err e) = (verdict : Verdict) → IsVerdict (answer_of bytes) verdict → (rest : List ℕ) × Began old new (told_with json verdict rest)
+ExplainsAs (Some bytes) json old new (Ok verdict) = IsVerdict (answer_of bytes) verdict × ((text : List ℕ) × Tells json verdict text × Appends old new text)
+ExplainsAs (Some bytes) json old new (Err e) =
+    (new ≡ old) ⊎ ((verdict : Verdict) × IsVerdict (answer_of bytes) verdict × ((text : List ℕ) × Tells json verdict text × Began old new text))

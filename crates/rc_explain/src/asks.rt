@@ -41,17 +41,16 @@ pub fn write_asks<W: Sink>(
     }
 }
 
-/// The labels at a place of a thread, up to which no line is refused.
-pub fn labels_at(program: &Program, thread: u32, place: usize) -> Labels<'_>
-    requires { thread < length program.now.threads }
-{
-    let mut labels = Labels::new(program, thread);
+/// Moves the labels of a thread from its first place to another, up to which no line is refused. Labels take 50 KB, so
+/// they stay where they are made.
+pub fn go_to(labels: &mut Labels, place: usize) {
     for _ in 0..place {
         let _ = labels.next();
     }
-    labels
 }
 
+/// It is no part of its caller, which would need room for the labels of others beside these.
+#[inline(never)]
 fn write_line<W: Sink>(
     writer: &mut W,
     program: &Program,
@@ -69,7 +68,8 @@ fn write_line<W: Sink>(
     let Some(asks) = asks_of(line.stmt, cause) else {
         return Ok(());
     };
-    let labels = labels_at(program, thread, place);
+    let mut labels = Labels::new(program, thread);
+    go_to(&mut labels, place);
     write_state(writer, thread as usize, labels.state(), asks)
 }
 

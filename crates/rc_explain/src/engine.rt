@@ -12,7 +12,7 @@ use rc_report::engine_fault::EngineFault;
 use rc_report::reading::read_text;
 use rc_report::streams::{Sink, Source, WriteSink};
 use rc_report::verdict::{Verdict, verdict_text};
-use rc_report::writing::write_piece;
+use rc_report::writing::{write_piece, write_pieces};
 use std::alloc::{AllocError, Global};
 
 /// Reads a text, and writes the verdict on it with what explains it, as JSON or as text: then the line of the verdict
@@ -88,7 +88,8 @@ fn write_object<W: Sink>(
     ensures failures { FailsToWriteOrGrow (W.failure_count writer.old) (W.failure_count writer.new) result }
 {
     let object = object_text(alloc, text, verdict)?;
-    write_piece(writer, &object)
+    let json: &[u8] = &object;
+    write_pieces(writer, &[json, b"\n"])
 }
 
 /// Writes the line of a verdict, and what explains it.

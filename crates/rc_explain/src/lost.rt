@@ -3,7 +3,7 @@
 ghost use Rattle.std.specs.Prelude.{◌+◌, ◌<◌, ◌^◌, length};
 ghost use Rattle.rc_report.specs.Streams.{FailsToWrite};
 
-use crate::asks::{labels_at, missing_part_of};
+use crate::asks::{go_to, missing_part_of};
 use crate::parts::write_part;
 use crate::words::{Word, write_words};
 use rc_lang::lines::{Line, Op, Stmt};
@@ -14,14 +14,25 @@ use rc_report::streams::Sink;
 use rc_rules::cause::Cause;
 use rc_split::part::Part;
 use rc_verify::held::last_held;
+use rc_verify::labels::Labels;
 
 /// The first part that the refused line at a place of a thread asks for and that isn't held there, if there is one.
+#[inline(never)]
 pub fn lost_part(program: &Program, thread: u32, place: usize, cause: Cause) -> Option<Part>
     requires { thread < length program.now.threads }
 {
     let line = program.line_at(thread as usize, place)?;
-    let labels = labels_at(program, thread, place);
+    let mut labels = Labels::new(program, thread);
+    go_to(&mut labels, place);
     missing_part_of(thread as usize, labels.state(), line.stmt, cause)
+}
+
+/// Where a part was last held before a place. It is no part of its caller, as it needs room for labels.
+#[inline(never)]
+fn place_of(program: &Program, thread: u32, place: usize, part: Part) -> Option<usize>
+    requires { thread < length program.now.threads }
+{
+    last_held(program, thread, place, part)
 }
 
 /// Writes where the first part that the refused line asks for and that is missing was last held, and how it went. It is
@@ -42,7 +53,7 @@ pub fn write_lost<W: Sink>(
         return Ok(());
     };
     write_part(writer, program, part)?;
-    let Some(at) = last_held(program, thread, place, part) else {
+    let Some(at) = place_of(program, thread, place, part) else {
         return write_words(
             writer,
             &[Word::Text(b" isn't held before any line above this one")],

@@ -1,6 +1,10 @@
 //! A verdict and what explains it, as JSON.
 
-ghost use Rattle.std.specs.Prelude.{◌<◌, length};
+ghost use Rattle.std.specs.Prelude.{◌≡◌, ◌<◌, IfOk, OnOk, length};
+ghost use Rattle.serde_json.specs.Data.{object, put as with_member, string};
+ghost use Rattle.serde_json.specs.View.{members_view, view};
+ghost use Rattle.rc_explain.specs.Explains.{IsObjectOf, TellsLine, TellsVerdict};
+ghost use Rattle.rc_report.specs.declared.verdict.Verdict.TheVariants.{Accepted, Refused, Unreadable};
 
 mod parts;
 
@@ -13,11 +17,12 @@ use rc_report::verdict::{Refusal, Verdict};
 use serde_json::{Map, Value};
 use std::alloc::{AllocError, Global};
 
-/// What is said of a text: one object without spaces, its keys in order, and a line feed.
-pub fn object_text(alloc: Global, text: &[u8], verdict: &Verdict) -> Result<Vec<u8>, AllocError> {
+/// What is said of a text, on which the verdict is given: one object without spaces, its keys in order.
+pub fn object_text(alloc: Global, text: &[u8], verdict: &Verdict) -> Result<Vec<u8>, AllocError>
+    ensures { IfOk result (λ json. IsObjectOf verdict.now json.items) }
+{
     let members = members_of(alloc, text, verdict)?;
-    let mut object = Value::Object(members).to_vec(alloc)?;
-    object.push(b'\n')?;
+    let object = Value::Object(members).to_vec(alloc)?;
     Ok(object)
 }
 
@@ -26,38 +31,36 @@ fn members_of(
     alloc: Global,
     text: &[u8],
     verdict: &Verdict,
-) -> Result<Map<String, Value>, AllocError> {
+) -> Result<Map<String, Value>, AllocError>
+    ensures { IfOk result (λ members. TellsVerdict verdict.now (object (members_view members.entries))) }
+{
     match *verdict {
-        Verdict::Accepted => read_members(alloc, text, None),
-        Verdict::Refused(refusal) => read_members(alloc, text, Some(refusal)),
+        Verdict::Accepted => accepted_members(alloc, text),
+        Verdict::Refused(refusal) => refused_members(alloc, text, refusal),
         Verdict::Unreadable { line, cause } => unreadable_members(alloc, text, line, cause),
     }
 }
 
-/// What is said of the program of a text, by the line that is refused, if one is.
-fn read_members(
-    alloc: Global,
-    text: &[u8],
-    refusal: Option<Refusal>,
-) -> Result<Map<String, Value>, AllocError> {
+/// The program of a text that can be read, as that of a verdict on a program.
+fn program_of(alloc: Global, text: &[u8]) -> Result<Option<Program>, AllocError> {
     match read_program(alloc, text) {
-        Ok(program) => match refusal {
-            Some(refusal) => refused_members(alloc, text, &program, refusal),
-            None => accepted_members(alloc, &program),
-        },
-        Err(ReadFault::Text { line, cause }) => unreadable_members(alloc, text, line, cause),
+        Ok(program) => Ok(Some(program)),
+        Err(ReadFault::Text { .. }) => Ok(None),
         Err(ReadFault::OutOfMemory) => Err(AllocError),
     }
 }
 
-/// Adds a member.
+/// Adds a member, or gives it this value.
 fn put(
     alloc: Global,
     members: &mut Map<String, Value>,
     key: &str,
     value: Value,
-) -> Result<(), AllocError> {
-    drop(members.insert(String::from_str(alloc, key)?, value)?);
+) -> Result<(), AllocError>
+    ensures put { OnOk result (members_view members.new.entries ≡ with_member key.now (view value) (members_view members.old.entries)) }
+{
+    let name = String::from_str(alloc, key)?;
+    drop(members.insert(name, value)?);
     Ok(())
 }
 
@@ -67,40 +70,84 @@ fn put_text(
     members: &mut Map<String, Value>,
     key: &str,
     text: &str,
-) -> Result<(), AllocError> {
+) -> Result<(), AllocError>
+    ensures put { OnOk result (members_view members.new.entries ≡ with_member key.now (string text.now) (members_view members.old.entries)) }
+{
     let text = String::from_str(alloc, text)?;
-    put(alloc, members, key, Value::String(text))
+    put(alloc, members, key, Value::from(text))?;
+    Ok(())
 }
 
-/// What is said of an accepted program.
-fn accepted_members(alloc: Global, program: &Program) -> Result<Map<String, Value>, AllocError> {
-    let mut threads = Vec::new(alloc);
-    for thread in 0..program.threads().len() as u32 {
-        threads.push(thread_value(alloc, program, thread)?)?;
-    }
+/// Adds what the line of a verdict says: its word, and the line that isn't good with its cause.
+fn put_line(
+    alloc: Global,
+    members: &mut Map<String, Value>,
+    word: &str,
+    name: &str,
+    code: u32,
+    line: u32,
+) -> Result<(), AllocError>
+    ensures { OnOk result (TellsLine word.now name.now code line (object (members_view members.new.entries))) }
+{
+    put_text(alloc, members, "cause", name)?;
+    put(alloc, members, "code", Value::from(code))?;
+    put(alloc, members, "line", Value::from(line))?;
+    put_text(alloc, members, "verdict", word)?;
+    Ok(())
+}
+
+/// What is said of an accepted text.
+fn accepted_members(alloc: Global, text: &[u8]) -> Result<Map<String, Value>, AllocError>
+    ensures { IfOk result (λ members. TellsVerdict Accepted (object (members_view members.entries))) }
+{
+    let threads = threads_of(alloc, text)?;
     let mut members = Map::new(alloc);
     put(alloc, &mut members, "threads", Value::Array(threads))?;
     put_text(alloc, &mut members, "verdict", "accepted")?;
     Ok(members)
 }
 
+/// The threads of a program, each with its lines.
+fn threads_of(alloc: Global, text: &[u8]) -> Result<Vec<Value>, AllocError> {
+    let mut threads = Vec::new(alloc);
+    if let Some(program) = program_of(alloc, text)? {
+        for thread in 0..program.threads().len() as u32 {
+            threads.push(thread_value(alloc, &program, thread)?)?;
+        }
+    }
+    Ok(threads)
+}
+
 /// What is said of a refused line.
 fn refused_members(
     alloc: Global,
     text: &[u8],
-    program: &Program,
     refusal: Refusal,
-) -> Result<Map<String, Value>, AllocError> {
-    let cause = refusal.cause;
+) -> Result<Map<String, Value>, AllocError>
+    ensures { IfOk result (λ members. TellsVerdict (Refused refusal) (object (members_view members.entries))) }
+{
+    let Refusal { line, cause } = refusal;
     let mut members = Map::new(alloc);
-    let number = cause.number();
-    put_code(alloc, &mut members, "V", number, Code::Refused(cause))?;
-    put_text(alloc, &mut members, "cause", cause.name())?;
-    put(alloc, &mut members, "line", Value::from(refusal.line))?;
-    put_text(alloc, &mut members, "verdict", "refused")?;
-    if let Some(spot) = spot_of(program, refusal.line) {
-        put_spot(alloc, &mut members, text, program, spot, refusal)?;
+    if let Some(program) = program_of(alloc, text)? {
+        if let Some(spot) = spot_of(&program, line) {
+            put_spot(alloc, &mut members, text, &program, spot, refusal)?;
+        }
     }
+    put_code(
+        alloc,
+        &mut members,
+        "V",
+        cause.number(),
+        Code::Refused(cause),
+    )?;
+    put_line(
+        alloc,
+        &mut members,
+        "refused",
+        cause.name(),
+        cause.number(),
+        line,
+    )?;
     Ok(members)
 }
 
@@ -136,19 +183,26 @@ fn unreadable_members(
     text: &[u8],
     line: u32,
     cause: ReadCause,
-) -> Result<Map<String, Value>, AllocError> {
+) -> Result<Map<String, Value>, AllocError>
+    ensures { IfOk result (λ members. TellsVerdict (Unreadable line cause) (object (members_view members.entries))) }
+{
     let mut members = Map::new(alloc);
     let number = u32::from(cause.number());
-    put_code(alloc, &mut members, "P", number, Code::Unreadable(cause))?;
-    put_text(alloc, &mut members, "cause", cause.name())?;
     let hint = hint_text(alloc, text, line, cause)?;
     put(alloc, &mut members, "hint", Value::String(hint))?;
-    put(alloc, &mut members, "line", Value::from(line))?;
-    put_text(alloc, &mut members, "verdict", "unreadable")?;
+    put_code(alloc, &mut members, "P", number, Code::Unreadable(cause))?;
+    put_line(
+        alloc,
+        &mut members,
+        "unreadable",
+        cause.name(),
+        number,
+        line,
+    )?;
     Ok(members)
 }
 
-/// Adds the number of a cause, also behind its letter, why it is a mistake, and how it is mended.
+/// Adds the number of a cause after its letter, why it is a mistake, and how it is mended.
 fn put_code(
     alloc: Global,
     members: &mut Map<String, Value>,
@@ -157,7 +211,6 @@ fn put_code(
     code: Code,
 ) -> Result<(), AllocError> {
     let id = format!(in alloc; "{letter}{number}")?;
-    put(alloc, members, "code", Value::from(number))?;
     put(alloc, members, "id", Value::String(id))?;
     put_text(alloc, members, "mend", mend_of(code))?;
     put_text(alloc, members, "why", sentence_of(code))

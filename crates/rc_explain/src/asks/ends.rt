@@ -70,7 +70,9 @@ fn write_end<W: Sink>(
     write_slot(writer, program, slot)
 }
 
-/// Writes the ends that join at a line and at which stage each of them leaves the slot.
+/// Writes the ends that join at a line and at which stage each of them leaves the slot. It is no part of its caller, as it
+/// needs room for labels.
+#[inline(never)]
 pub fn write_ends<W: Sink>(
     writer: &mut W,
     program: &Program,
