@@ -3,6 +3,7 @@
 mod engine;
 mod explanation;
 mod refusals;
+mod sentences;
 
 use rc_examples::causes::CAUSES;
 use rc_examples::example::text_named;

@@ -10,6 +10,16 @@ const HEAD: &str = "ringcheck 1\nring 8\n";
 const DECLARED: &str =
     "ringcheck 1\nring 8\nfile 3 64\nbuffer abc 16 2\ntoken 7 read abc\nthread t0 holds abc:2 t:7 c:1 {\n";
 
+const LONG: &str = "ringcheck 3\nring 8\nthread t0 holds {\nput ";
+
+// A word with an escape byte, of which P1 knows nothing: it stands behind 256 blanks.
+const FAR: &str = "\
+\x20                                                               \
+\x20                                                               \
+\x20                                                               \
+\x20                                                               \
+\x1bx";
+
 const VERSION_2: &str =
     "ringcheck 2\nring 8\nbuffer abc 16 2\nthread t0 holds {\nloop keeps when h {\n";
 
@@ -228,10 +238,16 @@ const HINTS: &[(&str, &str, &str)] = &[
         "column 21: 'c:2' names 'c' again\n",
     ),
     (
+        DECLARED,
+        "thread t0 holds {",
+        "column 8: thread 't0' is declared above already\n",
+    ),
+    (
         HEAD,
         "# caf\u{e9}",
         "column 6: byte 195; in a text stand tabs and the bytes 32 to 126 alone\n",
     ),
+    (HEAD, FAR, "column 257: '?x' begins no form here\n"),
     (
         DECLARED,
         "print caf\u{e9}",
@@ -270,6 +286,16 @@ const HINTS: &[(&str, &str, &str)] = &[
     ),
     (
         DECLARED,
+        "lock {\nif x == 0 {\nlock {",
+        "'lock' doesn't stand here: the lock of line 7 is open\n",
+    ),
+    (
+        DECLARED,
+        "lock {\npeek_cqe r {\nother {\nif x == 0 {\npeek_cqe s {",
+        "'peek_cqe' doesn't stand here: the arm of the peek of line 8 is open\n",
+    ),
+    (
+        DECLARED,
         "break",
         "'break' stands in a loop alone, and no loop is open\n",
     ),
@@ -300,6 +326,11 @@ const HINTS: &[(&str, &str, &str)] = &[
     ),
     (VERSION_3, "put q:1", "'put': 'q:' doesn't stand there\n"),
     (
+        VERSION_3,
+        "loop keeps c:1 take:1 {",
+        "column 16: 'take:1' behind 'c:1': '{' or items or 'when' is missing\n",
+    ),
+    (
         HEAD,
         "thread t0 holds q:1 {",
         "'thread': 'q:' stands in a lock alone\n",
@@ -309,6 +340,8 @@ const HINTS: &[(&str, &str, &str)] = &[
 // A text's beginning, what stands behind it so many times, and the hint.
 const REPEATED: &[(&str, &str, u32, &str)] = &[
     (HEAD, "#", 257, "the line has 257 bytes; at most 256\n"),
+    // As long as this the words of a line are looked at once, and not once for each of them.
+    (LONG, "c:1 ", 262144, "column 9: 'c:1' names 'c' again\n"),
     (
         DECLARED,
         "if x == 0 {\n",
