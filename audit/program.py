@@ -1,0 +1,389 @@
+#!/usr/bin/env python3
+"""Runs a built program on real files, pipes and processes, and holds what it does against what it should do.
+
+usage: audit/program.py PROGRAM
+
+Of each command it sees each exit status that the command has, 0 to 3, with what is on standard output and what is on
+standard error, apart. It names several files, one that isn't there, a folder, one that may not be read, and standard
+input; it closes the standard streams, and gives a full device, a pipe that nobody reads and an input without an end; it
+gives texts with carriage returns and a text at the limits of the notation. A run makes the choices of its seed, and one
+whose threads can't be made is out of memory. What a file may be and how many processes there may be is no obstacle for
+root: for that the program is run as a user that has nothing.
+
+A line is printed for each answer that isn't as it should be, and for each part that was left out; then how many there
+were. The status is 1 where an answer is wrong.
+"""
+
+import os
+import re
+import resource
+import shutil
+import subprocess
+import sys
+import tempfile
+from pathlib import Path
+
+TOP = Path(__file__).resolve().parent.parent
+SECONDS = 60
+
+# A user without files and processes.
+NOBODY = 54321
+
+HEAD = b"ringcheck 1\nring 1\nthread t0 holds {\n"
+GOOD = HEAD + b"x = 1\n}\n"
+REFUSED = HEAD + b"r = submit\n}\n"
+UNREADABLE = HEAD + b"x = y z\n}\n"
+ENDLESS = HEAD + b"loop keeps {\nx = 1\n}\n}\n"
+FOREVER = b"ringcheck 1\nring 1\n" + b"".join(b"thread t%d holds {\nloop keeps {\nx = 1\n}\n}\n" % n for n in range(2))
+SENDING = (TOP / "examples/handoff.rc").read_bytes()
+SENDING_IN_C = (TOP / "examples/c/handoff.c").read_text()
+FILES = {"good.rc": GOOD, "refused.rc": REFUSED, "unreadable.rc": UNREADABLE, "empty.rc": b"", "-": GOOD, "a b\n.rc": GOOD}
+
+# What is told of a file or a stream, behind the name of the file if it has one.
+MISSING = "No such file or directory"
+FOLDER = "Is a directory"
+FORBIDDEN = "Permission denied"
+MEMORY = "out of memory (20)"
+BESIDE = "'-' stands beside other files (see 'ringcheck --help')"
+EXPLAINS_ONE = "'--explain' takes one file (see 'ringcheck --help')"
+UNKNOWN = "unexpected argument '--no' found (see 'ringcheck --help')"
+NO_LIMIT = "the following required arguments were not provided: --limit <N> (see 'ringcheck --help')"
+NO_COMMAND = "unrecognized subcommand 'verify' (see 'ringcheck --help')"
+NO_OUTPUT = "the output can't be written..."
+NO_INPUT = "the input can't be read..."
+
+ACCEPTED = "accepted\n"
+REFUSAL = "refused line 4 V1 Unlocked\n"
+FAULT = "unreadable line 4 P3 BadLine\n"
+RUN = ("run", "--seed", "1", "--limit", "5")
+
+# Words, the text on standard input, and what follows: the exit status, standard output, and what standard error tells.
+# Of what ends with an ellipsis the beginning is held.
+ROWS = [
+    (("check",), GOOD, 0, ACCEPTED, ""),
+    (("check",), REFUSED, 1, REFUSAL, ""),
+    (("check",), UNREADABLE, 2, FAULT, ""),
+    (("check", "--no"), GOOD, 3, "", UNKNOWN),
+    (("check",), b"", 2, "unreadable line 1 P2 BadHead\n", ""),
+    (("check", "--json"), GOOD, 0, '{"verdict":"accepted"}\n', ""),
+    (("check", "--json"), REFUSED, 1, '{"cause":"Unlocked","code":1,"line":4,"verdict":"refused"}\n', ""),
+    (("check", "--json"), UNREADABLE, 2, '{"cause":"BadLine","code":3,"line":4,"verdict":"unreadable"}\n', ""),
+    (("check", "--explain"), GOOD, 0, "accepted\nthread t0\n...", ""),
+    (("check", "--explain"), REFUSED, 1, REFUSAL + "...", ""),
+    (("check", "--explain"), UNREADABLE, 2, FAULT + "...", ""),
+    (("check", "--explain", "--json"), GOOD, 0, "{...", ""),
+    (("check", "--explain", "--json"), REFUSED, 1, "{...", ""),
+    (("check", "--explain", "--json"), UNREADABLE, 2, "{...", ""),
+    (("check", "--explain", "good.rc", "refused.rc"), b"", 3, "", EXPLAINS_ONE),
+    (("step", "--schedule", "t0"), GOOD, 0, "1 t0 4 set 1\nended after 1 events\n", ""),
+    (("step",), GOOD, 0, "stopped after 0 events\n", ""),
+    (("step",), REFUSED, 1, "fault F9 NoLock t0 line 4\n", ""),
+    (("step", "--schedule", "t0"), UNREADABLE, 2, FAULT, ""),
+    (("step", "--schedule", "t0,t0"), GOOD, 3, "1 t0 4 set 1\nitem 2 not enabled\n", ""),
+    (("step", "--schedule", "t0,u"), GOOD, 3, "schedule item 2 unreadable\n", ""),
+    (("step", "--state", "--schedule", "t0"), GOOD, 0, "1 t0 4 set 1\nended after 1 events\nthread t0: ...", ""),
+    (("step", "--state"), REFUSED, 1, "fault F9 NoLock t0 line 4\n...", ""),
+    (("step", "--state"), UNREADABLE, 2, FAULT, ""),
+    (("step", "--state", "--schedule", "t0,t0"), GOOD, 3, "1 t0 4 set 1\nitem 2 not enabled\n...", ""),
+    (RUN, GOOD, 0, "1 t0 4 set 1\nended after 1 events\n", ""),
+    (RUN, REFUSED, 1, REFUSAL, ""),
+    (RUN, UNREADABLE, 2, FAULT, ""),
+    (RUN, ENDLESS, 3, "1 t0 4 loop\n2 t0 5 set 1\n3 t0 4 loop\n4 t0 5 set 1\n5 t0 4 loop\nlimit after 5 events\n", ""),
+    (("run", "--seed", "1"), GOOD, 3, "", NO_LIMIT),
+    ((*RUN, "--summary"), GOOD, 0, "thread t0: 1 events\nlongest stretch: 1 events of t0\nended after 1 events\n", ""),
+    ((*RUN, "--summary"), ENDLESS, 3, "thread t0: 5 events\nlongest stretch: 5 events of t0\nlimit after 5 events\n", ""),
+    (("c",), SENDING, 0, SENDING_IN_C, ""),
+    (("c",), REFUSED, 1, REFUSAL, ""),
+    (("c",), UNREADABLE, 2, FAULT, ""),
+    (("c", "--no"), GOOD, 3, "", UNKNOWN),
+    (("verify",), GOOD, 3, "", NO_COMMAND),
+    (("check", b"\xff"), GOOD, 3, "", "..."),
+    (("--version",), b"", 0, "ringcheck 0.1.0\n", ""),
+    (("--help",), b"", 0, "Checks threaded programs ...", ""),
+    (("check", "--help"), b"", 0, "Check programs, ...", ""),
+    # Files, with a text on standard input that is none of theirs.
+    (("check", "good.rc"), UNREADABLE, 0, "good.rc: accepted\n", ""),
+    (("check", "refused.rc"), GOOD, 1, "refused.rc:4: refused V1 Unlocked\n", ""),
+    (("check", "unreadable.rc"), GOOD, 2, "unreadable.rc:4: unreadable P3 BadLine\n", ""),
+    (("check", "empty.rc"), GOOD, 2, "empty.rc:1: unreadable P2 BadHead\n", ""),
+    (("check", "/dev/null"), GOOD, 2, "/dev/null:1: unreadable P2 BadHead\n", ""),
+    (("check", "missing.rc"), GOOD, 3, "", f"missing.rc: {MISSING}"),
+    (("check", "good.rc/x"), GOOD, 3, "", "good.rc/x: Not a directory"),
+    (("check", "folder"), GOOD, 3, "", f"folder: {FOLDER}"),
+    (("check", "a b\n.rc"), b"", 0, "a b\\n.rc: accepted\n", ""),
+    (("check", "refused.rc", "good.rc"), b"", 1, "refused.rc:4: refused V1 Unlocked\ngood.rc: accepted\n", ""),
+    (("check", "--json", "good.rc"), b"", 0, '{"file":"good.rc","verdict":"accepted"}\n', ""),
+    (("check", "--json", "folder"), b"", 3, "", f"folder: {FOLDER}"),
+    (("check", "--explain", "refused.rc"), GOOD, 1, REFUSAL + "...", ""),
+    (("check", "--explain", "missing.rc"), GOOD, 3, "", f"missing.rc: {MISSING}"),
+    (("step", "--schedule", "t0", "good.rc"), b"", 0, "1 t0 4 set 1\nended after 1 events\n", ""),
+    (("step", "refused.rc"), b"", 1, "fault F9 NoLock t0 line 4\n", ""),
+    (("step", "missing.rc"), GOOD, 3, "", f"missing.rc: {MISSING}"),
+    (("step", "--state", "folder"), GOOD, 3, "", f"folder: {FOLDER}"),
+    ((*RUN, "good.rc"), b"", 0, "1 t0 4 set 1\nended after 1 events\n", ""),
+    ((*RUN, "missing.rc"), GOOD, 3, "", f"missing.rc: {MISSING}"),
+    ((*RUN, "folder"), GOOD, 3, "", f"folder: {FOLDER}"),
+    (("c", "refused.rc"), GOOD, 1, REFUSAL, ""),
+    (("c", "missing.rc"), GOOD, 3, "", f"missing.rc: {MISSING}"),
+    # `-` alone is standard input; a file of that name is named otherwise.
+    (("check", "-"), REFUSED, 1, REFUSAL, ""),
+    (("step", "-"), REFUSED, 1, "fault F9 NoLock t0 line 4\n", ""),
+    ((*RUN, "-"), GOOD, 0, "1 t0 4 set 1\nended after 1 events\n", ""),
+    (("c", "-"), SENDING, 0, SENDING_IN_C, ""),
+    (("check", "./-"), REFUSED, 0, "./-: accepted\n", ""),
+    (("check", "-", "good.rc"), GOOD, 3, "", BESIDE),
+    (("check", "good.rc", "-"), GOOD, 3, "", BESIDE),
+    # Lines that end with a carriage return and a line feed.
+    (("check",), GOOD.replace(b"\n", b"\r\n"), 0, ACCEPTED, ""),
+    (("check",), REFUSED.replace(b"\n", b"\r\n"), 1, REFUSAL, ""),
+    (("step", "--schedule", "t0"), GOOD.replace(b"\n", b"\r\n"), 0, "1 t0 4 set 1\nended after 1 events\n", ""),
+]
+
+# Several files, of which some can't be read: what is told of them, and the status is the greatest.
+MIXED = ("check", "missing.rc", "refused.rc", "folder", "unreadable.rc", "good.rc")
+MIXED_OUTPUT = "refused.rc:4: refused V1 Unlocked\nunreadable.rc:4: unreadable P3 BadLine\ngood.rc: accepted\n"
+MIXED_TOLD = f"ringcheck: missing.rc: {MISSING}\nringcheck: folder: {FOLDER}\n"
+
+# What a shell does before the program, words, a text, the status and what is told; nothing is written. Where the input
+# has no end the program can't keep it: memory is bounded.
+STREAMS = [
+    ("exec >&-", ("check",), GOOD, 3, NO_OUTPUT),
+    ("exec >/dev/full", ("check",), GOOD, 3, NO_OUTPUT),
+    ("exec >/dev/full", ("check", "good.rc", "refused.rc"), b"", 3, NO_OUTPUT),
+    ("exec >/dev/full", ("check", "--explain"), REFUSED, 3, NO_OUTPUT),
+    ("exec >/dev/full", ("step",), REFUSED, 3, NO_OUTPUT),
+    ("exec >/dev/full", RUN, GOOD, 3, NO_OUTPUT),
+    ("exec >/dev/full", ("c",), SENDING, 3, NO_OUTPUT),
+    ("exec >/dev/full", ("--version",), b"", 3, NO_OUTPUT),
+    ("exec <&-", ("check",), b"", 3, NO_INPUT),
+    ("exec <folder", ("check",), b"", 3, NO_INPUT),
+    ("exec 2>&-", ("check", "missing.rc"), b"", 3, ""),
+    ("exec 2>/dev/full", ("check", "missing.rc"), b"", 3, ""),
+    ("ulimit -v 100000; exec </dev/zero", ("check",), b"", 3, MEMORY),
+    ("ulimit -v 100000; exec </dev/zero", RUN, b"", 3, MEMORY),
+]
+
+# The last line of a large text, its exit status and the verdict.
+LARGE = [
+    (b"x = 1", 0, ACCEPTED),
+    (b"r = submit", 1, "refused line 4095 V1 Unlocked\n"),
+    (b"x = y z", 2, "unreadable line 4095 P3 BadLine\n"),
+]
+
+# How the choices of a seed are made: the constants of PCG, and of the words that make a state of a seed.
+MULTIPLIER = 6364136223846793005
+SEEDING = 11634580027462260723
+WORKERS = 2
+
+
+def fits(text, wanted):
+    """Whether a text is the wanted one, or begins with it where that ends with an ellipsis."""
+    return text.startswith(wanted[:-3]) if wanted.endswith("...") else text == wanted
+
+
+def fits_message(text, message):
+    """Whether standard error has this message on one line, and nothing where there is none."""
+    return text == "" if not message else text.count("\n") == 1 and text[-1] == "\n" and fits(text[:-1], f"ringcheck: {message}")
+
+
+class Bench:
+    """Runs the program in a folder, and notes what is wrong about its answers."""
+
+    def __init__(self, program, folder):
+        self.program = program
+        self.folder = folder
+        self.answers = self.wrong = 0
+
+    def ran(self, words, text=b"", shell="", **how):
+        """The exit status, standard output and standard error; before the program a shell does this."""
+        given = [self.program, *words]
+        if shell:
+            given = ["sh", "-c", f'{shell}; exec "$0" "$@"', *given]
+        how = {"input": text, "stdout": subprocess.PIPE, "stderr": subprocess.PIPE, **how}
+        try:
+            done = subprocess.run(given, cwd=self.folder, timeout=SECONDS, check=False, **how)
+        except subprocess.TimeoutExpired:
+            return "hung", "", ""
+        return done.returncode, (done.stdout or b"").decode(), done.stderr.decode()
+
+    def hold(self, name, *pairs):
+        """Notes what isn't as it should be: of each pair what it is, and whether that is right."""
+        self.answers += 1
+        wrong = [is_so for is_so, right in pairs if not right]
+        self.wrong += bool(wrong)
+        for is_so in wrong:
+            print(f"{name}: {is_so}", flush=True)
+
+    def row(self, words, text, status, output, message, note="", **how):
+        """Runs the program, and holds its answer."""
+        got, written, told = self.ran(words, text, **how)
+        self.hold(
+            " ".join(map(str, words)) + note,
+            (f"the status is {got}, and not {status}", got == status),
+            (f"standard output is {written[:200]!r}, and not {output[:200]!r}", fits(written, output)),
+            (f"standard error is {told[:200]!r}, and not {message!r}", fits_message(told, message)),
+        )
+
+
+def hold_rows(bench):
+    """The commands, their statuses, and files."""
+    for row in ROWS:
+        bench.row(*row)
+    status, output, told = bench.ran(MIXED)
+    right = (status, output, told) == (3, MIXED_OUTPUT, MIXED_TOLD)
+    bench.hold("several files", (f"{status}, {output!r} and {told!r}", right))
+
+
+def hold_forbidden(bench, how):
+    """A file that may not be read."""
+    path = bench.folder / "forbidden.rc"
+    path.write_bytes(GOOD)
+    path.chmod(0)
+    bench.row(("check", path.name), GOOD, 3, "", f"{path.name}: {FORBIDDEN}", **how)
+    bench.row(("check", path.name, "good.rc"), GOOD, 3, "good.rc: accepted\n", f"{path.name}: {FORBIDDEN}", **how)
+    bench.row((*RUN, path.name), GOOD, 3, "", f"{path.name}: {FORBIDDEN}", **how)
+
+
+def hold_streams(bench):
+    """Streams that fail."""
+    for shell, words, text, status, message in STREAMS:
+        bench.row(words, text, status, "", message, note=f" after {shell}", shell=shell)
+    reader, writer = os.pipe()
+    os.close(reader)
+    status, _, told = bench.ran(("check",), GOOD, stdout=writer)
+    os.close(writer)
+    bench.hold("check to a closed pipe", (f"the status is {status}", status in (3, -13)), (f"{told!r} is told", told == ""))
+
+
+def large(last):
+    """A text of 4,096 lines of 256 bytes, whose thread ends with this line."""
+    lines = [*HEAD.split(b"\n")[:-1], *[b"x = 1"] * (4096 - 5), last, b"}"]
+    return b"".join((line + b" #").ljust(256, b"x") + b"\n" for line in lines)
+
+
+def hold_large(bench):
+    """Texts of a megabyte, at the limits of the notation, in a file and on standard input."""
+    note = " of a megabyte"
+    for last, status, verdict in LARGE:
+        text = large(last)
+        (bench.folder / "large.rc").write_bytes(text)
+        run = verdict if status else "1 t0 4 set 1\n..."
+        step = verdict if status == 2 else "stopped after 0 events\n"
+        bench.row(("check",), text, status, verdict, "", note)
+        for given in ("large.rc", "-"):
+            bench.row(("step", given), text, status & 2, step, "", note)
+            bench.row(("run", "--seed", "1", "--limit", "9000", given), text, status, run, "", note)
+        bench.row(("check", "--explain"), text, status, verdict + "...", "", note)
+        bench.row(("c",), text, status, verdict if status else "...", "", note)
+    text = large(b"x = 1") + b"#"
+    bench.row(("check",), text, 2, "unreadable line 4097 P8 TooLarge\n", "", " of 4,097 lines")
+
+
+def words_of(seed):
+    """The words of a generator with this seed: those of rand_pcg's Lcg64Xsh32::seed_from_u64."""
+
+    def turned(state):
+        word = ((state >> 18) ^ state) >> 27 & 0xFFFFFFFF
+        return (word >> (state >> 59) | word << (-(state >> 59) & 31)) & 0xFFFFFFFF
+
+    state, seeds = seed, []
+    for _ in range(4):
+        state = (state * MULTIPLIER + SEEDING) % 2**64
+        seeds.append(turned(state))
+    step = seeds[2] | seeds[3] << 32 | 1
+    state = (((seeds[0] | seeds[1] << 32) + step) * MULTIPLIER + step) % 2**64
+    while True:
+        yield turned(state)
+        state = (state * MULTIPLIER + step) % 2**64
+
+
+def are_choices(answers, seed):
+    """Whether a thread draws these answers at its turns. Each of the two workers may draw a word between them."""
+    words = words_of(seed)
+    drawn = [[0, -11][next(words) % 2] for _ in range(len(answers) + WORKERS)]
+    skipped = {0}
+    for place, answer in enumerate(answers):
+        later = {more for less in skipped for more in range(less, WORKERS + 1)}
+        skipped = {count for count in later if answer in (None, drawn[place + count])}
+    return bool(skipped)
+
+
+def hold_seeds(bench):
+    """Submits of nothing, of which each answers 0 or -11 as the seed says, and no request that a worker serves."""
+    count = 60
+    text = HEAD + b"lock {\n" + b"r = submit\n" * count + b"}\n}\n"
+    for seed in (0, 1, 2, 4294967295):
+        status, output, _ = bench.ran(("run", "--seed", str(seed), "--limit", "1000"), text)
+        # The turn that takes the lock draws too.
+        answers = [None, *map(int, re.findall(r"submit (\S+)$", output, re.MULTILINE))]
+        right = status == 0 and len(answers) == count + 1 and are_choices(answers, seed)
+        bench.hold(f"run --seed {seed}", (f"these aren't the choices of the seed: {answers[1:]}", right))
+
+
+def hold_threads(bench, how):
+    """Runs whose threads can't all be made. There are four: for two threads of the text, and two workers."""
+    for most in range(1, 5 if how else 2):
+
+        def bounded():
+            resource.setrlimit(resource.RLIMIT_NPROC, (most, most))
+
+        status, output, told = bench.ran(("run", "--seed", "1", "--limit", "500000"), FOREVER, preexec_fn=bounded, **how)
+        *events, end = output.splitlines() or [""]
+        bench.hold(
+            f"a run with {most} processes",
+            (f"the status is {status}", status == 3),
+            (f"it ends with {end!r} after {len(events)} events", end == f"out of memory after {len(events)} events"),
+            (f"{told!r} is told", told == ""),
+        )
+
+
+def left_out():
+    """Commands and statuses of which there is no row."""
+    rows = {(row[0][0], row[2]) for row in ROWS}
+    return [(name, status) for name in ("check", "step", "run", "c") for status in range(4) if (name, status) not in rows]
+
+
+def made(folder, program):
+    """A bench in a folder that everybody may look into, with a program that everybody may run."""
+    folder.chmod(0o755)
+    copy = folder / "program"
+    shutil.copy(program, copy)
+    copy.chmod(0o755)
+    (folder / "folder").mkdir()
+    for name, text in FILES.items():
+        (folder / name).write_bytes(text)
+    return Bench(copy, folder)
+
+
+def other_user(bench):
+    """How a program is run as a user that has nothing; none where it can't be."""
+    how = {"user": NOBODY, "group": NOBODY, "extra_groups": []}
+    try:
+        return how if bench.ran(("--version",), **how)[0] == 0 else None
+    except (OSError, subprocess.SubprocessError):
+        return None
+
+
+def main():
+    if len(sys.argv) != 2:
+        sys.exit(__doc__)
+    if left_out():
+        sys.exit(f"there is no row of {left_out()}")
+    with tempfile.TemporaryDirectory() as folder:
+        bench = made(Path(folder), sys.argv[1])
+        hold_rows(bench)
+        hold_streams(bench)
+        hold_large(bench)
+        hold_seeds(bench)
+        how = other_user(bench) if os.geteuid() == 0 else {}
+        if how is None:
+            print("left out, since root can't run the program as another user: files that may not be read, and threads")
+        else:
+            hold_forbidden(bench, how)
+            hold_threads(bench, how)
+    print(f"{bench.answers} answers of the program, {bench.wrong} wrong")
+    return 1 if bench.wrong else 0
+
+
+if __name__ == "__main__":
+    sys.exit(main())
