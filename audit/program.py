@@ -37,11 +37,19 @@ ENDLESS = HEAD + b"loop keeps {\nx = 1\n}\n}\n"
 FOREVER = b"ringcheck 1\nring 1\n" + b"".join(b"thread t%d holds {\nloop keeps {\nx = 1\n}\n}\n" % n for n in range(2))
 SENDING = (TOP / "examples/handoff.rc").read_bytes()
 SENDING_IN_C = (TOP / "examples/c/handoff.c").read_text()
-FILES = {"good.rc": GOOD, "refused.rc": REFUSED, "unreadable.rc": UNREADABLE, "empty.rc": b"", "-": GOOD, "a b\n.rc": GOOD}
+FILES = {
+    "good.rc": GOOD,
+    "refused.rc": REFUSED,
+    "unreadable.rc": UNREADABLE,
+    "empty.rc": b"",
+    "-": GOOD,
+    "a b\n.rc": GOOD,
+}
 
-# What is told of a file or a stream, behind the name of the file if it has one.
+# What is told of a file, after its name, of a stream, and of wrong words.
 MISSING = "No such file or directory"
 FOLDER = "Is a directory"
+NO_FOLDER = "Not a directory"
 FORBIDDEN = "Permission denied"
 MEMORY = "out of memory (20)"
 BESIDE = "'-' stands beside other files (see 'ringcheck --help')"
@@ -53,6 +61,10 @@ NO_OUTPUT = "the output can't be written..."
 NO_INPUT = "the input can't be read..."
 
 ACCEPTED = "accepted\n"
+ONE_EVENT = "1 t0 4 set 1\nended after 1 events\n"
+FIVE_EVENTS = "1 t0 4 loop\n2 t0 5 set 1\n3 t0 4 loop\n4 t0 5 set 1\n5 t0 4 loop\nlimit after 5 events\n"
+ONE_COUNTED = "thread t0: 1 events\nlongest stretch: 1 events of t0\nended after 1 events\n"
+FIVE_COUNTED = "thread t0: 5 events\nlongest stretch: 5 events of t0\nlimit after 5 events\n"
 REFUSAL = "refused line 4 V1 Unlocked\n"
 FAULT = "unreadable line 4 P3 BadLine\n"
 RUN = ("run", "--seed", "1", "--limit", "5")
@@ -75,7 +87,7 @@ ROWS = [
     (("check", "--explain", "--json"), REFUSED, 1, "{...", ""),
     (("check", "--explain", "--json"), UNREADABLE, 2, "{...", ""),
     (("check", "--explain", "good.rc", "refused.rc"), b"", 3, "", EXPLAINS_ONE),
-    (("step", "--schedule", "t0"), GOOD, 0, "1 t0 4 set 1\nended after 1 events\n", ""),
+    (("step", "--schedule", "t0"), GOOD, 0, ONE_EVENT, ""),
     (("step",), GOOD, 0, "stopped after 0 events\n", ""),
     (("step",), REFUSED, 1, "fault F9 NoLock t0 line 4\n", ""),
     (("step", "--schedule", "t0"), UNREADABLE, 2, FAULT, ""),
@@ -85,13 +97,13 @@ ROWS = [
     (("step", "--state"), REFUSED, 1, "fault F9 NoLock t0 line 4\n...", ""),
     (("step", "--state"), UNREADABLE, 2, FAULT, ""),
     (("step", "--state", "--schedule", "t0,t0"), GOOD, 3, "1 t0 4 set 1\nitem 2 not enabled\n...", ""),
-    (RUN, GOOD, 0, "1 t0 4 set 1\nended after 1 events\n", ""),
+    (RUN, GOOD, 0, ONE_EVENT, ""),
     (RUN, REFUSED, 1, REFUSAL, ""),
     (RUN, UNREADABLE, 2, FAULT, ""),
-    (RUN, ENDLESS, 3, "1 t0 4 loop\n2 t0 5 set 1\n3 t0 4 loop\n4 t0 5 set 1\n5 t0 4 loop\nlimit after 5 events\n", ""),
+    (RUN, ENDLESS, 3, FIVE_EVENTS, ""),
     (("run", "--seed", "1"), GOOD, 3, "", NO_LIMIT),
-    ((*RUN, "--summary"), GOOD, 0, "thread t0: 1 events\nlongest stretch: 1 events of t0\nended after 1 events\n", ""),
-    ((*RUN, "--summary"), ENDLESS, 3, "thread t0: 5 events\nlongest stretch: 5 events of t0\nlimit after 5 events\n", ""),
+    ((*RUN, "--summary"), GOOD, 0, ONE_COUNTED, ""),
+    ((*RUN, "--summary"), ENDLESS, 3, FIVE_COUNTED, ""),
     (("c",), SENDING, 0, SENDING_IN_C, ""),
     (("c",), REFUSED, 1, REFUSAL, ""),
     (("c",), UNREADABLE, 2, FAULT, ""),
@@ -108,7 +120,7 @@ ROWS = [
     (("check", "empty.rc"), GOOD, 2, "empty.rc:1: unreadable P2 BadHead\n", ""),
     (("check", "/dev/null"), GOOD, 2, "/dev/null:1: unreadable P2 BadHead\n", ""),
     (("check", "missing.rc"), GOOD, 3, "", f"missing.rc: {MISSING}"),
-    (("check", "good.rc/x"), GOOD, 3, "", "good.rc/x: Not a directory"),
+    (("check", "good.rc/x"), GOOD, 3, "", f"good.rc/x: {NO_FOLDER}"),
     (("check", "folder"), GOOD, 3, "", f"folder: {FOLDER}"),
     (("check", "a b\n.rc"), b"", 0, "a b\\n.rc: accepted\n", ""),
     (("check", "refused.rc", "good.rc"), b"", 1, "refused.rc:4: refused V1 Unlocked\ngood.rc: accepted\n", ""),
@@ -116,11 +128,11 @@ ROWS = [
     (("check", "--json", "folder"), b"", 3, "", f"folder: {FOLDER}"),
     (("check", "--explain", "refused.rc"), GOOD, 1, REFUSAL + "...", ""),
     (("check", "--explain", "missing.rc"), GOOD, 3, "", f"missing.rc: {MISSING}"),
-    (("step", "--schedule", "t0", "good.rc"), b"", 0, "1 t0 4 set 1\nended after 1 events\n", ""),
+    (("step", "--schedule", "t0", "good.rc"), b"", 0, ONE_EVENT, ""),
     (("step", "refused.rc"), b"", 1, "fault F9 NoLock t0 line 4\n", ""),
     (("step", "missing.rc"), GOOD, 3, "", f"missing.rc: {MISSING}"),
     (("step", "--state", "folder"), GOOD, 3, "", f"folder: {FOLDER}"),
-    ((*RUN, "good.rc"), b"", 0, "1 t0 4 set 1\nended after 1 events\n", ""),
+    ((*RUN, "good.rc"), b"", 0, ONE_EVENT, ""),
     ((*RUN, "missing.rc"), GOOD, 3, "", f"missing.rc: {MISSING}"),
     ((*RUN, "folder"), GOOD, 3, "", f"folder: {FOLDER}"),
     (("c", "refused.rc"), GOOD, 1, REFUSAL, ""),
@@ -128,7 +140,7 @@ ROWS = [
     # `-` alone is standard input; a file of that name is named otherwise.
     (("check", "-"), REFUSED, 1, REFUSAL, ""),
     (("step", "-"), REFUSED, 1, "fault F9 NoLock t0 line 4\n", ""),
-    ((*RUN, "-"), GOOD, 0, "1 t0 4 set 1\nended after 1 events\n", ""),
+    ((*RUN, "-"), GOOD, 0, ONE_EVENT, ""),
     (("c", "-"), SENDING, 0, SENDING_IN_C, ""),
     (("check", "./-"), REFUSED, 0, "./-: accepted\n", ""),
     (("check", "-", "good.rc"), GOOD, 3, "", BESIDE),
@@ -136,7 +148,7 @@ ROWS = [
     # Lines that end with a carriage return and a line feed.
     (("check",), GOOD.replace(b"\n", b"\r\n"), 0, ACCEPTED, ""),
     (("check",), REFUSED.replace(b"\n", b"\r\n"), 1, REFUSAL, ""),
-    (("step", "--schedule", "t0"), GOOD.replace(b"\n", b"\r\n"), 0, "1 t0 4 set 1\nended after 1 events\n", ""),
+    (("step", "--schedule", "t0"), GOOD.replace(b"\n", b"\r\n"), 0, ONE_EVENT, ""),
 ]
 
 # Several files, of which some can't be read: what is told of them, and the status is the greatest.
@@ -183,7 +195,9 @@ def fits(text, wanted):
 
 def fits_message(text, message):
     """Whether standard error has this message on one line, and nothing where there is none."""
-    return text == "" if not message else text.count("\n") == 1 and text[-1] == "\n" and fits(text[:-1], f"ringcheck: {message}")
+    if not message:
+        return text == ""
+    return text.count("\n") == 1 and text.endswith("\n") and fits(text[:-1], f"ringcheck: {message}")
 
 
 class Bench:
@@ -252,7 +266,8 @@ def hold_streams(bench):
     os.close(reader)
     status, _, told = bench.ran(("check",), GOOD, stdout=writer)
     os.close(writer)
-    bench.hold("check to a closed pipe", (f"the status is {status}", status in (3, -13)), (f"{told!r} is told", told == ""))
+    ends = (f"the status is {status}", status in (3, -13))
+    bench.hold("check to a closed pipe", ends, (f"{told!r} is told", told == ""))
 
 
 def large(last):
@@ -327,7 +342,8 @@ def hold_threads(bench, how):
         def bounded():
             resource.setrlimit(resource.RLIMIT_NPROC, (most, most))
 
-        status, output, told = bench.ran(("run", "--seed", "1", "--limit", "500000"), FOREVER, preexec_fn=bounded, **how)
+        words = ("run", "--seed", "1", "--limit", "500000")
+        status, output, told = bench.ran(words, FOREVER, preexec_fn=bounded, **how)
         *events, end = output.splitlines() or [""]
         bench.hold(
             f"a run with {most} processes",
@@ -339,8 +355,8 @@ def hold_threads(bench, how):
 
 def left_out():
     """Commands and statuses of which there is no row."""
-    rows = {(row[0][0], row[2]) for row in ROWS}
-    return [(name, status) for name in ("check", "step", "run", "c") for status in range(4) if (name, status) not in rows]
+    wanted = {(name, status) for name in ("check", "step", "run", "c") for status in range(4)}
+    return wanted - {(words[0], status) for words, _, status, *_ in ROWS}
 
 
 def made(folder, program):
