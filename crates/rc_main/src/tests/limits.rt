@@ -1,7 +1,6 @@
 //! Texts at the limits of the notation, and each beginning of a text.
 
 use crate::command::command;
-use rc_examples::programs::NOP;
 use std::alloc::{AllocError, Global};
 use std::process::Abort;
 use std::sync::Wait;
@@ -107,15 +106,88 @@ fn limits_are_met_exactly(rt: HostRuntime) -> Result<(), Fail> {
     Ok(())
 }
 
+/// A thread that submits a nop and reaps its completion.
+const NOP: &str = "ringcheck 1
+ring 1
+token 7 nop
+thread t0 holds t:7 c:1 {
+lock {
+get_sqe
+prep_nop
+set_data64 7
+r = submit
+peek_cqe r {
+case 7 {
+cqe_seen
+}
+other {
+}
+none {
+}
+}
+}
+}
+";
+
+/// The verdicts on the beginnings of that text: each up to this length, and its status.
+const BEGINNINGS: [(usize, &str, u8); 34] = [
+    (12, "unreadable line 1 P2 BadHead\n", 2),
+    (15, "unreadable line 2 P2 BadHead\n", 2),
+    (17, "unreadable line 2 P3 BadLine\n", 2),
+    (19, "accepted\n", 0),
+    (29, "unreadable line 3 P3 BadLine\n", 2),
+    (31, "accepted\n", 0),
+    (55, "unreadable line 4 P3 BadLine\n", 2),
+    (57, "unreadable line 4 P7 Braces\n", 2),
+    (62, "unreadable line 5 P3 BadLine\n", 2),
+    (64, "unreadable line 5 P7 Braces\n", 2),
+    (70, "unreadable line 6 P3 BadLine\n", 2),
+    (72, "unreadable line 6 P7 Braces\n", 2),
+    (79, "unreadable line 7 P3 BadLine\n", 2),
+    (81, "unreadable line 7 P7 Braces\n", 2),
+    (92, "unreadable line 8 P3 BadLine\n", 2),
+    (94, "unreadable line 8 P7 Braces\n", 2),
+    (98, "unreadable line 9 P3 BadLine\n", 2),
+    (105, "unreadable line 9 P7 Braces\n", 2),
+    (116, "unreadable line 10 P3 BadLine\n", 2),
+    (118, "unreadable line 10 P7 Braces\n", 2),
+    (125, "unreadable line 11 P3 BadLine\n", 2),
+    (127, "unreadable line 11 P7 Braces\n", 2),
+    (134, "unreadable line 12 P3 BadLine\n", 2),
+    (136, "unreadable line 12 P7 Braces\n", 2),
+    (138, "unreadable line 13 P7 Braces\n", 2),
+    (144, "unreadable line 14 P3 BadLine\n", 2),
+    (146, "unreadable line 14 P7 Braces\n", 2),
+    (148, "unreadable line 15 P7 Braces\n", 2),
+    (153, "unreadable line 16 P3 BadLine\n", 2),
+    (155, "unreadable line 16 P7 Braces\n", 2),
+    (157, "unreadable line 17 P7 Braces\n", 2),
+    (159, "unreadable line 18 P7 Braces\n", 2),
+    (161, "unreadable line 19 P7 Braces\n", 2),
+    (163, "refused line 19 V12 QueueLeft\n", 1),
+];
+
+/// The verdict on the beginning of this length, and its status.
+fn of_beginning(len: usize) -> (&'static str, u8) {
+    for (last, verdict, status) in BEGINNINGS {
+        if len <= last {
+            return (verdict, status);
+        }
+    }
+    ("", 3)
+}
+
 #[test]
-fn few_beginnings_are_programs(rt: HostRuntime) {
+fn each_beginning_has_its_verdict(rt: HostRuntime) {
+    assert_eq!(rt; NOP.len(), 163);
     for len in 0..NOP.len() + 1 {
-        let (status, _) = checked(&rt, rt.alloc(), &NOP.as_bytes()[..len]);
-        let wanted = match len {
-            71 | 72 | 83 | 84 => 0,
-            215 | 216 => 1,
-            _ => 2,
-        };
+        let (status, written) = checked(&rt, rt.alloc(), &NOP.as_bytes()[..len]);
+        let (verdict, wanted) = of_beginning(len);
+        assert_eq!(rt;
+            written.as_slice(),
+            verdict.as_bytes(),
+            "the first {len} bytes"
+        );
         assert_eq!(rt; status, wanted, "status of the first {len} bytes");
     }
 }

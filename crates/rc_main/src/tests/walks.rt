@@ -14,17 +14,18 @@ const WALKS: u64 = 200;
 
 const DRAWS: u64 = 3000;
 
-/// The accepted programs of the folder examples.
-const ACCEPTED: [(&str, &str); 9] = [
-    ("dead", programs::DEAD),
-    ("drain", programs::DRAIN),
-    ("empty_thread", programs::EMPTY_THREAD),
-    ("gather", programs::GATHER),
-    ("hand_back", programs::HAND_BACK),
-    ("handoff", programs::HANDOFF),
-    ("pool", programs::POOL),
-    ("share", programs::SHARE),
-    ("wrap", programs::WRAP),
+/// The accepted programs of the folder examples, and whether their threads can end: that of `pump` has no break.
+const ACCEPTED: [(&str, &str, bool); 10] = [
+    ("dead", programs::DEAD, true),
+    ("drain", programs::DRAIN, true),
+    ("empty_thread", programs::EMPTY_THREAD, true),
+    ("gather", programs::GATHER, true),
+    ("hand_back", programs::HAND_BACK, true),
+    ("handoff", programs::HANDOFF, true),
+    ("pool", programs::POOL, true),
+    ("pump", programs::PUMP, false),
+    ("share", programs::SHARE, true),
+    ("wrap", programs::WRAP, true),
 ];
 
 /// A thread, with all that is queued or another answer at a submit, or a completion of a request.
@@ -80,7 +81,7 @@ fn walked(
 
 #[test]
 fn accepted_programs_meet_no_fault(rt: HostRuntime) -> Result<(), Fail> {
-    for (name, text) in ACCEPTED {
+    for (name, text, ends) in ACCEPTED {
         match admit(rt.alloc(), text.as_bytes()) {
             Ok(admitted) => {
                 let mut has_end = false;
@@ -88,7 +89,7 @@ fn accepted_programs_meet_no_fault(rt: HostRuntime) -> Result<(), Fail> {
                     let mut chooser = Seeded::new(seed);
                     has_end = walked(&rt, rt.alloc(), &admitted, &mut chooser)? || has_end;
                 }
-                assert!(rt; has_end, "{name}");
+                assert_eq!(rt; has_end, ends, "{name}");
             }
             Err(_) => panic!(rt; "{name} is admitted"),
         }
