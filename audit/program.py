@@ -122,7 +122,7 @@ ROWS = [
     (("check", "missing.rc"), GOOD, 3, "", f"missing.rc: {MISSING}"),
     (("check", "good.rc/x"), GOOD, 3, "", f"good.rc/x: {NO_FOLDER}"),
     (("check", "folder"), GOOD, 3, "", f"folder: {FOLDER}"),
-    (("check", "a b\n.rc"), b"", 0, "a b\\n.rc: accepted\n", ""),
+    (("check", "a b\n.rc"), b"", 0, "a b\\u000a.rc: accepted\n", ""),
     (("check", "refused.rc", "good.rc"), b"", 1, "refused.rc:4: refused V1 Unlocked\ngood.rc: accepted\n", ""),
     (("check", "--json", "good.rc"), b"", 0, '{"file":"good.rc","verdict":"accepted"}\n', ""),
     (("check", "--json", "folder"), b"", 3, "", f"folder: {FOLDER}"),
