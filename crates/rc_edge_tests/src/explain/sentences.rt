@@ -100,12 +100,18 @@ fn explained(rt: &impl Abort, alloc: Global, text: &str, json: bool) -> Vec<u8> 
     sink.writer
 }
 
+/// Sees that a line is said of a text.
+fn says(rt: &impl Abort, alloc: Global, text: &str, said: &str) -> Result<(), Fail> {
+    let output = explained(rt, alloc, text, false);
+    let output = str::from_utf8(&output).or(Err("a text"))?;
+    assert!(rt; output.lines().any(|line| line == said), "{said}");
+    Ok(())
+}
+
 #[test]
 fn these_sentences_are_said(rt: HostRuntime) -> Result<(), Fail> {
     for (text, said) in SAID {
-        let output = explained(&rt, rt.alloc(), text, false);
-        let output = str::from_utf8(&output).or(Err("a text"))?;
-        assert!(rt; output.lines().any(|line| line == said), "{said}");
+        says(&rt, rt.alloc(), text, said)?;
     }
     Ok(())
 }
