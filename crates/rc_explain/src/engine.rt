@@ -43,7 +43,7 @@ pub fn explain_engine<R: Source, W: Sink>(
 }
 
 /// Writes the verdict on a text with what explains it.
-fn explain_bytes<W: Sink>(
+pub fn explain_bytes<W: Sink>(
     alloc: Global,
     text: &[u8],
     json: bool,

@@ -1,5 +1,5 @@
 -- What the program answers: the exit status of each command, and what it says of its devices.
-use Rattle.std.specs.Prelude.{ℕ, ℤ, ◌≡◌, ◌+◌, ◌⊎◌, Bool, true, false, List, Option, Some, None, Result, Ok, Err}
+use Rattle.std.specs.Prelude.{ℕ, ℤ, ◌≡◌, ◌+◌, ◌⊎◌, Bool, true, false, List, Option, Some, None, Result, Ok, Err, string_bytes}
 use Rattle.std.specs.Io.KnownBytes.{Appends}
 use Rattle.rc_lang.specs.Program.{Program}
 use Rattle.rc_read.specs.Answer.{answer_of}
@@ -77,6 +77,16 @@ AnswersRun gives (Some bytes) limit summary old new status =
 abbrev pub AnswersEmit : Option (List ℕ) → Option (List ℕ) → Option (List ℕ) → ℕ → Type 0
 AnswersEmit None old new status = Unit {0}
 AnswersEmit (Some bytes) old new status = ((program : Program) × GivesVerdict (answer_of bytes) (Ok program) × (status ≡ 0)) ⊎ TellsVerdict bytes old new status
+
+-- What a command answers of the bytes of a text, where they are known. Help and the version are shown whatever they are.
+abbrev pub AnswersCommand : (ℕ → ℤ → Type 0) → Command → Option (List ℕ) → Option (List ℕ) → Option (List ℕ) → ℕ → Type 0
+AnswersCommand gives (Check json) bytes old new status = AnswersCheck bytes json old new status
+AnswersCommand gives (Explain json) bytes old new status = AnswersExplain bytes json old new status
+AnswersCommand gives (Step schedule) bytes old new status = AnswersStep bytes schedule.now old new status
+AnswersCommand gives (State schedule) bytes old new status = AnswersState bytes schedule.now old new status
+AnswersCommand gives (Run seed limit summary) bytes old new status = AnswersRun gives bytes limit summary old new status
+AnswersCommand gives Emit bytes old new status = AnswersEmit bytes old new status
+AnswersCommand gives (Show text) bytes old new status = Appends old new (string_bytes text) × (status ≡ 0)
 
 -- A failure of the source is answered, or that it has no end, and only these; nothing is read behind the end.
 abbrev pub ReadsOnce : Given → Given → Result ℕ CommandFault → Type 0

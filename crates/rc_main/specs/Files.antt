@@ -1,49 +1,72 @@
--- What the program answers of several files.
-use Rattle.std.specs.Prelude.{ℕ, ◌≡◌, max, Bool, true, false, List, [], ◌∷◌, map, ◌⊎◌, Option, Result, Ok, Err, IsErr}
+-- What the program answers of files.
+use Rattle.std.specs.Global.{Vec}
+use Rattle.std.specs.Prelude.{ℕ, ℤ, ◌≡◌, ◌≤◌, max, Bool, true, false, List, [], ◌∷◌, ◌++◌, map, codes, ◌⊎◌, Option, Some, Result, Ok, Err}
 use Rattle.std.specs.Io.KnownBytes.{Appends}
 use Rattle.std.specs.List.{flat_map}
-use Rattle.rc_report.specs.declared.streams.DeviceFailed.{DeviceFailed}
+use Rattle.rc_read.specs.Answer.{answer_of}
 use Rattle.rc_report.specs.declared.verdict.Verdict.{Verdict}
-use Rattle.rc_report.specs.Files.{AnswersVerdict, file_json, file_text}
+use Rattle.rc_report.specs.Checks.{IsVerdict}
+use Rattle.rc_report.specs.Files.{file_json, file_text}
+use Rattle.rc_report.specs.Shown.{shown}
 use Rattle.rc_report.specs.Statuses.{status_of_verdict}
+use Rattle.rc_main.specs.declared.files.Unread.{Unread}
+use Rattle.rc_main.specs.declared.words.Command.{Command}
+use Rattle.rc_main.specs.Answers.{AnswersCommand}
 
--- What is said of a file: a status, and what is written.
+-- The bytes of a file, or why it gives none.
+abbrev pub bytes_of : Result (Vec ℕ) Unread → Result (List ℕ) Unread
+bytes_of (Ok text) = Ok text.items
+bytes_of (Err unread) = Err unread
+
+-- A verdict is told as a JSON object, or on a line after the file's name as it is shown.
+abbrev pub verdict_told : Bool → List ℕ → Verdict → List ℕ
+verdict_told true name verdict = file_json name verdict
+verdict_told false name verdict = file_text name verdict
+
+-- The line of standard error that says of a file, by its name as it is shown, why it has no answer.
+abbrev pub line_told : List ℕ → List ℕ → List ℕ
+line_told name why = codes "ringcheck: " ++ (shown name ++ (codes ": " ++ (why ++ codes "\n")))
+
+-- What is said of a file: a status, what is written, and what is told on standard error.
 pub record Said : Type 0 where
   pub status : ℕ
   pub text : List ℕ
+  pub told : List ℕ
 
--- A verdict is told as a JSON object, or on a line behind the file's name as it is shown.
-abbrev pub TellsFile : Bool → List ℕ → Verdict → List ℕ → Type 0
-TellsFile true name verdict text = text ≡ file_json name verdict
-TellsFile false name verdict text = (shown : List ℕ) × (text ≡ file_text shown verdict)
+-- The status of a file is that of the verdict on its bytes, which is written.
+abbrev pub HasVerdict : Bool → List ℕ → List ℕ → Said → Type 0
+HasVerdict json name bytes said =
+    (verdict : Verdict) × IsVerdict (answer_of bytes) verdict × (said ≡ record { status = status_of_verdict verdict; text = verdict_told json name verdict; told = [] })
 
--- That was written.
-abbrev pub WritesVerdict : Bool → List ℕ → Verdict → Option (List ℕ) → Option (List ℕ) → Type 0
-WritesVerdict json name verdict old new = (text : List ℕ) × TellsFile json name verdict text × Appends old new text
+-- That of a file without an answer is 3: nothing is written, and it is told why.
+abbrev pub IsToldWhy : List ℕ → List ℕ → Said → Type 0
+IsToldWhy name why said = said ≡ record { status = 3; text = []; told = line_told name why }
 
--- The status of a file is that of the verdict on its bytes, which is written. Of bytes that aren't known it may be any.
-abbrev pub HasVerdict : Option (List ℕ) → Bool → List ℕ → Said → Type 0
-HasVerdict bytes json name said = (verdict : Verdict) × AnswersVerdict bytes (Ok verdict) × TellsFile json name verdict said.text × (said.status ≡ status_of_verdict verdict)
+abbrev pub memory_words : List ℕ
+memory_words = codes "out of memory (20)"
 
--- That of a file that can't be opened or read is 3, and nothing is written.
-abbrev pub IsUnread : Said → Type 0
-IsUnread said = (said.status ≡ 3) × (said.text ≡ [])
+-- A file that was read has its verdict, or memory ran out. One that can't be read has none.
+abbrev pub SaysGiven : Bool → List ℕ → Result (List ℕ) Unread → Said → Type 0
+SaysGiven json name (Ok bytes) said = HasVerdict json name bytes said ⊎ IsToldWhy name memory_words said
+SaysGiven json name (Err unread) said = (why : List ℕ) × IsToldWhy name why said
 
-abbrev pub SaysOpened : {X : Type 0} → (X → Option (List ℕ)) → Bool → List ℕ → Result X DeviceFailed → Said → Type 0
-SaysOpened remaining json name (Ok text) said = IsUnread said ⊎ HasVerdict (remaining text) json name said
-SaysOpened remaining json name (Err e) said = IsUnread said
+-- What is said of the file of this name, by what reading it may give.
+abbrev pub SaysFile : (List ℕ → Result (List ℕ) Unread → Type 0) → Bool → List ℕ → Said → Type 0
+SaysFile gives json name said = (given : Result (List ℕ) Unread) × gives name given × SaysGiven json name given said
 
--- What is said of the file of this name, as it may be opened.
-abbrev pub SaysFile : {X : Type 0} → (X → Option (List ℕ)) → (List ℕ → Result X DeviceFailed → Type 0) → Bool → List ℕ → Said → Type 0
-SaysFile {X} remaining opens json name said = (opened : Result X DeviceFailed) × opens name opened × SaysOpened remaining json name opened said
+-- What standard error holds, where it is known, and how many writes to it failed.
+pub record Errors : Type 0 where
+  pub contents : Option (List ℕ)
+  pub failures : ℕ
 
--- This was written, with this status.
-abbrev pub AnswersAs : (Said → Type 0) → Option (List ℕ) → Option (List ℕ) → ℕ → Type 0
-AnswersAs says old new status = (said : Said) × says said × (said.status ≡ status) × Appends old new said.text
+-- This was told, where no write to standard error failed; after one that failed nothing more is told.
+abbrev pub IsTold : Errors → Errors → List ℕ → Type 0
+IsTold old new told = (old.failures ≤ new.failures) × (new.failures ≤ 1) × (new.failures ≡ 0 → Appends old.contents new.contents told)
 
--- Of one file alone: the status is 3 where it can't be opened.
-abbrev pub AnswersOpened : {X : Type 0} → (Result X DeviceFailed → Type 0) → ℕ → Type 0
-AnswersOpened {X} opens status = (opened : Result X DeviceFailed) × opens opened × (IsErr opened → status ≡ 3)
+-- This was written and told, with this status.
+abbrev pub AnswersAs : (Said → Type 0) → Option (List ℕ) → Option (List ℕ) → Errors → Errors → ℕ → Type 0
+AnswersAs says old new before after status =
+    (said : Said) × says said × (said.status ≡ status) × Appends old new said.text × IsTold before after said.told
 
 -- Of each file something is said, in their order.
 abbrev pub SaysEach : {N : Type 0} → (N → Said → Type 0) → List N → List Said → Type 0
@@ -56,7 +79,17 @@ abbrev pub greatest : List ℕ → ℕ
 greatest [] = 0
 greatest (n ∷ ns) = max n (greatest ns)
 
--- The status of several files is the greatest of theirs, and what is said of each is written, in their order.
-abbrev pub AnswersFiles : {N : Type 0} → (N → Said → Type 0) → List N → Option (List ℕ) → Option (List ℕ) → ℕ → Type 0
-AnswersFiles says names old new status =
-    (each : List Said) × SaysEach says names each × (status ≡ greatest (map (λ said. said.status) each)) × Appends old new (flat_map (λ said. said.text) each)
+-- The status of several files is the greatest of theirs, and what is said of each is written and told, in their order.
+abbrev pub AnswersFiles : {N : Type 0} → (N → Said → Type 0) → List N → Option (List ℕ) → Option (List ℕ) → Errors → Errors → ℕ → Type 0
+AnswersFiles says names old new before after status =
+    (each : List Said) × SaysEach says names each × (status ≡ greatest (map (λ said. said.status) each))
+    × Appends old new (flat_map (λ said. said.text) each) × IsTold before after (flat_map (λ said. said.told) each)
+
+-- Of one file alone: what the command answers of its bytes; or the status 3, nothing written, and why.
+abbrev pub AnswersGiven : (ℕ → ℤ → Type 0) → Command → List ℕ → Result (List ℕ) Unread → Option (List ℕ) → Option (List ℕ) → Errors → Errors → ℕ → Type 0
+AnswersGiven results command name (Ok bytes) old new before after status = AnswersCommand results command (Some bytes) old new status × IsTold before after []
+AnswersGiven results command name (Err unread) old new before after status = (why : List ℕ) × AnswersAs (IsToldWhy name why) old new before after status
+
+abbrev pub AnswersFile : (ℕ → ℤ → Type 0) → (List ℕ → Result (List ℕ) Unread → Type 0) → Command → List ℕ → Option (List ℕ) → Option (List ℕ) → Errors → Errors → ℕ → Type 0
+AnswersFile results gives command name old new before after status =
+    (given : Result (List ℕ) Unread) × gives name given × AnswersGiven results command name given old new before after status

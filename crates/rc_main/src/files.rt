@@ -1,51 +1,71 @@
 //! Texts that stand in files.
 
-ghost use Rattle.std.specs.Prelude.{◌≡◌, ◌+◌, ◌<◌, ◌≤◌, ◌^◌, ◌⊎◌, ℕ, Err, IfOk, IsErr, List, OnOk, Result};
+ghost use Rattle.std.specs.Prelude.{◌≡◌, ◌+◌, ◌<◌, ◌≤◌, ◌^◌, ℕ, IfOk, IfSome, IsErr, List, Result};
+ghost use Rattle.rc_main.specs.declared.files.Unread.{Unread};
 ghost use Rattle.rc_main.specs.Answers.{WritesOnce};
-ghost use Rattle.rc_main.specs.Files.{AnswersAs, AnswersFiles, HasVerdict, IsUnread, SaysFile, WritesVerdict};
-ghost use Rattle.rc_report.specs.declared.engine_fault.EngineFault.TheVariants.{Read as FailedRead};
-ghost use Rattle.rc_report.specs.declared.streams.DeviceFailed.{DeviceFailed};
-ghost use Rattle.rc_report.specs.Streams.{CountsReads, FailsToWriteOrGrow};
+ghost use Rattle.rc_main.specs.Files.{AnswersAs, AnswersFiles, IsTold, SaysFile, bytes_of, line_told, verdict_told};
+ghost use Rattle.rc_report.specs.Streams.{FailsToWrite, FailsToWriteOrGrow, WritesNothingOnGrow, Wrote};
 
 use crate::fault::CommandFault;
-use crate::words::escaped_word;
+use rc_report::check_engine::verdict_on;
 use rc_report::engine_fault::EngineFault;
-use rc_report::file_verdict::{read_verdict, verdict_line, verdict_object};
+use rc_report::file_verdict::{verdict_line, verdict_object};
+use rc_report::reading::read_text;
+use rc_report::shown::write_shown;
 use rc_report::status::DEVICE_STATUS;
-use rc_report::streams::{DeviceFailed, ReadSource, Sink, Source, WriteSink};
+use rc_report::streams::{ReadSource, Sink, WriteSink};
 use rc_report::verdict::Verdict;
 use rc_report::writing::write_piece;
-use std::alloc::Global;
+use std::alloc::{AllocError, Global};
 use std::fs;
-use std::io::{Read, Write};
+use std::io::{self, Read};
 use std::rt::Files;
+use thiserror::Error;
 
-/// What opens the files that are named.
-pub trait Texts {
-    /// An opened file.
-    type Text: Read + Drop;
-
-    // What opening the file of a name may answer.
-    ghost opens: { Self → List ℕ → Result Self.Text DeviceFailed → Type 0 };
-
-    /// Opens the file of this name for reading. Nothing is tried again (`open(2)`).
-    fn open(&self, name: &str) -> Result<Self::Text, DeviceFailed>
-        ensures { opens self.now name.now result };
+/// Why a file gives no text.
+#[derive(Debug, Drop, Error)]
+pub enum Unread {
+    /// It can't be opened, or a read of it failed.
+    #[error("{0}")]
+    Failed(io::Error),
+    /// 2,097,152 reads met no end of it.
+    #[error("the file has no end")]
+    NoEnd,
+    /// Its name has bytes that aren't text, so it can't be opened.
+    #[error("the name isn't UTF-8 text")]
+    NoText,
+    /// A growth was refused (code 20).
+    #[error("out of memory (20)")]
+    OutOfMemory,
 }
 
-/// The files of the system.
+/// What reads the files that are named.
+pub trait Texts {
+    // What reading the file of a name may give: its bytes, or why it gives none.
+    ghost gives: { Self → List ℕ → Result (List ℕ) Unread → Type 0 };
+
+    /// The bytes of the file of this name, up to its end. Nothing is tried again (`open(2)`, `read(2)`).
+    fn read(&self, alloc: Global, name: &str) -> Result<Vec<u8>, Unread>
+        ensures { gives self.now name.now (bytes_of result) };
+}
+
+/// The files of the system. A name with NUL stands for one that isn't text.
 #[derive(Clone, Copy)]
 pub struct SystemTexts<'a, R> {
     pub files: &'a R,
 }
 
 impl<'a, R: Files> Texts for SystemTexts<'a, R> {
-    type Text = R::File;
+    ghost gives = { λ texts name given. Unit {0} };
 
-    ghost opens = { λ texts name r. Unit {0} };
-
-    fn open(&self, name: &str) -> Result<R::File, DeviceFailed> {
-        fs::open(self.files, name).map_err(|_| DeviceFailed)
+    fn read(&self, alloc: Global, name: &str) -> Result<Vec<u8>, Unread> {
+        if name.contains('\0') {
+            return Err(Unread::NoText);
+        }
+        match fs::open(self.files, name) {
+            Ok(file) => read_opened(alloc, file),
+            Err(error) => Err(Unread::Failed(error)),
+        }
     }
 }
 
@@ -54,18 +74,56 @@ impl<'a, R: Files> Texts for SystemTexts<'a, R> {
 pub struct NoTexts;
 
 impl Texts for NoTexts {
-    type Text = &'static [u8];
+    ghost gives = { λ texts name given. IsErr given };
 
-    ghost opens = { λ texts name r. IsErr r };
-
-    fn open(&self, _name: &str) -> Result<&'static [u8], DeviceFailed> {
-        Err(DeviceFailed)
+    fn read(&self, _alloc: Global, _name: &str) -> Result<Vec<u8>, Unread> {
+        Err(Unread::Failed(io::Error::from(io::ErrorKind::NotFound)))
     }
 }
 
-/// Checks files one after another, and answers the greatest status. A file that can't be opened or read is told on a line
-/// of `errors`, and those behind it are still checked.
-pub fn check_files<T: Texts, S: Sink, E: Write + Drop>(
+/// A reader that keeps why a read failed.
+#[derive(Drop)]
+struct Kept<R> {
+    reader: R,
+    failure: Option<io::Error>,
+}
+
+impl<R: Read> Read for Kept<R> {
+    ghost remaining = { λ kept. R.remaining kept.reader };
+
+    fn read(&mut self, buffer: &mut [u8]) -> io::Result<usize> {
+        match self.reader.read(buffer) {
+            Ok(count) => Ok(count),
+            Err(error) => {
+                self.failure = Some(error);
+                Err(error)
+            }
+        }
+    }
+}
+
+/// The bytes of an opened file, up to its end.
+pub fn read_opened<R: Read + Drop>(alloc: Global, reader: R) -> Result<Vec<u8>, Unread>
+    ensures { IfOk result (λ text. IfSome (R.remaining reader) (λ bytes. text.items ≡ bytes)) }
+{
+    let kept = Kept {
+        reader,
+        failure: None,
+    };
+    let mut source = ReadSource::new(kept);
+    match read_text(alloc, &mut source) {
+        Ok(text) => Ok(text),
+        Err(EngineFault::OutOfMemory) => Err(Unread::OutOfMemory),
+        Err(_) => match source.reader.failure {
+            Some(error) => Err(Unread::Failed(error)),
+            None => Err(Unread::NoEnd),
+        },
+    }
+}
+
+/// Checks files one after another, and answers the greatest status. A file that can't be read, or for which memory ran
+/// out, is told on a line of `errors`, and those after it are still checked.
+pub fn check_files<T: Texts, S: Sink, E: Sink>(
     alloc: Global,
     texts: &T,
     files: &[&str],
@@ -73,8 +131,12 @@ pub fn check_files<T: Texts, S: Sink, E: Write + Drop>(
     sink: &mut S,
     errors: &mut E,
 ) -> Result<u8, CommandFault>
-    requires { S.failure_count sink.old + 1 < 2 ^ 64 }
-    ensures answer { IfOk result (AnswersFiles (λ name. SaysFile T.Text.remaining (T.opens texts.now) json name.now) files.now (S.contents sink.old) (S.contents sink.new)) }
+    requires write_failures { S.failure_count sink.old + 1 < 2 ^ 64 }
+    requires error_failures { E.failure_count errors.old ≤ 1 }
+    ensures answer { IfOk result (AnswersFiles (λ name. SaysFile (T.gives texts.now) json name.now) files.now
+        (S.contents sink.old) (S.contents sink.new)
+        (record { contents = E.contents errors.old; failures = E.failure_count errors.old })
+        (record { contents = E.contents errors.new; failures = E.failure_count errors.new })) }
     ensures bound { IfOk result (λ status. status ≤ 3) }
     ensures writes { WritesOnce (S.failure_count sink.old) (S.failure_count sink.new) result }
 {
@@ -86,7 +148,7 @@ pub fn check_files<T: Texts, S: Sink, E: Write + Drop>(
 }
 
 /// Checks a file.
-fn check_file<T: Texts, S: Sink, E: Write + Drop>(
+fn check_file<T: Texts, S: Sink, E: Sink>(
     alloc: Global,
     texts: &T,
     name: &str,
@@ -94,53 +156,33 @@ fn check_file<T: Texts, S: Sink, E: Write + Drop>(
     sink: &mut S,
     errors: &mut E,
 ) -> Result<u8, CommandFault>
-    requires { S.failure_count sink.old + 1 < 2 ^ 64 }
-    ensures answer { IfOk result (AnswersAs (SaysFile T.Text.remaining (T.opens texts.now) json name.now) (S.contents sink.old) (S.contents sink.new)) }
-    ensures bound { IfOk result (λ status. status ≤ 3) }
-    ensures writes { WritesOnce (S.failure_count sink.old) (S.failure_count sink.new) result }
-{
-    match texts.open(name) {
-        Ok(text) => {
-            let mut source = ReadSource::new(text);
-            check_source(alloc, name, &mut source, json, sink, errors)
-        }
-        Err(DeviceFailed) => Ok(tell_file(alloc, name, "the file can't be opened", errors)),
-    }
-}
-
-/// Checks the text of a file from a source. One that can't be read has the status 3, and only such a one.
-fn check_source<I: Source, S: Sink, E: Write + Drop>(
-    alloc: Global,
-    name: &str,
-    source: &mut I,
-    json: bool,
-    sink: &mut S,
-    errors: &mut E,
-) -> Result<u8, CommandFault>
-    requires reads { I.read_count source.old + 2097152 < 2 ^ 64 }
-    requires read_failures { I.failure_count source.old + 1 < 2 ^ 64 }
     requires write_failures { S.failure_count sink.old + 1 < 2 ^ 64 }
-    ensures answer { IfOk result (AnswersAs (λ said.
-        (IsUnread said × CountsReads {X = ℕ}
-        (record { remaining = I.remaining source.old; reads = I.read_count source.old; ends = I.end_count source.old; failures = I.failure_count source.old })
-        (record { remaining = I.remaining source.new; reads = I.read_count source.new; ends = I.end_count source.new; failures = I.failure_count source.new })
-        (Err FailedRead))
-        ⊎ HasVerdict (I.remaining source.old) json name.now said)
-        (S.contents sink.old) (S.contents sink.new)) }
+    requires error_failures { E.failure_count errors.old ≤ 1 }
+    ensures answer { IfOk result (AnswersAs (SaysFile (T.gives texts.now) json name.now)
+        (S.contents sink.old) (S.contents sink.new)
+        (record { contents = E.contents errors.old; failures = E.failure_count errors.old })
+        (record { contents = E.contents errors.new; failures = E.failure_count errors.new })) }
     ensures bound { IfOk result (λ status. status ≤ 3) }
     ensures writes { WritesOnce (S.failure_count sink.old) (S.failure_count sink.new) result }
 {
-    match read_verdict(alloc, source) {
-        Ok(verdict) => {
-            write_verdict(alloc, name, &verdict, json, sink)?;
-            Ok(verdict.status())
-        }
-        Err(EngineFault::Read) => Ok(tell_file(alloc, name, "the file can't be read", errors)),
+    let text = match texts.read(alloc, name) {
+        Ok(text) => text,
+        Err(unread) => return Ok(tell_unread(alloc, name, &unread, errors)),
+    };
+    let Ok(verdict) = verdict_on(alloc, &text) else {
+        return Ok(tell_file(alloc, name, MEMORY, errors));
+    };
+    match write_verdict(alloc, name, &verdict, json, sink) {
+        Ok(()) => Ok(verdict.status()),
+        Err(EngineFault::OutOfMemory) => Ok(tell_file(alloc, name, MEMORY, errors)),
         Err(fault) => Err(CommandFault::Engine(fault)),
     }
 }
 
-/// Writes the verdict on a file's text, as JSON or as text. In the text the control characters of its name are escaped.
+/// What is told where memory ran out.
+const MEMORY: &str = "out of memory (20)";
+
+/// Writes the verdict on a file's text, as JSON or as text.
 fn write_verdict<S: Sink>(
     alloc: Global,
     name: &str,
@@ -149,32 +191,89 @@ fn write_verdict<S: Sink>(
     sink: &mut S,
 ) -> Result<(), EngineFault>
     requires { S.failure_count sink.old + 1 < 2 ^ 64 }
-    ensures text { OnOk result (WritesVerdict json name.now verdict.now (S.contents sink.old) (S.contents sink.new)) }
+    ensures text { Wrote (S.contents sink.old) (S.contents sink.new) (verdict_told json name.now verdict.now) result }
+    ensures memory { WritesNothingOnGrow (S.contents sink.old) (S.contents sink.new) result }
     ensures failures { FailsToWriteOrGrow (S.failure_count sink.old) (S.failure_count sink.new) result }
 {
     if json {
         verdict_object(alloc, name, verdict, sink)
     } else {
-        let shown = escaped_word(alloc, name)?;
-        verdict_line(shown.as_str(), verdict, sink)
+        verdict_line(name, verdict, sink)
     }
 }
 
-/// Tells on one line what is wrong with a file, and answers the exit status then, which is 3. Where there is no memory
-/// for the line it says that.
-pub fn tell_file<E: Write + Drop>(alloc: Global, name: &str, told: &str, errors: &mut E) -> u8
-    ensures { result ≡ 3 }
+/// Tells on one line why a file can't be read, and answers the exit status then, which is 3.
+pub fn tell_unread<E: Sink>(alloc: Global, name: &str, unread: &Unread, errors: &mut E) -> u8
+    requires { E.failure_count errors.old ≤ 1 }
+    ensures status { result ≡ 3 }
+    ensures told { (why : List ℕ) × IsTold
+        (record { contents = E.contents errors.old; failures = E.failure_count errors.old })
+        (record { contents = E.contents errors.new; failures = E.failure_count errors.new })
+        (line_told name.now why) }
 {
-    let mut sink = WriteSink::new(errors);
-    let _ = match line_of(alloc, name, told) {
-        Ok(line) => write_piece(&mut sink, line.as_bytes()),
-        Err(_) => write_piece(&mut sink, b"ringcheck: out of memory (20)\n"),
-    };
+    match words_of(alloc, unread) {
+        Ok(why) => tell_file(alloc, name, why.as_str(), errors),
+        Err(AllocError) => tell_file(alloc, name, MEMORY, errors),
+    }
+}
+
+/// Why a file can't be read, in the words of the system and without its number of the error.
+fn words_of(alloc: Global, unread: &Unread) -> Result<String, AllocError> {
+    let told = format!(in alloc; "{unread}")?;
+    without_number(alloc, told.as_str())
+}
+
+/// What the system says of an error, without its number.
+fn without_number(alloc: Global, told: &str) -> Result<String, AllocError> {
+    match told.split_once(" (os error ") {
+        Some((words, _)) => String::from_str(alloc, words),
+        None => String::from_str(alloc, told),
+    }
+}
+
+/// Tells on one line why a file has no answer, and answers the exit status then, which is 3. After a write to `errors`
+/// that failed nothing more is told.
+fn tell_file<E: Sink>(alloc: Global, name: &str, why: &str, errors: &mut E) -> u8
+    requires { E.failure_count errors.old ≤ 1 }
+    ensures status { result ≡ 3 }
+    ensures told { IsTold
+        (record { contents = E.contents errors.old; failures = E.failure_count errors.old })
+        (record { contents = E.contents errors.new; failures = E.failure_count errors.new })
+        (line_told name.now why.now) }
+{
+    if errors.failures() == 0 {
+        let _ = write_at_once(alloc, name, why, errors);
+    }
     DEVICE_STATUS
 }
 
-/// The line that tells what is wrong with a file.
-fn line_of(alloc: Global, name: &str, told: &str) -> Result<String, EngineFault> {
-    let shown = escaped_word(alloc, name)?;
-    Ok(format!(in alloc; "ringcheck: {shown}: {told}\n")?)
+/// Writes the line that says why a file has no answer: in one piece where there is memory for it.
+fn write_at_once<E: Sink>(
+    alloc: Global,
+    name: &str,
+    why: &str,
+    errors: &mut E,
+) -> Result<(), EngineFault>
+    requires { E.failure_count errors.old + 1 < 2 ^ 64 }
+    ensures text { Wrote (E.contents errors.old) (E.contents errors.new) (line_told name.now why.now) result }
+    ensures failures { FailsToWrite (E.failure_count errors.old) (E.failure_count errors.new) result }
+{
+    let mut line = WriteSink::new(Vec::new(alloc));
+    match write_told(name, why, &mut line) {
+        Ok(()) => write_piece(errors, &line.writer),
+        Err(_) => write_told(name, why, errors),
+    }
+}
+
+/// Writes the line that says why a file has no answer. It takes no memory.
+fn write_told<E: Sink>(name: &str, why: &str, errors: &mut E) -> Result<(), EngineFault>
+    requires { E.failure_count errors.old + 1 < 2 ^ 64 }
+    ensures text { Wrote (E.contents errors.old) (E.contents errors.new) (line_told name.now why.now) result }
+    ensures failures { FailsToWrite (E.failure_count errors.old) (E.failure_count errors.new) result }
+{
+    write_piece(errors, b"ringcheck: ")?;
+    write_shown(name, errors)?;
+    write_piece(errors, b": ")?;
+    write_piece(errors, why.as_bytes())?;
+    write_piece(errors, b"\n")
 }

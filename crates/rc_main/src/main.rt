@@ -5,6 +5,7 @@ pub mod command;
 pub mod emitting;
 pub mod fault;
 pub mod files;
+mod output;
 pub mod running;
 #[cfg(test)]
 mod tests;

@@ -1,12 +1,12 @@
 //! A text is run on threads, and the trace of the run is written.
 
-ghost use Rattle.std.specs.Prelude.{◌≡◌, ◌+◌, ◌<◌, ◌≤◌, ◌^◌, IfErr, IfOk, OnOk};
+ghost use Rattle.std.specs.Prelude.{◌≡◌, ◌+◌, ◌<◌, ◌≤◌, ◌^◌, IfErr, IfOk, OnOk, Some};
 ghost use Rattle.std.specs.Arc.{arc_value};
 ghost use Rattle.std.specs.Io.KnownBytes.{Appends};
-ghost use Rattle.rc_main.specs.Answers.{AnswersRun, EndsRun, ReadsNothing, ReadsOnce, RunsProgram, WritesOnce, summary_or_trace};
+ghost use Rattle.rc_main.specs.Answers.{AnswersRun, EndsRun, ReadsNothing, RunsProgram, WritesOnce, summary_or_trace};
 ghost use Rattle.rc_main.specs.declared.fault.CommandFault.TheVariants.{OtherProgram};
 ghost use Rattle.rc_report.specs.Statuses.{status_of_verdict};
-ghost use Rattle.rc_report.specs.Streams.{FailsToWrite, Wrote};
+ghost use Rattle.rc_report.specs.Streams.{FailsToWriteOrGrow, Wrote};
 ghost use Rattle.rc_report.specs.Traces.{NamesItsThreads};
 ghost use Rattle.rc_report.specs.Verdicts.{verdict_text};
 
@@ -18,8 +18,7 @@ use rc_device::disk::Disk;
 use rc_lang::program::Program;
 use rc_report::check_engine::judged;
 use rc_report::engine_fault::EngineFault;
-use rc_report::reading::read_text;
-use rc_report::streams::{Sink, Source};
+use rc_report::streams::Sink;
 use rc_report::summary::summary_text;
 use rc_report::trace::{End, trace_text};
 use rc_report::verdict::{Verdict, verdict_text};
@@ -31,30 +30,24 @@ use std::alloc::{AllocError, Global};
 use std::sync::{Arc, Wait};
 use std::thread::Threads;
 
-/// Runs the program of a source, over files in memory, with the choices of a seed. A text that can't be read or is
-/// refused is answered with its verdict.
-pub fn run_text<R: Threads + Wait + Sync, I: Source, S: Sink>(
+/// Runs the program of a text, over files in memory, with the choices of a seed. A text that can't be read or is refused
+/// is answered with its verdict.
+pub fn run_text<R: Threads + Wait + Sync, S: Sink>(
     rt: &R,
     alloc: Global,
-    source: &mut I,
+    text: &[u8],
     seed: u32,
     limit: u32,
     summary: bool,
     sink: &mut S,
 ) -> Result<u8, CommandFault>
-    requires reads { I.read_count source.old + 2097152 < 2 ^ 64 }
-    requires read_failures { I.failure_count source.old + 1 < 2 ^ 64 }
-    requires write_failures { S.failure_count sink.old + 1 < 2 ^ 64 }
-    ensures answer { IfOk result (AnswersRun ⟦<Disk as Device>⟧.gives (I.remaining source.old) limit summary (S.contents sink.old) (S.contents sink.new)) }
+    requires { S.failure_count sink.old + 1 < 2 ^ 64 }
+    ensures answer { IfOk result (AnswersRun ⟦<Disk as Device>⟧.gives (Some text.now) limit summary (S.contents sink.old) (S.contents sink.new)) }
     ensures bound { IfOk result (λ status. status ≤ 3) }
-    ensures reads { ReadsOnce
-        (record { remaining = I.remaining source.old; reads = I.read_count source.old; ends = I.end_count source.old; failures = I.failure_count source.old })
-        (record { remaining = I.remaining source.new; reads = I.read_count source.new; ends = I.end_count source.new; failures = I.failure_count source.new })
-        result }
+    ensures no_read { IfErr result ReadsNothing }
     ensures writes { WritesOnce (S.failure_count sink.old) (S.failure_count sink.new) result }
 {
-    let text = read_text(alloc, source)?;
-    match judged(alloc, &text)? {
+    match judged(alloc, text)? {
         Ok(admitted) => run_admitted(rt, alloc, admitted, seed, limit, summary, sink),
         Err(verdict) => tell_verdict(verdict, sink),
     }
@@ -93,12 +86,20 @@ fn run_admitted<R: Threads + Wait + Sync, S: Sink>(
     let admitted = Arc::new(alloc, admitted).map_err(|_| AllocError)?;
     let theirs = Arc::try_clone(&admitted)?;
     let (report, end) = played(rt, alloc, theirs, disk, seed, limit)?;
-    write_run(admitted.program(), &report.history, end, summary, sink)?;
+    write_run(
+        alloc,
+        admitted.program(),
+        &report.history,
+        end,
+        summary,
+        sink,
+    )?;
     Ok(end.status())
 }
 
 /// Writes what happened, as a summary or as a trace.
 fn write_run<S: Sink>(
+    alloc: Global,
     program: &Program,
     events: &[Event],
     end: End,
@@ -108,10 +109,10 @@ fn write_run<S: Sink>(
     requires threads { NamesItsThreads program.now events.now end }
     requires failures { S.failure_count sink.old + 1 < 2 ^ 64 }
     ensures text { Wrote (S.contents sink.old) (S.contents sink.new) (summary_or_trace summary program.now events.now end) result }
-    ensures failures { FailsToWrite (S.failure_count sink.old) (S.failure_count sink.new) result }
+    ensures failures { FailsToWriteOrGrow (S.failure_count sink.old) (S.failure_count sink.new) result }
 {
     if summary {
-        summary_text(program, events, end, sink)
+        summary_text(alloc, program, events, end, sink)
     } else {
         trace_text(program, events, end, sink)
     }

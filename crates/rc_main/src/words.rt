@@ -5,9 +5,10 @@ ghost use Rattle.rc_main.specs.Words.{HasRanges};
 
 use clap::error::ErrorKind;
 use clap::{Arg, ArgAction, ArgMatches, value_parser};
+use rc_report::shown::{hex_digit, write_shown};
+use rc_report::streams::WriteSink;
 use std::alloc::{AllocError, AllocFailed, Global};
-use std::env::Env;
-use std::{env, io};
+use std::env::{Env, FillError};
 use thiserror::Error;
 
 const VERSION: &str = "0.1.0";
@@ -19,6 +20,9 @@ const CHECK_HELP: &str =
 Example: ringcheck check examples/*.rc
 
 docs/causes.md explains the codes of refused and unreadable lines (V1 to V19, P1 to P11).";
+
+/// How many bytes an argument has room for at first.
+const SHORT_WORD: usize = 256;
 
 /// The most events that threads may be allowed.
 const MOST_EVENTS: u32 = 1_000_000;
@@ -68,9 +72,6 @@ pub enum WordsFault {
     /// Wrong words; what is wrong with them, in one line.
     #[error("{0}")]
     Wrong(String),
-    /// An argument isn't UTF-8.
-    #[error("an argument isn't UTF-8 text")]
-    NotUtf8,
     /// A growth was refused (code 20).
     #[error("out of memory (20)")]
     OutOfMemory,
@@ -200,21 +201,49 @@ fn described<'a>(alloc: Global) -> Result<clap::Command<'a>, AllocError> {
         .subcommand(described_c(alloc)?)
 }
 
-/// The words of the command line, without the program's name.
-pub fn given_words(rt: &(impl Env + AllocGlobal)) -> Result<Vec<String>, WordsFault> {
-    let mut words = Vec::new(rt.alloc());
-    match env::args(rt) {
-        Ok(args) => {
-            for word in args.skip(1) {
-                words.push(word)?;
-            }
-            Ok(words)
-        }
-        Err(error) => match error.kind() {
-            io::ErrorKind::InvalidData => Err(WordsFault::NotUtf8),
-            _ => Err(WordsFault::OutOfMemory),
-        },
+/// The words of the command line, without the program's name. A byte that isn't UTF-8 text stands in a word as NUL, which
+/// no argument has, and two hex digits: so no file has such a name, and it is shown as `\xff`.
+pub fn given_words(rt: &(impl Env + AllocGlobal)) -> Result<Vec<String>, AllocError> {
+    let alloc = rt.alloc();
+    let mut words = Vec::new(alloc);
+    for index in 1..usize::MAX {
+        let Some(bytes) = given_bytes(rt, alloc, index)? else {
+            break;
+        };
+        words.push(text_of(alloc, &bytes)?)?;
     }
+    Ok(words)
+}
+
+/// The bytes of an argument, if there is one with this number.
+fn given_bytes(rt: &impl Env, alloc: Global, index: usize) -> Result<Option<Vec<u8>>, AllocError> {
+    let mut room = SHORT_WORD;
+    for _ in 0..usize::BITS {
+        let mut bytes = vec![in alloc; 0u8; room]?;
+        match rt.arg(index, bytes.as_mut_slice()) {
+            Ok(count) => {
+                bytes.truncate(count);
+                return Ok(Some(bytes));
+            }
+            Err(FillError::NotPresent) => return Ok(None),
+            Err(FillError::TooLong) => room = room.saturating_mul(2),
+        }
+    }
+    Err(AllocError)
+}
+
+/// A text of these bytes, with those that aren't UTF-8 as NUL and two hex digits.
+fn text_of(alloc: Global, bytes: &[u8]) -> Result<String, AllocError> {
+    let mut text = String::new(alloc);
+    for chunk in bytes.utf8_chunks() {
+        text.push_str(chunk.valid())?;
+        for byte in chunk.invalid() {
+            text.push('\0')?;
+            text.push(hex_digit(u32::from(*byte) / 16) as char)?;
+            text.push(hex_digit(u32::from(*byte) % 16) as char)?;
+        }
+    }
+    Ok(text)
 }
 
 /// Reads the words behind the program's name.
@@ -330,8 +359,8 @@ fn run_of<'a>(alloc: Global, run: &ArgMatches<'a>) -> Result<Command<'a>, WordsF
     })
 }
 
-/// What is wrong with words, in one line. They are read again with their control characters escaped, so that none of
-/// these reaches a terminal.
+/// What is wrong with words, in one line. They are read again as they are shown, so that no control character
+/// reaches a terminal.
 fn wrong_words(alloc: Global, words: &[&str]) -> Result<WordsFault, AllocError> {
     let shown = escaped(alloc, words)?;
     let mut list = Vec::new(alloc);
@@ -350,30 +379,22 @@ fn wrong_words(alloc: Global, words: &[&str]) -> Result<WordsFault, AllocError> 
     }
 }
 
-/// Words with each control character escaped, as `\u{1b}`.
+/// Words as they are shown.
 fn escaped(alloc: Global, words: &[&str]) -> Result<Vec<String>, AllocError> {
     let mut shown = Vec::new(alloc);
     for word in words {
-        shown.push(escaped_word(alloc, word)?)?;
+        shown.push(shown_word(alloc, word)?)?;
     }
     Ok(shown)
 }
 
-/// Adds a character, or how a control character is escaped.
-fn push_escaped(alloc: Global, text: &mut String, character: char) -> Result<(), AllocError> {
-    if character.is_control() {
-        return text.push_str(format!(in alloc; "{}", character.escape_default())?.as_str());
+/// A word as it is shown.
+fn shown_word(alloc: Global, word: &str) -> Result<String, AllocError> {
+    let mut sink = WriteSink::new(Vec::new(alloc));
+    match write_shown(word, &mut sink) {
+        Ok(()) => String::from_utf8_lossy(alloc, &sink.writer),
+        Err(_) => Err(AllocError),
     }
-    text.push(character)
-}
-
-/// A word with each control character escaped.
-pub fn escaped_word(alloc: Global, word: &str) -> Result<String, AllocError> {
-    let mut text = String::new(alloc);
-    for character in word.chars() {
-        push_escaped(alloc, &mut text, character)?;
-    }
-    Ok(text)
 }
 
 /// The lines of a message up to the first blank one as one line, without the word that says that it is an error.

@@ -7,6 +7,8 @@ pub mod Pieces
 pub mod FileObjects
 pub mod Placed
 pub mod Stretches
+pub mod Tallies
 pub mod TextWords
 pub mod Traces
 pub mod OneVerdict
+pub mod Yielded

@@ -5,6 +5,7 @@ pub mod Files
 pub mod Made
 pub mod Objects
 pub mod Printed
+pub mod Shown
 pub mod Source
 pub mod Statuses
 pub mod Streams

@@ -1,5 +1,5 @@
 -- What reads and writes leave, and what a text that was written in pieces means.
-use Rattle.std.specs.Prelude.{ℕ, ◌≡◌, ◌+◌, ◌<◌, ◌≤◌, ◌==◌, if◌then◌else◌, List, ◌++◌, length, ◌⊎◌, Option, Result, Ok, Err}
+use Rattle.std.specs.Prelude.{ℕ, ◌≡◌, ◌+◌, ◌<◌, ◌≤◌, ◌==◌, if◌then◌else◌, List, [], ◌++◌, length, ◌⊎◌, Option, Result, Ok, Err}
 use Rattle.std.specs.Io.KnownBytes.{Appends, Consumes, IsAtEnd}
 use Rattle.std.specs.Global.{Vec}
 use Rattle.rc_report.specs.declared.engine_fault.EngineFault.{EngineFault}
@@ -43,6 +43,13 @@ FailsToWriteOrGrow old new (Ok x) = new ≡ old
 FailsToWriteOrGrow old new (Err Read) = ⊥
 FailsToWriteOrGrow old new (Err Write) = new ≡ old + 1
 FailsToWriteOrGrow old new (Err OutOfMemory) = new ≡ old
+
+-- Where memory ran out nothing was written.
+abbrev pub WritesNothingOnGrow : {X : Type 0} → Option (List ℕ) → Option (List ℕ) → Result X EngineFault → Type 0
+WritesNothingOnGrow old new (Ok x) = Unit {0}
+WritesNothingOnGrow old new (Err Read) = Unit {0}
+WritesNothingOnGrow old new (Err Write) = Unit {0}
+WritesNothingOnGrow old new (Err OutOfMemory) = Appends old new []
 
 -- The text is what the source gave, up to its end.
 abbrev pub ReadsText : Option (List ℕ) → Option (List ℕ) → Result (Vec ℕ) EngineFault → Type 0

@@ -1,7 +1,7 @@
 -- A summary of a run, in place of its trace: how many events each thread made, how the requests of each token completed,
 -- the longest stretch of one thread, and how the run ended.
-use Rattle.std.specs.Prelude.{ℕ, ◌+◌, ◌==◌, if◌then◌else◌, ℤ, Bool, false, List, [], ◌∷◌, ◌++◌, length, codes, decimal, take, Option, Some, None, count_by, fold, nat_lt}
-use Rattle.std.specs.List.{list_any}
+use Rattle.std.specs.Prelude.{ℕ, ◌+◌, ◌-◌, ◌==◌, if◌then◌else◌, ℤ, Bool, false, List, [], ◌∷◌, ◌++◌, length, codes, decimal, take, Option, Some, None, count_by, fold, nat_lt}
+use Rattle.std.specs.List.{flat_map}
 use Rattle.std.specs.Fmt.{signed_decimal}
 use Rattle.std.specs.Ordering.{int_eq}
 use Rattle.rc_lang.specs.declared.program.Token.{Token}
@@ -37,25 +37,46 @@ abbrev pub result_in : ℕ → Event → Option ℤ
 result_in u (ByThread i line a) = None
 result_in u (ByKernel c) = if c.user_data == u then Some c.res else None
 
-abbrev pub is_result : ℤ → Option ℤ → Bool
-is_result r None = false
-is_result r (Some s) = int_eq s r
-
 abbrev pub is_completion_of : ℕ → Event → Bool
 is_completion_of u (ByThread i line a) = false
 is_completion_of u (ByKernel c) = c.user_data == u
 
-abbrev pub gives : ℕ → ℤ → Event → Bool
-gives u r e = is_result r (result_in u e)
+-- How often each result came, the results in the order in which they came first: with one completion more.
+abbrev pub one_more : List (ℤ × ℕ) → ℤ → List (ℤ × ℕ)
+one_more [] r = (r, 1) ∷ []
+one_more (c ∷ cs) r = if int_eq r c.0 then (c.0, c.1 + 1) ∷ cs else c ∷ one_more cs r
 
--- Each result is told once, where it first came, with how often it came.
-abbrev pub told_result : ℕ → List Event → ℕ → Option ℤ → List ℕ
-told_result u events i None = []
-told_result u events i (Some r) =
-    if list_any (gives u r) (take i events) then [] else joined (codes "; " ∷ decimal (count_by (gives u r) events) ∷ codes " of " ∷ signed_decimal r ∷ [])
+-- how many completions were counted
+abbrev pub total : List (ℤ × ℕ) → ℕ
+total [] = 0
+total (c ∷ cs) = c.1 + total cs
 
-abbrev pub result_text : ℕ → List Event → ℕ → Event → List ℕ
-result_text u events i e = told_result u events i (result_in u e)
+abbrev pub counted : List (ℤ × ℕ) → Option ℤ → List (ℤ × ℕ)
+counted cs None = cs
+counted cs (Some r) = one_more cs r
+
+abbrev pub tally : ℕ → List Event → List (ℤ × ℕ)
+tally u events = fold (λ cs e. counted cs (result_in u e)) [] events
+
+-- Results by how often they came, the most common first; of two that came as often the one that came first.
+abbrev pub ranked_with : List (ℤ × ℕ) → ℤ × ℕ → List (ℤ × ℕ)
+ranked_with [] c = c ∷ []
+ranked_with (b ∷ bs) c = if nat_lt b.1 c.1 then c ∷ b ∷ bs else b ∷ ranked_with bs c
+
+abbrev pub ranked : List (ℤ × ℕ) → List (ℤ × ℕ)
+ranked cs = fold ranked_with [] cs
+
+-- a result, and how often it came
+abbrev pub result_text : ℤ × ℕ → List ℕ
+result_text c = joined (codes "; " ∷ decimal c.1 ∷ codes " of " ∷ signed_decimal c.0 ∷ [])
+
+-- how many of n results aren't told one by one
+abbrev pub others_text : ℕ → List ℕ
+others_text n = if nat_lt 8 n then joined (codes "; " ∷ decimal (n - 8) ∷ codes " other results" ∷ []) else []
+
+-- The eight most common results are told, and how many others there are.
+abbrev pub results_text : List (ℤ × ℕ) → List ℕ
+results_text cs = flat_map result_text (take 8 (ranked cs)) ++ others_text (length cs)
 
 abbrev pub kind_name : TokenKind → List ℕ
 kind_name (Read buffer) = codes "read"
@@ -68,7 +89,7 @@ token_head events token =
     joined (codes "completions of " ∷ decimal token.user_data ∷ codes ", " ∷ kind_name token.kind ∷ codes ": " ∷ decimal (count_by (is_completion_of token.user_data) events) ∷ [])
 
 abbrev pub token_line : List Event → ℕ → Token → List ℕ
-token_line events i token = token_head events token ++ (placed (result_text token.user_data events) 0 events ++ codes "\n")
+token_line events i token = token_head events token ++ (results_text (tally token.user_data events) ++ codes "\n")
 
 -- ---- the longest stretch: events of one thread with none of another thread between
 

@@ -41,8 +41,9 @@ pub fn check_engine<R: Source, W: Sink>(
     check_bytes(alloc, &text, json, writer)
 }
 
-/// Writes the verdict on a text.
-fn check_bytes<W: Sink>(
+/// Writes the verdict on a text. Answers `Write` where a write failed, and `OutOfMemory` where a growth was refused: then a
+/// beginning of the verdict is written.
+pub fn check_bytes<W: Sink>(
     alloc: Global,
     text: &[u8],
     json: bool,

@@ -1,39 +1,22 @@
 //! Verdicts on the texts of files.
 
-ghost use Rattle.std.specs.Prelude.{◌≡◌, ◌+◌, ◌<◌, ◌^◌, IfOk};
+ghost use Rattle.std.specs.Prelude.{◌≡◌, ◌+◌, ◌<◌, ◌^◌, ◌++◌, IfOk};
 ghost use Rattle.serde_json.specs.View.{view};
-ghost use Rattle.rc_report.specs.Files.{AnswersVerdict, file_json, file_line, file_line_object, file_object, file_text};
-ghost use Rattle.rc_report.specs.Streams.{CountsReads, FailsToWrite, FailsToWriteOrGrow, OnlyFailsToRead, Wrote};
+ghost use Rattle.rc_report.specs.Files.{file_json, file_line, file_line_object, file_object, file_text, line_cause};
+ghost use Rattle.rc_report.specs.Shown.{shown};
+ghost use Rattle.rc_report.specs.Streams.{FailsToWrite, FailsToWriteOrGrow, WritesNothingOnGrow, Wrote};
 
-use crate::check_engine::verdict_on;
 use crate::engine_fault::EngineFault;
-use crate::reading::read_text;
-use crate::streams::{Sink, Source};
+use crate::shown::write_shown;
+use crate::streams::Sink;
 use crate::verdict::{Refusal, Verdict};
-use crate::writing::write_pieces;
+use crate::writing::{write_piece, write_pieces};
 use itoa::Buffer;
 use serde_json::{Value, json};
 use std::alloc::{AllocError, Global};
 
-/// Reads a text, and answers the verdict on it. Answers `Read` where a read failed or 2,097,152 reads met no end of
-/// input, and `OutOfMemory` where a growth was refused.
-pub fn read_verdict<R: Source>(alloc: Global, reader: &mut R) -> Result<Verdict, EngineFault>
-    requires reads { R.read_count reader.old + 2097152 < 2 ^ 64 }
-    requires failures { R.failure_count reader.old + 1 < 2 ^ 64 }
-    ensures verdict { AnswersVerdict (R.remaining reader.old) result }
-    ensures reads { CountsReads
-        (record { remaining = R.remaining reader.old; reads = R.read_count reader.old; ends = R.end_count reader.old; failures = R.failure_count reader.old })
-        (record { remaining = R.remaining reader.new; reads = R.read_count reader.new; ends = R.end_count reader.new; failures = R.failure_count reader.new })
-        result }
-    ensures no_write { OnlyFailsToRead result }
-{
-    let text = read_text(alloc, reader)?;
-    let verdict = verdict_on(alloc, &text)?;
-    Ok(verdict)
-}
-
 /// Writes the verdict on a file's text as compilers do: `FILE: accepted`, `FILE:L: refused Vn NAME` or
-/// `FILE:L: unreadable Pn NAME`, with a line feed. It takes no memory, and answers `Write` where a write failed: then a
+/// `FILE:L: unreadable Pn NAME`, with a line feed, and the file's name as it is shown. It takes no memory, and answers `Write` where a write failed: then a
 /// beginning of the text is written.
 pub fn verdict_line<W: Sink>(
     file: &str,
@@ -45,7 +28,7 @@ pub fn verdict_line<W: Sink>(
     ensures failures { FailsToWrite (W.failure_count writer.old) (W.failure_count writer.new) result }
 {
     match *verdict {
-        Verdict::Accepted => write_pieces(writer, &[file.as_bytes(), b": accepted\n"]),
+        Verdict::Accepted => write_shown_with(writer, file, b": accepted\n"),
         Verdict::Refused(Refusal { line, cause }) => {
             let number = cause.number();
             write_line(writer, file, "refused", line, "V", number, cause.name())
@@ -55,6 +38,16 @@ pub fn verdict_line<W: Sink>(
             write_line(writer, file, "unreadable", line, "P", number, cause.name())
         }
     }
+}
+
+/// Writes a text as it is shown, and then these bytes.
+fn write_shown_with<W: Sink>(writer: &mut W, text: &str, tail: &[u8]) -> Result<(), EngineFault>
+    requires { W.failure_count writer.old + 1 < 2 ^ 64 }
+    ensures text { Wrote (W.contents writer.old) (W.contents writer.new) (shown text.now ++ tail.now) result }
+    ensures failures { FailsToWrite (W.failure_count writer.old) (W.failure_count writer.new) result }
+{
+    write_shown(text, writer)?;
+    write_piece(writer, tail)
 }
 
 /// Writes what is said of a line of a file: why it isn't good, by the letter of its causes, the number and the name.
@@ -71,22 +64,38 @@ fn write_line<'a, W: Sink>(
     ensures text { Wrote (W.contents writer.old) (W.contents writer.new) (file_line file.now word.now line letter.now number name.now) result }
     ensures failures { FailsToWrite (W.failure_count writer.old) (W.failure_count writer.new) result }
 {
+    write_shown(file, writer)?;
+    write_cause(writer, word, line, letter, number, name)
+}
+
+/// Writes a line, and why it isn't good.
+fn write_cause<'a, W: Sink>(
+    writer: &mut W,
+    word: &'a str,
+    line: u32,
+    letter: &'a str,
+    number: u32,
+    name: &'a str,
+) -> Result<(), EngineFault>
+    requires { W.failure_count writer.old + 1 < 2 ^ 64 }
+    ensures text { Wrote (W.contents writer.old) (W.contents writer.new) (line_cause word.now line letter.now number name.now) result }
+    ensures failures { FailsToWrite (W.failure_count writer.old) (W.failure_count writer.new) result }
+{
     let mut first = Buffer::new();
     let mut second = Buffer::new();
     let line = first.format(line).as_bytes();
     let number = second.format(number).as_bytes();
-    let (file, word) = (file.as_bytes(), word.as_bytes());
-    let (letter, name) = (letter.as_bytes(), name.as_bytes());
+    let (word, letter, name) = (word.as_bytes(), letter.as_bytes(), name.as_bytes());
     write_pieces(
         writer,
         &[
-            file, b":", line, b": ", word, b" ", letter, number, b" ", name, b"\n",
+            b":", line, b": ", word, b" ", letter, number, b" ", name, b"\n",
         ],
     )
 }
 
-/// Writes the verdict on a file's text as JSON: one object without spaces, its keys in order, and a line feed. Answers
-/// `Write` where a write failed, and `OutOfMemory` where a growth was refused: then a beginning of the text is written.
+/// Writes the verdict on a file's text as JSON: one object without spaces, its keys in order, and a line feed. What isn't
+/// shown as it is stands as `\u` and four hex digits, so the file's name is the one that is decoded. Answers `Write` where a write failed, and `OutOfMemory` where a growth was refused: then a beginning of the text is written.
 pub fn verdict_object<W: Sink>(
     alloc: Global,
     file: &str,
@@ -95,10 +104,11 @@ pub fn verdict_object<W: Sink>(
 ) -> Result<(), EngineFault>
     requires { W.failure_count writer.old + 1 < 2 ^ 64 }
     ensures text { Wrote (W.contents writer.old) (W.contents writer.new) (file_json file.now verdict.now) result }
+    ensures memory { WritesNothingOnGrow (W.contents writer.old) (W.contents writer.new) result }
     ensures failures { FailsToWriteOrGrow (W.failure_count writer.old) (W.failure_count writer.new) result }
 {
     let text = object_of(alloc, file, verdict)?.to_string(alloc)?;
-    write_pieces(writer, &[text.as_bytes(), b"\n"])
+    write_shown_with(writer, text.as_str(), b"\n")
 }
 
 /// A verdict on a file's text as a JSON object.

@@ -11,6 +11,7 @@ pub mod file_verdict;
 mod line_buffer;
 pub mod printed;
 pub mod reading;
+pub mod shown;
 pub mod source;
 pub mod status;
 pub mod step_engine;

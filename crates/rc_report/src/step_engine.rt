@@ -68,7 +68,7 @@ fn program_of(alloc: Global, text: Vec<u8>) -> Result<Program, ReadFault>
 }
 
 /// Steps the program of a text through a schedule.
-fn step_bytes<W: Sink>(
+pub fn step_bytes<W: Sink>(
     alloc: Global,
     text: Vec<u8>,
     schedule: &str,

@@ -1,9 +1,9 @@
 //! Summaries of runs.
 
-ghost use Rattle.std.specs.Prelude.{◌≡◌, ◌+◌, ◌<◌, ◌^◌, length, count_by};
-ghost use Rattle.std.specs.List.{list_any};
-ghost use Rattle.rc_report.specs.Streams.{FailsToWrite, Wrote};
-ghost use Rattle.rc_report.specs.Summaries.{gives, is_completion_of, is_of, kind_name, longer, longest_stretch, next_stretch, placed, result_in, result_text, stretch_line, stretches_after, summary_text, thread_line, token_head, token_line};
+ghost use Rattle.std.specs.Prelude.{◌≡◌, ◌+◌, ◌<◌, ◌≤◌, ◌^◌, IfOk, OnOk, count_by, insert, length, take};
+ghost use Rattle.std.specs.List.{flat_map};
+ghost use Rattle.rc_report.specs.Streams.{FailsToWrite, FailsToWriteOrGrow, Wrote};
+ghost use Rattle.rc_report.specs.Summaries.{counted, is_completion_of, is_of, kind_name, longer, longest_stretch, next_stretch, others_text, placed, ranked, ranked_with, result_in, result_text, results_text, stretch_line, stretches_after, summary_text, tally, thread_line, token_head, token_line, total};
 ghost use Rattle.rc_report.specs.Traces.{NamesItsThreads};
 
 use crate::engine_fault::EngineFault;
@@ -11,9 +11,14 @@ use crate::printed::thread_name;
 use crate::streams::Sink;
 use crate::trace::{End, write_end};
 use crate::writing::{write_piece, write_pieces};
+use indexmap::IndexMap;
 use itoa::Buffer;
 use rc_lang::program::{Program, Token, TokenKind};
 use rc_world::event::Event;
+use std::alloc::{AllocError, Global};
+
+/// How many results of a token are told one by one.
+const MOST_RESULTS: usize = 8;
 
 /// Events of one thread, with none of another thread between.
 #[derive(Clone, Copy)]
@@ -30,10 +35,13 @@ pub struct Stretches {
 }
 
 /// Writes a summary in place of a trace: a line for each thread with how many events it made, one for each token with how
-/// its requests completed (how often, and how often with each result), the longest stretch of one thread, and how the
-/// trace ended. It takes no memory, and answers `Write` where a write failed: then a beginning of the summary is written.
-/// The threads that are named are the program's.
+/// its requests completed (how often, the eight most common results, and how many others there are), the longest stretch
+/// of one thread, and how the trace ended. The threads that are named are the program's.
+///
+/// Answers `Write` where a write failed, and `OutOfMemory` where a growth was refused: then a beginning of the summary is
+/// written.
 pub fn summary_text<W: Sink>(
+    alloc: Global,
     program: &Program,
     events: &[Event],
     end: End,
@@ -42,10 +50,10 @@ pub fn summary_text<W: Sink>(
     requires threads { NamesItsThreads program.now events.now end }
     requires failures { W.failure_count writer.old + 1 < 2 ^ 64 }
     ensures text { Wrote (W.contents writer.old) (W.contents writer.new) (summary_text program.now events.now end) result }
-    ensures failures { FailsToWrite (W.failure_count writer.old) (W.failure_count writer.new) result }
+    ensures failures { FailsToWriteOrGrow (W.failure_count writer.old) (W.failure_count writer.new) result }
 {
     write_threads(writer, program, events)?;
-    write_tokens(writer, program, events)?;
+    write_tokens(alloc, writer, program, events)?;
     write_stretch(writer, program, longest_stretch(events))?;
     write_end(writer, program, events.len() as u64, end)
 }
@@ -103,22 +111,24 @@ fn is_of(of: u32, event: Event) -> bool
 
 /// Writes a line for each token.
 fn write_tokens<W: Sink>(
+    alloc: Global,
     writer: &mut W,
     program: &Program,
     events: &[Event],
 ) -> Result<(), EngineFault>
     requires { W.failure_count writer.old + 1 < 2 ^ 64 }
     ensures text { Wrote (W.contents writer.old) (W.contents writer.new) (placed (token_line events.now) 0 program.now.tokens) result }
-    ensures failures { FailsToWrite (W.failure_count writer.old) (W.failure_count writer.new) result }
+    ensures failures { FailsToWriteOrGrow (W.failure_count writer.old) (W.failure_count writer.new) result }
 {
     for (index, token) in program.tokens().iter().enumerate() {
-        write_token(writer, events, index, *token)?;
+        write_token(alloc, writer, events, index, *token)?;
     }
     Ok(())
 }
 
 /// Writes how the requests of a token completed.
 fn write_token<W: Sink>(
+    alloc: Global,
     writer: &mut W,
     events: &[Event],
     index: usize,
@@ -126,10 +136,10 @@ fn write_token<W: Sink>(
 ) -> Result<(), EngineFault>
     requires { W.failure_count writer.old + 1 < 2 ^ 64 }
     ensures text { Wrote (W.contents writer.old) (W.contents writer.new) (token_line events.now index token) result }
-    ensures failures { FailsToWrite (W.failure_count writer.old) (W.failure_count writer.new) result }
+    ensures failures { FailsToWriteOrGrow (W.failure_count writer.old) (W.failure_count writer.new) result }
 {
     write_token_head(writer, events, token)?;
-    write_results(writer, events, token.user_data)?;
+    write_results(alloc, writer, events, token.user_data)?;
     write_piece(writer, b"\n")
 }
 
@@ -187,49 +197,123 @@ fn is_completion_of(user_data: u64, event: Event) -> bool
     }
 }
 
-/// Writes each result of the completions with this user data, where it first came.
+/// Writes the most common results of a token's completions, and how many others there are.
 fn write_results<W: Sink>(
+    alloc: Global,
     writer: &mut W,
     events: &[Event],
     user_data: u64,
 ) -> Result<(), EngineFault>
     requires { W.failure_count writer.old + 1 < 2 ^ 64 }
-    ensures text { Wrote (W.contents writer.old) (W.contents writer.new) (placed (result_text user_data events.now) 0 events.now) result }
+    ensures text { Wrote (W.contents writer.old) (W.contents writer.new) (results_text (tally user_data events.now)) result }
+    ensures failures { FailsToWriteOrGrow (W.failure_count writer.old) (W.failure_count writer.new) result }
+{
+    let counts = tally_of(alloc, events, user_data)?;
+    let common = most_common(alloc, &counts)?;
+    write_common(writer, &common)?;
+    write_others(writer, counts.len())
+}
+
+/// Writes these results, and how often each came.
+fn write_common<W: Sink>(writer: &mut W, common: &[(i32, u64)]) -> Result<(), EngineFault>
+    requires { W.failure_count writer.old + 1 < 2 ^ 64 }
+    ensures text { Wrote (W.contents writer.old) (W.contents writer.new) (flat_map result_text common.now) result }
     ensures failures { FailsToWrite (W.failure_count writer.old) (W.failure_count writer.new) result }
 {
-    for (index, event) in events.iter().enumerate() {
-        write_result(writer, events, index, *event, user_data)?;
+    for counted in common {
+        write_result(writer, *counted)?;
     }
     Ok(())
 }
 
-/// Writes the result of the event at a place and how often it came, where the event is a completion with this user data
-/// and none before it has that result.
-fn write_result<W: Sink>(
-    writer: &mut W,
+/// How often each result of the completions with this user data came, in the order in which they came first.
+fn tally_of(
+    alloc: Global,
     events: &[Event],
-    index: usize,
-    event: Event,
     user_data: u64,
-) -> Result<(), EngineFault>
-    requires place { index < length events.now }
-    requires failures { W.failure_count writer.old + 1 < 2 ^ 64 }
-    ensures text { Wrote (W.contents writer.old) (W.contents writer.new) (result_text user_data events.now index event) result }
-    ensures failures { FailsToWrite (W.failure_count writer.old) (W.failure_count writer.new) result }
+) -> Result<IndexMap<i32, u64>, AllocError>
+    ensures { IfOk result (λ counts. counts.entries ≡ tally user_data events.now) }
 {
-    let Some(res) = result_in(user_data, event) else {
+    let mut counts = IndexMap::new(alloc);
+    for event in events {
+        count_one(&mut counts, result_in(user_data, *event))?;
+    }
+    Ok(counts)
+}
+
+/// Counts one completion more, if there is one, with this result. Fewer than 2^64 - 1 are counted.
+fn count_one(counts: &mut IndexMap<i32, u64>, outcome: Option<i32>) -> Result<(), AllocError>
+    requires { total counts.old.entries + 1 < 2 ^ 64 }
+    ensures { OnOk result (counts.new.entries ≡ counted counts.old.entries outcome) }
+{
+    let Some(res) = outcome else {
         return Ok(());
     };
-    if came(&events[..index], user_data, res) {
-        return Ok(());
+    let times = counts.insert(res, 0)?.unwrap_or(0);
+    counts.insert(res, times + 1)?;
+    Ok(())
+}
+
+/// The eight results that came most often, and how often, of those that came as often the first.
+fn most_common(alloc: Global, counts: &IndexMap<i32, u64>) -> Result<Vec<(i32, u64)>, AllocError>
+    ensures { IfOk result (λ common. common.items ≡ take 8 (ranked counts.now.entries)) }
+{
+    let mut common = Vec::new(alloc);
+    for (res, times) in counts.iter() {
+        rank(&mut common, (*res, *times))?;
     }
+    Ok(common)
+}
+
+/// Puts a result after those that came as often or more, and keeps eight.
+fn rank(common: &mut Vec<(i32, u64)>, counted: (i32, u64)) -> Result<(), AllocError>
+    ensures { OnOk result (common.new.items ≡ take 8 (ranked_with common.old.items counted)) }
+{
+    let place = place_of(common, counted);
+    common.insert(place, counted)?;
+    common.truncate(MOST_RESULTS);
+    Ok(())
+}
+
+/// Where a result stands among ranked ones: before the first that came less often.
+fn place_of(common: &[(i32, u64)], counted: (i32, u64)) -> usize
+    ensures within { result ≤ length common.now }
+    ensures place { insert common.now result counted ≡ ranked_with common.now counted }
+{
+    for (place, other) in common.iter().enumerate() {
+        if other.1 < counted.1 {
+            return place;
+        }
+    }
+    common.len()
+}
+
+/// Writes a result, and how often it came.
+fn write_result<W: Sink>(writer: &mut W, counted: (i32, u64)) -> Result<(), EngineFault>
+    requires { W.failure_count writer.old + 1 < 2 ^ 64 }
+    ensures text { Wrote (W.contents writer.old) (W.contents writer.new) (result_text counted) result }
+    ensures failures { FailsToWrite (W.failure_count writer.old) (W.failure_count writer.new) result }
+{
+    let (res, times) = counted;
     let mut first = Buffer::new();
     let mut second = Buffer::new();
-    let count = first
-        .format(times(events, user_data, res) as u64)
-        .as_bytes();
+    let times = first.format(times).as_bytes();
     let res = second.format(res).as_bytes();
-    write_pieces(writer, &[b"; ", count, b" of ", res])
+    write_pieces(writer, &[b"; ", times, b" of ", res])
+}
+
+/// Writes how many of so many results aren't told one by one.
+fn write_others<W: Sink>(writer: &mut W, results: usize) -> Result<(), EngineFault>
+    requires { W.failure_count writer.old + 1 < 2 ^ 64 }
+    ensures text { Wrote (W.contents writer.old) (W.contents writer.new) (others_text results) result }
+    ensures failures { FailsToWrite (W.failure_count writer.old) (W.failure_count writer.new) result }
+{
+    if results <= MOST_RESULTS {
+        return Ok(());
+    }
+    let mut buffer = Buffer::new();
+    let others = buffer.format((results - MOST_RESULTS) as u64).as_bytes();
+    write_pieces(writer, &[b"; ", others, b" other results"])
 }
 
 /// The result of a completion with this user data.
@@ -246,33 +330,6 @@ fn result_in(user_data: u64, event: Event) -> Option<i32>
             }
         }
     }
-}
-
-/// Whether an event is a completion with this user data and this result.
-fn gives(user_data: u64, res: i32, event: Event) -> bool
-    ensures { result ≡ gives user_data res event }
-{
-    match result_in(user_data, event) {
-        Some(other) => other == res,
-        None => false,
-    }
-}
-
-/// Whether there is a completion with this user data and this result.
-fn came(events: &[Event], user_data: u64, res: i32) -> bool
-    ensures { result ≡ list_any (gives user_data res) events.now }
-{
-    events.iter().any(|event| gives(user_data, res, *event))
-}
-
-/// How many completions have this user data and this result.
-fn times(events: &[Event], user_data: u64, res: i32) -> usize
-    ensures { result ≡ count_by (gives user_data res) events.now }
-{
-    events
-        .iter()
-        .filter(|event| gives(user_data, res, **event))
-        .count()
 }
 
 /// The first of the longest stretches.

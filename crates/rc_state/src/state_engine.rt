@@ -52,7 +52,7 @@ pub fn state_engine<R: Source, W: Sink>(
 }
 
 /// Steps the program of a text through a schedule.
-fn show_bytes<W: Sink>(
+pub fn show_bytes<W: Sink>(
     alloc: Global,
     text: &[u8],
     schedule: &str,

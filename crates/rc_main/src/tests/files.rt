@@ -1,50 +1,36 @@
-//! Texts that stand in files: the verdict on each, files that can't be opened or read, and standard input.
+//! Texts that stand in files: the verdict on each, files that can't be read, and standard input.
 
-use crate::command::command_over;
-use crate::files::Texts;
+use crate::command::{command, command_over};
+use crate::files::{SystemTexts, Texts, Unread, read_opened};
 use rc_examples::programs::{EARLY, EMPTY_THREAD, NOP};
-use rc_report::streams::DeviceFailed;
-use std::io::{self, ErrorKind, Read};
-
-/// A file in memory, which may fail at its first read.
-#[derive(Drop)]
-struct Text {
-    bytes: &'static [u8],
-    is_broken: bool,
-}
-
-impl Read for Text {
-    fn read(&mut self, buffer: &mut [u8]) -> io::Result<usize> {
-        if self.is_broken {
-            return Err(io::Error::from(ErrorKind::Interrupted));
-        }
-        let count = self.bytes.len().min(buffer.len());
-        buffer[..count].copy_from_slice(&self.bytes[..count]);
-        self.bytes = &self.bytes[count..];
-        Ok(count)
-    }
-}
+use std::alloc::Global;
+use std::io::{self, ErrorKind, Read, Write};
 
 /// The files that there are.
 #[derive(Clone, Copy)]
 struct Folder;
 
 impl Texts for Folder {
-    type Text = Text;
+    ghost gives = { λ texts name given. Unit {0} };
 
-    ghost opens = { λ texts name r. Unit {0} };
-
-    fn open(&self, name: &str) -> Result<Text, DeviceFailed> {
-        let (bytes, is_broken) = match name {
-            "good.ring" => (EMPTY_THREAD.as_bytes(), false),
-            "early.ring" => (EARLY.as_bytes(), false),
-            "nop.ring" => (NOP.as_bytes(), false),
-            "empty.ring" => (&b""[..], false),
-            "a\n.ring" => (EMPTY_THREAD.as_bytes(), false),
-            "broken.ring" => (&b""[..], true),
-            _ => return Err(DeviceFailed),
+    fn read(&self, alloc: Global, name: &str) -> Result<Vec<u8>, Unread> {
+        let text = match name {
+            "good.ring" | "a\n.ring" | "\u{7f}\u{9b}\u{202e}.ring" => EMPTY_THREAD,
+            "early.ring" => EARLY,
+            "nop.ring" => NOP,
+            "empty.ring" => "",
+            "folder" => return Err(Unread::Failed(io::Error::from_raw_os_error(21))),
+            "secret.ring" => return Err(Unread::Failed(io::Error::from_raw_os_error(13))),
+            "broken.ring" => return Err(Unread::Failed(io::Error::from_raw_os_error(5))),
+            "endless.ring" => return Err(Unread::NoEnd),
+            "large.ring" => return Err(Unread::OutOfMemory),
+            "a\0ff.ring" => return Err(Unread::NoText),
+            _ => return Err(Unread::Failed(io::Error::from_raw_os_error(2))),
         };
-        Ok(Text { bytes, is_broken })
+        match text.as_bytes().to_vec(alloc) {
+            Ok(bytes) => Ok(bytes),
+            Err(_) => Err(Unread::OutOfMemory),
+        }
     }
 }
 
@@ -98,12 +84,22 @@ const ROWS: &[Row] = &[
             "check",
             "none.ring",
             "early.ring",
-            "broken.ring",
+            "folder",
+            "secret.ring",
+            "large.ring",
+            "endless.ring",
+            "a\0ff.ring",
             "good.ring",
         ],
         3,
         "early.ring:18: refused V8 NoShare\ngood.ring: accepted\n",
-        "ringcheck: none.ring: the file can't be opened\nringcheck: broken.ring: the file can't be read\n",
+        "ringcheck: none.ring: No such file or directory
+ringcheck: folder: Is a directory
+ringcheck: secret.ring: Permission denied
+ringcheck: large.ring: out of memory (20)
+ringcheck: endless.ring: the file has no end
+ringcheck: a\\xff.ring: the name isn't UTF-8 text
+",
     ),
     (
         &["check", "--json", "good.ring", "early.ring", "empty.ring"],
@@ -114,18 +110,25 @@ const ROWS: &[Row] = &[
 ",
         "",
     ),
-    (&["check", "a\n.ring"], 0, "a\\n.ring: accepted\n", ""),
     (
-        &["check", "--json", "a\n.ring"],
+        &["check", "a\n.ring", "\u{7f}\u{9b}\u{202e}.ring"],
         0,
-        "{\"file\":\"a\\n.ring\",\"verdict\":\"accepted\"}\n",
+        "a\\u000a.ring: accepted\n\\u007f\\u009b\\u202e.ring: accepted\n",
+        "",
+    ),
+    (
+        &["check", "--json", "a\n.ring", "\u{7f}\u{9b}\u{202e}.ring"],
+        0,
+        "{\"file\":\"a\\n.ring\",\"verdict\":\"accepted\"}
+{\"file\":\"\\u007f\\u009b\\u202e.ring\",\"verdict\":\"accepted\"}
+",
         "",
     ),
     (
         &["check", "\x1b"],
         3,
         "",
-        "ringcheck: \\u{1b}: the file can't be opened\n",
+        "ringcheck: \\u001b: No such file or directory\n",
     ),
     (&["check", "-"], 1, "refused line 19 V12 QueueLeft\n", ""),
     (
@@ -177,13 +180,13 @@ enabled: t0
         &["step", "none.ring"],
         3,
         "",
-        "ringcheck: none.ring: the file can't be opened\n",
+        "ringcheck: none.ring: No such file or directory\n",
     ),
     (
         &["step", "broken.ring"],
         3,
         "",
-        "ringcheck: broken.ring: the file can't be read\n",
+        "ringcheck: broken.ring: Input/output error\n",
     ),
     (
         &["run", "--seed", "1", "--limit", "1", "good.ring"],
@@ -216,7 +219,7 @@ enabled: t0
         &["c", "broken.ring"],
         3,
         "",
-        "ringcheck: broken.ring: the file can't be read\n",
+        "ringcheck: broken.ring: Input/output error\n",
     ),
 ];
 
@@ -237,5 +240,86 @@ fn texts_of_files_are_answered(rt: HostRuntime) {
         assert_eq!(rt; writer.as_slice(), output.as_bytes(), "output of {words:?}");
         assert_eq!(rt; told.as_slice(), errors.as_bytes(), "errors of {words:?}");
         assert_eq!(rt; answer, *status, "status of {words:?}");
+    }
+}
+
+/// A reader that gives a byte a read, or fails.
+#[derive(Drop)]
+struct Endless {
+    is_broken: bool,
+}
+
+impl Read for Endless {
+    fn read(&mut self, buffer: &mut [u8]) -> io::Result<usize> {
+        if self.is_broken {
+            return Err(io::Error::from(ErrorKind::Interrupted));
+        }
+        for byte in buffer.iter_mut() {
+            *byte = b' ';
+        }
+        Ok(buffer.len().min(1))
+    }
+}
+
+#[test]
+fn a_file_is_unread_where_a_read_fails(rt: HostRuntime) {
+    match read_opened(rt.alloc(), Endless { is_broken: true }) {
+        Err(Unread::Failed(error)) => assert!(rt; error.kind() == ErrorKind::Interrupted),
+        _ => panic!(rt; "the read failed"),
+    }
+}
+
+#[test]
+fn a_file_without_an_end_is_unread(rt: HostRuntime) {
+    let unread = read_opened(rt.alloc(), Endless { is_broken: false });
+    assert!(rt; matches!(unread, Err(Unread::NoEnd)));
+}
+
+/// What the system says of files that there aren't, and of a folder.
+#[test]
+fn the_system_says_why(rt: HostRuntime) {
+    let texts = SystemTexts { files: &rt };
+    for (name, kind) in [
+        ("no/such/file", ErrorKind::NotFound),
+        ("/", ErrorKind::IsADirectory),
+    ] {
+        match texts.read(rt.alloc(), name) {
+            Err(Unread::Failed(error)) => assert!(rt; error.kind() == kind, "{name}: {error}"),
+            _ => panic!(rt; "{name} was read"),
+        }
+    }
+    let unread = texts.read(rt.alloc(), "a\0ff");
+    assert!(rt; matches!(unread, Err(Unread::NoText)));
+}
+
+/// A pipe that nobody reads, or a device that is full.
+#[derive(Drop)]
+struct Closed(ErrorKind);
+
+impl Write for Closed {
+    fn write(&mut self, _piece: &[u8]) -> io::Result<usize> {
+        Err(io::Error::from(self.0))
+    }
+
+    fn flush(&mut self) -> io::Result<()> {
+        Ok(())
+    }
+}
+
+#[test]
+fn a_pipe_that_nobody_reads_is_not_told(rt: HostRuntime) {
+    for (kind, errors) in [
+        (ErrorKind::BrokenPipe, ""),
+        (
+            ErrorKind::StorageFull,
+            "ringcheck: the output can't be written\n",
+        ),
+    ] {
+        let mut told = Vec::new(rt.alloc());
+        let words: &[&str] = &["check"];
+        let output = Closed(kind);
+        let status = command(&rt, rt.alloc(), words, NOP.as_bytes(), output, &mut told);
+        assert_eq!(rt; status, 3);
+        assert_eq!(rt; told.as_slice(), errors.as_bytes());
     }
 }

@@ -7,9 +7,7 @@ use Rattle.rc_report.proofs.Pieces.{wrote_along}
 use Rattle.rc_report.proofs.file_verdict.verdict_line.Goals as goal
 
 pub returns-in-Accepted-clause-text : goal.returns-in-Accepted-clause-text
-returns-in-Accepted-clause-text g c =
-    let file = c.args.file.now in
-    wrote_along _ _ _ _ _ (ap (λ t. joined (t ∷ codes ": accepted\n" ∷ [])) c.as_bytes.ensures.value ∙ ap (λ v. file_text file v) (sym c.in-Accepted.is)) c.write_pieces.ensures.text
+returns-in-Accepted-clause-text g c = wrote_along _ _ _ _ _ (ap (λ v. file_text c.args.file.now v) (sym c.in-Accepted.is)) c.write_shown_with.ensures.text
 
 pub returns-in-Refused-clause-text : goal.returns-in-Refused-clause-text
 returns-in-Refused-clause-text g c =

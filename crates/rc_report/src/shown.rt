@@ -1,0 +1,91 @@
+//! Text as it is shown: nothing in it moves the cursor, ends a line or turns the direction of text.
+
+ghost use Rattle.std.specs.Prelude.{◌≡◌, ◌+◌, ◌<◌, ◌^◌};
+ghost use Rattle.std.specs.Char.{digit_char};
+ghost use Rattle.rc_report.specs.Shown.{escaped, is_from, is_hidden, shown, shown_char};
+ghost use Rattle.rc_report.specs.Streams.{FailsToWrite, Wrote};
+
+use crate::engine_fault::EngineFault;
+use crate::streams::Sink;
+use crate::writing::write_piece;
+
+/// Writes a text as it is shown: a control character, and a mark that turns the direction of text, as `\u` and four hex
+/// digits. NUL, which stands before the hex digits of a byte that isn't text, is `\x`. It takes no memory, and answers
+/// `Write` where a write failed: then a beginning of the text is written.
+pub fn write_shown<W: Sink>(text: &str, writer: &mut W) -> Result<(), EngineFault>
+    requires { W.failure_count writer.old + 1 < 2 ^ 64 }
+    ensures text { Wrote (W.contents writer.old) (W.contents writer.new) (shown text.now) result }
+    ensures failures { FailsToWrite (W.failure_count writer.old) (W.failure_count writer.new) result }
+{
+    for character in text.chars() {
+        write_char(character, writer)?;
+    }
+    Ok(())
+}
+
+/// Writes a character as it is shown.
+fn write_char<W: Sink>(character: char, writer: &mut W) -> Result<(), EngineFault>
+    requires { W.failure_count writer.old + 1 < 2 ^ 64 }
+    ensures text { Wrote (W.contents writer.old) (W.contents writer.new) (shown_char character) result }
+    ensures failures { FailsToWrite (W.failure_count writer.old) (W.failure_count writer.new) result }
+{
+    let code = character as u32;
+    if is_hidden(code) {
+        return write_escaped(code, writer);
+    }
+    let mut buffer = [0u8; 4];
+    write_piece(writer, character.encode_utf8(&mut buffer).as_bytes())
+}
+
+/// Whether a character isn't shown as it is.
+pub fn is_hidden(code: u32) -> bool
+    ensures { result ≡ is_hidden code }
+{
+    code < 0x20
+        || is_from(0x7f, 0xa0, code)
+        || code == 0x61c
+        || is_from(0x200e, 0x2010, code)
+        || is_from(0x202a, 0x202f, code)
+        || is_from(0x2066, 0x206a, code)
+}
+
+/// Whether a character is one from the first to the one before the last.
+fn is_from(first: u32, last: u32, code: u32) -> bool
+    ensures { result ≡ is_from first last code }
+{
+    first <= code && code < last
+}
+
+/// Writes how a character that isn't shown as it is stands in a text.
+fn write_escaped<W: Sink>(code: u32, writer: &mut W) -> Result<(), EngineFault>
+    requires { W.failure_count writer.old + 1 < 2 ^ 64 }
+    ensures text { Wrote (W.contents writer.old) (W.contents writer.new) (escaped code) result }
+    ensures failures { FailsToWrite (W.failure_count writer.old) (W.failure_count writer.new) result }
+{
+    if code == 0 {
+        return write_piece(writer, b"\\x");
+    }
+    write_piece(
+        writer,
+        &[
+            b'\\',
+            b'u',
+            hex_digit(code / 0x1000 % 16),
+            hex_digit(code / 0x100 % 16),
+            hex_digit(code / 0x10 % 16),
+            hex_digit(code / 0x1 % 16),
+        ],
+    )
+}
+
+/// A hex digit.
+pub fn hex_digit(digit: u32) -> u8
+    requires { digit < 16 }
+    ensures { result ≡ digit_char digit }
+{
+    if digit < 10 {
+        b'0' + digit as u8
+    } else {
+        b'a' + (digit as u8 - 10)
+    }
+}
