@@ -31,7 +31,7 @@ use std::sync::Wait;
 use std::thread::Threads;
 
 /// Does what the words say, and answers the exit status. Answers go to the writer; wrong words, files that can't be read,
-/// want of memory and devices that failed are told on one line of `errors` each, but a writer that nobody reads any more
+/// out of memory and devices that failed are told on one line of `errors` each, but a writer that nobody reads any more
 /// isn't told. Nothing is tried again (`read(2)`, `write(2)`).
 pub fn command_over<
     'a,

@@ -203,7 +203,10 @@ fn arguments_are_text(rt: HostRuntime) {
 #[test]
 fn bytes_that_are_no_text_are_kept(rt: HostRuntime) {
     match given_words(&(Arguments(&[b"ringcheck", b"a\xffb\xc3"]), rt.alloc())) {
-        Ok(words) => assert_eq!(rt; words[0].as_str(), "a\0ffb\0c3"),
+        Ok(words) => match words.first() {
+            Some(word) => assert_eq!(rt; word.as_str(), "a\0ffb\0c3"),
+            None => panic!(rt; "no word"),
+        },
         Err(_) => panic!(rt; "out of memory"),
     }
 }
