@@ -12,7 +12,7 @@ const DECLARED: &str =
 
 const LONG: &str = "ringcheck 3\nring 8\nthread t0 holds {\nput ";
 
-// A word with an escape byte, of which P1 knows nothing: it stands behind 256 blanks.
+// A word with an escape byte, of which P1 knows nothing: it comes after 256 blanks.
 const FAR: &str = "\
 \x20                                                               \
 \x20                                                               \

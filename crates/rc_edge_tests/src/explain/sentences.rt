@@ -65,7 +65,7 @@ none {
 }
 ";
 
-/// A loop that doesn't keep what is used behind it.
+/// A loop that doesn't keep what is used after it.
 const LOOP: &str = "\
 ringcheck 1
 ring 1
