@@ -10,5 +10,6 @@ pub mod Source
 pub mod Statuses
 pub mod Streams
 pub mod Summaries
+pub mod Text
 pub mod Traces
 pub mod Verdicts

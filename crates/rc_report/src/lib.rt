@@ -18,6 +18,7 @@ pub mod step_engine;
 pub mod stepping;
 pub mod streams;
 pub mod summary;
+pub mod text;
 pub mod trace;
 pub mod verdict;
 pub mod writing;
