@@ -18,7 +18,7 @@ blank_file file = record { fd = pos file.number; content = replicate file.len 0 
 abbrev pub blank_files : List File → List DiskFile
 blank_files files = map blank_file files
 
--- where the file with this number stands
+-- the place of the file with this number
 unfoldable pub place_of : List DiskFile → ℤ → Option ℕ
 place_of files fd = position (λ (f : DiskFile). int_eq f.fd fd) files
 
@@ -44,7 +44,7 @@ content_of files fd = content_if files (place_of files fd)
 abbrev pub read_from : List ℕ → ℕ → ℕ → List ℕ
 read_from content off count = take count (drop off content)
 
--- The file behind pwrite(2) of these bytes at `off`. Where it ended before that, zeros fill the gap (lseek(2)). A write
+-- The file after pwrite(2) of these bytes at `off`. Where it ended before that, zeros fill the gap (lseek(2)). A write
 -- of no bytes leaves it as it was.
 abbrev pub written_to : List ℕ → ℕ → List ℕ → List ℕ
 written_to content off [] = content

@@ -15,7 +15,7 @@ pub trait Device {
     /// or a negative errno (`io_uring_enter(2)`).
     ///
     /// The `grant` asks it to move at most so many bytes, 0 to 4096, or to fail with so much, -4095 to -1. That a device
-    /// heeds it is not promised here. The bytes behind the first `len` stay.
+    /// heeds it is not promised here. The bytes after the first `len` stay.
     fn serve(&mut self, request: &Request, bytes: &mut [u8], grant: i32) -> i32
         requires len { request.now.len ≤ length bytes.old }
         requires grant { (negsuc 4094 ≤ℤ grant) × (grant ≤ℤ pos 4096) }

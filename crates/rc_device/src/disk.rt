@@ -60,7 +60,7 @@ impl Disk {
     ///
     /// A `grant` from -4095 to -1 is the answer. Else a request for a file that isn't declared is answered with -9
     /// (`EBADF`). A read moves up to `grant` bytes, and none from the file's end on (`pread(2)`). A write moves up to
-    /// `grant` bytes within the first 65,536 of the file, behind zeros where the file ended before `off`
+    /// `grant` bytes within the first 65,536 of the file, after zeros where the file ended before `off`
     /// (`pwrite(2)`), and is answered with -28 (`ENOSPC`) where it has bytes and `off` is 65,536 or more. An fsync and a
     /// nop are answered with 0. Takes no memory.
     pub fn serve(&mut self, request: &Request, bytes: &mut [u8], grant: i32) -> i32
@@ -139,7 +139,7 @@ impl Disk {
         count as i32
     }
 
-    // Where a file stands among the files.
+    // The place of a file among the files.
     #[tactic(auto, unfolding(crate::specs::Files::place_of))]
     fn place_of(&self, fd: i32) -> Option<usize>
         ensures value { result ≡ place_of self.now fd }

@@ -8,7 +8,7 @@ pub fn what_was_written_is_read()
     ensures { (content bytes : List ℕ) (off : ℕ) → read_from (written_to content off bytes) off (length bytes) ≡ bytes }
 {}
 
-/// A write changes no byte before it or behind it, where those behind a file's end count as 0; the file ends where it
+/// A write changes no byte before it or after it, where those past a file's end count as 0; the file ends where it
 /// ended, or where the write ends if that is later.
 pub fn the_rest_of_a_file_stays()
     ensures before { (content bytes : List ℕ) (off i : ℕ) → i < off → slice_index (written_to content off bytes) i ≡ slice_index content i }

@@ -85,7 +85,7 @@ pub struct Cqe {
 /// Why bytes are no entry, in the order of the codes.
 #[derive(Clone, Copy, PartialEq, Eq, Debug, Error)]
 pub enum EntryFault {
-    /// The opcode is none of the four.
+    /// The opcode isn't one of the four.
     #[error("E1 UnknownOpcode")]
     UnknownOpcode,
     /// A field that must be zero isn't.

@@ -111,7 +111,7 @@ impl Fields {
         bytes
     }
 
-    // The fields as they stand in the bytes.
+    // The fields as they are in the bytes.
     fn read(bytes: &[u8; 64]) -> Fields
         ensures opcode { result.opcode ≡ sqe_opcode bytes.now }
         ensures fd { result.fd ≡ sqe_fd bytes.now }

@@ -37,8 +37,8 @@ ring_list n head tail = record {
 }
 
 -- What is true of every ring list: a power of two of entries, at most 2048; at most as many items as entries, at
--- places of the ring and no two at one place; behind each place comes the next one of the ring, and behind the last
--- item's the place that the next item gets; while there is room, no item stands there.
+-- places of the ring and no two at one place; after each place comes the next one of the ring, and after the last
+-- item's the place that the next item gets; while there is room, no item is there.
 pub record IsRingList (r : RingList) : Type 0 where
   pub power : IsPowerOfTwo r.entries
   pub small : r.entries ≤ 2048

@@ -104,7 +104,7 @@ impl Indices {
         Some(self.masked(self.tail))
     }
 
-    /// Adds an item behind the others, at the place that `push_place` answers.
+    /// Adds an item after the others, at the place that `push_place` answers.
     pub fn advance_tail(&mut self)
         requires { length self.old.places < self.old.entries }
         ensures value { self.new ≡ record self.old {

@@ -19,7 +19,7 @@ use std::marker::Model;
 #[derive(Clone, Copy, PartialEq, Eq, Debug)]
 pub struct Overflow;
 
-// What the place behind the queued entries is used for.
+// What the place after the queued entries is used for.
 #[derive(Clone, Copy, PartialEq, Eq, Debug)]
 enum Stage {
     Closed,
@@ -40,7 +40,7 @@ pub struct Ring {
     parked: bool,
 }
 
-// Clauses see the list of the queued entries and that of the completions, beside the open slot.
+// Clauses see the open slot, the list of the queued entries and that of the completions.
 impl Model for Ring {
     ghost use Rattle.rc_ring.specs.Rings.{Rings};
 
@@ -219,7 +219,7 @@ impl Ring {
         self.submissions.advance_head();
     }
 
-    /// Adds a completion behind the others.
+    /// Adds a completion after the others.
     ///
     /// # Errors
     ///
@@ -239,7 +239,7 @@ impl Ring {
         }
     }
 
-    /// The first completion (io_uring_peek_cqe(3)), or `None` where there is none.
+    /// The first completion (io_uring_peek_cqe(3)), or `None` where there is no completion.
     pub fn peek_cqe(&self) -> Option<Cqe>
         ensures { result ≡ slice_get self.now.completions 0 }
     {

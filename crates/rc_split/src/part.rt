@@ -9,7 +9,7 @@ pub enum Part {
     /// The token with this user data, which allows to queue a request under it (`io_uring_sqe_set_data64(3)`). There is
     /// one of each.
     Token(u64),
-    /// So many credits, each of which allows to cause one completion, so that the completion ring never overflows
+    /// So many credits. Each allows to cause one completion, so that the completion ring never overflows
     /// (`io_uring_setup(2)`).
     Credits(u32),
 }

@@ -10,7 +10,7 @@ use Rattle.rc_lang.specs.Program.{IsOperand, IsProgram, Program, lines_of, lists
 use Rattle.rc_split.specs.Pools.{Pool}
 use Rattle.rc_world.specs.Controls.{Controls, Standing, hop_of, is_arm_end, passes_arm, rest_at}
 
--- where a thread stands; for a number that names no thread that says nothing
+-- where a thread is; for a number that names no thread that says nothing
 abbrev pub nowhere : Standing
 nowhere = record { place = 0; variables = [] }
 
@@ -34,7 +34,7 @@ gone_to program c i j =
       peeked = if passes_arm program i j then false else c.peeked;
     }
 
--- The thread stands at place j of a made program, where this statement is.
+-- The thread is at place j of a made program, where this statement is.
 pub record StandsAt (program : Program) (c : Controls) (i j : ℕ) (s : Stmt) : Type 0 where
   pub made : IsProgram program
   pub exists : i < length c.threads

@@ -1,4 +1,4 @@
--- Where each thread stands, and what a step of it does there, given what the rings and buffers answer.
+-- Where each thread is, and what a step of it does there, given what the rings and buffers answer.
 use Rattle.std.specs.Prelude.{ℕ, zero, suc, ◌+◌, ◌%◌, Bool, true, false, ◌&&◌, ◌||◌, if◌then◌else◌, List, length, map, replicate, Option, Some, None, nat_eq, position, unwrap_or, slice_get, slice_index_or, slice_range, slice_set, ℤ, pos, negsuc, ◌+ℤ◌, ◌-ℤ◌, int_le}
 use Rattle.std.specs.Int.{cast_unsigned, int_wrap, w64}
 use Rattle.std.specs.Ordering.{int_eq}
@@ -21,12 +21,12 @@ use Rattle.rc_world.specs.declared.event.Action.TheVariants.{VariableSet, Loaded
 use Rattle.rc_world.specs.declared.event.Event.{Event}
 use Rattle.rc_world.specs.declared.event.Event.TheVariants.{ByThread}
 
--- Where a thread stands: the place of its next line, and its variables.
+-- Where a thread is: the place of its next line, and its variables.
 pub record Standing : Type 0 where
   pub place : ℕ
   pub variables : List ℤ
 
--- Where each thread stands, who holds the lock, whether the front completion is peeked, and the pool.
+-- Where each thread is, which one holds the lock, whether the front completion is peeked, and the pool.
 pub record Controls : Type 0 where
   pub threads : List Standing
   pub holder : Option ℕ
@@ -85,7 +85,7 @@ rest_at program i j = settled program i (length (lines_of program i)) j
 abbrev pub passes_arm : Program → ℕ → ℕ → Bool
 passes_arm program i j = ends_arm program i (length (lines_of program i)) j
 
--- The arms of the peek at place o stand between it and its closing brace: the first one for this user data, else the
+-- The arms of the peek at place o are between it and its closing brace: the first one for this user data, else the
 -- one for any other.
 abbrev pub is_case : ℕ → ℕ → Stmt → Bool
 is_case o u (Case p v) = nat_eq p o && nat_eq v u
@@ -153,7 +153,7 @@ submits c t x Plain = None
 submits c t x (Byte b) = None
 submits c t x (Front cqe) = None
 
--- io_uring_cqe_seen(3): nothing is peeked any more.
+-- io_uring_cqe_seen(3): then nothing is peeked.
 abbrev pub reaps : Controls → Standing → Answer → Option Move
 reaps c t (Front cqe) = Some (record { action = Reaped cqe.user_data; holder = c.holder; peeked = false; pool = c.pool; place = t.place + 1; variables = t.variables })
 reaps c t Plain = None
@@ -179,7 +179,7 @@ does c t (Submit x) a = submits c t x a
 does c t (SubmitAndWait x n) a = submits c t x a
 does c t CqeSeen a = reaps c t a
 
--- An if whose test is false leads behind its else or, without one, behind its closing brace.
+-- An if whose test is false leads past its else or, without one, past its closing brace.
 abbrev pub branches : Program → Controls → ℕ → Standing → Bool → Move
 branches program c i t holds =
     record { action = Branched holds; holder = c.holder; peeked = c.peeked; pool = c.pool; place = (if holds then t.place else end_at program i t.place) + 1; variables = t.variables }
@@ -217,11 +217,11 @@ locks c i t a (Some j) = None
 abbrev pub releases_lock : Controls → Standing → Move
 releases_lock c t = record { action = Released; holder = None; peeked = c.peeked; pool = c.pool; place = t.place + 1; variables = t.variables }
 
--- back to the line behind the top of the loop at place o
+-- back to the line after the top of the loop at place o
 abbrev pub returns_to : Controls → Standing → ℕ → Move
 returns_to c t o = record { action = Looped; holder = c.holder; peeked = c.peeked; pool = c.pool; place = o + 1; variables = t.variables }
 
--- A break leads behind the end of the loop at place o. It may release the lock, and leave an arm of a peek.
+-- A break leads past the end of the loop at place o. It may release the lock, and leave an arm of a peek.
 abbrev pub breaks : Program → Controls → ℕ → Standing → ℕ → Bool → Bool → Move
 breaks program c i t o releases leaves =
     record { action = LoopLeft; holder = if releases then None else c.holder; peeked = if leaves then false else c.peeked; pool = c.pool; place = end_at program i o + 1; variables = t.variables }
@@ -244,7 +244,7 @@ acts program c i t (Loop k) a = plainly (goes_on c t Looped) a
 acts program c i t (EndLoop o k) a = plainly (returns_to c t o) a
 acts program c i t (Break o releases leaves) a = plainly (breaks program c i t o releases leaves) a
 
--- The controls after that: the thread comes to rest, and at the end of an arm nothing is peeked any more.
+-- The controls after that: the thread comes to rest, and after the end of an arm nothing is peeked.
 abbrev pub moved : Program → Controls → ℕ → Move → Controls
 moved program c i m = record {
   threads = slice_set c.threads i (record { place = rest_at program i m.place; variables = m.variables });

@@ -101,7 +101,7 @@ abbrev pub clashes : List Pending → Bool
 clashes [] = false
 clashes (p ∷ ps) = clashes_with p.request ps || clashes ps
 
--- F4: another thread that comes behind has the same buffer next, and one of the two writes it.
+-- F4: two threads have the same buffer next, and one of them writes it.
 abbrev pub conflicts : Option Access → Option Access → Bool
 conflicts (Some a) (Some b) = nat_eq a.buffer b.buffer && (a.writes || b.writes)
 conflicts _ _ = false
@@ -117,7 +117,7 @@ races_from w a j (t ∷ ts) = conflicts a (access_at (next_line w.program w.cont
 abbrev pub races : World → ℕ → Option Access → Bool
 races w i a = races_from w a (i + 1) (drop (i + 1) w.controls.threads)
 
--- F11: a load or a store is next behind the end of its buffer, or a prep of more bytes than its buffer has.
+-- F11: a load or a store is next past the end of its buffer, or a prep of more bytes than its buffer has.
 abbrev pub op_is_out : Program → Op → Bool
 op_is_out program (Load x b i) = nat_le (bytes_at program.buffers b) i
 op_is_out program (Store b i x) = nat_le (bytes_at program.buffers b) i

@@ -16,7 +16,7 @@ use Rattle.rc_world.specs.Faults.{has_data}
 use Rattle.rc_world.specs.Machine.{Pending, World, count_in, is_read, is_take, kernel_step, thread_step}
 
 -- What a thread has next: a lock that somebody holds is taken. Lines that are no events are nothing to have next, and
--- no thread of a run stands at one (the law NoHiddenHarm).
+-- no thread of a run is at one (the law NoHiddenHarm).
 abbrev pub ready_or_taken : Option ℕ → Line → Stmt → Next
 ready_or_taken holder l (Do op) = Ready l
 ready_or_taken holder l (Put k) = Ready l
@@ -43,7 +43,7 @@ next_by holder (Some l) = ready_or_taken holder l l.stmt
 abbrev pub next_of : Program → Controls → ℕ → Next
 next_of program c i = next_by c.holder (next_line program c i)
 
--- A thread's item is enabled where it has a next that isn't a taken lock; an answer stands only at a submit, and is
+-- A thread's item is enabled where it has a next that isn't a taken lock; an answer comes only with a submit, and is
 -- one that the submit may give.
 abbrev pub is_submit : Stmt → Bool
 is_submit (Do (Submit x)) = true

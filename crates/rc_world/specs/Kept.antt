@@ -1,5 +1,5 @@
 -- What each world keeps: there is room for what is queued, buffers have their bytes, and where one is absent, a pending
--- read fills it, with which its bytes stand.
+-- read fills it, which keeps its bytes.
 use Rattle.std.specs.Prelude.{ℕ, ◌≡◌, ◌<◌, ◌≤◌, true, List, length, Option, Some, None, slice_get}
 use Rattle.rc_lang.specs.declared.request.Request.{Request}
 use Rattle.rc_lang.specs.Program.{IsProgram, Program, bytes_at}
@@ -21,7 +21,7 @@ SlotFits program (Prepared r) = IsFitting program r
 abbrev pub AllFit : Program → List Request → Type 0
 AllFit program rs = (k : ℕ) (r : Request) → slice_get rs k ≡ Some r → IsFitting program r
 
--- With a pending read all bytes of its buffer stand, unless two pending requests clash, and with others none.
+-- A pending read keeps all bytes of its buffer, unless two pending requests clash, and others keep none.
 pub record IsKeptPending (program : Program) (ps : List Pending) (p : Pending) : Type 0 where
   pub fitting : IsFitting program p.request
   pub of_read : (bytes : List ℕ) → p.bytes ≡ Some bytes → is_read p.request.kind ≡ true

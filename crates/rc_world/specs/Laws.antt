@@ -13,7 +13,7 @@ use Rattle.rc_world.specs.Machine.{Pending, World, bytes_brought, is_take, kerne
 use Rattle.rc_world.specs.Runs.{IsRun}
 use Rattle.rc_world.specs.Trace.{trace_of}
 
--- The thread stands behind its last line.
+-- The thread is past its last line.
 abbrev pub StandsAtEnd : World → ℕ → Type 0
 StandsAtEnd w i = (t : Standing) × (slice_get w.controls.threads i ≡ Some t) × (t.place ≡ length (lines_of w.program i))
 

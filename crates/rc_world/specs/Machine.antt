@@ -21,7 +21,7 @@ use Rattle.rc_world.specs.declared.world.Slot.{Slot}
 use Rattle.rc_world.specs.declared.world.Slot.TheVariants.{Closed, Vacant, Prepared}
 use Rattle.rc_world.specs.Controls.{Controls, Standing, controls_step, low_byte, next_line, start_controls, variable}
 
--- A pending request: with a read the bytes of its buffer stand, which is absent until the read completes.
+-- A pending request: a read keeps the bytes of its buffer, which is absent until the read completes.
 pub record Pending : Type 0 where
   pub request : Request
   pub bytes : Option (List ℕ)
@@ -145,7 +145,7 @@ abbrev pub reaps_front : World → List Completion → Option World
 reaps_front w [] = None
 reaps_front w (c ∷ cs) = Some (record w { completions = cs; completed = without_data c.user_data w.completed })
 
--- What a statement of a thread that stands there does to the rings and the buffers; a submit is answered r.
+-- What a statement of a thread that is there does to the rings and the buffers; a submit is answered r.
 abbrev pub op_in_rings : World → Standing → ℤ → Op → Option World
 op_in_rings w t r (Set x n) = Some w
 op_in_rings w t r (Assign x y) = Some w
@@ -242,7 +242,7 @@ completion_of r res = record { user_data = r.user_data; res = res }
 abbrev pub bytes_brought : Request → ℕ
 bytes_brought r = if is_read r.kind then r.len else 0
 
--- A read's buffer is there again: these bytes in its first places, and behind them what stood with the request.
+-- A read's buffer is there again: these bytes in its first places, and after them what was kept with the request.
 abbrev pub given_back : World → Request → List ℕ → Option (List ℕ) → Option (List (Option (List ℕ)))
 given_back w r bytes None = if is_read r.kind then None else Some w.buffers
 given_back w r bytes (Some stood) = Some (slice_set w.buffers r.buffer (Some (bytes ++ drop r.len stood)))

@@ -6,10 +6,10 @@ use Rattle.rc_world.specs.Controls.{Standing}
 abbrev pub view_control : Control → Standing
 view_control t = record { place = t.place; variables = t.variables }
 
--- so many bytes, of which these are the first; all behind them are 0
+-- so many bytes, which begin with these; all after them are 0
 abbrev pub bytes_in : ℕ → List ℕ → List ℕ
 bytes_in len written = written ++ replicate (len - length written) 0
 
--- the bytes of which the first ones are the fill byte
+-- the bytes, where the first ones are the fill byte
 abbrev pub refilled : (count fill : ℕ) → List ℕ → List ℕ
 refilled count fill stood = replicate count fill ++ drop count stood

@@ -15,7 +15,7 @@ abbrev pub pieces_of : List ℕ → List (List ℕ)
 pieces_of [] = []
 pieces_of (b ∷ bytes) = slice_split (λ c. c == 44) (b ∷ bytes)
 
--- what stands before the first byte c and what stands behind it, where there is one
+-- what is before the first byte c and what is after it, where there is one
 abbrev pub halves_at : Option ℕ → List ℕ → Option (List ℕ × List ℕ)
 halves_at None bytes = None
 halves_at (Some place) bytes = Some (take place bytes, drop (place + 1) bytes)
@@ -40,7 +40,7 @@ thread_halves program piece (Some (name, answer)) =
 abbrev pub item_of_thread : Program → List ℕ → Option Item
 item_of_thread program piece = thread_halves program piece (halves 61 piece)
 
--- `U=R` or `U=R:H`, cut at its first `=`, and behind it at the first `:`
+-- `U=R` or `U=R:H`, cut at its first `=`, and after that at the first `:`
 abbrev pub completion_item : Option ℕ → Option ℤ → Option ℕ → Option Item
 completion_item (Some u) (Some r) (Some h) = Some (Kernel u r h)
 completion_item _ _ _ = None
@@ -67,7 +67,7 @@ abbrev pub item_of : Program → List ℕ → Option Item
 item_of program [] = None
 item_of program (b ∷ bytes) = if is_kernel_item (b ∷ bytes) then item_of_kernel (drop 2 (b ∷ bytes)) else item_of_thread program (b ∷ bytes)
 
--- The items of a schedule, or the number of the first piece that is none, from 1.
+-- The items of a schedule, or the number of the first piece that isn't one, from 1.
 abbrev pub items_or : Option ℕ → List Item → Result (List Item) ℕ
 items_or None items = Ok items
 items_or (Some place) items = Err (place + 1)

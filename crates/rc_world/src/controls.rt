@@ -1,4 +1,4 @@
-//! Where each thread stands, its variables, the lock, whether the front completion is peeked, and the pool.
+//! Where each thread is, its variables, the lock, whether the front completion is peeked, and the pool.
 
 ghost use Rattle.std.specs.Prelude.{◌≡◌, ◌<◌, ◌≤◌, length, map, option_map, pos, replicate, ◌+ℤ◌, ◌-ℤ◌, slice_get, IfOk, IsSome, IsOkAnd};
 ghost use Rattle.rc_lang.specs.Program.{IsProgram, IsOperand, end_at};
@@ -16,7 +16,7 @@ use std::marker::Model;
 mod places;
 mod steps;
 
-/// Where a thread stands.
+/// Where a thread is.
 #[derive(Clone, Copy)]
 struct Control {
     // The place of its next line.
@@ -50,7 +50,7 @@ pub enum Answer {
     Front(Completion),
 }
 
-/// Where each thread of a program stands, who holds the lock, whether the front completion is peeked, and the pool.
+/// Where each thread of a program is, which one holds the lock, whether the front completion is peeked, and the pool.
 #[derive(Drop)]
 pub struct Controls {
     threads: Vec<Control>,
@@ -202,7 +202,7 @@ impl Controls {
         Some(control.place)
     }
 
-    // The step of a thread that stands at this statement.
+    // The step of a thread that is at this statement.
     fn act(
         &mut self,
         program: &Program,

@@ -30,7 +30,7 @@ pub enum FaultKind {
     /// F10: a call, the end of the lock or a break that releases it is next, which the stage of the submission entry
     /// doesn't allow.
     RawEntry,
-    /// F11: a load or a store behind the end of its buffer is next, or a prep of more bytes than the buffer has.
+    /// F11: a load or a store past the end of its buffer is next, or a prep of more bytes than the buffer has.
     OutOfBuffer,
     /// F12: a put is next of items that the pool has no room for, since some of them are there already.
     DoublePut,

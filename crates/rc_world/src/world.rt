@@ -188,7 +188,7 @@ impl<'a> World<'a> {
         }
     }
 
-    // Whether the answer of an item may stand at this statement.
+    // Whether an item may bring an answer to this statement.
     fn takes(&self, take: Option<i32>, stmt: Stmt) -> bool
         ensures { result ≡ items.takes self.now take stmt }
     {

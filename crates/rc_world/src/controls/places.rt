@@ -9,7 +9,7 @@ use super::Next;
 use rc_lang::lines::{Line, Stmt};
 use rc_lang::program::Program;
 
-// What a thread has next that stands at this line.
+// What a thread has next that is at this line.
 pub(super) fn ready_or_taken(holder: Option<u32>, line: Line) -> Next
     ensures { result ≡ ready_or_taken holder line line.stmt }
 {

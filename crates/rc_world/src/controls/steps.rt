@@ -35,7 +35,7 @@ impl Controls {
         }
     }
 
-    // The thread goes behind its line with this value of a variable.
+    // The thread goes on after its line with this value of a variable.
     pub(super) fn assign(
         &mut self,
         program: &Program,

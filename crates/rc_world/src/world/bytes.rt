@@ -10,7 +10,7 @@ use std::marker::Model;
 #[derive(Drop)]
 pub(super) struct Bytes {
     len: usize,
-    // The first of them; all behind these are 0.
+    // The first of them; all after these are 0.
     written: Vec<u8>,
 }
 
@@ -80,7 +80,7 @@ impl Bytes {
     }
 }
 
-// The bytes behind the written ones are written too, as 0.
+// The bytes after the written ones are written too, as 0.
 fn grow(written: &mut Vec<u8>, len: usize) -> Result<(), AllocError>
     requires { length written.old.items ≤ len }
     ensures { MatchResult result

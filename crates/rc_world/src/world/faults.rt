@@ -67,7 +67,7 @@ impl<'a> World<'a> {
         ensures { result ≡ harm.is_harmful self.now thread stmt }
     {
         match stmt {
-            // Most threads stand before the lock.
+            // Most threads are before the lock.
             Stmt::Lock => false,
             _ => {
                 self.harms_buffer(thread, access_of(stmt))

@@ -1,4 +1,4 @@
-//! What stands in a world, for who shows it. Nothing here takes memory.
+//! What is in a world, for callers that show it. Nothing here takes memory.
 
 ghost use Rattle.std.specs.Prelude.{◌≡◌, length, option_map, slice_get};
 ghost use Rattle.rc_world.specs.Controls.{next_line};

@@ -1,4 +1,4 @@
-//! Requests: what they may complete with, and where they stand.
+//! Requests: what they may complete with, and where they are.
 
 ghost use Rattle.std.specs.Prelude.{◌≡◌, ◌<◌, ◌≤◌, ◌&&◌, ◌||◌, length, nat_eq, position, IfSome};
 ghost use Rattle.std.specs.Vec.{vec_capacity, vec_len};

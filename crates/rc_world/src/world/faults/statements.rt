@@ -145,7 +145,7 @@ fn op_is_raw(slot: Slot, op: Op) -> bool
     }
 }
 
-// Whether a statement reaches behind the end of its buffer.
+// Whether a statement reaches past the end of its buffer.
 pub(super) fn is_out_at(program: &Program, stmt: Stmt) -> bool
     ensures { result ≡ spec.is_out_at program.now stmt }
 {
