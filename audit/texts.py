@@ -5,7 +5,7 @@ usage: audit/texts.py SEED
 
 A text has up to six nops in flight. Each belongs to a thread or to the pool. A thread submits and reaps its own,
 takes one from the pool and submits it, reaps for all and puts what it reaped, waits for the pool, counts, or ends after one
-round. It waits with the lock held or with a hold of the lock for each look. audit/hangs runs such texts.
+round. It waits with the lock held or with a hold of the lock for each look. ci/hangs --generated runs such texts.
 """
 
 import random

@@ -1,7 +1,7 @@
 #!/usr/bin/env python3
 """Holds what stands in the gallery against what a built program prints, or writes it.
 
-usage: audit/gallery.py PROGRAM [--write]
+usage: ci/gallery.py PROGRAM [--write]
 
 Of each pattern of examples/gallery that are: NAME.c, which is what `PROGRAM c` prints; and in page.md the verdict on
 broken.rc and why, and the last events and the end of the schedule that the file expected has for it. It also sees that

@@ -1,7 +1,7 @@
 #!/usr/bin/env python3
 """Says which edits don't apply: those that the prover has to refuse, and the wrong rules.
 
-usage: audit/edits.py
+usage: ci/edits.py
 
 An edit is a file of crates/NAME/must-fail or of audit/rules. After lines that begin with '#' it has pairs of lines
 'old: TEXT' and 'new: TEXT' for the file that the last line 'file: PATH' named. Each old TEXT stands there exactly once,
@@ -12,8 +12,8 @@ files below crates/, and a \\n in its TEXT is a line's end. The status is 1 wher
 import sys
 from pathlib import Path
 
-AUDIT = Path(__file__).resolve().parent
-TOP = AUDIT.parent
+TOP = Path(__file__).resolve().parent.parent
+RULES = TOP / "audit" / "rules"
 
 
 class Stale(Exception):
@@ -21,7 +21,7 @@ class Stale(Exception):
 
 
 def rule_edits():
-    return sorted(AUDIT.glob("rules/*.edit"))
+    return sorted(RULES.glob("*.edit"))
 
 
 def changed(edit, folder, unescape=lambda text: text):
@@ -65,7 +65,7 @@ def main():
     must_fail = sorted((TOP / "crates").glob("*/must-fail/*.edit"))
     for edit in must_fail + rule_edits():
         try:
-            changed_rule(edit, TOP / "crates") if edit.parent.parent == AUDIT else changed(edit, edit.parent.parent)
+            changed_rule(edit, TOP / "crates") if edit.parent == RULES else changed(edit, edit.parent.parent)
         except Stale as why:
             stale += 1
             print(f"{edit.relative_to(TOP)}: {why}", file=sys.stderr)

@@ -1,7 +1,7 @@
 #!/usr/bin/env python3
 """Holds what the crate rc_explain says of each cause against docs/causes.md, or writes it there.
 
-usage: audit/causes.py [--write]
+usage: ci/causes.py [--write]
 
 The crate has two sentences for each read fault and each cause of a refusal: why it is a mistake, and how it is mended.
 docs/causes.md has them below the heading of each, as a paragraph `**In short.** SENTENCE **Then:** MEND`. Without --write

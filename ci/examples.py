@@ -1,7 +1,7 @@
 #!/usr/bin/env python3
 """Holds the texts of rc_examples, rc_gallery and rc_edge_tests against the files of examples/, or writes them.
 
-usage: audit/examples.py [--write]
+usage: ci/examples.py [--write]
 
 rc_examples has a constant for each program of examples/, named as its file, and a row for each text of examples/causes.
 rc_gallery has a row for each text of examples/gallery, and a constant for each file of examples/c. What the file expected

@@ -1,7 +1,7 @@
 #!/usr/bin/env python3
 """Holds what a built program prints for the texts of examples/causes and examples/explained against their records.
 
-usage: audit/golden.py PROGRAM [--write]
+usage: ci/golden.py PROGRAM [--write]
 
 Beside each text NAME.rc stands its record NAME.out. It has blocks: a line `$ WORDS`, what the program prints for these
 words with the text as its input, and a line `status S`. Most have `check --explain`, as lines and as JSON; some have

@@ -1,7 +1,7 @@
 #!/usr/bin/env python3
 """Holds the commands and options of the manual page against the words that the program takes.
 
-usage: audit/manual.py [PROGRAM]
+usage: ci/manual.py [PROGRAM]
 
 Without PROGRAM the words are those of the source, crates/rc_main/src/words.rt; with it those that its --help tells. The
 status is 1 where a command or an option stands on one side alone, or where mandoc, if it is there, warns of the page.

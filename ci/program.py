@@ -1,7 +1,7 @@
 #!/usr/bin/env python3
 """Runs a built program on real files, pipes and processes, and holds what it does against what it should do.
 
-usage: audit/program.py PROGRAM
+usage: ci/program.py PROGRAM
 
 Of each command it sees each exit status that the command has, 0 to 3, with what is on standard output and what is on
 standard error, apart. It names several files, one that isn't there, a folder, one that may not be read, and standard
