@@ -1,12 +1,12 @@
 #!/usr/bin/env python3
-"""Holds what stands in the gallery against what a built program prints, or writes it.
+"""Compares what stands in the gallery with what a built program prints, or writes it.
 
 usage: ci/gallery.py PROGRAM [--write]
 
 Of each pattern of examples/gallery that are: NAME.c, which is what `PROGRAM c` prints; and in page.md the verdict on
-broken.rc and why, and the last events and the end of the schedule that the file expected has for it. It also sees that
-each row of expected is what is printed. The status is 1 where something differs. The test runs it on the program that
-it has built.
+broken.rc and why, and the last events and the end of the schedule that the file expected has for it. Each text of
+examples/gallery and of examples/causes has a row in the file expected there, and each row is what is printed. The status
+is 1 where something differs. The test runs it on the program that it has built.
 """
 
 import re
@@ -16,6 +16,7 @@ from pathlib import Path
 
 TOP = Path(__file__).resolve().parent.parent
 GALLERY = TOP / "examples" / "gallery"
+CAUSES = TOP / "examples" / "causes"
 
 # How many lines of a trace a page shows.
 SHOWN = 4
@@ -28,17 +29,20 @@ def printed(program, words, path):
     return done.stdout, done.returncode
 
 
-def rows():
-    """The rows of expected."""
-    return [line.split("\t") for line in (GALLERY / "expected").read_text().splitlines()[1:]]
+def rows(folder):
+    """The rows of the file expected."""
+    return [line.split("\t") for line in (folder / "expected").read_text().splitlines()[1:]]
 
 
-def wrong_rows(program):
-    """The rows that aren't what the program prints."""
-    for name, words, status, last in rows():
-        output, answer = printed(program, words.split(" "), GALLERY / name)
-        if (str(answer), output.splitlines()[-1:]) != (status, [last]):
-            yield f"{name} {words}: {answer} {output.splitlines()[-1:]}"
+def wrong_rows(program, folder):
+    """The rows that aren't what the program prints, and the texts without a row. A verdict is one line."""
+    for name, words, status, last in rows(folder):
+        output, answer = printed(program, words.split(" "), folder / name)
+        lines = output.splitlines()
+        if (str(answer), lines[-1:]) != (status, [last]) or words == "check" and len(lines) > 1:
+            yield f"{name} {words}: {answer} {lines[-1:]}"
+    named = {folder / row[0] for row in rows(folder)}
+    yield from (f"{path.relative_to(TOP)} has no row" for path in sorted(folder.glob("**/*.rc")) if path not in named)
 
 
 def why_of(lines):
@@ -51,7 +55,7 @@ def blocks(program, name):
     """The two blocks of a pattern's page that say what is printed."""
     broken = GALLERY / name / "broken.rc"
     refused = why_of(printed(program, ["check", "--explain"], broken)[0].splitlines())
-    words = next(row[1] for row in rows() if row[0] == f"{name}/broken.rc" and row[1].startswith("step"))
+    words = next(row[1] for row in rows(GALLERY) if row[0] == f"{name}/broken.rc" and row[1].startswith("step"))
     trace = printed(program, words.split(" "), broken)[0].splitlines()
     verdict = [f"ringcheck check --explain < examples/gallery/{name}/broken.rc", *refused]
     return ["\n".join(lines) for lines in (verdict, trace[-SHOWN:])]
@@ -68,7 +72,7 @@ def main():
     if len(sys.argv) < 2 or sys.argv[2:] not in ([], ["--write"]):
         sys.exit(__doc__)
     program = sys.argv[1]
-    found = list(wrong_rows(program))
+    found = [line for folder in (GALLERY, CAUSES) for line in wrong_rows(program, folder)]
     names = sorted(path.parent.name for path in GALLERY.glob("*/page.md") if (path.parent / "broken.rc").is_file())
     for name in names:
         at = GALLERY / name

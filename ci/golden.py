@@ -1,11 +1,13 @@
 #!/usr/bin/env python3
-"""Holds what a built program prints for the texts of examples/causes and examples/explained against their records.
+"""Compares what a built program prints for the texts of examples/causes, explained and c with their records.
 
 usage: ci/golden.py PROGRAM [--write]
 
 Beside each text NAME.rc stands its record NAME.out. It has blocks: a line `$ WORDS`, what the program prints for these
 words with the text as its input, and a line `status S`. Most have `check --explain`, as lines and as JSON; some have
 `c` or `step --state`. An object stands on several lines there: a comma begins one, but within what is said of a line.
+
+Each file NAME.c of examples/c is what `PROGRAM c` prints for NAME.rc there, or for examples/NAME.rc.
 
 The file hints of examples/explained has many short texts. Behind each of them stand, after `=> `, the verdict and the
 hint, and the object of --json has to say the same. In these texts `\\xHH` is a byte.
@@ -25,6 +27,7 @@ from pathlib import Path
 TOP = Path(__file__).resolve().parent.parent
 FOLDERS = [TOP / "examples" / "causes", TOP / "examples" / "explained"]
 HINTS = TOP / "examples" / "explained" / "hints"
+C_PROGRAMS = TOP / "examples" / "c"
 
 # What each record has.
 EACH = ["check --explain", "check --explain --json"]
@@ -86,8 +89,17 @@ def hints_of(program, record):
     return "".join(parts)
 
 
+def c_programs(program):
+    """Each file of C: its path, its text, and what the program prints."""
+    for file in sorted({path.with_suffix(".c") for path in C_PROGRAMS.iterdir()}):
+        beside, above = file.with_suffix(".rc"), TOP / "examples" / f"{file.stem}.rc"
+        path = beside if beside.is_file() else above
+        yield file, text_of(file) if file.is_file() else "", printed(program, "c", path.read_bytes())[0]
+
+
 def records(program):
     """Each record: its file, what stands there, and what should."""
+    yield from c_programs(program)
     for path in sorted(path for folder in FOLDERS for path in folder.glob("*.rc")):
         file = path.with_suffix(".out")
         record = text_of(file) if file.is_file() else ""
