@@ -86,7 +86,7 @@ resolved_at P made i k s e = go (slice_get P.threads i) refl e
   where
     go : (x : Option Thread) → slice_get P.threads i ≡ x → stmt_at (lines_in x) k ≡ Some s → (n : ℕ) × (lists : ℕ) × IsResolved P n lists s
     go None f h = absurd (cc)
-    go (Some t) f h = (t.variables, length t.lists, (made.each i t f).resolved k s h)
+    go (Some t) f h = (length t.variables, length t.lists, (made.each i t f).resolved k s h)
 
 -- ---- the faults, each alone
 

@@ -35,7 +35,7 @@ labelled_start P made accepts i t e =
     let h = (accepts i t e).labels in
     let good : IsGood P t (lines_of P i) h.0 = subst (λ x. IsGood P t x h.0) (sym (ap lines_in e)) h.1 in
     let it = made.each i t e in
-    let stored = flag_stored t.flag t.variables it.flag.variable it.few_variables in
+    let stored = flag_stored t.flag (length t.variables) it.flag.variable it.few_variables in
     lead P made i t h.0 (ap lists_in e) good (bag_of t.items) Unlocked zeros 0 [] refl refl stored tt (subst (λ z. Weaker (label_at h.0 0 z) (Live (bag_of t.items) Unlocked)) (sym (side_zero t.flag stored)) (same_below (label_at h.0 0 true) (on true (start_of t)) (h.1.begins true)))
 
 last : {A : Type 0} (x : A) (xs : List A) → (y : A) × (slice_get (x ∷ xs) (length xs) ≡ Some y)

@@ -1,5 +1,5 @@
 -- The program of the tests of `rc_rules`: `ringcheck 2`, `ring 2`, `file 3 64`, `buffer a 16 2`, `token 9 write a 1`, and
--- the thread `t0 holds a:2 t:9 c:1` without a line, which has two variables; the first is its flag.
+-- the thread `t0 holds a:2 t:9 c:1` without a line, which has the variables x and y; the first is its flag.
 use Rattle.std.specs.Prelude.{ℕ, ◌≡◌, ◌≤◌, [], ◌∷◌, None, Some, codes}
 use Rattle.rc_lang.specs.declared.program.TokenKind.TheVariants.{Write}
 use Rattle.rc_lang.specs.Program.{Program, Thread, no_more}
@@ -15,7 +15,7 @@ share_thread = record {
   lists = [];
   lines = [];
   ends = [];
-  variables = 2;
+  variables = codes "x" ∷ codes "y" ∷ [];
   flag = Some 0;
 }
 

@@ -38,7 +38,7 @@ example_thread credits calls branch flag = record {
   lists = [];
   lines = example_lines calls branch;
   ends = example_ends calls branch;
-  variables = 1;
+  variables = codes "x" ∷ [];
   flag = example_flag flag;
 }
 

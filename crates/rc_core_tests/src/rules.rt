@@ -44,6 +44,17 @@ fn declarations(alloc: Global) -> Result<Declarations, AllocError>
     })
 }
 
+fn variables(alloc: Global) -> Result<Vec<Vec<u8>>, AllocError>
+    ensures { IfOk result (λ names. map (λ n. n.items) names.items ≡ share_thread.variables) }
+{
+    let first = Vec::from_slice(alloc, b"x")?;
+    let second = Vec::from_slice(alloc, b"y")?;
+    let mut names = Vec::new(alloc);
+    names.push(first)?;
+    names.push(second)?;
+    Ok(names)
+}
+
 fn thread(alloc: Global) -> Result<Thread, AllocError>
     ensures { IfOk result (λ t. view_thread t ≡ share_thread) }
 {
@@ -69,7 +80,7 @@ fn thread(alloc: Global) -> Result<Thread, AllocError>
         lists: Vec::new(alloc),
         lines: Vec::new(alloc),
         ends: Vec::new(alloc),
-        variables: 2,
+        variables: variables(alloc)?,
         flag: Some(0),
     })
 }

@@ -1,6 +1,6 @@
 //! Headers and lines of small programs.
 
-ghost use Rattle.std.specs.Prelude.{◌≡◌, IfOk};
+ghost use Rattle.std.specs.Prelude.{◌≡◌, ◌∷◌, [], IfOk, codes, map};
 ghost use Rattle.rc_core_tests.specs.VerifyExample.{example, example_ends, example_flag, example_lines, example_thread, example_version};
 ghost use Rattle.rc_lang.specs.Parts.{view_thread};
 
@@ -75,6 +75,15 @@ fn version(shape: Shape) -> u32
     if shape.flag { 2 } else { 1 }
 }
 
+fn variables(alloc: Global) -> Result<Vec<Vec<u8>>, AllocError>
+    ensures { IfOk result (λ names. map (λ n. n.items) names.items ≡ codes "x" ∷ []) }
+{
+    let name = Vec::from_slice(alloc, b"x")?;
+    let mut names = Vec::new(alloc);
+    names.push(name)?;
+    Ok(names)
+}
+
 fn thread(alloc: Global, credits: u8, shape: Shape) -> Result<Thread, AllocError>
     ensures { IfOk result (λ t. view_thread t ≡ example_thread credits shape.calls shape.branch shape.flag) }
 {
@@ -98,7 +107,7 @@ fn thread(alloc: Global, credits: u8, shape: Shape) -> Result<Thread, AllocError
         lists: Vec::new(alloc),
         lines,
         ends,
-        variables: 1,
+        variables: variables(alloc)?,
         flag: flag(shape),
     })
 }

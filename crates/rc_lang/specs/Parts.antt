@@ -25,7 +25,7 @@ view_thread t = record {
   lists = map view_items t.lists.items;
   lines = t.lines.items;
   ends = t.ends.items;
-  variables = t.variables;
+  variables = map (λ n. n.items) t.variables.items;
   flag = t.flag;
 }
 

@@ -43,8 +43,8 @@ pub record Items : Type 0 where
 
 -- A thread: its name and the line of its header, what it holds as it begins, its lists of items (what it holds at the
 -- tops of its loops, and what it puts into the pool and takes from it), its lines, for the lines that a jump starts from
--- the place that it leads to, how many variables it has, and its flag: the one variable that a loop of it names behind
--- `when`, wherever in the thread that loop stands.
+-- the place that it leads to, the names of its variables by their numbers, and its flag: the one variable that a loop of
+-- it names behind `when`, wherever in the thread that loop stands.
 pub record Thread : Type 0 where
   pub name : List ℕ
   pub line : ℕ
@@ -52,7 +52,7 @@ pub record Thread : Type 0 where
   pub lists : List Items
   pub lines : List Line
   pub ends : List ℕ
-  pub variables : ℕ
+  pub variables : List (List ℕ)
   pub flag : Option ℕ
 
 -- A program: the version of the notation, how many entries its submission ring and its completion ring have
@@ -283,7 +283,7 @@ pub record IsOfPool (items : Items) : Type 0 where
 
 -- The flag is a variable, of a program of version 2 or later; a thread without one holds nothing besides at any loop.
 pub record IsFlag (program : Program) (thread : Thread) : Type 0 where
-  pub variable : IfSome thread.flag (λ x. x < thread.variables)
+  pub variable : IfSome thread.flag (λ x. x < length thread.variables)
   pub version : program.version ≡ 1 → thread.flag ≡ None
   pub without : thread.flag ≡ None → All (λ (i : Items). i.more ≡ no_more) thread.lists
 
@@ -298,10 +298,10 @@ pub record IsThread (program : Program) (thread : Thread) : Type 0 where
   pub lists : All (IsList program) thread.lists
   pub few_lines : length thread.lines ≤ 4096
   pub numbers : All (λ (l : Line). (1 ≤ l.number) × (l.number ≤ 4096)) thread.lines
-  pub few_variables : thread.variables ≤ 64
+  pub few_variables : length thread.variables ≤ 64
   pub flag : IsFlag program thread
   pub nested : IsNested thread.lines
-  pub resolved : (j : ℕ) (s : Stmt) → stmt_at thread.lines j ≡ Some s → IsResolved program thread.variables (length thread.lists) s
+  pub resolved : (j : ℕ) (s : Stmt) → stmt_at thread.lines j ≡ Some s → IsResolved program (length thread.variables) (length thread.lists) s
   pub linked : (j : ℕ) (s : Stmt) → stmt_at thread.lines j ≡ Some s → IsLinked thread.lines thread.ends j s
   pub queues : (j k : ℕ) → stmt_at thread.lines j ≡ Some (Loop k) → MaySayQueue thread j k
   pub puts : (j k : ℕ) → stmt_at thread.lines j ≡ Some (Put k) → IsOfPool (items_at thread.lists k)

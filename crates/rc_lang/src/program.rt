@@ -121,8 +121,8 @@ pub struct Thread {
     /// For the place of an if that of its else or its closing brace, for the place of an else, a peek and a loop that
     /// of its closing brace. What stands at the other places says nothing.
     pub ends: Vec<usize>,
-    /// How many variables it has, at most 64.
-    pub variables: usize,
+    /// The names of its variables, at most 64, in the order of their first uses. A variable's number is its place here.
+    pub variables: Vec<Vec<u8>>,
     /// The variable that its loops name behind `when`, in a program of version 2 or later.
     pub flag: Option<usize>,
 }

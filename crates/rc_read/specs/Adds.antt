@@ -146,7 +146,7 @@ stmt_in d _ = closing_of (innermost d.blocks)
 
 -- the thread that is complete
 abbrev pub whole_thread : Draft → ThreadOf
-whole_thread d = record { name = d.name; line = d.line; items = d.items; lists = d.lists; lines = d.lines; ends = d.ends; variables = length d.names; flag = d.flag }
+whole_thread d = record { name = d.name; line = d.line; items = d.items; lists = d.lists; lines = d.lines; ends = d.ends; variables = d.names; flag = d.flag }
 
 -- ---- lines
 

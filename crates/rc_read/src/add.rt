@@ -87,7 +87,7 @@ impl Parts {
         ensures count { self.new.count ≡ self.old.count }
     {
         let draft = mem::replace(&mut self.draft, Draft::new(alloc));
-        self.threads.push(draft.into_thread())?;
+        self.threads.push(draft.into_thread(alloc)?)?;
         self.region = Region::Between;
         Ok(())
     }

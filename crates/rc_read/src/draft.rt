@@ -311,18 +311,18 @@ impl Draft {
     }
 
     // The thread that is complete.
-    pub fn into_thread(self) -> Thread
-        ensures { view_thread result ≡ spec.whole_thread (view_draft self) }
+    pub fn into_thread(self, alloc: Global) -> Result<Thread, AllocError>
+        ensures { IfOk result (λ t. view_thread t ≡ spec.whole_thread (view_draft self)) }
     {
-        Thread {
+        Ok(Thread {
             name: self.name,
             line: self.line,
             items: self.items,
             lists: self.lists,
             lines: self.lines,
             ends: self.ends,
-            variables: self.names.len(),
+            variables: self.names.into_iter().collect(alloc)?,
             flag: self.flag,
-        }
+        })
     }
 }

@@ -35,7 +35,7 @@ in_thread P made i j s h = go (slice_get P.threads i) refl h
 
 -- the names of a line are resolved
 pub resolved_in : (P : Program) → IsProgram P → (i j : ℕ) (s : Stmt) → stmt_at (lines_of P i) j ≡ Some s → (n lists : ℕ) × (n ≤ 64) × IsResolved P n lists s
-resolved_in P made i j s h = let t = in_thread P made i j s h in (t.0.variables, length t.0.lists, t.1.few_variables, t.1.resolved j s t.2)
+resolved_in P made i j s h = let t = in_thread P made i j s h in (length t.0.variables, length t.0.lists, t.1.few_variables, t.1.resolved j s t.2)
 
 -- A made program's line with a number of items names one of its thread's lists.
 abbrev pub NamesList : ℕ → Stmt → Type 0

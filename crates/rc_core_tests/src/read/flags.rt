@@ -67,7 +67,10 @@ fn threads_have_their_flags(rt: HostRuntime) -> Result<(), Fail> {
     let program = read_program(rt.alloc(), BOTH.as_bytes())?;
     assert_eq!(rt; program.version(), 2);
     let first = program.threads().get(0).ok_or("a thread")?;
-    assert!(rt; first.flag() == Some(1) && first.variables == 2);
+    assert_eq!(rt; first.flag(), Some(1));
+    assert_eq!(rt; first.variables.len(), 2);
+    assert!(rt; first.variables[0].as_slice() == b"g".as_slice());
+    assert!(rt; first.variables[1].as_slice() == b"h".as_slice());
     assert!(rt; size_of(&first.items) == (1, 1, 0));
     assert!(rt; more_of(&first.items) == (0, 0, 0));
     let second = program.threads().get(1).ok_or("a thread")?;
