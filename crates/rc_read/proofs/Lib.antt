@@ -20,8 +20,6 @@ pub mod Rows
 pub mod Seen
 pub mod Sizes
 pub mod Streams
-pub mod Tokens
 pub mod Twice
 pub mod Versions
 pub mod Among
-pub mod Differ

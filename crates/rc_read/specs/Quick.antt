@@ -1,5 +1,5 @@
 -- Faster ways to what the definitions of the notation say. Nothing that is told of it speaks of these.
-use Rattle.std.specs.Prelude.{ℕ, ◌+◌, List, [], ◌∷◌, length, take, slice_index_or, Option, Some, None, Bool, true, false, ◌&&◌, not, ◌==◌, nat_le, nat_lt, if◌then◌else◌}
+use Rattle.std.specs.Prelude.{ℕ, ◌+◌, List, [], ◌∷◌, take, Option, Some, None, Bool, true, false, ◌&&◌, not, ◌==◌, nat_le, nat_lt, if◌then◌else◌}
 use Rattle.std.specs.List.{list_any}
 use Rattle.rc_read.specs.declared.table.Part.{Part}
 use Rattle.rc_read.specs.declared.table.Part.TheVariants.{Fixed}
@@ -72,11 +72,6 @@ ascend_from i (j ∷ is) = comes_before i j && ascend_from j is
 abbrev pub ascend : List Item → Bool
 ascend [] = true
 ascend (i ∷ is) = ascend_from i is
-
--- The byte before a name's last, and 0 where there is none.
-abbrev pub second_last : List ℕ → ℕ
-second_last (a ∷ b ∷ name) = slice_index_or (a ∷ b ∷ name) (length name) 0
-second_last _ = 0
 
 -- A number, where it is one and lies in a range.
 abbrev pub in_range : ℕ → ℕ → Bool → ℕ → Option ℕ

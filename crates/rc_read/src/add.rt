@@ -1,21 +1,18 @@
 //! What a line adds to what was read so far.
 
-ghost use Rattle.std.specs.Prelude.{◌≡◌, ◌<◌, ◌++◌, ◌∷◌, [], None, true, IfOk, OnOk};
-ghost use Rattle.std.specs.List.{IsDistinct};
-ghost use Rattle.std.specs.Str.{bytes_eq};
+ghost use Rattle.std.specs.Prelude.{◌≡◌, ◌<◌, [], None, IfOk, OnOk};
 ghost use Rattle.rc_lang.specs.Nesting as nesting;
 ghost use Rattle.rc_read.specs.Adds as spec;
-ghost use Rattle.rc_read.specs.Sheets.{buffer_names, headed};
+ghost use Rattle.rc_read.specs.Sheets.{headed};
 ghost use Rattle.rc_read.specs.Texts.{texts_of};
 ghost use Rattle.rc_read.specs.View.{view_draft, view_sheet};
 
 use crate::blocks::innermost;
 use crate::draft::held;
-use crate::names::has_buffer;
 use crate::parts::{Draft, Parts, Region};
 use crate::says::{Rings, Says};
 use crate::values::Item;
-use rc_lang::program::{Buffer, Head, Thread, Token};
+use rc_lang::program::{Buffer, Head};
 use std::alloc::{AllocError, Global};
 use std::mem;
 
@@ -41,22 +38,12 @@ fn head_with_rings(version: u32, rings: Rings) -> Head
     }
 }
 
-// For how many lines a new thread takes memory at once: as many as the one above has, and the first for each four
-// bytes of the piece, up to as many as a text may have.
-fn likely_size(threads: &[Thread], fed: usize) -> usize {
-    match threads.last() {
-        Some(thread) => thread.lines.len(),
-        None => (fed / 4).min(4096),
-    }
-}
-
-// A thread whose header has these words and items and stands on this line, with memory for as many lines.
+// A thread whose header has these words and items and stands on this line.
 fn open_thread(
     alloc: Global,
     words: &[&[u8]],
     items: &[Item],
     line: u32,
-    size: usize,
 ) -> Result<Draft, AllocError>
     ensures { IfOk result (λ d. view_draft d ≡ headed (spec.second_of (texts_of words.now)) line (spec.held items.now [])) }
 {
@@ -64,8 +51,6 @@ fn open_thread(
         name: Vec::from_slice(alloc, second_of(words))?,
         line,
         items: held(alloc, items)?,
-        lines: Vec::with_capacity(alloc, size)?,
-        ends: Vec::with_capacity(alloc, size)?,
         ..Draft::new(alloc)
     })
 }
@@ -110,17 +95,9 @@ impl Parts {
         ensures ok { OnOk result (view_sheet self.new ≡ spec.added (view_sheet self.old) (texts_of words.now) items.now Says.Thread) }
         ensures count { self.new.count ≡ self.old.count }
     {
-        let size = likely_size(&self.threads, self.fed);
-        self.draft = open_thread(alloc, words, items, self.count + 1, size)?;
+        self.draft = open_thread(alloc, words, items, self.count + 1)?;
         self.region = Region::InThread;
         Ok(())
-    }
-
-    // Whether the names of the buffers are known to differ from each other and from this one.
-    fn differ_from(&self, name: &[u8]) -> bool
-        ensures { result ≡ true → IsDistinct bytes_eq (buffer_names (view_sheet self.now).buffers ++ name.now ∷ []) }
-    {
-        self.differ && !has_buffer(&self.buffers, name)
     }
 
     // Declares a buffer.
@@ -135,24 +112,11 @@ impl Parts {
         ensures count { self.new.count ≡ self.old.count }
     {
         let name = Vec::from_slice(alloc, second_of(words))?;
-        let differ = self.differ_from(&name);
-        self.differ = false;
         self.buffers.push(Buffer {
             name,
             bytes,
             shares,
         })?;
-        self.differ = differ;
-        Ok(())
-    }
-
-    // Declares a token.
-    fn put_token(&mut self, token: Token) -> Result<(), AllocError>
-        ensures ok { OnOk result (view_sheet self.new ≡ spec.added (view_sheet self.old) [] [] (Says.Token token)) }
-        ensures count { self.new.count ≡ self.old.count }
-    {
-        self.tokens.push(token)?;
-        self.highest = self.highest.max(token.user_data);
         Ok(())
     }
 
@@ -180,7 +144,7 @@ impl Parts {
             }
             Says::File(file) => Ok(self.files.push(file)?),
             Says::Buffer(bytes, shares) => self.put_buffer(alloc, words, bytes, shares),
-            Says::Token(token) => self.put_token(token),
+            Says::Token(token) => Ok(self.tokens.push(token)?),
             Says::Thread => self.open(alloc, words, items),
             Says::Close => self.close(alloc),
             Says::Op(op) => self.draft.put_op(self.count + 1, op),

@@ -31,8 +31,6 @@ pub struct Found<'a> {
     spots: Vec<Spot<'a>>,
     values: Vec<Value>,
     items: Vec<Item>,
-    // The number of the buffer that was named last.
-    near: usize,
 }
 
 /// Memory that each line of a piece uses again.
@@ -52,7 +50,6 @@ impl<'a> Scratch<'a> {
                 spots: Vec::new(alloc),
                 values: Vec::new(alloc),
                 items: Vec::new(alloc),
-                near: 0,
             },
         }
     }
@@ -148,8 +145,7 @@ fn judge_row(
     ensures { JudgesRow (view_sheet parts.old) line.now (texts_of words.now) row (view_sheet parts.new) result }
 {
     let (values, items) = (&mut found.values, &mut found.items);
-    let put = put_values(alloc, values, items, &mut found.near, parts, &found.spots)?;
-    let Some(wrong) = put else {
+    let Some(wrong) = put_values(alloc, values, items, parts, &found.spots)? else {
         return Ok(Some(ReadCause::BadNumber));
     };
     let says = says_of(row, &found.values);

@@ -1,36 +1,14 @@
 //! Names, and what is declared.
 
-ghost use Rattle.std.specs.Prelude.{◌≡◌, Some, map, IfOk, IfSome, OnOk};
-ghost use Rattle.std.specs.List.{IsDistinct};
-ghost use Rattle.std.specs.Str.{bytes_eq};
+ghost use Rattle.std.specs.Prelude.{◌≡◌, map, IfOk, OnOk};
 ghost use Rattle.rc_lang.specs.Parts.{view_buffer, view_thread};
-ghost use Rattle.rc_read.specs.Quick.{second_last};
 ghost use Rattle.rc_read.specs.Sheets as spec;
 ghost use Rattle.rc_read.specs.View.{view_names};
 
+use crate::words::is;
 use indexmap::IndexSet;
 use rc_lang::program::{Buffer, File, Thread, Token};
 use std::alloc::{AllocError, Global};
-
-// The byte before the last, and 0 where there is none.
-fn second_last(name: &[u8]) -> u8
-    ensures { result ≡ second_last name.now }
-{
-    match name {
-        [.., byte, _] => *byte,
-        _ => 0,
-    }
-}
-
-// Whether two names are the same. Their ends differ most often.
-fn is_same(name: &[u8], word: &[u8]) -> bool
-    ensures { result ≡ bytes_eq name.now word.now }
-{
-    name.len() == word.len()
-        && name.last() == word.last()
-        && second_last(name) == second_last(word)
-        && name == word
-}
 
 /// The number of a buffer, which where it isn't declared is that of the next, and its shares if it is declared.
 pub fn find_buffer(buffers: &[Buffer], word: &[u8]) -> (usize, Option<u32>)
@@ -38,27 +16,11 @@ pub fn find_buffer(buffers: &[Buffer], word: &[u8]) -> (usize, Option<u32>)
     ensures shares { result.1 ≡ spec.shares_in (map view_buffer buffers.now) word.now }
 {
     for (i, buffer) in buffers.iter().enumerate() {
-        if is_same(&buffer.name, word) {
+        if is(&buffer.name, word) {
             return (i, Some(buffer.shares));
         }
     }
     (buffers.len(), None)
-}
-
-/// The number and the shares of a buffer, where one is found near this place. That none is found says nothing of it.
-pub fn find_near(buffers: &[Buffer], place: usize, word: &[u8]) -> Option<(usize, u32)>
-    requires { IsDistinct bytes_eq (spec.buffer_names (map view_buffer buffers.now)) }
-    ensures number { IfSome result (λ p. p.0 ≡ spec.buffer_number (map view_buffer buffers.now) word.now) }
-    ensures shares { IfSome result (λ p. Some p.1 ≡ spec.shares_in (map view_buffer buffers.now) word.now) }
-{
-    let end = buffers.len().min(place.saturating_add(8));
-    for i in place..end {
-        let buffer = &buffers[i];
-        if is_same(&buffer.name, word) {
-            return Some((i, buffer.shares));
-        }
-    }
-    None
 }
 
 /// Whether a buffer is declared.
@@ -73,7 +35,7 @@ pub fn has_thread(threads: &[Thread], word: &[u8]) -> bool
     ensures { result ≡ spec.is_among (spec.thread_names (map view_thread threads.now)) word.now }
 {
     for thread in threads {
-        if is_same(&thread.name, word) {
+        if is(&thread.name, word) {
             return true;
         }
     }
@@ -91,16 +53,7 @@ pub fn has_file(files: &[File], number: u32) -> bool
 pub fn has_token(tokens: &[Token], user_data: u64) -> bool
     ensures { result ≡ spec.has_token tokens.now user_data }
 {
-    // Most often they are numbered from 0 on.
-    let place = user_data as usize;
-    if place < tokens.len() && tokens[place].user_data == user_data {
-        return true;
-    }
-    let mut any = false;
-    for token in tokens {
-        any = any | (token.user_data == user_data);
-    }
-    any
+    tokens.iter().any(|token| token.user_data == user_data)
 }
 
 /// The number of a name, which is added where it is new.

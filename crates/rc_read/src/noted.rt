@@ -9,7 +9,7 @@ ghost use Rattle.rc_read.specs.Texts.{view_spots};
 ghost use Rattle.rc_read.specs.Values as spec;
 ghost use Rattle.rc_read.specs.View.{view_sheet};
 
-use crate::names::{add_name, find_buffer, find_near, has_buffer, has_file, has_thread, has_token};
+use crate::names::{add_name, find_buffer, has_buffer, has_file, has_thread, has_token};
 use crate::parts::Parts;
 use crate::spots::{Spot, begins_number, comparison_of};
 use crate::table::{Part, Range};
@@ -54,7 +54,7 @@ fn repeats_token(parts: &Parts, user_data: Option<u64>) -> bool
 {
     match user_data {
         None => false,
-        Some(u) => u <= parts.highest && has_token(&parts.tokens, u),
+        Some(u) => has_token(&parts.tokens, u),
     }
 }
 
@@ -111,27 +111,12 @@ impl Noted {
     }
 }
 
-// The number and the shares of a buffer, which is looked for first about the place of another.
-fn find_about(parts: &Parts, near: usize, word: &[u8]) -> (usize, Option<u32>)
-    ensures number { result.0 ≡ sheets.buffer_number (view_sheet parts.now).buffers word.now }
-    ensures shares { result.1 ≡ sheets.shares_in (view_sheet parts.now).buffers word.now }
-{
-    if parts.differ {
-        if let Some((number, shares)) = find_near(&parts.buffers, near.saturating_sub(4), word) {
-            return (number, Some(shares));
-        }
-    }
-    find_buffer(&parts.buffers, word)
-}
-
-// A buffer, which is looked for first near the one that was named last.
-fn look_at_buffer(parts: &Parts, near: &mut usize, noted: &mut Noted, word: &[u8]) -> Option<Value>
+fn look_at_buffer(parts: &Parts, noted: &mut Noted, word: &[u8]) -> Option<Value>
     ensures value { result ≡ spec.value_at (view_sheet parts.now) noted.old.seen Part.Buffer word.now }
     ensures seen { noted.new.seen ≡ spec.seen_behind (view_sheet parts.now) noted.old.seen Part.Buffer word.now }
     ensures wrong { noted.new.wrong ≡ judging.wrong_with (view_sheet parts.now) Part.Buffer word.now noted.old.wrong }
 {
-    let (buffer, shares) = find_about(parts, *near, word);
-    *near = buffer;
+    let (buffer, shares) = find_buffer(&parts.buffers, word);
     noted.lack(shares.is_none());
     noted.seen.buffer = buffer;
     noted.seen.shares = shares;
@@ -233,7 +218,6 @@ fn operand_of(alloc: Global, parts: &mut Parts, word: &[u8]) -> Result<Option<Va
 fn look_at(
     alloc: Global,
     parts: &mut Parts,
-    near: &mut usize,
     noted: &mut Noted,
     part: Part,
     word: &[u8],
@@ -251,7 +235,7 @@ fn look_at(
         Part::Signed => signed_value(word),
         Part::Number(Range::Size) => look_at_size(noted, word),
         Part::Number(range) => small_value(number_at(parts, noted.seen, range, word)),
-        Part::Buffer => look_at_buffer(parts, near, noted, word),
+        Part::Buffer => look_at_buffer(parts, noted, word),
         Part::Token => user_data_value(look_at_token(parts, noted, word)),
         Part::File => look_at_file(parts, noted, word),
         Part::NewFile => look_at_new_file(parts, noted, word),
@@ -280,13 +264,11 @@ fn push_if_item(items: &mut Vec<Item>, value: Value) -> Result<(), AllocError>
 }
 
 /// Puts what the places of a line say there, and the items among it, and adds the line's variables, unless a word in a
-/// number's place is no number or is out of its range. The answer is what is wrong with their names. A buffer is looked
-/// for first near the one that was named last.
+/// number's place is no number or is out of its range. The answer is what is wrong with their names.
 pub fn put_values(
     alloc: Global,
     values: &mut Vec<Value>,
     items: &mut Vec<Item>,
-    near: &mut usize,
     parts: &mut Parts,
     spots: &[Spot],
 ) -> Result<Option<Wrong>, AllocError>
@@ -300,7 +282,7 @@ pub fn put_values(
     values.clear();
     items.clear();
     for spot in spots {
-        let says = look_at(alloc, parts, near, &mut noted, spot.part, spot.word)?;
+        let says = look_at(alloc, parts, &mut noted, spot.part, spot.word)?;
         let Some(value) = says else {
             return Ok(None);
         };

@@ -1,12 +1,6 @@
 //! What was read so far.
 
-ghost use Rattle.std.specs.Prelude.{◌≡◌, ◌≤◌, All, true, map};
-ghost use Rattle.std.proofs.Props.{props};
-ghost use Rattle.std.specs.List.{IsDistinct};
-ghost use Rattle.std.specs.Str.{bytes_eq};
-ghost use Rattle.rc_lang.specs.Parts.{view_buffer};
-ghost use Rattle.rc_lang.specs.declared.program.Token.{Token};
-ghost use Rattle.rc_read.specs.Sheets.{buffer_names};
+ghost use Rattle.std.specs.Prelude.{◌≤◌};
 
 use indexmap::IndexSet;
 use rc_lang::lines::{Block, Line};
@@ -61,17 +55,9 @@ pub struct Parts {
     pub files: Vec<File>,
     pub buffers: Vec<Buffer>,
     pub tokens: Vec<Token>,
-    /// No token has user data above this.
-    pub highest: u64,
     pub threads: Vec<Thread>,
     pub draft: Draft,
-    /// Whether the names of the buffers are known to differ.
-    pub differ: bool,
-    /// How many bytes the last piece of the text has.
-    pub fed: usize,
-    ghost none_higher: { All (λ (t : Token). t.user_data ≤ highest) tokens.items },
     ghost few_lines: { count ≤ 4096 },
-    ghost names_differ: { differ ≡ true → IsDistinct bytes_eq (buffer_names (map view_buffer buffers.items)) } by { Prim.hlevel props },
 }
 
 impl Arms {
@@ -146,11 +132,8 @@ impl Parts {
             files: Vec::new(alloc),
             buffers: Vec::new(alloc),
             tokens: Vec::new(alloc),
-            highest: 0,
             threads: Vec::new(alloc),
             draft: Draft::new(alloc),
-            differ: true,
-            fed: 0,
         }
     }
 }

@@ -79,7 +79,6 @@ fn take(
     ensures reads { ReadsMore (view_sheet parts.old) pending.old.items piece.now (view_sheet parts.new) pending.new.items result }
     ensures sound { IsReached (view_sheet parts.old) → IsSoundBy result (view_sheet parts.new) }
 {
-    parts.fed = piece.len();
     let plain = !has_strange(piece);
     let mut scratch = Scratch::new(alloc);
     let mut at = 0;
