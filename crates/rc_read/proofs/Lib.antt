@@ -20,6 +20,5 @@ pub mod Rows
 pub mod Seen
 pub mod Sizes
 pub mod Streams
-pub mod Twice
 pub mod Versions
 pub mod Among

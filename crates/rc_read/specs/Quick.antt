@@ -1,11 +1,9 @@
 -- Faster ways to what the definitions of the notation say. Nothing that is told of it speaks of these.
-use Rattle.std.specs.Prelude.{ℕ, ◌+◌, List, [], ◌∷◌, take, Option, Some, None, Bool, true, false, ◌&&◌, not, ◌==◌, nat_le, nat_lt, if◌then◌else◌}
+use Rattle.std.specs.Prelude.{ℕ, ◌+◌, List, [], ◌∷◌, take, Option, Some, None, Bool, true, false, ◌&&◌, not, ◌==◌, nat_le, if◌then◌else◌}
 use Rattle.std.specs.List.{list_any}
 use Rattle.rc_read.specs.declared.table.Part.{Part}
 use Rattle.rc_read.specs.declared.table.Part.TheVariants.{Fixed}
 use Rattle.rc_read.specs.declared.table.Row.{Row}
-use Rattle.rc_read.specs.declared.values.Item.{Item}
-use Rattle.rc_read.specs.declared.values.Item.TheVariants as item
 use Rattle.rc_read.specs.Sentences.{is_strange}
 use Rattle.rc_read.specs.Spots.{are_items, fits, is_item}
 use Rattle.rc_read.specs.Table.{text_of, parts_of}
@@ -51,27 +49,6 @@ taken_one part (w ∷ ws) = if fits part w then Some 1 else None
 
 abbrev pub taken_by : Part → List (List ℕ) → Option ℕ
 taken_by part ws = if are_items part then Some (items_in_front ws) else taken_one part ws
-
--- Items in an order: shares by the numbers of their buffers, tokens by their user data, credits, queued entries and `when`.
-abbrev pub comes_before : Item → Item → Bool
-comes_before (item.Shares b k) (item.Shares c l) = nat_lt b c
-comes_before (item.Shares b k) _ = true
-comes_before (item.Token u) (item.Token v) = nat_lt u v
-comes_before (item.Token u) (item.Credits n) = true
-comes_before (item.Token u) (item.Queued k) = true
-comes_before (item.Token u) (item.When x) = true
-comes_before (item.Credits n) (item.Queued k) = true
-comes_before (item.Credits n) (item.When x) = true
-comes_before (item.Queued k) (item.When x) = true
-comes_before _ _ = false
-
-abbrev pub ascend_from : Item → List Item → Bool
-ascend_from i [] = true
-ascend_from i (j ∷ is) = comes_before i j && ascend_from j is
-
-abbrev pub ascend : List Item → Bool
-ascend [] = true
-ascend (i ∷ is) = ascend_from i is
 
 -- A number, where it is one and lies in a range.
 abbrev pub in_range : ℕ → ℕ → Bool → ℕ → Option ℕ

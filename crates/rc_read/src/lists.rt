@@ -2,7 +2,6 @@
 
 ghost use Rattle.std.specs.Prelude.{◌≡◌, position};
 ghost use Rattle.std.specs.List.{list_any};
-ghost use Rattle.rc_read.specs.Quick as quick;
 ghost use Rattle.rc_read.specs.Sentences as sentences;
 ghost use Rattle.rc_read.specs.Values as spec;
 
@@ -79,45 +78,8 @@ fn any_same(item: Item, items: &[Item]) -> bool
     items.iter().any(|other| names_same(item, *other))
 }
 
-fn comes_before(i: Item, j: Item) -> bool
-    ensures { result ≡ quick.comes_before i j }
-{
-    match (i, j) {
-        (Item::Token(u), Item::Token(v)) => u < v,
-        (Item::Shares(b, _), Item::Shares(c, _)) => b < c,
-        (Item::Shares(_, _), Item::Token(_) | Item::Credits(_)) => true,
-        (Item::Shares(_, _) | Item::Token(_), Item::Queued(_) | Item::When(_)) => true,
-        (Item::Token(_), Item::Credits(_)) => true,
-        (Item::Credits(_), Item::Queued(_) | Item::When(_)) => true,
-        (Item::Queued(_), Item::When(_)) => true,
-        _ => false,
-    }
-}
-
-fn ascend_from(first: Item, items: &[Item]) -> bool
-    ensures { result ≡ quick.ascend_from first items.now }
-{
-    let mut last = first;
-    for item in items {
-        if !comes_before(last, *item) {
-            return false;
-        }
-        last = *item;
-    }
-    true
-}
-
-// Whether each item comes before the next. Then none is named twice.
-fn ascend(items: &[Item]) -> bool
-    ensures { result ≡ quick.ascend items.now }
-{
-    match items {
-        [] => true,
-        [first, rest @ ..] => ascend_from(*first, rest),
-    }
-}
-
-fn any_repeated(items: &[Item]) -> bool
+// Whether an item is named twice in a list.
+fn any_twice(items: &[Item]) -> bool
     ensures { result ≡ sentences.any_twice items.now }
 {
     for (i, item) in items.iter().enumerate() {
@@ -126,13 +88,6 @@ fn any_repeated(items: &[Item]) -> bool
         }
     }
     false
-}
-
-// Whether an item is named twice in a list.
-fn any_twice(items: &[Item]) -> bool
-    ensures { result ≡ sentences.any_twice items.now }
-{
-    !ascend(items) && any_repeated(items)
 }
 
 fn is_token(item: Item) -> bool
@@ -152,18 +107,10 @@ fn any_in_both(more: &[Item], items: &[Item]) -> bool
         .any(|item| is_token(*item) && any_same(*item, items))
 }
 
-// Whether in a line with items one is named twice in a list, or a token in both. Most lines have none.
-#[inline(never)]
-fn any_named_again(items: &[Item]) -> bool
-    ensures { result ≡ sentences.any_named_twice items.now }
-{
-    let (before, behind) = parted(items);
-    any_twice(before) || any_twice(behind) || any_in_both(behind, before)
-}
-
 /// Whether an item is named twice in a list, or a token in both.
 pub fn any_named_twice(items: &[Item]) -> bool
     ensures { result ≡ sentences.any_named_twice items.now }
 {
-    !items.is_empty() && any_named_again(items)
+    let (before, behind) = parted(items);
+    any_twice(before) || any_twice(behind) || any_in_both(behind, before)
 }
