@@ -1,5 +1,5 @@
 -- Faster ways to what the definitions of the notation say. Nothing that is told of it speaks of these.
-use Rattle.std.specs.Prelude.{ℕ, ◌+◌, List, [], ◌∷◌, take, Option, Some, None, Bool, true, false, ◌&&◌, not, ◌==◌, nat_le, if◌then◌else◌}
+use Rattle.std.specs.Prelude.{ℕ, ◌+◌, List, [], ◌∷◌, take, Option, Some, None, Bool, true, false, ◌&&◌, not, ◌==◌, if◌then◌else◌}
 use Rattle.std.specs.List.{list_any}
 use Rattle.rc_read.specs.declared.table.Part.{Part}
 use Rattle.rc_read.specs.declared.table.Part.TheVariants.{Fixed}
@@ -49,7 +49,3 @@ taken_one part (w ∷ ws) = if fits part w then Some 1 else None
 
 abbrev pub taken_by : Part → List (List ℕ) → Option ℕ
 taken_by part ws = if are_items part then Some (items_in_front ws) else taken_one part ws
-
--- A number, where it is one and lies in a range.
-abbrev pub in_range : ℕ → ℕ → Bool → ℕ → Option ℕ
-in_range low high is n = if is && nat_le low n && nat_le n high then Some n else None

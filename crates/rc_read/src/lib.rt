@@ -11,7 +11,6 @@ pub mod laws;
 mod lists;
 mod names;
 mod noted;
-mod numbers;
 pub mod parts;
 mod reader;
 pub mod reserved;

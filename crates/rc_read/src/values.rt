@@ -5,12 +5,11 @@ ghost use Rattle.rc_lang.specs.Numbers.{number_of as number_in_range};
 ghost use Rattle.rc_read.specs.Values as spec;
 ghost use Rattle.rc_read.specs.View.{view_sheet};
 
-use crate::numbers::number_of;
 use crate::parts::Parts;
 use crate::table::Range;
 use crate::words::is;
 use rc_lang::lines::{Comparison, Operand};
-use rc_lang::numbers::{is_number, signed_number_of};
+use rc_lang::numbers::{is_number, number_of, signed_number_of};
 
 /// An item of a list: shares of a buffer, a token, credits or queued entries; and `when`, which stands between two
 /// lists with a variable.
