@@ -20,5 +20,4 @@ pub mod Rows
 pub mod Seen
 pub mod Sizes
 pub mod Streams
-pub mod Versions
 pub mod Among

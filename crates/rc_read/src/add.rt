@@ -84,7 +84,7 @@ impl Parts {
         ensures count { self.new.count ≡ self.old.count }
     {
         match innermost(&self.draft.blocks) {
-            Some(block) => self.draft.put_close(self.count + 1, block),
+            Some(_) => self.say(alloc, &[], &Says::Close),
             None => self.end_thread(alloc),
         }
     }
@@ -147,8 +147,8 @@ impl Parts {
             Says::Token(token) => Ok(self.tokens.push(token)?),
             Says::Thread => self.open(alloc, words, items),
             Says::Close => self.close(alloc),
-            Says::Op(op) => self.draft.put_op(self.count + 1, op),
-            Says::Put | Says::Lock | Says::If(_) | Says::Take => self.say(alloc, items, says),
+            Says::Op(_) | Says::Put | Says::Lock => self.say(alloc, items, says),
+            Says::If(_) | Says::Take => self.say(alloc, items, says),
             Says::Else | Says::Peek(_) | Says::Case(_) => self.say(alloc, items, says),
             Says::Other | Says::Nothing => self.say(alloc, items, says),
             Says::Loop | Says::Break => self.say(alloc, items, says),

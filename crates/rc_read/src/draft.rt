@@ -11,7 +11,7 @@ use crate::lists::{flag_in, parted};
 use crate::parts::{Arms, Draft};
 use crate::says::Says;
 use crate::values::Item;
-use rc_lang::lines::{Block, Line, Op, Stmt, Test};
+use rc_lang::lines::{Block, Line, Stmt, Test};
 use rc_lang::program::{Items, More, Share, Thread};
 use std::alloc::{AllocError, Global};
 
@@ -284,28 +284,6 @@ impl Draft {
         put_block(&mut self.blocks, place, stmt)?;
         put_end(&mut self.ends, place, stmt)?;
         self.arms.put(stmt)?;
-        self.lines.push(Line { number, stmt })?;
-        Ok(())
-    }
-
-    // Adds a statement without a block with this number, which opens, closes and keeps nothing else.
-    pub fn put_op(&mut self, number: u32, op: Op) -> Result<(), AllocError>
-        ensures { OnOk result (view_draft self.new ≡ spec.with_stmt (view_draft self.old) number [] (Stmt.Do op)) }
-    {
-        self.ends.push(0)?;
-        let stmt = Stmt::Do(op);
-        self.lines.push(Line { number, stmt })?;
-        Ok(())
-    }
-
-    // Closes the innermost block, which is this one, by a line with this number.
-    pub fn put_close(&mut self, number: u32, block: Block) -> Result<(), AllocError>
-        ensures { OnOk result (view_draft self.new ≡ spec.with_stmt (view_draft self.old) number [] (spec.closing block)) }
-    {
-        let place = self.lines.len();
-        let stmt = closing(block);
-        let _ = self.blocks.pop();
-        put_end(&mut self.ends, place, stmt)?;
         self.lines.push(Line { number, stmt })?;
         Ok(())
     }

@@ -218,7 +218,6 @@ pub fn has_name(part: Part) -> bool
 }
 
 // Whether a word that this version reserves stands in the place of a name.
-#[inline(never)]
 fn any_reserved(version: u32, spots: &[Spot]) -> bool
     ensures { result ≡ spec.any_reserved version (view_spots spots.now) }
 {
@@ -234,8 +233,7 @@ fn any_reserved(version: u32, spots: &[Spot]) -> bool
 fn is_form(version: u32, row: Row, spots: &[Spot]) -> bool
     ensures { result ≡ spec.is_form version row (view_spots spots.now) }
 {
-    // The first version reserves no words besides.
-    version_of(row) <= version && (version < 2 || !any_reserved(version, spots))
+    version_of(row) <= version && !any_reserved(version, spots)
 }
 
 // Whether items stand in a form.
