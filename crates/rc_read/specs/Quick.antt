@@ -1,21 +1,11 @@
 -- Faster ways to what the definitions of the notation say. Nothing that is told of it speaks of these.
-use Rattle.std.specs.Prelude.{ℕ, ◌+◌, List, [], ◌∷◌, take, Option, Some, None, Bool, true, false, ◌&&◌, not, ◌==◌, if◌then◌else◌}
+use Rattle.std.specs.Prelude.{ℕ, ◌+◌, List, [], ◌∷◌, Option, Some, None, Bool, true, false, ◌==◌, if◌then◌else◌}
 use Rattle.std.specs.List.{list_any}
 use Rattle.rc_read.specs.declared.table.Part.{Part}
 use Rattle.rc_read.specs.declared.table.Part.TheVariants.{Fixed}
 use Rattle.rc_read.specs.declared.table.Row.{Row}
-use Rattle.rc_read.specs.Sentences.{is_strange}
 use Rattle.rc_read.specs.Spots.{are_items, fits, is_item}
 use Rattle.rc_read.specs.Table.{text_of, parts_of}
-
--- A strange byte is among these, but for line feeds. Where none is, none is in their lines.
-abbrev pub has_strange : List ℕ → Bool
-has_strange bytes = list_any (λ b. is_strange b && not (b == 10)) bytes
-
--- The bytes before a place, and all where there is none.
-abbrev pub before : Option ℕ → List ℕ → List ℕ
-before None bytes = bytes
-before (Some i) bytes = take i bytes
 
 -- The forms of which the first word, where it is fixed, begins with this byte.
 abbrev pub starts_with : ℕ → List ℕ → Bool

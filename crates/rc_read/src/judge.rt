@@ -1,17 +1,15 @@
 //! The fault sentences about a line, and what becomes of the parts at it.
 
-ghost use Rattle.std.specs.Prelude.{◌≡◌, false, option_map, take};
+ghost use Rattle.std.specs.Prelude.{◌≡◌, option_map};
 ghost use Rattle.rc_read.specs.Causes.{number_of_cause};
 ghost use Rattle.rc_read.specs.Judging.{JudgesRow, JudgesWords, later_sentences};
 ghost use Rattle.rc_read.specs.Sentences as spec;
-ghost use Rattle.rc_read.specs.Sentences.{any_strange};
 ghost use Rattle.rc_read.specs.Spots.{spots_of};
 ghost use Rattle.rc_read.specs.Stream.{Judges};
 ghost use Rattle.rc_read.specs.Table.{parts_of};
 ghost use Rattle.rc_read.specs.Texts.{texts_of, view_spots};
 ghost use Rattle.rc_read.specs.Values.{flag_in as flag_in_list};
 ghost use Rattle.rc_read.specs.View.{view_sheet};
-ghost use Rattle.rc_read.specs.Words.{words_of};
 
 use crate::blocks::{bad_brace, bad_case, bad_nesting, is_too_deep, is_too_long, may_stand};
 use crate::fault::{ReadCause, ReadFault};
@@ -21,39 +19,9 @@ use crate::parts::{Parts, Region};
 use crate::says::{Says, says_of};
 use crate::spots::{Spot, put_spots};
 use crate::table::{Row, Stand, stand_of};
-use crate::values::{Item, Value};
+use crate::values::Item;
 use crate::words::{begins_strange, is, put_words};
 use std::alloc::{AllocError, Global};
-
-/// What stands in the places of a line.
-#[derive(Drop)]
-pub struct Found<'a> {
-    spots: Vec<Spot<'a>>,
-    values: Vec<Value>,
-    items: Vec<Item>,
-}
-
-/// Memory that each line of a piece uses again.
-#[derive(Drop)]
-pub struct Scratch<'a> {
-    /// The words of the line.
-    pub words: Vec<&'a [u8]>,
-    found: Found<'a>,
-}
-
-impl<'a> Scratch<'a> {
-    /// No line's.
-    pub fn new(alloc: Global) -> Scratch<'a> {
-        Scratch {
-            words: Vec::new(alloc),
-            found: Found {
-                spots: Vec::new(alloc),
-                values: Vec::new(alloc),
-                items: Vec::new(alloc),
-            },
-        }
-    }
-}
 
 fn is_version(row: Option<Row>) -> bool
     ensures { result ≡ spec.is_version row }
@@ -136,33 +104,33 @@ fn later_cause(
 fn judge_row(
     alloc: Global,
     parts: &mut Parts,
-    found: &mut Found,
     line: &[u8],
     words: &[&[u8]],
     row: Row,
+    spots: &[Spot],
 ) -> Result<Option<ReadCause>, AllocError>
-    requires { view_spots found.old.spots.items ≡ spots_of (parts_of row) (texts_of words.now) }
+    requires { view_spots spots.now ≡ spots_of (parts_of row) (texts_of words.now) }
     ensures { JudgesRow (view_sheet parts.old) line.now (texts_of words.now) row (view_sheet parts.new) result }
 {
-    let (values, items) = (&mut found.values, &mut found.items);
-    let Some(wrong) = put_values(alloc, values, items, parts, &found.spots)? else {
+    let mut values = Vec::new(alloc);
+    let mut items = Vec::new(alloc);
+    let Some(wrong) = put_values(alloc, &mut values, &mut items, parts, spots)? else {
         return Ok(Some(ReadCause::BadNumber));
     };
-    let says = says_of(row, &found.values);
-    if let Some(cause) = later_cause(parts, line, wrong, &found.items, says) {
+    let says = says_of(row, &values);
+    if let Some(cause) = later_cause(parts, line, wrong, &items, says) {
         return Ok(Some(cause));
     }
-    parts.add(alloc, words, &found.items, &says)?;
+    parts.add(alloc, words, &items, &says)?;
     Ok(None)
 }
 
 // The cause of a line with these words, or the line is added.
-fn judge_words<'a>(
+fn judge_words(
     alloc: Global,
     parts: &mut Parts,
-    found: &mut Found<'a>,
     line: &[u8],
-    words: &[&'a [u8]],
+    words: &[&[u8]],
 ) -> Result<Option<ReadCause>, AllocError>
     ensures { JudgesWords (view_sheet parts.old) line.now (texts_of words.now) (view_sheet parts.new) result }
 {
@@ -173,7 +141,8 @@ fn judge_words<'a>(
         parts.count_line();
         return Ok(None);
     }
-    let row = put_spots(parts.head.version, &mut found.spots, words)?;
+    let mut spots = Vec::new(alloc);
+    let row = put_spots(parts.head.version, &mut spots, words)?;
     if bad_head(parts.region, row, words) {
         return Ok(Some(ReadCause::BadHead));
     }
@@ -183,45 +152,26 @@ fn judge_words<'a>(
     if !may_stand(stand_of(row), parts.region) {
         return Ok(Some(ReadCause::BadLine));
     }
-    judge_row(alloc, parts, found, line, words, row)
+    judge_row(alloc, parts, line, words, row, &spots)
 }
 
-/// Judges a line with these words and no strange byte among its first 256, and adds it where no sentence is true of it.
-pub fn judge_plain<'a>(
-    alloc: Global,
-    parts: &mut Parts,
-    scratch: &mut Scratch<'a>,
-    line: &'a [u8],
-) -> Result<(), ReadFault>
-    requires words { texts_of scratch.old.words.items ≡ words_of line.now }
-    requires plain { any_strange (take 256 line.now) ≡ false }
+/// Judges a line, and adds it where no sentence is true of it.
+pub fn judge(alloc: Global, parts: &mut Parts, line: &[u8]) -> Result<(), ReadFault>
     ensures { Judges (view_sheet parts.old) line.now (view_sheet parts.new) result }
 {
     let number = parts.count + 1;
-    match judge_words(alloc, parts, &mut scratch.found, line, &scratch.words)? {
+    let cause = if begins_strange(line) {
+        Some(ReadCause::NotAscii)
+    } else {
+        let mut words = Vec::new(alloc);
+        put_words(&mut words, line)?;
+        judge_words(alloc, parts, line, &words)?
+    };
+    match cause {
         None => Ok(()),
         Some(cause) => Err(ReadFault::Text {
             line: number,
             cause,
         }),
     }
-}
-
-/// Judges a line, and adds it where no sentence is true of it.
-pub fn judge<'a>(
-    alloc: Global,
-    parts: &mut Parts,
-    scratch: &mut Scratch<'a>,
-    line: &'a [u8],
-) -> Result<(), ReadFault>
-    ensures { Judges (view_sheet parts.old) line.now (view_sheet parts.new) result }
-{
-    if begins_strange(line) {
-        return Err(ReadFault::Text {
-            line: parts.count + 1,
-            cause: ReadCause::NotAscii,
-        });
-    }
-    put_words(&mut scratch.words, line)?;
-    judge_plain(alloc, parts, scratch, line)
 }

@@ -1,20 +1,18 @@
 //! A reader of a text that comes in pieces.
 
-ghost use Rattle.std.specs.Prelude.{◌≡◌, ◌+◌, ◌++◌, ◌∷◌, ◌↔◌, [], List, ℕ, None, Some, Err, IsSome, false, true, length};
+ghost use Rattle.std.specs.Prelude.{◌≡◌, ◌+◌, ◌++◌, ◌∷◌, ◌↔◌, [], List, ℕ, None, Some, Err, IsSome, length};
 ghost use Rattle.memchr.specs.Find.{Nowhere, Passes, is_byte};
 ghost use Rattle.rc_lang.specs.Program.{IsProgram};
 ghost use Rattle.rc_read.specs.Answer.{program_in as read_in};
 ghost use Rattle.rc_read.specs.Pieces.{IsSoundBy, ReadsMore};
-ghost use Rattle.rc_read.specs.Quick.{has_strange};
 ghost use Rattle.rc_read.specs.Stream.{JudgesAll, JudgesEnd, Ends, IsAnswer, IsReached};
-ghost use Rattle.rc_read.specs.Texts.{texts_of};
 ghost use Rattle.rc_read.specs.View.{view_sheet};
-ghost use Rattle.rc_read.specs.Words.{last_line, words_of};
+ghost use Rattle.rc_read.specs.Words.{last_line};
 
 use crate::fault::{ReadCause, ReadFault};
-use crate::judge::{Scratch, judge, judge_plain};
+use crate::judge::judge;
 use crate::parts::{Parts, Region};
-use crate::words::{has_strange, put_first_words};
+use memchr::memchr;
 use rc_lang::program::{Declarations, Program};
 use std::alloc::Global;
 use std::marker::Model;
@@ -41,30 +39,19 @@ impl Model for Reader {
     ghost invariant = { λ r. IsReachedOrFaulty r.fault (view_sheet r.parts) };
 }
 
-// Judges a line that a line feed ends: the pending bytes and these behind them. Where none are pending it is judged
-// where it lies, with the words that were put there; if its piece is plain, no byte of it is strange.
-fn end_line<'a>(
+// Judges a line that a line feed ends: the pending bytes and these behind them.
+fn end_line(
     alloc: Global,
     parts: &mut Parts,
     pending: &mut Vec<u8>,
-    scratch: &mut Scratch<'a>,
-    front: &'a [u8],
-    plain: bool,
+    front: &[u8],
 ) -> Result<(), ReadFault>
-    requires line { Nowhere (Passes (is_byte 10) front.now) 0 (length front.now) }
-    requires words { texts_of scratch.old.words.items ≡ words_of front.now }
-    requires plain { plain ≡ true → has_strange front.now ≡ false }
+    requires { Nowhere (Passes (is_byte 10) front.now) 0 (length front.now) }
     ensures reads { ReadsMore (view_sheet parts.old) pending.old.items (front.now ++ 10 ∷ []) (view_sheet parts.new) pending.new.items result }
     ensures sound { IsReached (view_sheet parts.old) → IsSoundBy result (view_sheet parts.new) }
 {
-    if pending.is_empty() {
-        if plain {
-            return judge_plain(alloc, parts, scratch, front);
-        }
-        return judge(alloc, parts, scratch, front);
-    }
     pending.extend_from_slice(front)?;
-    let judged = judge(alloc, parts, &mut Scratch::new(alloc), pending);
+    let judged = judge(alloc, parts, pending);
     pending.clear();
     judged
 }
@@ -79,18 +66,9 @@ fn take(
     ensures reads { ReadsMore (view_sheet parts.old) pending.old.items piece.now (view_sheet parts.new) pending.new.items result }
     ensures sound { IsReached (view_sheet parts.old) → IsSoundBy result (view_sheet parts.new) }
 {
-    let plain = !has_strange(piece);
-    let mut scratch = Scratch::new(alloc);
     let mut at = 0;
-    while let Some(i) = put_first_words(&mut scratch.words, &piece[at..])? {
-        end_line(
-            alloc,
-            parts,
-            pending,
-            &mut scratch,
-            &piece[at..at + i],
-            plain,
-        )?;
+    while let Some(i) = memchr(b'\n', &piece[at..]) {
+        end_line(alloc, parts, pending, &piece[at..at + i])?;
         at = at + i + 1;
     }
     pending.extend_from_slice(&piece[at..])?;
@@ -104,7 +82,7 @@ fn judge_rest(alloc: Global, parts: &mut Parts, rest: &[u8]) -> Result<(), ReadF
     if rest.is_empty() {
         Ok(())
     } else {
-        judge(alloc, parts, &mut Scratch::new(alloc), rest)
+        judge(alloc, parts, rest)
     }
 }
 
