@@ -1,7 +1,7 @@
 -- The lines of a text and the words of a line, byte by byte.
-use Rattle.std.proofs.Common.{◌≡◌, ℕ, suc, ◌+◌, ◌<◌, List, [], ◌∷◌, ◌++◌, length, get_or, take, drop, Bool, true, false, cond, eqb, refl, sym, ap, subst, ◌∙◌, append_assoc}
+use Rattle.std.proofs.Common.{◌≡◌, ℕ, zero, suc, ◌+◌, ◌-◌, ◌<◌, List, [], ◌∷◌, ◌++◌, length, get_or, map, take, drop, Bool, true, false, cond, eqb, refl, sym, ap, subst, ◌∙◌, append_assoc, arith}
 use Rattle.std.proofs.lemmas.Bool.{eqb-true}
-use Rattle.std.proofs.lemmas.List.{drop_more, take_more}
+use Rattle.std.proofs.lemmas.List.{drop_more, get_or-map, take_more}
 use Rattle.rc_read.specs.Words.{before_line, cut, is_blank, last_line, text_lines, without_comment, word_if_any, words_after, words_of}
 use Rattle.std.specs.Prelude.{Option, codes}
 use Rattle.std.specs.Io.KnownBytes.{Appends}
@@ -11,7 +11,12 @@ use Rattle.rc_report.proofs.Pieces.{append-[], appends_both, began_next}
 
 -- ---- lines
 
--- the lines of a byte and what is behind it, by the cut of that
+-- bytes without a line feed, in front of the lines after them
+abbrev pub in_front : List ℕ → List (List ℕ) → List (List ℕ)
+in_front bytes [] = last_line bytes
+in_front bytes (line ∷ lines) = (bytes ++ line) ∷ lines
+
+-- the lines of a byte and what comes after it, by the cut of that
 abbrev lines_by : Bool → ℕ → List (List ℕ) × List ℕ → List (List ℕ)
 lines_by c b p = (cond c ([] ∷ p.0, p.1) (before_line b p)).0 ++ last_line (cond c ([] ∷ p.0, p.1) (before_line b p)).1
 
@@ -19,40 +24,53 @@ feed_by : (c : Bool) (b : ℕ) (p : List (List ℕ) × List ℕ) → c ≡ true 
 feed_by true b p e = refl
 feed_by false b p e = absurd cc
 
-letter_by : (c : Bool) (b : ℕ) (p : List (List ℕ) × List ℕ) → c ≡ false → get_or (lines_by c b p) 0 [] ≡ b ∷ get_or (p.0 ++ last_line p.1) 0 []
+letter_by : (c : Bool) (b : ℕ) (p : List (List ℕ) × List ℕ) → c ≡ false → lines_by c b p ≡ in_front (b ∷ []) (p.0 ++ last_line p.1)
 letter_by true b p e = absurd cc
 letter_by false b ([], []) e = refl
 letter_by false b ([], r ∷ rs) e = refl
 letter_by false b (l ∷ ls, rest) e = refl
 
-others_by : (c : Bool) (b : ℕ) (p : List (List ℕ) × List ℕ) (n : ℕ) → c ≡ false → get_or (lines_by c b p) (suc n) [] ≡ get_or (p.0 ++ last_line p.1) (suc n) []
-others_by true b p n e = absurd cc
-others_by false b ([], []) n e = refl
-others_by false b ([], r ∷ rs) n e = refl
-others_by false b (l ∷ ls, rest) n e = refl
-
-lines_at_feed : (b : ℕ) (bytes : List ℕ) → eqb b 10 ≡ true → text_lines (b ∷ bytes) ≡ [] ∷ text_lines bytes
-lines_at_feed b bytes e = feed_by (eqb b 10) b (cut bytes) e
+-- one byte more is in front
+one_more : (bytes : List ℕ) (b : ℕ) (lines : List (List ℕ)) → in_front bytes (in_front (b ∷ []) lines) ≡ in_front (bytes ++ b ∷ []) lines
+one_more [] b [] = refl
+one_more (a ∷ bytes) b [] = refl
+one_more bytes b (line ∷ lines) = ap (λ (xs : List ℕ). xs ∷ lines) (sym (append_assoc bytes (b ∷ []) line))
 
 -- at a line feed the line ends
-pub at_feed : (bytes : List ℕ) (i : ℕ) → i < length bytes → eqb (get_or bytes i 0) 10 ≡ true → text_lines (drop i bytes) ≡ [] ∷ text_lines (drop (i + 1) bytes)
-at_feed bytes i lt e = ap text_lines (drop_more bytes i 0 lt) ∙ lines_at_feed (get_or bytes i 0) (drop (i + 1) bytes) e
+pub line_ends : (text : List ℕ) (i : ℕ) → i < length text → eqb (get_or text i 0) 10 ≡ true →
+    in_front (take i text) (text_lines (drop i text)) ≡ take i text ∷ text_lines (drop (i + 1) text)
+line_ends text i lt e =
+    ap (λ (xs : List ℕ). in_front (take i text) (text_lines xs)) (drop_more text i 0 lt)
+    ∙ ap (λ (ls : List (List ℕ)). in_front (take i text) ls) (feed_by (eqb (get_or text i 0) 10) (get_or text i 0) (cut (drop (i + 1) text)) e)
+    ∙ ap (λ (xs : List ℕ). xs ∷ text_lines (drop (i + 1) text)) (append-[] (take i text))
 
 -- at another byte it grows
-pub first_grows : (bytes whole : List ℕ) (i : ℕ) → i < length bytes → eqb (get_or bytes i 0) 10 ≡ false → whole ≡ take i bytes ++ get_or (text_lines (drop i bytes)) 0 [] →
-    whole ≡ take (i + 1) bytes ++ get_or (text_lines (drop (i + 1) bytes)) 0 []
-first_grows bytes whole i lt e h =
-    let b = get_or bytes i 0 in
-    let rest = drop (i + 1) bytes in
-    h ∙ ap (λ (xs : List ℕ). take i bytes ++ get_or (text_lines xs) 0 []) (drop_more bytes i 0 lt)
-    ∙ ap (λ (xs : List ℕ). take i bytes ++ xs) (letter_by (eqb b 10) b (cut rest) e)
-    ∙ sym (append_assoc (take i bytes) (b ∷ []) (get_or (text_lines rest) 0 []))
-    ∙ ap (λ (xs : List ℕ). xs ++ get_or (text_lines rest) 0 []) (sym (take_more bytes i 0 lt))
+pub line_grows : (text : List ℕ) (i : ℕ) → i < length text → eqb (get_or text i 0) 10 ≡ false →
+    in_front (take i text) (text_lines (drop i text)) ≡ in_front (take (i + 1) text) (text_lines (drop (i + 1) text))
+line_grows text i lt e =
+    let b = get_or text i 0 in
+    let rest = drop (i + 1) text in
+    ap (λ (xs : List ℕ). in_front (take i text) (text_lines xs)) (drop_more text i 0 lt)
+    ∙ ap (λ (ls : List (List ℕ)). in_front (take i text) ls) (letter_by (eqb b 10) b (cut rest) e)
+    ∙ one_more (take i text) b (text_lines rest)
+    ∙ ap (λ (xs : List ℕ). in_front xs (text_lines rest)) (sym (take_more text i 0 lt))
 
-pub others_stay : (bytes : List ℕ) (i n : ℕ) → i < length bytes → eqb (get_or bytes i 0) 10 ≡ false → get_or (text_lines (drop i bytes)) (suc n) [] ≡ get_or (text_lines (drop (i + 1) bytes)) (suc n) []
-others_stay bytes i n lt e =
-    ap (λ (xs : List ℕ). get_or (text_lines xs) (suc n) []) (drop_more bytes i 0 lt)
-    ∙ others_by (eqb (get_or bytes i 0) 10) (get_or bytes i 0) (cut (drop (i + 1) bytes)) n e
+-- a text that isn't empty and has no line feed is one line
+pub whole_line : (text : List ℕ) → 0 < length text → in_front text [] ≡ text ∷ []
+whole_line [] lt = absurd (omega arith)
+whole_line (b ∷ bytes) lt = refl
+
+-- no byte is in front
+pub no_byte : (lines : List (List ℕ)) → lines ≡ in_front [] lines
+no_byte [] = refl
+no_byte (line ∷ lines) = refl
+
+-- the line with a number, found as an item of a list
+pub numbered_line : {B : Type 0} (f : B → List ℕ) (items : List B) (lines : List (List ℕ)) (n : ℕ) (item : B) → map f items ≡ lines → (n ≡ 0 → ⊥) → n - 1 < length items → item ≡ get_or items (n - 1) item → f item ≡ line_numbered lines n
+numbered_line f items lines zero item m h lt e = absurd (h refl)
+numbered_line f items lines (suc n) item m h lt e =
+    let k : suc n - 1 ≡ n = omega arith in
+    ap f e ∙ sym (get_or-map f items (suc n - 1) item [] lt) ∙ ap (λ i. get_or (map f items) i []) k ∙ ap (λ (ls : List (List ℕ)). get_or ls n []) m
 
 -- ---- words
 

@@ -2,39 +2,62 @@
 
 ghost use Rattle.std.specs.Prelude.{◌≡◌, ◌+◌, ◌<◌, ◌^◌};
 ghost use Rattle.std.specs.Char.{digit_char};
-ghost use Rattle.rc_report.specs.Shown.{escaped, is_from, is_hidden, shown, shown_char};
+ghost use Rattle.rc_report.specs.Shown.{is_from, is_hidden, shown, shown_char};
 ghost use Rattle.rc_report.specs.Streams.{FailsToWrite, Wrote};
+ghost use Rattle.rc_report.specs.Text.{Puts};
 
 use crate::engine_fault::EngineFault;
 use crate::streams::Sink;
+use crate::text::put_piece;
 use crate::writing::write_piece;
+use std::alloc::AllocError;
 
-/// Writes a text as it is shown: a control character, and a mark that turns the direction of text, as `\u` and four hex
-/// digits. NUL, which stands before the hex digits of a byte that isn't text, is `\x`. It takes no memory, and answers
-/// `Write` where a write failed: then a beginning of the text is written.
+/// Adds a text as it is shown: a control character, and a mark that turns the direction of text, as `\u` and four hex
+/// digits. NUL, which stands before the hex digits of a byte that isn't text, is `\x`.
+pub fn put_shown(text: &mut Vec<u8>, name: &str) -> Result<(), AllocError>
+    ensures { Puts text.old text.new (shown name.now) result }
+{
+    let mut buffer = [0; 6];
+    for character in name.chars() {
+        put_piece(text, shown_char(character, &mut buffer))?;
+    }
+    Ok(())
+}
+
+/// Writes a text as it is shown, as `put_shown` does. It takes no memory, and answers `Write` where a write failed: then a
+/// beginning of the text is written.
 pub fn write_shown<W: Sink>(text: &str, writer: &mut W) -> Result<(), EngineFault>
     requires { W.failure_count writer.old + 1 < 2 ^ 64 }
     ensures text { Wrote (W.contents writer.old) (W.contents writer.new) (shown text.now) result }
     ensures failures { FailsToWrite (W.failure_count writer.old) (W.failure_count writer.new) result }
 {
+    let mut buffer = [0; 6];
     for character in text.chars() {
-        write_char(character, writer)?;
+        write_piece(writer, shown_char(character, &mut buffer))?;
     }
     Ok(())
 }
 
-/// Writes a character as it is shown.
-fn write_char<W: Sink>(character: char, writer: &mut W) -> Result<(), EngineFault>
-    requires { W.failure_count writer.old + 1 < 2 ^ 64 }
-    ensures text { Wrote (W.contents writer.old) (W.contents writer.new) (shown_char character) result }
-    ensures failures { FailsToWrite (W.failure_count writer.old) (W.failure_count writer.new) result }
+/// A character as it is shown. What the buffer had is lost.
+fn shown_char(character: char, buffer: &mut [u8; 6]) -> &[u8]
+    ensures { result.now ≡ shown_char character }
 {
     let code = character as u32;
-    if is_hidden(code) {
-        return write_escaped(code, writer);
+    if !is_hidden(code) {
+        return character.encode_utf8(buffer).as_bytes();
     }
-    let mut buffer = [0u8; 4];
-    write_piece(writer, character.encode_utf8(&mut buffer).as_bytes())
+    if code == 0 {
+        return b"\\x";
+    }
+    *buffer = [
+        b'\\',
+        b'u',
+        hex_digit(code / 0x1000 % 16),
+        hex_digit(code / 0x100 % 16),
+        hex_digit(code / 0x10 % 16),
+        hex_digit(code / 0x1 % 16),
+    ];
+    buffer
 }
 
 /// Whether a character isn't shown as it is.
@@ -54,28 +77,6 @@ fn is_from(first: u32, last: u32, code: u32) -> bool
     ensures { result ≡ is_from first last code }
 {
     first <= code && code < last
-}
-
-/// Writes how a character that isn't shown as it is stands in a text.
-fn write_escaped<W: Sink>(code: u32, writer: &mut W) -> Result<(), EngineFault>
-    requires { W.failure_count writer.old + 1 < 2 ^ 64 }
-    ensures text { Wrote (W.contents writer.old) (W.contents writer.new) (escaped code) result }
-    ensures failures { FailsToWrite (W.failure_count writer.old) (W.failure_count writer.new) result }
-{
-    if code == 0 {
-        return write_piece(writer, b"\\x");
-    }
-    write_piece(
-        writer,
-        &[
-            b'\\',
-            b'u',
-            hex_digit(code / 0x1000 % 16),
-            hex_digit(code / 0x100 % 16),
-            hex_digit(code / 0x10 % 16),
-            hex_digit(code / 0x1 % 16),
-        ],
-    )
 }
 
 /// A hex digit.

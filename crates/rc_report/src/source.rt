@@ -1,14 +1,92 @@
-//! The words of a text's lines, as they are printed.
+//! The lines of a text, and the words of a line as they are printed.
 
-ghost use Rattle.std.specs.Prelude.{◌≡◌, ◌+◌, ◌<◌, ◌≤◌, ◌^◌, ◌++◌, [], ◌∷◌, MatchOption, length, slice_index_or, take, drop, ℕ, suc, false};
+ghost use Rattle.std.specs.Prelude.{◌≡◌, ◌+◌, ◌<◌, ◌≤◌, ◌^◌, ◌++◌, [], ◌∷◌, IfOk, MatchOption, length, slice_index_or, take, drop, ℕ, suc, false};
 ghost use Rattle.rc_read.specs.Words.{text_lines, word_if_any, words_of};
 ghost use Rattle.rc_read.specs.Words as words;
 ghost use Rattle.rc_report.specs.Source.{behind_blanks, line_numbered, line_words};
 ghost use Rattle.rc_report.specs.Streams.{FailsToWrite, Wrote};
+ghost use Rattle.rc_report.specs.Text.{Puts};
 
 use crate::engine_fault::EngineFault;
 use crate::streams::Sink;
+use crate::text::{put_piece, put_pieces};
 use crate::writing::{write_piece, write_pieces};
+use std::alloc::{AllocError, Global};
+use std::marker::Model;
+
+/// A text whose lines are found.
+#[derive(Drop)]
+pub struct Lines<'a> {
+    text: &'a [u8],
+    lines: Vec<&'a [u8]>,
+}
+
+// In contracts it is the text.
+impl<'a> Model for Lines<'a> {
+    ghost use Rattle.std.specs.Prelude.{◌≡◌, ℕ, List, map};
+    ghost use Rattle.rc_read.specs.Words.{text_lines};
+
+    ghost Value = { List ℕ };
+
+    ghost view = { λ l. l.text.now };
+
+    ghost invariant = { λ l. map (λ line. line.now) l.lines.items ≡ text_lines l.text.now };
+}
+
+impl<'a> Lines<'a> {
+    /// Finds the lines of a text. Answers an error only where memory ran out.
+    pub fn of(alloc: Global, text: &'a [u8]) -> Result<Lines<'a>, AllocError>
+        ensures { IfOk result (λ lines. lines ≡ text.now) }
+    {
+        let mut lines = Vec::new(alloc);
+        let mut rest = text;
+        while !rest.is_empty() {
+            let (line, after) = first_line(rest);
+            lines.push(line)?;
+            rest = after;
+        }
+        Ok(Lines { text, lines })
+    }
+
+    /// The line with this number, from 1, without its line feed; nothing where there is no such line.
+    pub fn line(&self, number: u32) -> &'a [u8]
+        ensures { result.now ≡ line_numbered (text_lines self.now) number }
+    {
+        if number == 0 {
+            return &[];
+        }
+        match self.lines.get(number as usize - 1) {
+            Some(line) => line,
+            None => &[],
+        }
+    }
+}
+
+/// Adds the words of the line with this number, from 1, without its comment, with one blank between two. Nothing is added
+/// where the line has no word, or the text no such line.
+pub fn put_line_words(text: &mut Vec<u8>, lines: &Lines<'_>, number: u32) -> Result<(), AllocError>
+    ensures { Puts text.old text.new (line_words lines.now number) result }
+{
+    match first_word(lines.line(number)) {
+        Some((word, after)) => {
+            put_piece(text, word)?;
+            put_after_blanks(text, after)
+        }
+        None => Ok(()),
+    }
+}
+
+/// Adds the words of a part of a line, each after a blank.
+fn put_after_blanks(text: &mut Vec<u8>, line: &[u8]) -> Result<(), AllocError>
+    ensures { Puts text.old text.new (behind_blanks (words_of line.now)) result }
+{
+    let mut rest = line;
+    while let Some((word, after)) = first_word(rest) {
+        put_pieces(text, &[b" ", word])?;
+        rest = after;
+    }
+    Ok(())
+}
 
 /// Writes the words of the text's line with this number, from 1, without its comment, with one blank between two.
 /// Nothing is written where the line has no word, or the text no such line. It takes no memory.
@@ -47,15 +125,27 @@ fn line_numbered(text: &[u8], number: u32) -> &[u8]
     let mut line: &[u8] = &[];
     let mut rest = text;
     for _count in 0..number {
-        (line, rest) = first_line(rest);
+        (line, rest) = any_line(rest);
     }
     line
 }
 
-/// The first line, and what stands behind its line feed. A text without a line has an empty one.
-fn first_line(text: &[u8]) -> (&[u8], &[u8])
+/// The first line, and what comes after its line feed. A text without a line has an empty one.
+fn any_line(text: &[u8]) -> (&[u8], &[u8])
     ensures line { result.0.now ≡ slice_index_or (text_lines text.now) 0 [] }
     ensures others { (n : ℕ) → slice_index_or (text_lines text.now) (suc n) [] ≡ slice_index_or (text_lines result.1.now) n [] }
+{
+    if text.is_empty() {
+        return (text, text);
+    }
+    first_line(text)
+}
+
+/// The first line of a text that isn't empty, and what comes after its line feed.
+fn first_line(text: &[u8]) -> (&[u8], &[u8])
+    requires { 0 < length text.now }
+    ensures lines { text_lines text.now ≡ result.0.now ∷ text_lines result.1.now }
+    ensures shorter { length result.1.now < length text.now }
 {
     for i in 0..text.len() {
         if text[i] == b'\n' {
@@ -65,8 +155,8 @@ fn first_line(text: &[u8]) -> (&[u8], &[u8])
     (text, &[])
 }
 
-/// The first word of a part of a line, and what stands behind it.
-fn first_word(line: &[u8]) -> Option<(&[u8], &[u8])>
+/// The first word of a part of a line, and what comes after it.
+pub fn first_word(line: &[u8]) -> Option<(&[u8], &[u8])>
     ensures { MatchOption result (words_of line.now ≡ [])
         (λ r. (words_of line.now ≡ r.0.now ∷ words_of r.1.now) × (length r.1.now < length line.now)) }
 {

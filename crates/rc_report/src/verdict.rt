@@ -4,10 +4,12 @@ ghost use Rattle.std.specs.Prelude.{◌≡◌, ◌+◌, ◌<◌, ◌^◌, IfOk};
 ghost use Rattle.serde_json.specs.View.{view};
 ghost use Rattle.rc_report.specs.Streams.{FailsToWrite, FailsToWriteOrGrow, Wrote};
 ghost use Rattle.rc_report.specs.Objects.{line_object, verdict_object};
+ghost use Rattle.rc_report.specs.Text.{Puts};
 ghost use Rattle.rc_report.specs.Verdicts.{line_text, verdict_json, verdict_text};
 
 use crate::engine_fault::EngineFault;
 use crate::streams::Sink;
+use crate::text::{put_number, put_piece, put_pieces};
 use crate::writing::{write_piece, write_pieces};
 use itoa::Buffer;
 use rc_read::ReadCause;
@@ -70,6 +72,41 @@ fn write_line<'a, W: Sink>(
             word, b" line ", line, b" ", letter, number, b" ", name, b"\n",
         ],
     )
+}
+
+/// Adds a verdict as text: `accepted`, `refused line L Vn NAME` or `unreadable line L Pn NAME`, with a line feed.
+pub fn put_verdict(text: &mut Vec<u8>, verdict: &Verdict) -> Result<(), AllocError>
+    ensures { Puts text.old text.new (verdict_text verdict.now) result }
+{
+    match *verdict {
+        Verdict::Accepted => put_piece(text, b"accepted\n"),
+        Verdict::Refused(Refusal { line, cause }) => {
+            let number = cause.number();
+            put_line(text, "refused", line, "V", number, cause.name())
+        }
+        Verdict::Unreadable { line, cause } => {
+            let number = cause.number() as u32;
+            put_line(text, "unreadable", line, "P", number, cause.name())
+        }
+    }
+}
+
+/// Adds what is said of a line: why it isn't good, by the letter of its causes, the number and the name.
+fn put_line(
+    text: &mut Vec<u8>,
+    word: &str,
+    line: u32,
+    letter: &str,
+    number: u32,
+    name: &str,
+) -> Result<(), AllocError>
+    ensures { Puts text.old text.new (line_text word.now line letter.now number name.now) result }
+{
+    put_pieces(text, &[word.as_bytes(), b" line "])?;
+    put_number(text, u64::from(line))?;
+    put_pieces(text, &[b" ", letter.as_bytes()])?;
+    put_number(text, u64::from(number))?;
+    put_pieces(text, &[b" ", name.as_bytes(), b"\n"])
 }
 
 /// Writes a verdict as JSON: one object without spaces, its keys in order, and a line feed. Answers `Write` where a write

@@ -1,8 +1,7 @@
-use Rattle.std.proofs.Common.{◌≡◌, ◌∙◌, ap, codes, sym, [], ◌∷◌}
+use Rattle.std.proofs.Common.{◌≡◌, ◌∙◌, ap, codes, sym}
 use Rattle.rc_read.specs.Causes.{number_of_cause}
 use Rattle.rc_rules.specs.Causes.{name_of, premise_number}
 use Rattle.rc_report.specs.Files.{file_line, file_text}
-use Rattle.rc_report.specs.Printed.{joined}
 use Rattle.rc_report.proofs.Pieces.{wrote_along}
 use Rattle.rc_report.proofs.file_verdict.verdict_line.Goals as goal
 

@@ -7,13 +7,13 @@ use Rattle.rc_report.proofs.Pieces.{appends_along, began_next, wrote_err}
 use Rattle.rc_report.proofs.Yielded.{yielded_all, yielded_cut}
 use Rattle.rc_report.proofs.shown.write_shown.Goals as goal
 
-pub returns-in_err-write_char-clause-text : goal.returns-in_err-write_char-clause-text
-returns-in_err-write_char-clause-text g c =
+pub returns-in_err-write_piece-clause-text : goal.returns-in_err-write_piece-clause-text
+returns-in_err-write_piece-clause-text g c =
     let list = YieldsList-from_chars c.args.text.now c.utf8.text cc in
     let so_far = YieldsList-so_far list c.loop-character.yielded _ c.loop-character.yielded_by in
     let turn = YieldsList-turn list c.loop-character.yielded _ c.loop-character.yielded_by _ _ c.in-Some.character c.in-Some.is c.next.ensures.steps in
     wrote_err _ _ _ c.from_residual.result c.from_residual.ensures.0
-    (began_next _ _ _ _ _ _ _ (yielded_cut shown_char _ c.loop-character.yielded c.in-Some.character so_far turn.0 turn.1) c.loop-character.invariant.written c.in_err-write_char.ensures.text)
+    (began_next _ _ _ _ _ _ _ (yielded_cut shown_char _ c.loop-character.yielded c.in-Some.character so_far turn.0 turn.1) c.loop-character.invariant.written (rw c.shown_char.ensures at c.in_err-write_piece.ensures.text))
 
 pub returns-clause-text : goal.returns-clause-text
 returns-clause-text g c =
