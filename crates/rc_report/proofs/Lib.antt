@@ -6,6 +6,7 @@ pub mod Objects
 pub mod Pieces
 pub mod FileObjects
 pub mod Placed
+pub mod Steps
 pub mod Stretches
 pub mod Tallies
 pub mod TextWords

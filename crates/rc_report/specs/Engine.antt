@@ -30,19 +30,20 @@ end_of StoppedThere = Stopped
 abbrev pub text_of_trace : Program → Trace → List ℕ
 text_of_trace program t = trace_text program t.events (end_of t.ending)
 
--- The text for a program and what its schedule reads as: the trace, or the line that says which item can't be read.
-abbrev pub items_text : Program → Result (List Item) ℕ → List ℕ
-items_text program (Ok items) = text_of_trace program (trace_of program items)
-items_text program (Err i) = schedule_line i
+-- The text for a program and what its schedule reads as: this text of the trace, or the line that says which item can't be
+-- read.
+abbrev pub items_text : (Program → Trace → List ℕ) → Program → Result (List Item) ℕ → List ℕ
+items_text traced program (Ok items) = traced program (trace_of program items)
+items_text traced program (Err i) = schedule_line i
 
 -- The text for what a text reads as: an unreadable one is answered with its verdict.
-abbrev pub answer_text : Result Program (ℕ × ℕ) → List ℕ → List ℕ
-answer_text (Ok program) schedule = items_text program (items_of program schedule)
-answer_text (Err (line, number)) schedule = unreadable_text line number
+abbrev pub answer_text : (Program → Trace → List ℕ) → Result Program (ℕ × ℕ) → List ℕ → List ℕ
+answer_text traced (Ok program) schedule = items_text traced program (items_of program schedule)
+answer_text traced (Err (line, number)) schedule = unreadable_text line number
 
 -- The text that is written for the bytes of a program and a schedule.
 abbrev pub stepped_text : List ℕ → List ℕ → List ℕ
-stepped_text bytes schedule = answer_text (answer_of bytes) schedule
+stepped_text bytes schedule = answer_text text_of_trace (answer_of bytes) schedule
 
 -- The answer says which text was written.
 abbrev pub EndsItems : Program → Result (List Item) ℕ → StepEnd → Type 0
@@ -53,12 +54,15 @@ abbrev pub EndsBy : Result Program (ℕ × ℕ) → List ℕ → StepEnd → Typ
 EndsBy (Ok program) schedule end = EndsItems program (items_of program schedule) end
 EndsBy (Err (line, number)) schedule end = (cause : ReadCause) × (end ≡ Unreadable (Text line cause)) × (number_of_cause cause ≡ number)
 
--- The whole text is written, and the answer says which; or a beginning of it is, where the sink failed or memory ran
--- out. Where the source doesn't tell its bytes nothing is claimed.
+-- The whole of this text is written, and the answer says which; or a beginning of it is, where the sink failed or memory
+-- ran out. Where the source doesn't tell its bytes nothing is claimed.
+abbrev pub AnswersSteps : (List ℕ → List ℕ → List ℕ) → Option (List ℕ) → List ℕ → Option (List ℕ) → Option (List ℕ) → Result StepEnd EngineFault → Type 0
+AnswersSteps text None schedule old new r = Unit {0}
+AnswersSteps text (Some bytes) schedule old new (Ok end) = Appends old new (text bytes schedule) × EndsBy (answer_of bytes) schedule end
+AnswersSteps text (Some bytes) schedule old new (Err e) = Began old new (text bytes schedule)
+
 abbrev pub StepsAs : Option (List ℕ) → List ℕ → Option (List ℕ) → Option (List ℕ) → Result StepEnd EngineFault → Type 0
-StepsAs None schedule old new r = Unit {0}
-StepsAs (Some bytes) schedule old new (Ok end) = Appends old new (stepped_text bytes schedule) × EndsBy (answer_of bytes) schedule end
-StepsAs (Some bytes) schedule old new (Err e) = Began old new (stepped_text bytes schedule)
+StepsAs bytes schedule old new r = AnswersSteps stepped_text bytes schedule old new r
 
 -- Where the source failed nothing is written.
 abbrev pub WritesNothingOnRead : {X : Type 0} → Option (List ℕ) → Option (List ℕ) → Result X EngineFault → Type 0

@@ -8,6 +8,7 @@ pub mod Printed
 pub mod Shown
 pub mod Source
 pub mod Statuses
+pub mod Steps
 pub mod Streams
 pub mod Summaries
 pub mod Text

@@ -2,11 +2,10 @@
 
 ghost use Rattle.std.specs.Prelude.{◌≡◌, ◌+◌, ◌<◌, ◌^◌, IfOk};
 ghost use Rattle.rc_read.specs.Answer.{answer_of};
-ghost use Rattle.rc_read.specs.Stream.{IsAnswer};
-ghost use Rattle.rc_world.specs.Schedule.{items_of};
 ghost use Rattle.rc_world.specs.Trace.{trace_of};
-ghost use Rattle.rc_report.specs.Engine.{EndsBy, EndsItems, StepsAs, WritesNothingOnRead, end_of, items_text, stepped_text, text_of_trace};
-ghost use Rattle.rc_report.specs.Streams.{CountsReads, CountsWrites, FailsToWriteOrGrow, Wrote};
+ghost use Rattle.rc_report.specs.Engine.{EndsBy, StepsAs, WritesNothingOnRead, end_of, stepped_text, text_of_trace};
+ghost use Rattle.rc_report.specs.Steps.{ReadsSteps, end_of_unread, unread_text};
+ghost use Rattle.rc_report.specs.Streams.{CountsReads, CountsWrites, FailsToWrite, FailsToWriteOrGrow, Wrote};
 
 use crate::engine_fault::EngineFault;
 use crate::printed::write_schedule_line;
@@ -16,11 +15,11 @@ use crate::streams::{Sink, Source};
 use crate::trace::End;
 use crate::verdict::{Verdict, verdict_text};
 use rc_lang::program::Program;
-use rc_read::{ReadFault, read_program};
+use rc_read::{ReadCause, ReadFault, read_program};
 use rc_world::event::Item;
 use rc_world::schedule::{ScheduleFault, read_schedule};
 use rc_world::world::World;
-use std::alloc::Global;
+use std::alloc::{AllocError, Global};
 
 /// Which text a stepped program was answered with.
 #[derive(Clone, Copy)]
@@ -31,6 +30,22 @@ pub enum StepEnd {
     Schedule(u64),
     /// The trace was written.
     Trace(End),
+}
+
+/// A program, and the items of its schedule.
+#[derive(Drop)]
+pub struct Steps {
+    pub program: Program,
+    pub items: Vec<Item>,
+}
+
+/// Why a text and a schedule name no steps.
+#[derive(Clone, Copy)]
+pub enum Unread {
+    /// The line of the text that can't be read, from 1, and why.
+    Text { line: u32, cause: ReadCause },
+    /// The item of the schedule with this number, from 1, can't be read.
+    Schedule(u64),
 }
 
 /// Reads a text and steps its program through a schedule. The trace is written: a line for each event, and one that
@@ -60,14 +75,46 @@ pub fn step_engine<R: Source, W: Sink>(
     step_bytes(alloc, text, schedule, writer)
 }
 
-/// The program of a text, whose memory is given back before a world takes some.
-fn program_of(alloc: Global, text: Vec<u8>) -> Result<Program, ReadFault>
-    ensures { IsAnswer text.items result }
+/// Reads a program and its schedule.
+pub fn read_steps(
+    alloc: Global,
+    text: &[u8],
+    schedule: &str,
+) -> Result<Result<Steps, Unread>, AllocError>
+    ensures { IfOk result (ReadsSteps (answer_of text.now) schedule.now) }
 {
-    read_program(alloc, &text)
+    let program = match read_program(alloc, text) {
+        Ok(program) => program,
+        Err(ReadFault::Text { line, cause }) => return Ok(Err(Unread::Text { line, cause })),
+        Err(ReadFault::OutOfMemory) => return Err(AllocError),
+    };
+    match read_schedule(alloc, &program, schedule) {
+        Ok(items) => Ok(Ok(Steps { program, items })),
+        Err(ScheduleFault::Unreadable(item)) => Ok(Err(Unread::Schedule(item))),
+        Err(ScheduleFault::OutOfMemory) => Err(AllocError),
+    }
 }
 
-/// Steps the program of a text through a schedule.
+/// Writes the line that says what can't be read, and answers that this text was written.
+pub fn write_unread<W: Sink>(writer: &mut W, unread: Unread) -> Result<StepEnd, EngineFault>
+    requires { W.failure_count writer.old + 1 < 2 ^ 64 }
+    ensures text { Wrote (W.contents writer.old) (W.contents writer.new) (unread_text unread) result }
+    ensures end { IfOk result (λ end. end ≡ end_of_unread unread) }
+    ensures failures { FailsToWrite (W.failure_count writer.old) (W.failure_count writer.new) result }
+{
+    match unread {
+        Unread::Text { line, cause } => {
+            verdict_text(&Verdict::Unreadable { line, cause }, writer)?;
+            Ok(StepEnd::Unreadable(ReadFault::Text { line, cause }))
+        }
+        Unread::Schedule(item) => {
+            write_schedule_line(writer, item)?;
+            Ok(StepEnd::Schedule(item))
+        }
+    }
+}
+
+/// Steps the program of a text through a schedule. The memory of the text is given back before a world takes some.
 pub fn step_bytes<W: Sink>(
     alloc: Global,
     text: Vec<u8>,
@@ -79,55 +126,25 @@ pub fn step_bytes<W: Sink>(
     ensures end { IfOk result (EndsBy (answer_of text.items) schedule.now) }
     ensures failures { FailsToWriteOrGrow (W.failure_count writer.old) (W.failure_count writer.new) result }
 {
-    match program_of(alloc, text) {
-        Ok(program) => step_program(alloc, &program, schedule, writer),
-        Err(ReadFault::Text { line, cause }) => {
-            verdict_text(&Verdict::Unreadable { line, cause }, writer)?;
-            Ok(StepEnd::Unreadable(ReadFault::Text { line, cause }))
-        }
-        Err(ReadFault::OutOfMemory) => Err(EngineFault::OutOfMemory),
-    }
-}
-
-/// Steps a program through the items of a schedule.
-fn step_program<W: Sink>(
-    alloc: Global,
-    program: &Program,
-    schedule: &str,
-    writer: &mut W,
-) -> Result<StepEnd, EngineFault>
-    requires { W.failure_count writer.old + 1 < 2 ^ 64 }
-    ensures text { Wrote (W.contents writer.old) (W.contents writer.new)
-        (items_text program.now (items_of program.now schedule.now)) result }
-    ensures end { IfOk result (EndsItems program.now (items_of program.now schedule.now)) }
-    ensures failures { FailsToWriteOrGrow (W.failure_count writer.old) (W.failure_count writer.new) result }
-{
-    match read_schedule(alloc, program, schedule) {
-        Ok(items) => {
-            let end = write_trace(alloc, program, &items, writer)?;
+    let read = read_steps(alloc, &text, schedule)?;
+    drop(text);
+    match read {
+        Ok(steps) => {
+            let end = write_trace(alloc, &steps, writer)?;
             Ok(StepEnd::Trace(end))
         }
-        Err(ScheduleFault::Unreadable(item)) => {
-            write_schedule_line(writer, item)?;
-            Ok(StepEnd::Schedule(item))
-        }
-        Err(ScheduleFault::OutOfMemory) => Err(EngineFault::OutOfMemory),
+        Err(unread) => write_unread(writer, unread),
     }
 }
 
-/// Writes the trace of the run that these items name.
-fn write_trace<W: Sink>(
-    alloc: Global,
-    program: &Program,
-    items: &[Item],
-    writer: &mut W,
-) -> Result<End, EngineFault>
+/// Writes the trace of the run that the items name.
+fn write_trace<W: Sink>(alloc: Global, steps: &Steps, writer: &mut W) -> Result<End, EngineFault>
     requires { W.failure_count writer.old + 1 < 2 ^ 64 }
     ensures text { Wrote (W.contents writer.old) (W.contents writer.new)
-        (text_of_trace program.now (trace_of program.now items.now)) result }
-    ensures end { IfOk result (λ end. end ≡ end_of (trace_of program.now items.now).ending) }
+        (text_of_trace steps.now.program (trace_of steps.now.program steps.now.items.items)) result }
+    ensures end { IfOk result (λ end. end ≡ end_of (trace_of steps.now.program steps.now.items.items).ending) }
     ensures failures { FailsToWriteOrGrow (W.failure_count writer.old) (W.failure_count writer.new) result }
 {
-    let mut world = World::start(alloc, program)?;
-    write_run(&mut world, items, writer)
+    let mut world = World::start(alloc, &steps.program)?;
+    write_run(&mut world, &steps.items, writer)
 }

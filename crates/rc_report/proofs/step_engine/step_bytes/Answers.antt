@@ -1,18 +1,15 @@
-use Rattle.std.proofs.Common.{◌≡◌, Err, ap, subst, sym}
+use Rattle.std.proofs.Common.{Err, subst}
 use Rattle.rc_read.specs.Answer.{answer_of}
-use Rattle.rc_read.specs.Causes.{number_of_cause}
-use Rattle.rc_read.specs.Stream.{IsAnswer}
-use Rattle.rc_report.specs.declared.verdict.Verdict.TheVariants.{Unreadable}
-use Rattle.rc_report.specs.Engine.{answer_text, stepped_text}
-use Rattle.rc_report.specs.Verdicts.{verdict_text}
-use Rattle.rc_report.proofs.Pieces.{appends_along}
+use Rattle.rc_report.specs.Engine.{text_of_trace}
+use Rattle.rc_report.specs.Steps.{ReadsSteps}
+use Rattle.rc_report.proofs.Pieces.{wrote_along}
+use Rattle.rc_report.proofs.Steps.{unread_is_told}
 use Rattle.rc_report.proofs.step_engine.step_bytes.Goals as goal
 
-pub returns-in_ok-verdict_text-in-Err-Text-clause-text : goal.returns-in_ok-verdict_text-in-Err-Text-clause-text
-returns-in_ok-verdict_text-in-Err-Text-clause-text g c =
-    let answer : answer_of c.args.text.items ≡ Err (c.in-Err-Text.line, number_of_cause c.in-Err-Text.cause) =
-    subst (λ f. IsAnswer c.args.text.items (Err f)) c.in-Err-Text.field-0-is c.in-Err-Text.ensures in
-    let same : verdict_text (Unreadable c.in-Err-Text.line c.in-Err-Text.cause) ≡ stepped_text c.args.text.items c.args.schedule.now =
-    sym (ap (λ answer. answer_text answer c.args.schedule.now) answer) in
-    let written = rw (c.in-Err-Text.line-is, c.in-Err-Text.cause-is) at c.in_ok-verdict_text-in-Err-Text.ensures.text in
-    appends_along _ _ _ _ same written
+pub returns-in-Err-clause-text : goal.returns-in-Err-clause-text
+returns-in-Err-clause-text g c =
+    let text = c.args.text.items in
+    let schedule = c.args.schedule.now in
+    let unread : ReadsSteps (answer_of text) schedule (Err c.in-Err.unread) =
+    subst (λ read. ReadsSteps (answer_of text) schedule read) c.in-Err.is (rw c.deref.ensures.value at c.in_ok-read.ensures) in
+    wrote_along _ _ _ _ _ (unread_is_told text_of_trace (answer_of text) schedule c.in-Err.unread unread) c.write_unread.ensures.text
