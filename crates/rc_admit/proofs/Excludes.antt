@@ -41,7 +41,7 @@ use Rattle.rc_admit.proofs.Owned.{Stand, EdgeAt, HasEdge, owns, owns_pending, un
 use Rattle.rc_admit.proofs.Pool.{room_in_pool}
 use Rattle.rc_admit.proofs.Rule.{InRing, asks_lock, in_ring, inside_of, met, prepared_as}
 use Rattle.rc_admit.proofs.Shares.{buffer_shared, credits_owned, data_owned, data_pending, fills_all, names_one, no_clash}
-use Rattle.rc_admit.proofs.Steps.{breaks_as_released, token_owned}
+use Rattle.rc_admit.proofs.Steps.{token_owned}
 use Rattle.rc_world.proofs.LawFaultless.{without_fault}
 
 -- ---- what the rules ask of an access
@@ -248,7 +248,7 @@ module _ (w : World) (made : IsProgram w.program) (S : Stand) (edge : HasEdge w.
   no_raw_entry : (i : ℕ) (s : Stmt) (vars : List ℤ) (k : ℕ) → EdgeAt P S i (bags i) (modes i) vars k (Some s) → is_raw_at w.slot s ≡ false
   no_raw_entry i (Do op) vars k h = is_not_raw i op h.0
   no_raw_entry i (EndLock p) vars k h = released_closed i h.0 h.1
-  no_raw_entry i (Break p true leaves) vars k h = released_closed i (h.0 refl) (breaks_as_released P (modes i) h.1)
+  no_raw_entry i (Break p true leaves) vars k h = released_closed i (h.0 refl) h.1
   no_raw_entry i _ vars k h = refl
 
   lock_held : (i : ℕ) → is_locked (modes i) ≡ true → is_holder w.controls.holder i ≡ true

@@ -69,7 +69,7 @@ behind_break b m false K t w f = f (with_peeked Unseen m) (peeked_locked Unseen 
 -- ---- loops
 
 -- at a loop's top and at its end the state is no weaker than the items
-queue_less : (P : Program) (items : Items) (m : Mode) → keeps_queue P items m ≡ true → WeakerMode (top_mode P items m) m
+queue_less : (P : Program) (items : Items) (m : Mode) → keeps_queue (queue_on P items) m ≡ true → WeakerMode (top_mode P items m) m
 queue_less P items Unlocked e = tt
 queue_less P items (Locked s) e = record {
   queued = leb-true _ _ (and_parts (same_slot s.slot Closed) (nat_le s.queued (queue_on P items)) e).1;

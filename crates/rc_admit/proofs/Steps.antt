@@ -113,11 +113,6 @@ module _ (P : Program) (S : Stand) (w : World) (bags : ℕ → Part → ℕ) (mo
         agree = o.agree;
       }
 
--- A break that releases the lock asks for what the lock's end does.
-pub breaks_as_released : (P : Program) (m : Mode) → Meets (may_break P true m) → Meets (may_release P m)
-breaks_as_released P Unlocked h = tt
-breaks_as_released P (Locked s) h = h
-
 -- A token that is held or in the pool and a completed request under it would be two of one.
 twice : (P : Program) (S : Stand) (w : World) (bags : ℕ → Part → ℕ) (modes : ℕ → Mode) (i : ℕ) (t : Standing) (d : Completion) (ds : List Completion) → Owned P S w bags modes → slice_get w.controls.threads i ≡ Some t → w.completions ≡ d ∷ ds → 1 ≤ bags i (TokenOf d.user_data) + pooled P w.controls.pool (TokenOf d.user_data) → ⊥
 twice P S w bags modes i t d ds o get e h =
@@ -246,7 +241,7 @@ module _ (P : Program) (made : IsProgram P) (S : Stand) (edge : HasEdge P S) (w 
       goes _ _ _ _ _ (frees P S w bags modes i o pe s.0 s.1 (same_slot_is s.0.slot Closed (m 4)) (leb-true _ _ (m 12))) a
 
   break_keeps : (releases leaves : Bool) (p : ℕ) → ((releases || leaves) ≡ true → is_locked (modes i) ≡ true) → Meets (may_break P releases (modes i)) → AtLive (broken releases (Live (bags i) (modes i))) (λ b n. Leads S i b n t.variables (end_at P i p + 1)) → Keeps P S w.controls i (Some w) (Some (breaks P w.controls i t p releases leaves))
-  break_keeps true leaves p l h a = release_keeps (if leaves then false else w.controls.peeked) (end_at P i p + 1) (l refl) (breaks_as_released P (modes i) h) a
+  break_keeps true leaves p l h a = release_keeps (if leaves then false else w.controls.peeked) (end_at P i p + 1) (l refl) h a
   break_keeps false leaves p l h a = go (modes i) refl leaves l
     where
       go : (m : Mode) → modes i ≡ m → (leaves : Bool) → (leaves ≡ true → is_locked (modes i) ≡ true) → Keeps P S w.controls i (Some w) (Some (breaks P w.controls i t p false leaves))

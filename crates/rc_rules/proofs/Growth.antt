@@ -19,7 +19,7 @@ use Rattle.rc_rules.specs.declared.mode.Slot.{Slot}
 use Rattle.rc_rules.specs.declared.mode.Slot.TheVariants.{Closed, Vacant}
 use Rattle.rc_rules.specs.Labels.{Label, Dead, Live, Weaker, WeakerMode, WeakerInside}
 use Rattle.rc_rules.specs.Premises.{Premise, IsMet, Meets, MeetsBelow}
-use Rattle.rc_rules.specs.Rules.{kind_of, same_slot, has_kind, is_prepared_as, is_seen, locked, if_locked, op_premises, op_effect, reaped, asks, asks_both, joins_both, goes, entered, may_release, released, put_premises, put_effect, can_take, take_effect, test_premises, test_effect, peek_premises, with_peeked, peek_at, case_at, agree_modes, agree, agree_each, agree_all, may_join, queue_on, keeps_queue, may_loop, top_mode, top, may_break, broken}
+use Rattle.rc_rules.specs.Rules.{kind_of, same_slot, has_kind, is_prepared_as, is_seen, locked, if_locked, op_premises, op_effect, reaped, ring_of, asks, asks_both, joins_both, goes, entered, may_release, released, put_premises, put_effect, can_take, take_effect, test_premises, test_effect, peek_premises, with_peeked, peek_at, case_at, agree_modes, agree, agree_each, agree_all, may_join, queue_on, keeps_queue, may_loop, top_mode, top, may_break, broken}
 use Rattle.rc_rules.specs.Labellings.{label_at, here, skipped, arm_end, arm_ends, break_end, break_ends, befores, premises}
 use Rattle.rc_rules.specs.Laws.{EachWeaker, IsStronger, GrowsAt}
 use Rattle.rc_rules.specs.declared.flag.Write.TheVariants.{Anything}
@@ -186,20 +186,26 @@ test_grows P lists (SpaceAtLeast n) b d Unlocked (Locked j) w v h = absurd v
 test_grows P lists (SpaceAtLeast n) b d (Locked i) Unlocked w v h = absurd v
 test_grows P lists (Take k) b d m o w v h = take_grows P (items_at lists k) b d m o w v
 
-release_less : (P : Program) → AsksLess (λ b m. may_release P m)
-release_less P b c Unlocked Unlocked w v = tt
-release_less P b c (Locked i) (Locked j) w v = (refl, slot_of i j Closed v, (refl, below j.queued i.queued P.left v.queued, tt))
-release_less P b c Unlocked (Locked j) w v = absurd v
-release_less P b c (Locked i) Unlocked w v = absurd v
+closed_less : (m n : Mode) → WeakerMode m n → same_slot (ring_of m).slot Closed ≡ true → same_slot (ring_of n).slot Closed ≡ true
+closed_less Unlocked Unlocked v h = refl
+closed_less (Locked i) (Locked j) v h = slot_of i j Closed v h
+closed_less Unlocked (Locked j) v h = absurd v
+closed_less (Locked i) Unlocked v h = absurd v
+
+left_less : (P : Program) (m n : Mode) → WeakerMode m n → nat_le (ring_of m).queued P.left ≡ true → nat_le (ring_of n).queued P.left ≡ true
+left_less P Unlocked Unlocked v h = h
+left_less P (Locked i) (Locked j) v h = below j.queued i.queued P.left v.queued h
+left_less P Unlocked (Locked j) v h = absurd v
+left_less P (Locked i) Unlocked v h = absurd v
 
 break_less : (P : Program) (r : Bool) → AsksLess (λ b m. may_break P r m)
-break_less P r b c Unlocked Unlocked w v = tt
-break_less P true b c (Locked i) (Locked j) w v = (refl, slot_of i j Closed v, (refl, below j.queued i.queued P.left v.queued, tt))
-break_less P false b c (Locked i) (Locked j) w v = (refl, slot_of i j Closed v, (refl, λ h. refl, tt))
-break_less P r b c Unlocked (Locked j) w v = absurd v
-break_less P r b c (Locked i) Unlocked w v = absurd v
+break_less P true b c m n w v = (refl, closed_less m n v, (refl, left_less P m n v, tt))
+break_less P false b c m n w v = (refl, closed_less m n v, tt)
 
-queue_grows : (P : Program) (items : Items) (m n : Mode) → WeakerMode m n → keeps_queue P items m ≡ true → keeps_queue P items n ≡ true
+release_less : (P : Program) → AsksLess (λ b m. may_release P m)
+release_less P = break_less P true
+
+queue_grows : (P : Program) (items : Items) (m n : Mode) → WeakerMode m n → keeps_queue (queue_on P items) m ≡ true → keeps_queue (queue_on P items) n ≡ true
 queue_grows P items Unlocked Unlocked v h = refl
 queue_grows P items (Locked i) (Locked j) v h = let g = and_parts _ _ h in and_from _ _ (slot_of i j Closed v g.0) (below j.queued i.queued (queue_on P items) v.queued g.1)
 queue_grows P items Unlocked (Locked j) v h = absurd v

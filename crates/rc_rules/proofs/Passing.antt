@@ -1,19 +1,60 @@
--- Premises in the order of their numbers: the first that fails is the least.
-use Rattle.std.proofs.Common.{◌≡◌, ℕ, ◌≤◌, Bool, false, List, [], ◌∷◌, length, get_or, arith}
+-- Needs in the order of the numbers of their causes: the first that isn't met is the least premise that fails.
+use Rattle.std.proofs.Common.{◌≡◌, ℕ, ◌+◌, ◌≤◌, Bool, true, false, List, [], ◌∷◌, Option, Some, Result, Ok, Err, length, get_or, refl, sym, subst, arith}
+use Rattle.rc_lang.specs.Program.{Program, Items}
+use Rattle.rc_split.specs.Bags.{Part}
+use Rattle.rc_rules.specs.declared.needs.Asks.{Asks}
+use Rattle.rc_rules.specs.declared.needs.Asks.TheVariants.{Lock, Loop}
 use Rattle.rc_rules.specs.declared.cause.Cause.{Cause}
+use Rattle.rc_rules.specs.declared.mode.Mode.{Mode}
+use Rattle.rc_rules.specs.declared.mode.Mode.TheVariants.{Unlocked, Locked}
+use Rattle.rc_rules.specs.Needs.{AreRising, IsMetNeed, listed}
 use Rattle.rc_rules.specs.Causes.{premise_number}
-use Rattle.rc_rules.specs.Premises.{tests_of, Premise, Is, IsMet, MeetsBelow, FailsFirst, IsFrom, IsRising}
+use Rattle.rc_rules.specs.Premises.{Premise, Is, IsMet, MeetsBelow, FailsFirst, IsFrom, Tests}
+use Rattle.rc_rules.specs.Rules.{then_asked, premises_of}
 
 none_below : (n : ℕ) (ps : List (ℕ × Premise)) → IsFrom n ps → MeetsBelow n ps
 none_below n [] h = tt
 none_below n (p ∷ ps) h = (λ lt. absurd (omega (arith, h.0, lt)), none_below n ps h.1)
 
-pub stops : (n : ℕ) (x : Premise) (ps : List (ℕ × Premise)) → (IsMet x → ⊥) → IsFrom n ps → FailsFirst n ((n, x) ∷ ps)
+stops : (n : ℕ) (x : Premise) (ps : List (ℕ × Premise)) → (IsMet x → ⊥) → IsFrom n ps → FailsFirst n ((n, x) ∷ ps)
 stops n x ps h f = record { below = (λ lt. absurd (omega (arith, lt)), none_below n ps f); fails = λ m. h (m.0 (omega arith)) }
 
-pub fails : (n : ℕ) (b : Bool) (ps : List (ℕ × Premise)) → b ≡ false → IsFrom n ps → FailsFirst n ((n, Is b) ∷ ps)
-fails n b ps e f = stops n (Is b) ps (λ h. absurd (cc)) f
+stops_twice : (n : ℕ) (x y : Premise) (ps : List (ℕ × Premise)) → (IsMet x × IsMet y → ⊥) → IsFrom n ps → FailsFirst n ((n, x) ∷ (n, y) ∷ ps)
+stops_twice n x y ps h f = record { below = (λ lt. absurd (omega (arith, lt)), (λ lt. absurd (omega (arith, lt)), none_below n ps f)); fails = λ m. h (m.0 (omega arith), m.1.0 (omega arith)) }
 
-pub first_fails : (ts : List (Bool × Cause)) (d : Bool × Cause) → 1 ≤ length ts → IsRising (tests_of ts) → (get_or ts 0 d).0 ≡ false → FailsFirst (premise_number (get_or ts 0 d).1) (tests_of ts)
-first_fails [] d l r e = absurd (omega (arith, l))
-first_fails (t ∷ ts) d l r e = fails (premise_number t.1) t.0 (tests_of ts) e r.0
+goes_on : {X : Type 0} (r : Result X Cause) (n : ℕ) (x : Premise) (ps : List (ℕ × Premise)) → IsMet x → Tests r ps → Tests r ((n, x) ∷ ps)
+goes_on (Ok y) n x ps h t = (h, t)
+goes_on (Err c) n x ps h t = record { below = (λ lt. h, t.below); fails = λ m. t.fails m.1 }
+
+module _ (P : Program) (lists : List Items) (z : Bool) (bag : Part → ℕ) where
+  from_asked : (m : Mode) (n v : ℕ) (a : Asks) (rest : Mode → List (ℕ × Premise)) → n ≤ v → ((k : Mode) → IsFrom n (rest k)) → IsFrom n (then_asked P lists z bag m v a rest)
+  from_asked Unlocked n v Lock rest l h = (l, tt)
+  from_asked (Locked i) n v Lock rest l h = h (Locked i)
+  from_asked m n v (Loop k) rest l h = (l, (l, h m))
+  from_asked m n v _ rest l h = (l, h m)
+
+  pub from_rising : (m : Mode) (n v : ℕ) (needs : List (Cause × Asks)) → n ≤ v + 1 → AreRising v needs → IsFrom n (premises_of P lists z bag m needs)
+  from_rising m n v [] l h = tt
+  from_rising m n v (need ∷ needs) l h = from_asked m n (premise_number need.0) need.1 (λ k. premises_of P lists z bag k needs) (omega (arith, l, h.0)) (λ k. from_rising k n (premise_number need.0) needs (omega (arith, l, h.0)) h.1)
+
+  unmet_asked : (m : Mode) (v : ℕ) (a : Asks) (rest : Mode → List (ℕ × Premise)) → (IsMetNeed P lists z bag m a → ⊥) → ((k : Mode) → IsFrom v (rest k)) → FailsFirst v (then_asked P lists z bag m v a rest)
+  unmet_asked Unlocked v Lock rest h f = stops v (Is false) [] (λ e. cc) tt
+  unmet_asked (Locked i) v Lock rest h f = absurd (h (refl, refl))
+  unmet_asked m v (Loop k) rest h f = stops_twice v _ _ (rest m) h (f m)
+  unmet_asked m v _ rest h f = stops v _ (rest m) (λ e. h (refl, e)) (f m)
+
+  met_asked : {X : Type 0} (m : Mode) (v : ℕ) (a : Asks) (rest : Mode → List (ℕ × Premise)) (r : Result X Cause) → IsMetNeed P lists z bag m a → Tests r (rest m) → Tests r (then_asked P lists z bag m v a rest)
+  met_asked Unlocked v Lock rest r h t = absurd (let e : false ≡ true = h.1 in cc)
+  met_asked (Locked i) v Lock rest r h t = t
+  met_asked m v (Loop k) rest r h t = goes_on r v _ _ h.0 (goes_on r v _ (rest m) h.1 t)
+  met_asked m v _ rest r h t = goes_on r v _ (rest m) h.1 t
+
+  pub unmet : (m : Mode) (v : ℕ) (need : Cause × Asks) (needs : List (Cause × Asks)) → AreRising v (need ∷ needs) → (IsMetNeed P lists z bag m need.1 → ⊥) → FailsFirst (premise_number need.0) (premises_of P lists z bag m (need ∷ needs))
+  unmet m v need needs h u = unmet_asked m (premise_number need.0) need.1 (λ k. premises_of P lists z bag k needs) u (λ k. from_rising k (premise_number need.0) (premise_number need.0) needs (omega arith) h.1)
+
+  pub first_unmet : (m : Mode) (v : ℕ) (xs : List (Option (Cause × Asks))) (d : Option (Cause × Asks)) (need : Cause × Asks) → 1 ≤ length xs → get_or xs 0 d ≡ Some need → AreRising v (listed xs) → (IsMetNeed P lists z bag m need.1 → ⊥) → FailsFirst (premise_number need.0) (premises_of P lists z bag m (listed xs))
+  first_unmet m v [] d need l e h u = absurd (omega (arith, l))
+  first_unmet m v (x ∷ xs) d need l e h u = subst (λ y. AreRising v (listed (y ∷ xs)) → FailsFirst (premise_number need.0) (premises_of P lists z bag m (listed (y ∷ xs)))) (sym e) (λ r. unmet m v need (listed xs) r u) h
+
+  pub met : {X : Type 0} (m : Mode) (need : Cause × Asks) (needs : List (Cause × Asks)) (r : Result X Cause) → IsMetNeed P lists z bag m need.1 → Tests r (premises_of P lists z bag m needs) → Tests r (premises_of P lists z bag m (need ∷ needs))
+  met m need needs r h t = met_asked m (premise_number need.0) need.1 (λ k. premises_of P lists z bag k needs) r h t

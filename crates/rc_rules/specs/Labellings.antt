@@ -5,10 +5,12 @@ use Rattle.rc_lang.specs.declared.lines.Line.{Line}
 use Rattle.rc_lang.specs.declared.lines.Stmt.{Stmt}
 use Rattle.rc_lang.specs.declared.lines.Stmt.TheVariants.{Do, Put, Lock, EndLock, If, Else, EndIf, Peek, Case, Other, Nothing, EndArm, EndPeek, Loop, EndLoop, Break}
 use Rattle.rc_lang.specs.Program.{Program, Thread, items_at, stmt_at}
+use Rattle.rc_rules.specs.declared.cause.Cause.TheVariants.{LoopEntry, LoopBody, OverShares, TokenTwice, OverCredits}
 use Rattle.rc_rules.specs.declared.mode.Mode.TheVariants.{Unlocked}
 use Rattle.rc_rules.specs.declared.mode.Peeked.TheVariants.{Unseen, SeesOther}
 use Rattle.rc_rules.specs.declared.flag.Write.TheVariants.{Anything}
 use Rattle.rc_split.specs.Bags.{Part, ShareOf, TokenOf, Credit, bag_of}
+use Rattle.rc_rules.specs.Causes.{premise_number}
 use Rattle.rc_rules.specs.Labels.{Label, Dead, Live, WeakerThanEach, IsSame}
 use Rattle.rc_rules.specs.Sides.{Sides, on, unreached, gate, brings, turns, write_to, write_of, forgets, test_goes, may_skip}
 use Rattle.rc_rules.specs.Premises.{Premise, Covers, Meets, MeetsBelow}
@@ -81,8 +83,8 @@ premises P thread lines known (Other o) = []
 premises P thread lines known (Nothing o) = []
 premises P thread lines known (EndArm o) = []
 premises P thread lines known (EndPeek o) = joins_both (befores P thread lines known (EndPeek o))
-premises P thread lines known (Loop k) = asks_both (here lines known) (λ z bag m. may_loop P 13 (items_at thread.lists k) z bag m)
-premises P thread lines known (EndLoop o k) = asks_both (here lines known) (λ z bag m. may_loop P 14 (items_at thread.lists k) z bag m)
+premises P thread lines known (Loop k) = asks_both (here lines known) (λ z bag m. may_loop P (premise_number LoopEntry) (items_at thread.lists k) z bag m)
+premises P thread lines known (EndLoop o k) = asks_both (here lines known) (λ z bag m. may_loop P (premise_number LoopBody) (items_at thread.lists k) z bag m)
 premises P thread lines known (Break o releases leaves) = asks_both (here lines known) (λ z bag m. may_break P releases m)
 
 -- ---- labellings
@@ -130,7 +132,7 @@ credits_of bag Credit = bag Credit
 
 -- The threads up to a header hold together at most what there is.
 abbrev pub header_premises : Program → List Thread → List (ℕ × Premise)
-header_premises P threads = (16, Covers (limit P) (shares_of (headers_bag threads))) ∷ (17, Covers (limit P) (tokens_of (headers_bag threads))) ∷ (18, Covers (limit P) (credits_of (headers_bag threads))) ∷ []
+header_premises P threads = (premise_number OverShares, Covers (limit P) (shares_of (headers_bag threads))) ∷ (premise_number TokenTwice, Covers (limit P) (tokens_of (headers_bag threads))) ∷ (premise_number OverCredits, Covers (limit P) (credits_of (headers_bag threads))) ∷ []
 
 -- ---- accepted programs
 

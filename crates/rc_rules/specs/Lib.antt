@@ -4,6 +4,7 @@ pub mod Labels
 pub mod Premises
 pub mod Sides
 pub mod Rules
+pub mod Needs
 pub mod Labellings
 pub mod States
 pub mod Readers

@@ -26,19 +26,10 @@ pub record FailsFirst (n : ℕ) (ps : List (ℕ × Premise)) : Type 0 where
   pub below : MeetsBelow n ps
   pub fails : MeetsBelow (n + 1) ps → ⊥
 
--- The numbers rise along the list.
+-- No number is below n.
 abbrev pub IsFrom : ℕ → List (ℕ × Premise) → Type 0
 IsFrom n [] = Unit {0}
 IsFrom n (p ∷ ps) = (n ≤ p.0) × IsFrom n ps
-
-abbrev pub IsRising : List (ℕ × Premise) → Type 0
-IsRising [] = Unit {0}
-IsRising (p ∷ ps) = IsFrom p.0 ps × IsRising ps
-
--- whether each of some causes is ruled out
-abbrev pub tests_of : List (Bool × Cause) → List (ℕ × Premise)
-tests_of [] = []
-tests_of (t ∷ ts) = (premise_number t.1, Is t.0) ∷ tests_of ts
 
 -- Ok: the premises hold. A cause: the least that fails.
 abbrev pub Tests : {X : Type 0} → Result X Cause → List (ℕ × Premise) → Type 0

@@ -1,5 +1,5 @@
 -- The rule of each line: what it asks of the state before it, and the state behind it.
-use Rattle.std.specs.Prelude.{ℕ, ◌+◌, ◌-◌, Bool, true, false, cond, min, List, [], ◌∷◌, ◌++◌, Option, Some, None, nat_eq, nat_lt, nat_le, not, ◌&&◌, ◌||◌, slice_get}
+use Rattle.std.specs.Prelude.{ℕ, ◌+◌, ◌-◌, Bool, true, false, cond, min, List, [], ◌∷◌, ◌++◌, Option, Some, None, nat_eq, nat_lt, nat_le, not, ◌&&◌, slice_get}
 use Rattle.std.specs.List.{list_all, list_any}
 use Rattle.rc_lang.specs.declared.lines.Op.{Op}
 use Rattle.rc_lang.specs.declared.lines.Op.TheVariants as ops
@@ -10,6 +10,10 @@ use Rattle.rc_lang.specs.declared.program.Token.{Token}
 use Rattle.rc_lang.specs.declared.program.TokenKind.{TokenKind}
 use Rattle.rc_lang.specs.declared.program.TokenKind.TheVariants.{Read, Write, Fsync, Nop}
 use Rattle.rc_lang.specs.Program.{Program, Items, bytes_at, items_at, shares_at, token_place}
+use Rattle.rc_rules.specs.declared.needs.Asks.{Asks}
+use Rattle.rc_rules.specs.declared.needs.Asks.TheVariants as needs
+use Rattle.rc_rules.specs.declared.cause.Cause.{Cause}
+use Rattle.rc_rules.specs.declared.cause.Cause.TheVariants as causes
 use Rattle.rc_rules.specs.declared.mode.Inside.{Inside}
 use Rattle.rc_rules.specs.declared.mode.Mode.{Mode}
 use Rattle.rc_rules.specs.declared.mode.Mode.TheVariants.{Unlocked, Locked}
@@ -17,7 +21,10 @@ use Rattle.rc_rules.specs.declared.mode.Peeked.{Peeked}
 use Rattle.rc_rules.specs.declared.mode.Peeked.TheVariants.{Unseen, Sees, SeesOther}
 use Rattle.rc_rules.specs.declared.mode.Slot.{Slot}
 use Rattle.rc_rules.specs.declared.mode.Slot.TheVariants.{Closed, Vacant, Prepared}
-use Rattle.rc_split.specs.Bags.{Part, ShareOf, TokenOf, Credit, shares_bag, token_bag, credits_bag, bag_of, bag_on, plus, minus}
+use Rattle.rc_split.specs.Bags.{Part, ShareOf, TokenOf, Credit, shares_bag, token_bag, credits_bag, bag_of, bag_on, nothing, plus, minus}
+use Rattle.rc_split.specs.declared.part.Part.TheVariants as parts
+use Rattle.rc_split.specs.Holdings.{covers_part}
+use Rattle.rc_rules.specs.Causes.{premise_number}
 use Rattle.rc_rules.specs.Labels.{Label, Dead, Live}
 use Rattle.rc_rules.specs.Premises.{Premise, Is, Covers}
 
@@ -89,27 +96,96 @@ is_seen SeesOther = true
 abbrev pub is_whole : Program → (Part → ℕ) → ℕ → Bool
 is_whole P bag b = nat_le (shares_at P.buffers b) (bag (ShareOf b))
 
+-- how many entries may be queued at the top of a loop, where its items say it and where they don't
+abbrev pub queue_or : Option ℕ → ℕ → ℕ
+queue_or None n = n
+queue_or (Some k) n = k
+
+abbrev pub queue_on : Program → Items → ℕ
+queue_on P items = queue_or items.queue P.entries
+
+-- no slot is open, and no more entries are queued than this
+abbrev pub keeps_queue : ℕ → Mode → Bool
+keeps_queue n Unlocked = true
+keeps_queue n (Locked i) = same_slot i.slot Closed && nat_le i.queued n
+
+abbrev pub is_locked : Mode → Bool
+is_locked Unlocked = false
+is_locked (Locked i) = true
+
+-- Without the lock the premise of this number fails, and nothing else is asked.
+abbrev pub under_lock : ℕ → Mode → (Inside → List (ℕ × Premise)) → List (ℕ × Premise)
+under_lock v Unlocked F = (v, Is false) ∷ []
+under_lock v (Locked i) F = F i
+
 -- Most calls on the ring are asked for the lock first.
 abbrev pub locked : Mode → (Inside → List (ℕ × Premise)) → List (ℕ × Premise)
-locked Unlocked F = (1, Is false) ∷ []
-locked (Locked i) F = F i
+locked m F = under_lock (premise_number causes.Unlocked) m F
 
--- ---- statements without a block: what they ask, and the state behind them; the others ask nothing and leave it
+-- ---- needs
 
+-- what is known of the ring: without the lock no slot is open, and nothing is queued or peeked
+abbrev pub ring_of : Mode → Inside
+ring_of Unlocked = record { queued = 0; slot = Closed; peeked = Unseen }
+ring_of (Locked i) = i
+
+-- the premise of a need, in a thread with these lists of items, on a side of the flag, where so much is held and so much
+-- is known of the ring
+abbrev pub meant : Program → List Items → Bool → (Part → ℕ) → Mode → Asks → Premise
+meant P lists z bag m needs.Lock = Is (is_locked m)
+meant P lists z bag m (needs.Part part) = Is (covers_part bag part)
+meant P lists z bag m (needs.Whole b) = Is (is_whole P bag b)
+meant P lists z bag m (needs.Items k) = Covers bag (bag_of (items_at lists k))
+meant P lists z bag m (needs.Loop k) = Covers bag (bag_on z (items_at lists k))
+meant P lists z bag m needs.Room = Is (nat_lt (ring_of m).queued P.entries)
+meant P lists z bag m needs.Closed = Is (same_slot (ring_of m).slot Closed)
+meant P lists z bag m needs.Vacant = Is (same_slot (ring_of m).slot Vacant)
+meant P lists z bag m needs.Prepared = Is (has_kind (ring_of m).slot)
+meant P lists z bag m (needs.Line u) = Is (is_prepared_as (kind_of P u) (ring_of m).slot)
+meant P lists z bag m (needs.Place b i) = Is (nat_lt i (bytes_at P.buffers b))
+meant P lists z bag m (needs.Length b n) = Is (nat_le n (bytes_at P.buffers b))
+meant P lists z bag m needs.Peeked = Is (is_seen (ring_of m).peeked)
+meant P lists z bag m needs.Left = Is (nat_le (ring_of m).queued P.left)
+meant P lists z bag m needs.Agreeing = Is true
+
+-- A loop has a second premise under the same number.
+abbrev pub meant_besides : Program → List Items → Mode → Asks → Premise
+meant_besides P lists m (needs.Loop k) = Is (keeps_queue (queue_on P (items_at lists k)) m)
+meant_besides P lists m _ = Is true
+
+-- the premises of a need, with its number, and those after it
+abbrev pub then_asked : Program → List Items → Bool → (Part → ℕ) → Mode → ℕ → Asks → (Mode → List (ℕ × Premise)) → List (ℕ × Premise)
+then_asked P lists z bag m v needs.Lock rest = under_lock v m (λ i. rest (Locked i))
+then_asked P lists z bag m v (needs.Loop k) rest = (v, meant_besides P lists m (needs.Loop k)) ∷ (v, meant P lists z bag m (needs.Loop k)) ∷ rest m
+then_asked P lists z bag m v asks rest = (v, meant P lists z bag m asks) ∷ rest m
+
+abbrev pub premises_of : Program → List Items → Bool → (Part → ℕ) → Mode → List (Cause × Asks) → List (ℕ × Premise)
+premises_of P lists z bag m [] = []
+premises_of P lists z bag m (need ∷ rest) = then_asked P lists z bag m (premise_number need.0) need.1 (λ n. premises_of P lists z bag n rest)
+
+-- ---- statements without a block: what they need, and the state after them; the others need nothing and leave it
+
+abbrev pub lock : Cause × Asks
+lock = (causes.Unlocked, needs.Lock)
+
+abbrev pub op_needs : Op → List (Cause × Asks)
+op_needs (ops.Load x b i) = (causes.NoShare, needs.Part (parts.Shares b 1)) ∷ (causes.OutOfBuffer, needs.Place b i) ∷ []
+op_needs (ops.Store b i x) = (causes.NotWhole, needs.Whole b) ∷ (causes.OutOfBuffer, needs.Place b i) ∷ []
+op_needs (ops.Fill b x) = (causes.NotWhole, needs.Whole b) ∷ []
+op_needs ops.GetSqe = lock ∷ (causes.NoCredit, needs.Part (parts.Credits 1)) ∷ (causes.QueueFull, needs.Room) ∷ (causes.SlotOpen, needs.Closed) ∷ []
+op_needs (ops.PrepRead fd b len off) = lock ∷ (causes.NoSlot, needs.Vacant) ∷ (causes.NotWhole, needs.Whole b) ∷ (causes.OutOfBuffer, needs.Length b len) ∷ []
+op_needs (ops.PrepWrite fd b len off k) = lock ∷ (causes.NoSlot, needs.Vacant) ∷ (causes.NoShare, needs.Part (parts.Shares b k)) ∷ (causes.OutOfBuffer, needs.Length b len) ∷ []
+op_needs (ops.PrepFsync fd datasync) = lock ∷ (causes.NoSlot, needs.Vacant) ∷ []
+op_needs ops.PrepNop = lock ∷ (causes.NoSlot, needs.Vacant) ∷ []
+op_needs (ops.SetData64 u) = lock ∷ (causes.NoSlot, needs.Prepared) ∷ (causes.WrongKind, needs.Line u) ∷ (causes.NoToken, needs.Part (parts.Token u)) ∷ []
+op_needs (ops.Submit x) = lock ∷ (causes.SlotOpen, needs.Closed) ∷ []
+op_needs (ops.SubmitAndWait x n) = lock ∷ (causes.SlotOpen, needs.Closed) ∷ []
+op_needs ops.CqeSeen = lock ∷ (causes.NoEntry, needs.Peeked) ∷ []
+op_needs _ = []
+
+-- They name no list of items, and need the same on both sides.
 abbrev pub op_premises : Program → (Part → ℕ) → Mode → Op → List (ℕ × Premise)
-op_premises P bag m (ops.Load x b i) = (8, Is (nat_le 1 (bag (ShareOf b)))) ∷ (9, Is (nat_lt i (bytes_at P.buffers b))) ∷ []
-op_premises P bag m (ops.Store b i x) = (7, Is (is_whole P bag b)) ∷ (9, Is (nat_lt i (bytes_at P.buffers b))) ∷ []
-op_premises P bag m (ops.Fill b x) = (7, Is (is_whole P bag b)) ∷ []
-op_premises P bag m ops.GetSqe = locked m (λ i. (2, Is (nat_le 1 (bag Credit))) ∷ (3, Is (nat_lt i.queued P.entries)) ∷ (4, Is (same_slot i.slot Closed)) ∷ [])
-op_premises P bag m (ops.PrepRead fd b len off) = locked m (λ i. (5, Is (same_slot i.slot Vacant)) ∷ (7, Is (is_whole P bag b)) ∷ (9, Is (nat_le len (bytes_at P.buffers b))) ∷ [])
-op_premises P bag m (ops.PrepWrite fd b len off k) = locked m (λ i. (5, Is (same_slot i.slot Vacant)) ∷ (8, Is (nat_le k (bag (ShareOf b)))) ∷ (9, Is (nat_le len (bytes_at P.buffers b))) ∷ [])
-op_premises P bag m (ops.PrepFsync fd datasync) = locked m (λ i. (5, Is (same_slot i.slot Vacant)) ∷ [])
-op_premises P bag m ops.PrepNop = locked m (λ i. (5, Is (same_slot i.slot Vacant)) ∷ [])
-op_premises P bag m (ops.SetData64 u) = locked m (λ i. (5, Is (has_kind i.slot)) ∷ (6, Is (is_prepared_as (kind_of P u) i.slot)) ∷ (10, Is (nat_le 1 (bag (TokenOf u)))) ∷ [])
-op_premises P bag m (ops.Submit x) = locked m (λ i. (4, Is (same_slot i.slot Closed)) ∷ [])
-op_premises P bag m (ops.SubmitAndWait x n) = locked m (λ i. (4, Is (same_slot i.slot Closed)) ∷ [])
-op_premises P bag m ops.CqeSeen = locked m (λ i. (11, Is (is_seen i.peeked)) ∷ [])
-op_premises P bag m _ = []
+op_premises P bag m op = premises_of P [] true bag m (op_needs op)
 
 -- no premise of a call on the ring is met without the lock
 abbrev pub if_locked : Mode → (Inside → Label) → Label
@@ -152,9 +228,13 @@ goes (Live bag m) F = F bag m
 abbrev pub entered : Program → Label → Label
 entered P s = goes s (λ bag m. Live bag (Locked (record { queued = P.left; slot = Closed; peeked = Unseen })))
 
+-- what is needed where the lock is released (true), and where a loop is left with it or without one
+abbrev pub leave_needs : Bool → List (Cause × Asks)
+leave_needs true = (causes.SlotOpen, needs.Closed) ∷ (causes.QueueLeft, needs.Left) ∷ []
+leave_needs false = (causes.SlotOpen, needs.Closed) ∷ []
+
 abbrev pub may_release : Program → Mode → List (ℕ × Premise)
-may_release P Unlocked = []
-may_release P (Locked i) = (4, Is (same_slot i.slot Closed)) ∷ (12, Is (nat_le i.queued P.left)) ∷ []
+may_release P m = premises_of P [] true nothing m (leave_needs true)
 
 abbrev pub released : Label → Label
 released s = goes s (λ bag m. Live bag Unlocked)
@@ -163,7 +243,7 @@ released s = goes s (λ bag m. Live bag Unlocked)
 
 -- What is put is held, and then it isn't any more.
 abbrev pub put_premises : (Part → ℕ) → Mode → Items → List (ℕ × Premise)
-put_premises bag m items = locked m (λ i. (19, Covers bag (bag_of items)) ∷ [])
+put_premises bag m items = locked m (λ i. (premise_number causes.NotHeld, Covers bag (bag_of items)) ∷ [])
 
 abbrev pub put_effect : (Part → ℕ) → Mode → Items → Label
 put_effect bag m items = Live (minus bag (bag_of items)) m
@@ -254,7 +334,7 @@ agree_all [] = true
 agree_all (s ∷ ss) = agree_each s ss && agree_all ss
 
 abbrev pub may_join : List Label → List (ℕ × Premise)
-may_join ends = (15, Is (agree_all ends)) ∷ []
+may_join ends = (premise_number causes.JoinMismatch, Is (agree_all ends)) ∷ []
 
 -- the ends of both sides agree
 abbrev pub joins_both : (Bool → List Label) → List (ℕ × Premise)
@@ -262,22 +342,10 @@ joins_both ends = may_join (ends true ++ ends false)
 
 -- ---- loops
 
--- how many entries it says may be queued
-abbrev pub queue_or : Option ℕ → ℕ → ℕ
-queue_or None n = n
-queue_or (Some k) n = k
-
-abbrev pub queue_on : Program → Items → ℕ
-queue_on P items = queue_or items.queue P.entries
-
-abbrev pub keeps_queue : Program → Items → Mode → Bool
-keeps_queue P items Unlocked = true
-keeps_queue P items (Locked i) = same_slot i.slot Closed && nat_le i.queued (queue_on P items)
-
 -- At a loop's top and at its end no slot is open, the items are held, and in a lock no more entries are queued than the
 -- loop says.
 abbrev pub may_loop : Program → ℕ → Items → Bool → (Part → ℕ) → Mode → List (ℕ × Premise)
-may_loop P v items z bag m = (v, Is (keeps_queue P items m)) ∷ (v, Covers bag (bag_on z items)) ∷ []
+may_loop P v items z bag m = (v, Is (keeps_queue (queue_on P items) m)) ∷ (v, Covers bag (bag_on z items)) ∷ []
 
 -- behind the top exactly the items are held
 abbrev pub top_mode : Program → Items → Mode → Mode
@@ -288,8 +356,7 @@ abbrev pub top : Program → Items → Bool → Label → Label
 top P items z s = goes s (λ bag m. Live (bag_on z items) (top_mode P items m))
 
 abbrev pub may_break : Program → Bool → Mode → List (ℕ × Premise)
-may_break P releases Unlocked = []
-may_break P releases (Locked i) = (4, Is (same_slot i.slot Closed)) ∷ (12, Is (not releases || nat_le i.queued P.left)) ∷ []
+may_break P releases m = premises_of P [] true nothing m (leave_needs releases)
 
 -- what a break takes to the end of its loop
 abbrev pub broken : Bool → Label → Label

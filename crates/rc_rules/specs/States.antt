@@ -1,19 +1,23 @@
 -- What the calls of `State` do.
 use Rattle.std.specs.Prelude.{ℕ, ◌≡◌, ◌≤◌, ◌^◌, Bool, true, false, List, Option, Some, None, Result, Ok, Err, cond, max, nat_eq, slice_get, ◌||◌}
+use Rattle.rc_lang.specs.declared.lines.Op.{Op}
 use Rattle.rc_lang.specs.declared.program.TokenKind.{TokenKind}
-use Rattle.rc_lang.specs.Program.{Program, Thread, DeclaresToken, IsTokenKind}
+use Rattle.rc_lang.specs.Program.{Program, Thread, Items, DeclaresToken, IsTokenKind}
 use Rattle.rc_rules.specs.declared.cause.Cause.{Cause}
 use Rattle.rc_rules.specs.declared.mode.Inside.{Inside}
 use Rattle.rc_rules.specs.declared.mode.Mode.{Mode}
 use Rattle.rc_rules.specs.declared.mode.Mode.TheVariants.{Unlocked, Locked}
 use Rattle.rc_rules.specs.declared.mode.Peeked.{Peeked}
 use Rattle.rc_rules.specs.declared.mode.Peeked.TheVariants.{Unseen, Sees, SeesOther}
-use Rattle.rc_split.specs.Bags.{Part, TokenOf}
-use Rattle.rc_split.specs.Holdings.{Holding, bag}
+use Rattle.rc_split.specs.Bags.{Part, TokenOf, minus, plus}
+use Rattle.rc_split.specs.Holdings.{Holding, Holds, bag}
+use Rattle.rc_rules.specs.declared.needs.Asks.{Asks}
 use Rattle.rc_rules.specs.Causes.{premise_number}
 use Rattle.rc_rules.specs.Labellings.{start_of}
 use Rattle.rc_rules.specs.Labels.{Label, Dead, Live, IsStrongest, IsSame}
-use Rattle.rc_rules.specs.Rules.{agree}
+use Rattle.rc_rules.specs.Needs.{IsMetOn}
+use Rattle.rc_rules.specs.Rules.{agree, op_effect, op_premises}
+pub use Rattle.rc_rules.specs.Rules.{is_locked}
 use Rattle.rc_rules.specs.Sides.{Sides, on}
 use Rattle.rc_rules.specs.Premises.{Premise, Meets, FailsFirst}
 
@@ -28,6 +32,10 @@ label_in (Some s) = Live (bag s.0) s.1
 
 abbrev pub side_label : Side → Label
 side_label s = label_in s.live
+
+-- A need is met on a side.
+abbrev pub MeetsNeed : Side → List Items → Bool → Asks → Type 0
+MeetsNeed s lists z asks = IsMetOn s.program lists z (side_label s) asks
 
 -- how many of a part are held, which is nothing where nothing reaches
 abbrev pub held_at : Label → Part → ℕ
@@ -81,10 +89,6 @@ IsFree P (Live bag m) = IsFreeIn P bag m
 abbrev pub is_live : Label → Bool
 is_live Dead = false
 is_live (Live bag m) = true
-
-abbrev pub is_locked : Mode → Bool
-is_locked Unlocked = false
-is_locked (Locked i) = true
 
 abbrev pub IsLocked : Label → Type 0
 IsLocked Dead = Unit {0}
@@ -151,6 +155,21 @@ GivesSide old new (Err cause) premises label = FailsFirst (premise_number cause)
 abbrev pub Steps : Holding → Holding → Result Mode Cause → List (ℕ × Premise) → Label → Type 0
 Steps old new (Ok m) premises effect = Meets premises × IsSame (Live (bag new) m) effect × (new.program ≡ old.program)
 Steps old new (Err cause) premises effect = FailsFirst (premise_number cause) premises × (new ≡ old)
+
+-- The premises of a statement hold.
+abbrev pub MeetsOp : Holding → Mode → Op → Type 0
+MeetsOp h m op = Meets (op_premises h.program (bag h) m op)
+
+-- The holding and the mode are changed to the statement's effect.
+abbrev pub DoesOp : Holding → Holding → Mode → Mode → Op → Type 0
+DoesOp old new m n op = IsSame (Live (bag new) n) (op_effect old.program (bag old) m op) × (new.program ≡ old.program)
+
+-- These parts are taken from a holding, or given to it.
+abbrev pub Loses : Holding → Holding → (Part → ℕ) → Type 0
+Loses old new lost = Holds new old.program (minus (bag old) lost)
+
+abbrev pub Gains : Holding → Holding → (Part → ℕ) → Type 0
+Gains old new gained = Holds new old.program (plus (bag old) gained)
 
 -- A rule of one side changes a holding, and the mode or nothing comes behind it; or it names the least premise that
 -- fails.

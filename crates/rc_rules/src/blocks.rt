@@ -11,39 +11,24 @@ ghost use Rattle.rc_split.specs.Holdings.{bag};
 
 use crate::cause::Cause;
 use crate::mode::{Inside, Mode, Peeked, Slot, same_slot};
+use crate::needs::{checked, leave_needs};
 use crate::ops::locked;
-use crate::premises::tested;
 use rc_lang::lines::Test;
 use rc_lang::program::{Items, Program};
 use rc_split::holding::Holding;
 
 /// Whether the lock may be released.
-pub fn may_release(program: &Program, mode: Mode) -> Result<(), Cause>
-    ensures { Tests result (rules.may_release program.now mode) }
+pub fn may_release(holding: &Holding, mode: Mode) -> Result<(), Cause>
+    ensures { Tests result (rules.may_release holding.now.program mode) }
 {
-    match mode {
-        Mode::Unlocked => Ok(()),
-        Mode::Locked(inside) => tested(&[
-            (same_slot(inside.slot, Slot::Closed), Cause::SlotOpen),
-            (inside.queued <= program.left(), Cause::QueueLeft),
-        ]),
-    }
+    checked(holding, mode, &leave_needs(true))
 }
 
 /// Whether the thread may leave its loop here.
-pub fn may_break(program: &Program, releases: bool, mode: Mode) -> Result<(), Cause>
-    ensures { Tests result (rules.may_break program.now releases mode) }
+pub fn may_break(holding: &Holding, releases: bool, mode: Mode) -> Result<(), Cause>
+    ensures { Tests result (rules.may_break holding.now.program releases mode) }
 {
-    match mode {
-        Mode::Unlocked => Ok(()),
-        Mode::Locked(inside) => {
-            let few = inside.queued <= program.left();
-            tested(&[
-                (same_slot(inside.slot, Slot::Closed), Cause::SlotOpen),
-                (!releases || few, Cause::QueueLeft),
-            ])
-        }
-    }
+    checked(holding, mode, &leave_needs(releases))
 }
 
 /// What is known of the ring in the first branch of a test; what a take brings is told by its own rule.
@@ -80,20 +65,19 @@ pub fn in_arm(peeked: Peeked, mode: Mode) -> Result<Mode, Cause>
 }
 
 /// How many entries may be queued at the top of a loop.
-fn queue_on(program: &Program, items: &Items) -> u32
+pub fn queue_on(program: &Program, items: &Items) -> u32
     ensures { result ≡ rules.queue_on program.now (view_items items.now) }
 {
     items.queue.unwrap_or(program.entries())
 }
 
-fn keeps_queue(program: &Program, items: &Items, mode: Mode) -> bool
-    ensures { result ≡ rules.keeps_queue program.now (view_items items.now) mode }
+/// Whether no slot is open, and no more entries are queued than this.
+pub fn keeps_queue(most: u32, mode: Mode) -> bool
+    ensures { result ≡ rules.keeps_queue most mode }
 {
     match mode {
         Mode::Unlocked => true,
-        Mode::Locked(inside) => {
-            same_slot(inside.slot, Slot::Closed) && inside.queued <= queue_on(program, items)
-        }
+        Mode::Locked(inside) => same_slot(inside.slot, Slot::Closed) && inside.queued <= most,
     }
 }
 
@@ -107,7 +91,7 @@ pub fn may_loop(
 ) -> Result<(), Cause>
     ensures { Tests result (rules.may_loop holding.now.program (premise_number cause) (view_items items.now) zero (bag holding.now) mode) }
 {
-    if !keeps_queue(holding.program(), items, mode) {
+    if !keeps_queue(queue_on(holding.program(), items), mode) {
         return Err(cause);
     }
     if !holding.covers_on(items, zero) {
@@ -143,7 +127,10 @@ pub fn may_join(a: Mode, b: Mode) -> Result<(), Cause>
 {
     match (a, b) {
         (Mode::Locked(a), Mode::Locked(b)) => {
-            tested(&[(same_slot(a.slot, b.slot), Cause::JoinMismatch)])
+            if !same_slot(a.slot, b.slot) {
+                return Err(Cause::JoinMismatch);
+            }
+            Ok(())
         }
         _ => Ok(()),
     }

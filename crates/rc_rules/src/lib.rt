@@ -12,6 +12,7 @@ pub mod cause;
 mod flag;
 pub mod laws;
 pub mod mode;
+pub mod needs;
 mod ops;
 mod pool;
 mod premises;

@@ -43,6 +43,20 @@ pub enum Mode {
     Locked(Inside),
 }
 
+/// What is known of the ring. Without the lock no slot is open, and nothing is queued or peeked.
+pub fn ring_of(mode: Mode) -> Inside
+    ensures { result ≡ spec.ring_of mode }
+{
+    match mode {
+        Mode::Locked(inside) => inside,
+        Mode::Unlocked => Inside {
+            queued: 0,
+            slot: Slot::Closed,
+            peeked: Peeked::Unseen,
+        },
+    }
+}
+
 /// The same stage, with the same kind of request.
 pub fn same_slot(a: Slot, b: Slot) -> bool
     ensures { result ≡ spec.same_slot a b }

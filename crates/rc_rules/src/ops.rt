@@ -13,10 +13,9 @@ ghost use Rattle.rc_rules.specs.declared.mode.Peeked.TheVariants as peeks;
 ghost use Rattle.rc_rules.specs.declared.mode.Slot.TheVariants as slots;
 ghost use Rattle.rc_lang.specs.declared.lines.Op.TheVariants as ops;
 
-use crate::asks::kind_of;
 use crate::cause::Cause;
-use crate::mode::{Inside, Mode, Peeked, Slot, has_kind, is_prepared_as, is_seen, same_slot};
-use crate::premises::tested;
+use crate::mode::{Inside, Mode, Peeked, Slot};
+use crate::needs::{checked, kind_of, op_needs};
 use rc_lang::lines::Op;
 use rc_lang::program::TokenKind;
 use rc_split::holding::Holding;
@@ -28,25 +27,8 @@ pub fn step(holding: &mut Holding, mode: Mode, op: &Op) -> Result<Mode, Cause>
     requires free { states.IsFreeIn holding.old.program (bag holding.old) mode }
     ensures { states.Steps holding.old holding.new result (rules.op_premises holding.old.program (bag holding.old) mode op.now) (rules.op_effect holding.old.program (bag holding.old) mode op.now) }
 {
-    match *op {
-        Op::Load(_, buffer, place) => load(holding, mode, buffer, place),
-        Op::Store(buffer, place, _) => store(holding, mode, buffer, place),
-        Op::Fill(buffer, _) => fill(holding, mode, buffer),
-        Op::GetSqe => get_sqe(holding, mode),
-        Op::PrepRead(_, buffer, len, _) => prep_read(holding, mode, buffer, len),
-        Op::PrepWrite(_, buffer, len, _, count) => prep_write(holding, mode, buffer, len, count),
-        Op::PrepFsync(_, _) => prep_fsync(holding, mode),
-        Op::PrepNop => prep_nop(holding, mode),
-        Op::SetData64(user_data) => set_data64(holding, mode, user_data),
-        Op::Submit(_) => submit(holding, mode),
-        Op::SubmitAndWait(_, _) => submit(holding, mode),
-        Op::CqeSeen => cqe_seen(holding, mode),
-        Op::Set(_, _) => Ok(mode),
-        Op::Assign(_, _) => Ok(mode),
-        Op::Add(_, _, _) => Ok(mode),
-        Op::Subtract(_, _, _) => Ok(mode),
-        Op::Print(_) => Ok(mode),
-    }
+    checked(holding, mode, &op_needs(*op))?;
+    Ok(after(holding, mode, op))
 }
 
 /// Whether a statement only computes: it asks for nothing, and what is held and known of the ring stays.
@@ -73,164 +55,102 @@ pub fn locked(mode: Mode) -> Result<Inside, Cause>
     }
 }
 
-fn load(holding: &Holding, mode: Mode, buffer: usize, place: u32) -> Result<Mode, Cause>
-    ensures { states.Steps holding.now holding.now result (rules.op_premises holding.now.program (bag holding.now) mode (ops.Load 0 buffer place)) (rules.op_effect holding.now.program (bag holding.now) mode (ops.Load 0 buffer place)) }
+/// What is known after a statement whose premises hold. Without the lock nothing changes.
+fn after(holding: &mut Holding, mode: Mode, op: &Op) -> Mode
+    requires met { states.MeetsOp holding.old mode op.now }
+    requires small { (p : bags.Part) → bag holding.old p ≤ 2 ^ 19 }
+    requires free { states.IsFreeIn holding.old.program (bag holding.old) mode }
+    ensures { states.DoesOp holding.old holding.new mode result op.now }
 {
-    let bytes = holding.program().bytes_at(buffer);
-    tested(&[
-        (holding.holds(Part::Shares(buffer, 1)), Cause::NoShare),
-        (place < bytes, Cause::OutOfBuffer),
-    ])?;
-    Ok(mode)
+    match mode {
+        Mode::Locked(inside) => Mode::Locked(after_inside(holding, inside, op)),
+        Mode::Unlocked => mode,
+    }
 }
 
-/// Whether all shares of the buffer are held.
-fn is_whole(holding: &Holding, buffer: usize) -> bool
-    ensures { result ≡ rules.is_whole holding.now.program (bag holding.now) buffer }
+fn after_inside(holding: &mut Holding, inside: Inside, op: &Op) -> Inside
+    requires met { states.MeetsOp holding.old (modes.Locked inside) op.now }
+    requires small { (p : bags.Part) → bag holding.old p ≤ 2 ^ 19 }
+    requires free { states.IsFreeFor holding.old.program (bag holding.old) inside.peeked }
+    ensures { states.DoesOp holding.old holding.new (modes.Locked inside) (modes.Locked result) op.now }
 {
-    let shares = holding.program().shares_at(buffer);
-    holding.holds(Part::Shares(buffer, shares))
-}
-
-fn store(holding: &Holding, mode: Mode, buffer: usize, place: u32) -> Result<Mode, Cause>
-    ensures { states.Steps holding.now holding.now result (rules.op_premises holding.now.program (bag holding.now) mode (ops.Store buffer place 0)) (rules.op_effect holding.now.program (bag holding.now) mode (ops.Store buffer place 0)) }
-{
-    let bytes = holding.program().bytes_at(buffer);
-    tested(&[
-        (is_whole(holding, buffer), Cause::NotWhole),
-        (place < bytes, Cause::OutOfBuffer),
-    ])?;
-    Ok(mode)
-}
-
-fn fill(holding: &Holding, mode: Mode, buffer: usize) -> Result<Mode, Cause>
-    ensures { states.Steps holding.now holding.now result (rules.op_premises holding.now.program (bag holding.now) mode (ops.Fill buffer 0)) (rules.op_effect holding.now.program (bag holding.now) mode (ops.Fill buffer 0)) }
-{
-    tested(&[(is_whole(holding, buffer), Cause::NotWhole)])?;
-    Ok(mode)
+    match *op {
+        Op::GetSqe => opened(holding, inside),
+        Op::PrepRead(_, buffer, _, _) => prepared(holding, inside, TokenKind::Read(buffer)),
+        Op::PrepWrite(_, buffer, _, _, count) => {
+            prepared(holding, inside, TokenKind::Write(buffer, count))
+        }
+        Op::PrepFsync(_, _) => prepared(holding, inside, TokenKind::Fsync),
+        Op::PrepNop => prepared(holding, inside, TokenKind::Nop),
+        Op::SetData64(user_data) => queued(holding, inside, user_data),
+        Op::CqeSeen => seen(holding, inside),
+        _ => inside,
+    }
 }
 
 /// `io_uring_get_sqe(3)`: a credit goes to the open slot, which counts as a queued entry.
-fn get_sqe(holding: &mut Holding, mode: Mode) -> Result<Mode, Cause>
-    ensures { states.Steps holding.old holding.new result (rules.op_premises holding.old.program (bag holding.old) mode ops.GetSqe) (rules.op_effect holding.old.program (bag holding.old) mode ops.GetSqe) }
+fn opened(holding: &mut Holding, inside: Inside) -> Inside
+    requires met { states.MeetsOp holding.old (modes.Locked inside) ops.GetSqe }
+    ensures { states.DoesOp holding.old holding.new (modes.Locked inside) (modes.Locked result) ops.GetSqe }
 {
-    let inside = locked(mode)?;
-    let entries = holding.program().entries();
-    tested(&[
-        (holding.holds(Part::Credits(1)), Cause::NoCredit),
-        (inside.queued < entries, Cause::QueueFull),
-        (same_slot(inside.slot, Slot::Closed), Cause::SlotOpen),
-    ])?;
+    // The queue has room below this number, so that the sum fits.
+    let _ = holding.program().entries();
     let _ = holding.take(Part::Credits(1));
-    Ok(Mode::Locked(Inside {
+    Inside {
         queued: inside.queued + 1,
         slot: Slot::Vacant,
-        peeked: inside.peeked,
-    }))
+        ..inside
+    }
 }
 
-/// `io_uring_prep_read(3)`: the kernel fills the buffer, so all of its shares go to the open slot.
-fn prep_read(holding: &mut Holding, mode: Mode, buffer: usize, len: u32) -> Result<Mode, Cause>
-    ensures { states.Steps holding.old holding.new result (rules.op_premises holding.old.program (bag holding.old) mode (ops.PrepRead 0 buffer len 0)) (rules.op_effect holding.old.program (bag holding.old) mode (ops.PrepRead 0 buffer len 0)) }
+/// A prep (`io_uring_prep_read(3)`): the shares that its request takes go to the open slot.
+fn prepared(holding: &mut Holding, inside: Inside, kind: TokenKind) -> Inside
+    requires held { bags.IsWithin (rules.kind_bag holding.old.program kind) (bag holding.old) }
+    ensures slot { result ≡ record inside { slot = slots.Prepared kind } }
+    ensures lost { states.Loses holding.old holding.new (rules.kind_bag holding.old.program kind) }
 {
-    let inside = locked(mode)?;
-    let shares = holding.program().shares_at(buffer);
-    let bytes = holding.program().bytes_at(buffer);
-    tested(&[
-        (same_slot(inside.slot, Slot::Vacant), Cause::NoSlot),
-        (is_whole(holding, buffer), Cause::NotWhole),
-        (len <= bytes, Cause::OutOfBuffer),
-    ])?;
-    let _ = holding.take(Part::Shares(buffer, shares));
-    Ok(prepared(inside, TokenKind::Read(buffer)))
-}
-
-/// `io_uring_prep_write(3)`: the kernel reads the buffer, so as many shares as the line says go to the open slot.
-fn prep_write(
-    holding: &mut Holding,
-    mode: Mode,
-    buffer: usize,
-    len: u32,
-    count: u32,
-) -> Result<Mode, Cause>
-    ensures { states.Steps holding.old holding.new result (rules.op_premises holding.old.program (bag holding.old) mode (ops.PrepWrite 0 buffer len 0 count)) (rules.op_effect holding.old.program (bag holding.old) mode (ops.PrepWrite 0 buffer len 0 count)) }
-{
-    let inside = locked(mode)?;
-    let bytes = holding.program().bytes_at(buffer);
-    tested(&[
-        (same_slot(inside.slot, Slot::Vacant), Cause::NoSlot),
-        (holding.holds(Part::Shares(buffer, count)), Cause::NoShare),
-        (len <= bytes, Cause::OutOfBuffer),
-    ])?;
-    let _ = holding.take(Part::Shares(buffer, count));
-    Ok(prepared(inside, TokenKind::Write(buffer, count)))
-}
-
-fn prepared(inside: Inside, kind: TokenKind) -> Mode
-    ensures { result ≡ modes.Locked (record inside { slot = slots.Prepared kind }) }
-{
-    Mode::Locked(Inside {
+    match kind {
+        TokenKind::Read(buffer) => {
+            let shares = holding.program().shares_at(buffer);
+            let _ = holding.take(Part::Shares(buffer, shares));
+        }
+        TokenKind::Write(buffer, count) => {
+            let _ = holding.take(Part::Shares(buffer, count));
+        }
+        TokenKind::Fsync => {}
+        TokenKind::Nop => {}
+    }
+    Inside {
         slot: Slot::Prepared(kind),
         ..inside
-    })
-}
-
-fn prep_fsync(holding: &Holding, mode: Mode) -> Result<Mode, Cause>
-    ensures { states.Steps holding.now holding.now result (rules.op_premises holding.now.program (bag holding.now) mode (ops.PrepFsync 0 true)) (rules.op_effect holding.now.program (bag holding.now) mode (ops.PrepFsync 0 true)) }
-{
-    let inside = locked(mode)?;
-    tested(&[(same_slot(inside.slot, Slot::Vacant), Cause::NoSlot)])?;
-    Ok(prepared(inside, TokenKind::Fsync))
-}
-
-fn prep_nop(holding: &Holding, mode: Mode) -> Result<Mode, Cause>
-    ensures { states.Steps holding.now holding.now result (rules.op_premises holding.now.program (bag holding.now) mode ops.PrepNop) (rules.op_effect holding.now.program (bag holding.now) mode ops.PrepNop) }
-{
-    let inside = locked(mode)?;
-    tested(&[(same_slot(inside.slot, Slot::Vacant), Cause::NoSlot)])?;
-    Ok(prepared(inside, TokenKind::Nop))
+    }
 }
 
 /// `io_uring_sqe_set_data64(3)`: the token goes to the request, which is queued.
-fn set_data64(holding: &mut Holding, mode: Mode, user_data: u64) -> Result<Mode, Cause>
-    ensures { states.Steps holding.old holding.new result (rules.op_premises holding.old.program (bag holding.old) mode (ops.SetData64 user_data)) (rules.op_effect holding.old.program (bag holding.old) mode (ops.SetData64 user_data)) }
+fn queued(holding: &mut Holding, inside: Inside, user_data: u64) -> Inside
+    requires held { 1 ≤ bag holding.old (bags.TokenOf user_data) }
+    ensures slot { result ≡ record inside { slot = slots.Closed } }
+    ensures lost { states.Loses holding.old holding.new (bags.token_bag user_data) }
 {
-    let inside = locked(mode)?;
-    let kind = kind_of(holding.program(), user_data);
-    tested(&[
-        (has_kind(inside.slot), Cause::NoSlot),
-        (is_prepared_as(kind, inside.slot), Cause::WrongKind),
-        (holding.holds(Part::Token(user_data)), Cause::NoToken),
-    ])?;
     let _ = holding.take(Part::Token(user_data));
-    Ok(Mode::Locked(Inside {
+    Inside {
         slot: Slot::Closed,
         ..inside
-    }))
-}
-
-/// `io_uring_submit(3)` takes any front of the queue, so nothing is known of it behind the call.
-fn submit(holding: &Holding, mode: Mode) -> Result<Mode, Cause>
-    ensures { states.Steps holding.now holding.now result (rules.op_premises holding.now.program (bag holding.now) mode (ops.Submit 0)) (rules.op_effect holding.now.program (bag holding.now) mode (ops.Submit 0)) }
-{
-    let inside = locked(mode)?;
-    tested(&[(same_slot(inside.slot, Slot::Closed), Cause::SlotOpen)])?;
-    Ok(mode)
+    }
 }
 
 /// `io_uring_cqe_seen(3)`: what the reaped request owned comes back, as far as it is known which one it was.
-fn cqe_seen(holding: &mut Holding, mode: Mode) -> Result<Mode, Cause>
+fn seen(holding: &mut Holding, inside: Inside) -> Inside
     requires small { (p : bags.Part) → bag holding.old p ≤ 2 ^ 19 }
-    requires free { states.IsFreeIn holding.old.program (bag holding.old) mode }
-    ensures { states.Steps holding.old holding.new result (rules.op_premises holding.old.program (bag holding.old) mode ops.CqeSeen) (rules.op_effect holding.old.program (bag holding.old) mode ops.CqeSeen) }
+    requires free { states.IsFreeFor holding.old.program (bag holding.old) inside.peeked }
+    ensures ring { result ≡ record inside { peeked = peeks.Unseen } }
+    ensures gained { states.Gains holding.old holding.new (rules.reaped holding.old.program inside.peeked) }
 {
-    let inside = locked(mode)?;
-    tested(&[(is_seen(inside.peeked), Cause::NoEntry)])?;
     reap(holding, inside.peeked);
-    Ok(Mode::Locked(Inside {
+    Inside {
         peeked: Peeked::Unseen,
         ..inside
-    }))
+    }
 }
 
 fn reap(holding: &mut Holding, peeked: Peeked)

@@ -52,7 +52,7 @@ pub fn follow(holding: &mut Holding, mode: Mode, rule: Rule) -> Result<Option<Mo
             peeked: Peeked::Unseen,
         }))),
         Rule::Release => {
-            blocks::may_release(holding.program(), mode)?;
+            blocks::may_release(holding, mode)?;
             Ok(Some(Mode::Unlocked))
         }
         Rule::If(test) => Ok(Some(blocks::behind_test(holding.program(), test, mode)?)),

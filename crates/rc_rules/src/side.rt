@@ -1,6 +1,6 @@
 //! One side of a state: what holds while the thread's flag is 0, or while it isn't.
 
-ghost use Rattle.std.specs.Prelude.{◌≡◌, ◌∷◌, [], nat_le, None, true};
+ghost use Rattle.std.specs.Prelude.{◌≡◌, ◌↔◌, ◌∷◌, [], map, nat_le, IsTrue, None, true};
 ghost use Rattle.rc_lang.specs.Parts.{view_items};
 ghost use Rattle.rc_lang.specs.Program.{IsItems, IsList};
 ghost use Rattle.rc_rules.specs.Causes.{premise_number};
@@ -17,6 +17,7 @@ ghost use Rattle.rc_split.specs.Bags.{Credit, ShareOf, TokenOf, bag_on, bag_of};
 use crate::blocks;
 use crate::cause::Cause;
 use crate::mode::{Mode, Peeked};
+use crate::needs::{Asks, is_met};
 use crate::rule::{Rule, follow};
 use rc_lang::program::{Items, Program};
 use rc_split::holding::Holding;
@@ -166,6 +167,17 @@ impl<'a> Side<'a> {
         }
     }
 
+    /// Whether a need of a line is met on this side, the zero one or the other, in a thread with these lists of items.
+    /// Where nothing reaches the side each is.
+    pub fn is_met(&self, lists: &[Items], zero: bool, asks: Asks) -> bool
+        ensures { IsTrue result ↔ spec.MeetsNeed self.now (map view_items lists.now) zero asks }
+    {
+        match self.mode {
+            Some(mode) => is_met(&self.holding, lists, zero, mode, asks),
+            None => true,
+        }
+    }
+
     /// Goes over a line. A dead side meets every premise and stays dead.
     pub fn follow(&mut self, rule: Rule) -> Result<(), Cause>
         requires { one.MayFollow self.old.program rule (spec.side_label self.old) }
@@ -196,7 +208,7 @@ impl<'a> Side<'a> {
         let Some(mode) = self.mode else {
             return Ok(());
         };
-        blocks::may_break(self.holding.program(), releases, mode)
+        blocks::may_break(&self.holding, releases, mode)
     }
 
     /// Whether the arms of a peek may be entered here. Where nothing reaches the side they may.

@@ -1,0 +1,213 @@
+//! What lines need, and whether it is there.
+
+ghost use Rattle.std.specs.Prelude.{ℕ, ◌≡◌, ◌∷◌, ◌↔◌, [], map, IsTrue};
+ghost use Rattle.rc_lang.specs.Parts.{view_items};
+ghost use Rattle.rc_rules.specs.Needs as spec;
+ghost use Rattle.rc_rules.specs.Rules as rules;
+ghost use Rattle.rc_split.specs.Holdings.{bag};
+
+use crate::blocks::{keeps_queue, queue_on};
+use crate::cause::Cause;
+use crate::mode::{Mode, Slot, has_kind, is_prepared_as, is_seen, ring_of, same_slot};
+use rc_lang::lines::Op;
+use rc_lang::program::{Items, Program, TokenKind};
+use rc_split::holding::Holding;
+use rc_split::part::Part;
+
+/// What a line needs: what a premise of it is about.
+#[derive(Clone, Copy)]
+pub enum Asks {
+    /// The lock.
+    Lock,
+    /// A part of what is held.
+    Part(Part),
+    /// All shares of the buffer with this number.
+    Whole(usize),
+    /// The items that are put: the number of their list.
+    Items(usize),
+    /// At a loop's top or its end: that no entry is open, that no more are queued than the loop's items say, and that
+    /// these are held; the number of their list.
+    Loop(usize),
+    /// Room for one more entry in the queue.
+    Room,
+    /// That no entry is open.
+    Closed,
+    /// An open entry that no prep has filled.
+    Vacant,
+    /// An open entry that a prep has filled.
+    Prepared,
+    /// That the open entry is prepared as the line of the token with this user data says.
+    Line(u64),
+    /// That this place is below the bytes of the buffer with this number, which stands first.
+    Place(usize, u32),
+    /// That this length is at most the bytes of the buffer with this number, which stands first.
+    Length(usize, u32),
+    /// A completion that is peeked.
+    Peeked,
+    /// That no more entries are queued than may be left.
+    Left,
+    /// That the slots of all ends that join are at one stage.
+    Agreeing,
+}
+
+/// What the line of a token says that its request is: none where no token has this user_data.
+pub fn kind_of(program: &Program, user_data: u64) -> Option<TokenKind>
+    ensures { result ≡ rules.kind_of program.now user_data }
+{
+    let place = program.token_place(user_data)?;
+    program.tokens().get(place).map(|token| token.kind)
+}
+
+/// A need, and the cause that is answered where it isn't met.
+pub type Need = (Cause, Asks);
+
+/// What a line needs, in the order of the numbers of the causes. Nothing comes after a None.
+pub type Needs = [Option<Need>; 4];
+
+pub const LOCK: Need = (Cause::Unlocked, Asks::Lock);
+
+const CLOSED: Need = (Cause::SlotOpen, Asks::Closed);
+
+const VACANT: Need = (Cause::NoSlot, Asks::Vacant);
+
+pub fn one(a: Need) -> Needs
+    ensures { spec.listed result ≡ a ∷ [] }
+{
+    [Some(a), None, None, None]
+}
+
+pub fn two(a: Need, b: Need) -> Needs
+    ensures { spec.listed result ≡ a ∷ b ∷ [] }
+{
+    [Some(a), Some(b), None, None]
+}
+
+/// What a statement without a block needs.
+pub fn op_needs(op: Op) -> Needs
+    ensures { spec.listed result ≡ rules.op_needs op }
+{
+    match op {
+        Op::Load(_, buffer, place) => two(
+            (Cause::NoShare, Asks::Part(Part::Shares(buffer, 1))),
+            (Cause::OutOfBuffer, Asks::Place(buffer, place)),
+        ),
+        Op::Store(buffer, place, _) => two(
+            (Cause::NotWhole, Asks::Whole(buffer)),
+            (Cause::OutOfBuffer, Asks::Place(buffer, place)),
+        ),
+        Op::Fill(buffer, _) => one((Cause::NotWhole, Asks::Whole(buffer))),
+        Op::GetSqe => [
+            Some(LOCK),
+            Some((Cause::NoCredit, Asks::Part(Part::Credits(1)))),
+            Some((Cause::QueueFull, Asks::Room)),
+            Some(CLOSED),
+        ],
+        Op::PrepRead(_, buffer, len, _) => [
+            Some(LOCK),
+            Some(VACANT),
+            Some((Cause::NotWhole, Asks::Whole(buffer))),
+            Some((Cause::OutOfBuffer, Asks::Length(buffer, len))),
+        ],
+        Op::PrepWrite(_, buffer, len, _, count) => [
+            Some(LOCK),
+            Some(VACANT),
+            Some((Cause::NoShare, Asks::Part(Part::Shares(buffer, count)))),
+            Some((Cause::OutOfBuffer, Asks::Length(buffer, len))),
+        ],
+        Op::PrepFsync(_, _) => two(LOCK, VACANT),
+        Op::PrepNop => two(LOCK, VACANT),
+        Op::SetData64(user_data) => [
+            Some(LOCK),
+            Some((Cause::NoSlot, Asks::Prepared)),
+            Some((Cause::WrongKind, Asks::Line(user_data))),
+            Some((Cause::NoToken, Asks::Part(Part::Token(user_data)))),
+        ],
+        Op::Submit(_) => two(LOCK, CLOSED),
+        Op::SubmitAndWait(_, _) => two(LOCK, CLOSED),
+        Op::CqeSeen => two(LOCK, (Cause::NoEntry, Asks::Peeked)),
+        Op::Set(_, _) => [None; 4],
+        Op::Assign(_, _) => [None; 4],
+        Op::Add(_, _, _) => [None; 4],
+        Op::Subtract(_, _, _) => [None; 4],
+        Op::Print(_) => [None; 4],
+    }
+}
+
+/// What is needed where the lock is released, or where a loop is left with it or without one.
+pub fn leave_needs(releases: bool) -> Needs
+    ensures { spec.listed result ≡ rules.leave_needs releases }
+{
+    if releases {
+        two(CLOSED, (Cause::QueueLeft, Asks::Left))
+    } else {
+        one(CLOSED)
+    }
+}
+
+/// The first cause whose need isn't met, if there is one. No need is of the items of a list.
+pub fn checked(holding: &Holding, mode: Mode, needs: &[Option<(Cause, Asks)>]) -> Result<(), Cause>
+    requires { (v : ℕ) × spec.AreRising v (spec.listed needs.now) }
+    ensures { spec.Checks holding.now mode needs.now result }
+{
+    let [first, rest @ ..] = needs else {
+        return Ok(());
+    };
+    let Some((cause, asks)) = *first else {
+        return Ok(());
+    };
+    if !is_met(holding, &[], true, mode, asks) {
+        return Err(cause);
+    }
+    checked(holding, mode, rest)
+}
+
+/// Whether a need is met, in a thread with these lists of items, on a side of the flag where so much is held and so much
+/// is known of the ring.
+pub fn is_met(holding: &Holding, lists: &[Items], zero: bool, mode: Mode, asks: Asks) -> bool
+    ensures { IsTrue result ↔ spec.IsMetBy holding.now (map view_items lists.now) zero mode asks }
+{
+    let program = holding.program();
+    let ring = ring_of(mode);
+    match asks {
+        Asks::Lock => is_locked(mode),
+        Asks::Part(part) => holding.holds(part),
+        Asks::Whole(buffer) => is_whole(holding, buffer),
+        Asks::Items(list) => match lists.get(list) {
+            Some(items) => holding.covers(items),
+            None => true,
+        },
+        Asks::Loop(list) => match lists.get(list) {
+            Some(items) => {
+                keeps_queue(queue_on(program, items), mode) && holding.covers_on(items, zero)
+            }
+            None => keeps_queue(program.entries(), mode),
+        },
+        Asks::Room => ring.queued < program.entries(),
+        Asks::Closed => same_slot(ring.slot, Slot::Closed),
+        Asks::Vacant => same_slot(ring.slot, Slot::Vacant),
+        Asks::Prepared => has_kind(ring.slot),
+        Asks::Line(user_data) => is_prepared_as(kind_of(program, user_data), ring.slot),
+        Asks::Place(buffer, place) => place < program.bytes_at(buffer),
+        Asks::Length(buffer, len) => len <= program.bytes_at(buffer),
+        Asks::Peeked => is_seen(ring.peeked),
+        Asks::Left => ring.queued <= program.left(),
+        Asks::Agreeing => true,
+    }
+}
+
+fn is_locked(mode: Mode) -> bool
+    ensures { result ≡ rules.is_locked mode }
+{
+    match mode {
+        Mode::Locked(_) => true,
+        Mode::Unlocked => false,
+    }
+}
+
+/// Whether all shares of the buffer are held.
+fn is_whole(holding: &Holding, buffer: usize) -> bool
+    ensures { result ≡ rules.is_whole holding.now.program (bag holding.now) buffer }
+{
+    let shares = holding.program().shares_at(buffer);
+    holding.holds(Part::Shares(buffer, shares))
+}
