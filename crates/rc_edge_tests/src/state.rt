@@ -1,8 +1,8 @@
 //! Worlds as text, at the end of traces of examples.
 
 use rc_examples::programs::{HAND_BACK, HANDOFF, NOP};
-use rc_report::streams::{ReadSource, WriteSink};
-use rc_state::state_engine::state_engine;
+use rc_report::streams::WriteSink;
+use rc_state::state_engine::show_bytes;
 
 /// A program, a schedule, and what is written.
 const SHOWN: &[(&str, &str, &str)] = &[
@@ -171,9 +171,8 @@ fn worlds_have_their_texts(rt: HostRuntime) {
     let alloc = rt.alloc();
     for row in SHOWN {
         let (text, schedule, shown) = *row;
-        let mut source = ReadSource::new(text.as_bytes());
         let mut sink = WriteSink::new(Vec::new(alloc));
-        let end = state_engine(alloc, &mut source, schedule, &mut sink);
+        let end = show_bytes(alloc, text.as_bytes(), schedule, &mut sink);
         assert!(rt; end.is_ok());
         assert_eq!(rt; sink.writer.as_slice(), shown.as_bytes());
     }

@@ -1,7 +1,8 @@
--- The text of a world: each thread, the open entry, the requests, the pool, and what is enabled. A list has each of its
--- words behind a blank, so that nothing stands behind its heading where it is empty.
+-- The text of a world: each thread, the open entry, the requests, the pool, and what is enabled. A list has a blank
+-- before each of its words, so that nothing follows its heading where it is empty.
 use Rattle.std.specs.Prelude.{ℕ, if◌then◌else◌, List, [], ◌∷◌, ◌++◌, codes, length, Option, Some, None, decimal, nat_eq, nat_le, option_map, slice_get, ℤ, pos}
 use Rattle.std.specs.Fmt.{signed_decimal}
+use Rattle.std.specs.List.{flat_map}
 use Rattle.std.specs.Ordering.{int_eq}
 use Rattle.rc_lang.specs.declared.lines.Line.{Line}
 use Rattle.rc_lang.specs.declared.program.Token.{Token}
@@ -30,7 +31,8 @@ use Rattle.rc_state.specs.Parts.{each}
 -- a line, by its number and its words
 abbrev pub line_with_words : List ℕ → Option Line → List ℕ
 line_with_words text None = []
-line_with_words text (Some l) = joined (codes "line " ∷ decimal l.number ∷ codes ", " ∷ []) ++ line_words text l.number
+line_with_words text (Some l) =
+    joined (codes "line " ∷ decimal l.number ∷ codes ", " ∷ []) ++ line_words text l.number
 
 abbrev pub holder_text : Program → Option ℕ → List ℕ
 holder_text program None = []
@@ -39,12 +41,15 @@ holder_text program (Some i) = joined (codes "; " ∷ thread_name program i ∷ 
 -- what a thread has next
 abbrev pub thread_next_text : List ℕ → World → ℕ → Next → List ℕ
 thread_next_text text w i (Ready l) = line_with_words text (Some l)
-thread_next_text text w i TakenLock = codes "waits for the lock at " ++ (line_with_words text (next_line w.program w.controls i) ++ holder_text w.program w.controls.holder)
+thread_next_text text w i TakenLock =
+    codes "waits for the lock at "
+    ++ (line_with_words text (next_line w.program w.controls i) ++ holder_text w.program w.controls.holder)
 thread_next_text text w i Ended = codes "ended"
 
 -- A variable has the number that it got at its first use in the thread, from 0. Those that are 0 aren't shown.
 abbrev pub variable_text : ℕ → ℤ → List ℕ
-variable_text x value = if int_eq value (pos 0) then [] else joined (codes " v" ∷ decimal x ∷ codes "=" ∷ signed_decimal value ∷ [])
+variable_text x value =
+    if int_eq value (pos 0) then [] else joined (codes " v" ∷ decimal x ∷ codes "=" ∷ signed_decimal value ∷ [])
 
 -- how many variables a thread has
 abbrev pub variables_of : Option Thread → ℕ
@@ -52,24 +57,31 @@ variables_of None = 0
 variables_of (Some t) = t.variables
 
 abbrev pub variables_text : World → ℕ → List ℕ
-variables_text w i = each (variables_of (slice_get w.program.threads i)) (λ x. variable_text x (variable_in (slice_get w.controls.threads i) x))
+variables_text w i =
+    each (variables_of (slice_get w.program.threads i))
+    (λ x. variable_text x (variable_in (slice_get w.controls.threads i) x))
 
 abbrev pub thread_text : List ℕ → World → ℕ → List ℕ
 thread_text text w i =
     joined (codes "thread " ∷ thread_name w.program i ∷ codes ": " ∷ [])
-    ++ (thread_next_text text w i (next_of w.program w.controls i) ++ (codes "\n  variables:" ++ (variables_text w i ++ codes "\n")))
+    ++ (thread_next_text text w i (next_of w.program w.controls i)
+    ++ (codes "\n  variables:" ++ (variables_text w i ++ codes "\n")))
+
+abbrev pub threads_text : List ℕ → World → List ℕ
+threads_text text w = each (length w.program.threads) (λ i. thread_text text w i)
 
 -- ---- requests
 
 -- a kind, with the buffer and the length where it has them
 abbrev pub moved_text : List ℕ → Program → Request → List ℕ
-moved_text word program r = joined (word ∷ codes " " ∷ name_of_buffer (slice_get program.buffers r.buffer) ∷ codes " " ∷ decimal r.len ∷ [])
+moved_text word program r =
+    joined (word ∷ name_of_buffer (slice_get program.buffers r.buffer) ∷ codes " " ∷ decimal r.len ∷ [])
 
 abbrev pub request_kind_text : Program → Request → Kind → List ℕ
 request_kind_text program r Nop = codes "nop"
 request_kind_text program r Fsync = codes "fsync"
-request_kind_text program r Read = moved_text (codes "read") program r
-request_kind_text program r Write = moved_text (codes "write") program r
+request_kind_text program r Read = moved_text (codes "read ") program r
+request_kind_text program r Write = moved_text (codes "write ") program r
 
 -- the open entry: a prepared one has no user data yet
 abbrev pub open_entry_text : Program → Slot → List ℕ
@@ -77,63 +89,102 @@ open_entry_text program Closed = codes "entry: none\n"
 open_entry_text program Vacant = codes "entry: vacant\n"
 open_entry_text program (Prepared r) = codes "entry: prepared " ++ (request_kind_text program r r.kind ++ codes "\n")
 
--- a request that has its user data, behind the word for where it is
+-- the word for where a request is, and its user data
+abbrev pub data_text : List ℕ → ℕ → List ℕ
+data_text word u = joined (word ∷ decimal u ∷ codes " " ∷ [])
+
+-- a request that has its user data
 abbrev pub request_text : List ℕ → Program → Option Request → List ℕ
 request_text word program None = []
-request_text word program (Some r) = joined (word ∷ codes ": " ∷ decimal r.user_data ∷ codes " " ∷ []) ++ (request_kind_text program r r.kind ++ codes "\n")
+request_text word program (Some r) =
+    data_text word r.user_data ++ (request_kind_text program r r.kind ++ codes "\n")
 
 abbrev pub pending_request : Option Pending → Option Request
 pending_request pending = option_map (λ (p : Pending). p.request) pending
 
--- a completion, with the user data and the result
-abbrev pub completion_text : Option Completion → List ℕ
-completion_text None = []
-completion_text (Some c) = joined (codes "completed: " ∷ decimal c.user_data ∷ codes " " ∷ signed_decimal c.res ∷ codes "\n" ∷ [])
+abbrev pub queued_text : World → List ℕ
+queued_text w = flat_map (λ r. request_text (codes "queued: ") w.program (Some r)) w.queued
+
+abbrev pub pending_text : World → List ℕ
+pending_text w =
+    each (length w.pending)
+    (λ k. request_text (codes "pending: ") w.program (pending_request (slice_get w.pending k)))
+
+-- completions, each with the user data and the result
+abbrev pub result_text : ℤ → List ℕ
+result_text res = signed_decimal res ++ codes "\n"
+
+abbrev pub completion_text : Completion → List ℕ
+completion_text c = data_text (codes "completed: ") c.user_data ++ result_text c.res
+
+abbrev pub completions_text : List Completion → List ℕ
+completions_text cs = flat_map (λ c. completion_text c) cs
 
 -- queued, pending and completed requests, in their order
 abbrev pub requests_text : World → List ℕ
-requests_text w =
-    each (length w.queued) (λ k. request_text (codes "queued") w.program (slice_get w.queued k))
-    ++ (each (length w.pending) (λ k. request_text (codes "pending") w.program (pending_request (slice_get w.pending k))) ++ each (length w.completions) (λ k. completion_text (slice_get w.completions k)))
+requests_text w = queued_text w ++ (pending_text w ++ completions_text w.completions)
 
 -- ---- the pool
 
 abbrev pub pool_share_text : List ℕ → ℕ → List ℕ
-pool_share_text name count = if nat_eq count 0 then [] else joined (codes " " ∷ name ∷ codes ":" ∷ decimal count ∷ [])
+pool_share_text name count =
+    if nat_eq count 0 then [] else joined (codes " " ∷ name ∷ codes ":" ∷ decimal count ∷ [])
 
 abbrev pub pool_token_text : ℕ → ℕ → List ℕ
 pool_token_text u count = if nat_le 1 count then joined (codes " t:" ∷ decimal u ∷ []) else []
 
-abbrev pub token_in_pool : World → Option Token → List ℕ
-token_in_pool w None = []
-token_in_pool w (Some t) = pool_token_text t.user_data (pooled w.program w.controls.pool (TokenOf t.user_data))
+abbrev pub token_in_pool : World → Token → List ℕ
+token_in_pool w t = pool_token_text t.user_data (pooled w.program w.controls.pool (TokenOf t.user_data))
 
 -- the pool, as items: shares and tokens in the order of their declarations
+abbrev pub share_in_pool : World → ℕ → List ℕ
+share_in_pool w b =
+    pool_share_text (name_of_buffer (slice_get w.program.buffers b)) (pooled w.program w.controls.pool (ShareOf b))
+
+abbrev pub shares_text : World → List ℕ
+shares_text w = each (length w.program.buffers) (λ b. share_in_pool w b)
+
+abbrev pub tokens_text : World → List ℕ
+tokens_text w = flat_map (λ t. token_in_pool w t) w.program.tokens
+
+abbrev pub credits_text : World → List ℕ
+credits_text w = pool_share_text (codes "c") (pooled w.program w.controls.pool Credit)
+
 abbrev pub pool_text : World → List ℕ
-pool_text w =
-    codes "pool:"
-    ++ (each (length w.program.buffers) (λ b. pool_share_text (name_of_buffer (slice_get w.program.buffers b)) (pooled w.program w.controls.pool (ShareOf b)))
-    ++ (each (length w.program.tokens) (λ k. token_in_pool w (slice_get w.program.tokens k)) ++ (pool_share_text (codes "c") (pooled w.program w.controls.pool Credit) ++ codes "\n")))
+pool_text w = codes "pool:" ++ (shares_text w ++ (tokens_text w ++ (credits_text w ++ codes "\n")))
 
 -- ---- what is enabled
 
--- A choice as an item of a schedule, with the range of its answer.
+-- the answers that an item may have, from 0 to the most
+abbrev pub answers_text : ℕ → List ℕ
+answers_text most = joined (codes "=0.." ∷ decimal most ∷ [])
+
+-- a choice as an item of a schedule, with its answers
 abbrev pub choice_text : Program → Choice → List ℕ
 choice_text program (Step i) = joined (codes " " ∷ thread_name program i ∷ [])
-choice_text program (Take i most) = joined (codes " " ∷ thread_name program i ∷ codes "=0.." ∷ decimal most ∷ [])
-choice_text program (Complete u most) = joined (codes " k:" ∷ decimal u ∷ codes "=0.." ∷ decimal most ∷ [])
+choice_text program (Take i most) = joined (codes " " ∷ thread_name program i ∷ answers_text most ∷ [])
+choice_text program (Complete u most) = joined (codes " k:" ∷ decimal u ∷ answers_text most ∷ [])
 
 abbrev pub choice_if_any : Program → Option Choice → List ℕ
 choice_if_any program None = []
 choice_if_any program (Some choice) = choice_text program choice
 
+abbrev pub thread_choices_text : World → List ℕ
+thread_choices_text w =
+    each (length w.program.threads) (λ i. choice_if_any w.program (thread_choice w i))
+
+abbrev pub completion_choices_text : World → List ℕ
+completion_choices_text w =
+    each (length w.pending) (λ k. choice_if_any w.program (pending_choice w k))
+
 -- What is enabled, faults aside: in a world with a fault these are listed too, but nothing is stepped.
 abbrev pub choices_text : World → List ℕ
 choices_text w =
-    codes "enabled:"
-    ++ (each (length w.program.threads) (λ i. choice_if_any w.program (thread_choice w i)) ++ (each (length w.pending) (λ k. choice_if_any w.program (pending_choice w k)) ++ codes "\n"))
+    codes "enabled:" ++ (thread_choices_text w ++ (completion_choices_text w ++ codes "\n"))
 
 -- ---- the whole
 
 abbrev pub world_text : List ℕ → World → List ℕ
-world_text text w = each (length w.program.threads) (λ i. thread_text text w i) ++ (open_entry_text w.program w.slot ++ (requests_text w ++ (pool_text w ++ choices_text w)))
+world_text text w =
+    threads_text text w
+    ++ (open_entry_text w.program w.slot ++ (requests_text w ++ (pool_text w ++ choices_text w)))

@@ -1,113 +1,104 @@
 //! The open entry, and the requests that are queued, pending and completed.
 
-ghost use Rattle.std.specs.Prelude.{◌+◌, ◌<◌, ◌^◌, Some, codes, length, slice_get};
-ghost use Rattle.rc_report.specs.Streams.{FailsToWrite, Wrote};
-ghost use Rattle.rc_state.specs.Parts.{each};
+ghost use Rattle.rc_report.specs.Text.{Puts};
 ghost use Rattle.rc_state.specs.State as spec;
 
-use crate::words::write_kind;
-use itoa::Buffer;
+use crate::words::put_kind;
 use rc_lang::program::Program;
 use rc_lang::request::Request;
-use rc_report::engine_fault::EngineFault;
-use rc_report::streams::Sink;
-use rc_report::writing::{write_piece, write_pieces};
+use rc_report::text::{put_number, put_piece, put_signed};
 use rc_world::event::Completion;
 use rc_world::world::{Slot, World};
+use std::alloc::AllocError;
 
-/// Writes the open entry.
-pub fn write_slot<W: Sink>(writer: &mut W, program: &Program, slot: Slot) -> Result<(), EngineFault>
-    requires { W.failure_count writer.old + 1 < 2 ^ 64 }
-    ensures text { Wrote (W.contents writer.old) (W.contents writer.new) (spec.open_entry_text program.now slot) result }
-    ensures failures { FailsToWrite (W.failure_count writer.old) (W.failure_count writer.new) result }
+/// Adds the open entry.
+pub fn put_slot(text: &mut Vec<u8>, program: &Program, slot: Slot) -> Result<(), AllocError>
+    ensures { Puts text.old text.new (spec.open_entry_text program.now slot) result }
 {
     match slot {
-        Slot::Closed => write_piece(writer, b"entry: none\n"),
-        Slot::Vacant => write_piece(writer, b"entry: vacant\n"),
+        Slot::Closed => put_piece(text, b"entry: none\n"),
+        Slot::Vacant => put_piece(text, b"entry: vacant\n"),
         Slot::Prepared(request) => {
-            write_piece(writer, b"entry: prepared ")?;
-            write_kind(writer, program, request)?;
-            write_piece(writer, b"\n")
+            put_piece(text, b"entry: prepared ")?;
+            put_kind(text, program, request)?;
+            put_piece(text, b"\n")
         }
     }
 }
 
-/// Writes the requests that are queued, pending and completed.
-pub fn write_requests<W: Sink>(writer: &mut W, world: &World<'_>) -> Result<(), EngineFault>
-    requires { W.failure_count writer.old + 1 < 2 ^ 64 }
-    ensures text { Wrote (W.contents writer.old) (W.contents writer.new) (spec.requests_text world.now) result }
-    ensures failures { FailsToWrite (W.failure_count writer.old) (W.failure_count writer.new) result }
+/// Adds the requests that are queued, pending and completed.
+pub fn put_requests(text: &mut Vec<u8>, world: &World<'_>) -> Result<(), AllocError>
+    ensures { Puts text.old text.new (spec.requests_text world.now) result }
 {
-    write_queued(writer, world)?;
-    write_pending(writer, world)?;
-    write_completions(writer, world.completions())
+    put_queued(text, world)?;
+    put_pending(text, world)?;
+    put_completions(text, world.completions())
 }
 
-fn write_queued<W: Sink>(writer: &mut W, world: &World<'_>) -> Result<(), EngineFault>
-    requires { W.failure_count writer.old + 1 < 2 ^ 64 }
-    ensures text { Wrote (W.contents writer.old) (W.contents writer.new)
-        (each (length world.now.queued) (λ k. spec.request_text (codes "queued") world.now.program (slice_get world.now.queued k))) result }
-    ensures failures { FailsToWrite (W.failure_count writer.old) (W.failure_count writer.new) result }
+fn put_queued(text: &mut Vec<u8>, world: &World<'_>) -> Result<(), AllocError>
+    ensures { Puts text.old text.new (spec.queued_text world.now) result }
 {
     for request in world.queued() {
-        write_request(writer, b"queued", world.program(), Some(*request))?;
+        put_request(text, b"queued: ", world.program(), Some(*request))?;
     }
     Ok(())
 }
 
-fn write_pending<W: Sink>(writer: &mut W, world: &World<'_>) -> Result<(), EngineFault>
-    requires { W.failure_count writer.old + 1 < 2 ^ 64 }
-    ensures text { Wrote (W.contents writer.old) (W.contents writer.new)
-        (each (length world.now.pending) (λ k. spec.request_text (codes "pending") world.now.program (spec.pending_request (slice_get world.now.pending k)))) result }
-    ensures failures { FailsToWrite (W.failure_count writer.old) (W.failure_count writer.new) result }
+fn put_pending(text: &mut Vec<u8>, world: &World<'_>) -> Result<(), AllocError>
+    ensures { Puts text.old text.new (spec.pending_text world.now) result }
 {
     for place in 0..world.pending_len() {
-        write_request(writer, b"pending", world.program(), world.pending(place))?;
+        put_request(text, b"pending: ", world.program(), world.pending(place))?;
     }
     Ok(())
 }
 
-/// Writes a request that has its user data, behind the word for where it is.
-fn write_request<W: Sink>(
-    writer: &mut W,
+/// Adds a request that has its user data, after the word for where it is.
+fn put_request(
+    text: &mut Vec<u8>,
     word: &[u8],
     program: &Program,
     request: Option<Request>,
-) -> Result<(), EngineFault>
-    requires { W.failure_count writer.old + 1 < 2 ^ 64 }
-    ensures text { Wrote (W.contents writer.old) (W.contents writer.new) (spec.request_text word.now program.now request) result }
-    ensures failures { FailsToWrite (W.failure_count writer.old) (W.failure_count writer.new) result }
+) -> Result<(), AllocError>
+    ensures { Puts text.old text.new (spec.request_text word.now program.now request) result }
 {
     let Some(request) = request else {
         return Ok(());
     };
-    let mut buffer = Buffer::new();
-    let data = buffer.format(request.user_data).as_bytes();
-    write_pieces(writer, &[word, b": ", data, b" "])?;
-    write_kind(writer, program, request)?;
-    write_piece(writer, b"\n")
+    put_data(text, word, request.user_data)?;
+    put_kind(text, program, request)?;
+    put_piece(text, b"\n")
 }
 
-fn write_completions<W: Sink>(writer: &mut W, completions: &[Completion]) -> Result<(), EngineFault>
-    requires { W.failure_count writer.old + 1 < 2 ^ 64 }
-    ensures text { Wrote (W.contents writer.old) (W.contents writer.new)
-        (each (length completions.now) (λ k. spec.completion_text (slice_get completions.now k))) result }
-    ensures failures { FailsToWrite (W.failure_count writer.old) (W.failure_count writer.new) result }
+fn put_completions(text: &mut Vec<u8>, completions: &[Completion]) -> Result<(), AllocError>
+    ensures { Puts text.old text.new (spec.completions_text completions.now) result }
 {
     for completion in completions {
-        write_completion(writer, *completion)?;
+        put_completion(text, *completion)?;
     }
     Ok(())
 }
 
-fn write_completion<W: Sink>(writer: &mut W, completion: Completion) -> Result<(), EngineFault>
-    requires { W.failure_count writer.old + 1 < 2 ^ 64 }
-    ensures text { Wrote (W.contents writer.old) (W.contents writer.new) (spec.completion_text (Some completion)) result }
-    ensures failures { FailsToWrite (W.failure_count writer.old) (W.failure_count writer.new) result }
+fn put_completion(text: &mut Vec<u8>, completion: Completion) -> Result<(), AllocError>
+    ensures { Puts text.old text.new (spec.completion_text completion) result }
 {
-    let mut buffer = Buffer::new();
-    let data = buffer.format(completion.user_data).as_bytes();
-    let mut buffer = Buffer::new();
-    let res = buffer.format(completion.res).as_bytes();
-    write_pieces(writer, &[b"completed: ", data, b" ", res, b"\n"])
+    put_data(text, b"completed: ", completion.user_data)?;
+    put_result(text, completion.res)
+}
+
+/// Adds the result of a completion, to the line's end.
+fn put_result(text: &mut Vec<u8>, res: i32) -> Result<(), AllocError>
+    ensures { Puts text.old text.new (spec.result_text res) result }
+{
+    put_signed(text, i64::from(res))?;
+    put_piece(text, b"\n")
+}
+
+/// Adds the word for where a request is, and its user data.
+fn put_data(text: &mut Vec<u8>, word: &[u8], user_data: u64) -> Result<(), AllocError>
+    ensures { Puts text.old text.new (spec.data_text word.now user_data) result }
+{
+    put_piece(text, word)?;
+    put_number(text, user_data)?;
+    put_piece(text, b" ")
 }

@@ -2,56 +2,35 @@
 
 ghost use Rattle.std.specs.Prelude.{◌≡◌, ◌+◌, ◌<◌, ◌^◌, IfOk};
 ghost use Rattle.rc_read.specs.Answer.{answer_of};
-ghost use Rattle.rc_report.specs.Engine.{EndsBy, EndsItems, WritesNothingOnRead, end_of};
-ghost use Rattle.rc_report.specs.Streams.{CountsReads, CountsWrites, FailsToWriteOrGrow, Wrote};
-ghost use Rattle.rc_state.specs.Engine.{ShowsAs, items_with_state, stepped_with_state, trace_and_state};
+ghost use Rattle.rc_report.specs.Engine.{EndsBy, EndsItems, end_of};
+ghost use Rattle.rc_report.specs.Streams.{FailsToWriteOrGrow, Wrote};
+ghost use Rattle.rc_state.specs.Engine.{items_with_state, stepped_with_state, trace_and_state};
+ghost use Rattle.rc_state.specs.State.{world_text};
 ghost use Rattle.rc_world.specs.Schedule.{items_of};
 ghost use Rattle.rc_world.specs.Trace.{trace_of};
 
-use crate::state::write_state;
+use crate::state::put_state;
 use rc_lang::program::Program;
 use rc_read::{ReadFault, read_program};
 use rc_report::engine_fault::EngineFault;
 use rc_report::printed::write_schedule_line;
-use rc_report::reading::read_text;
+use rc_report::source::Lines;
 use rc_report::step_engine::StepEnd;
 use rc_report::stepping::write_run;
-use rc_report::streams::{Sink, Source};
+use rc_report::streams::Sink;
 use rc_report::trace::End;
 use rc_report::verdict::{Verdict, verdict_text};
+use rc_report::writing::write_piece;
 use rc_world::event::Item;
 use rc_world::schedule::{ScheduleFault, read_schedule};
 use rc_world::world::World;
-use std::alloc::Global;
+use std::alloc::{AllocError, Global};
 
-/// Reads a text and steps its program through a schedule. The trace is written, and behind its end line the world in
-/// which it ends. An unreadable text or schedule is answered with one line of its own.
+/// Steps the program of a text through a schedule. The trace is written, and after its end line the world in which it
+/// ends. An unreadable text or schedule is answered with one line of its own.
 ///
-/// Answers `Read` where a read failed or 2,097,152 reads met no end of input, and then nothing is written; `Write` where
-/// a write failed, and `OutOfMemory` where a growth was refused: then a beginning of the answer is written. Nothing is
-/// tried again (`read(2)`, `write(2)`).
-pub fn state_engine<R: Source, W: Sink>(
-    alloc: Global,
-    reader: &mut R,
-    schedule: &str,
-    writer: &mut W,
-) -> Result<StepEnd, EngineFault>
-    requires reads { R.read_count reader.old + 2097152 < 2 ^ 64 }
-    requires read_failures { R.failure_count reader.old + 1 < 2 ^ 64 }
-    requires write_failures { W.failure_count writer.old + 1 < 2 ^ 64 }
-    ensures text { ShowsAs (R.remaining reader.old) schedule.now (W.contents writer.old) (W.contents writer.new) result }
-    ensures nothing_on_read { WritesNothingOnRead (W.contents writer.old) (W.contents writer.new) result }
-    ensures reads { CountsReads
-        (record { remaining = R.remaining reader.old; reads = R.read_count reader.old; ends = R.end_count reader.old; failures = R.failure_count reader.old })
-        (record { remaining = R.remaining reader.new; reads = R.read_count reader.new; ends = R.end_count reader.new; failures = R.failure_count reader.new })
-        result }
-    ensures writes { CountsWrites (W.failure_count writer.old) (W.failure_count writer.new) result }
-{
-    let text = read_text(alloc, reader)?;
-    show_bytes(alloc, &text, schedule, writer)
-}
-
-/// Steps the program of a text through a schedule.
+/// Answers `Write` where a write failed, and `OutOfMemory` where memory ran out: then a beginning of the answer is
+/// written. Nothing is tried again (`write(2)`).
 pub fn show_bytes<W: Sink>(
     alloc: Global,
     text: &[u8],
@@ -59,7 +38,8 @@ pub fn show_bytes<W: Sink>(
     writer: &mut W,
 ) -> Result<StepEnd, EngineFault>
     requires { W.failure_count writer.old + 1 < 2 ^ 64 }
-    ensures text { Wrote (W.contents writer.old) (W.contents writer.new) (stepped_with_state text.now schedule.now) result }
+    ensures text { Wrote (W.contents writer.old) (W.contents writer.new)
+        (stepped_with_state text.now schedule.now) result }
     ensures end { IfOk result (EndsBy (answer_of text.now) schedule.now) }
     ensures failures { FailsToWriteOrGrow (W.failure_count writer.old) (W.failure_count writer.new) result }
 {
@@ -116,6 +96,16 @@ fn write_shown<W: Sink>(
 {
     let mut world = World::start(alloc, program)?;
     let end = write_run(&mut world, items, writer)?;
-    write_state(writer, text, &world)?;
+    let state = state_text(alloc, text, &world)?;
+    write_piece(writer, &state)?;
     Ok(end)
+}
+
+/// The text of a world whose program was read from this text.
+fn state_text(alloc: Global, text: &[u8], world: &World<'_>) -> Result<Vec<u8>, AllocError>
+    ensures { IfOk result (λ state. state.items ≡ world_text text.now world.now) }
+{
+    let mut state = Vec::new(alloc);
+    put_state(&mut state, &Lines::of(alloc, text)?, world)?;
+    Ok(state)
 }

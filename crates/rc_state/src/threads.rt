@@ -1,124 +1,100 @@
-//! Where each thread stands, and its variables.
+//! Where each thread is, and its variables.
 
-ghost use Rattle.std.specs.Prelude.{◌≡◌, ◌+◌, ◌<◌, ◌^◌, length, slice_get};
-ghost use Rattle.rc_report.specs.Streams.{FailsToWrite, Wrote};
-ghost use Rattle.rc_state.specs.Parts.{each};
+ghost use Rattle.std.specs.Prelude.{◌≡◌, slice_get};
+ghost use Rattle.rc_report.specs.Text.{Puts};
 ghost use Rattle.rc_state.specs.State as spec;
 ghost use Rattle.rc_world.specs.Items.{next_of};
 
-use itoa::Buffer;
 use rc_lang::lines::Line;
 use rc_lang::program::Program;
-use rc_report::engine_fault::EngineFault;
 use rc_report::printed::thread_name;
-use rc_report::source::write_words;
-use rc_report::streams::Sink;
-use rc_report::writing::{write_piece, write_pieces};
+use rc_report::source::{Lines, put_line_words};
+use rc_report::text::{put_number, put_piece, put_pieces, put_signed};
 use rc_world::controls::Next;
 use rc_world::world::World;
+use std::alloc::AllocError;
 
-/// Writes each thread of a world: what it has next, and its variables. The text is that of the program.
-pub fn write_threads<W: Sink>(
-    writer: &mut W,
-    text: &[u8],
+/// Adds each thread of a world: what it has next, and its variables. The lines are those of its program's text.
+pub fn put_threads(
+    text: &mut Vec<u8>,
+    lines: &Lines<'_>,
     world: &World<'_>,
-) -> Result<(), EngineFault>
-    requires { W.failure_count writer.old + 1 < 2 ^ 64 }
-    ensures text { Wrote (W.contents writer.old) (W.contents writer.new)
-        (each (length world.now.program.threads) (λ i. spec.thread_text text.now world.now i)) result }
-    ensures failures { FailsToWrite (W.failure_count writer.old) (W.failure_count writer.new) result }
+) -> Result<(), AllocError>
+    ensures { Puts text.old text.new (spec.threads_text lines.now world.now) result }
 {
     let count = world.program().threads().len();
     for thread in 0..count as u32 {
-        write_thread(writer, text, world, thread)?;
+        put_thread(text, lines, world, thread)?;
     }
     Ok(())
 }
 
-fn write_thread<W: Sink>(
-    writer: &mut W,
-    text: &[u8],
+fn put_thread(
+    text: &mut Vec<u8>,
+    lines: &Lines<'_>,
     world: &World<'_>,
     thread: u32,
-) -> Result<(), EngineFault>
-    requires { W.failure_count writer.old + 1 < 2 ^ 64 }
-    ensures text { Wrote (W.contents writer.old) (W.contents writer.new) (spec.thread_text text.now world.now thread) result }
-    ensures failures { FailsToWrite (W.failure_count writer.old) (W.failure_count writer.new) result }
+) -> Result<(), AllocError>
+    ensures { Puts text.old text.new (spec.thread_text lines.now world.now thread) result }
 {
     let name = thread_name(world.program(), thread);
-    write_pieces(writer, &[b"thread ", name, b": "])?;
-    write_next(writer, text, world, thread)?;
-    write_piece(writer, b"\n  variables:")?;
-    write_variables(writer, world, thread)?;
-    write_piece(writer, b"\n")
+    put_pieces(text, &[b"thread ", name, b": "])?;
+    put_next(text, lines, world, thread)?;
+    put_piece(text, b"\n  variables:")?;
+    put_variables(text, world, thread)?;
+    put_piece(text, b"\n")
 }
 
-/// Writes what a thread has next.
-fn write_next<W: Sink>(
-    writer: &mut W,
-    text: &[u8],
+/// Adds what a thread has next.
+fn put_next(
+    text: &mut Vec<u8>,
+    lines: &Lines<'_>,
     world: &World<'_>,
     thread: u32,
-) -> Result<(), EngineFault>
-    requires { W.failure_count writer.old + 1 < 2 ^ 64 }
-    ensures text { Wrote (W.contents writer.old) (W.contents writer.new)
-        (spec.thread_next_text text.now world.now thread (next_of world.now.program world.now.controls thread)) result }
-    ensures failures { FailsToWrite (W.failure_count writer.old) (W.failure_count writer.new) result }
+) -> Result<(), AllocError>
+    ensures { let next = next_of world.now.program world.now.controls thread in
+        Puts text.old text.new (spec.thread_next_text lines.now world.now thread next) result }
 {
     match world.next(thread) {
-        Next::Ready(line) => write_line(writer, text, Some(line)),
+        Next::Ready(line) => put_line(text, lines, Some(line)),
         Next::TakenLock => {
-            write_piece(writer, b"waits for the lock at ")?;
-            write_line(writer, text, world.line(thread))?;
-            write_holder(writer, world.program(), world.holder())
+            put_piece(text, b"waits for the lock at ")?;
+            put_line(text, lines, world.line(thread))?;
+            put_holder(text, world.program(), world.holder())
         }
-        Next::Ended => write_piece(writer, b"ended"),
+        Next::Ended => put_piece(text, b"ended"),
     }
 }
 
-/// Writes the number and the words of a line.
-fn write_line<W: Sink>(writer: &mut W, text: &[u8], line: Option<Line>) -> Result<(), EngineFault>
-    requires { W.failure_count writer.old + 1 < 2 ^ 64 }
-    ensures text { Wrote (W.contents writer.old) (W.contents writer.new) (spec.line_with_words text.now line) result }
-    ensures failures { FailsToWrite (W.failure_count writer.old) (W.failure_count writer.new) result }
+/// Adds the number and the words of a line.
+fn put_line(text: &mut Vec<u8>, lines: &Lines<'_>, line: Option<Line>) -> Result<(), AllocError>
+    ensures { Puts text.old text.new (spec.line_with_words lines.now line) result }
 {
     let Some(line) = line else {
         return Ok(());
     };
-    let mut buffer = Buffer::new();
-    let number = buffer.format(line.number).as_bytes();
-    write_pieces(writer, &[b"line ", number, b", "])?;
-    write_words(writer, text, line.number)
+    put_piece(text, b"line ")?;
+    put_number(text, u64::from(line.number))?;
+    put_piece(text, b", ")?;
+    put_line_words(text, lines, line.number)
 }
 
-/// Writes who holds the lock.
-fn write_holder<W: Sink>(
-    writer: &mut W,
-    program: &Program,
-    holder: Option<u32>,
-) -> Result<(), EngineFault>
-    requires { W.failure_count writer.old + 1 < 2 ^ 64 }
-    ensures text { Wrote (W.contents writer.old) (W.contents writer.new) (spec.holder_text program.now holder) result }
-    ensures failures { FailsToWrite (W.failure_count writer.old) (W.failure_count writer.new) result }
+/// Adds who holds the lock.
+fn put_holder(text: &mut Vec<u8>, program: &Program, holder: Option<u32>) -> Result<(), AllocError>
+    ensures { Puts text.old text.new (spec.holder_text program.now holder) result }
 {
     match holder {
-        Some(holder) => { write_pieces(writer, &[b"; ", thread_name(program, holder), b" has it"]) }
+        Some(holder) => put_pieces(text, &[b"; ", thread_name(program, holder), b" has it"]),
         None => Ok(()),
     }
 }
 
-/// Writes the variables of a thread that aren't 0.
-fn write_variables<W: Sink>(
-    writer: &mut W,
-    world: &World<'_>,
-    thread: u32,
-) -> Result<(), EngineFault>
-    requires { W.failure_count writer.old + 1 < 2 ^ 64 }
-    ensures text { Wrote (W.contents writer.old) (W.contents writer.new) (spec.variables_text world.now thread) result }
-    ensures failures { FailsToWrite (W.failure_count writer.old) (W.failure_count writer.new) result }
+/// Adds the variables of a thread that aren't 0.
+fn put_variables(text: &mut Vec<u8>, world: &World<'_>, thread: u32) -> Result<(), AllocError>
+    ensures { Puts text.old text.new (spec.variables_text world.now thread) result }
 {
     for x in 0..variables_of(world.program(), thread) {
-        write_variable(writer, x, world.variable(thread, x))?;
+        put_variable(text, x, world.variable(thread, x))?;
     }
     Ok(())
 }
@@ -133,17 +109,14 @@ fn variables_of(program: &Program, thread: u32) -> usize
     }
 }
 
-fn write_variable<W: Sink>(writer: &mut W, x: usize, value: i64) -> Result<(), EngineFault>
-    requires { W.failure_count writer.old + 1 < 2 ^ 64 }
-    ensures text { Wrote (W.contents writer.old) (W.contents writer.new) (spec.variable_text x value) result }
-    ensures failures { FailsToWrite (W.failure_count writer.old) (W.failure_count writer.new) result }
+fn put_variable(text: &mut Vec<u8>, x: usize, value: i64) -> Result<(), AllocError>
+    ensures { Puts text.old text.new (spec.variable_text x value) result }
 {
     if value == 0 {
         return Ok(());
     }
-    let mut buffer = Buffer::new();
-    let x = buffer.format(x).as_bytes();
-    let mut buffer = Buffer::new();
-    let value = buffer.format(value).as_bytes();
-    write_pieces(writer, &[b" v", x, b"=", value])
+    put_piece(text, b" v")?;
+    put_number(text, x as u64)?;
+    put_piece(text, b"=")?;
+    put_signed(text, value)
 }
