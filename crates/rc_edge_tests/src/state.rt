@@ -43,7 +43,7 @@ enabled: t0=0..1
 5 t0 9 submit 1
 stopped after 5 events
 thread t0: line 10, peek_cqe r {
-  variables: v0=1
+  variables: r=1
 entry: none
 pending: 7 nop
 pool:
@@ -99,7 +99,7 @@ enabled: t0
 7 t0 13 submit 1
 stopped after 7 events
 thread t0: line 14, if sq_ready == 0 {
-  variables: v1=1
+  variables: r=1
 thread t1: line 29, loop keeps {
   variables:
 entry: none
@@ -126,7 +126,7 @@ enabled: t0 t1 k:7=0..16
 13 t1 30 lock
 stopped after 13 events
 thread t0: line 19, loop keeps {
-  variables: v1=1
+  variables: r=1
 thread t1: line 31, peek_cqe r {
   variables:
 entry: none
@@ -156,9 +156,9 @@ enabled: t0 t1
 16 t1 34 put
 stopped after 16 events
 thread t0: line 19, loop keeps {
-  variables: v1=1
+  variables: r=1
 thread t1: line 35, break
-  variables: v0=16
+  variables: r=16
 entry: none
 pool: a:1 t:7 c:1
 enabled: t0 t1

@@ -46,20 +46,29 @@ thread_next_text text w i TakenLock =
     ++ (line_with_words text (next_line w.program w.controls i) ++ holder_text w.program w.controls.holder)
 thread_next_text text w i Ended = codes "ended"
 
--- A variable has the number that it got at its first use in the thread, from 0. Those that are 0 aren't shown.
-abbrev pub variable_text : ℕ → ℤ → List ℕ
-variable_text x value =
-    if int_eq value (pos 0) then [] else joined (codes " v" ∷ decimal x ∷ codes "=" ∷ signed_decimal value ∷ [])
+-- the names of a thread's variables
+abbrev pub variables_in : Option Thread → List (List ℕ)
+variables_in None = []
+variables_in (Some t) = t.variables
 
--- how many variables a thread has
-abbrev pub variables_of : Option Thread → ℕ
-variables_of None = 0
-variables_of (Some t) = t.variables
+abbrev pub name_or_none : Option (List ℕ) → List ℕ
+name_or_none None = []
+name_or_none (Some name) = name
+
+abbrev pub variable_name : Option Thread → ℕ → List ℕ
+variable_name thread x = name_or_none (slice_get (variables_in thread) x)
+
+-- A variable, by its name. Those that are 0 aren't shown.
+abbrev pub variable_text : List ℕ → ℤ → List ℕ
+variable_text name value =
+    if int_eq value (pos 0) then [] else joined (codes " " ∷ name ∷ codes "=" ∷ signed_decimal value ∷ [])
+
+abbrev pub variable_in_thread : World → ℕ → ℕ → List ℕ
+variable_in_thread w i x =
+    variable_text (variable_name (slice_get w.program.threads i) x) (variable_in (slice_get w.controls.threads i) x)
 
 abbrev pub variables_text : World → ℕ → List ℕ
-variables_text w i =
-    each (variables_of (slice_get w.program.threads i))
-    (λ x. variable_text x (variable_in (slice_get w.controls.threads i) x))
+variables_text w i = each (length (variables_in (slice_get w.program.threads i))) (variable_in_thread w i)
 
 abbrev pub thread_text : List ℕ → World → ℕ → List ℕ
 thread_text text w i =

@@ -1,12 +1,13 @@
 //! Where each thread is, and its variables.
 
-ghost use Rattle.std.specs.Prelude.{◌≡◌, slice_get};
+ghost use Rattle.std.specs.Prelude.{◌≡◌, Some};
+ghost use Rattle.rc_lang.specs.Parts.{view_thread};
 ghost use Rattle.rc_report.specs.Text.{Puts};
 ghost use Rattle.rc_state.specs.State as spec;
 ghost use Rattle.rc_world.specs.Items.{next_of};
 
 use rc_lang::lines::Line;
-use rc_lang::program::Program;
+use rc_lang::program::{Program, Thread};
 use rc_report::printed::thread_name;
 use rc_report::source::{Lines, put_line_words};
 use rc_report::text::{put_number, put_piece, put_pieces, put_signed};
@@ -93,30 +94,31 @@ fn put_holder(text: &mut Vec<u8>, program: &Program, holder: Option<u32>) -> Res
 fn put_variables(text: &mut Vec<u8>, world: &World<'_>, thread: u32) -> Result<(), AllocError>
     ensures { Puts text.old text.new (spec.variables_text world.now thread) result }
 {
-    for x in 0..variables_of(world.program(), thread) {
-        put_variable(text, x, world.variable(thread, x))?;
+    let Some(named) = world.program().threads().get(thread as usize) else {
+        return Ok(());
+    };
+    for x in 0..named.variables.len() {
+        put_variable(text, variable_name(named, x), world.variable(thread, x))?;
     }
     Ok(())
 }
 
-/// How many variables a thread has, and none where the program has no such thread.
-fn variables_of(program: &Program, thread: u32) -> usize
-    ensures { result ≡ spec.variables_of (slice_get program.now.threads thread) }
+/// The name of a variable of a thread, and nothing where it has no such variable.
+fn variable_name(thread: &Thread, x: usize) -> &[u8]
+    ensures { result.now ≡ spec.variable_name (Some (view_thread thread.now)) x }
 {
-    match program.threads().get(thread as usize) {
-        Some(thread) => thread.variables,
-        None => 0,
+    match thread.variables.get(x) {
+        Some(name) => name,
+        None => &[],
     }
 }
 
-fn put_variable(text: &mut Vec<u8>, x: usize, value: i64) -> Result<(), AllocError>
-    ensures { Puts text.old text.new (spec.variable_text x value) result }
+fn put_variable(text: &mut Vec<u8>, name: &[u8], value: i64) -> Result<(), AllocError>
+    ensures { Puts text.old text.new (spec.variable_text name.now value) result }
 {
     if value == 0 {
         return Ok(());
     }
-    put_piece(text, b" v")?;
-    put_number(text, x as u64)?;
-    put_piece(text, b"=")?;
+    put_pieces(text, &[b" ", name, b"="])?;
     put_signed(text, value)
 }
