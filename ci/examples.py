@@ -1,13 +1,12 @@
 #!/usr/bin/env python3
-"""Holds the texts of rc_examples, rc_gallery and rc_edge_tests against the files of examples/, or writes them.
+"""Holds the texts of rc_examples and rc_edge_tests against the files of examples/, or writes them.
 
 usage: ci/examples.py [--write]
 
-rc_examples has a constant for each program of examples/, named as its file, and a row for each text of examples/causes.
-rc_gallery has a row for each text of examples/gallery, and a constant for each file of examples/c. What the file expected
-says in causes and gallery they have too. rc_edge_tests has a constant for each file of examples/causes/explained: what
-is printed for the text of that name with its explanation. Without --write nothing is changed, and the status is 1 where
-a text of a crate differs from its file by so much as a byte, or one is missing on either side.
+rc_examples has a constant for each program of examples/, named as its file, a row for each text of examples/causes, and
+what the file expected says there. rc_edge_tests has a constant for each file of examples/causes/explained: what is printed
+for the text of that name with its explanation. Without --write nothing is changed, and the status is 1 where a text of a
+crate differs from its file by so much as a byte, or one is missing on either side.
 """
 
 import difflib
@@ -17,8 +16,6 @@ from pathlib import Path
 TOP = Path(__file__).resolve().parent.parent
 EXAMPLES = TOP / "examples"
 CAUSES = EXAMPLES / "causes"
-C_PROGRAMS = EXAMPLES / "c"
-GALLERY = EXAMPLES / "gallery"
 CRATES = TOP / "crates"
 
 
@@ -49,12 +46,6 @@ def programs():
     return "//! The programs of examples/, each as its file has it.\n" + constants(EXAMPLES.glob("*.rc"))
 
 
-def c_programs():
-    """The file of the crate with the C of some programs, and the text of the one that is no example of its own."""
-    text = f"\npub const EVERY_TEXT: &str = {literal(C_PROGRAMS / 'every.rc')};\n"
-    return "//! The C of programs, each as its file in examples/c has it.\n" + constants(C_PROGRAMS.glob("*.c")) + text
-
-
 def causes():
     """The file of the crate with the texts of the causes."""
     row = "    Example {{\n        name: \"{}\",\n        text: {},\n    }},\n"
@@ -72,41 +63,13 @@ def explained():
     return "//! What examples/causes/explained has, a text each.\n" + constants((CAUSES / "explained").iterdir())
 
 
-def patterns():
-    """The folders of the gallery: a pattern each, with its texts."""
-    return sorted({path.parent.name for path in GALLERY.glob("*/*.rc")})
-
-
-def pattern(name):
-    """The file of the crate with the texts of one pattern, a constant each."""
-    return f"//! The texts of examples/gallery/{name}.\n" + constants((GALLERY / name).glob("*.rc"))
-
-
-def gallery():
-    """The file of the crate with a row for each text of the gallery, and what is printed for them."""
-    row = "    Example {{\n        name: \"{0}/{1}.rc\",\n        text: {0}::{2},\n    }},\n"
-    texts = [path for name in patterns() for path in sorted((GALLERY / name).glob("*.rc"))]
-    rows = [row.format(path.parent.name, path.stem, path.stem.upper()) for path in texts]
-    return (
-        "//! The texts of examples/gallery, and what is printed for them.\n\n"
-        + "".join(f"mod {name};\n" for name in patterns())
-        + "\nuse rc_examples::example::Example;\n\n"
-        "pub const GALLERY: &[Example] = &[\n" + "".join(rows) + "];\n\n"
-        "pub const EXPECTED: &str = " + literal(GALLERY / "expected") + ";\n"
-    )
-
-
 def wanted_files():
     """The files of the crates that have texts, by their names."""
-    files = {
+    return {
         "rc_examples/src/programs.rt": programs(),
         "rc_examples/src/causes.rt": causes(),
         "rc_edge_tests/src/explain/engine/explained.rt": explained(),
-        "rc_gallery/src/c_programs.rt": c_programs(),
-        "rc_gallery/src/gallery.rt": gallery(),
     }
-    files.update({f"rc_gallery/src/gallery/{name}.rt": pattern(name) for name in patterns()})
-    return files
 
 
 def differences(path, wanted):
@@ -122,7 +85,6 @@ def main():
     status = 0
     for name, wanted in wanted_files().items():
         if sys.argv[1:]:
-            (CRATES / name).parent.mkdir(exist_ok=True)
             (CRATES / name).write_bytes(wanted.encode())
         elif found := differences(CRATES / name, wanted):
             print("\n".join(["the texts of the crates differ from examples/:", *found]), file=sys.stderr)
