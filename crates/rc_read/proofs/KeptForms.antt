@@ -1,13 +1,16 @@
 -- What it says that no sentence is true of a line.
 use Rattle.std.proofs.Common.{◌≡◌, ℕ, ◌<◌, ◌≤◌, Bool, true, false, cond, not, ◌||◌, nat_le, nat_lt, List, [], ◌∷◌, length, Option, Some, None, refl, subst, ◌⊎◌, inl, inr}
 use Rattle.std.proofs.lemmas.Bool.{or_parts, leb-false, ltb-false}
+use Rattle.rc_read.specs.declared.noted.Wrong.{Wrong}
 use Rattle.rc_read.specs.declared.parts.Region.{Region}
 use Rattle.rc_read.specs.declared.parts.Region.TheVariants.{Start, Second, Declarations, InThread, Between}
+use Rattle.rc_read.specs.declared.says.Says.{Says}
 use Rattle.rc_read.specs.declared.table.Row.{Row}
 use Rattle.rc_read.specs.declared.table.Stand.{Stand}
 use Rattle.rc_read.specs.declared.table.Stand.TheVariants as stand
 use Rattle.rc_read.specs.declared.values.Item.{Item}
 use Rattle.rc_read.specs.Adds.{form_in, values}
+use Rattle.rc_read.specs.Judging.{later_sentences}
 use Rattle.rc_read.specs.Says.{says_by}
 use Rattle.rc_read.specs.Sentences.{any_double, any_full, any_named_twice, any_unknown, bad_brace, bad_case, bad_head, bad_line, bad_nesting, first_true, form_sentences, has_too_many_names, is_inside, is_too_deep, is_too_long, may_stand}
 use Rattle.rc_read.specs.Sheets.{Sheet, names_behind, with_names}
@@ -28,6 +31,17 @@ none_alone n b e = (none_true n b None e).0
 
 pub few_lines : (s : Sheet) (line : List ℕ) → is_too_long s line ≡ false → s.count < 4096
 few_lines s line e = leb-false 4096 s.count (or_parts (nat_le 4096 s.count) (nat_lt 256 (length line)) e).0
+
+-- Where no sentence is true of a line, fewer lines than a text may have stand above it.
+pub few_above : (s : Sheet) (line : List ℕ) (wrong : Wrong) (items : List Item) (what : Says) → first_true (later_sentences s line wrong items what) ≡ None → s.count < 4096
+few_above s line wrong items what e =
+    let p6 = (none_true 5 wrong.unknown _ e).1 in
+    let p7 = (none_true 6 (wrong.double || any_named_twice items) _ p6).1 in
+    let p8 = (none_true 7 (bad_brace s what) _ p7).1 in
+    let large = (none_true 8 (is_too_long s line || is_too_deep s what || wrong.full || nat_lt 64 (length s.draft.names)) _ p8).0 in
+    let names = or_parts (is_too_long s line || is_too_deep s what || wrong.full) (nat_lt 64 (length s.draft.names)) large in
+    let full = or_parts (is_too_long s line || is_too_deep s what) wrong.full names.0 in
+    few_lines s line (or_parts (is_too_long s line) (is_too_deep s what) full.0).0
 
 -- The items of a line with this form.
 abbrev pub items_by : Sheet → List (List ℕ) → Option Row → List Item

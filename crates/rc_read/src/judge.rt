@@ -19,9 +19,38 @@ use crate::parts::{Parts, Region};
 use crate::says::{Says, says_of};
 use crate::spots::{Spot, put_spots};
 use crate::table::{Row, Stand, stand_of};
-use crate::values::Item;
+use crate::values::{Item, Value};
 use crate::words::{begins_strange, is, put_words};
 use std::alloc::{AllocError, Global};
+
+/// What stands in the places of a line.
+#[derive(Drop)]
+pub struct Found<'a> {
+    spots: Vec<Spot<'a>>,
+    values: Vec<Value>,
+    items: Vec<Item>,
+}
+
+/// Memory that each line of a piece uses again.
+#[derive(Drop)]
+pub struct Scratch<'a> {
+    words: Vec<&'a [u8]>,
+    found: Found<'a>,
+}
+
+impl<'a> Scratch<'a> {
+    /// No line's.
+    pub fn new(alloc: Global) -> Scratch<'a> {
+        Scratch {
+            words: Vec::new(alloc),
+            found: Found {
+                spots: Vec::new(alloc),
+                values: Vec::new(alloc),
+                items: Vec::new(alloc),
+            },
+        }
+    }
+}
 
 fn is_version(row: Option<Row>) -> bool
     ensures { result ≡ spec.is_version row }
@@ -104,33 +133,34 @@ fn later_cause(
 fn judge_row(
     alloc: Global,
     parts: &mut Parts,
+    found: &mut Found,
     line: &[u8],
     words: &[&[u8]],
     row: Row,
-    spots: &[Spot],
 ) -> Result<Option<ReadCause>, AllocError>
-    requires { view_spots spots.now ≡ spots_of (parts_of row) (texts_of words.now) }
+    requires { view_spots found.old.spots.items ≡ spots_of (parts_of row) (texts_of words.now) }
     ensures { JudgesRow (view_sheet parts.old) line.now (texts_of words.now) row (view_sheet parts.new) result }
 {
-    let mut values = Vec::new(alloc);
-    let mut items = Vec::new(alloc);
-    let Some(wrong) = put_values(alloc, &mut values, &mut items, parts, spots)? else {
+    let (values, items) = (&mut found.values, &mut found.items);
+    let put = put_values(alloc, values, items, parts, &found.spots)?;
+    let Some(wrong) = put else {
         return Ok(Some(ReadCause::BadNumber));
     };
-    let says = says_of(row, &values);
-    if let Some(cause) = later_cause(parts, line, wrong, &items, says) {
+    let says = says_of(row, &found.values);
+    if let Some(cause) = later_cause(parts, line, wrong, &found.items, says) {
         return Ok(Some(cause));
     }
-    parts.add(alloc, words, &items, &says)?;
+    parts.add(alloc, words, &found.items, &says)?;
     Ok(None)
 }
 
 // The cause of a line with these words, or the line is added.
-fn judge_words(
+fn judge_words<'a>(
     alloc: Global,
     parts: &mut Parts,
+    found: &mut Found<'a>,
     line: &[u8],
-    words: &[&[u8]],
+    words: &[&'a [u8]],
 ) -> Result<Option<ReadCause>, AllocError>
     ensures { JudgesWords (view_sheet parts.old) line.now (texts_of words.now) (view_sheet parts.new) result }
 {
@@ -141,8 +171,7 @@ fn judge_words(
         parts.count_line();
         return Ok(None);
     }
-    let mut spots = Vec::new(alloc);
-    let row = put_spots(parts.head.version, &mut spots, words)?;
+    let row = put_spots(parts.head.version, &mut found.spots, words)?;
     if bad_head(parts.region, row, words) {
         return Ok(Some(ReadCause::BadHead));
     }
@@ -152,20 +181,24 @@ fn judge_words(
     if !may_stand(stand_of(row), parts.region) {
         return Ok(Some(ReadCause::BadLine));
     }
-    judge_row(alloc, parts, line, words, row, &spots)
+    judge_row(alloc, parts, found, line, words, row)
 }
 
 /// Judges a line, and adds it where no sentence is true of it.
-pub fn judge(alloc: Global, parts: &mut Parts, line: &[u8]) -> Result<(), ReadFault>
+pub fn judge<'a>(
+    alloc: Global,
+    parts: &mut Parts,
+    scratch: &mut Scratch<'a>,
+    line: &'a [u8],
+) -> Result<(), ReadFault>
     ensures { Judges (view_sheet parts.old) line.now (view_sheet parts.new) result }
 {
     let number = parts.count + 1;
     let cause = if begins_strange(line) {
         Some(ReadCause::NotAscii)
     } else {
-        let mut words = Vec::new(alloc);
-        put_words(&mut words, line)?;
-        judge_words(alloc, parts, line, &words)?
+        put_words(&mut scratch.words, line)?;
+        judge_words(alloc, parts, &mut scratch.found, line, &scratch.words)?
     };
     match cause {
         None => Ok(()),

@@ -10,7 +10,7 @@ ghost use Rattle.rc_read.specs.View.{view_sheet};
 ghost use Rattle.rc_read.specs.Words.{last_line};
 
 use crate::fault::{ReadCause, ReadFault};
-use crate::judge::judge;
+use crate::judge::{Scratch, judge};
 use crate::parts::{Parts, Region};
 use memchr::memchr;
 use rc_lang::program::{Declarations, Program};
@@ -40,18 +40,22 @@ impl Model for Reader {
 }
 
 // Judges a line that a line feed ends: the pending bytes and these behind them.
-fn end_line(
+fn end_line<'a>(
     alloc: Global,
     parts: &mut Parts,
     pending: &mut Vec<u8>,
-    front: &[u8],
+    scratch: &mut Scratch<'a>,
+    front: &'a [u8],
 ) -> Result<(), ReadFault>
     requires { Nowhere (Passes (is_byte 10) front.now) 0 (length front.now) }
     ensures reads { ReadsMore (view_sheet parts.old) pending.old.items (front.now ++ 10 ∷ []) (view_sheet parts.new) pending.new.items result }
     ensures sound { IsReached (view_sheet parts.old) → IsSoundBy result (view_sheet parts.new) }
 {
+    if pending.is_empty() {
+        return judge(alloc, parts, scratch, front);
+    }
     pending.extend_from_slice(front)?;
-    let judged = judge(alloc, parts, pending);
+    let judged = judge(alloc, parts, &mut Scratch::new(alloc), pending);
     pending.clear();
     judged
 }
@@ -66,9 +70,10 @@ fn take(
     ensures reads { ReadsMore (view_sheet parts.old) pending.old.items piece.now (view_sheet parts.new) pending.new.items result }
     ensures sound { IsReached (view_sheet parts.old) → IsSoundBy result (view_sheet parts.new) }
 {
+    let mut scratch = Scratch::new(alloc);
     let mut at = 0;
     while let Some(i) = memchr(b'\n', &piece[at..]) {
-        end_line(alloc, parts, pending, &piece[at..at + i])?;
+        end_line(alloc, parts, pending, &mut scratch, &piece[at..at + i])?;
         at = at + i + 1;
     }
     pending.extend_from_slice(&piece[at..])?;
@@ -82,7 +87,7 @@ fn judge_rest(alloc: Global, parts: &mut Parts, rest: &[u8]) -> Result<(), ReadF
     if rest.is_empty() {
         Ok(())
     } else {
-        judge(alloc, parts, rest)
+        judge(alloc, parts, &mut Scratch::new(alloc), rest)
     }
 }
 

@@ -2,7 +2,7 @@ use Rattle.std.proofs.Common.{rules, ◌≡◌, Option, false, true, ap, not, sy
 use Rattle.rc_read.specs.declared.table.Row.{Row}
 use Rattle.rc_read.specs.Sentences.{bad_head, bad_line, may_stand}
 use Rattle.rc_read.specs.Table.{stand_of}
-use Rattle.rc_read.specs.Texts.{texts_of, view_spots}
+use Rattle.rc_read.specs.Texts.{texts_of}
 use Rattle.rc_read.specs.View.{view_sheet}
 use Rattle.rc_read.proofs.Judged.{form_next, head_first, judges_words}
 use Rattle.rc_read.proofs.judge.judge_words.Goals as goal
@@ -29,7 +29,7 @@ returns-then-not-may_stand c =
     (ap (bad_line s.region) (sym c.in_ok-row.ensures.row ∙ c.in-Some.is) ∙ ap not stands)
 
 pub judge_row-requires : goal.judge_row-requires
-judge_row-requires c = ap view_spots c.deref.ensures.value ∙ (rw c.in-Some.is at c.in_ok-row.ensures.spots)
+judge_row-requires c = rw c.in-Some.is at c.in_ok-row.ensures.spots
 
 pub returns : goal.returns
 returns c =
