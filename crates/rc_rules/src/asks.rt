@@ -52,12 +52,7 @@ fn needs_of(stmt: Stmt) -> Needs
         Stmt::EndPeek(_) => one((Cause::JoinMismatch, Asks::Agreeing)),
         Stmt::Loop(k) => one((Cause::LoopEntry, Asks::Loop(k))),
         Stmt::EndLoop(_, k) => one((Cause::LoopBody, Asks::Loop(k))),
-        Stmt::Lock => [None; 4],
-        Stmt::Else(_) => [None; 4],
-        Stmt::Case(_, _) => [None; 4],
-        Stmt::Other(_) => [None; 4],
-        Stmt::Nothing(_) => [None; 4],
-        Stmt::EndArm(_) => [None; 4],
+        _ => [None; 4],
     }
 }
 

@@ -125,11 +125,7 @@ pub fn op_needs(op: Op) -> Needs
         Op::Submit(_) => two(LOCK, CLOSED),
         Op::SubmitAndWait(_, _) => two(LOCK, CLOSED),
         Op::CqeSeen => two(LOCK, (Cause::NoEntry, Asks::Peeked)),
-        Op::Set(_, _) => [None; 4],
-        Op::Assign(_, _) => [None; 4],
-        Op::Add(_, _, _) => [None; 4],
-        Op::Subtract(_, _, _) => [None; 4],
-        Op::Print(_) => [None; 4],
+        _ => [None; 4],
     }
 }
 
