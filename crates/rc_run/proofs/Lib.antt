@@ -11,5 +11,4 @@ mod Finding
 mod Posting
 pub mod TurnEvents
 mod Growing
-mod CaseTable
-mod Boards
+mod Dispatching

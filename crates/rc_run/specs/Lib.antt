@@ -1,4 +1,3 @@
-pub mod Board
 pub mod Calm
 pub mod Held
 pub mod JobParts
@@ -10,6 +9,5 @@ pub mod Machine
 pub mod Reports
 pub mod Requests
 pub mod Rooms
-pub mod Roster
-pub mod RosterParts
+pub mod Scheduler
 pub mod Table

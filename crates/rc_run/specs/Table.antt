@@ -1,8 +1,6 @@
 -- What lies under the lock of a run, as contracts see it.
-use Rattle.std.specs.Prelude.{ℕ, ℤ, ◌≡◌, ◌⊎◌, ◌<◌, ◌≤◌, Bool, true, false, ◌||◌, if◌then◌else◌, List, count_by, length, nat_le, Option, None, Some, is_none, slice_get}
-use Rattle.rc_lang.specs.declared.program.Token.{Token}
-use Rattle.rc_lang.specs.Program.{Program, token_place}
-use Rattle.rc_world.specs.declared.event.Completion.{Completion}
+use Rattle.std.specs.Prelude.{ℕ, ℤ, ◌≡◌, ◌⊎◌, ◌<◌, ◌≤◌, Bool, true, false, ◌||◌, if◌then◌else◌, List, count_by, length, nat_le, is_none}
+use Rattle.rc_lang.specs.Program.{Program}
 use Rattle.rc_run.specs.declared.live.Turn.{Turn}
 use Rattle.rc_run.specs.declared.live.Turn.TheVariants as turn
 use Rattle.rc_run.specs.declared.locked.Ending.{Ending}
@@ -50,15 +48,6 @@ abbrev pub EndsAs : Table → Ending → Type 0
 EndsAs t ending.Ended = AllEnded t.run.world × (t.memory ≡ false)
 EndsAs t ending.Limit = (t.limit ≤ t.turns) × ((i : ℕ) × IsUnended t.run.world i)
 EndsAs t ending.Memory = (AllEnded t.run.world × (t.memory ≡ true)) ⊎ ((t.turns < t.limit) × ((i : ℕ) × IsUnended t.run.world i))
-
--- the place among the tokens of that of a completion
-abbrev pub completion_token : List Token → Option Completion → Option ℕ
-completion_token tokens None = None
-completion_token tokens (Some c) = token_place tokens c.user_data
-
--- the place among the tokens of that of the front completion
-abbrev pub front_token : World → Option ℕ
-front_token w = completion_token w.program.tokens (slice_get w.completions 0)
 
 -- no thread holds the lock of the program
 abbrev pub is_lock_free : World → Bool

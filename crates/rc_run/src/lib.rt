@@ -1,7 +1,6 @@
 //! Runs admitted programs: a run under way, over rings of real entry bytes, and the threads that play it.
 #![tactic(auto)]
 
-mod board;
 pub mod gate;
 pub mod job;
 pub mod live;
@@ -9,5 +8,5 @@ mod locked;
 mod machine;
 pub mod report;
 mod request_ring;
-mod roster;
 pub mod runner;
+mod scheduler;

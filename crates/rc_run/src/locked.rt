@@ -1,10 +1,10 @@
 //! What lies under the lock of a run.
 
-ghost use Rattle.std.specs.Prelude.{◌≡◌, ◌⊎◌, ◌↔◌, ◌||◌, ◌+◌, ◌<◌, ◌≤◌, ℕ, negsuc, ◌≤ℤ◌, [], true, false, None, length, IfErr, IfNone, IfSome, IsTrue, MatchOption, OnOk};
+ghost use Rattle.std.specs.Prelude.{◌≡◌, ◌⊎◌, ◌↔◌, ◌||◌, ◌+◌, ◌<◌, ◌≤◌, ℕ, negsuc, ◌≤ℤ◌, [], true, false, None, length, if◌then◌else◌, nat_lt, IfErr, IfNone, IfSome, IsTrue, MatchOption, OnOk};
 ghost use Rattle.rc_run.specs.Jobs.{allows};
 ghost use Rattle.rc_run.specs.Reports.{AllEnded, IsUnended};
 ghost use Rattle.rc_run.specs.Lives.{IsNotOut, Lent, Posted, Turned, begun, free};
-ghost use Rattle.rc_run.specs.Table.{EndsAs, IsOver, IsTable, after_no_turn, after_refusal, front_token, is_lock_free, is_stopped, new_table, turns_by};
+ghost use Rattle.rc_run.specs.Table.{EndsAs, IsOver, IsTable, after_no_turn, after_refusal, is_lock_free, is_stopped, new_table, turns_by};
 ghost use Rattle.rc_world.specs.Items.{next_of};
 ghost use Rattle.rc_world.specs.Runs.{IsSafe};
 
@@ -15,6 +15,9 @@ use rc_world::controls::Next;
 use rc_world::event::Event;
 use std::marker::{Brand, Model, PhantomData};
 use std::sync::ledger::{Book, Ledger, Share};
+
+// With so many completions that wait to be reaped no worker is woken: what it could add comes after them.
+const ENOUGH: usize = 4;
 
 /// What is asked of a run: its program, and how many events of threads there may be. A type stands for both, so that
 /// whatever is found under the lock is a run of that program.
@@ -105,13 +108,6 @@ impl<D: Device, L: Ledger + Asked> Locked<D, L> {
         &self.live
     }
 
-    /// How many events there are of threads.
-    pub fn turns(&self) -> u64
-        ensures { result ≡ self.now.turns }
-    {
-        self.turns
-    }
-
     /// How many events there are.
     pub fn len(&self) -> usize
         ensures { result ≡ length self.now.run.history }
@@ -127,13 +123,6 @@ impl<D: Device, L: Ledger + Asked> Locked<D, L> {
         self.live.queued()
     }
 
-    /// Whether a request is pending.
-    pub fn has_pending(&self) -> bool
-        ensures { IsTrue result ↔ (0 < length self.now.run.world.pending) }
-    {
-        self.live.pending() > 0
-    }
-
     /// How many pending requests have no job that is out.
     pub fn free(&self) -> usize
         ensures { result ≡ length (free self.now.run) }
@@ -141,22 +130,15 @@ impl<D: Device, L: Ledger + Asked> Locked<D, L> {
         self.live.free()
     }
 
-    /// How many completions wait to be reaped.
-    pub fn completed(&self) -> usize
-        ensures { result ≡ length self.now.run.world.completed }
+    /// How many workers to wake: for each job one, unless four completions wait to be reaped.
+    pub fn workers(&self) -> usize
+        ensures { result ≡ (if nat_lt (length self.now.run.world.completed) 4 then length (free self.now.run) else 0) }
     {
-        self.live.completed()
-    }
-
-    /// The place among the tokens of that of the front completion.
-    pub fn front(&self) -> Option<usize>
-        ensures { result ≡ front_token self.now.run.world }
-    {
-        let completion = self.live.front()?;
-        self.live
-            .admitted()
-            .program()
-            .token_place(completion.user_data)
+        if self.live.completed() < ENOUGH {
+            self.live.free()
+        } else {
+            0
+        }
     }
 
     /// Whether no thread holds the lock of the program.

@@ -1,11 +1,11 @@
 //! Real threads over a run that is under way.
 
-ghost use Rattle.std.specs.Prelude.{◌≡◌, ◌+◌, false, sum, IfOk};
+ghost use Rattle.std.specs.Prelude.{◌≡◌, ◌+◌, false, length, sum, IfOk};
 ghost use Rattle.std.specs.Arc.{arc_value};
 ghost use Rattle.rc_run.specs.Lives.{begun};
 ghost use Rattle.rc_run.specs.Reports.{Tells};
 ghost use Rattle.rc_run.specs.Rooms.{HasCapacity};
-ghost use Rattle.rc_run.specs.Roster.{AllAreUp};
+ghost use Rattle.rc_run.specs.Scheduler.{new_queue};
 ghost use Rattle.rc_world.specs.Runs.{IsSafe};
 
 mod crew;
@@ -13,14 +13,13 @@ mod player;
 mod shared;
 mod worker;
 
-use crate::board::Board;
 use crate::gate::Gate;
 use crate::live::Live;
 use crate::locked::{Asked, Ending, Locked};
 use crate::report::{RunFault, RunReport};
-use crate::roster::Roster;
 use crate::runner::crew::{Crew, Role};
 use crate::runner::shared::Shared;
+use crate::scheduler::{RunQueue, Scheduler};
 use rc_admit::admitted::Admitted;
 use rc_device::chooser::Chooser;
 use rc_device::device::Device;
@@ -41,11 +40,11 @@ struct Crews<L: Ledger> {
     workers: Crew<L>,
 }
 
-// A run at its start: no event, all players up, and a bell for each.
+// A run at its start: no event, all players running, and a bell for each.
 #[derive(Drop)]
 struct Scene {
     live: Live,
-    roster: Roster,
+    queue: RunQueue,
     bells: Vec<Condvar>,
 }
 
@@ -59,18 +58,14 @@ impl Scene {
         chooser: C,
     ) -> Shared<D, C, L>
         requires live { self.live ≡ begun L.program }
-        requires roster { AllAreUp self.roster.stances }
+        requires queue { self.queue ≡ new_queue (length self.queue.states) }
         requires safe { IsSafe L.program }
         requires limit { limit ≡ L.limit }
         requires total { book.total ≡ 0 }
     {
-        let Scene {
-            live,
-            roster,
-            bells,
-        } = self;
+        let Scene { live, queue, bells } = self;
         Shared {
-            board: Mutex::new(Board::new(Locked::new(live, book, limit), roster)),
+            scheduler: Mutex::new(Scheduler::new(Locked::new(live, book, limit), queue)),
             device,
             chooser: Mutex::new(chooser),
             bells,
@@ -93,13 +88,13 @@ fn begin<L: Ledger>(
     threads: u32,
 ) -> Result<Start<L>, AllocError>
     ensures live { IfOk result (λ r. r.scene.live ≡ begun (arc_value admitted.now)) }
-    ensures roster { IfOk result (λ r. AllAreUp r.scene.roster.stances) }
+    ensures queue { IfOk result (λ r. r.scene.queue ≡ new_queue (length r.scene.queue.states)) }
     ensures players { IfOk result (λ r. HasCapacity threads r.crews.players.started × HasCapacity threads r.crews.players.counts) }
     ensures workers { IfOk result (λ r. HasCapacity WORKERS r.crews.workers.started × HasCapacity WORKERS r.crews.workers.counts) }
 {
     let scene = Scene {
         live: Live::start(alloc, Arc::try_clone(admitted)?)?,
-        roster: Roster::new(alloc, admitted.program())?,
+        queue: RunQueue::new(alloc, threads as usize)?,
         bells: bells_of(alloc, threads)?,
     };
     let crews = Crews {
@@ -250,8 +245,8 @@ fn run_in<
     admitted.program();
     let shared = scene.into_shared(book, limit, device, chooser);
     let tally = together(rt, &shared, gate, threads, crews, all);
-    let Shared { board, .. } = shared;
-    finished(&admitted, limit, board.into_inner().into_run(), tally)
+    let Shared { scheduler, .. } = shared;
+    finished(&admitted, limit, scheduler.into_inner().into_run(), tally)
 }
 
 /// Runs a program: a thread for each of its threads, and two workers, which have the device serve its requests, until

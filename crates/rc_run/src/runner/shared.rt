@@ -2,8 +2,8 @@
 
 ghost use Rattle.std.specs.Prelude.{◌<◌};
 
-use crate::board::Board;
 use crate::locked::Asked;
+use crate::scheduler::Scheduler;
 use rc_device::chooser::Chooser;
 use rc_device::device::Device;
 use std::hint::spin_loop;
@@ -16,14 +16,14 @@ const TRIES: u32 = 500;
 
 /// What the threads share. Each lock is held for a moment; that of the chooser also inside that of the run.
 ///
-/// Who sleeps has noted it on the board, and looked at the run, under its lock; who changes the run looks at the board
-/// after it did, and notes whom it wakes: so no wake is lost, with the lock held or without.
+/// How a player stands changes under the lock of the run alone, and a player that waits looks there before it sleeps: so no
+/// wake is lost, with the lock held or without.
 #[derive(Drop)]
 pub struct Shared<D: Device, C, L: Ledger + Asked> {
-    pub board: Mutex<Board<D, L>>,
+    pub scheduler: Mutex<Scheduler<D, L>>,
     pub device: Mutex<D>,
     pub chooser: Mutex<C>,
-    /// For each player, that it is up.
+    /// For each player, that it runs again.
     pub bells: Vec<Condvar>,
     /// A request became pending.
     pub offered: Condvar,
@@ -31,17 +31,17 @@ pub struct Shared<D: Device, C, L: Ledger + Asked> {
 
 impl<D: Device, C, L: Ledger + Asked> Shared<D, C, L> {
     /// Takes the lock of the run.
-    pub fn hold<R: Wait>(&self, rt: &R) -> MutexGuard<'_, Board<D, L>> {
+    pub fn hold<R: Wait>(&self, rt: &R) -> MutexGuard<'_, Scheduler<D, L>> {
         for _ in 0..TRIES {
-            if let Some(guard) = self.board.try_lock() {
+            if let Some(guard) = self.scheduler.try_lock() {
                 return guard;
             }
             spin_loop();
         }
-        self.board.lock(rt)
+        self.scheduler.lock(rt)
     }
 
-    /// Wakes the player that is called, and so many workers.
+    /// Wakes the player that runs next, and so many workers.
     pub fn tell(&self, player: Option<usize>, workers: usize) {
         if let Some(player) = player {
             self.ring(player);
@@ -53,7 +53,7 @@ impl<D: Device, C, L: Ledger + Asked> Shared<D, C, L> {
         }
     }
 
-    /// Wakes a player that was called.
+    /// Wakes a player that runs again.
     pub fn ring(&self, player: usize) {
         if let Some(bell) = self.bells.get(player) {
             bell.notify_one();

@@ -32,7 +32,7 @@ pub fn work<D: Device, C: Chooser, L: Ledger + Asked, R: Wait>(
             None => {
                 shared
                     .offered
-                    .wait_while(rt, guard, |board| board.run().is_idle());
+                    .wait_while(rt, guard, |scheduler| scheduler.run().is_idle());
             }
         }
     }
@@ -93,11 +93,9 @@ fn post<D: Device, C, L: Ledger + Asked, R: Wait>(
     requires given { D.gives job.request.user_data res ⊎ (res ≡ negsuc 11) }
 {
     let mut guard = shared.hold(rt);
-    let (posted, called) = guard.post(job, res, mine);
+    let (posted, next) = guard.post(job, res, mine);
     drop(guard);
-    if let Some(player) = called {
-        shared.ring(player);
-    }
+    shared.tell(next, 0);
     if let Err(job) = posted {
         job.give_up();
     }

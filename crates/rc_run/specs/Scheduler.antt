@@ -1,0 +1,105 @@
+-- What lies under the lock of a run: the run itself, and which of its players makes events next.
+use Rattle.std.specs.Prelude.{ℕ, ◌≡◌, ◌⊎◌, ◌+◌, ◌-◌, ◌<◌, ◌≤◌, Bool, true, false, ◌&&◌, ◌||◌, not, if◌then◌else◌, List, length, replicate, Option, None, Some, nat_eq, nat_le, nat_lt, slice_get, slice_index_or, slice_set}
+use Rattle.std.specs.List.{list_any}
+use Rattle.rc_lang.specs.declared.lines.Line.{Line}
+use Rattle.rc_lang.specs.declared.lines.Stmt.{Stmt}
+use Rattle.rc_lang.specs.declared.lines.Stmt.TheVariants.{Case}
+use Rattle.rc_lang.specs.Program.{lines_of}
+use Rattle.rc_world.specs.declared.event.Action.TheVariants.{ItemsPut}
+use Rattle.rc_world.specs.declared.event.Completion.{Completion}
+use Rattle.rc_world.specs.declared.event.Event.TheVariants.{ByThread}
+use Rattle.rc_run.specs.declared.live.Turn.{Turn}
+use Rattle.rc_run.specs.declared.live.Turn.TheVariants.{Done}
+use Rattle.rc_run.specs.declared.scheduler.State.{State}
+use Rattle.rc_run.specs.declared.scheduler.State.TheVariants.{Running, Ready, Waiting}
+use Rattle.rc_run.specs.Lives.{Live, can_move}
+use Rattle.rc_run.specs.Table.{Table, is_stopped}
+
+-- How the players stand, by the numbers of their threads; where the search for the next one begins; and how many events
+-- there were when items were put into the pool last.
+pub record RunQueue : Type 0 where
+  pub states : List State
+  pub next : ℕ
+  pub put : ℕ
+
+-- all are running
+abbrev pub new_queue : ℕ → RunQueue
+new_queue threads = record { states = replicate threads Running; next = 0; put = 0 }
+
+abbrev pub is_running : State → Bool
+is_running Running = true
+is_running Ready = false
+is_running (Waiting since) = false
+
+-- how a player stands; one that isn't there is never called
+abbrev pub state_at : List State → ℕ → State
+state_at states i = slice_index_or states i Running
+
+-- A player is running whose thread can make an event.
+abbrev pub AnyRuns : Live → RunQueue → Type 0
+AnyRuns s q = (j : ℕ) × (slice_get q.states j ≡ Some Running) × (can_move s.world j ≡ true)
+
+abbrev pub is_case_for : ℕ → Stmt → Bool
+is_case_for u (Case other v) = nat_eq v u
+is_case_for u _ = false
+
+-- One of the lines is a case for the completion.
+abbrev pub awaits : List Line → Option Completion → Bool
+awaits lines None = false
+awaits lines (Some c) = list_any (λ (l : Line). is_case_for c.user_data l.stmt) lines
+
+-- A player that waits is to run again where no request is pending, items were put into the pool since, 1,000 events were
+-- made since, or its thread has a case for the completion that is reaped next.
+abbrev pub is_due : Live → ℕ → ℕ → State → Bool
+is_due s put i Running = false
+is_due s put i Ready = true
+is_due s put i (Waiting since) =
+    nat_eq (length s.world.pending) 0
+    || (nat_lt since put
+    || (nat_le 1000 (length s.history - since)
+    || awaits (lines_of s.world.program i) (slice_get s.world.completions 0)))
+
+-- The i-th is to run again, and its thread can make an event.
+abbrev pub due : Live → RunQueue → ℕ → Bool
+due s q i = is_due s q.put i (state_at q.states i) && can_move s.world i
+
+-- From one place to another, without it, nobody passes the test.
+abbrev pub NobodyIn : (ℕ → Bool) → ℕ → ℕ → Type 0
+NobodyIn test from to = (i : ℕ) → from ≤ i → i < to → test i ≡ false
+
+-- The i-th passes the test, as the first from one place to another.
+abbrev pub IsFirstIn : (ℕ → Bool) → ℕ → ℕ → ℕ → Type 0
+IsFirstIn test from to i = (from ≤ i) × (i < to) × (test i ≡ true) × NobodyIn test from i
+
+-- The first that passes from the next one on, and else the first of all.
+abbrev pub IsInTurn : (ℕ → Bool) → ℕ → ℕ → ℕ → Type 0
+IsInTurn test next count i = IsFirstIn test next count i ⊎ (NobodyIn test next count × IsFirstIn test 0 next i)
+
+-- Where no player is running whose thread can make an event, the next in turn that is due runs, if there is one.
+abbrev pub Dispatches : Live → RunQueue → Option ℕ → RunQueue → Type 0
+Dispatches s q None v = (AnyRuns s q ⊎ ((i : ℕ) → due s q i ≡ false)) × (v ≡ q)
+Dispatches s q (Some i) v =
+    (¬ AnyRuns s q)
+    × IsInTurn (due s q) q.next (length q.states) i
+    × (v ≡ record q { states = slice_set q.states i Running; next = i + 1 })
+
+pub record Scheduler : Type 0 where
+  pub run : Table
+  pub queue : RunQueue
+
+-- The i-th player isn't running, and its thread could make an event.
+abbrev pub is_kept : Scheduler → ℕ → Bool
+is_kept s i = not (is_running (state_at s.queue.states i)) && can_move s.run.run.world i
+
+-- Such a player waits only where another is running whose thread can make an event, a request is pending, or the run is to
+-- stop.
+abbrev pub MovesOn : Scheduler → Type 0
+MovesOn s = (i : ℕ) → is_kept s i ≡ true → AnyRuns s.run.run s.queue ⊎ ((0 < length s.run.run.world.pending) ⊎ (is_stopped s.run ≡ true))
+
+abbrev pub puts : Option Turn → Bool
+puts (Some (Done (ByThread i line ItemsPut))) = true
+puts turn = false
+
+-- A turn that put items into the pool is noted, with how many events there are after it.
+abbrev pub after_turn : Option Turn → ℕ → RunQueue → RunQueue
+after_turn turn events q = if puts turn then record q { put = events } else q
