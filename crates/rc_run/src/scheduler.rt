@@ -67,7 +67,13 @@ impl RunQueue {
     fn note(&mut self, turn: Option<Turn>, events: usize)
         ensures { self.new ≡ after_turn turn events self.old }
     {
-        if matches!(turn, Some(Turn::Done(Event::ByThread { action: Action::ItemsPut, .. }))) {
+        if matches!(
+            turn,
+            Some(Turn::Done(Event::ByThread {
+                action: Action::ItemsPut,
+                ..
+            }))
+        ) {
             self.put = events;
         }
     }

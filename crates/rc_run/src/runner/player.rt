@@ -16,7 +16,8 @@ use std::sync::Wait;
 use std::sync::ledger::Ledger;
 use std::thread;
 
-// How many events a player makes before the others get their turn.
+// After how many events a player lets the others have their turn, if the lock of the program is free; after twice as many it
+// does so in any case.
 const SLICE: u32 = 128;
 
 /// Plays a thread of the program to its end, or until the run is to stop.
@@ -143,7 +144,7 @@ fn is_take(next: Next) -> bool {
 struct Pace {
     // Whether the thread has moved nothing since it took the lock of the program.
     is_idle: bool,
-    // How many events it makes before the others get their turn.
+    // How many events it makes at most before the others get their turn.
     left: u32,
 }
 
@@ -151,7 +152,7 @@ impl Pace {
     fn new() -> Pace {
         Pace {
             is_idle: false,
-            left: SLICE,
+            left: 2 * SLICE,
         }
     }
 
@@ -179,14 +180,14 @@ impl Pace {
             _ if moves(action, is_take, is_queued) => self.is_idle = false,
             _ => {}
         }
-        if self.left == 0 {
+        if self.left == 0 || (self.left <= SLICE && run.is_free()) {
             return self.rest(State::Ready);
         }
         None
     }
 
     fn rest(&mut self, state: State) -> Option<State> {
-        self.left = SLICE;
+        self.left = 2 * SLICE;
         Some(state)
     }
 }
