@@ -1,6 +1,6 @@
 //! The tests of the crates that run admitted programs and of those that write: of `rc_run`, `rc_report`, `rc_state`,
-//! `rc_hint`, `rc_explain` and `rc_emit`, a module each. They stand above those crates, since a crate with tests is proved
-//! twice.
+//! `rc_explain` (of its hints too) and `rc_emit`, a module each. They stand above those crates, since a crate with tests is
+//! proved twice.
 #![tactic(auto)]
 
 #[cfg(test)]

@@ -1,4 +1,6 @@
+pub mod Above
 pub mod Explained
+pub mod Listed
 pub mod Objects
-pub mod ToldLines
-pub mod Writes
+pub mod StateText
+pub mod Texts

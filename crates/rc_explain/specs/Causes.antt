@@ -2,10 +2,17 @@
 use Rattle.std.specs.Prelude.{ℕ, List, codes}
 use Rattle.rc_read.specs.declared.fault.ReadCause.{ReadCause}
 use Rattle.rc_read.specs.declared.fault.ReadCause.TheVariants.{NotAscii, BadHead, BadLine, BadNumber, UnknownName, DoubleName, Braces, TooLarge, BadNesting, BadCase, OtherFlag}
+use Rattle.rc_read.specs.Causes.{number_of_cause}
+use Rattle.rc_rules.specs.Causes.{premise_number}
 use Rattle.rc_rules.specs.declared.cause.Cause.{Cause}
 use Rattle.rc_rules.specs.declared.cause.Cause.TheVariants.{Unlocked, NoCredit, QueueFull, SlotOpen, NoSlot, WrongKind, NotWhole, NoShare, OutOfBuffer, NoToken, NoEntry, QueueLeft, LoopEntry, LoopBody, JoinMismatch, OverShares, TokenTwice, OverCredits, NotHeld}
 use Rattle.rc_explain.specs.declared.causes.Code.{Code}
 use Rattle.rc_explain.specs.declared.causes.Code.TheVariants.{Unreadable, Refused}
+
+-- the number of a cause, after its letter
+abbrev pub number_of : Code → ℕ
+number_of (Unreadable cause) = number_of_cause cause
+number_of (Refused cause) = premise_number cause
 
 abbrev pub sentence_of_read : ReadCause → List ℕ
 sentence_of_read NotAscii = codes "The notation is ASCII, so that no two names look alike; such a byte is mostly a dash, a quote or a blank that came with pasted text."

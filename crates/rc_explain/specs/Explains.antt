@@ -1,5 +1,6 @@
--- What the engine that explains a verdict answers and writes.
+-- What is answered and written where a verdict is explained.
 use Rattle.std.specs.Prelude.{ℕ, ◌≡◌, ◌⊎◌, Bool, true, false, List, ◌++◌, codes, Option, Some, None, Result, Ok, Err}
+use Rattle.std.specs.Global.{Vec}
 use Rattle.std.specs.Io.KnownBytes.{Appends}
 use Rattle.json.specs.Lex.{tokens}
 use Rattle.json.specs.Print.{print}
@@ -48,10 +49,16 @@ abbrev pub Tells : Bool → Verdict → List ℕ → Type 0
 Tells true verdict text = (json : List ℕ) × IsObjectOf verdict json × (text ≡ json ++ codes "\n")
 Tells false verdict text = (rest : List ℕ) × (text ≡ verdict_text verdict ++ rest)
 
--- Such a text is written whole; or nothing is written, or a beginning of one.
-abbrev pub TellsWith : {X : Type 0} → Bool → Verdict → Option (List ℕ) → Option (List ℕ) → Result X EngineFault → Type 0
-TellsWith json verdict old new (Ok x) = (text : List ℕ) × Tells json verdict text × Appends old new text
-TellsWith json verdict old new (Err e) = (new ≡ old) ⊎ ((text : List ℕ) × Tells json verdict text × Began old new text)
+-- Such a text is added. Where memory ran out, nothing is said.
+abbrev pub PutsTold : {X E : Type 0} → Bool → Verdict → Vec ℕ → Vec ℕ → Result X E → Type 0
+PutsTold json verdict old new (Ok x) = (text : List ℕ) × Tells json verdict text × (new.items ≡ old.items ++ text)
+PutsTold json verdict old new (Err e) = Unit {0}
+
+-- The verdict on the bytes is answered, and such a text of it is added.
+abbrev pub PutsExplained : {E : Type 0} → List ℕ → Bool → Vec ℕ → Vec ℕ → Result Verdict E → Type 0
+PutsExplained bytes json old new (Ok verdict) =
+    IsVerdict (answer_of bytes) verdict × ((text : List ℕ) × Tells json verdict text × (new.items ≡ old.items ++ text))
+PutsExplained bytes json old new (Err e) = Unit {0}
 
 -- The verdict on the bytes is answered, and it is written with what explains it. Or nothing is written, or a beginning of
 -- that, where the sink failed or memory ran out. Where the source doesn't tell its bytes nothing is claimed.

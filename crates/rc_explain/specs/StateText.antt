@@ -1,5 +1,6 @@
 -- What is known on a side of a line, in words.
-use Rattle.std.specs.Prelude.{ℕ, Bool, true, false, cond, nat_eq, List, [], ◌∷◌, ◌++◌, codes, decimal}
+use Rattle.std.specs.List.{flat_map}
+use Rattle.std.specs.Prelude.{ℕ, cond, nat_eq, List, [], ◌∷◌, ◌++◌, codes, decimal}
 use Rattle.rc_lang.specs.declared.program.Token.{Token}
 use Rattle.rc_lang.specs.declared.program.TokenKind.{TokenKind}
 use Rattle.rc_lang.specs.declared.program.TokenKind.TheVariants.{Read, Write, Fsync, Nop}
@@ -12,31 +13,35 @@ use Rattle.rc_rules.specs.declared.mode.Peeked.TheVariants.{Unseen, Sees, SeesOt
 use Rattle.rc_rules.specs.declared.mode.Slot.{Slot}
 use Rattle.rc_rules.specs.declared.mode.Slot.TheVariants.{Closed, Vacant, Prepared}
 use Rattle.rc_rules.specs.Labels.{Label, Dead, Live}
+use Rattle.rc_rules.specs.States.{Side, held_at, side_label}
 use Rattle.rc_split.specs.Bags.{Part, ShareOf, TokenOf, Credit}
-use Rattle.rc_report.specs.Printed.{buffer_name, joined}
+use Rattle.rc_report.specs.Printed.{buffer_name}
 use Rattle.rc_report.specs.Summaries.{placed}
+
+-- how many of each part are held on a side
+abbrev pub bag_on : Side → (Part → ℕ)
+bag_on side = held_at (side_label side)
 
 -- ---- what is held: shares and tokens in the order of their declarations, and credits, with a blank before each
 
 abbrev pub item_text : List ℕ → ℕ → List ℕ
-item_text name n = cond (nat_eq n 0) [] (joined (codes " " ∷ name ∷ codes ":" ∷ decimal n ∷ []))
+item_text name n = cond (nat_eq n 0) [] (codes " " ++ name ++ codes ":" ++ decimal n)
 
 abbrev pub share_text : (Part → ℕ) → ℕ → Buffer → List ℕ
 share_text bag i buffer = item_text buffer.name (bag (ShareOf i))
 
-abbrev pub token_text : (Part → ℕ) → ℕ → Token → List ℕ
-token_text bag i token = cond (nat_eq (bag (TokenOf token.user_data)) 0) [] (joined (codes " t:" ∷ decimal token.user_data ∷ []))
+abbrev pub token_text : (Part → ℕ) → Token → List ℕ
+token_text bag token = cond (nat_eq (bag (TokenOf token.user_data)) 0) [] (codes " t:" ++ decimal token.user_data)
 
-abbrev pub others_text : List Token → (Part → ℕ) → List ℕ
-others_text tokens bag = placed (token_text bag) 0 tokens ++ item_text (codes "c") (bag Credit)
+abbrev pub shares_text : List Buffer → (Part → ℕ) → List ℕ
+shares_text buffers bag = placed (share_text bag) 0 buffers
+
+abbrev pub tokens_text : List Token → (Part → ℕ) → List ℕ
+tokens_text tokens bag = flat_map (token_text bag) tokens
 
 abbrev pub held_items_text : Program → (Part → ℕ) → List ℕ
-held_items_text program bag = placed (share_text bag) 0 program.buffers ++ others_text program.tokens bag
-
--- whether there is a text
-abbrev pub has_some : List ℕ → Bool
-has_some [] = false
-has_some (byte ∷ bytes) = true
+held_items_text program bag =
+    shares_text program.buffers bag ++ (tokens_text program.tokens bag ++ item_text (codes "c") (bag Credit))
 
 abbrev pub or_nothing : List ℕ → List ℕ
 or_nothing [] = codes " nothing"
@@ -49,8 +54,8 @@ held_text program bag = codes "holds" ++ or_nothing (held_items_text program bag
 
 -- a request, by its kind
 abbrev pub kind_text : Program → TokenKind → List ℕ
-kind_text program (Read b) = joined (codes "read " ∷ buffer_name program b ∷ [])
-kind_text program (Write b k) = joined (codes "write " ∷ buffer_name program b ∷ codes " " ∷ decimal k ∷ [])
+kind_text program (Read b) = codes "read " ++ buffer_name program b
+kind_text program (Write b k) = codes "write " ++ buffer_name program b ++ codes " " ++ decimal k
 kind_text program Fsync = codes "fsync"
 kind_text program Nop = codes "nop"
 
@@ -61,11 +66,11 @@ slot_text program (Prepared kind) = codes ", entry prepared " ++ kind_text progr
 
 abbrev pub peeked_text : Peeked → List ℕ
 peeked_text Unseen = []
-peeked_text (Sees u) = joined (codes ", peeked " ∷ decimal u ∷ [])
+peeked_text (Sees u) = codes ", peeked " ++ decimal u
 peeked_text SeesOther = codes ", peeked other"
 
 abbrev pub inside_text : Program → Inside → List ℕ
-inside_text program i = joined (codes "; locked, q:" ∷ decimal i.queued ∷ []) ++ (slot_text program i.slot ++ peeked_text i.peeked)
+inside_text program i = codes "; locked, q:" ++ (decimal i.queued ++ (slot_text program i.slot ++ peeked_text i.peeked))
 
 abbrev pub mode_text : Program → Mode → List ℕ
 mode_text program Unlocked = codes "; unlocked"

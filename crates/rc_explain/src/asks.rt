@@ -1,105 +1,97 @@
 //! What a refused line asks for, and what is there.
 
-ghost use Rattle.std.specs.Prelude.{◌+◌, ◌<◌, ◌^◌, length};
-ghost use Rattle.rc_report.specs.Streams.{FailsToWrite};
+ghost use Rattle.std.specs.Prelude.{◌<◌, length};
 
 mod ends;
 mod over;
 mod side_asks;
 
-use crate::words::{Word, write_words};
-use rc_lang::lines::Stmt;
+use ends::put_ends;
 use rc_lang::program::Program;
-use rc_report::engine_fault::EngineFault;
-use rc_report::streams::Sink;
+use rc_report::text::put_piece;
 use rc_rules::asks::{Asks, asks_of};
 use rc_rules::cause::Cause;
 use rc_rules::state::State;
 use rc_split::part::Part;
 use rc_verify::labels::Labels;
-use side_asks::{is_short, missing_part, write_side};
+use side_asks::{is_short, missing_part, put_side};
+use std::alloc::{AllocError, Global};
 
-/// Writes what the line at a place of a thread asks for, where it is refused for the cause, and what is there in its
-/// place; of a header what the threads up to it hold. It is one line, without a line feed.
-pub fn write_asks<W: Sink>(
-    writer: &mut W,
+/// What a refused line asks for and what is there in its place, in words on one line, and the first part of that that
+/// isn't held, if one is missing.
+#[derive(Drop)]
+pub struct Need {
+    pub asks: Vec<u8>,
+    pub missing: Option<Part>,
+}
+
+/// What the header of a thread asks for that is refused for the cause, and what the threads up to it hold.
+pub fn header_need(
+    alloc: Global,
     program: &Program,
     thread: u32,
-    place: usize,
     cause: Cause,
-) -> Result<(), EngineFault>
-    requires there { thread < length program.now.threads }
-    requires failures { W.failure_count writer.old + 1 < 2 ^ 64 }
-    ensures { FailsToWrite (W.failure_count writer.old) (W.failure_count writer.new) result }
-{
+) -> Result<Need, AllocError> {
+    let mut asks = Vec::new(alloc);
     match cause {
-        Cause::OverShares => over::write_shares(writer, program, thread),
-        Cause::TokenTwice => over::write_token(writer, program, thread),
-        Cause::OverCredits => over::write_credits(writer, program, thread),
-        Cause::JoinMismatch => ends::write_ends(writer, program, thread, place),
-        _ => write_line(writer, program, thread, place, cause),
+        Cause::OverShares => over::put_shares(&mut asks, program, thread)?,
+        Cause::TokenTwice => over::put_token(&mut asks, program, thread)?,
+        Cause::OverCredits => over::put_credits(&mut asks, program, thread)?,
+        _ => {}
     }
+    Ok(Need {
+        asks,
+        missing: None,
+    })
 }
 
-/// Moves the labels of a thread from its first place to another, up to which no line is refused. Labels take 50 KB, so
-/// they stay where they are made.
-pub fn go_to(labels: &mut Labels, place: usize) {
-    for _ in 0..place {
-        let _ = labels.next();
-    }
-}
-
-/// It is no part of its caller, which would need room for the labels of others beside these.
-#[inline(never)]
-fn write_line<W: Sink>(
-    writer: &mut W,
-    program: &Program,
+/// What the line of a thread asks for at which the labels stand and that is refused for the cause.
+pub fn line_need(
+    alloc: Global,
+    labels: &mut Labels,
     thread: u32,
-    place: usize,
     cause: Cause,
-) -> Result<(), EngineFault>
-    requires there { thread < length program.now.threads }
-    requires failures { W.failure_count writer.old + 1 < 2 ^ 64 }
-    ensures { FailsToWrite (W.failure_count writer.old) (W.failure_count writer.new) result }
+) -> Result<Need, AllocError>
+    requires { thread < length labels.old.program.threads }
 {
-    let Some(line) = program.line_at(thread as usize, place) else {
-        return Ok(());
+    let mut need = Need {
+        asks: Vec::new(alloc),
+        missing: None,
     };
-    let Some(asks) = asks_of(line.stmt, cause) else {
-        return Ok(());
+    let place = labels.place();
+    let Some(line) = labels.program().line_at(thread as usize, place) else {
+        return Ok(need);
     };
-    let mut labels = Labels::new(program, thread);
-    go_to(&mut labels, place);
-    write_state(writer, thread as usize, labels.state(), asks)
+    match asks_of(line.stmt, cause) {
+        Some(Asks::Agreeing) => put_ends(&mut need.asks, labels, thread, line.stmt, place)?,
+        Some(asks) => {
+            let state = labels.state();
+            put_asked(&mut need.asks, thread as usize, state, asks)?;
+            need.missing = missing_of(thread as usize, state, asks);
+        }
+        None => {}
+    }
+    Ok(need)
 }
 
-/// The part that a line asks for at its premise of the cause, and that is missing on a side of the state, the zero one
-/// first.
-pub fn missing_part_of(thread: usize, state: &State, stmt: Stmt, cause: Cause) -> Option<Part> {
-    let asks = asks_of(stmt, cause)?;
+/// The part that is asked for of a state and that is missing on a side, the zero one first.
+fn missing_of(thread: usize, state: &State, asks: Asks) -> Option<Part> {
     let zero = is_short(state.on(true), thread, true, asks);
     missing_part(state.on(zero), thread, zero, asks)
 }
 
-/// Writes what is asked for of a state, on a side on which less is there; which one, if it is the only one.
-fn write_state<W: Sink>(
-    writer: &mut W,
+/// Adds what is asked for of a state, on a side on which less is there; which one, if it is the only one.
+fn put_asked(
+    text: &mut Vec<u8>,
     thread: usize,
     state: &State,
     asks: Asks,
-) -> Result<(), EngineFault>
-    requires { W.failure_count writer.old + 1 < 2 ^ 64 }
-    ensures { FailsToWrite (W.failure_count writer.old) (W.failure_count writer.new) result }
-{
+) -> Result<(), AllocError> {
     let zero = is_short(state.on(true), thread, true, asks);
     let other = is_short(state.on(false), thread, false, asks);
-    write_side(writer, state.on(zero), thread, zero, asks)?;
-    let flag: &[u8] = if state.flag().is_none() || zero == other {
-        b""
-    } else if zero {
-        b" (flag 0)"
-    } else {
-        b" (flag not 0)"
-    };
-    write_words(writer, &[Word::Text(flag)])
+    put_side(text, state.on(zero), thread, zero, asks)?;
+    if state.flag().is_none() || zero == other {
+        return Ok(());
+    }
+    put_piece(text, if zero { b" (flag 0)" } else { b" (flag not 0)" })
 }

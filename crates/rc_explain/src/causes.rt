@@ -15,6 +15,21 @@ pub enum Code {
     Refused(Cause),
 }
 
+impl Code {
+    ghost use Rattle.std.specs.Prelude.{◌≡◌};
+    ghost use Rattle.rc_explain.specs.Causes as spec;
+
+    /// The number of the cause, after its letter.
+    pub fn number(self) -> u32
+        ensures { result ≡ spec.number_of self }
+    {
+        match self {
+            Code::Unreadable(cause) => u32::from(cause.number()),
+            Code::Refused(cause) => cause.number(),
+        }
+    }
+}
+
 /// Why it is a mistake, in one sentence.
 pub fn sentence_of(code: Code) -> &'static str
     ensures { result.now ≡ spec.sentence_of code }

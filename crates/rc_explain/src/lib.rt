@@ -1,14 +1,16 @@
-//! What is said besides a verdict: what is known at the lines, and why one is refused.
+//! What is said besides a verdict: what is known at the lines, why one is refused, and what could stand in one that
+//! can't be read.
 #![tactic(auto)]
 
-pub mod asks;
+mod asks;
 pub mod causes;
 pub mod engine;
-pub mod explanation;
-pub mod held;
+mod explanation;
+pub mod hint;
+mod judged;
 pub mod listing;
-pub mod lost;
-pub mod object;
+mod lost;
+mod object;
 mod parts;
-pub mod spot;
-mod words;
+mod spot;
+pub mod state_text;

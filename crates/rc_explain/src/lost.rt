@@ -1,31 +1,15 @@
 //! Where a part that a refused line asks for was last held, and how it went.
 
-ghost use Rattle.std.specs.Prelude.{◌+◌, ◌<◌, ◌^◌, length};
-ghost use Rattle.rc_report.specs.Streams.{FailsToWrite};
+ghost use Rattle.std.specs.Prelude.{◌<◌, length};
 
-use crate::asks::{go_to, missing_part_of};
-use crate::parts::write_part;
-use crate::words::{Word, write_words};
-use rc_lang::lines::{Line, Op, Stmt};
+use crate::parts::put_part;
+use rc_lang::lines::{Op, Stmt};
 use rc_lang::program::Program;
-use rc_report::engine_fault::EngineFault;
-use rc_report::source::write_words as write_line_words;
-use rc_report::streams::Sink;
-use rc_rules::cause::Cause;
+use rc_report::source::{Lines, put_line_words};
+use rc_report::text::{put_number, put_piece, put_pieces};
 use rc_split::part::Part;
 use rc_verify::held::last_held;
-use rc_verify::labels::Labels;
-
-/// The first part that the refused line at a place of a thread asks for and that isn't held there, if there is one.
-#[inline(never)]
-pub fn lost_part(program: &Program, thread: u32, place: usize, cause: Cause) -> Option<Part>
-    requires { thread < length program.now.threads }
-{
-    let line = program.line_at(thread as usize, place)?;
-    let mut labels = Labels::new(program, thread);
-    go_to(&mut labels, place);
-    missing_part_of(thread as usize, labels.state(), line.stmt, cause)
-}
+use std::alloc::AllocError;
 
 /// Where a part was last held before a place. It is no part of its caller, as it needs room for labels.
 #[inline(never)]
@@ -35,53 +19,34 @@ fn place_of(program: &Program, thread: u32, place: usize, part: Part) -> Option<
     last_held(program, thread, place, part)
 }
 
-/// Writes where the first part that the refused line asks for and that is missing was last held, and how it went. It is
-/// one line, without a line feed; nothing where no part is missing.
-pub fn write_lost<W: Sink>(
-    writer: &mut W,
-    text: &[u8],
+/// Adds where a part that the refused line at a place misses was last held, and how it went: one line, without a line
+/// feed.
+pub fn put_lost(
+    text: &mut Vec<u8>,
+    lines: &Lines,
     program: &Program,
     thread: u32,
     place: usize,
-    cause: Cause,
-) -> Result<(), EngineFault>
-    requires there { thread < length program.now.threads }
-    requires failures { W.failure_count writer.old + 1 < 2 ^ 64 }
-    ensures { FailsToWrite (W.failure_count writer.old) (W.failure_count writer.new) result }
+    part: Part,
+) -> Result<(), AllocError>
+    requires { thread < length program.now.threads }
 {
-    let Some(part) = lost_part(program, thread, place, cause) else {
-        return Ok(());
-    };
-    write_part(writer, program, part)?;
+    put_part(text, program, part)?;
     let Some(at) = place_of(program, thread, place, part) else {
-        return write_words(
-            writer,
-            &[Word::Text(b" isn't held before any line above this one")],
-        );
+        return put_piece(text, b" isn't held before any line above this one");
     };
     let Some(line) = program.line_at(thread as usize, at) else {
         return Ok(());
     };
-    write_place(writer, text, line)?;
+    put_piece(text, b" is held before line ")?;
+    put_number(text, u64::from(line.number))?;
+    put_piece(text, b", ")?;
+    put_line_words(text, lines, line.number)?;
     let end = program.end_at(thread as usize, opening(line.stmt, at));
-    write_words(writer, &[Word::Text(how(line.stmt, place <= end))])
-}
-
-fn write_place<W: Sink>(writer: &mut W, text: &[u8], line: Line) -> Result<(), EngineFault>
-    requires { W.failure_count writer.old + 1 < 2 ^ 64 }
-    ensures { FailsToWrite (W.failure_count writer.old) (W.failure_count writer.new) result }
-{
-    let number = Word::Number(u64::from(line.number));
-    write_words(
-        writer,
-        &[
-            Word::Text(b" is held before line "),
-            number,
-            Word::Text(b", "),
-        ],
-    )?;
-    write_line_words(writer, text, line.number)?;
-    write_words(writer, &[Word::Text(b", and not behind it: ")])
+    put_pieces(
+        text,
+        &[b", and not behind it: ", how(line.stmt, place <= end)],
+    )
 }
 
 /// The place whose end tells whether a line below stands in the block that this line leaves: that of an else, the peek

@@ -3,25 +3,33 @@
 ghost use Rattle.std.specs.Prelude.{◌≡◌, ◌<◌, IfOk, OnOk, length};
 ghost use Rattle.serde_json.specs.Data.{object, put as with_member, string};
 ghost use Rattle.serde_json.specs.View.{members_view, view};
+ghost use Rattle.rc_explain.specs.Judged.{verdict_of};
 ghost use Rattle.rc_explain.specs.Explains.{IsObjectOf, TellsLine, TellsVerdict};
 ghost use Rattle.rc_report.specs.declared.verdict.Verdict.TheVariants.{Accepted, Refused, Unreadable};
 
-mod parts;
-
+use crate::asks::{Need, header_need, line_need};
 use crate::causes::{Code, mend_of, sentence_of};
+use crate::hint::put_hint;
+use crate::judged::Judged;
+use crate::lost::put_lost;
 use crate::spot::{Spot, spot_of};
-use parts::{asks_text, hint_text, lost_text, string_of, thread_value};
+use crate::state_text::put_state;
 use rc_lang::program::Program;
-use rc_read::{ReadCause, ReadFault, read_program};
-use rc_report::verdict::{Refusal, Verdict};
-use serde_json::{Map, Value};
+use rc_read::ReadCause;
+use rc_report::source::Lines;
+use rc_report::verdict::Refusal;
+use rc_rules::cause::Cause;
+use rc_rules::side::Side;
+use rc_rules::state::State;
+use rc_verify::labels::Labels;
+use serde_json::{Map, Value, json};
 use std::alloc::{AllocError, Global};
 
-/// What is said of a text, on which the verdict is given: one object without spaces, its keys in order.
-pub fn object_text(alloc: Global, text: &[u8], verdict: &Verdict) -> Result<Vec<u8>, AllocError>
-    ensures { IfOk result (λ json. IsObjectOf verdict.now json.items) }
+/// What is said of a text that was judged: one object without spaces, its keys in order.
+pub fn object_text(alloc: Global, source: &[u8], judged: &Judged) -> Result<Vec<u8>, AllocError>
+    ensures { IfOk result (λ json. IsObjectOf (verdict_of judged.now) json.items) }
 {
-    let members = members_of(alloc, text, verdict)?;
+    let members = members_of(alloc, source, judged)?;
     let object = Value::Object(members).to_vec(alloc)?;
     Ok(object)
 }
@@ -29,24 +37,15 @@ pub fn object_text(alloc: Global, text: &[u8], verdict: &Verdict) -> Result<Vec<
 /// The members of what is said of a text.
 fn members_of(
     alloc: Global,
-    text: &[u8],
-    verdict: &Verdict,
+    source: &[u8],
+    judged: &Judged,
 ) -> Result<Map<String, Value>, AllocError>
-    ensures { IfOk result (λ members. TellsVerdict verdict.now (object (members_view members.entries))) }
+    ensures { IfOk result (λ members. TellsVerdict (verdict_of judged.now) (object (members_view members.entries))) }
 {
-    match *verdict {
-        Verdict::Accepted => accepted_members(alloc, text),
-        Verdict::Refused(refusal) => refused_members(alloc, text, refusal),
-        Verdict::Unreadable { line, cause } => unreadable_members(alloc, text, line, cause),
-    }
-}
-
-/// The program of a text that can be read, as that of a verdict on a program.
-fn program_of(alloc: Global, text: &[u8]) -> Result<Option<Program>, AllocError> {
-    match read_program(alloc, text) {
-        Ok(program) => Ok(Some(program)),
-        Err(ReadFault::Text { .. }) => Ok(None),
-        Err(ReadFault::OutOfMemory) => Err(AllocError),
+    match judged {
+        Judged::Accepted(program) => accepted_members(alloc, program),
+        Judged::Refused(program, refusal) => refused_members(alloc, source, program, *refusal),
+        Judged::Unreadable { line, cause } => unreadable_members(alloc, source, *line, *cause),
     }
 }
 
@@ -96,24 +95,28 @@ fn put_line(
     Ok(())
 }
 
-/// What is said of an accepted text.
-fn accepted_members(alloc: Global, text: &[u8]) -> Result<Map<String, Value>, AllocError>
+/// What is said of an accepted program.
+fn accepted_members(alloc: Global, program: &Program) -> Result<Map<String, Value>, AllocError>
     ensures { IfOk result (λ members. TellsVerdict Accepted (object (members_view members.entries))) }
 {
-    let threads = threads_of(alloc, text)?;
+    let threads = threads_of(alloc, program)?;
     let mut members = Map::new(alloc);
     put(alloc, &mut members, "threads", Value::Array(threads))?;
     put_text(alloc, &mut members, "verdict", "accepted")?;
     Ok(members)
 }
 
-/// The threads of a program, each with its lines.
-fn threads_of(alloc: Global, text: &[u8]) -> Result<Vec<Value>, AllocError> {
+/// The threads of a program, each with its lines. It is no part of its caller, as it needs room for labels.
+#[inline(never)]
+fn threads_of(alloc: Global, program: &Program) -> Result<Vec<Value>, AllocError> {
     let mut threads = Vec::new(alloc);
-    if let Some(program) = program_of(alloc, text)? {
-        for thread in 0..program.threads().len() as u32 {
-            threads.push(thread_value(alloc, &program, thread)?)?;
-        }
+    let count = program.threads().len() as u32;
+    if count == 0 {
+        return Ok(threads);
+    }
+    let mut labels = Labels::new(program, 0);
+    for thread in 0..count {
+        threads.push(thread_value(alloc, &mut labels, thread)?)?;
     }
     Ok(threads)
 }
@@ -121,25 +124,18 @@ fn threads_of(alloc: Global, text: &[u8]) -> Result<Vec<Value>, AllocError> {
 /// What is said of a refused line.
 fn refused_members(
     alloc: Global,
-    text: &[u8],
+    source: &[u8],
+    program: &Program,
     refusal: Refusal,
 ) -> Result<Map<String, Value>, AllocError>
     ensures { IfOk result (λ members. TellsVerdict (Refused refusal) (object (members_view members.entries))) }
 {
     let Refusal { line, cause } = refusal;
     let mut members = Map::new(alloc);
-    if let Some(program) = program_of(alloc, text)? {
-        if let Some(spot) = spot_of(&program, line) {
-            put_spot(alloc, &mut members, text, &program, spot, refusal)?;
-        }
+    if let Some(spot) = spot_of(program, line) {
+        put_spot(alloc, &mut members, source, program, spot, cause)?;
     }
-    put_code(
-        alloc,
-        &mut members,
-        "V",
-        cause.number(),
-        Code::Refused(cause),
-    )?;
+    put_code(alloc, &mut members, "V", Code::Refused(cause))?;
     put_line(
         alloc,
         &mut members,
@@ -155,48 +151,67 @@ fn refused_members(
 fn put_spot(
     alloc: Global,
     members: &mut Map<String, Value>,
-    text: &[u8],
+    source: &[u8],
     program: &Program,
     spot: Spot,
-    refusal: Refusal,
+    cause: Cause,
 ) -> Result<(), AllocError>
     requires { spot.thread < length program.now.threads }
 {
-    let thread = spot.thread;
-    let asks = asks_text(alloc, program, spot, refusal.cause)?;
-    put(alloc, members, "asks", Value::String(asks))?;
-    if let Some(lost) = lost_text(alloc, text, program, spot, refusal.cause)? {
-        put(alloc, members, "lost", Value::String(lost))?;
-    }
-    let name = string_of(alloc, &program.threads()[thread as usize].name)?;
-    put(alloc, members, "thread", Value::String(name))?;
     let mut threads = Vec::new(alloc);
-    if spot.place.is_some() {
-        threads.push(thread_value(alloc, program, thread)?)?;
+    let need = push_spot(alloc, &mut threads, program, spot, cause)?;
+    put_bytes(alloc, members, "asks", &need.asks)?;
+    if let (Some(place), Some(part)) = (spot.place, need.missing) {
+        let mut lost = Vec::new(alloc);
+        let lines = Lines::of(alloc, source)?;
+        put_lost(&mut lost, &lines, program, spot.thread, place, part)?;
+        put_bytes(alloc, members, "lost", &lost)?;
     }
+    let name = &program.threads()[spot.thread as usize].name;
+    put_bytes(alloc, members, "thread", name)?;
     put(alloc, members, "threads", Value::Array(threads))
+}
+
+/// Adds the thread of a refused line, if it isn't its header; answers what is asked for there. It is no part of its
+/// caller, as it needs room for labels.
+#[inline(never)]
+fn push_spot(
+    alloc: Global,
+    threads: &mut Vec<Value>,
+    program: &Program,
+    spot: Spot,
+    cause: Cause,
+) -> Result<Need, AllocError>
+    requires { spot.thread < length program.now.threads }
+{
+    if spot.place.is_none() {
+        return header_need(alloc, program, spot.thread, cause);
+    }
+    let mut labels = Labels::new(program, spot.thread);
+    threads.push(thread_value(alloc, &mut labels, spot.thread)?)?;
+    line_need(alloc, &mut labels, spot.thread, cause)
 }
 
 /// What is said of a line that can't be read.
 fn unreadable_members(
     alloc: Global,
-    text: &[u8],
+    source: &[u8],
     line: u32,
     cause: ReadCause,
 ) -> Result<Map<String, Value>, AllocError>
     ensures { IfOk result (λ members. TellsVerdict (Unreadable line cause) (object (members_view members.entries))) }
 {
     let mut members = Map::new(alloc);
-    let number = u32::from(cause.number());
-    let hint = hint_text(alloc, text, line, cause)?;
-    put(alloc, &mut members, "hint", Value::String(hint))?;
-    put_code(alloc, &mut members, "P", number, Code::Unreadable(cause))?;
+    let mut hint = Vec::new(alloc);
+    put_hint(&mut hint, alloc, source, line, cause)?;
+    put_bytes(alloc, &mut members, "hint", &hint)?;
+    put_code(alloc, &mut members, "P", Code::Unreadable(cause))?;
     put_line(
         alloc,
         &mut members,
         "unreadable",
         cause.name(),
-        number,
+        u32::from(cause.number()),
         line,
     )?;
     Ok(members)
@@ -207,11 +222,98 @@ fn put_code(
     alloc: Global,
     members: &mut Map<String, Value>,
     letter: &str,
-    number: u32,
     code: Code,
 ) -> Result<(), AllocError> {
-    let id = format!(in alloc; "{letter}{number}")?;
+    let id = format!(in alloc; "{letter}{}", code.number())?;
     put(alloc, members, "id", Value::String(id))?;
     put_text(alloc, members, "mend", mend_of(code))?;
     put_text(alloc, members, "why", sentence_of(code))
+}
+
+/// Adds a member that is a text. Its bytes are ASCII, as all words of the notation.
+fn put_bytes(
+    alloc: Global,
+    members: &mut Map<String, Value>,
+    key: &str,
+    bytes: &[u8],
+) -> Result<(), AllocError> {
+    let text = string_of(alloc, bytes)?;
+    put(alloc, members, key, Value::String(text))
+}
+
+/// Bytes as a text: they are ASCII.
+fn string_of(alloc: Global, bytes: &[u8]) -> Result<String, AllocError> {
+    let mut text = String::new(alloc);
+    for byte in bytes {
+        text.push(char::from(*byte))?;
+    }
+    Ok(text)
+}
+
+/// What is known on a side.
+fn state_text(alloc: Global, program: &Program, side: &Side) -> Result<String, AllocError> {
+    let mut text = Vec::new(alloc);
+    put_state(&mut text, program, side)?;
+    string_of(alloc, &text)
+}
+
+/// A thread's lines that something reaches, up to the first that is refused, where the labels then stand, and its name.
+fn thread_value(alloc: Global, labels: &mut Labels, thread: u32) -> Result<Value, AllocError>
+    requires { thread < length labels.old.program.threads }
+    ensures { labels.new.program ≡ labels.old.program }
+{
+    labels.begin(thread);
+    let part = labels.thread();
+    let mut lines = Vec::new(alloc);
+    for line in &part.lines {
+        push_line(
+            alloc,
+            &mut lines,
+            labels.program(),
+            line.number,
+            labels.state(),
+        )?;
+        match labels.next() {
+            Ok(true) => {}
+            _ => break,
+        }
+    }
+    let name = string_of(alloc, &part.name)?;
+    json!(in alloc; {"lines": lines, "name": name})
+}
+
+/// Adds a line on each side that something reaches.
+fn push_line(
+    alloc: Global,
+    lines: &mut Vec<Value>,
+    program: &Program,
+    number: u32,
+    state: &State,
+) -> Result<(), AllocError> {
+    let (zero, other) = match state.flag() {
+        Some(_) => (Some("0"), Some("not 0")),
+        None => (None, None),
+    };
+    push_side(alloc, lines, program, number, state.on(true), zero)?;
+    push_side(alloc, lines, program, number, state.on(false), other)
+}
+
+/// Adds a line on a side that something reaches; which one, in a thread with a flag.
+fn push_side(
+    alloc: Global,
+    lines: &mut Vec<Value>,
+    program: &Program,
+    number: u32,
+    side: &Side,
+    flag: Option<&str>,
+) -> Result<(), AllocError> {
+    if !side.is_live() {
+        return Ok(());
+    }
+    let before = state_text(alloc, program, side)?;
+    let line = match flag {
+        Some(flag) => json!(in alloc; {"before": before, "flag": flag, "line": number})?,
+        None => json!(in alloc; {"before": before, "line": number})?,
+    };
+    Ok(lines.push(line)?)
 }

@@ -1,15 +1,11 @@
 //! Lists of parts, as in the notation.
 
-ghost use Rattle.std.specs.Prelude.{◌+◌, ◌<◌, ◌^◌};
-ghost use Rattle.rc_report.specs.Streams.{FailsToWrite};
-
-use crate::words::{Word, write_words};
 use rc_lang::program::{Items, Program, Share};
-use rc_report::engine_fault::EngineFault;
 use rc_report::printed::buffer_name;
-use rc_report::streams::Sink;
+use rc_report::text::{put_number, put_piece, put_pieces};
 use rc_rules::side::Side;
 use rc_split::part::Part;
+use std::alloc::AllocError;
 
 /// What a list of items says is held on a side of the flag; nothing where there is no such list.
 #[derive(Clone, Copy)]
@@ -132,87 +128,47 @@ pub fn first_missing(program: &Program, said: Claim, side: &Side) -> Option<Part
     None
 }
 
-/// Writes a part as in the notation.
-pub fn write_part<W: Sink>(writer: &mut W, program: &Program, part: Part) -> Result<(), EngineFault>
-    requires { W.failure_count writer.old + 1 < 2 ^ 64 }
-    ensures { FailsToWrite (W.failure_count writer.old) (W.failure_count writer.new) result }
-{
+/// Adds a part as in the notation.
+pub fn put_part(text: &mut Vec<u8>, program: &Program, part: Part) -> Result<(), AllocError> {
     match part {
-        Part::Shares(buffer, count) => write_words(
-            writer,
-            &[
-                Word::Text(buffer_name(program, buffer)),
-                Word::Text(b":"),
-                Word::Number(u64::from(count)),
-            ],
-        ),
+        Part::Shares(buffer, count) => {
+            put_pieces(text, &[buffer_name(program, buffer), b":"])?;
+            put_number(text, u64::from(count))
+        }
         Part::Token(user_data) => {
-            write_words(writer, &[Word::Text(b"t:"), Word::Number(user_data)])
+            put_piece(text, b"t:")?;
+            put_number(text, user_data)
         }
         Part::Credits(count) => {
-            write_words(writer, &[Word::Text(b"c:"), Word::Number(u64::from(count))])
+            put_piece(text, b"c:")?;
+            put_number(text, u64::from(count))
         }
     }
 }
 
-/// Writes a part behind a blank, where there is any of it.
-fn write_some<W: Sink>(
-    writer: &mut W,
-    program: &Program,
-    part: Part,
-    some: bool,
-) -> Result<(), EngineFault>
-    requires { W.failure_count writer.old + 1 < 2 ^ 64 }
-    ensures { FailsToWrite (W.failure_count writer.old) (W.failure_count writer.new) result }
-{
-    if !some {
-        return Ok(());
-    }
-    write_words(writer, &[Word::Text(b" ")])?;
-    write_part(writer, program, part)
-}
-
-/// Writes the parts, each behind a blank: shares and tokens in the order of their declarations, and credits.
-pub fn write_parts<W: Sink>(
-    writer: &mut W,
+/// Adds the parts, each after a blank: shares and tokens in the order of their declarations, and credits.
+pub fn put_parts(
+    text: &mut Vec<u8>,
     program: &Program,
     counted: Counted,
-) -> Result<(), EngineFault>
-    requires { W.failure_count writer.old + 1 < 2 ^ 64 }
-    ensures { FailsToWrite (W.failure_count writer.old) (W.failure_count writer.new) result }
-{
-    write_shares(writer, program, counted)?;
-    write_tokens(writer, program, counted)?;
-    let count = counted.credits();
-    write_some(writer, program, Part::Credits(count), count > 0)
-}
-
-fn write_shares<W: Sink>(
-    writer: &mut W,
-    program: &Program,
-    counted: Counted,
-) -> Result<(), EngineFault>
-    requires { W.failure_count writer.old + 1 < 2 ^ 64 }
-    ensures { FailsToWrite (W.failure_count writer.old) (W.failure_count writer.new) result }
-{
+) -> Result<(), AllocError> {
     for buffer in 0..program.buffers().len() {
         let count = counted.shares(buffer);
-        write_some(writer, program, Part::Shares(buffer, count), count > 0)?;
+        if count > 0 {
+            put_piece(text, b" ")?;
+            put_part(text, program, Part::Shares(buffer, count))?;
+        }
     }
-    Ok(())
-}
-
-fn write_tokens<W: Sink>(
-    writer: &mut W,
-    program: &Program,
-    counted: Counted,
-) -> Result<(), EngineFault>
-    requires { W.failure_count writer.old + 1 < 2 ^ 64 }
-    ensures { FailsToWrite (W.failure_count writer.old) (W.failure_count writer.new) result }
-{
     for token in program.tokens() {
-        let some = counted.has_token(token.user_data);
-        write_some(writer, program, Part::Token(token.user_data), some)?;
+        if counted.has_token(token.user_data) {
+            put_piece(text, b" ")?;
+            put_part(text, program, Part::Token(token.user_data))?;
+        }
+    }
+    let count = counted.credits();
+    if count > 0 {
+        put_piece(text, b" ")?;
+        put_part(text, program, Part::Credits(count))?;
     }
     Ok(())
 }

@@ -2,30 +2,10 @@
 
 mod explained;
 
-use super::cause_text;
-use rc_explain::engine::explain_engine;
-use rc_report::streams::{ReadSource, WriteSink};
+use super::{cause_text, writes};
 use std::alloc::Global;
 use std::process::Abort;
-use std::str;
 use std::test::Fail;
-
-/// Explains a text, and sees what is written.
-fn writes(
-    rt: &impl Abort,
-    alloc: Global,
-    text: &str,
-    json: bool,
-    expected: &str,
-) -> Result<(), Fail> {
-    let mut source = ReadSource::new(text.as_bytes());
-    let mut sink = WriteSink::new(Vec::new(alloc));
-    let answer = explain_engine(alloc, &mut source, json, &mut sink);
-    assert!(rt; answer.is_ok());
-    let output = str::from_utf8(sink.writer.as_slice()).unwrap_or("");
-    assert_eq!(rt; output, expected);
-    Ok(())
-}
 
 /// A text whose thread has a flag, and a line that nothing reaches.
 const FLAGGED: &str = "\
@@ -95,13 +75,13 @@ const UNKNOWN_NAME_OBJECT: &str = "\
 /// Explains a text of examples/causes, and sees what is written.
 fn shows(rt: &impl Abort, alloc: Global, name: &str, expected: &str) -> Result<(), Fail> {
     let text = cause_text(name).ok_or("a text")?;
-    writes(rt, alloc, text, false, expected)
+    writes(rt, alloc, text.as_bytes(), false, expected)
 }
 
 /// Explains a text of examples/causes as JSON, and sees what is written.
 fn object_is(rt: &impl Abort, alloc: Global, name: &str, expected: &str) -> Result<(), Fail> {
     let text = cause_text(name).ok_or("a text")?;
-    writes(rt, alloc, text, true, expected)
+    writes(rt, alloc, text.as_bytes(), true, expected)
 }
 
 #[test]
@@ -192,9 +172,9 @@ fn headers_and_puts_are_explained(rt: HostRuntime) -> Result<(), Fail> {
 #[test]
 fn accepted_texts_are_explained(rt: HostRuntime) -> Result<(), Fail> {
     let alloc = rt.alloc();
-    writes(&rt, alloc, FLAGGED, false, FLAGGED_EXPLAINED)?;
-    writes(&rt, alloc, FLAGGED, true, FLAGGED_OBJECT)?;
-    let text = "ringcheck 1\nring 1\n";
+    writes(&rt, alloc, FLAGGED.as_bytes(), false, FLAGGED_EXPLAINED)?;
+    writes(&rt, alloc, FLAGGED.as_bytes(), true, FLAGGED_OBJECT)?;
+    let text = b"ringcheck 1\nring 1\n";
     let explained = "accepted\nno thread: nothing was checked\n";
     writes(&rt, alloc, text, false, explained)?;
     let object = "{\"threads\":[],\"verdict\":\"accepted\"}\n";

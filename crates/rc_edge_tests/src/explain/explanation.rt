@@ -1,21 +1,16 @@
-//! What is printed behind the verdicts on texts of `examples/`.
+//! What is printed for texts of `examples/`.
 
+use super::writes;
 use rc_examples::programs;
-use rc_explain::explanation::write_explanation;
-use rc_report::check_engine::judged;
-use rc_report::streams::WriteSink;
-use rc_report::verdict::Verdict;
-use std::alloc::Global;
-use std::process::Abort;
-use std::str;
 use std::test::Fail;
 
-/// A text, and what is printed behind its verdict: of accepted ones that of a flag, of a thread without a line and of
-/// no thread, of refused ones a share that is missing, entries that are left, and lines that nothing reaches.
-const EXPLAINED: [(&str, &str); 6] = [
+/// A text, and what is printed: of accepted ones that of a flag, of a thread without a line and of lines that nothing
+/// reaches, of refused ones a share that is missing, and entries that are left.
+const EXPLAINED: [(&str, &str); 5] = [
     (
         programs::PUMP,
         "\
+accepted\n\
 thread t0\n\
 \x20 line 5, h = 1, flag 0: holds t:7 c:1; unlocked\n\
 \x20 line 6, loop keeps when h t:7 c:1 {, flag not 0: holds t:7 c:1; unlocked\n\
@@ -60,19 +55,15 @@ thread t0\n\
     (
         programs::EMPTY_THREAD,
         "\
+accepted\n\
 thread t0\n\
 \x20 no lines\n\
 ",
     ),
     (
-        "ringcheck 1\nring 1\n",
-        "\
-no thread: nothing was checked\n\
-",
-    ),
-    (
         programs::EARLY,
         "\
+refused line 18 V8 NoShare\n\
 asks for 1 share of a; held: 0\n\
 a:1 is held before line 9, prep_read 3 a 16 0, and not behind it: given to the open entry\n\
 why: Without a share of the buffer another thread or the kernel may be writing it at this moment.\n\
@@ -96,6 +87,7 @@ thread t0\n\
     (
         programs::NOP,
         "\
+refused line 19 V12 QueueLeft\n\
 asks for at most 0 queued (left); q is 1\n\
 why: A submit may take fewer entries than are queued, and what is left is in the way of the thread that locks next.\n\
 mend: Submit in a loop until `sq_ready == 0`, or allow entries to stay by `left` in the line `ring`.\n\
@@ -121,6 +113,7 @@ thread t0\n\
     (
         programs::DEAD,
         "\
+accepted\n\
 thread t0\n\
 \x20 line 5, lock {: holds t:7 c:1; unlocked\n\
 \x20 line 6, peek_cqe r {: holds t:7 c:1; locked, q:0\n\
@@ -135,25 +128,10 @@ thread t0\n\
     ),
 ];
 
-fn shows(rt: &impl Abort, alloc: Global, text: &[u8], expected: &str) -> Result<(), Fail> {
-    let verdict = match judged(alloc, text)? {
-        Ok(_) => Verdict::Accepted,
-        Err(verdict) => verdict,
-    };
-    let mut sink = WriteSink::new(Vec::new(alloc));
-    let written = write_explanation(alloc, text, &verdict, &mut sink);
-    assert!(rt; written.is_ok());
-    assert_eq!(rt;
-        str::from_utf8(sink.writer.as_slice()).unwrap_or(""),
-        expected
-    );
-    Ok(())
-}
-
 #[test]
 fn explanations_are_printed(rt: HostRuntime) -> Result<(), Fail> {
     for (text, expected) in EXPLAINED {
-        shows(&rt, rt.alloc(), text.as_bytes(), expected)?;
+        writes(&rt, rt.alloc(), text.as_bytes(), false, expected)?;
     }
     Ok(())
 }

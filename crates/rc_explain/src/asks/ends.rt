@@ -1,17 +1,15 @@
 //! The ends of branches and arms that join, and at which stage the slot is at each.
 
-ghost use Rattle.std.specs.Prelude.{◌+◌, ◌<◌, ◌^◌, length};
-ghost use Rattle.rc_report.specs.Streams.{FailsToWrite};
+ghost use Rattle.std.specs.Prelude.{◌<◌, length};
 
-use super::side_asks::write_slot;
-use crate::words::{Word, write_words};
+use super::side_asks::put_slot;
 use rc_lang::lines::{Line, Stmt, Test};
 use rc_lang::program::Program;
-use rc_report::engine_fault::EngineFault;
-use rc_report::streams::Sink;
+use rc_report::text::{put_number, put_piece};
 use rc_rules::mode::{Mode, Slot};
 use rc_rules::state::State;
 use rc_verify::labels::Labels;
+use std::alloc::AllocError;
 
 /// Whether what is known before a line goes to the end that a closing line ends: the closing line itself, an else or an
 /// if that it belongs to, and the ends of the arms of its peek.
@@ -41,64 +39,47 @@ fn stage(state: &State, stmt: Stmt) -> Option<Slot> {
     }
 }
 
-/// Writes an end and its stage, behind what parts it from the one before.
-fn write_end<W: Sink>(
-    writer: &mut W,
+/// Adds an end, and its stage.
+fn put_end(
+    text: &mut Vec<u8>,
     program: &Program,
-    first: bool,
     line: Line,
     slot: Slot,
-) -> Result<(), EngineFault>
-    requires { W.failure_count writer.old + 1 < 2 ^ 64 }
-    ensures { FailsToWrite (W.failure_count writer.old) (W.failure_count writer.new) result }
-{
-    let between: &[u8] = if first { b"" } else { b"; " };
+) -> Result<(), AllocError> {
     let at: &[u8] = match line.stmt {
         Stmt::If(_) => b"without the branch of line ",
         _ => b"the end at line ",
     };
-    let number = Word::Number(u64::from(line.number));
-    write_words(
-        writer,
-        &[
-            Word::Text(between),
-            Word::Text(at),
-            number,
-            Word::Text(b": "),
-        ],
-    )?;
-    write_slot(writer, program, slot)
+    put_piece(text, at)?;
+    put_number(text, u64::from(line.number))?;
+    put_piece(text, b": ")?;
+    put_slot(text, program, slot)
 }
 
-/// Writes the ends that join at a line and at which stage each of them leaves the slot. It is no part of its caller, as it
-/// needs room for labels.
-#[inline(never)]
-pub fn write_ends<W: Sink>(
-    writer: &mut W,
-    program: &Program,
+/// Adds the ends that join at a line, and at which stage each of them leaves the slot. The labels begin anew, as they are
+/// too large for there to be others beside them.
+pub fn put_ends(
+    text: &mut Vec<u8>,
+    labels: &mut Labels,
     thread: u32,
+    closing: Stmt,
     last: usize,
-) -> Result<(), EngineFault>
-    requires there { thread < length program.now.threads }
-    requires failures { W.failure_count writer.old + 1 < 2 ^ 64 }
-    ensures { FailsToWrite (W.failure_count writer.old) (W.failure_count writer.new) result }
+) -> Result<(), AllocError>
+    requires { thread < length labels.old.program.threads }
 {
-    let Some(closing) = program.line_at(thread as usize, last) else {
-        return Ok(());
-    };
-    let mut labels = Labels::new(program, thread);
-    let mut first = true;
-    for place in 0..last.saturating_add(1) {
-        let Some(line) = program.line_at(thread as usize, place) else {
-            return Ok(());
-        };
-        if is_end(closing.stmt, last, place, line.stmt) {
+    labels.begin(thread);
+    let mut between: &[u8] = b"";
+    for (place, line) in labels.thread().lines.iter().enumerate() {
+        if is_end(closing, last, place, line.stmt) {
             if let Some(slot) = stage(labels.state(), line.stmt) {
-                write_end(writer, program, first, line, slot)?;
-                first = false;
+                put_piece(text, between)?;
+                put_end(text, labels.program(), *line, slot)?;
+                between = b"; ";
             }
         }
-        let _ = labels.next();
+        if !matches!(labels.next(), Ok(true)) {
+            break;
+        }
     }
     Ok(())
 }

@@ -1,14 +1,10 @@
 //! What headers ask for together.
 
-ghost use Rattle.std.specs.Prelude.{◌+◌, ◌<◌, ◌^◌};
-ghost use Rattle.rc_report.specs.Streams.{FailsToWrite};
-
 use crate::parts::shares_of;
-use crate::words::{Word, write_words};
 use rc_lang::program::{Program, Thread};
-use rc_report::engine_fault::EngineFault;
 use rc_report::printed::buffer_name;
-use rc_report::streams::Sink;
+use rc_report::text::{put_number, put_piece, put_pieces};
+use std::alloc::AllocError;
 
 /// The threads up to this one, in text order.
 fn threads_up_to(program: &Program, thread: u32) -> &[Thread] {
@@ -34,33 +30,22 @@ fn credits_held(threads: &[Thread]) -> u32 {
     count
 }
 
-/// Writes of which buffer the threads hold more shares than there are.
-pub fn write_shares<W: Sink>(
-    writer: &mut W,
-    program: &Program,
-    thread: u32,
-) -> Result<(), EngineFault>
-    requires { W.failure_count writer.old + 1 < 2 ^ 64 }
-    ensures { FailsToWrite (W.failure_count writer.old) (W.failure_count writer.new) result }
-{
+/// Adds of which buffer the threads hold more shares than there are.
+pub fn put_shares(text: &mut Vec<u8>, program: &Program, thread: u32) -> Result<(), AllocError> {
     let threads = threads_up_to(program, thread);
     for buffer in 0..program.buffers().len() {
         let held = shares_held(threads, buffer);
         let shares = program.shares_at(buffer);
         if held > shares {
-            let name = Word::Text(buffer_name(program, buffer));
-            let first = Word::Text(b"the threads so far hold ");
             let there: &[u8] = if shares == 1 {
                 b"; there is "
             } else {
                 b"; there are "
             };
-            let (held, shares) = (
-                Word::Number(u64::from(held)),
-                Word::Number(u64::from(shares)),
-            );
-            let of = Word::Text(b" shares of ");
-            return write_words(writer, &[first, held, of, name, Word::Text(there), shares]);
+            put_piece(text, b"the threads so far hold ")?;
+            put_number(text, u64::from(held))?;
+            put_pieces(text, &[b" shares of ", buffer_name(program, buffer), there])?;
+            return put_number(text, u64::from(shares));
         }
     }
     Ok(())
@@ -76,48 +61,30 @@ fn holder(threads: &[Thread], token: u64) -> Option<&Thread> {
     None
 }
 
-/// Writes which token of the thread one above it holds, too.
-pub fn write_token<W: Sink>(
-    writer: &mut W,
-    program: &Program,
-    thread: u32,
-) -> Result<(), EngineFault>
-    requires { W.failure_count writer.old + 1 < 2 ^ 64 }
-    ensures { FailsToWrite (W.failure_count writer.old) (W.failure_count writer.new) result }
-{
+/// Adds which token of the thread one above it holds, too.
+pub fn put_token(text: &mut Vec<u8>, program: &Program, thread: u32) -> Result<(), AllocError> {
     let Some((last, before)) = threads_up_to(program, thread).split_last() else {
         return Ok(());
     };
     for token in &last.items.tokens {
         if let Some(other) = holder(before, *token) {
-            let (token, name) = (Word::Number(*token), Word::Text(&other.name));
-            let line = Word::Number(u64::from(other.line));
-            let is_held = Word::Text(b" is held by thread ");
-            let at = Word::Text(b", line ");
-            let too = Word::Text(b", too");
-            return write_words(
-                writer,
-                &[Word::Text(b"t:"), token, is_held, name, at, line, too],
-            );
+            put_piece(text, b"t:")?;
+            put_number(text, *token)?;
+            put_pieces(text, &[b" is held by thread ", &other.name, b", line "])?;
+            put_number(text, u64::from(other.line))?;
+            return put_piece(text, b", too");
         }
     }
     Ok(())
 }
 
-/// Writes how many credits the threads hold, and how many there are.
-pub fn write_credits<W: Sink>(
-    writer: &mut W,
-    program: &Program,
-    thread: u32,
-) -> Result<(), EngineFault>
-    requires { W.failure_count writer.old + 1 < 2 ^ 64 }
-    ensures { FailsToWrite (W.failure_count writer.old) (W.failure_count writer.new) result }
-{
-    let held = Word::Number(u64::from(credits_held(threads_up_to(program, thread))));
+/// Adds how many credits the threads hold, and how many there are.
+pub fn put_credits(text: &mut Vec<u8>, program: &Program, thread: u32) -> Result<(), AllocError> {
+    let held = credits_held(threads_up_to(program, thread));
     let entries = program.completion_entries();
-    let word: &[u8] = if entries == 1 { b" entry" } else { b" entries" };
-    let first = Word::Text(b"the threads so far hold ");
-    let there = Word::Text(b" credits; the completion ring has ");
-    let entries = Word::Number(u64::from(entries));
-    write_words(writer, &[first, held, there, entries, Word::Text(word)])
+    put_piece(text, b"the threads so far hold ")?;
+    put_number(text, u64::from(held))?;
+    put_piece(text, b" credits; the completion ring has ")?;
+    put_number(text, u64::from(entries))?;
+    put_piece(text, if entries == 1 { b" entry" } else { b" entries" })
 }

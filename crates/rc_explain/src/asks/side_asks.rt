@@ -1,20 +1,15 @@
 //! What is asked for of one side of a state.
 
-ghost use Rattle.std.specs.Prelude.{◌+◌, ◌<◌, ◌^◌};
-ghost use Rattle.rc_report.specs.Streams.{FailsToWrite};
-
-use crate::parts::{Counted, first_missing, said, write_parts};
-use crate::words::{Word, write_words};
-use rc_lang::program::{Program, TokenKind};
-use rc_report::engine_fault::EngineFault;
+use crate::parts::{Claim, Counted, first_missing, put_parts, said};
+use crate::state_text::put_kind;
+use rc_lang::program::Program;
 use rc_report::printed::buffer_name;
-use rc_report::streams::Sink;
+use rc_report::text::{put_number, put_piece, put_pieces};
 use rc_rules::asks::{Asks, kind_of};
 use rc_rules::mode::{Inside, Mode, Peeked, Slot};
 use rc_rules::side::Side;
 use rc_split::part::Part;
-
-const NOTHING: Word<'static> = Word::Text(b"");
+use std::alloc::AllocError;
 
 /// What is known of the ring on a side, where the lock is held.
 fn inside_of(side: &Side) -> Option<Inside> {
@@ -95,241 +90,184 @@ pub fn is_short(side: &Side, thread: usize, zero: bool, asks: Asks) -> bool {
     }
 }
 
-fn kind_words(program: &Program, kind: TokenKind) -> [Word<'_>; 4] {
-    match kind {
-        TokenKind::Read(buffer) => {
-            let name = Word::Text(buffer_name(program, buffer));
-            [Word::Text(b"read "), name, NOTHING, NOTHING]
-        }
-        TokenKind::Write(buffer, count) => {
-            let name = Word::Text(buffer_name(program, buffer));
-            let count = Word::Number(u64::from(count));
-            [Word::Text(b"write "), name, Word::Text(b" "), count]
-        }
-        TokenKind::Fsync => [Word::Text(b"fsync"), NOTHING, NOTHING, NOTHING],
-        TokenKind::Nop => [Word::Text(b"nop"), NOTHING, NOTHING, NOTHING],
-    }
-}
-
-/// Writes at which stage a slot is.
-pub fn write_slot<W: Sink>(writer: &mut W, program: &Program, slot: Slot) -> Result<(), EngineFault>
-    requires { W.failure_count writer.old + 1 < 2 ^ 64 }
-    ensures { FailsToWrite (W.failure_count writer.old) (W.failure_count writer.new) result }
-{
+/// Adds at which stage a slot is.
+pub fn put_slot(text: &mut Vec<u8>, program: &Program, slot: Slot) -> Result<(), AllocError> {
     match slot {
-        Slot::Closed => write_words(writer, &[Word::Text(b"no entry is open")]),
-        Slot::Vacant => write_words(writer, &[Word::Text(b"the entry is vacant")]),
+        Slot::Closed => put_piece(text, b"no entry is open"),
+        Slot::Vacant => put_piece(text, b"the entry is vacant"),
         Slot::Prepared(kind) => {
-            let [a, b, c, d] = kind_words(program, kind);
-            write_words(writer, &[Word::Text(b"the entry is prepared "), a, b, c, d])
+            put_piece(text, b"the entry is prepared ")?;
+            put_kind(text, program, kind)
         }
     }
 }
 
-fn write_slot_asked<W: Sink>(writer: &mut W, side: &Side, words: &[u8]) -> Result<(), EngineFault>
-    requires { W.failure_count writer.old + 1 < 2 ^ 64 }
-    ensures { FailsToWrite (W.failure_count writer.old) (W.failure_count writer.new) result }
-{
-    write_words(writer, &[Word::Text(words)])?;
-    write_slot(writer, side.program(), slot_of(side))
+/// Adds which stage is asked for, and that of the slot.
+fn put_slot_asked(text: &mut Vec<u8>, side: &Side, asked: &[u8]) -> Result<(), AllocError> {
+    put_pieces(text, &[b"asks for ", asked, b"; "])?;
+    put_slot(text, side.program(), slot_of(side))
 }
 
-fn write_line<W: Sink>(writer: &mut W, side: &Side, user_data: u64) -> Result<(), EngineFault>
-    requires { W.failure_count writer.old + 1 < 2 ^ 64 }
-    ensures { FailsToWrite (W.failure_count writer.old) (W.failure_count writer.new) result }
-{
-    let program = side.program();
-    let [a, b, c, d] = match kind_of(program, user_data) {
-        Some(kind) => kind_words(program, kind),
-        None => [NOTHING; 4],
-    };
-    let token = Word::Number(user_data);
-    let first = Word::Text(b"asks for what token ");
-    let says = Word::Text(b" says, ");
-    write_words(writer, &[first, token, says, a, b, c, d, Word::Text(b"; ")])?;
-    write_slot(writer, program, slot_of(side))
+/// Adds what the line of a token says, and how the entry is.
+fn put_line(text: &mut Vec<u8>, side: &Side, user_data: u64) -> Result<(), AllocError> {
+    put_piece(text, b"asks for what token ")?;
+    put_number(text, user_data)?;
+    put_piece(text, b" says, ")?;
+    if let Some(kind) = kind_of(side.program(), user_data) {
+        put_kind(text, side.program(), kind)?;
+    }
+    put_piece(text, b"; ")?;
+    put_slot(text, side.program(), slot_of(side))
 }
 
-fn write_part_asked<W: Sink>(writer: &mut W, side: &Side, part: Part) -> Result<(), EngineFault>
-    requires { W.failure_count writer.old + 1 < 2 ^ 64 }
-    ensures { FailsToWrite (W.failure_count writer.old) (W.failure_count writer.new) result }
-{
-    let asks = Word::Text(b"asks for ");
-    let held = Word::Text(b"; held: ");
+/// Adds a part that is asked for, and how many of it are held.
+fn put_part_asked(text: &mut Vec<u8>, side: &Side, part: Part) -> Result<(), AllocError> {
+    put_piece(text, b"asks for ")?;
     match part {
         Part::Shares(buffer, count) => {
-            let share: &[u8] = if count == 1 {
-                b" share of "
-            } else {
-                b" shares of "
-            };
-            let name = Word::Text(buffer_name(side.program(), buffer));
-            let count = Word::Number(u64::from(count));
-            let there = Word::Number(u64::from(side.shares(buffer)));
-            write_words(writer, &[asks, count, Word::Text(share), name, held, there])
+            put_number(text, u64::from(count))?;
+            put_piece(text, if count == 1 { b" share" } else { b" shares" })?;
+            put_held(text, side, buffer)
         }
         Part::Token(user_data) => {
-            let token = Word::Number(user_data);
-            let isnt = Word::Text(b"; it isn't held");
-            write_words(writer, &[asks, Word::Text(b"t:"), token, isnt])
+            put_piece(text, b"t:")?;
+            put_number(text, user_data)?;
+            put_piece(text, b"; it isn't held")
         }
         Part::Credits(count) => {
-            let credit: &[u8] = if count == 1 { b" credit" } else { b" credits" };
-            let count = Word::Number(u64::from(count));
-            let there = Word::Number(u64::from(side.credits()));
-            write_words(writer, &[asks, count, Word::Text(credit), held, there])
+            put_number(text, u64::from(count))?;
+            put_piece(text, if count == 1 { b" credit" } else { b" credits" })?;
+            put_piece(text, b"; held: ")?;
+            put_number(text, u64::from(side.credits()))
         }
     }
 }
 
-fn write_whole<W: Sink>(writer: &mut W, side: &Side, buffer: usize) -> Result<(), EngineFault>
-    requires { W.failure_count writer.old + 1 < 2 ^ 64 }
-    ensures { FailsToWrite (W.failure_count writer.old) (W.failure_count writer.new) result }
-{
+/// Adds of which buffer shares are asked for, and how many are held.
+fn put_held(text: &mut Vec<u8>, side: &Side, buffer: usize) -> Result<(), AllocError> {
+    let name = buffer_name(side.program(), buffer);
+    put_pieces(text, &[b" of ", name, b"; held: "])?;
+    put_number(text, u64::from(side.shares(buffer)))
+}
+
+/// Adds that all shares of a buffer are asked for, and how many are held.
+fn put_whole(text: &mut Vec<u8>, side: &Side, buffer: usize) -> Result<(), AllocError> {
     let shares = side.program().shares_at(buffer);
-    let name = Word::Text(buffer_name(side.program(), buffer));
-    let there = Word::Number(u64::from(side.shares(buffer)));
-    let held = Word::Text(b"; held: ");
     if shares == 1 {
-        let all = Word::Text(b"asks for the one share of ");
-        return write_words(writer, &[all, name, held, there]);
+        put_piece(text, b"asks for the one share")?;
+    } else {
+        put_piece(text, b"asks for all ")?;
+        put_number(text, u64::from(shares))?;
+        put_piece(text, b" shares")?;
     }
-    let all = Word::Text(b"asks for all ");
-    let count = Word::Number(u64::from(shares));
-    let of = Word::Text(b" shares of ");
-    write_words(writer, &[all, count, of, name, held, there])
+    put_held(text, side, buffer)
 }
 
-/// Writes what is said, behind a word, and what of that is missing.
-fn write_missing<W: Sink>(
-    writer: &mut W,
-    side: &Side,
-    word: &[u8],
-    thread: usize,
-    list: usize,
-    zero: bool,
-) -> Result<(), EngineFault>
-    requires { W.failure_count writer.old + 1 < 2 ^ 64 }
-    ensures { FailsToWrite (W.failure_count writer.old) (W.failure_count writer.new) result }
-{
-    let program = side.program();
-    let said = said(program, thread, list, zero);
-    write_words(writer, &[Word::Text(word)])?;
-    write_parts(writer, program, Counted::Said(said))?;
-    write_words(writer, &[Word::Text(b"; missing:")])?;
-    write_parts(writer, program, Counted::Missing(said, side))
+/// Adds what items say, and what of that is missing.
+fn put_missing(text: &mut Vec<u8>, side: &Side, said: Claim) -> Result<(), AllocError> {
+    put_parts(text, side.program(), Counted::Said(said))?;
+    put_piece(text, b"; missing:")?;
+    put_parts(text, side.program(), Counted::Missing(said, side))
 }
 
-fn write_loop<W: Sink>(
-    writer: &mut W,
+/// Adds what a loop's top or its end asks for, and what of that isn't there.
+fn put_loop(
+    text: &mut Vec<u8>,
     side: &Side,
     thread: usize,
     list: usize,
     zero: bool,
-) -> Result<(), EngineFault>
-    requires { W.failure_count writer.old + 1 < 2 ^ 64 }
-    ensures { FailsToWrite (W.failure_count writer.old) (W.failure_count writer.new) result }
-{
+) -> Result<(), AllocError> {
     if missing_part(side, thread, zero, Asks::Loop(list)).is_some() {
-        return write_missing(writer, side, b"the loop keeps", thread, list, zero);
+        put_piece(text, b"the loop keeps")?;
+        return put_missing(text, side, said(side.program(), thread, list, zero));
     }
     if slot_of(side) != Slot::Closed {
-        return write_slot_asked(writer, side, b"asks for no open entry; ");
+        return put_slot_asked(text, side, b"no open entry");
     }
-    let most = Word::Number(u64::from(queue_on(side.program(), thread, list)));
-    let queued = Word::Number(u64::from(queued_of(side)));
-    let keeps = Word::Text(b"the loop keeps q:");
-    write_words(writer, &[keeps, most, Word::Text(b"; q is "), queued])
+    put_piece(text, b"the loop keeps q:")?;
+    put_number(text, u64::from(queue_on(side.program(), thread, list)))?;
+    put_piece(text, b"; q is ")?;
+    put_number(text, u64::from(queued_of(side)))
 }
 
-/// Writes what is asked for of a side, and what is there.
-pub fn write_side<W: Sink>(
-    writer: &mut W,
+/// Adds what is asked for of a side, and what is there.
+pub fn put_side(
+    text: &mut Vec<u8>,
     side: &Side,
     thread: usize,
     zero: bool,
     asks: Asks,
-) -> Result<(), EngineFault>
-    requires { W.failure_count writer.old + 1 < 2 ^ 64 }
-    ensures { FailsToWrite (W.failure_count writer.old) (W.failure_count writer.new) result }
-{
+) -> Result<(), AllocError> {
+    let program = side.program();
     match asks {
-        Asks::Lock => write_words(writer, &[Word::Text(b"asks for the lock; it isn't held")]),
-        Asks::Part(part) => write_part_asked(writer, side, part),
-        Asks::Whole(buffer) => write_whole(writer, side, buffer),
-        Asks::Items(list) => write_missing(writer, side, b"puts", thread, list, true),
-        Asks::Loop(list) => write_loop(writer, side, thread, list, zero),
-        Asks::Closed => write_slot_asked(writer, side, b"asks for no open entry; "),
-        Asks::Vacant => write_slot_asked(writer, side, b"asks for a vacant entry; "),
-        Asks::Prepared => write_slot_asked(writer, side, b"asks for a prepared entry; "),
-        Asks::Line(user_data) => write_line(writer, side, user_data),
-        Asks::Peeked => {
-            let words = b"asks for a completion that is peeked; nothing is peeked";
-            write_words(writer, &[Word::Text(words)])
+        Asks::Lock => put_piece(text, b"asks for the lock; it isn't held"),
+        Asks::Part(part) => put_part_asked(text, side, part),
+        Asks::Whole(buffer) => put_whole(text, side, buffer),
+        Asks::Items(list) => {
+            put_piece(text, b"puts")?;
+            put_missing(text, side, said(program, thread, list, true))
         }
-        Asks::Room => write_room(writer, side),
-        Asks::Left => write_left(writer, side),
-        Asks::Place(buffer, place) => write_bytes(
-            writer,
-            side,
-            buffer,
-            b"a place below ",
-            b"",
-            place,
-        ),
-        Asks::Length(buffer, len) => write_bytes(writer, side, buffer, b"at most ", b" bytes", len),
+        Asks::Loop(list) => put_loop(text, side, thread, list, zero),
+        Asks::Closed => put_slot_asked(text, side, b"no open entry"),
+        Asks::Vacant => put_slot_asked(text, side, b"a vacant entry"),
+        Asks::Prepared => put_slot_asked(text, side, b"a prepared entry"),
+        Asks::Line(user_data) => put_line(text, side, user_data),
+        Asks::Peeked => {
+            put_piece(
+                text,
+                b"asks for a completion that is peeked; nothing is peeked",
+            )
+        }
+        Asks::Room => put_room(text, side),
+        Asks::Left => put_left(text, side),
+        Asks::Place(buffer, place) => {
+            put_bytes(
+                text,
+                b"a place below ",
+                program.bytes_at(buffer),
+                b"",
+                place,
+            )
+        }
+        Asks::Length(buffer, length) => {
+            put_bytes(
+                text,
+                b"at most ",
+                program.bytes_at(buffer),
+                b" bytes",
+                length,
+            )
+        }
         Asks::Agreeing => Ok(()),
     }
 }
 
-fn write_room<W: Sink>(writer: &mut W, side: &Side) -> Result<(), EngineFault>
-    requires { W.failure_count writer.old + 1 < 2 ^ 64 }
-    ensures { FailsToWrite (W.failure_count writer.old) (W.failure_count writer.new) result }
-{
-    let queued = Word::Number(u64::from(queued_of(side)));
-    let entries = Word::Number(u64::from(side.program().entries()));
-    let room = Word::Text(b"asks for room in the queue; q is ");
-    write_words(
-        writer,
-        &[
-            room,
-            queued,
-            Word::Text(b" of "),
-            entries,
-            Word::Text(b" entries"),
-        ],
-    )
+fn put_room(text: &mut Vec<u8>, side: &Side) -> Result<(), AllocError> {
+    put_piece(text, b"asks for room in the queue; q is ")?;
+    put_number(text, u64::from(queued_of(side)))?;
+    put_piece(text, b" of ")?;
+    put_number(text, u64::from(side.program().entries()))?;
+    put_piece(text, b" entries")
 }
 
-fn write_left<W: Sink>(writer: &mut W, side: &Side) -> Result<(), EngineFault>
-    requires { W.failure_count writer.old + 1 < 2 ^ 64 }
-    ensures { FailsToWrite (W.failure_count writer.old) (W.failure_count writer.new) result }
-{
-    let left = Word::Number(u64::from(side.program().left()));
-    let queued = Word::Number(u64::from(queued_of(side)));
-    let most = Word::Text(b"asks for at most ");
-    write_words(
-        writer,
-        &[most, left, Word::Text(b" queued (left); q is "), queued],
-    )
+fn put_left(text: &mut Vec<u8>, side: &Side) -> Result<(), AllocError> {
+    put_piece(text, b"asks for at most ")?;
+    put_number(text, u64::from(side.program().left()))?;
+    put_piece(text, b" queued (left); q is ")?;
+    put_number(text, u64::from(queued_of(side)))
 }
 
-fn write_bytes<'a, W: Sink>(
-    writer: &mut W,
-    side: &Side,
-    buffer: usize,
-    before: &'a [u8],
-    behind: &'a [u8],
+/// Adds how many bytes are asked for, between two words, and how many there are.
+fn put_bytes(
+    text: &mut Vec<u8>,
+    before: &[u8],
+    bytes: u32,
+    after: &[u8],
     there: u32,
-) -> Result<(), EngineFault>
-    requires { W.failure_count writer.old + 1 < 2 ^ 64 }
-    ensures { FailsToWrite (W.failure_count writer.old) (W.failure_count writer.new) result }
-{
-    let bytes = Word::Number(u64::from(side.program().bytes_at(buffer)));
-    let there = Word::Number(u64::from(there));
-    let asks = Word::Text(b"asks for ");
-    let front = Word::Text(before);
-    let back = Word::Text(behind);
-    let stands = Word::Text(b"; it is ");
-    write_words(writer, &[asks, front, bytes, back, stands, there])
+) -> Result<(), AllocError> {
+    put_pieces(text, &[b"asks for ", before])?;
+    put_number(text, u64::from(bytes))?;
+    put_pieces(text, &[after, b"; it is "])?;
+    put_number(text, u64::from(there))
 }

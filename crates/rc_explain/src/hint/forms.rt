@@ -1,0 +1,265 @@
+//! What could stand in a line whose words are no form.
+
+use super::fitting::{Reach, all_rows, is_reserved, longest, may_stand, reach_of};
+use super::lines::{column_of, place_of, word_at};
+use super::near::{Nearest, nearer, none_near};
+use super::wording::{put_column, put_word};
+use rc_read::fixed::text_of;
+use rc_read::parts::{Parts, Region};
+use rc_read::spots::{fits, put_spots};
+use rc_read::table::{Part, Row, Stand, parts_of, stand_of, version_of};
+use rc_read::words::is;
+use rc_report::text::{put_number, put_piece};
+use std::alloc::{AllocError, Global};
+
+/// What could stand at a word: a fixed word, or what these words say.
+#[derive(Clone, Copy)]
+struct Choice {
+    text: &'static [u8],
+    is_fixed: bool,
+}
+
+fn named(text: &'static [u8]) -> Choice {
+    Choice {
+        text,
+        is_fixed: false,
+    }
+}
+
+fn choice_of(next: Option<Part>) -> Choice {
+    let Some(part) = next else {
+        return named(b"the end of the line");
+    };
+    match part {
+        Part::Fixed(word) => Choice {
+            text: text_of(word),
+            is_fixed: true,
+        },
+        Part::Variable | Part::Flag => named(b"a variable"),
+        Part::Buffer | Part::NewBuffer | Part::NewThread => named(b"a name"),
+        Part::Operand => named(b"a variable or a number"),
+        Part::Comparison => named(b"a comparison"),
+        Part::Items => named(b"items"),
+        _ => named(b"a number"),
+    }
+}
+
+/// Adds a choice that isn't there yet.
+fn add(choices: &mut Vec<Choice>, choice: Choice) -> Result<(), AllocError> {
+    for other in choices.iter() {
+        if is(other.text, choice.text) {
+            return Ok(());
+        }
+    }
+    choices.push(choice)?;
+    Ok(())
+}
+
+/// What could stand behind so many words, by the forms that fit them.
+fn choices_at(
+    alloc: Global,
+    version: u32,
+    region: Region,
+    words: &[&[u8]],
+    most: usize,
+) -> Result<Vec<Choice>, AllocError> {
+    let mut choices = Vec::new(alloc);
+    for row in all_rows() {
+        let reach: Reach = reach_of(version, parts_of(*row), words);
+        if may_stand(version, region, *row) && reach.words == most {
+            add(&mut choices, choice_of(reach.next))?;
+            if reach.items {
+                add(&mut choices, named(b"items"))?;
+            }
+        }
+    }
+    Ok(choices)
+}
+
+fn put_choices(text: &mut Vec<u8>, choices: &[Choice]) -> Result<(), AllocError> {
+    for (i, choice) in choices.iter().enumerate() {
+        if i > 0 {
+            put_piece(text, b" or ")?;
+        }
+        if choice.is_fixed {
+            put_word(text, choice.text)?;
+        } else {
+            put_piece(text, choice.text)?;
+        }
+    }
+    put_piece(text, b" is missing")
+}
+
+/// The fixed word with which a form begins.
+fn first_of(row: Row) -> &'static [u8] {
+    match parts_of(row) {
+        [Part::Fixed(word), ..] => text_of(*word),
+        _ => &[],
+    }
+}
+
+/// The first word of a form that is spelt nearest.
+fn near_first(
+    alloc: Global,
+    version: u32,
+    region: Region,
+    word: &[u8],
+) -> Result<Nearest<'static>, AllocError> {
+    let mut nearest = none_near();
+    for row in all_rows() {
+        if may_stand(version, region, *row) {
+            nearest = nearer(alloc, word, nearest, first_of(*row))?;
+        }
+    }
+    Ok(nearest)
+}
+
+/// What the spelling of a word shows.
+fn put_spelling(text: &mut Vec<u8>, version: u32, word: &[u8]) -> Result<(), AllocError> {
+    let brace = place_of(word, b'{').is_some() || place_of(word, b'}').is_some();
+    if brace && word.len() > 1 {
+        put_piece(text, b"; '{' and '}' stand apart from other words")?;
+    }
+    if word.iter().any(|b| b.is_ascii_uppercase()) {
+        put_piece(text, b"; words have lower case letters")?;
+    }
+    if is_reserved(version, word) {
+        put_piece(text, b"; ")?;
+        put_word(text, word)?;
+        put_piece(text, b" is a reserved word")?;
+    }
+    Ok(())
+}
+
+fn put_first(
+    text: &mut Vec<u8>,
+    version: u32,
+    line: &[u8],
+    word: &[u8],
+    nearest: Nearest,
+) -> Result<(), AllocError> {
+    put_column(text, column_of(line, 0))?;
+    put_word(text, word)?;
+    put_piece(text, b" begins no form here")?;
+    if nearest.distance < 3 {
+        put_piece(text, b"; the nearest word is ")?;
+        put_word(text, nearest.word)?;
+    }
+    put_spelling(text, version, word)
+}
+
+/// A form that a later version has.
+fn put_version(
+    text: &mut Vec<u8>,
+    version: u32,
+    line: &[u8],
+    word: &[u8],
+    row: Row,
+) -> Result<(), AllocError> {
+    put_column(text, column_of(line, 0))?;
+    put_piece(text, b"this form of ")?;
+    put_word(text, word)?;
+    put_piece(text, b" stands in texts from version ")?;
+    put_number(text, u64::from(version_of(row)))?;
+    put_piece(text, b" on; the head says version ")?;
+    put_number(text, u64::from(version))
+}
+
+/// Where a form stands that may not stand here.
+fn put_stand(text: &mut Vec<u8>, line: &[u8], word: &[u8], stand: Stand) -> Result<(), AllocError> {
+    put_column(text, column_of(line, 0))?;
+    put_word(text, word)?;
+    let place: &'static [u8] = match stand {
+        Stand::First | Stand::Second => b" stands in the head alone, once",
+        Stand::Declaration => b" stands above the threads alone",
+        Stand::Header => b" begins a thread, which stands in no other",
+        Stand::Inside => b" stands in a thread alone",
+        Stand::Brace => b" closes a block, and stands in a thread alone",
+    };
+    put_piece(text, place)
+}
+
+/// The form that begins with a fixed word, wherever in a text it stands.
+fn begun(word: &[u8]) -> Option<Row> {
+    for row in all_rows() {
+        if !word.is_empty() && is(word, first_of(*row)) {
+            return Some(*row);
+        }
+    }
+    None
+}
+
+fn is_named(choice: Choice) -> bool {
+    is(choice.text, b"a name")
+        || is(choice.text, b"a variable")
+        || is(choice.text, b"a variable or a number")
+}
+
+fn can_be_named(choices: &[Choice]) -> bool {
+    choices.iter().any(|choice| is_named(*choice))
+}
+
+fn put_longest(
+    alloc: Global,
+    text: &mut Vec<u8>,
+    parts: &Parts,
+    line: &[u8],
+    words: &[&[u8]],
+    most: usize,
+) -> Result<(), AllocError> {
+    let version = parts.head.version;
+    let choices = choices_at(alloc, version, parts.region, words, most)?;
+    put_column(text, column_of(line, most))?;
+    if most < words.len() {
+        put_word(text, word_at(words, most))?;
+    } else {
+        put_piece(text, b"the end of the line")?;
+    }
+    put_piece(text, b" behind ")?;
+    put_word(text, word_at(words, most.saturating_sub(1)))?;
+    put_piece(text, b": ")?;
+    put_choices(text, &choices)?;
+    let word = word_at(words, most);
+    if can_be_named(&choices) || !is_reserved(version, word) {
+        put_spelling(text, version, word)?;
+    }
+    Ok(())
+}
+
+/// What a whole form says that may not stand here, or not yet.
+fn refused_form(alloc: Global, words: &[&[u8]]) -> Result<Option<Row>, AllocError> {
+    let mut spots = Vec::new(alloc);
+    put_spots(3, &mut spots, words)
+}
+
+/// Adds the hint for a line whose words are no form that may stand there.
+pub fn put_form(
+    alloc: Global,
+    text: &mut Vec<u8>,
+    parts: &Parts,
+    line: &[u8],
+    words: &[&[u8]],
+) -> Result<(), AllocError> {
+    let version = parts.head.version;
+    let first = word_at(words, 0);
+    if let Some(row) = refused_form(alloc, words)? {
+        if version_of(row) > version {
+            return put_version(text, version, line, first, row);
+        }
+        if !may_stand(version, parts.region, row) {
+            return put_stand(text, line, first, stand_of(row));
+        }
+    }
+    let most = longest(version, parts.region, words);
+    if most == 0 {
+        if let Some(row) = begun(first) {
+            return put_stand(text, line, first, stand_of(row));
+        }
+    }
+    let nearest = near_first(alloc, version, parts.region, first)?;
+    let is_near = nearest.distance > 0 && nearest.distance < 3;
+    if most == 0 || (most == 1 && is_near && fits(Part::Variable, first)) {
+        return put_first(text, version, line, first, nearest);
+    }
+    put_longest(alloc, text, parts, line, words, most)
+}

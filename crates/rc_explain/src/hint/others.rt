@@ -1,0 +1,241 @@
+//! Hints for the other faults: strange bytes, heads, blocks, limits and nesting.
+
+use super::lines::word_at;
+use super::wording::{put_column, put_word};
+use rc_lang::lines::Block;
+use rc_read::parts::{Parts, Region};
+use rc_read::words::is;
+use rc_report::text::{put_number, put_piece};
+use std::alloc::AllocError;
+
+fn is_strange(b: u8) -> bool {
+    b > 126 || (b < 32 && b != b'\t' && b != b'\r')
+}
+
+/// Adds the hint for a byte that isn't ASCII.
+pub fn put_strange(text: &mut Vec<u8>, line: &[u8]) -> Result<(), AllocError> {
+    for i in 0..line.len() {
+        if is_strange(line[i]) {
+            put_column(text, i + 1)?;
+            put_piece(text, b"byte ")?;
+            put_number(text, u64::from(line[i]))?;
+            return put_piece(
+                text,
+                b"; in a text stand tabs and the bytes 32 to 126 alone",
+            );
+        }
+    }
+    Ok(())
+}
+
+/// Adds the hint for a text that doesn't begin with a head.
+pub fn put_head(text: &mut Vec<u8>, parts: &Parts) -> Result<(), AllocError> {
+    match parts.region {
+        Region::Start => put_piece(
+            text,
+            b"the first line with words is 'ringcheck 1', 'ringcheck 2' or 'ringcheck 3'",
+        ),
+        _ => put_piece(
+            text,
+            b"the second line with words begins with 'ring', as 'ring 8'",
+        ),
+    }
+}
+
+fn place_of_block(block: Block) -> usize {
+    match block {
+        Block::InLock(place) | Block::InIf(place) | Block::InElse(place) => place,
+        Block::InPeek(place) | Block::InArm(place) | Block::InLoop(place, _) => place,
+    }
+}
+
+fn kind_of(block: Block) -> &'static [u8] {
+    match block {
+        Block::InLock(_) => b"lock",
+        Block::InIf(_) => b"'if'",
+        Block::InElse(_) => b"'else'",
+        Block::InPeek(_) => b"peek",
+        Block::InArm(_) => b"arm of the peek",
+        Block::InLoop(_, _) => b"loop",
+    }
+}
+
+/// Adds that a block is open.
+fn put_block(text: &mut Vec<u8>, parts: &Parts, block: Block) -> Result<(), AllocError> {
+    let lines = parts.draft.lines.as_slice();
+    put_piece(text, b"the ")?;
+    put_piece(text, kind_of(block))?;
+    let place = place_of_block(block);
+    if place < lines.len() {
+        put_piece(text, b" of line ")?;
+        put_number(text, u64::from(lines[place].number))?;
+    }
+    put_piece(text, b" is open")
+}
+
+/// Adds which block is open, innermost.
+fn put_open(text: &mut Vec<u8>, parts: &Parts) -> Result<(), AllocError> {
+    if let [.., block] = parts.draft.blocks.as_slice() {
+        return put_block(text, parts, *block);
+    }
+    put_piece(text, b"thread ")?;
+    put_word(text, &parts.draft.name)?;
+    put_piece(text, b" of line ")?;
+    put_number(text, u64::from(parts.draft.line))?;
+    put_piece(text, b" is open")
+}
+
+/// Adds which block is open that keeps a line out: a peek or an arm, and of a lock also a lock; else the innermost.
+fn put_outer(text: &mut Vec<u8>, parts: &Parts, is_lock: bool) -> Result<(), AllocError> {
+    let mut found = None;
+    for block in &parts.draft.blocks {
+        found = match *block {
+            Block::InPeek(_) | Block::InArm(_) => Some(*block),
+            Block::InLock(_) if is_lock => Some(*block),
+            _ => found,
+        };
+    }
+    match found {
+        Some(block) => put_block(text, parts, block),
+        None => put_open(text, parts),
+    }
+}
+
+/// Adds the hint for a brace that closes nothing, or a block that is open.
+pub fn put_braces(
+    text: &mut Vec<u8>,
+    parts: &Parts,
+    words: &[&[u8]],
+    at_end: bool,
+) -> Result<(), AllocError> {
+    if at_end {
+        put_piece(text, b"the end of the text: ")?;
+        return put_open(text, parts);
+    }
+    match parts.region {
+        Region::InThread => {
+            put_word(text, word_at(words, 0))?;
+            if is(word_at(words, 1), b"else") {
+                put_piece(text, b" 'else' ends no first branch: ")?;
+            } else {
+                put_piece(text, b" can't stand here: ")?;
+            }
+            put_open(text, parts)
+        }
+        _ => put_piece(text, b"'}' closes nothing: no thread is open"),
+    }
+}
+
+fn put_of(text: &mut Vec<u8>, count: usize, most: u64, what: &[u8]) -> Result<(), AllocError> {
+    put_piece(text, b"there are ")?;
+    put_number(text, count as u64)?;
+    put_piece(text, b" ")?;
+    put_piece(text, what)?;
+    put_piece(text, b" above; at most ")?;
+    put_number(text, most)
+}
+
+/// Whether a line opens a block.
+fn opens(words: &[&[u8]]) -> bool {
+    match words {
+        [.., last] => is(last, b"{"),
+        [] => false,
+    }
+}
+
+/// Adds the hint for what is too many.
+pub fn put_too_large(
+    text: &mut Vec<u8>,
+    parts: &Parts,
+    line: &[u8],
+    words: &[&[u8]],
+) -> Result<(), AllocError> {
+    let first = word_at(words, 0);
+    if line.len() > 256 {
+        put_piece(text, b"the line has ")?;
+        put_number(text, line.len() as u64)?;
+        put_piece(text, b" bytes; at most 256")
+    } else if parts.count >= 4096 {
+        put_piece(text, b"a text has at most 4096 lines")
+    } else if is(first, b"file") {
+        put_of(text, parts.files.len(), 16, b"files")
+    } else if is(first, b"buffer") {
+        put_of(text, parts.buffers.len(), 64, b"buffers")
+    } else if is(first, b"token") {
+        put_of(text, parts.tokens.len(), 256, b"tokens")
+    } else if is(first, b"thread") {
+        put_of(text, parts.threads.len(), 16, b"threads")
+    } else if parts.draft.blocks.len() >= 31 && opens(words) {
+        put_piece(
+            text,
+            b"32 blocks are open above, the thread among them; at most 32",
+        )
+    } else {
+        put_of(
+            text,
+            parts.draft.names.len(),
+            64,
+            b"variables of the thread",
+        )
+    }
+}
+
+/// Adds the hint for a block or a word that may not stand in the open one.
+pub fn put_nesting(text: &mut Vec<u8>, parts: &Parts, words: &[&[u8]]) -> Result<(), AllocError> {
+    let first = word_at(words, 0);
+    if is(first, b"break") {
+        return put_piece(text, b"'break' stands in a loop alone, and no loop is open");
+    }
+    put_word(text, first)?;
+    if is(first, b"put") || is(first, b"if") {
+        put_piece(text, b": 'q:' doesn't stand there")
+    } else if is(first, b"thread") {
+        put_piece(text, b": 'q:' stands in a lock alone")
+    } else if is(first, b"lock") || is(first, b"peek_cqe") {
+        put_piece(text, b" doesn't stand here: ")?;
+        put_outer(text, parts, is(first, b"lock"))
+    } else {
+        put_piece(
+            text,
+            b": a loop stands in no peek, and 'q:' before 'when', in a lock alone; ",
+        )?;
+        put_outer(text, parts, false)
+    }
+}
+
+/// Adds the hint for an arm.
+pub fn put_case(text: &mut Vec<u8>, parts: &Parts, words: &[&[u8]]) -> Result<(), AllocError> {
+    let first = word_at(words, 0);
+    let arms = &parts.draft.arms;
+    let in_peek = match parts.draft.blocks.as_slice() {
+        [.., Block::InPeek(_)] => true,
+        _ => false,
+    };
+    put_word(text, first)?;
+    if !in_peek {
+        put_piece(text, b" is an arm, which stands directly in a peek: ")?;
+        put_open(text, parts)
+    } else if is(first, b"}") {
+        put_piece(text, b" closes the peek without its arm ")?;
+        put_word(text, if arms.other { b"none" } else { b"other" })
+    } else if is(first, b"case") || is(first, b"other") || is(first, b"none") {
+        put_piece(text, b" is an arm that the peek has already")
+    } else {
+        put_piece(
+            text,
+            b" is no arm: directly in a peek stand 'case', 'other' and 'none' alone",
+        )
+    }
+}
+
+/// Adds the hint for another flag than the thread's first.
+pub fn put_flag(text: &mut Vec<u8>, parts: &Parts) -> Result<(), AllocError> {
+    put_piece(text, b"a thread has one flag")?;
+    if let Some(number) = parts.draft.flag {
+        if let Some(name) = parts.draft.names.get_index(number) {
+            put_piece(text, b"; this one's is ")?;
+            put_word(text, name)?;
+        }
+    }
+    Ok(())
+}

@@ -1,0 +1,26 @@
+//! Pieces of a hint.
+
+use rc_report::text::{put_number, put_piece};
+use std::alloc::AllocError;
+
+/// Adds a word in quotes, cut at 40 bytes, with `?` for what isn't printable.
+pub fn put_word(text: &mut Vec<u8>, word: &[u8]) -> Result<(), AllocError> {
+    text.push(b'\'')?;
+    for (i, b) in word.iter().enumerate() {
+        if i == 40 {
+            put_piece(text, b"..")?;
+        }
+        if i < 40 {
+            text.push(if *b < 32 || *b > 126 { b'?' } else { *b })?;
+        }
+    }
+    text.push(b'\'')?;
+    Ok(())
+}
+
+/// Adds `column C: `.
+pub fn put_column(text: &mut Vec<u8>, column: usize) -> Result<(), AllocError> {
+    put_piece(text, b"column ")?;
+    put_number(text, column as u64)?;
+    put_piece(text, b": ")
+}
