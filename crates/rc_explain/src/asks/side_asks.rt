@@ -5,36 +5,15 @@ use crate::state_text::put_kind;
 use rc_lang::program::Program;
 use rc_report::printed::buffer_name;
 use rc_report::text::{put_number, put_piece, put_pieces};
-use rc_rules::asks::{Asks, kind_of};
-use rc_rules::mode::{Inside, Mode, Peeked, Slot};
+use rc_rules::needs::{Asks, kind_of};
+use rc_rules::mode::{Inside, Mode, Slot, ring_of};
 use rc_rules::side::Side;
 use rc_split::part::Part;
 use std::alloc::AllocError;
 
-/// What is known of the ring on a side, where the lock is held.
-fn inside_of(side: &Side) -> Option<Inside> {
-    match side.mode()? {
-        Mode::Locked(inside) => Some(inside),
-        Mode::Unlocked => None,
-    }
-}
-
-fn slot_of(side: &Side) -> Slot {
-    match inside_of(side) {
-        Some(inside) => inside.slot,
-        None => Slot::Closed,
-    }
-}
-
-fn queued_of(side: &Side) -> u32 {
-    inside_of(side).map_or(0, |inside| inside.queued)
-}
-
-fn is_peeked(side: &Side) -> bool {
-    match inside_of(side) {
-        Some(inside) => inside.peeked != Peeked::Unseen,
-        None => false,
-    }
+/// What is known of the ring on a side.
+fn ring_on(side: &Side) -> Inside {
+    ring_of(side.mode().unwrap_or(Mode::Unlocked))
 }
 
 /// The part that is asked for and isn't there, if it is one.
@@ -58,36 +37,9 @@ fn queue_on(program: &Program, thread: usize, list: usize) -> u32 {
     }
 }
 
-/// Whether something reaches the side, and less is there than is asked for.
+/// Whether less is there on the side than is asked for.
 pub fn is_short(side: &Side, thread: usize, zero: bool, asks: Asks) -> bool {
-    let Some(mode) = side.mode() else {
-        return false;
-    };
-    let program = side.program();
-    match asks {
-        Asks::Lock => matches!(mode, Mode::Unlocked),
-        Asks::Part(_) => missing_part(side, thread, zero, asks).is_some(),
-        Asks::Whole(_) => missing_part(side, thread, zero, asks).is_some(),
-        Asks::Items(_) => missing_part(side, thread, zero, asks).is_some(),
-        Asks::Loop(list) => {
-            slot_of(side) != Slot::Closed
-                || queued_of(side) > queue_on(program, thread, list)
-                || missing_part(side, thread, zero, asks).is_some()
-        }
-        Asks::Room => queued_of(side) >= program.entries(),
-        Asks::Closed => slot_of(side) != Slot::Closed,
-        Asks::Vacant => slot_of(side) != Slot::Vacant,
-        Asks::Prepared => !matches!(slot_of(side), Slot::Prepared(_)),
-        Asks::Line(user_data) => match kind_of(program, user_data) {
-            Some(kind) => slot_of(side) != Slot::Prepared(kind),
-            None => true,
-        },
-        Asks::Place(buffer, place) => place >= program.bytes_at(buffer),
-        Asks::Length(buffer, len) => len > program.bytes_at(buffer),
-        Asks::Peeked => !is_peeked(side),
-        Asks::Left => queued_of(side) > program.left(),
-        Asks::Agreeing => true,
-    }
+    !side.is_met(side.program().lists_of(thread), zero, asks)
 }
 
 /// Adds at which stage a slot is.
@@ -105,7 +57,7 @@ pub fn put_slot(text: &mut Vec<u8>, program: &Program, slot: Slot) -> Result<(),
 /// Adds which stage is asked for, and that of the slot.
 fn put_slot_asked(text: &mut Vec<u8>, side: &Side, asked: &[u8]) -> Result<(), AllocError> {
     put_pieces(text, &[b"asks for ", asked, b"; "])?;
-    put_slot(text, side.program(), slot_of(side))
+    put_slot(text, side.program(), ring_on(side).slot)
 }
 
 /// Adds what the line of a token says, and how the entry is.
@@ -117,7 +69,7 @@ fn put_line(text: &mut Vec<u8>, side: &Side, user_data: u64) -> Result<(), Alloc
         put_kind(text, side.program(), kind)?;
     }
     put_piece(text, b"; ")?;
-    put_slot(text, side.program(), slot_of(side))
+    put_slot(text, side.program(), ring_on(side).slot)
 }
 
 /// Adds a part that is asked for, and how many of it are held.
@@ -182,13 +134,13 @@ fn put_loop(
         put_piece(text, b"the loop keeps")?;
         return put_missing(text, side, said(side.program(), thread, list, zero));
     }
-    if slot_of(side) != Slot::Closed {
+    if ring_on(side).slot != Slot::Closed {
         return put_slot_asked(text, side, b"no open entry");
     }
     put_piece(text, b"the loop keeps q:")?;
     put_number(text, u64::from(queue_on(side.program(), thread, list)))?;
     put_piece(text, b"; q is ")?;
-    put_number(text, u64::from(queued_of(side)))
+    put_number(text, u64::from(ring_on(side).queued))
 }
 
 /// Adds what is asked for of a side, and what is there.
@@ -245,7 +197,7 @@ pub fn put_side(
 
 fn put_room(text: &mut Vec<u8>, side: &Side) -> Result<(), AllocError> {
     put_piece(text, b"asks for room in the queue; q is ")?;
-    put_number(text, u64::from(queued_of(side)))?;
+    put_number(text, u64::from(ring_on(side).queued))?;
     put_piece(text, b" of ")?;
     put_number(text, u64::from(side.program().entries()))?;
     put_piece(text, b" entries")
@@ -255,7 +207,7 @@ fn put_left(text: &mut Vec<u8>, side: &Side) -> Result<(), AllocError> {
     put_piece(text, b"asks for at most ")?;
     put_number(text, u64::from(side.program().left()))?;
     put_piece(text, b" queued (left); q is ")?;
-    put_number(text, u64::from(queued_of(side)))
+    put_number(text, u64::from(ring_on(side).queued))
 }
 
 /// Adds how many bytes are asked for, between two words, and how many there are.
