@@ -15,8 +15,7 @@ use Rattle.rc_run.specs.declared.scheduler.State.TheVariants.{Running, Ready, Wa
 use Rattle.rc_run.specs.Lives.{Live, can_move}
 use Rattle.rc_run.specs.Table.{Table, is_stopped}
 
--- How the players stand, by the numbers of their threads; where the search for the next one begins; and how many events
--- there were when items were put into the pool last.
+-- How the players stand; where the search for the next one begins; how many events there were at the last put.
 pub record RunQueue : Type 0 where
   pub states : List State
   pub next : ℕ
@@ -91,8 +90,7 @@ pub record Scheduler : Type 0 where
 abbrev pub is_kept : Scheduler → ℕ → Bool
 is_kept s i = not (is_running (state_at s.queue.states i)) && can_move s.run.run.world i
 
--- Such a player waits only where another is running whose thread can make an event, a request is pending, or the run is to
--- stop.
+-- Such a player waits only where another is running that can make an event, a request is pending, or the run is to stop.
 abbrev pub MovesOn : Scheduler → Type 0
 MovesOn s = (i : ℕ) → is_kept s i ≡ true → AnyRuns s.run.run s.queue ⊎ ((0 < length s.run.run.world.pending) ⊎ (is_stopped s.run ≡ true))
 

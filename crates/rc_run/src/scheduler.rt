@@ -227,8 +227,7 @@ impl<D: Device, L: Ledger + Asked> Scheduler<D, L> {
         run
     }
 
-    /// Makes the next statement of a thread, and counts it; none where the run is to stop. Answers also who runs next, where
-    /// no running player's thread can make an event then.
+    /// Makes the next statement of a thread, and counts it; none where the run is to stop. Answers also who runs next.
     pub fn turn(
         &mut self,
         thread: u32,
