@@ -1,23 +1,19 @@
 //! Blocks of statements.
 
-ghost use Rattle.std.specs.Prelude.{◌+◌, ◌<◌, ◌^◌};
-ghost use Rattle.rc_report.specs.Streams.{FailsToWrite};
+ghost use Rattle.rc_emit.specs.Text.{Grows};
 
 use crate::lines::{
-    write_closing, write_comment, write_event, write_indentation, write_line, write_said,
+    put_closing, put_comment, put_event, put_indentation, put_line, put_source, put_text,
 };
-use crate::operations::write_op;
-use crate::parts::Part::{Compares, Data, Number, Signed, Text, Variable};
-use crate::parts::write_parts;
+use crate::operations::put_op;
 use crate::place::Place;
-use crate::pool::{write_put, write_take};
+use crate::pool::{put_put, put_take};
+use crate::terms::operator;
 use rc_lang::lines::{Comparison, Stmt, Test};
-use rc_report::engine_fault::EngineFault;
-use rc_report::streams::Sink;
-use rc_report::writing::write_piece;
+use std::alloc::AllocError;
 
-/// How many blocks of C are open behind a line, of so many before it.
-pub fn depth_behind(stmt: Stmt, depth: usize) -> usize {
+/// How many blocks of C are open after a line, of so many before it.
+pub fn depth_after(stmt: Stmt, depth: usize) -> usize {
     match stmt {
         Stmt::Lock
         | Stmt::If(_)
@@ -32,7 +28,7 @@ pub fn depth_behind(stmt: Stmt, depth: usize) -> usize {
     }
 }
 
-/// How many blocks of C are open where a line stands itself, of so many before it.
+/// How many blocks of C are open around a line itself, of so many before it.
 pub fn depth_of(stmt: Stmt, depth: usize) -> usize {
     match stmt {
         Stmt::EndLock(_) | Stmt::Else(_) | Stmt::EndIf(_) | Stmt::EndArm(_) | Stmt::EndLoop(_, _) =>
@@ -41,222 +37,193 @@ pub fn depth_of(stmt: Stmt, depth: usize) -> usize {
     }
 }
 
-/// Writes a statement.
-pub fn write_stmt<W: Sink>(writer: &mut W, place: Place<'_>, stmt: Stmt) -> Result<(), EngineFault>
-    requires { W.failure_count writer.old + 1 < 2 ^ 64 }
-    ensures { FailsToWrite (W.failure_count writer.old) (W.failure_count writer.new) result }
+/// Adds a statement.
+pub fn put_stmt(text: &mut Vec<u8>, place: Place<'_>, stmt: Stmt) -> Result<(), AllocError>
+    ensures { Grows text.old text.new result }
 {
     match stmt {
-        Stmt::Do(op) => {
-            write_said(writer, place)?;
-            write_op(writer, place, op)
-        }
-        Stmt::Put(list) => write_put(writer, place, list),
-        Stmt::Lock => write_lock(writer, place),
-        Stmt::EndLock(_) => write_end_lock(writer, place),
-        Stmt::If(test) => write_if(writer, place, test),
-        Stmt::Else(_) => write_else(writer, place),
-        Stmt::EndIf(_) | Stmt::EndArm(_) | Stmt::EndLoop(_, _) => write_closing(writer, place),
-        Stmt::Peek(_) => write_peek(writer, place),
-        Stmt::Case(peek, data) => write_case(writer, place, peek, data),
-        Stmt::Other(peek) => write_other(writer, place, peek),
-        Stmt::Nothing(peek) => write_nothing(writer, place, peek),
-        Stmt::EndPeek(_) => write_said(writer, place),
-        Stmt::Loop(_) => write_loop(writer, place),
-        Stmt::Break(_, releases, _) => write_break(writer, place, releases),
+        Stmt::Do(op) => put_op(text, place, op),
+        Stmt::Put(list) => put_put(text, place, list),
+        Stmt::Lock => put_lock(text, place),
+        Stmt::EndLock(_) => put_end_lock(text, place),
+        Stmt::If(test) => put_if(text, place, test),
+        Stmt::Else(_) => put_else(text, place),
+        Stmt::EndIf(_) | Stmt::EndArm(_) | Stmt::EndLoop(_, _) => put_closing(text, place),
+        Stmt::Peek(x) => put_peek(text, place, x),
+        Stmt::Case(peek, data) => put_case(text, place, peek, data),
+        Stmt::Other(peek) => put_other(text, place, peek),
+        Stmt::Nothing(peek) => put_nothing(text, place, peek),
+        Stmt::EndPeek(_) => put_source(text, place),
+        Stmt::Loop(_) => put_loop(text, place),
+        Stmt::Break(_, releases, _) => put_break(text, place, releases),
     }
 }
 
-/// Writes that the lock is taken.
-fn write_lock<W: Sink>(writer: &mut W, place: Place<'_>) -> Result<(), EngineFault>
-    requires { W.failure_count writer.old + 1 < 2 ^ 64 }
-    ensures { FailsToWrite (W.failure_count writer.old) (W.failure_count writer.new) result }
+/// Adds that the lock is taken.
+fn put_lock(text: &mut Vec<u8>, place: Place<'_>) -> Result<(), AllocError>
+    ensures { Grows text.old text.new result }
 {
-    let number = Number(u64::from(place.number));
-    write_said(writer, place)?;
-    write_line(
-        writer,
+    let number = place.decimal(u64::from(place.number))?;
+    put_source(text, place)?;
+    put_line(
+        text,
         place,
-        &[
-            Text(b"MUST("),
-            number,
-            Text(b", pthread_mutex_lock(&ring_lock));"),
-        ],
+        &[b"MUST(", &number, b", pthread_mutex_lock(&ring_lock));"],
     )?;
-    write_event(writer, place, &[Text(b"lock\"")])?;
-    write_line(writer, place, &[Text(b"SEE_COMPLETIONS();")])?;
-    write_line(writer, place, &[Text(b"{")])
+    put_event(text, place, &[b"lock\""])?;
+    put_line(text, place, &[b"SEE_COMPLETIONS();"])?;
+    put_line(text, place, &[b"{"])
 }
 
-/// Writes that the lock is released.
-fn write_unlock<W: Sink>(writer: &mut W, place: Place<'_>) -> Result<(), EngineFault>
-    requires { W.failure_count writer.old + 1 < 2 ^ 64 }
-    ensures { FailsToWrite (W.failure_count writer.old) (W.failure_count writer.new) result }
+/// Adds that the lock is released.
+fn put_unlock(text: &mut Vec<u8>, place: Place<'_>) -> Result<(), AllocError>
+    ensures { Grows text.old text.new result }
 {
-    let number = Number(u64::from(place.number));
-    write_line(
-        writer,
+    let number = place.decimal(u64::from(place.number))?;
+    put_line(
+        text,
         place,
-        &[
-            Text(b"MUST("),
-            number,
-            Text(b", pthread_mutex_unlock(&ring_lock));"),
-        ],
+        &[b"MUST(", &number, b", pthread_mutex_unlock(&ring_lock));"],
     )
 }
 
-/// Writes the end of a lock.
-fn write_end_lock<W: Sink>(writer: &mut W, place: Place<'_>) -> Result<(), EngineFault>
-    requires { W.failure_count writer.old + 1 < 2 ^ 64 }
-    ensures { FailsToWrite (W.failure_count writer.old) (W.failure_count writer.new) result }
+/// Adds the end of a lock.
+fn put_end_lock(text: &mut Vec<u8>, place: Place<'_>) -> Result<(), AllocError>
+    ensures { Grows text.old text.new result }
 {
-    write_closing(writer, place)?;
-    write_event(writer, place, &[Text(b"release\"")])?;
-    write_unlock(writer, place)
+    put_closing(text, place)?;
+    put_event(text, place, &[b"release\""])?;
+    put_unlock(text, place)
 }
 
-/// Writes what an if asks.
-fn write_test<W: Sink>(writer: &mut W, place: Place<'_>, test: Test) -> Result<(), EngineFault>
-    requires { W.failure_count writer.old + 1 < 2 ^ 64 }
-    ensures { FailsToWrite (W.failure_count writer.old) (W.failure_count writer.new) result }
+/// Adds what an if asks.
+fn put_test(text: &mut Vec<u8>, place: Place<'_>, test: Test) -> Result<(), AllocError>
+    ensures { Grows text.old text.new result }
 {
     match test {
-        Test::Compare(_, comparison, number) => {
-            write_comparison(writer, place, comparison, number)
-        }
-        Test::ReadyZero => write_line(
-            writer,
-            place,
-            &[Text(b"yes = io_uring_sq_ready(&ring) == 0;")],
-        ),
-        Test::SpaceAtLeast(count) => write_space(writer, place, count),
-        Test::Take(list) => write_take(writer, place, list),
+        Test::Compare(x, comparison, number) => put_comparison(text, place, x, comparison, number),
+        Test::ReadyZero => put_line(text, place, &[b"yes = io_uring_sq_ready(&ring) == 0;"]),
+        Test::SpaceAtLeast(count) => put_space(text, place, count),
+        Test::Take(list) => put_take(text, place, list),
     }
 }
 
-fn write_comparison<W: Sink>(
-    writer: &mut W,
+fn put_comparison(
+    text: &mut Vec<u8>,
     place: Place<'_>,
+    x: usize,
     comparison: Comparison,
     number: i64,
-) -> Result<(), EngineFault>
-    requires { W.failure_count writer.old + 1 < 2 ^ 64 }
-    ensures { FailsToWrite (W.failure_count writer.old) (W.failure_count writer.new) result }
+) -> Result<(), AllocError>
+    ensures { Grows text.old text.new result }
 {
-    let x = Variable(place.word(1));
-    write_line(
-        writer,
+    let x = place.variable(x)?;
+    let number = place.signed(number)?;
+    put_line(
+        text,
         place,
         &[
-            Text(b"yes = "),
-            x,
-            Text(b" "),
-            Compares(comparison),
-            Text(b" "),
-            Signed(number),
-            Text(b";"),
+            b"yes = ",
+            &x,
+            b" ",
+            operator(comparison),
+            b" ",
+            &number,
+            b";",
         ],
     )
 }
 
 // As a comparison of unsigned numbers a compiler may find it to be always true.
-fn write_space<W: Sink>(writer: &mut W, place: Place<'_>, count: u32) -> Result<(), EngineFault>
-    requires { W.failure_count writer.old + 1 < 2 ^ 64 }
-    ensures { FailsToWrite (W.failure_count writer.old) (W.failure_count writer.new) result }
+fn put_space(text: &mut Vec<u8>, place: Place<'_>, count: u32) -> Result<(), AllocError>
+    ensures { Grows text.old text.new result }
 {
-    let count = Number(u64::from(count));
-    write_line(
-        writer,
+    let count = place.decimal(u64::from(count))?;
+    put_line(
+        text,
         place,
-        &[Text(b"answer = (int)io_uring_sq_space_left(&ring);")],
+        &[b"answer = (int)io_uring_sq_space_left(&ring);"],
     )?;
-    write_line(
-        writer,
-        place,
-        &[Text(b"yes = answer >= "), count, Text(b";")],
-    )
+    put_line(text, place, &[b"yes = answer >= ", &count, b";"])
 }
 
-/// Writes the beginning of an if.
-fn write_if<W: Sink>(writer: &mut W, place: Place<'_>, test: Test) -> Result<(), EngineFault>
-    requires { W.failure_count writer.old + 1 < 2 ^ 64 }
-    ensures { FailsToWrite (W.failure_count writer.old) (W.failure_count writer.new) result }
+/// Adds the beginning of an if.
+fn put_if(text: &mut Vec<u8>, place: Place<'_>, test: Test) -> Result<(), AllocError>
+    ensures { Grows text.old text.new result }
 {
-    write_said(writer, place)?;
-    write_test(writer, place, test)?;
-    write_event(writer, place, &[Text(b"if %s\", yes ? \"yes\" : \"no\"")])?;
-    write_line(writer, place, &[Text(b"if (yes) {")])
+    put_source(text, place)?;
+    put_test(text, place, test)?;
+    put_event(text, place, &[b"if %s\", yes ? \"yes\" : \"no\""])?;
+    put_line(text, place, &[b"if (yes) {"])
 }
 
-/// Writes the beginning of a second branch.
-fn write_else<W: Sink>(writer: &mut W, place: Place<'_>) -> Result<(), EngineFault>
-    requires { W.failure_count writer.old + 1 < 2 ^ 64 }
-    ensures { FailsToWrite (W.failure_count writer.old) (W.failure_count writer.new) result }
+/// Adds the beginning of a second branch.
+fn put_else(text: &mut Vec<u8>, place: Place<'_>) -> Result<(), AllocError>
+    ensures { Grows text.old text.new result }
 {
-    write_indentation(writer, place.depth)?;
-    write_piece(writer, b"} else { ")?;
-    write_comment(writer, place)
+    put_indentation(text, place.depth)?;
+    put_text(text, &[b"} else { "])?;
+    put_comment(text, place)
 }
 
-/// Writes what a peek does that finds a completion.
-fn write_found<W: Sink>(writer: &mut W, place: Place<'_>) -> Result<(), EngineFault>
-    requires { W.failure_count writer.old + 1 < 2 ^ 64 }
-    ensures { FailsToWrite (W.failure_count writer.old) (W.failure_count writer.new) result }
+/// Adds a peek before its arms: its answer, and what is logged of it.
+fn put_peek(text: &mut Vec<u8>, place: Place<'_>, x: usize) -> Result<(), AllocError>
+    ensures { Grows text.old text.new result }
 {
-    let x = Variable(place.word(1));
-    write_line(writer, place, &[x, Text(b" = cqe->res;")])?;
-    write_line(writer, place, &[Text(b"SEE_COMPLETIONS();")])?;
-    write_event(
-        writer,
-        place,
+    let x = place.variable(x)?;
+    put_source(text, place)?;
+    put_line(text, place, &[b"answer = io_uring_peek_cqe(&ring, &cqe);"])?;
+    put_found(text, place, &x)?;
+    put_none_found(text, place, &x)?;
+    put_failed_peek(text, place)
+}
+
+/// Adds what a peek does that finds a completion.
+fn put_found(text: &mut Vec<u8>, place: Place<'_>, x: &[u8]) -> Result<(), AllocError>
+    ensures { Grows text.old text.new result }
+{
+    let deeper = place.deeper();
+    put_line(text, place, &[b"if (answer == 0) {"])?;
+    put_line(text, deeper, &[x, b" = cqe->res;"])?;
+    put_line(text, deeper, &[b"SEE_COMPLETIONS();"])?;
+    put_event(
+        text,
+        deeper,
         &[
-            Text(b"peek_cqe %\" PRIu64 \" %\" PRId64, (uint64_t)cqe->user_data, "),
+            b"peek_cqe %\" PRIu64 \" %\" PRId64, (uint64_t)cqe->user_data, ",
             x,
         ],
     )
 }
 
-/// Writes what a peek does that finds none.
-fn write_none_found<W: Sink>(writer: &mut W, place: Place<'_>) -> Result<(), EngineFault>
-    requires { W.failure_count writer.old + 1 < 2 ^ 64 }
-    ensures { FailsToWrite (W.failure_count writer.old) (W.failure_count writer.new) result }
+/// Adds what a peek does that finds none.
+fn put_none_found(text: &mut Vec<u8>, place: Place<'_>, x: &[u8]) -> Result<(), AllocError>
+    ensures { Grows text.old text.new result }
 {
-    let x = Variable(place.word(1));
-    write_line(writer, place, &[Text(b"cqe = NULL;")])?;
-    write_line(writer, place, &[x, Text(b" = -EAGAIN;")])?;
-    write_event(writer, place, &[Text(b"peek_cqe none\"")])?;
-    write_line(writer, place, &[Text(b"SEE_COMPLETIONS();")])
-}
-
-/// Writes a peek before its arms: its answer, and what is logged of it.
-fn write_peek<W: Sink>(writer: &mut W, place: Place<'_>) -> Result<(), EngineFault>
-    requires { W.failure_count writer.old + 1 < 2 ^ 64 }
-    ensures { FailsToWrite (W.failure_count writer.old) (W.failure_count writer.new) result }
-{
-    let number = Number(u64::from(place.number));
     let deeper = place.deeper();
-    write_said(writer, place)?;
-    write_line(
-        writer,
-        place,
-        &[Text(b"answer = io_uring_peek_cqe(&ring, &cqe);")],
-    )?;
-    write_line(writer, place, &[Text(b"if (answer == 0) {")])?;
-    write_found(writer, deeper)?;
-    write_line(writer, place, &[Text(b"} else if (answer == -EAGAIN) {")])?;
-    write_none_found(writer, deeper)?;
-    write_line(writer, place, &[Text(b"} else {")])?;
-    let words = [
-        Text(b"stop("),
-        number,
-        Text(b", \"io_uring_peek_cqe\", answer);"),
-    ];
-    write_line(writer, deeper, &words)?;
-    write_line(writer, place, &[Text(b"}")])
+    put_line(text, place, &[b"} else if (answer == -EAGAIN) {"])?;
+    put_line(text, deeper, &[b"cqe = NULL;"])?;
+    put_line(text, deeper, &[x, b" = -EAGAIN;"])?;
+    put_event(text, deeper, &[b"peek_cqe none\""])?;
+    put_line(text, deeper, &[b"SEE_COMPLETIONS();"])
 }
 
-/// What stands before an arm's test: in the first arm of a peek nothing.
-fn before_test(place: Place<'_>, peek: usize) -> &'static [u8] {
+/// Adds that the program stops where a peek answers anything else.
+fn put_failed_peek(text: &mut Vec<u8>, place: Place<'_>) -> Result<(), AllocError>
+    ensures { Grows text.old text.new result }
+{
+    let number = place.decimal(u64::from(place.number))?;
+    put_line(text, place, &[b"} else {"])?;
+    put_line(
+        text,
+        place.deeper(),
+        &[b"stop(", &number, b", \"io_uring_peek_cqe\", answer);"],
+    )?;
+    put_line(text, place, &[b"}"])
+}
+
+/// How an arm's test begins: the first arm of a peek has no arm before it.
+fn test_beginning(place: Place<'_>, peek: usize) -> &'static [u8] {
     if place.at <= peek.saturating_add(1) {
         b"if ("
     } else {
@@ -264,95 +231,80 @@ fn before_test(place: Place<'_>, peek: usize) -> &'static [u8] {
     }
 }
 
-/// Writes the beginning of the arm of a user data.
-fn write_case<W: Sink>(
-    writer: &mut W,
-    place: Place<'_>,
-    peek: usize,
-    data: u64,
-) -> Result<(), EngineFault>
-    requires { W.failure_count writer.old + 1 < 2 ^ 64 }
-    ensures { FailsToWrite (W.failure_count writer.old) (W.failure_count writer.new) result }
+/// Adds the beginning of the arm of a user data.
+fn put_case(text: &mut Vec<u8>, place: Place<'_>, peek: usize, data: u64) -> Result<(), AllocError>
+    ensures { Grows text.old text.new result }
 {
-    write_said(writer, place)?;
-    write_line(
-        writer,
+    let beginning = test_beginning(place, peek);
+    let data = place.data(data)?;
+    put_source(text, place)?;
+    put_line(
+        text,
         place,
         &[
-            Text(before_test(place, peek)),
-            Text(b"cqe != NULL && cqe->user_data == "),
-            Data(data),
-            Text(b") {"),
+            beginning,
+            b"cqe != NULL && cqe->user_data == ",
+            &data,
+            b") {",
         ],
     )
 }
 
-/// Writes the tests that no arm behind this one is that of the completion.
-fn write_cases_behind<W: Sink>(
-    writer: &mut W,
-    place: Place<'_>,
-    peek: usize,
-) -> Result<(), EngineFault>
-    requires { W.failure_count writer.old + 1 < 2 ^ 64 }
-    ensures { FailsToWrite (W.failure_count writer.old) (W.failure_count writer.new) result }
+/// Adds the tests that no later arm of the peek is that of the completion.
+fn put_later_cases(text: &mut Vec<u8>, place: Place<'_>, peek: usize) -> Result<(), AllocError>
+    ensures { Grows text.old text.new result }
 {
-    for line in place.lines_behind() {
+    for line in place.lines_from_here() {
         if let Stmt::Case(of, data) = line.stmt {
             if of == peek {
-                write_parts(writer, &[Text(b" && cqe->user_data != "), Data(data)])?;
+                let data = place.data(data)?;
+                put_text(text, &[b" && cqe->user_data != ", &data])?;
             }
         }
     }
     Ok(())
 }
 
-/// Writes the beginning of the arm of any other user data. Those of the arms before it were tested there.
-fn write_other<W: Sink>(writer: &mut W, place: Place<'_>, peek: usize) -> Result<(), EngineFault>
-    requires { W.failure_count writer.old + 1 < 2 ^ 64 }
-    ensures { FailsToWrite (W.failure_count writer.old) (W.failure_count writer.new) result }
+/// Adds the beginning of the arm of any other user data. Those of the arms before it were tested there.
+fn put_other(text: &mut Vec<u8>, place: Place<'_>, peek: usize) -> Result<(), AllocError>
+    ensures { Grows text.old text.new result }
 {
-    write_said(writer, place)?;
-    write_indentation(writer, place.depth)?;
-    write_parts(
-        writer,
-        &[Text(before_test(place, peek)), Text(b"cqe != NULL")],
-    )?;
-    write_cases_behind(writer, place, peek)?;
-    write_piece(writer, b") {\n")
+    put_source(text, place)?;
+    put_indentation(text, place.depth)?;
+    put_text(text, &[test_beginning(place, peek), b"cqe != NULL"])?;
+    put_later_cases(text, place, peek)?;
+    put_text(text, &[b") {\n"])
 }
 
-/// Writes the beginning of the arm of no completion.
-fn write_nothing<W: Sink>(writer: &mut W, place: Place<'_>, peek: usize) -> Result<(), EngineFault>
-    requires { W.failure_count writer.old + 1 < 2 ^ 64 }
-    ensures { FailsToWrite (W.failure_count writer.old) (W.failure_count writer.new) result }
+/// Adds the beginning of the arm of no completion.
+fn put_nothing(text: &mut Vec<u8>, place: Place<'_>, peek: usize) -> Result<(), AllocError>
+    ensures { Grows text.old text.new result }
 {
-    write_said(writer, place)?;
-    write_line(
-        writer,
+    put_source(text, place)?;
+    put_line(
+        text,
         place,
-        &[Text(before_test(place, peek)), Text(b"cqe == NULL) {")],
+        &[test_beginning(place, peek), b"cqe == NULL) {"],
     )
 }
 
-/// Writes the beginning of a loop.
-fn write_loop<W: Sink>(writer: &mut W, place: Place<'_>) -> Result<(), EngineFault>
-    requires { W.failure_count writer.old + 1 < 2 ^ 64 }
-    ensures { FailsToWrite (W.failure_count writer.old) (W.failure_count writer.new) result }
+/// Adds the beginning of a loop.
+fn put_loop(text: &mut Vec<u8>, place: Place<'_>) -> Result<(), AllocError>
+    ensures { Grows text.old text.new result }
 {
-    write_said(writer, place)?;
-    write_line(writer, place, &[Text(b"for (;;) {")])?;
-    write_event(writer, place.deeper(), &[Text(b"loop\"")])
+    put_source(text, place)?;
+    put_line(text, place, &[b"for (;;) {"])?;
+    put_event(text, place.deeper(), &[b"loop\""])
 }
 
-/// Writes a break. The blocks that it leaves are none from which C would break.
-fn write_break<W: Sink>(writer: &mut W, place: Place<'_>, releases: bool) -> Result<(), EngineFault>
-    requires { W.failure_count writer.old + 1 < 2 ^ 64 }
-    ensures { FailsToWrite (W.failure_count writer.old) (W.failure_count writer.new) result }
+/// Adds a break. The blocks that it leaves are none from which C would break.
+fn put_break(text: &mut Vec<u8>, place: Place<'_>, releases: bool) -> Result<(), AllocError>
+    ensures { Grows text.old text.new result }
 {
-    write_said(writer, place)?;
-    write_event(writer, place, &[Text(b"break\"")])?;
+    put_source(text, place)?;
+    put_event(text, place, &[b"break\""])?;
     if releases {
-        write_unlock(writer, place)?;
+        put_unlock(text, place)?;
     }
-    write_line(writer, place, &[Text(b"break;")])
+    put_line(text, place, &[b"break;"])
 }

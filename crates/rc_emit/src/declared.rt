@@ -1,154 +1,139 @@
 //! What a program declares.
 
-ghost use Rattle.std.specs.Prelude.{◌+◌, ◌<◌, ◌^◌};
-ghost use Rattle.rc_report.specs.Streams.{FailsToWrite};
+ghost use Rattle.rc_emit.specs.Text.{Grows};
 
-use crate::parts::Part::{Data, Number, Text};
-use crate::parts::write_parts;
+use crate::lines::put_text;
+use crate::terms::{data, number};
 use rc_lang::program::{Program, TokenKind};
-use rc_report::engine_fault::EngineFault;
 use rc_report::printed::buffer_name;
-use rc_report::streams::Sink;
-use rc_report::writing::write_piece;
+use std::alloc::AllocError;
 
-/// Writes the sizes of the rings.
-pub fn write_sizes<W: Sink>(writer: &mut W, program: &Program) -> Result<(), EngineFault>
-    requires { W.failure_count writer.old + 1 < 2 ^ 64 }
-    ensures { FailsToWrite (W.failure_count writer.old) (W.failure_count writer.new) result }
+const FILES: &str = "
+/* The files, and what is made where the command line names none. */
+";
+
+const NAMED_FILES: &str = "\
+static const struct named_file {
+    int *opened;
+    int number;
+    long length;
+} files[] = {
+";
+
+const BUFFERS: &str = "
+/* The buffers, each from the beginning of a page on. */
+";
+
+const POOL: &str = "
+/* What is in the pool: shares of buffers, tokens, credits. */
+";
+
+const FILLINGS: &str = "
+#ifdef RINGCHECK_LOG
+/* The buffers that reads fill, by their user data. */
+static const struct filling {
+    uint64_t data;
+    const unsigned char *bytes;
+} fillings[] = {
+";
+
+/// Adds what a program declares.
+pub fn put_declared(text: &mut Vec<u8>, program: &Program) -> Result<(), AllocError>
+    ensures { Grows text.old text.new result }
 {
-    let entries = Number(u64::from(program.entries()));
-    let completion_entries = Number(u64::from(program.completion_entries()));
-    write_parts(
-        writer,
-        &[
-            Text(b"\n/* How many entries the rings have. */\nenum { ENTRIES = "),
-            entries,
-            Text(b", COMPLETION_ENTRIES = "),
-            completion_entries,
-            Text(b" };\n"),
-        ],
-    )
+    put_sizes(text, program)?;
+    put_files(text, program)?;
+    put_buffers(text, program)?;
+    put_pool(text, program)?;
+    put_fillings(text, program)
 }
 
-/// Writes the files, and the list of them.
-pub fn write_files<W: Sink>(writer: &mut W, program: &Program) -> Result<(), EngineFault>
-    requires { W.failure_count writer.old + 1 < 2 ^ 64 }
-    ensures { FailsToWrite (W.failure_count writer.old) (W.failure_count writer.new) result }
+/// Adds the sizes of the rings.
+fn put_sizes(text: &mut Vec<u8>, program: &Program) -> Result<(), AllocError>
+    ensures { Grows text.old text.new result }
 {
-    write_piece(
-        writer,
-        b"\n/* The files, and what is made where the command line names none. */\n",
-    )?;
+    let alloc = *text.allocator();
+    let entries = number(alloc, u64::from(program.entries()))?;
+    let completions = number(alloc, u64::from(program.completion_entries()))?;
+    put_text(text, &[b"\n/* How many entries the rings have. */\n"])?;
+    put_text(text, &[b"enum { ENTRIES = ", &entries])?;
+    put_text(text, &[b", COMPLETION_ENTRIES = ", &completions, b" };\n"])
+}
+
+/// Adds the files, and the list of them.
+fn put_files(text: &mut Vec<u8>, program: &Program) -> Result<(), AllocError>
+    ensures { Grows text.old text.new result }
+{
+    let alloc = *text.allocator();
+    put_text(text, &[FILES.as_bytes()])?;
     for file in program.files() {
-        let number = Number(u64::from(file.number));
-        write_parts(writer, &[Text(b"static int file_"), number, Text(b";\n")])?;
+        let name = number(alloc, u64::from(file.number))?;
+        put_text(text, &[b"static int file_", &name, b";\n"])?;
     }
-    write_piece(
-        writer,
-        b"static const struct named_file {\n    int *opened;\n    int number;\n    long length;\n} files[] = {\n",
-    )?;
+    put_text(text, &[NAMED_FILES.as_bytes()])?;
     for file in program.files() {
-        let number = Number(u64::from(file.number));
-        let len = Number(u64::from(file.len));
-        write_parts(
-            writer,
-            &[
-                Text(b"    {&file_"),
-                number,
-                Text(b", "),
-                number,
-                Text(b", "),
-                len,
-                Text(b"},\n"),
-            ],
+        let name = number(alloc, u64::from(file.number))?;
+        let len = number(alloc, u64::from(file.len))?;
+        put_text(
+            text,
+            &[b"    {&file_", &name, b", ", &name, b", ", &len, b"},\n"],
         )?;
     }
-    write_piece(writer, b"    {NULL, 0, 0},\n};\n")
+    put_text(text, &[b"    {NULL, 0, 0},\n};\n"])
 }
 
-/// Writes the buffers.
-pub fn write_buffers<W: Sink>(writer: &mut W, program: &Program) -> Result<(), EngineFault>
-    requires { W.failure_count writer.old + 1 < 2 ^ 64 }
-    ensures { FailsToWrite (W.failure_count writer.old) (W.failure_count writer.new) result }
+/// Adds the buffers.
+fn put_buffers(text: &mut Vec<u8>, program: &Program) -> Result<(), AllocError>
+    ensures { Grows text.old text.new result }
 {
-    write_piece(
-        writer,
-        b"\n/* The buffers, each from the beginning of a page on. */\n",
-    )?;
+    let alloc = *text.allocator();
+    put_text(text, &[BUFFERS.as_bytes()])?;
     for buffer in program.buffers() {
-        let bytes = Number(u64::from(buffer.bytes));
-        write_parts(
-            writer,
-            &[
-                Text(b"_Alignas(4096) unsigned char buffer_"),
-                Text(&buffer.name),
-                Text(b"["),
-                bytes,
-                Text(b"];\n"),
-            ],
+        let bytes = number(alloc, u64::from(buffer.bytes))?;
+        put_text(
+            text,
+            &[b"_Alignas(4096) unsigned char buffer_", &buffer.name],
         )?;
+        put_text(text, &[b"[", &bytes, b"];\n"])?;
     }
     Ok(())
 }
 
-/// Writes the counters of the pool, in a program that may have one.
-pub fn write_pool<W: Sink>(writer: &mut W, program: &Program) -> Result<(), EngineFault>
-    requires { W.failure_count writer.old + 1 < 2 ^ 64 }
-    ensures { FailsToWrite (W.failure_count writer.old) (W.failure_count writer.new) result }
+/// Adds the counters of the pool, in a program that may have one.
+fn put_pool(text: &mut Vec<u8>, program: &Program) -> Result<(), AllocError>
+    ensures { Grows text.old text.new result }
 {
     if program.version() < 3 {
         return Ok(());
     }
-    write_piece(
-        writer,
-        b"\n/* What is in the pool: shares of buffers, tokens, credits. */\n",
-    )?;
+    let alloc = *text.allocator();
+    put_text(text, &[POOL.as_bytes()])?;
     for buffer in program.buffers() {
-        write_parts(
-            writer,
-            &[
-                Text(b"unsigned pool_buffer_"),
-                Text(&buffer.name),
-                Text(b";\n"),
-            ],
-        )?;
+        put_text(text, &[b"unsigned pool_buffer_", &buffer.name, b";\n"])?;
     }
     for token in program.tokens() {
-        write_parts(
-            writer,
-            &[
-                Text(b"unsigned pool_token_"),
-                Number(token.user_data),
-                Text(b";\n"),
-            ],
-        )?;
+        let token = number(alloc, token.user_data)?;
+        put_text(text, &[b"unsigned pool_token_", &token, b";\n"])?;
     }
-    write_piece(writer, b"unsigned pool_credits;\n")
+    put_text(text, &[b"unsigned pool_credits;\n"])
 }
 
-/// Writes which buffer the read of a token fills, for what is logged.
-pub fn write_fillings<W: Sink>(writer: &mut W, program: &Program) -> Result<(), EngineFault>
-    requires { W.failure_count writer.old + 1 < 2 ^ 64 }
-    ensures { FailsToWrite (W.failure_count writer.old) (W.failure_count writer.new) result }
+/// Adds which buffer the read of a token fills, for what is logged.
+fn put_fillings(text: &mut Vec<u8>, program: &Program) -> Result<(), AllocError>
+    ensures { Grows text.old text.new result }
 {
-    write_piece(
-        writer,
-        b"\n#ifdef RINGCHECK_LOG\n/* The buffers that reads fill, by their user data. */\nstatic const struct filling {\n    uint64_t data;\n    const unsigned char *bytes;\n} fillings[] = {\n",
-    )?;
+    put_text(text, &[FILLINGS.as_bytes()])?;
     for token in program.tokens() {
         if let TokenKind::Read(buffer) = token.kind {
-            let name = Text(buffer_name(program, buffer));
-            write_parts(
-                writer,
-                &[
-                    Text(b"    {"),
-                    Data(token.user_data),
-                    Text(b", buffer_"),
-                    name,
-                    Text(b"},\n"),
-                ],
-            )?;
+            put_filling(text, token.user_data, buffer_name(program, buffer))?;
         }
     }
-    write_piece(writer, b"    {0, NULL},\n};\n")
+    put_text(text, &[b"    {0, NULL},\n};\n"])
+}
+
+fn put_filling(text: &mut Vec<u8>, user_data: u64, buffer: &[u8]) -> Result<(), AllocError>
+    ensures { Grows text.old text.new result }
+{
+    let user_data = data(*text.allocator(), user_data)?;
+    put_text(text, &[b"    {", &user_data, b", buffer_", buffer, b"},\n"])
 }

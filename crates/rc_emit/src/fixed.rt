@@ -1,4 +1,4 @@
-//! What stands in each of the C programs.
+//! What each of the C programs has.
 
 /// Its beginning: what it includes, and what its statements are made of.
 pub const BEGINNING: &str = "\
@@ -118,7 +118,7 @@ __attribute__((unused)) static void log_completions(void)
 #endif
 ";
 
-/// How the function of a thread begins, behind its name, and how it ends.
+/// How the function of a thread begins, after its name, and how it ends.
 pub const THREAD_BEGINNING: &str = "(void *nothing)
 {
     struct io_uring_sqe *sqe = NULL;
@@ -133,6 +133,12 @@ pub const THREAD_BODY: &str = "
 
 pub const THREAD_END: &str = "    return NULL;
 }
+";
+
+/// How the list of the threads begins.
+pub const THREADS: &str = "
+/* The threads, in text order. */
+static void *(*const bodies[])(void *) = {
 ";
 
 /// Its end: what opens the files and the ring, and starts the threads.

@@ -1,5 +1,5 @@
 //! Accepted programs as C: a complete program over liburing that does on a real io_uring what the text says.
-#![tactic(auto)]
+#![tactic(auto, using(crate::proofs::Texts::extends_both, crate::proofs::Texts::extends_self))]
 
 mod blocks;
 mod complete;
@@ -7,10 +7,10 @@ mod declared;
 mod fixed;
 mod lines;
 mod operations;
-mod parts;
 mod place;
 mod pool;
+mod terms;
 mod threads;
-mod words;
+mod variables;
 
-pub use complete::c_text;
+pub use complete::{c_text, put_c};

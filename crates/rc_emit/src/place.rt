@@ -1,72 +1,120 @@
-//! Where a statement of a thread stands.
+//! Where a statement of a thread is.
 
-use crate::words::{line_of, word_of};
-use rc_lang::lines::Line;
+use crate::terms::{data, number, signed};
+use crate::variables::variable_in;
+use rc_lang::lines::{Line, Operand};
 use rc_lang::program::{Program, Thread};
+use rc_report::printed::buffer_name;
+use rc_report::text::{put_number, put_piece};
+use std::alloc::{AllocError, Global};
 
-/// Where a statement stands, and how deep its C does.
+/// Where a statement is in the text, and how deep its C is.
 #[derive(Clone, Copy)]
 pub struct Place<'a> {
+    pub alloc: Global,
     pub program: &'a Program,
     pub thread: &'a Thread,
     /// Its line's place among those of its thread.
     pub at: usize,
     /// The number of its line.
     pub number: u32,
-    /// The words of that line, without its comment.
-    pub line: &'a [u8],
+    /// Its line of the text.
+    pub source: &'a [u8],
     /// How many blocks of C are open around it.
     pub depth: usize,
 }
 
 impl<'a> Place<'a> {
-    /// Where a line of a thread stands in this text.
-    pub fn new(program: &'a Program, text: &'a [u8], thread: &'a Thread) -> Place<'a> {
+    /// The header of a thread, which is this line of the text.
+    pub fn new(
+        alloc: Global,
+        program: &'a Program,
+        thread: &'a Thread,
+        source: &'a [u8],
+    ) -> Place<'a> {
         Place {
+            alloc,
             program,
             thread,
             at: 0,
             number: thread.line,
-            line: line_of(text, thread.line),
+            source,
             depth: 1,
         }
     }
 
-    /// The same thread at another of its lines.
-    pub fn moved(self, text: &'a [u8], at: usize, line: Line, depth: usize) -> Place<'a> {
+    /// The same thread at another of its lines, which is this line of the text.
+    pub fn moved(self, at: usize, line: Line, source: &'a [u8], depth: usize) -> Place<'a> {
         Place {
-            program: self.program,
-            thread: self.thread,
             at,
             number: line.number,
-            line: line_of(text, line.number),
+            source,
             depth,
+            ..self
         }
     }
 
     /// The same place one block of C deeper.
     pub fn deeper(self) -> Place<'a> {
         Place {
-            program: self.program,
-            thread: self.thread,
-            at: self.at,
-            number: self.number,
-            line: self.line,
             depth: self.depth.saturating_add(1),
+            ..self
         }
     }
 
     /// The lines of the thread from this one on.
-    pub fn lines_behind(self) -> &'a [Line] {
-        let lines = self.thread.lines.as_slice();
-        match lines.get(self.at..) {
+    pub fn lines_from_here(self) -> &'a [Line] {
+        match self.thread.lines.get(self.at..) {
             Some(lines) => lines,
             None => &[],
         }
     }
 
-    /// The word with this number, from 0.
-    pub fn word(self, index: usize) -> &'a [u8] {
-        word_of(self.line, index)
+    /// A buffer, as C has it.
+    pub fn buffer(self, buffer: usize) -> Result<Vec<u8>, AllocError> {
+        let mut term = Vec::from_slice(self.alloc, b"buffer_")?;
+        put_piece(&mut term, buffer_name(self.program, buffer))?;
+        Ok(term)
+    }
+
+    /// A byte of a buffer, as C has it.
+    pub fn byte(self, buffer: usize, index: u32) -> Result<Vec<u8>, AllocError> {
+        let mut term = self.buffer(buffer)?;
+        put_piece(&mut term, b"[")?;
+        put_number(&mut term, u64::from(index))?;
+        put_piece(&mut term, b"]")?;
+        Ok(term)
+    }
+
+    /// A variable of the statement, as C has it.
+    pub fn variable(self, variable: usize) -> Result<Vec<u8>, AllocError> {
+        let mut term = Vec::from_slice(self.alloc, b"var_")?;
+        if let Some(line) = self.thread.lines.get(self.at) {
+            put_piece(&mut term, variable_in(line.stmt, self.source, variable))?;
+        }
+        Ok(term)
+    }
+
+    /// A variable or a number, as C has it.
+    pub fn operand(self, operand: Operand) -> Result<Vec<u8>, AllocError> {
+        match operand {
+            Operand::Variable(variable) => self.variable(variable),
+            Operand::Number(number) => self.signed(number),
+        }
+    }
+
+    /// A signed number, as C has it.
+    pub fn signed(self, value: i64) -> Result<Vec<u8>, AllocError> {
+        signed(self.alloc, value)
+    }
+
+    /// A user data, as C has it.
+    pub fn data(self, value: u64) -> Result<Vec<u8>, AllocError> {
+        data(self.alloc, value)
+    }
+
+    /// A number in decimal.
+    pub fn decimal(self, value: u64) -> Result<Vec<u8>, AllocError> {
+        number(self.alloc, value)
     }
 }

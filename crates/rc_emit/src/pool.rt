@@ -1,104 +1,87 @@
 //! The pool: plain counters that the lock guards.
 
-ghost use Rattle.std.specs.Prelude.{◌+◌, ◌<◌, ◌^◌};
-ghost use Rattle.rc_report.specs.Streams.{FailsToWrite};
+ghost use Rattle.rc_emit.specs.Text.{Grows};
 
-use crate::lines::{write_event, write_indentation, write_line, write_said};
-use crate::parts::Part::{Number, Text};
-use crate::parts::write_parts;
+use crate::lines::{put_event, put_indentation, put_line, put_source, put_text};
 use crate::place::Place;
 use rc_lang::program::Items;
-use rc_report::engine_fault::EngineFault;
-use rc_report::printed::buffer_name;
-use rc_report::streams::Sink;
-use rc_report::writing::write_piece;
+use std::alloc::AllocError;
 
-/// Writes that the items of a list, so many of each, are put into the pool or leave it.
-fn write_moved<'a, W: Sink>(
-    writer: &mut W,
-    place: Place<'a>,
-    items: &'a Items,
-    operator: &'a [u8],
-) -> Result<(), EngineFault>
-    requires { W.failure_count writer.old + 1 < 2 ^ 64 }
-    ensures { FailsToWrite (W.failure_count writer.old) (W.failure_count writer.new) result }
+/// Adds that the items of a list, so many of each, are put into the pool or leave it.
+fn put_moved(
+    text: &mut Vec<u8>,
+    place: Place<'_>,
+    items: &Items,
+    operator: &[u8],
+) -> Result<(), AllocError>
+    ensures { Grows text.old text.new result }
 {
     for share in &items.shares {
-        let name = Text(buffer_name(place.program, share.buffer));
-        let count = Number(u64::from(share.count));
-        let words = [
-            Text(b"pool_buffer_"),
-            name,
-            Text(operator),
-            count,
-            Text(b";"),
-        ];
-        write_line(writer, place, &words)?;
+        let buffer = place.buffer(share.buffer)?;
+        let count = place.decimal(u64::from(share.count))?;
+        put_line(text, place, &[b"pool_", &buffer, operator, &count, b";"])?;
     }
     for token in &items.tokens {
-        let token = Number(*token);
-        let words = [Text(b"pool_token_"), token, Text(operator), Text(b"1;")];
-        write_line(writer, place, &words)?;
+        let token = place.decimal(*token)?;
+        put_line(text, place, &[b"pool_token_", &token, operator, b"1;"])?;
     }
     if items.credits > 0 {
-        let count = Number(u64::from(items.credits));
-        let words = [Text(b"pool_credits"), Text(operator), count, Text(b";")];
-        write_line(writer, place, &words)?;
+        let count = place.decimal(u64::from(items.credits))?;
+        put_line(text, place, &[b"pool_credits", operator, &count, b";"])?;
     }
     Ok(())
 }
 
-/// Writes that items are put into the pool.
-pub fn write_put<W: Sink>(writer: &mut W, place: Place<'_>, list: usize) -> Result<(), EngineFault>
-    requires { W.failure_count writer.old + 1 < 2 ^ 64 }
-    ensures { FailsToWrite (W.failure_count writer.old) (W.failure_count writer.new) result }
+/// Adds that items are put into the pool.
+pub fn put_put(text: &mut Vec<u8>, place: Place<'_>, list: usize) -> Result<(), AllocError>
+    ensures { Grows text.old text.new result }
 {
-    write_said(writer, place)?;
+    put_source(text, place)?;
     if let Some(items) = place.thread.lists.get(list) {
-        write_moved(writer, place, items, b" += ")?;
+        put_moved(text, place, items, b" += ")?;
     }
-    write_event(writer, place, &[Text(b"put\"")])
+    put_event(text, place, &[b"put\""])
 }
 
-/// Writes the tests that the pool has the items of a list.
-fn write_has<W: Sink>(writer: &mut W, place: Place<'_>, items: &Items) -> Result<(), EngineFault>
-    requires { W.failure_count writer.old + 1 < 2 ^ 64 }
-    ensures { FailsToWrite (W.failure_count writer.old) (W.failure_count writer.new) result }
+/// Adds the tests that the pool has the items of a list.
+fn put_has(text: &mut Vec<u8>, place: Place<'_>, items: &Items) -> Result<(), AllocError>
+    ensures { Grows text.old text.new result }
 {
     for share in &items.shares {
-        let name = Text(buffer_name(place.program, share.buffer));
-        let count = Number(u64::from(share.count));
-        write_parts(
-            writer,
-            &[Text(b" && pool_buffer_"), name, Text(b" >= "), count],
-        )?;
+        let buffer = place.buffer(share.buffer)?;
+        let count = place.decimal(u64::from(share.count))?;
+        put_text(text, &[b" && pool_", &buffer, b" >= ", &count])?;
     }
     for token in &items.tokens {
-        write_parts(
-            writer,
-            &[Text(b" && pool_token_"), Number(*token), Text(b" >= 1")],
-        )?;
+        let token = place.decimal(*token)?;
+        put_text(text, &[b" && pool_token_", &token, b" >= 1"])?;
     }
     if items.credits > 0 {
-        let count = Number(u64::from(items.credits));
-        write_parts(writer, &[Text(b" && pool_credits >= "), count])?;
+        let count = place.decimal(u64::from(items.credits))?;
+        put_text(text, &[b" && pool_credits >= ", &count])?;
     }
     Ok(())
 }
 
-/// Writes that items leave the pool where it has them.
-pub fn write_take<W: Sink>(writer: &mut W, place: Place<'_>, list: usize) -> Result<(), EngineFault>
-    requires { W.failure_count writer.old + 1 < 2 ^ 64 }
-    ensures { FailsToWrite (W.failure_count writer.old) (W.failure_count writer.new) result }
+/// Adds that items leave the pool where it has them.
+pub fn put_take(text: &mut Vec<u8>, place: Place<'_>, list: usize) -> Result<(), AllocError>
+    ensures { Grows text.old text.new result }
 {
     let Some(items) = place.thread.lists.get(list) else {
-        return write_line(writer, place, &[Text(b"yes = true;")]);
+        return put_line(text, place, &[b"yes = true;"]);
     };
-    write_indentation(writer, place.depth)?;
-    write_piece(writer, b"yes = true")?;
-    write_has(writer, place, items)?;
-    write_piece(writer, b";\n")?;
-    write_line(writer, place, &[Text(b"if (yes) {")])?;
-    write_moved(writer, place.deeper(), items, b" -= ")?;
-    write_line(writer, place, &[Text(b"}")])
+    put_has_line(text, place, items)?;
+    put_line(text, place, &[b"if (yes) {"])?;
+    put_moved(text, place.deeper(), items, b" -= ")?;
+    put_line(text, place, &[b"}"])
+}
+
+/// Adds the line that asks whether the pool has the items of a list.
+fn put_has_line(text: &mut Vec<u8>, place: Place<'_>, items: &Items) -> Result<(), AllocError>
+    ensures { Grows text.old text.new result }
+{
+    put_indentation(text, place.depth)?;
+    put_text(text, &[b"yes = true"])?;
+    put_has(text, place, items)?;
+    put_text(text, &[b";\n"])
 }
