@@ -1,5 +1,5 @@
 -- A verdict, and what explains it.
-use Rattle.std.proofs.Common.{◌≡◌, ℕ, ◌⊎◌, inl, inr, Bool, true, false, List, [], ◌++◌, Option, Some, Result, Ok, Err, codes, sym, refl, subst, ap, ◌∙◌, append_assoc}
+use Rattle.std.proofs.Common.{◌≡◌, ℕ, inr, Bool, true, false, List, [], ◌++◌, Option, Some, Result, Ok, Err, codes, sym, refl, subst, ap, ◌∙◌, append_assoc}
 use Rattle.std.specs.Global.{Vec}
 use Rattle.std.specs.Io.KnownBytes.{Appends}
 use Rattle.std.specs.Prelude.{IsErr}
@@ -10,7 +10,7 @@ use Rattle.rc_report.specs.Streams.{Began}
 use Rattle.rc_report.specs.Text.{Puts}
 use Rattle.rc_report.specs.Verdicts.{verdict_text}
 use Rattle.rc_read.specs.Answer.{answer_of}
-use Rattle.rc_explain.specs.Explains.{ExplainsAs, IsObjectOf, PutsExplained, PutsTold, Tells}
+use Rattle.rc_explain.specs.Explains.{ExplainsAs, IsObjectOf, PutsTold, Tells}
 
 -- The line of the verdict, and then what explains it.
 pub tells_both : {X E : Type 0} (v : Verdict) (rest : List ℕ) (old mid new : Vec ℕ) (r : Result X E) → mid.items ≡ old.items ++ verdict_text v → Puts mid new rest r → PutsTold false v old new r

@@ -1,4 +1,3 @@
-use Rattle.std.proofs.Common.{codes}
 use Rattle.rc_explain.specs.Judged.{verdict_of}
 use Rattle.rc_explain.proofs.Explained.{tells_object}
 use Rattle.rc_explain.proofs.engine.put_object.Goals as goal

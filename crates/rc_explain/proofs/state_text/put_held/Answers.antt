@@ -1,4 +1,4 @@
-use Rattle.std.proofs.Common.{◌≡◌, ◌<◌, ◌≤◌, ap, arith, codes, length, refl}
+use Rattle.std.proofs.Common.{ap, arith, codes, length, refl}
 use Rattle.rc_explain.specs.StateText.{bag_on, held_items_text}
 use Rattle.rc_explain.proofs.StateText.{none_held, some_held}
 use Rattle.rc_explain.proofs.state_text.put_held.Goals as goal

@@ -1,4 +1,4 @@
-use Rattle.std.proofs.Common.{◌++◌, ◌∙◌, ap, arith, sym, take}
+use Rattle.std.proofs.Common.{◌++◌, ◌∙◌, ap, arith, sym}
 use Rattle.std.proofs.lemmas.List.{take_all}
 use Rattle.rc_lang.specs.Parts.{view_buffer}
 use Rattle.rc_report.specs.Summaries.{placed}
