@@ -1,7 +1,6 @@
 pub mod Buffers
 pub mod Grows
 pub mod Lines
-pub mod Names
 pub mod Objects
 pub mod Pieces
 pub mod FileObjects
@@ -9,6 +8,7 @@ pub mod Placed
 pub mod Steps
 pub mod Stretches
 pub mod Tallies
+pub mod Texts
 pub mod TextWords
 pub mod Traces
 pub mod OneVerdict

@@ -11,7 +11,7 @@ use Rattle.rc_rules.specs.Causes.{name_of, premise_number}
 use Rattle.rc_report.specs.declared.verdict.Verdict.{Verdict}
 use Rattle.rc_report.specs.declared.verdict.Verdict.TheVariants.{Accepted, Refused, Unreadable}
 use Rattle.rc_report.specs.Objects.{verdict_object}
-use Rattle.rc_report.specs.Verdicts.{object_text}
+use Rattle.rc_report.specs.Verdicts.{finding, finding_json}
 
 -- no name of a cause has a letter that JSON escapes
 plain_cause : (cause : ReadCause) → escape (name_of_cause cause) ≡ name_of_cause cause
@@ -63,7 +63,7 @@ unreadable = codes ",\"verdict\":\"unreadable\"}"
 named : (name plain rest : List ℕ) → plain ≡ name → codes "{\"cause\":\"" ++ ((plain ++ codes "\"") ++ rest) ≡ codes "{\"cause\":\"" ++ (name ++ (codes "\"" ++ rest))
 named name plain rest e = ap (λ t. codes "{\"cause\":\"" ++ ((t ++ codes "\"") ++ rest)) e ∙ ap (λ t. codes "{\"cause\":\"" ++ t) (append_assoc name (codes "\"") rest)
 
-pub text_of_object : (verdict : Verdict) → compact_text (verdict_object verdict) ≡ object_text verdict
+pub text_of_object : (verdict : Verdict) → compact_text (verdict_object verdict) ≡ finding_json (finding verdict)
 unfolding escape_byte
 text_of_object Accepted = refl
 text_of_object (Refused r) = named (name_of r.cause) (escape (name_of r.cause)) (behind (premise_number r.cause) r.line refused) (plain_refusal r.cause)

@@ -3,7 +3,7 @@ use Rattle.std.proofs.Common.{◌≡◌, ℕ, ◌-◌, List, [], ◌∷◌, ◌+
 use Rattle.std.specs.Prelude.{slice_index_or}
 use Rattle.rc_lang.specs.Program.{Program}
 use Rattle.rc_read.specs.Answer.{answer_of}
-use Rattle.rc_read.specs.Causes.{name_numbered, number_of_cause}
+use Rattle.rc_read.specs.Causes.{number_of_cause}
 use Rattle.rc_read.specs.declared.fault.ReadCause.{ReadCause}
 use Rattle.rc_rules.specs.declared.cause.Cause.{Cause}
 use Rattle.rc_rules.specs.declared.cause.Cause.TheVariants.{Unlocked, NoCredit, QueueFull, SlotOpen, NoSlot, WrongKind, NotWhole, NoShare, OutOfBuffer, NoToken, NoEntry, QueueLeft, LoopEntry, LoopBody, JoinMismatch, OverShares, TokenTwice, OverCredits, NotHeld}
@@ -15,7 +15,7 @@ use Rattle.rc_report.specs.declared.verdict.Verdict.{Verdict}
 use Rattle.rc_report.specs.declared.verdict.Verdict.TheVariants.{Accepted, Refused, Unreadable}
 use Rattle.rc_report.specs.Checks.{IsVerdict, ChecksAs, told}
 use Rattle.rc_report.specs.Streams.{Began}
-use Rattle.rc_report.specs.Verdicts.{line_json, unreadable_text}
+use Rattle.rc_report.specs.Verdicts.{finding_json, unreadable, unreadable_text}
 
 -- ---- causes have their numbers alone
 
@@ -70,7 +70,7 @@ of_program P (Unreadable l c) w a b = absurd a
 
 -- of a cause no more is told than its number
 abbrev told_unreadable : Bool → ℕ → ℕ → List ℕ
-told_unreadable true line number = line_json (name_numbered number) number line (codes "unreadable") ++ codes "\n"
+told_unreadable true line number = finding_json (Some (unreadable line number)) ++ codes "\n"
 told_unreadable false line number = unreadable_text line number
 
 told_by_number : (json : Bool) (line : ℕ) (cause : ReadCause) → told json (Unreadable line cause) ≡ told_unreadable json line (number_of_cause cause)

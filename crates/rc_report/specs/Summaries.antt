@@ -119,7 +119,12 @@ stretch_line program s =
 
 -- ---- the whole
 
+abbrev pub threads_text : Program → List Event → List ℕ
+threads_text program events = placed (λ i thread. thread_line program events i) 0 program.threads
+
+-- what is counted of a run
+abbrev pub counts_text : Program → List Event → List ℕ
+counts_text program events = threads_text program events ++ (placed (token_line events) 0 program.tokens ++ stretch_line program (longest_stretch events))
+
 abbrev pub summary_text : Program → List Event → End → List ℕ
-summary_text program events end =
-    placed (λ i thread. thread_line program events i) 0 program.threads
-    ++ (placed (token_line events) 0 program.tokens ++ (stretch_line program (longest_stretch events) ++ end_text program (length events) end))
+summary_text program events end = counts_text program events ++ end_text program (length events) end

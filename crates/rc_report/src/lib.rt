@@ -8,7 +8,6 @@ pub mod buffered;
 pub mod check_engine;
 pub mod engine_fault;
 pub mod file_verdict;
-mod line_buffer;
 pub mod printed;
 pub mod reading;
 pub mod shown;

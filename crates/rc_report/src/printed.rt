@@ -1,17 +1,16 @@
 //! The printed forms of events and faults.
 
-ghost use Rattle.std.specs.Prelude.{◌≡◌, ◌+◌, ◌<◌, ◌≤◌, ◌^◌, ◌++◌, [], ◌∷◌, codes, decimal, length};
+ghost use Rattle.std.specs.Prelude.{◌≡◌, ◌+◌, ◌<◌, ◌^◌, [], ◌∷◌, codes, decimal};
 ghost use Rattle.std.specs.Fmt.{signed_decimal};
 ghost use Rattle.rc_lang.specs.Program.{IsProgram};
 ghost use Rattle.rc_world.specs.FaultNames.{name_of_fault, number_of_fault};
-ghost use Rattle.rc_report.specs.Printed.{action_text, buffer_name, end_line, event_text, event_line, fault_line, item_line, joined, party_text, place_text, schedule_line, thread_name, valued};
+ghost use Rattle.rc_report.specs.Printed.{action_text, buffer_name, end_line, event_line, event_text, fault_line, item_line, joined, party_text, place_text, schedule_line, thread_name, valued};
 ghost use Rattle.rc_report.specs.Streams.{FailsToWrite, Wrote};
 ghost use Rattle.rc_report.specs.Text.{Puts};
 
 use crate::engine_fault::EngineFault;
-use crate::line_buffer::LineBuffer;
 use crate::streams::Sink;
-use crate::text::put_pieces;
+use crate::text::put_counted;
 use crate::writing::{write_piece, write_pieces};
 use itoa::Buffer;
 use rc_lang::program::Program;
@@ -41,93 +40,90 @@ pub fn buffer_name(program: &Program, buffer: usize) -> &[u8]
     }
 }
 
-/// Puts a word, with its blanks, and a number.
-#[inline]
-fn put_counted(text: &mut LineBuffer, word: &[u8], value: u64)
-    requires { length word.now + 20 + length text.old ≤ 128 }
-    ensures text { text.new ≡ valued word.now (decimal value) ++ text.old }
-    ensures len { length text.new ≤ length word.now + 20 + length text.old }
+/// Writes a word, with its blanks, and a number.
+fn write_counted<W: Sink>(writer: &mut W, word: &[u8], value: u64) -> Result<(), EngineFault>
+    requires { W.failure_count writer.old + 1 < 2 ^ 64 }
+    ensures text { Wrote (W.contents writer.old) (W.contents writer.new) (valued word.now (decimal value)) result }
+    ensures failures { FailsToWrite (W.failure_count writer.old) (W.failure_count writer.new) result }
 {
-    text.put_number(value);
-    text.put(word);
+    let mut buffer = Buffer::new();
+    write_pieces(writer, &[word, buffer.format(value).as_bytes()])
 }
 
-/// Puts a word, with its blanks, and a number that may be below 0.
-#[inline]
-fn put_valued(text: &mut LineBuffer, word: &[u8], value: i64)
-    requires { length word.now + 21 + length text.old ≤ 128 }
-    ensures text { text.new ≡ valued word.now (signed_decimal value) ++ text.old }
-    ensures len { length text.new ≤ length word.now + 21 + length text.old }
+/// Writes a word, with its blanks, and a number that may be below 0.
+fn write_valued<W: Sink>(writer: &mut W, word: &[u8], value: i64) -> Result<(), EngineFault>
+    requires { W.failure_count writer.old + 1 < 2 ^ 64 }
+    ensures text { Wrote (W.contents writer.old) (W.contents writer.new) (valued word.now (signed_decimal value)) result }
+    ensures failures { FailsToWrite (W.failure_count writer.old) (W.failure_count writer.new) result }
 {
-    text.put_signed(value);
-    text.put(word);
+    let mut buffer = Buffer::new();
+    write_pieces(writer, &[word, buffer.format(value).as_bytes()])
 }
 
-/// Puts a word and the values of a completion.
-#[inline]
-fn put_completion(text: &mut LineBuffer, word: &[u8], completion: Completion)
-    requires { length word.now + 42 + length text.old ≤ 128 }
-    ensures text { text.new
-        ≡ joined (word.now ∷ decimal completion.user_data ∷ codes " " ∷ signed_decimal completion.res ∷ []) ++ text.old }
-    ensures len { length text.new ≤ length word.now + 42 + length text.old }
+/// Writes a word and the values of a completion.
+fn write_completion<W: Sink>(
+    writer: &mut W,
+    word: &[u8],
+    completion: Completion,
+) -> Result<(), EngineFault>
+    requires { W.failure_count writer.old + 1 < 2 ^ 64 }
+    ensures text { Wrote (W.contents writer.old) (W.contents writer.new)
+        (joined (word.now ∷ decimal completion.user_data ∷ codes " " ∷ signed_decimal completion.res ∷ [])) result }
+    ensures failures { FailsToWrite (W.failure_count writer.old) (W.failure_count writer.new) result }
 {
-    text.put_signed(i64::from(completion.res));
-    text.put(b" ");
-    text.put_number(completion.user_data);
-    text.put(word);
+    let (mut first, mut second) = (Buffer::new(), Buffer::new());
+    let user_data = first.format(completion.user_data).as_bytes();
+    let res = second.format(completion.res).as_bytes();
+    write_pieces(writer, &[word, user_data, b" ", res])
 }
 
-/// Puts the words of a step, behind a blank.
-#[inline]
-fn put_action(text: &mut LineBuffer, action: Action)
-    requires { length text.old ≤ 1 }
-    ensures text { text.new ≡ action_text action ++ text.old }
-    ensures len { length text.new ≤ 53 }
+/// Writes the words of a step, after a blank.
+fn write_action<W: Sink>(writer: &mut W, action: Action) -> Result<(), EngineFault>
+    requires { W.failure_count writer.old + 1 < 2 ^ 64 }
+    ensures text { Wrote (W.contents writer.old) (W.contents writer.new) (action_text action) result }
+    ensures failures { FailsToWrite (W.failure_count writer.old) (W.failure_count writer.new) result }
 {
     match action {
-        Action::VariableSet(value) => put_valued(text, b" set ", value),
-        Action::Loaded(byte) => put_counted(text, b" load ", u64::from(byte)),
-        Action::Stored(byte) => put_counted(text, b" store ", u64::from(byte)),
-        Action::Filled(byte) => put_counted(text, b" fill ", u64::from(byte)),
-        Action::Printed(value) => put_valued(text, b" print ", value),
-        Action::Locked => text.put(b" lock"),
-        Action::Released => text.put(b" release"),
-        Action::EntryOpened => text.put(b" get_sqe"),
-        Action::ReadPrepared => text.put(b" prep_read"),
-        Action::WritePrepared => text.put(b" prep_write"),
-        Action::FsyncPrepared => text.put(b" prep_fsync"),
-        Action::NopPrepared => text.put(b" prep_nop"),
-        Action::DataSet(data) => put_counted(text, b" set_data64 ", data),
-        Action::Submitted(answer) => put_valued(text, b" submit ", i64::from(answer)),
-        Action::Peeked(completion) => put_completion(text, b" peek_cqe ", completion),
-        Action::PeekedNone => text.put(b" peek_cqe none"),
-        Action::Reaped(data) => put_counted(text, b" cqe_seen ", data),
-        Action::ItemsPut => text.put(b" put"),
-        Action::Branched(true) => text.put(b" if yes"),
-        Action::Branched(false) => text.put(b" if no"),
-        Action::Looped => text.put(b" loop"),
-        Action::LoopLeft => text.put(b" break"),
+        Action::VariableSet(value) => write_valued(writer, b" set ", value),
+        Action::Loaded(byte) => write_counted(writer, b" load ", u64::from(byte)),
+        Action::Stored(byte) => write_counted(writer, b" store ", u64::from(byte)),
+        Action::Filled(byte) => write_counted(writer, b" fill ", u64::from(byte)),
+        Action::Printed(value) => write_valued(writer, b" print ", value),
+        Action::Locked => write_piece(writer, b" lock"),
+        Action::Released => write_piece(writer, b" release"),
+        Action::EntryOpened => write_piece(writer, b" get_sqe"),
+        Action::ReadPrepared => write_piece(writer, b" prep_read"),
+        Action::WritePrepared => write_piece(writer, b" prep_write"),
+        Action::FsyncPrepared => write_piece(writer, b" prep_fsync"),
+        Action::NopPrepared => write_piece(writer, b" prep_nop"),
+        Action::DataSet(data) => write_counted(writer, b" set_data64 ", data),
+        Action::Submitted(answer) => write_valued(writer, b" submit ", i64::from(answer)),
+        Action::Peeked(completion) => write_completion(writer, b" peek_cqe ", completion),
+        Action::PeekedNone => write_piece(writer, b" peek_cqe none"),
+        Action::Reaped(data) => write_counted(writer, b" cqe_seen ", data),
+        Action::ItemsPut => write_piece(writer, b" put"),
+        Action::Branched(true) => write_piece(writer, b" if yes"),
+        Action::Branched(false) => write_piece(writer, b" if no"),
+        Action::Looped => write_piece(writer, b" loop"),
+        Action::LoopLeft => write_piece(writer, b" break"),
     }
 }
 
-/// Puts where a step is: the thread's name and the line.
-#[inline]
-fn put_place(text: &mut LineBuffer, name: &[u8], line: u32)
-    requires { length name.now + 21 + length text.old ≤ 128 }
-    ensures text { text.new ≡ place_text name.now line ++ text.old }
-    ensures len { length text.new ≤ length name.now + 21 + length text.old }
+/// Writes where a step is: the thread's name and the line.
+fn write_place<W: Sink>(writer: &mut W, name: &[u8], line: u32) -> Result<(), EngineFault>
+    requires { W.failure_count writer.old + 1 < 2 ^ 64 }
+    ensures text { Wrote (W.contents writer.old) (W.contents writer.new) (place_text name.now line) result }
+    ensures failures { FailsToWrite (W.failure_count writer.old) (W.failure_count writer.new) result }
 {
-    text.put_number(u64::from(line));
-    text.put(b" ");
-    text.put(name);
+    let mut buffer = Buffer::new();
+    write_pieces(writer, &[name, b" ", buffer.format(line).as_bytes()])
 }
 
-/// Puts an event without its number.
-#[inline]
-fn put_event(text: &mut LineBuffer, program: &Program, event: Event)
-    requires { length text.old ≤ 1 }
-    ensures text { text.new ≡ event_text program.now event ++ text.old }
-    ensures len { length text.new ≤ 90 }
+/// Writes an event without its number.
+fn write_event<W: Sink>(writer: &mut W, program: &Program, event: Event) -> Result<(), EngineFault>
+    requires { W.failure_count writer.old + 1 < 2 ^ 64 }
+    ensures text { Wrote (W.contents writer.old) (W.contents writer.new) (event_text program.now event) result }
+    ensures failures { FailsToWrite (W.failure_count writer.old) (W.failure_count writer.new) result }
 {
     match event {
         Event::ByThread {
@@ -135,14 +131,14 @@ fn put_event(text: &mut LineBuffer, program: &Program, event: Event)
             line,
             action,
         } => {
-            put_action(text, action);
-            put_place(text, thread_name(program, thread), line);
+            write_place(writer, thread_name(program, thread), line)?;
+            write_action(writer, action)
         }
-        Event::ByKernel(completion) => put_completion(text, b"kernel ", completion),
+        Event::ByKernel(completion) => write_completion(writer, b"kernel ", completion),
     }
 }
 
-/// Writes the line of the event with this number, in one piece.
+/// Writes the line of the event with this number.
 pub fn write_event_line<W: Sink>(
     writer: &mut W,
     program: &Program,
@@ -153,12 +149,10 @@ pub fn write_event_line<W: Sink>(
     ensures text { Wrote (W.contents writer.old) (W.contents writer.new) (event_line program.now number event) result }
     ensures failures { FailsToWrite (W.failure_count writer.old) (W.failure_count writer.new) result }
 {
-    let mut text = LineBuffer::new();
-    text.put(b"\n");
-    put_event(&mut text, program, event);
-    text.put(b" ");
-    text.put_number(number);
-    write_piece(writer, text.as_slice())
+    let mut buffer = Buffer::new();
+    write_pieces(writer, &[buffer.format(number).as_bytes(), b" "])?;
+    write_event(writer, program, event)?;
+    write_piece(writer, b"\n")
 }
 
 /// Writes where a fault is, to the line's end.
@@ -244,7 +238,5 @@ pub fn write_schedule_line<W: Sink>(writer: &mut W, item: u64) -> Result<(), Eng
 pub fn put_schedule_line(text: &mut Vec<u8>, item: u64) -> Result<(), AllocError>
     ensures { Puts text.old text.new (schedule_line item) result }
 {
-    let mut buffer = Buffer::new();
-    let item = buffer.format(item).as_bytes();
-    put_pieces(text, &[b"schedule item ", item, b" unreadable\n"])
+    put_counted(text, b"schedule item ", item, b" unreadable\n")
 }

@@ -2,17 +2,18 @@
 
 ghost use Rattle.std.specs.Prelude.{◌≡◌, ◌+◌, ◌<◌, ◌≤◌, ◌^◌, IfOk, OnOk, count_by, insert, length, take};
 ghost use Rattle.std.specs.List.{flat_map};
-ghost use Rattle.rc_report.specs.Streams.{FailsToWrite, FailsToWriteOrGrow, Wrote};
-ghost use Rattle.rc_report.specs.Summaries.{counted, is_completion_of, is_of, kind_name, longer, longest_stretch, next_stretch, others_text, placed, ranked, ranked_with, result_in, result_text, results_text, stretch_line, stretches_after, summary_text, tally, thread_line, token_head, token_line, total};
+ghost use Rattle.rc_report.specs.Streams.{FailsToWriteOrGrow, Wrote};
+ghost use Rattle.rc_report.specs.Summaries.{counted, counts_text, is_completion_of, is_of, kind_name, longer, longest_stretch, next_stretch, others_text, placed, ranked, ranked_with, result_in, result_text, results_text, stretch_line, stretches_after, summary_text, tally, thread_line, threads_text, token_head, token_line, total};
+ghost use Rattle.rc_report.specs.Text.{Puts};
 ghost use Rattle.rc_report.specs.Traces.{NamesItsThreads};
 
 use crate::engine_fault::EngineFault;
 use crate::printed::thread_name;
 use crate::streams::Sink;
+use crate::text::{put_counted, put_piece, put_pieces, put_signed};
 use crate::trace::{End, write_end};
-use crate::writing::{write_piece, write_pieces};
+use crate::writing::write_piece;
 use indexmap::IndexMap;
-use itoa::Buffer;
 use rc_lang::program::{Program, Token, TokenKind};
 use rc_world::event::Event;
 use std::alloc::{AllocError, Global};
@@ -52,44 +53,48 @@ pub fn summary_text<W: Sink>(
     ensures text { Wrote (W.contents writer.old) (W.contents writer.new) (summary_text program.now events.now end) result }
     ensures failures { FailsToWriteOrGrow (W.failure_count writer.old) (W.failure_count writer.new) result }
 {
-    write_threads(writer, program, events)?;
-    write_tokens(alloc, writer, program, events)?;
-    write_stretch(writer, program, longest_stretch(events))?;
+    let mut text = Vec::new(alloc);
+    put_counts(&mut text, alloc, program, events)?;
+    write_piece(writer, &text)?;
     write_end(writer, program, events.len() as u64, end)
 }
 
-/// Writes a line for each thread.
-fn write_threads<W: Sink>(
-    writer: &mut W,
+/// Adds what is counted of a run: the lines of the threads and the tokens, and that of the longest stretch.
+fn put_counts(
+    text: &mut Vec<u8>,
+    alloc: Global,
     program: &Program,
     events: &[Event],
-) -> Result<(), EngineFault>
-    requires { W.failure_count writer.old + 1 < 2 ^ 64 }
-    ensures text { Wrote (W.contents writer.old) (W.contents writer.new) (placed (λ i thread. thread_line program.now events.now i) 0 program.now.threads) result }
-    ensures failures { FailsToWrite (W.failure_count writer.old) (W.failure_count writer.new) result }
+) -> Result<(), AllocError>
+    ensures { Puts text.old text.new (counts_text program.now events.now) result }
+{
+    put_threads(text, program, events)?;
+    put_tokens(text, alloc, program, events)?;
+    put_stretch(text, program, longest_stretch(events))
+}
+
+/// Adds a line for each thread.
+fn put_threads(text: &mut Vec<u8>, program: &Program, events: &[Event]) -> Result<(), AllocError>
+    ensures { Puts text.old text.new (threads_text program.now events.now) result }
 {
     let count = program.threads().len();
     for thread in 0..count as u32 {
-        write_thread(writer, program, events, thread)?;
+        put_thread(text, program, events, thread)?;
     }
     Ok(())
 }
 
-/// Writes how many events a thread made.
-fn write_thread<W: Sink>(
-    writer: &mut W,
+/// Adds how many events a thread made.
+fn put_thread(
+    text: &mut Vec<u8>,
     program: &Program,
     events: &[Event],
     thread: u32,
-) -> Result<(), EngineFault>
-    requires { W.failure_count writer.old + 1 < 2 ^ 64 }
-    ensures text { Wrote (W.contents writer.old) (W.contents writer.new) (thread_line program.now events.now thread) result }
-    ensures failures { FailsToWrite (W.failure_count writer.old) (W.failure_count writer.new) result }
+) -> Result<(), AllocError>
+    ensures { Puts text.old text.new (thread_line program.now events.now thread) result }
 {
-    let mut buffer = Buffer::new();
-    let count = buffer.format(events_of(events, thread) as u64).as_bytes();
-    let name = thread_name(program, thread);
-    write_pieces(writer, &[b"thread ", name, b": ", count, b" events\n"])
+    put_pieces(text, &[b"thread ", thread_name(program, thread)])?;
+    put_counted(text, b": ", events_of(events, thread) as u64, b" events\n")
 }
 
 /// How many events a thread made.
@@ -109,60 +114,44 @@ fn is_of(of: u32, event: Event) -> bool
     }
 }
 
-/// Writes a line for each token.
-fn write_tokens<W: Sink>(
+/// Adds a line for each token.
+fn put_tokens(
+    text: &mut Vec<u8>,
     alloc: Global,
-    writer: &mut W,
     program: &Program,
     events: &[Event],
-) -> Result<(), EngineFault>
-    requires { W.failure_count writer.old + 1 < 2 ^ 64 }
-    ensures text { Wrote (W.contents writer.old) (W.contents writer.new) (placed (token_line events.now) 0 program.now.tokens) result }
-    ensures failures { FailsToWriteOrGrow (W.failure_count writer.old) (W.failure_count writer.new) result }
+) -> Result<(), AllocError>
+    ensures { Puts text.old text.new (placed (token_line events.now) 0 program.now.tokens) result }
 {
     for (index, token) in program.tokens().iter().enumerate() {
-        write_token(alloc, writer, events, index, *token)?;
+        put_token(text, alloc, events, index, *token)?;
     }
     Ok(())
 }
 
-/// Writes how the requests of a token completed.
-fn write_token<W: Sink>(
+/// Adds how the requests of a token completed.
+fn put_token(
+    text: &mut Vec<u8>,
     alloc: Global,
-    writer: &mut W,
     events: &[Event],
     index: usize,
     token: Token,
-) -> Result<(), EngineFault>
-    requires { W.failure_count writer.old + 1 < 2 ^ 64 }
-    ensures text { Wrote (W.contents writer.old) (W.contents writer.new) (token_line events.now index token) result }
-    ensures failures { FailsToWriteOrGrow (W.failure_count writer.old) (W.failure_count writer.new) result }
+) -> Result<(), AllocError>
+    ensures { Puts text.old text.new (token_line events.now index token) result }
 {
-    write_token_head(writer, events, token)?;
-    write_results(alloc, writer, events, token.user_data)?;
-    write_piece(writer, b"\n")
+    put_token_head(text, events, token)?;
+    put_results(text, alloc, events, token.user_data)?;
+    put_piece(text, b"\n")
 }
 
-/// Writes a token's user data and kind, and how many completions it has.
-fn write_token_head<W: Sink>(
-    writer: &mut W,
-    events: &[Event],
-    token: Token,
-) -> Result<(), EngineFault>
-    requires { W.failure_count writer.old + 1 < 2 ^ 64 }
-    ensures text { Wrote (W.contents writer.old) (W.contents writer.new) (token_head events.now token) result }
-    ensures failures { FailsToWrite (W.failure_count writer.old) (W.failure_count writer.new) result }
+/// Adds a token's user data and kind, and how many completions it has.
+fn put_token_head(text: &mut Vec<u8>, events: &[Event], token: Token) -> Result<(), AllocError>
+    ensures { Puts text.old text.new (token_head events.now token) result }
 {
-    let mut first = Buffer::new();
-    let mut second = Buffer::new();
-    let user_data = first.format(token.user_data).as_bytes();
     let count = completions_of(events, token.user_data) as u64;
-    let count = second.format(count).as_bytes();
-    let kind = kind_name(token.kind).as_bytes();
-    write_pieces(
-        writer,
-        &[b"completions of ", user_data, b", ", kind, b": ", count],
-    )
+    put_counted(text, b"completions of ", token.user_data, b", ")?;
+    put_piece(text, kind_name(token.kind).as_bytes())?;
+    put_counted(text, b": ", count, b"")
 }
 
 /// The name of a kind of request.
@@ -197,31 +186,27 @@ fn is_completion_of(user_data: u64, event: Event) -> bool
     }
 }
 
-/// Writes the most common results of a token's completions, and how many others there are.
-fn write_results<W: Sink>(
+/// Adds the most common results of a token's completions, and how many others there are.
+fn put_results(
+    text: &mut Vec<u8>,
     alloc: Global,
-    writer: &mut W,
     events: &[Event],
     user_data: u64,
-) -> Result<(), EngineFault>
-    requires { W.failure_count writer.old + 1 < 2 ^ 64 }
-    ensures text { Wrote (W.contents writer.old) (W.contents writer.new) (results_text (tally user_data events.now)) result }
-    ensures failures { FailsToWriteOrGrow (W.failure_count writer.old) (W.failure_count writer.new) result }
+) -> Result<(), AllocError>
+    ensures { Puts text.old text.new (results_text (tally user_data events.now)) result }
 {
     let counts = tally_of(alloc, events, user_data)?;
     let common = most_common(alloc, &counts)?;
-    write_common(writer, &common)?;
-    write_others(writer, counts.len())
+    put_common(text, &common)?;
+    put_others(text, counts.len())
 }
 
-/// Writes these results, and how often each came.
-fn write_common<W: Sink>(writer: &mut W, common: &[(i32, u64)]) -> Result<(), EngineFault>
-    requires { W.failure_count writer.old + 1 < 2 ^ 64 }
-    ensures text { Wrote (W.contents writer.old) (W.contents writer.new) (flat_map result_text common.now) result }
-    ensures failures { FailsToWrite (W.failure_count writer.old) (W.failure_count writer.new) result }
+/// Adds these results, and how often each came.
+fn put_common(text: &mut Vec<u8>, common: &[(i32, u64)]) -> Result<(), AllocError>
+    ensures { Puts text.old text.new (flat_map result_text common.now) result }
 {
     for counted in common {
-        write_result(writer, *counted)?;
+        put_result(text, *counted)?;
     }
     Ok(())
 }
@@ -288,32 +273,24 @@ fn place_of(common: &[(i32, u64)], counted: (i32, u64)) -> usize
     common.len()
 }
 
-/// Writes a result, and how often it came.
-fn write_result<W: Sink>(writer: &mut W, counted: (i32, u64)) -> Result<(), EngineFault>
-    requires { W.failure_count writer.old + 1 < 2 ^ 64 }
-    ensures text { Wrote (W.contents writer.old) (W.contents writer.new) (result_text counted) result }
-    ensures failures { FailsToWrite (W.failure_count writer.old) (W.failure_count writer.new) result }
+/// Adds a result, and how often it came.
+fn put_result(text: &mut Vec<u8>, counted: (i32, u64)) -> Result<(), AllocError>
+    ensures { Puts text.old text.new (result_text counted) result }
 {
     let (res, times) = counted;
-    let mut first = Buffer::new();
-    let mut second = Buffer::new();
-    let times = first.format(times).as_bytes();
-    let res = second.format(res).as_bytes();
-    write_pieces(writer, &[b"; ", times, b" of ", res])
+    put_counted(text, b"; ", times, b" of ")?;
+    put_signed(text, i64::from(res))
 }
 
-/// Writes how many of so many results aren't told one by one.
-fn write_others<W: Sink>(writer: &mut W, results: usize) -> Result<(), EngineFault>
-    requires { W.failure_count writer.old + 1 < 2 ^ 64 }
-    ensures text { Wrote (W.contents writer.old) (W.contents writer.new) (others_text results) result }
-    ensures failures { FailsToWrite (W.failure_count writer.old) (W.failure_count writer.new) result }
+/// Adds how many of so many results aren't told one by one.
+fn put_others(text: &mut Vec<u8>, results: usize) -> Result<(), AllocError>
+    ensures { Puts text.old text.new (others_text results) result }
 {
     if results <= MOST_RESULTS {
         return Ok(());
     }
-    let mut buffer = Buffer::new();
-    let others = buffer.format((results - MOST_RESULTS) as u64).as_bytes();
-    write_pieces(writer, &[b"; ", others, b" other results"])
+    let others = (results - MOST_RESULTS) as u64;
+    put_counted(text, b"; ", others, b" other results")
 }
 
 /// The result of a completion with this user data.
@@ -391,24 +368,13 @@ fn longer(first: Stretch, second: Stretch) -> Stretch
     }
 }
 
-/// Writes a stretch.
-fn write_stretch<W: Sink>(
-    writer: &mut W,
-    program: &Program,
-    stretch: Stretch,
-) -> Result<(), EngineFault>
-    requires { W.failure_count writer.old + 1 < 2 ^ 64 }
-    ensures text { Wrote (W.contents writer.old) (W.contents writer.new) (stretch_line program.now stretch) result }
-    ensures failures { FailsToWrite (W.failure_count writer.old) (W.failure_count writer.new) result }
+/// Adds the line of a stretch.
+fn put_stretch(text: &mut Vec<u8>, program: &Program, stretch: Stretch) -> Result<(), AllocError>
+    ensures { Puts text.old text.new (stretch_line program.now stretch) result }
 {
     if stretch.events == 0 {
-        return write_piece(writer, b"longest stretch: none\n");
+        return put_piece(text, b"longest stretch: none\n");
     }
-    let mut buffer = Buffer::new();
-    let count = buffer.format(stretch.events).as_bytes();
-    let name = thread_name(program, stretch.thread);
-    write_pieces(
-        writer,
-        &[b"longest stretch: ", count, b" events of ", name, b"\n"],
-    )
+    put_counted(text, b"longest stretch: ", stretch.events, b" events of ")?;
+    put_pieces(text, &[thread_name(program, stretch.thread), b"\n"])
 }

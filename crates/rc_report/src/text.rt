@@ -1,6 +1,6 @@
 //! Texts that grow in memory. Each call adds to the end of a text, and answers an error only where memory ran out.
 
-ghost use Rattle.std.specs.Prelude.{decimal};
+ghost use Rattle.std.specs.Prelude.{◌++◌, decimal};
 ghost use Rattle.std.specs.Fmt.{signed_decimal};
 ghost use Rattle.std.specs.List.{flat_map};
 ghost use Rattle.rc_report.specs.Text.{Puts};
@@ -39,4 +39,18 @@ pub fn put_signed(text: &mut Vec<u8>, number: i64) -> Result<(), AllocError>
 {
     let mut buffer = Buffer::new();
     put_piece(text, buffer.format(number).as_bytes())
+}
+
+/// Adds a number in decimal between two pieces.
+pub fn put_counted(
+    text: &mut Vec<u8>,
+    before: &[u8],
+    number: u64,
+    after: &[u8],
+) -> Result<(), AllocError>
+    ensures { Puts text.old text.new (before.now ++ decimal number ++ after.now) result }
+{
+    put_piece(text, before)?;
+    put_number(text, number)?;
+    put_piece(text, after)
 }

@@ -1,0 +1,18 @@
+-- Texts that grow.
+use Rattle.std.proofs.Common.{◌≡◌, ℕ, List, ◌++◌, Result, Ok, Err, sym, ap, ◌∙◌, append_assoc}
+use Rattle.std.specs.Global.{Vec}
+use Rattle.rc_report.specs.Text.{Puts}
+
+-- a text with one part more
+pub grown : (start now next so_far part whole : List ℕ) → now ≡ start ++ so_far → next ≡ now ++ part → whole ≡ so_far ++ part → next ≡ start ++ whole
+grown start now next so_far part whole i e w = e ∙ ap (λ t. t ++ part) i ∙ append_assoc start so_far part ∙ ap (λ t. start ++ t) (sym w)
+
+-- one part, and then another
+pub puts_both : {X E : Type 0} (a b c : Vec ℕ) (s t : List ℕ) (r : Result X E) → b.items ≡ a.items ++ s → Puts b c t r → Puts a c (s ++ t) r
+puts_both a b c s t (Ok x) e p = p ∙ ap (λ u. u ++ t) e ∙ append_assoc a.items s t
+puts_both a b c s t (Err x) e p = tt
+
+-- the same text under another name
+pub puts_along : {X E : Type 0} (a b : Vec ℕ) (s t : List ℕ) (r : Result X E) → s ≡ t → Puts a b s r → Puts a b t r
+puts_along a b s t (Ok x) e p = p ∙ ap (λ u. a.items ++ u) e
+puts_along a b s t (Err x) e p = tt
