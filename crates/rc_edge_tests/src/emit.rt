@@ -36,14 +36,14 @@ fn failed_write_is_answered(rt: HostRuntime) -> Result<(), Fail> {
     let alloc = rt.alloc();
     let program = read_program(alloc, HANDOFF.as_bytes()).or(Err("unreadable"))?;
     let mut whole = WriteSink::new(Vec::new(alloc));
-    assert!(rt; c_text(&program, HANDOFF.as_bytes(), &mut whole).is_ok());
+    assert!(rt; c_text(alloc, &program, HANDOFF.as_bytes(), &mut whole).is_ok());
     let c = whole.writer.as_slice();
     for room in [0, 1, 100, 5000] {
         let mut sink = WriteSink::new(Short {
             written: Vec::new(alloc),
             room,
         });
-        let written = c_text(&program, HANDOFF.as_bytes(), &mut sink);
+        let written = c_text(alloc, &program, HANDOFF.as_bytes(), &mut sink);
         assert!(rt; written == Err(EngineFault::Write));
         assert_eq!(rt; sink.failures, 1);
         assert_eq!(rt; sink.writer.written.len(), room);

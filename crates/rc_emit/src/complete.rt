@@ -33,7 +33,7 @@ pub fn c_text<W: Sink>(
 }
 
 /// Adds a complete C program over liburing that does, statement by statement, what a program does. The source is the text
-/// that the program was read from: its words stand in comments, and name the variables.
+/// that the program was read from: its words are in comments.
 pub fn put_c(text: &mut Vec<u8>, source: &[u8], program: &Program) -> Result<(), AllocError>
     ensures { Grows text.old text.new result }
 {

@@ -1,7 +1,6 @@
 //! Where a statement of a thread is.
 
 use crate::terms::{data, number, signed};
-use crate::variables::variable_in;
 use rc_lang::lines::{Line, Operand};
 use rc_lang::program::{Program, Thread};
 use rc_report::printed::buffer_name;
@@ -86,11 +85,11 @@ impl<'a> Place<'a> {
         Ok(term)
     }
 
-    /// A variable of the statement, as C has it.
+    /// A variable of the thread, as C has it.
     pub fn variable(self, variable: usize) -> Result<Vec<u8>, AllocError> {
         let mut term = Vec::from_slice(self.alloc, b"var_")?;
-        if let Some(line) = self.thread.lines.get(self.at) {
-            put_piece(&mut term, variable_in(line.stmt, self.source, variable))?;
+        if let Some(name) = self.thread.variables.get(variable) {
+            put_piece(&mut term, name)?;
         }
         Ok(term)
     }

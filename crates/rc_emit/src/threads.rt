@@ -6,24 +6,22 @@ use crate::blocks::{depth_after, depth_of, put_stmt};
 use crate::fixed::{THREAD_BEGINNING, THREAD_BODY, THREAD_END, THREADS};
 use crate::lines::{put_comment, put_line, put_text};
 use crate::place::Place;
-use crate::variables::variable_name;
+use crate::variables::has_variable;
 use rc_lang::program::Program;
 use rc_report::source::Lines;
 use std::alloc::AllocError;
 
-/// Adds a line for each variable of a thread, between two texts.
+/// Adds a line for each variable of a thread that C has, between two texts.
 fn put_variables(
     text: &mut Vec<u8>,
     place: Place<'_>,
-    lines: &Lines<'_>,
     before: &[u8],
     after: &[u8],
 ) -> Result<(), AllocError>
     ensures { Grows text.old text.new result }
 {
-    for variable in 0..place.thread.variables {
-        let name = variable_name(place.thread, lines, variable);
-        if !name.is_empty() {
+    for (variable, name) in place.thread.variables.iter().enumerate() {
+        if has_variable(place.thread, variable) {
             put_line(text, place, &[before, b"var_", name, after])?;
         }
     }
@@ -50,24 +48,20 @@ fn put_thread(text: &mut Vec<u8>, place: Place<'_>, lines: &Lines<'_>) -> Result
 {
     put_text(text, &[b"\n"])?;
     put_comment(text, place)?;
-    put_declarations(text, place, lines)?;
+    put_declarations(text, place)?;
     put_stmts(text, place, lines)?;
     put_text(text, &[THREAD_END.as_bytes()])
 }
 
 /// Adds the head of a thread's function, and its variables, which may be written and never read.
-fn put_declarations(
-    text: &mut Vec<u8>,
-    place: Place<'_>,
-    lines: &Lines<'_>,
-) -> Result<(), AllocError>
+fn put_declarations(text: &mut Vec<u8>, place: Place<'_>) -> Result<(), AllocError>
     ensures { Grows text.old text.new result }
 {
     put_text(text, &[b"static void *body_", &place.thread.name])?;
     put_text(text, &[THREAD_BEGINNING.as_bytes()])?;
-    put_variables(text, place, lines, b"int64_t ", b" = 0;")?;
+    put_variables(text, place, b"int64_t ", b" = 0;")?;
     put_text(text, &[THREAD_BODY.as_bytes()])?;
-    put_variables(text, place, lines, b"(void)", b";")
+    put_variables(text, place, b"(void)", b";")
 }
 
 /// Adds the functions of the threads, and the list of them.

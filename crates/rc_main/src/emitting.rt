@@ -21,13 +21,14 @@ pub fn emit_text<S: Sink>(alloc: Global, text: &[u8], sink: &mut S) -> Result<u8
     ensures writes { WritesOnce (S.failure_count sink.old) (S.failure_count sink.new) result }
 {
     match judged(alloc, text)? {
-        Ok(admitted) => emit_admitted(&admitted, text, sink),
+        Ok(admitted) => emit_admitted(alloc, &admitted, text, sink),
         Err(verdict) => tell_verdict(verdict, sink),
     }
 }
 
 /// Writes an admitted program in C; the text is the one that it was read from.
 fn emit_admitted<S: Sink>(
+    alloc: Global,
     admitted: &Admitted,
     text: &[u8],
     sink: &mut S,
@@ -37,6 +38,6 @@ fn emit_admitted<S: Sink>(
     ensures writes { WritesOnce (S.failure_count sink.old) (S.failure_count sink.new) result }
     ensures no_read { IfErr result ReadsNothing }
 {
-    c_text(admitted.program(), text, sink)?;
+    c_text(alloc, admitted.program(), text, sink)?;
     Ok(GOOD_STATUS)
 }
