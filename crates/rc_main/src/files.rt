@@ -5,17 +5,19 @@ ghost use Rattle.rc_main.specs.declared.files.Unread.{Unread};
 ghost use Rattle.rc_main.specs.Answers.{WritesOnce};
 ghost use Rattle.rc_main.specs.Files.{AnswersAs, AnswersFiles, IsTold, SaysFile, bytes_of, line_told, verdict_told};
 ghost use Rattle.rc_report.specs.Streams.{FailsToWrite, FailsToWriteOrGrow, WritesNothingOnGrow, Wrote};
+ghost use Rattle.rc_report.specs.Text.{Puts};
 
 use crate::fault::CommandFault;
 use rc_report::check_engine::verdict_on;
 use rc_report::engine_fault::EngineFault;
-use rc_report::file_verdict::{verdict_line, verdict_object};
+use rc_report::file_verdict::{put_file_object, put_file_verdict};
 use rc_report::reading::read_text;
-use rc_report::shown::write_shown;
+use rc_report::shown::{put_shown, write_shown};
 use rc_report::status::DEVICE_STATUS;
-use rc_report::streams::{ReadSource, Sink, WriteSink};
+use rc_report::streams::{ReadSource, Sink};
+use rc_report::text::{put_piece, put_pieces};
 use rc_report::verdict::Verdict;
-use rc_report::writing::write_piece;
+use rc_report::writing::{write_piece, write_pieces};
 use std::alloc::{AllocError, Global};
 use std::fs;
 use std::io::{self, Read};
@@ -182,7 +184,7 @@ fn check_file<T: Texts, S: Sink, E: Sink>(
 /// What is told where memory ran out.
 const MEMORY: &str = "out of memory (20)";
 
-/// Writes the verdict on a file's text, as JSON or as text.
+/// Writes the verdict on a file's text, as JSON or as text, in one piece.
 fn write_verdict<S: Sink>(
     alloc: Global,
     name: &str,
@@ -195,10 +197,25 @@ fn write_verdict<S: Sink>(
     ensures memory { WritesNothingOnGrow (S.contents sink.old) (S.contents sink.new) result }
     ensures failures { FailsToWriteOrGrow (S.failure_count sink.old) (S.failure_count sink.new) result }
 {
+    let mut text = Vec::new(alloc);
+    put_told(&mut text, alloc, name, verdict, json)?;
+    write_piece(sink, &text)
+}
+
+/// Adds the verdict on a file's text, as JSON or as text.
+fn put_told(
+    text: &mut Vec<u8>,
+    alloc: Global,
+    name: &str,
+    verdict: &Verdict,
+    json: bool,
+) -> Result<(), AllocError>
+    ensures { Puts text.old text.new (verdict_told json name.now verdict.now) result }
+{
     if json {
-        verdict_object(alloc, name, verdict, sink)
+        put_file_object(text, alloc, name, verdict)
     } else {
-        verdict_line(name, verdict, sink)
+        put_file_verdict(text, name, verdict)
     }
 }
 
@@ -258,22 +275,29 @@ fn write_at_once<E: Sink>(
     ensures text { Wrote (E.contents errors.old) (E.contents errors.new) (line_told name.now why.now) result }
     ensures failures { FailsToWrite (E.failure_count errors.old) (E.failure_count errors.new) result }
 {
-    let mut line = WriteSink::new(Vec::new(alloc));
-    match write_told(name, why, &mut line) {
-        Ok(()) => write_piece(errors, &line.writer),
-        Err(_) => write_told(name, why, errors),
+    let mut line = Vec::new(alloc);
+    match put_line(&mut line, name, why) {
+        Ok(()) => write_piece(errors, &line),
+        Err(AllocError) => write_line(name, why, errors),
     }
 }
 
+/// Adds the line that says why a file has no answer.
+fn put_line(line: &mut Vec<u8>, name: &str, why: &str) -> Result<(), AllocError>
+    ensures { Puts line.old line.new (line_told name.now why.now) result }
+{
+    put_piece(line, b"ringcheck: ")?;
+    put_shown(line, name)?;
+    put_pieces(line, &[b": ", why.as_bytes(), b"\n"])
+}
+
 /// Writes the line that says why a file has no answer. It takes no memory.
-fn write_told<E: Sink>(name: &str, why: &str, errors: &mut E) -> Result<(), EngineFault>
+fn write_line<E: Sink>(name: &str, why: &str, errors: &mut E) -> Result<(), EngineFault>
     requires { E.failure_count errors.old + 1 < 2 ^ 64 }
     ensures text { Wrote (E.contents errors.old) (E.contents errors.new) (line_told name.now why.now) result }
     ensures failures { FailsToWrite (E.failure_count errors.old) (E.failure_count errors.new) result }
 {
     write_piece(errors, b"ringcheck: ")?;
     write_shown(name, errors)?;
-    write_piece(errors, b": ")?;
-    write_piece(errors, why.as_bytes())?;
-    write_piece(errors, b"\n")
+    write_pieces(errors, &[b": ", why.as_bytes(), b"\n"])
 }

@@ -9,6 +9,7 @@ mod output;
 pub mod running;
 #[cfg(test)]
 mod tests;
+mod usage;
 pub mod words;
 
 use command::{command_over, tell};

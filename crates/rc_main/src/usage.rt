@@ -1,0 +1,126 @@
+//! What words the program takes, and its help.
+
+use clap::{Arg, ArgAction, value_parser};
+use std::alloc::{AllocError, Global};
+
+const VERSION: &str = "0.1.0";
+
+/// What is shown behind the help of `check`.
+const CHECK_HELP: &str =
+    "Exit status: 0 accepted, 1 refused, 2 unreadable, 3 no answer; of several files the greatest.
+
+Example: ringcheck check examples/*.rc
+
+docs/causes.md explains the codes of refused and unreadable lines (V1 to V19, P1 to P11).";
+
+/// A flag, which may stand or not.
+fn described_flag<'a>(alloc: Global, name: &'a str, help: &'a str) -> Arg<'a> {
+    Arg::new(alloc, name)
+        .long(name)
+        .action(ArgAction::SetTrue)
+        .help(help)
+}
+
+/// The files of a command that takes any number of them.
+fn described_files<'a>(alloc: Global) -> Arg<'a> {
+    Arg::new(alloc, "file")
+        .value_name("FILE")
+        .num_args(0..)
+        .action(ArgAction::Append)
+        .help("Files to check, with one verdict a line; without any, or with -, standard input")
+}
+
+/// The words of `check`.
+fn described_check<'a>(alloc: Global) -> Result<clap::Command<'a>, AllocError> {
+    let json = "Print the verdict as one JSON object";
+    let explain =
+        "Print why behind the verdict, and what is known before each line; of one file at most";
+    clap::Command::new(alloc, "check")
+        .about("Check programs, and print the verdict on each")
+        .after_help(CHECK_HELP)
+        .arg(described_flag(alloc, "json", json))?
+        .arg(described_flag(alloc, "explain", explain))?
+        .arg(described_files(alloc))
+}
+
+/// The file of a command that takes one.
+fn described_file<'a>(alloc: Global) -> Arg<'a> {
+    Arg::new(alloc, "file")
+        .value_name("FILE")
+        .action(ArgAction::Set)
+        .help("A file with the program; without any, or with -, standard input")
+}
+
+/// The schedule of `step`.
+fn described_schedule<'a>(alloc: Global) -> Arg<'a> {
+    Arg::new(alloc, "schedule")
+        .long("schedule")
+        .value_name("ITEMS")
+        .action(ArgAction::Set)
+        .default_value("")
+        .help("Items joined by commas: NAME, NAME=R, k:U=R or k:U=R:H")
+}
+
+/// The words of `step`.
+fn described_step<'a>(alloc: Global) -> Result<clap::Command<'a>, AllocError> {
+    let state = "Print the world in which the trace ends, and what may come next";
+    clap::Command::new(alloc, "step")
+        .about("Step a program through a schedule, and print the trace")
+        .arg(described_schedule(alloc))?
+        .arg(described_flag(alloc, "state", state))?
+        .arg(described_file(alloc))
+}
+
+/// A number that `run` asks for.
+fn described_number<'a>(alloc: Global, name: &'a str) -> Arg<'a> {
+    Arg::new(alloc, name)
+        .long(name)
+        .value_name("N")
+        .required(true)
+}
+
+/// The seed of `run`.
+fn described_seed<'a>(alloc: Global) -> Arg<'a> {
+    described_number(alloc, "seed")
+        .value_parser(value_parser!(u32))
+        .help("What the choices are made by, from 0 to 4294967295")
+}
+
+/// The limit of `run`.
+fn described_limit<'a>(alloc: Global) -> Arg<'a> {
+    described_number(alloc, "limit")
+        .value_parser(value_parser!(u32).range(1..=1000000))
+        .help("How many events its threads may make, from 1 to 1000000")
+}
+
+/// The words of `run`.
+fn described_run<'a>(alloc: Global) -> Result<clap::Command<'a>, AllocError> {
+    let summary = "Print counts in place of the trace";
+    clap::Command::new(alloc, "run")
+        .about("Run a program on threads, and print the trace")
+        .arg(described_seed(alloc))?
+        .arg(described_limit(alloc))?
+        .arg(described_flag(alloc, "summary", summary))?
+        .arg(described_file(alloc))
+}
+
+/// The words of `c`.
+fn described_c<'a>(alloc: Global) -> Result<clap::Command<'a>, AllocError> {
+    clap::Command::new(alloc, "c")
+        .about("Print an accepted program as a C program over liburing")
+        .arg(described_file(alloc))
+}
+
+/// The words that the program takes.
+pub fn described<'a>(alloc: Global) -> Result<clap::Command<'a>, AllocError> {
+    clap::Command::new(alloc, "ringcheck")
+        .about("Checks threaded programs of liburing calls on one shared io_uring")
+        .version(VERSION)
+        .bin_name("ringcheck")?
+        .no_binary_name(true)
+        .subcommand_required(true)
+        .subcommand(described_check(alloc)?)?
+        .subcommand(described_step(alloc)?)?
+        .subcommand(described_run(alloc)?)?
+        .subcommand(described_c(alloc)?)
+}
