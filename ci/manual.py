@@ -31,7 +31,7 @@ def of_page():
 
 def of_source():
     """The same, as the source describes them: a function for each command, and for words that it takes."""
-    functions = {re.match(r"\w+", text)[0]: text for text in re.split(r"^fn ", WORDS.read_text(), flags=re.MULTILINE)[1:]}
+    functions = {re.match(r"\w+", text)[0]: text for text in re.split(r"^(?:pub )?fn ", WORDS.read_text(), flags=re.MULTILINE)[1:]}
 
     def options(text):
         own = re.findall(r'(?:\.long\(|described_\w+\(alloc, )"([a-z-]+)"', text)

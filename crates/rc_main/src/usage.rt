@@ -5,7 +5,7 @@ use std::alloc::{AllocError, Global};
 
 const VERSION: &str = "0.1.0";
 
-/// What is shown behind the help of `check`.
+/// What is shown after the help of `check`.
 const CHECK_HELP: &str =
     "Exit status: 0 accepted, 1 refused, 2 unreadable, 3 no answer; of several files the greatest.
 
@@ -13,7 +13,7 @@ Example: ringcheck check examples/*.rc
 
 docs/causes.md explains the codes of refused and unreadable lines (V1 to V19, P1 to P11).";
 
-/// A flag, which may stand or not.
+/// A flag, which may be left out.
 fn described_flag<'a>(alloc: Global, name: &'a str, help: &'a str) -> Arg<'a> {
     Arg::new(alloc, name)
         .long(name)
@@ -34,7 +34,7 @@ fn described_files<'a>(alloc: Global) -> Arg<'a> {
 fn described_check<'a>(alloc: Global) -> Result<clap::Command<'a>, AllocError> {
     let json = "Print the verdict as one JSON object";
     let explain =
-        "Print why behind the verdict, and what is known before each line; of one file at most";
+        "Print why after the verdict, and what is known before each line; of one file at most";
     clap::Command::new(alloc, "check")
         .about("Check programs, and print the verdict on each")
         .after_help(CHECK_HELP)
