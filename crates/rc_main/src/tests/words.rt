@@ -79,7 +79,7 @@ Arguments:
 
 Options:
       --json     Print the verdict as one JSON object
-      --explain  Print why behind the verdict, and what is known before each line; of one file at most
+      --explain  Print why after the verdict, and what is known before each line; of one file at most
   -h, --help     Print help
 
 Exit status: 0 accepted, 1 refused, 2 unreadable, 3 no answer; of several files the greatest.
