@@ -53,7 +53,7 @@ listed_in P made i j s h = go (slice_get P.threads i) refl h
   where
     go : (o : Option Thread) → slice_get P.threads i ≡ o → stmt_at (lines_in o) j ≡ Some s → NamesList (length (lists_in o)) s
     go None e h = absurd (cc)
-    go (Some t) e h = names_list P t.variables (length t.lists) s ((made.each i t e).resolved j s h)
+    go (Some t) e h = names_list P (length t.variables) (length t.lists) s ((made.each i t e).resolved j s h)
 
 -- The lists of a made program's thread are its items.
 pub list_is_items : (P : Program) → IsProgram P → (i k : ℕ) → k < length (lists_of P i) → IsItems P (items_at (lists_of P i) k)
