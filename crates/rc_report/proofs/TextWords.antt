@@ -3,11 +3,8 @@ use Rattle.std.proofs.Common.{◌≡◌, ℕ, zero, suc, ◌+◌, ◌-◌, ◌<�
 use Rattle.std.proofs.lemmas.Bool.{eqb-true}
 use Rattle.std.proofs.lemmas.List.{drop_more, get_or-map, take_more}
 use Rattle.rc_read.specs.Words.{before_line, cut, is_blank, last_line, text_lines, without_comment, word_if_any, words_after, words_of}
-use Rattle.std.specs.Prelude.{Option, codes}
-use Rattle.std.specs.Io.KnownBytes.{Appends}
-use Rattle.rc_report.specs.Source.{behind_blanks, line_numbered, line_words, spaced}
-use Rattle.rc_report.specs.Streams.{Began}
-use Rattle.rc_report.proofs.Pieces.{append-[], appends_both, began_next}
+use Rattle.rc_report.specs.Source.{line_numbered}
+use Rattle.rc_report.proofs.Pieces.{append-[]}
 
 -- ---- lines
 
@@ -116,30 +113,3 @@ pub skips_blank : (bytes : List ℕ) (i : ℕ) → i < length bytes → is_blank
 skips_blank bytes i lt k =
     let b = get_or bytes i 0 in
     ap words_of (drop_more bytes i 0 lt) ∙ skips_by (eqb b 35) b (without_comment (drop (i + 1) bytes)) (blank_is_no_comment b (eqb b 35) refl k) k
-
--- ---- what is written
-
--- The text is written but for this rest.
-pub record IsWritten (old new : Option (List ℕ)) (text rest : List ℕ) : Type 0 where
-  pub done : List ℕ
-  pub cut : text ≡ done ++ rest
-  pub written : Appends old new done
-
--- what is written next
-pub written_next : (a b c : Option (List ℕ)) (text left piece rest : List ℕ) → left ≡ piece ++ rest → IsWritten a b text left → Appends b c piece → IsWritten a c text rest
-written_next a b c text left piece rest e h p = record {
-  done = h.done ++ piece;
-  cut = h.cut ∙ ap (λ (xs : List ℕ). h.done ++ xs) e ∙ sym (append_assoc h.done piece rest);
-  written = appends_both a b c h.done piece h.written p;
-}
-
--- what fails to be
-pub written_fails : (a b c : Option (List ℕ)) (text left piece rest : List ℕ) → left ≡ piece ++ rest → IsWritten a b text left → Began b c piece → Began a c text
-written_fails a b c text left piece rest e h p = began_next a b c h.done piece rest text (h.cut ∙ ap (λ (xs : List ℕ). h.done ++ xs) e) h.written p
-
--- the first word of a line, and those behind it
-pub first_of_words : (text : List ℕ) (number : ℕ) (line word : List ℕ) (words : List (List ℕ)) → line ≡ line_numbered (text_lines text) number → words_of line ≡ word ∷ words → word ++ behind_blanks words ≡ line_words text number
-first_of_words text number line word words e f = sym (ap spaced (ap words_of (sym e) ∙ f))
-
-pub next_word : (line word : List ℕ) (words : List (List ℕ)) → words_of line ≡ word ∷ words → behind_blanks (words_of line) ≡ (codes " " ++ word ++ []) ++ behind_blanks words
-next_word line word words f = ap behind_blanks f ∙ sym (ap (λ u. codes " " ++ u) (append_assoc word [] (behind_blanks words)))

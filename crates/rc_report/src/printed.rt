@@ -6,17 +6,14 @@ ghost use Rattle.rc_lang.specs.Program.{IsProgram};
 ghost use Rattle.rc_world.specs.FaultNames.{name_of_fault, number_of_fault};
 ghost use Rattle.rc_report.specs.Printed.{action_text, buffer_name, end_line, event_line, event_text, fault_line, item_line, joined, party_text, place_text, schedule_line, thread_name, valued};
 ghost use Rattle.rc_report.specs.Streams.{FailsToWrite, Wrote};
-ghost use Rattle.rc_report.specs.Text.{Puts};
 
 use crate::engine_fault::EngineFault;
 use crate::streams::Sink;
-use crate::text::put_counted;
 use crate::writing::{write_piece, write_pieces};
 use itoa::Buffer;
 use rc_lang::program::Program;
 use rc_world::event::{Action, Completion, Event};
 use rc_world::fault::{Fault, FaultKind, Party};
-use std::alloc::AllocError;
 
 /// The name of a thread, and nothing where the program has no such thread.
 #[inline]
@@ -232,11 +229,4 @@ pub fn write_schedule_line<W: Sink>(writer: &mut W, item: u64) -> Result<(), Eng
     let mut buffer = Buffer::new();
     let item = buffer.format(item).as_bytes();
     write_pieces(writer, &[b"schedule item ", item, b" unreadable\n"])
-}
-
-/// Adds the line that says that the item of a schedule with this number, from 1, can't be read.
-pub fn put_schedule_line(text: &mut Vec<u8>, item: u64) -> Result<(), AllocError>
-    ensures { Puts text.old text.new (schedule_line item) result }
-{
-    put_counted(text, b"schedule item ", item, b" unreadable\n")
 }

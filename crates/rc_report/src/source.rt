@@ -1,16 +1,12 @@
 //! The lines of a text, and the words of a line as they are printed.
 
-ghost use Rattle.std.specs.Prelude.{◌≡◌, ◌+◌, ◌<◌, ◌≤◌, ◌^◌, ◌++◌, [], ◌∷◌, IfOk, MatchOption, length, slice_index_or, take, drop, ℕ, suc, false};
+ghost use Rattle.std.specs.Prelude.{◌≡◌, ◌<◌, ◌≤◌, ◌++◌, [], ◌∷◌, IfOk, MatchOption, length, slice_index_or, take, drop, false};
 ghost use Rattle.rc_read.specs.Words.{text_lines, word_if_any, words_of};
 ghost use Rattle.rc_read.specs.Words as words;
 ghost use Rattle.rc_report.specs.Source.{behind_blanks, line_numbered, line_words};
-ghost use Rattle.rc_report.specs.Streams.{FailsToWrite, Wrote};
 ghost use Rattle.rc_report.specs.Text.{Puts};
 
-use crate::engine_fault::EngineFault;
-use crate::streams::Sink;
 use crate::text::{put_piece, put_pieces};
-use crate::writing::{write_piece, write_pieces};
 use std::alloc::{AllocError, Global};
 use std::marker::Model;
 
@@ -88,59 +84,6 @@ fn put_after_blanks(text: &mut Vec<u8>, line: &[u8]) -> Result<(), AllocError>
     Ok(())
 }
 
-/// Writes the words of the text's line with this number, from 1, without its comment, with one blank between two.
-/// Nothing is written where the line has no word, or the text no such line. It takes no memory.
-pub fn write_words<W: Sink>(writer: &mut W, text: &[u8], number: u32) -> Result<(), EngineFault>
-    requires { W.failure_count writer.old + 1 < 2 ^ 64 }
-    ensures text { Wrote (W.contents writer.old) (W.contents writer.new) (line_words text.now number) result }
-    ensures failures { FailsToWrite (W.failure_count writer.old) (W.failure_count writer.new) result }
-{
-    match first_word(line_numbered(text, number)) {
-        Some((word, behind)) => {
-            write_piece(writer, word)?;
-            write_behind_blanks(writer, behind)
-        }
-        None => Ok(()),
-    }
-}
-
-/// Writes the words of a part of a line, each behind a blank.
-fn write_behind_blanks<W: Sink>(writer: &mut W, line: &[u8]) -> Result<(), EngineFault>
-    requires { W.failure_count writer.old + 1 < 2 ^ 64 }
-    ensures text { Wrote (W.contents writer.old) (W.contents writer.new) (behind_blanks (words_of line.now)) result }
-    ensures failures { FailsToWrite (W.failure_count writer.old) (W.failure_count writer.new) result }
-{
-    let mut rest = line;
-    while let Some((word, behind)) = first_word(rest) {
-        write_pieces(writer, &[b" ", word])?;
-        rest = behind;
-    }
-    Ok(())
-}
-
-/// The line with this number, from 1, and nothing where there is no such line.
-fn line_numbered(text: &[u8], number: u32) -> &[u8]
-    ensures { result.now ≡ line_numbered (text_lines text.now) number }
-{
-    let mut line: &[u8] = &[];
-    let mut rest = text;
-    for _count in 0..number {
-        (line, rest) = any_line(rest);
-    }
-    line
-}
-
-/// The first line, and what comes after its line feed. A text without a line has an empty one.
-fn any_line(text: &[u8]) -> (&[u8], &[u8])
-    ensures line { result.0.now ≡ slice_index_or (text_lines text.now) 0 [] }
-    ensures others { (n : ℕ) → slice_index_or (text_lines text.now) (suc n) [] ≡ slice_index_or (text_lines result.1.now) n [] }
-{
-    if text.is_empty() {
-        return (text, text);
-    }
-    first_line(text)
-}
-
 /// The first line of a text that isn't empty, and what comes after its line feed.
 fn first_line(text: &[u8]) -> (&[u8], &[u8])
     requires { 0 < length text.now }
@@ -168,7 +111,7 @@ pub fn first_word(line: &[u8]) -> Option<(&[u8], &[u8])>
     Some((&rest[..end], &rest[end..]))
 }
 
-/// How many blanks stand in front.
+/// How many blanks the bytes begin with.
 fn blanks_in_front(line: &[u8]) -> usize
     ensures within { result ≤ length line.now }
     ensures words { words_of line.now ≡ words_of (drop result line.now) }
@@ -182,7 +125,7 @@ fn blanks_in_front(line: &[u8]) -> usize
     line.len()
 }
 
-/// How many bytes of a word stand in front.
+/// How many bytes of a word they begin with.
 fn letters_in_front(line: &[u8]) -> usize
     ensures within { result ≤ length line.now }
     ensures words { words_of line.now ≡ word_if_any (take result line.now) ++ words_of (drop result line.now) }
