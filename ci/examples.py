@@ -1,12 +1,10 @@
 #!/usr/bin/env python3
-"""Holds the texts of rc_examples and rc_edge_tests against the files of examples/, or writes them.
+"""Compares the texts of rc_examples with the files of examples/, or writes them.
 
 usage: ci/examples.py [--write]
 
-rc_examples has a constant for each program of examples/, named as its file, a row for each text of examples/causes, and
-what the file expected says there. rc_edge_tests has a constant for each file of examples/causes/explained: what is printed
-for the text of that name with its explanation. Without --write nothing is changed, and the status is 1 where a text of a
-crate differs from its file by so much as a byte, or one is missing on either side.
+rc_examples has a constant for each program of examples/, named as its file. Without --write nothing is changed, and the
+status is 1 where a text of the crate differs from its file by so much as a byte, or one is missing on either side.
 """
 
 import difflib
@@ -15,7 +13,6 @@ from pathlib import Path
 
 TOP = Path(__file__).resolve().parent.parent
 EXAMPLES = TOP / "examples"
-CAUSES = EXAMPLES / "causes"
 CRATES = TOP / "crates"
 
 
@@ -46,30 +43,9 @@ def programs():
     return "//! The programs of examples/, each as its file has it.\n" + constants(EXAMPLES.glob("*.rc"))
 
 
-def causes():
-    """The file of the crate with the texts of the causes."""
-    row = "    Example {{\n        name: \"{}\",\n        text: {},\n    }},\n"
-    rows = [row.format(path.name, literal(path)) for path in sorted(CAUSES.glob("*.rc"))]
-    return (
-        "//! The texts of examples/causes, each with a mistake, and what is printed for them.\n\n"
-        "use crate::example::Example;\n\n"
-        "pub const CAUSES: &[Example] = &[\n" + "".join(rows) + "];\n\n"
-        "pub const EXPECTED: &str = " + literal(CAUSES / "expected") + ";\n"
-    )
-
-
-def explained():
-    """The file of the crate with what is printed for the causes with their explanations, a constant each."""
-    return "//! What examples/causes/explained has, a text each.\n" + constants((CAUSES / "explained").iterdir())
-
-
 def wanted_files():
-    """The files of the crates that have texts, by their names."""
-    return {
-        "rc_examples/src/programs.rt": programs(),
-        "rc_examples/src/causes.rt": causes(),
-        "rc_edge_tests/src/explain/engine/explained.rt": explained(),
-    }
+    """The files of the crate that have texts, by their names."""
+    return {"rc_examples/src/programs.rt": programs()}
 
 
 def differences(path, wanted):
@@ -87,7 +63,7 @@ def main():
         if sys.argv[1:]:
             (CRATES / name).write_bytes(wanted.encode())
         elif found := differences(CRATES / name, wanted):
-            print("\n".join(["the texts of the crates differ from examples/:", *found]), file=sys.stderr)
+            print("\n".join(["the texts of rc_examples differ from examples/:", *found]), file=sys.stderr)
             status = 1
     return status
 

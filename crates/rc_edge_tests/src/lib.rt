@@ -1,12 +1,10 @@
-//! The tests of the crates that run admitted programs and of those that write: of `rc_run`, `rc_report`, `rc_state`,
-//! `rc_explain` (of its hints too) and `rc_emit`, a module each. They stand above those crates, since a crate with tests is
-//! proved twice.
+//! The tests of the crates that run admitted programs and of those that make texts: of `rc_run`, `rc_report`, `rc_state`,
+//! the hints of `rc_explain`, and `rc_emit`, a module each. They are above those crates, since a crate with tests is proved
+//! twice. What is printed else of explanations is compared with records by `ci/golden.py`.
 #![tactic(auto)]
 
 #[cfg(test)]
 mod emit;
-#[cfg(test)]
-mod explain;
 #[cfg(test)]
 mod hint;
 #[cfg(test)]

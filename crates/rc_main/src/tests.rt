@@ -1,6 +1,5 @@
 //! The program on words and texts, with everything that it writes and its status.
 
-mod causes;
 mod checks;
 mod devices;
 mod emitting;

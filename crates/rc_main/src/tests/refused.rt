@@ -1,4 +1,4 @@
-//! Growths that are refused. Each of these tests holds too where any one growth is refused: `audit/refused-growths` runs
+//! Growths that are refused. Each of these tests holds too where any one growth is refused: `ci/refused-growths` runs
 //! it with each refused in turn.
 
 ghost use Rattle.std.specs.Prelude.{◌<◌};
