@@ -1,6 +1,6 @@
 //! Where each thread is, and its variables.
 
-ghost use Rattle.std.specs.Prelude.{◌≡◌, Some};
+ghost use Rattle.std.specs.Prelude.{◌≡◌, Some, length, slice_get};
 ghost use Rattle.rc_lang.specs.Parts.{view_thread};
 ghost use Rattle.rc_report.specs.Text.{Puts};
 ghost use Rattle.rc_state.specs.State as spec;
@@ -94,17 +94,34 @@ fn put_holder(text: &mut Vec<u8>, program: &Program, holder: Option<u32>) -> Res
 fn put_variables(text: &mut Vec<u8>, world: &World<'_>, thread: u32) -> Result<(), AllocError>
     ensures { Puts text.old text.new (spec.variables_text world.now thread) result }
 {
-    let Some(named) = world.program().threads().get(thread as usize) else {
-        return Ok(());
-    };
-    for x in 0..named.variables.len() {
-        put_variable(text, variable_name(named, x), world.variable(thread, x))?;
+    let program = world.program();
+    for x in 0..variables_of(program, thread) {
+        put_variable(text, variable_name(program, thread, x), world.variable(thread, x))?;
     }
     Ok(())
 }
 
-/// The name of a variable of a thread, and nothing where it has no such variable.
-fn variable_name(thread: &Thread, x: usize) -> &[u8]
+/// How many variables a thread has, and none where the program has no such thread.
+fn variables_of(program: &Program, thread: u32) -> usize
+    ensures { result ≡ length (spec.variables_in (slice_get program.now.threads thread)) }
+{
+    match program.threads().get(thread as usize) {
+        Some(thread) => thread.variables.len(),
+        None => 0,
+    }
+}
+
+/// The name of a variable of a thread, and nothing where there is no such variable.
+fn variable_name(program: &Program, thread: u32, x: usize) -> &[u8]
+    ensures { result.now ≡ spec.variable_name (slice_get program.now.threads thread) x }
+{
+    match program.threads().get(thread as usize) {
+        Some(thread) => name_in(thread, x),
+        None => &[],
+    }
+}
+
+fn name_in(thread: &Thread, x: usize) -> &[u8]
     ensures { result.now ≡ spec.variable_name (Some (view_thread thread.now)) x }
 {
     match thread.variables.get(x) {
