@@ -66,7 +66,7 @@ one_by P made b m n k (Fill c x) h r a e =
     subst (λ (x : Access). 1 ≤ b (ShareOf x.buffer)) (same_Some (record { buffer = c; writes = true }) a e) (omega arith)
 one_by P made b m n k _ h r a e = absurd (cc)
 
--- ---- where a thread stands
+-- ---- where a thread is
 
 pub record Next (w : World) (i : ℕ) (s : Stmt) : Type 0 where
   pub thread : Standing

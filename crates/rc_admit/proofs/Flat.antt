@@ -58,7 +58,7 @@ Enters flag lines labels (InPeek o) = Entered flag lines labels o
 Enters flag lines labels (InLoop o k) = Entered flag lines labels o
 Enters flag lines labels _ = Unit {0}
 
--- A thread stands at a place with the label on the side of its flag, which is live, in blocks that were entered so.
+-- A thread is at a place with the label on the side of its flag, which is live, in blocks that were entered so.
 pub record At (flag : Option ℕ) (lines : List Line) (labels : List Sides) (b : Part → ℕ) (m : Mode) (vars : List ℤ) (k : ℕ) : Type 0 where
   pub label : label_at labels k (side_of flag vars) ≡ Live b m
   pub stored : IsStored flag vars
@@ -143,18 +143,18 @@ module _ (P : Program) (wf : IsProgram P) (i : ℕ) (thread : Thread) (labels : 
       }
 
   module _ (b : Part → ℕ) (m : Mode) (vars : List ℤ) (k : ℕ) (a : At thread.flag lines labels b m vars k) where
-    -- the side on which the thread stands
+    -- the side on which the thread is
     abbrev side : Bool
     side = side_of flag vars
 
-    -- its side behind a peek into x that brings v
+    -- its side after a peek into x that brings v
     abbrev turned : ℕ → ℤ → Bool
     turned x v = side_of flag (slice_set vars x v)
 
     entered : Entered flag lines labels k
     entered = record { variables = vars; bag = b; mode = m; label = a.label; locked = a.locked }
 
-    -- to a place that stands in the same blocks
+    -- to a place that is in the same blocks
     same : (c : Part → ℕ) (n : Mode) (new : List ℤ) (j : ℕ) → blocks_at lines j ≡ blocks_at lines k → is_locked n ≡ is_locked m → IsStored flag new → Weaker (label_at labels j (side_of flag new)) (Live c n) → Leads (Labelled P) i c n new j
     same c n new j e l h w = lead c n new j (blocks_at lines k) e (l ∙ a.locked) h a.openers w
 
@@ -188,7 +188,7 @@ module _ (P : Program) (wf : IsProgram P) (i : ℕ) (thread : Thread) (labels : 
     asked : (s : Stmt) (F : Bool → (Part → ℕ) → Mode → List (ℕ × Premise)) → stmt_at lines k ≡ Some s → Meets (asks_both (here (take k lines) (take (k + 1) labels)) F) → Meets (F side b m)
     asked s F e h = subst (λ t. Meets (asks t (F side))) (here_at s e) (meets_side (λ z. asks (here (take k lines) (take (k + 1) labels) z) (F z)) side h)
 
-    -- what the label behind the line is weaker than
+    -- what the label after the line is weaker than
     comes : (s : Stmt) (F : (Part → ℕ) → Mode → Label) (t : Label) → stmt_at lines k ≡ Some s → Weaker t (goes (here (take k lines) (take (k + 1) labels) side) F) → Weaker t (F b m)
     comes s F t e w = subst (λ x. Weaker t (goes x F)) (here_at s e) w
 
@@ -208,7 +208,7 @@ module _ (P : Program) (wf : IsProgram P) (i : ℕ) (thread : Thread) (labels : 
             let w = comes_by (Do op) (λ y. turns (write_of flag op) y (side_of flag new)) (λ bag m. op_effect P bag m op) (label_at labels (k + 1) (side_of flag new)) e h.turns_to (g.after (side_of flag new)) in
             behind_op P wf b m op (λ c n. Leads (Labelled P) i c n new (k + 1)) (label_at labels (k + 1) (side_of flag new)) w (λ c n l w. same c n new (k + 1) (blocks_next lines k (Do op) e) l h.stored w)
 
-    -- what is put is not held behind the line
+    -- what is put is not held after the line
     put_edge : (n : ℕ) → stmt_at lines k ≡ Some (Put n) → EdgeAt P (Labelled P) i b m vars k (Some (Put n))
     put_edge n e =
         let g = good_at k (Put n) e in
@@ -276,7 +276,7 @@ module _ (P : Program) (wf : IsProgram P) (i : ℕ) (thread : Thread) (labels : 
           | inr c ↦ out_same b m (k + 1) (blocks_at lines c.opener) (InElse o ∷ []) c.within c.behind refl refl w
         ]
 
-    -- into an arm of the peek that stands here
+    -- into an arm of the peek that is here
     peek_edge : (x : ℕ) → stmt_at lines k ≡ Some (Peek x) → EdgeAt P (Labelled P) i b m vars k (Some (Peek x))
     peek_edge x e = (asked (Peek x) (λ z bag n. peek_premises n) e g.meets, λ u v. to_arm u v, λ v. to_none v)
       where
@@ -292,7 +292,7 @@ module _ (P : Program) (wf : IsProgram P) (i : ℕ) (thread : Thread) (labels : 
         behind_is : (v : ℤ) (c : ℕ) → k < c → label_at (take (c + 1) labels) (k + 1) (turned x v) ≡ Live (behind v).bag (behind v).mode
         behind_is v c lt = known_is (k + 1) c (turned x v) (omega arith) ∙ (behind v).is
 
-        -- what leads into an arm is no stronger than what stands here
+        -- what leads into an arm is no stronger than what is here
         lands : (v : ℤ) (c : ℕ) (f : Peeked) → blocks_at lines (c + 1) ≡ blocks_at lines k ++ InPeek k ∷ InArm k ∷ [] → Weaker (label_at labels (c + 1) (turned x v)) (Live (behind v).bag (with_peeked f (behind v).mode)) → Leads (Labelled P) i b (with_peeked f m) (slice_set vars x v) (c + 1)
         lands v c f n w =
             into b (with_peeked f m) (slice_set vars x v) (c + 1) (InPeek k ∷ InArm k ∷ []) n refl (stored_set flag vars x v a.stored) (entered, (tt, tt)) (peeked_locked f m) (weaker_trans (label_at labels (c + 1) (turned x v)) (Live (behind v).bag (with_peeked f (behind v).mode)) (Live b (with_peeked f m)) w ((behind v).less, peeked_grows f (behind v).mode m (behind v).weaker))
@@ -344,7 +344,7 @@ module _ (P : Program) (wf : IsProgram P) (i : ℕ) (thread : Thread) (labels : 
         let w = comes_by (Loop n) (λ y. turns (forgets flag) y side) (λ bag o. Live (bag_on side items) (top_mode P items o)) (label_at labels (k + 1) side) e (loop_turns flag vars vars) (g.after side) in
         into b m vars (k + 1) (InLoop k n ∷ []) (blocks_next lines k (Loop n) e) refl a.stored (entered, tt) refl (weaker_trans (label_at labels (k + 1) side) (Live (bag_on side items) (top_mode P items m)) (Live b m) w (covered P 13 items side b m (asked (Loop n) (λ z bag o. may_loop P 13 items z bag o) e g.meets)))
 
-    -- back to the line behind the top of a loop: its opener was entered, so the label there is of exactly the items
+    -- back to the line after the top of a loop: its opener was entered, so the label there is of exactly the items
     again_edge : (o n : ℕ) → stmt_at lines k ≡ Some (EndLoop o n) → EdgeAt P (Labelled P) i b m vars k (Some (EndLoop o n))
     again_edge o n e =
         let c = closes_loop lines laid.each k o n e in

@@ -78,7 +78,7 @@ none_is o (Nothing p) e = ap Nothing (eqb-true p o e)
 none_is o _ e = absurd (cc)
 
 module _ (P : Program) (i o : ℕ) where
-  -- The line stands between the peek and its closing brace.
+  -- The line is between the peek and its closing brace.
   pub record IsBetween (p : ℕ) (s : Stmt) : Type 0 where
     pub stands : stmt_at (lines_of P i) p ≡ Some s
     pub behind : o < p

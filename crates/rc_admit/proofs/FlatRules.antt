@@ -37,9 +37,9 @@ pub unlocked_of : (m : Mode) → is_locked m ≡ false → m ≡ Unlocked
 unlocked_of Unlocked e = refl
 unlocked_of (Locked s) e = absurd (cc)
 
--- ---- what a label that leads behind a line claims
+-- ---- what a label that leads after a line claims
 
--- what is claimed for each of some ways behind a line
+-- what is claimed for each of some ways after a line
 pub for_each : {A : Type 0} {B : A → Type 0} (l : Label) (K : (x : A) → B x → (Part → ℕ) → Mode → Type 0) → ((x : A) (h : B x) → AtLive l (K x h)) → AtLive l (λ c n. (x : A) (h : B x) → K x h c n)
 for_each Dead K f = tt
 for_each (Live b m) K f = f

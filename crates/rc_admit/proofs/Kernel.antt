@@ -21,7 +21,7 @@ use Rattle.rc_admit.proofs.Ops.{Keeps}
 use Rattle.rc_admit.proofs.Owned.{Stand, HasEdge, EdgeAt, owns, owns_pending, unheld, FrontFits, Fits, held, HasKind, HasKindPending, WellOwned}
 use Rattle.rc_admit.proofs.Steps.{line_keeps}
 
--- It holds of the world behind a step, where that can be made.
+-- It holds of the world after a step, where that can be made.
 abbrev pub AfterStep : (World → Type 0) → Option (Event × World) → Type 0
 AfterStep F None = Unit {0}
 AfterStep F (Some x) = F x.1

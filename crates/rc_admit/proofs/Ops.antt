@@ -314,7 +314,7 @@ module _ (P : Program) (S : Stand) (edge : HasEdge P S) (w : World) (bags : ℕ 
       go true = handed
       go false = tt
 
-  -- A completion is there, and the state behind it has no more than its request gives back.
+  -- A completion is there, and the state after it has no more than its request gives back.
   seen_keeps : (s : Inside) (b : Part → ℕ) (d : Completion) (ds : List Completion) → modes i ≡ Locked s → w.completions ≡ d ∷ ds → ((p : Part) → b p ≤ bags i p + owned P d.user_data p) → Leads S i b (Locked (record s { peeked = Unseen })) t.variables (t.place + 1) → Keeps P S w.controls i (reaps_front w w.completions) (reaps w.controls t (front_of w.completions))
   seen_keeps s b d ds e ec local l =
       let f = front_is w.completed d ds (o.agree ∙ ap data_in ec) in
@@ -333,7 +333,7 @@ module _ (P : Program) (S : Stand) (edge : HasEdge P S) (w : World) (bags : ℕ 
       let a = nonempty_head w.completions f.1 in
       seen_keeps s (plus (bags i) (credits_bag 1)) a.0 a.1 e a.2 (λ p. omega arith) l
 
-  -- what the rule of a statement says behind it
+  -- what the rule of a statement says after it
   abbrev Behind : Op → Claim
   Behind op b m = (new : List ℤ) → MayBecome op t.variables new → Leads S i b m new (t.place + 1)
 

@@ -42,7 +42,7 @@ use Rattle.rc_admit.proofs.Rule.{AtLive}
 abbrev pub Stand : Type 1
 Stand = ℕ → (Part → ℕ) → Mode → List ℤ → ℕ → Type 0
 
--- A state no stronger than this one, in which the thread may stand.
+-- A state no stronger than this one, in which the thread may be.
 pub record Leads (S : ℕ → (Part → ℕ) → Mode → List ℤ → ℕ → Type 0) (i : ℕ) (b : Part → ℕ) (m : Mode) (vars : List ℤ) (place : ℕ) : Type 0 where
   pub bag : Part → ℕ
   pub mode : Mode
@@ -69,7 +69,7 @@ MayPass (SpaceAtLeast n) vars b = Unit {0}
 MayPass (Take k) vars b = Unit {0}
 
 -- The edge law at the line k of thread i: the state before it meets the premises of the line, and the rule's state
--- behind it leads to one in which the thread may stand.
+-- after it leads to one in which the thread may be.
 abbrev pub EdgeAt : Program → Stand → ℕ → (Part → ℕ) → Mode → List ℤ → ℕ → Option Stmt → Type 0
 EdgeAt P S i b m vars k (Some (Do op)) = Meets (op_premises P b m op) × AtLive (op_effect P b m op) (λ c n. (new : List ℤ) → MayBecome op vars new → Leads S i c n new (k + 1))
 EdgeAt P S i b m vars k (Some (Put n)) = Meets (put_premises b m (items_at (lists_of P i) n)) × Leads S i (minus b (bag_of (items_at (lists_of P i) n))) m vars (k + 1)
@@ -96,7 +96,7 @@ Edge P S i b m vars k = EdgeAt P S i b m vars k (stmt_at (lines_of P i) k)
 abbrev pub HasEdge : Program → Stand → Type 0
 HasEdge P S = (i : ℕ) (b : Part → ℕ) (m : Mode) (vars : List ℤ) (k : ℕ) → S i b m vars k → Edge P S i b m vars k
 
--- The thread may stand so as it begins.
+-- The thread may be so as it begins.
 abbrev pub HasStart : Program → Stand → Type 0
 HasStart P S = (i : ℕ) (t : Thread) → slice_get P.threads i ≡ Some t → Leads S i (bag_of t.items) Unlocked (replicate 64 (pos 0)) 0
 
@@ -216,7 +216,7 @@ fits_weaker w true (Locked s) (Locked t) x f =
 
 -- ---- lines that are no event
 
--- Where a step leads once the lines that are no event are passed; behind the end of an arm nothing is peeked.
+-- Where a step leads once the lines that are no event are passed; after the end of an arm nothing is peeked.
 pub record Settled (S : ℕ → (Part → ℕ) → Mode → List ℤ → ℕ → Type 0) (i : ℕ) (b : Part → ℕ) (m : Mode) (vars : List ℤ) (place : ℕ) (ends : Bool) : Type 0 where
   pub leads : Leads S i b m vars place
   pub unseen : ends ≡ true → IsUnseen leads.mode

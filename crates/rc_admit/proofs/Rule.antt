@@ -1,4 +1,4 @@
--- What the rules say of a live state, premise by premise, and of the state behind a line.
+-- What the rules say of a live state, premise by premise, and of the state after a line.
 use Rattle.std.proofs.Common.{◌≡◌, ℕ, true, false, cond, nat_eq, List, [], ◌∷◌, Option, Some, None, refl}
 use Rattle.rc_lang.specs.declared.lines.Op.{Op}
 use Rattle.rc_lang.specs.declared.lines.Op.TheVariants.{Set, Assign, Add, Subtract, Load, Store, Fill, Print}
@@ -45,7 +45,7 @@ pub asks_lock : (m : Mode) (F : Inside → List (ℕ × Premise)) → Meets (loc
 asks_lock Unlocked F h = absurd (let e : false ≡ true = h.0 in cc)
 asks_lock (Locked s) F h = refl
 
--- A statement that calls the ring stands in the lock.
+-- A statement that calls the ring is in the lock.
 pub record InRing (P : Program) (b : Part → ℕ) (m : Mode) (op : Op) : Type 0 where
   pub inside : Inside
   pub is : m ≡ Locked inside

@@ -1,4 +1,4 @@
--- What a step does to the side of its flag on which a thread stands.
+-- What a step does to the side of its flag on which a thread is.
 use Rattle.std.proofs.Common.{◌≡◌, ℕ, ◌<◌, inl, inr, Bool, true, false, ◌&&◌, not, cond, List, ◌++◌, length, Option, Some, None, refl, sym, ap, ◌∙◌, subst, arith, eq-eqb}
 use Rattle.std.specs.Prelude.{slice_index_or, slice_set, ℤ, pos}
 use Rattle.std.specs.Ordering.{int_eq}
@@ -57,7 +57,7 @@ set_turns (Some f) vars x v w h t = elim (cases_eq f x) [
 pub any_turns : (flag : Option ℕ) (vars : List ℤ) (x : ℕ) (v : ℤ) → IsStored flag vars → turns (write_to flag x Anything) (side_of flag vars) (side_of flag (slice_set vars x v)) ≡ true
 any_turns flag vars x v h = set_turns flag vars x v Anything h refl
 
--- The side behind a statement is one that its write to the flag allows, and the flag stays stored.
+-- The side after a statement is one that its write to the flag allows, and the flag stays stored.
 pub record TurnsTo (flag : Option ℕ) (w : Write) (vars new : List ℤ) : Type 0 where
   pub turns_to : turns w (side_of flag vars) (side_of flag new) ≡ true
   pub stored : IsStored flag new

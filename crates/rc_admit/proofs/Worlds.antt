@@ -297,7 +297,7 @@ module _ (w : World) (none : fault_of w ≡ None) where
   front_of_one [] e = absurd (cc)
   front_of_one (c ∷ ds) e = (c, ds, refl, eqb-true (count_of c.user_data w.completed) 1 e)
 
-  -- what is behind a step of cqe_seen
+  -- what is after a step of cqe_seen
   abbrev Leaves : Completion → List Completion → Option (Event × World) → Type 0
   Leaves c ds None = Unit {0}
   Leaves c ds (Some x) = (count_of c.user_data x.1.completed ≡ 0) × (x.1.completions ≡ ds)

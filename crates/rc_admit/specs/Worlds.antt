@@ -68,7 +68,7 @@ NoKernelClash w = (j k b : ℕ) (r s : Request) → j ≢ k → IsPending w j r 
 abbrev pub NoThreadRace : World → Type 0
 NoThreadRace w = (i j b : ℕ) (x y : Op) → i ≢ j → IsNext w i (Do x) → IsNext w j (Do y) → WritesBuffer x b → WritesBuffer y b ⊎ ReadsBuffer y b → ⊥
 
--- No load and no store is next behind the end of its buffer, and no prep of more bytes than its buffer has.
+-- No load and no store is next after the end of its buffer, and no prep of more bytes than its buffer has.
 abbrev pub IsInBuffer : Program → Op → Type 0
 IsInBuffer P (Load x b j) = j < bytes_at P.buffers b
 IsInBuffer P (Store b j x) = j < bytes_at P.buffers b
@@ -149,7 +149,7 @@ abbrev pub CompletionsAgree : World → Type 0
 CompletionsAgree w = map (λ (c : Completion). c.user_data) w.completions ≡ map (λ (r : Request). r.user_data) w.completed
 
 -- At each io_uring_cqe_seen(3) a completion is at the front, and it was looked at. Exactly one request that is completed
--- and not reaped has its user data, and behind the step none has: the completion is gone with it.
+-- and not reaped has its user data, and after the step none has: the completion is gone with it.
 pub record ReapsOne (w : World) (i : ℕ) : Type 0 where
   pub front : Completion
   pub others : List Completion

@@ -139,7 +139,7 @@ goes_by : (Q : Label → Type 0) (E : (Part → ℕ) → Mode → Label) → Q D
 goes_by Q E d f Dead h = d
 goes_by Q E d f (Live a m) h = f a m h
 
--- a property of each label before a line, and what the line makes of it behind
+-- a property of each label before a line, and what the line makes of it after
 became : (R : Label → Type 0) → IsLowered R → (old new : State) (bs : Bool → List Label) → Becomes old new bs → ((z : Bool) → AreAll R (bs z)) → OnBoth R new
 became R q old new bs h e z = led_by R q (label_of new z) (bs z) (h.each z) (e z)
 

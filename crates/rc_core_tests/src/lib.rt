@@ -1,6 +1,6 @@
 //! The tests of the crates below a run and its report: of those between a text and an admitted program (`rc_lang`,
 //! `rc_read`, `rc_split`, `rc_rules`, `rc_world`, `rc_verify` and `rc_admit`), and of the rings and the device
-//! (`rc_index`, `rc_entry`, `rc_ring` and `rc_device`), a module each. They stand above those crates, since a crate with
+//! (`rc_index`, `rc_entry`, `rc_ring` and `rc_device`), a module each. They are above those crates, since a crate with
 //! tests is proved twice.
 #![tactic(auto)]
 

@@ -48,7 +48,7 @@ fn check_all(rt: &(impl AllocGlobal + Abort), head: &str, rows: &[(&str, (u32, u
     }
 }
 
-// A beginning, a middle that stands there so many times, an end, and the answer of the text.
+// A beginning, a middle that is there so many times, an end, and the answer of the text.
 type Repeated = (&'static str, &'static str, u32, &'static str, (u32, u8));
 
 fn check_repeated(rt: &(impl AllocGlobal + Abort), rows: &[Repeated]) -> Result<(), Fail> {
@@ -59,7 +59,7 @@ fn check_repeated(rt: &(impl AllocGlobal + Abort), rows: &[Repeated]) -> Result<
     Ok(())
 }
 
-// Adds a piece for each number below a count: what stands in front of the number, and behind it.
+// Adds a piece for each number below a count: what is in front of the number, and after it.
 fn push_numbered(
     rt: &impl AllocGlobal,
     text: &mut Vec<u8>,
@@ -88,7 +88,7 @@ fn are_shares(shares: &[Share], told: &[(usize, u32)]) -> bool {
             .all(|(share, row)| (share.buffer, share.count) == *row)
 }
 
-// A text of a beginning, a middle that stands there so many times, and an end.
+// A text of a beginning, a middle that is there so many times, and an end.
 fn repeated(
     rt: &impl AllocGlobal,
     front: &str,

@@ -1,4 +1,4 @@
--- Where files stand, and that writing one leaves the others.
+-- Where files are, and that writing one leaves the others.
 use Rattle.std.proofs.Common.{◌≡◌, ◌≢◌, ℕ, ◌<◌, ℤ, Bool, List, length, Option, Some, None, slice_index_or, slice_set, refl, sym, ◌∙◌, ap}
 use Rattle.std.specs.List.{position_or_len}
 use Rattle.std.specs.Ordering.{int_eq}

@@ -336,7 +336,7 @@ const HINTS: &[(&str, &str, &str)] = &[
     ),
 ];
 
-// A text's beginning, what stands behind it so many times, and the hint.
+// A text's beginning, what is after it so many times, and the hint.
 const REPEATED: &[(&str, &str, u32, &str)] = &[
     (HEAD, "#", 257, "the line has 257 bytes; at most 256"),
     // As long as this the words of a line are looked at once, and not once for each of them.
@@ -349,7 +349,7 @@ const REPEATED: &[(&str, &str, u32, &str)] = &[
     ),
 ];
 
-// The hint of a text: of a beginning, and of what stands behind it so many times.
+// The hint of a text: of a beginning, and of what is after it so many times.
 fn hint_of(alloc: Global, above: &str, lines: &str, count: u32) -> Result<Vec<u8>, AllocError> {
     let mut text = Vec::new(alloc);
     text.extend_from_slice(above.as_bytes())?;

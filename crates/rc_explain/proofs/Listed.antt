@@ -64,7 +64,7 @@ are_more P t xs s are here = λ k z h. elim (got_more xs s k z h) [
   | inr e ↦ subst (λ n. IsShown P t n z) e.0 (subst (λ x. IsShown P t (length xs) x) e.1 here)
 ]
 
--- The line at a place is shown with the labels that stand there.
+-- The line at a place is shown with the labels that are there.
 pub shown_at : (P : Program) (t : Thread) (v : Labels) (k : ℕ) (lines : List Line) (d : Line) (s : State) → lines ≡ t.lines → k < length lines → v.program ≡ P → v.thread ≡ t → v.place ≡ k → s ≡ v.state → IsStrongestAt v.program v.thread v.place (sides_of v.state) → IsShown P t k (record { number = (get_or lines k d).number; sides = sides_of s })
 shown_at P t v k lines d s same lt p u q e h =
     let of_program : IsStrongestAt P v.thread v.place (sides_of v.state) = subst (λ (x : Program). IsStrongestAt x v.thread v.place (sides_of v.state)) p h in

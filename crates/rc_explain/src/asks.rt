@@ -46,7 +46,7 @@ pub fn header_need(
     })
 }
 
-/// What the line of a thread asks for at which the labels stand and that is refused for the cause.
+/// What the line of a thread asks for at which the labels are and that is refused for the cause.
 pub fn line_need(
     alloc: Global,
     labels: &mut Labels,

@@ -15,7 +15,7 @@ use rc_report::verdict::{Verdict, put_verdict};
 use rc_report::writing::write_piece;
 use std::alloc::{AllocError, Global};
 
-/// Writes the verdict on a text with what explains it, as JSON or as text: then the line of the verdict stands first, as
+/// Writes the verdict on a text with what explains it, as JSON or as text: then the line of the verdict comes first, as
 /// it does without an explanation.
 ///
 /// Answers `Write` where a write failed: then a beginning is written; and `OutOfMemory` where a growth was refused.

@@ -1,4 +1,4 @@
-//! What could stand where a line can't be read.
+//! What could be where a line can't be read.
 
 ghost use Rattle.std.specs.Prelude.{◌++◌, List, ℕ, OnOk};
 ghost use Rattle.rc_explain.specs.Above.{HasMemory};
@@ -22,7 +22,7 @@ use rc_read::words::put_words;
 use rc_read::{ReadCause, ReadFault, Reader};
 use std::alloc::{AllocError, Global};
 
-/// Adds what could stand in a line that can't be read, by its number, from 1, and its cause: one line of text, without
+/// Adds what could be in a line that can't be read, by its number, from 1, and its cause: one line of text, without
 /// its line feed.
 pub fn put_hint(
     text: &mut Vec<u8>,

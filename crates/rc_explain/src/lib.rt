@@ -1,4 +1,4 @@
-//! What is said besides a verdict: what is known at the lines, why one is refused, and what could stand in one that
+//! What is said besides a verdict: what is known at the lines, why one is refused, and what could be in one that
 //! can't be read.
 #![tactic(auto)]
 

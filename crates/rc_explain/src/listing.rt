@@ -223,7 +223,7 @@ fn put_named(
 }
 
 /// Adds a thread's name, and what is known before each of its lines, up to the first that is refused, that line
-/// included; there the labels then stand.
+/// included; there the labels then are.
 pub fn put_listing(
     text: &mut Vec<u8>,
     lines: &Lines,

@@ -49,7 +49,7 @@ pub fn put_lost(
     )
 }
 
-/// The place whose end tells whether a line below stands in the block that this line leaves: that of an else, the peek
+/// The place whose end tells whether a line below is in the block that this line leaves: that of an else, the peek
 /// of an arm, and the loop of a break.
 fn opening(stmt: Stmt, place: usize) -> usize {
     match stmt {
@@ -60,7 +60,7 @@ fn opening(stmt: Stmt, place: usize) -> usize {
 }
 
 /// How a part goes that is held before a line and not before the next one of the text; by whether the line that misses
-/// it stands in the same block.
+/// it is in the same block.
 fn how(stmt: Stmt, inside: bool) -> &'static [u8] {
     match stmt {
         Stmt::Do(op) => how_by(op),

@@ -257,7 +257,7 @@ fn state_text(alloc: Global, program: &Program, side: &Side) -> Result<String, A
     string_of(alloc, &text)
 }
 
-/// A thread's lines that something reaches, up to the first that is refused, where the labels then stand, and its name.
+/// A thread's lines that something reaches, up to the first that is refused, where the labels then are, and its name.
 fn thread_value(alloc: Global, labels: &mut Labels, thread: u32) -> Result<Value, AllocError>
     requires { thread < length labels.old.program.threads }
     ensures { labels.new.program ≡ labels.old.program }

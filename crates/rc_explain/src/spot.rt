@@ -1,17 +1,17 @@
-//! Where a line of a text stands in its program.
+//! Where a line of a text is in its program.
 
 ghost use Rattle.std.specs.Prelude.{◌<◌, IfSome, length};
 
 use rc_lang::program::{Program, Thread};
 
-/// Where a line stands: in the thread with this number, at a place, or as its header.
+/// Where a line is: in the thread with this number, at a place, or as its header.
 #[derive(Clone, Copy)]
 pub struct Spot {
     pub thread: u32,
     pub place: Option<usize>,
 }
 
-/// Where the line with this number stands in a thread: at a place (Some), as the header (None), or not in it.
+/// Where the line with this number is in a thread: at a place (Some), as the header (None), or not in it.
 fn place_in(thread: &Thread, number: u32) -> Option<Option<usize>> {
     if thread.line == number {
         return Some(None);
@@ -24,7 +24,7 @@ fn place_in(thread: &Thread, number: u32) -> Option<Option<usize>> {
     None
 }
 
-/// Where the line with this number stands in the program, if it is a thread's.
+/// Where the line with this number is in the program, if it is a thread's.
 pub fn spot_of(program: &Program, number: u32) -> Option<Spot>
     ensures { IfSome result (λ spot. spot.thread < length program.now.threads) }
 {

@@ -33,7 +33,7 @@ positive n (k, is) = subst (λ (m : ℕ). 0 < m) (sym is) (pow_pos k)
 pub masked : (n c : ℕ) → IsPowerOfTwo n → bit_and c (n - 1) ≡ c % n
 masked n c (k, is) = subst (λ (m : ℕ). bit_and c (m - 1) ≡ c % m) (sym is) (and_mask c k)
 
--- one more item behind the others
+-- one more item after the others
 pub between-push : (head tail : ℕ) → head < 2 ^ 32 → tail < 2 ^ 32 → counters_between head tail < 2048 → counters_between head (counter_after tail) ≡ counters_between head tail + 1
 between-push head tail head_fits tail_fits few = omega arith
 
@@ -41,7 +41,7 @@ between-push head tail head_fits tail_fits few = omega arith
 pub between-pop : (head tail : ℕ) → head < 2 ^ 32 → tail < 2 ^ 32 → 0 < counters_between head tail → counters_between (counter_after head) tail + 1 ≡ counters_between head tail
 between-pop head tail head_fits tail_fits some = omega arith
 
--- the tail is as far behind the head as there are items
+-- the tail is as far after the head as there are items
 pub tail_is : (head tail : ℕ) → head < 2 ^ 32 → tail < 2 ^ 32 → (head + counters_between head tail) % 2 ^ 32 ≡ tail
 tail_is head tail head_fits tail_fits = omega arith
 
@@ -108,7 +108,7 @@ ring_list-pop n head tail r some =
     ap (λ (k : ℕ). drop 1 (places_from n head k)) less in
     cc
 
--- behind each place comes the next one, and behind the last the place of the tail
+-- after each place comes the next one, and after the last the place of the tail
 consecutive_places : (n head tail : ℕ) → AreCounters n head tail → (i : ℕ) → i < counters_between head tail
     → (get_or (places_from n head (counters_between head tail)) i 0 + 1) % n
     ≡ get_or (places_from n head (counters_between head tail)) (i + 1) (tail % n)

@@ -34,7 +34,7 @@ module _ (lines : List Line) (each : EachNested lines) (j : ℕ) where
   lock_closed : (bs : List Block) (b : Block) → blocks_at lines j ≡ bs ++ b ∷ [] → blocks_at lines (j + 1) ≡ bs → is_lock b ≡ false → in_lock (blocks_at lines (j + 1)) ≡ in_lock (blocks_at lines j)
   lock_closed bs b n m f = ap in_lock m ∙ sym (same_lock bs b f) ∙ sym (ap in_lock n)
 
-  -- Behind a line a lock is open where it opens one, or one was open and it closes none.
+  -- After a line a lock is open where it opens one, or one was open and it closes none.
   pub lock_next : (s : Stmt) → stmt_at lines j ≡ Some s → in_lock (blocks_at lines (j + 1)) ≡ locked_behind (in_lock (blocks_at lines j)) s
   lock_next (Do op) e = ap in_lock (blocks_next lines j (Do op) e)
   lock_next (Put k) e = ap in_lock (blocks_next lines j (Put k) e)

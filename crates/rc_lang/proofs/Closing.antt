@@ -16,7 +16,7 @@ use Rattle.rc_lang.proofs.Fitting.{fits_at, lock_in_one, placed_at}
 
 -- ---- the words
 
--- The line at j closes the block that the line at o opened: behind it is open what was open there.
+-- The line at j closes the block that the line at o opened: after it is open what was open there.
 pub record Closes (lines : List Line) (j o : ℕ) (s : Stmt) (b : Block) : Type 0 where
   pub before : o < j
   pub stands : stmt_at lines o ≡ Some s

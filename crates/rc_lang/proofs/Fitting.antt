@@ -1,4 +1,4 @@
--- Which blocks stand in which: at most one lock and at most one peek is open at a place.
+-- Which blocks are in which: at most one lock and at most one peek is open at a place.
 use Rattle.std.proofs.Common.{◌≡◌, ℕ, true, false, ◌||◌, List, [], ◌∷◌, ◌++◌, append_assoc, Some, refl, sym, ap, ◌∙◌, subst}
 use Rattle.std.proofs.lemmas.Bool.{or_left, or_right}
 use Rattle.rc_lang.specs.declared.lines.Block.{Block}
@@ -10,7 +10,7 @@ use Rattle.rc_lang.specs.Nesting.{blocks_at, directly_in_peek, in_lock, in_peek,
 use Rattle.rc_lang.proofs.Lookups.{EachNested, in_lock_pushed, in_peek_pushed, innermost_pushed, nested_here}
 use Rattle.rc_lang.proofs.Placed.{ArePlaced, EachPlaced, IsPlaced, OpensAt, each_placed, placed, placed_between}
 
--- A lock stands in no lock and no peek, a peek and a loop in no peek; directly in a peek stand only its arms.
+-- A lock is in no lock and no peek, a peek and a loop in no peek; directly in a peek are only its arms.
 abbrev pub FitsIn : List Block → Block → Type 0
 FitsIn outer (InLock o) = (in_lock outer ≡ false) × (in_peek outer ≡ false)
 FitsIn outer (InIf o) = directly_in_peek outer ≡ false
@@ -38,7 +38,7 @@ module _ (lines : List Line) (each : EachNested lines) where
   fits_in j outer (InArm o) h = ap innermost h.within ∙ innermost_pushed (blocks_at lines o) (InPeek o)
   fits_in j outer (InLoop o k) h = nested_in j o (Loop k) outer h
 
-  -- in a lock stands no other lock
+  -- in a lock is no other lock
   no_lock_within : (j : ℕ) (outer bs : List Block) → EachPlaced lines j outer bs → in_lock outer ≡ true → in_lock bs ≡ false
   no_lock_within j outer [] all e = refl
   no_lock_within j outer (b ∷ bs) all e = go b (fits_in j outer b all.0) (no_lock_within j (outer ++ b ∷ []) bs all.1 (in_lock_pushed outer b ∙ or_left (in_lock outer) (is_lock b) e))
@@ -47,7 +47,7 @@ module _ (lines : List Line) (each : EachNested lines) where
       go (InLock o) f h = absurd (cc (f.0, e))
       go _ f h = h
 
-  -- in a peek stand neither a lock nor another peek
+  -- in a peek are neither a lock nor another peek
   none_within_peek : (j : ℕ) (outer bs : List Block) → EachPlaced lines j outer bs → in_peek outer ≡ true → (in_lock bs ≡ false) × (in_peek bs ≡ false)
   none_within_peek j outer [] all e = (refl, refl)
   none_within_peek j outer (b ∷ bs) all e = go b (fits_in j outer b all.0) (none_within_peek j (outer ++ b ∷ []) bs all.1 (in_peek_pushed outer b ∙ or_left (in_peek outer) (is_peek b) e))
@@ -68,7 +68,7 @@ module _ (lines : List Line) (each : EachNested lines) where
   inner_placed : (j : ℕ) (outer : List Block) (b : Block) (inner : List Block) → blocks_at lines j ≡ outer ++ b ∷ inner → EachPlaced lines j (outer ++ b ∷ []) inner
   inner_placed j outer b inner e = each_placed lines j (outer ++ b ∷ []) inner (subst (λ x. ArePlaced lines j x) (e ∙ sym (append_assoc outer (b ∷ []) inner)) (placed lines each j))
 
-  -- At most one peek is open at a place, and no lock stands in it.
+  -- At most one peek is open at a place, and no lock is in it.
   pub one_peek : (j : ℕ) (outer : List Block) (o : ℕ) (inner : List Block) → blocks_at lines j ≡ outer ++ InPeek o ∷ inner → (in_peek outer ≡ false) × (in_peek inner ≡ false) × (in_lock inner ≡ false)
   one_peek j outer o inner e =
       let g = none_within_peek j (outer ++ InPeek o ∷ []) inner (inner_placed j outer (InPeek o) inner e) (in_peek_pushed outer (InPeek o) ∙ or_right (in_peek outer) true refl) in

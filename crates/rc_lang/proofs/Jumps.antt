@@ -15,7 +15,7 @@ use Rattle.rc_lang.proofs.Placed.{placed, placed_innermost}
 
 -- ---- the words
 
--- Each line may stand at its place, and leads where the table says.
+-- Each line may be at its place, and leads where the table says.
 pub record IsLaid (lines : List Line) (ends : List ℕ) : Type 0 where
   pub each : EachNested lines
   pub linked : (j : ℕ) (s : Stmt) → stmt_at lines j ≡ Some s → IsLinked lines ends j s
@@ -26,7 +26,7 @@ pub record LandsAt (lines : List Line) (j k : ℕ) (bs : List Block) : Type 0 wh
   pub within : k ≤ length lines
   pub blocks : blocks_at lines k ≡ bs
 
--- A false if leads behind its else, or behind its closing brace where it has none.
+-- A false if leads after its else, or after its closing brace where it has none.
 pub record LeadsToElse (lines : List Line) (j k : ℕ) : Type 0 where
   pub stands : stmt_at lines k ≡ Some (Else j)
   pub lands : LandsAt lines j (k + 1) (blocks_at lines j ++ InElse k ∷ [])
@@ -35,17 +35,17 @@ pub record LeadsToEnd (lines : List Line) (j k : ℕ) : Type 0 where
   pub stands : stmt_at lines k ≡ Some (EndIf j)
   pub lands : LandsAt lines j (k + 1) (blocks_at lines j)
 
--- A break leads behind the loop's closing brace, and the end of an arm behind that of the peek.
+-- A break leads after the loop's closing brace, and the end of an arm after that of the peek.
 pub record LeadsOut (lines : List Line) (j o k : ℕ) (s : Stmt) : Type 0 where
   pub stands : stmt_at lines k ≡ Some s
   pub lands : LandsAt lines j (k + 1) (blocks_at lines o)
 
--- A place that a thread may go to: what stands there doesn't stand directly in a peek.
+-- A place that a thread may go to: what is there isn't directly in a peek.
 pub record IsOpen (lines : List Line) (j : ℕ) : Type 0 where
   pub within : j ≤ length lines
   pub outside : directly_in_peek (blocks_at lines j) ≡ false
 
--- A thread may go behind such a line: it opens no peek and ends no arm.
+-- A thread may go after such a line: it opens no peek and ends no arm.
 abbrev pub leads_open : Stmt → Bool
 leads_open (Peek x) = false
 leads_open (EndArm o) = false
@@ -97,7 +97,7 @@ module _ (lines : List Line) (ends : List ℕ) (laid : IsLaid lines ends) (j : �
         | inr c ↦ absurd (cc (e, c.stands))
       ]
 
-  -- an else that is reached from above leads behind the closing brace
+  -- an else that is reached from above leads after the closing brace
   pub else_leads : (o : ℕ) → stmt_at lines j ≡ Some (Else o) → LeadsOut lines j o (slice_index ends j) (EndIf j)
   else_leads o e =
       let h : HasEnd lines ends j (EndIf j) = laid.linked j (Else o) e in
@@ -125,14 +125,14 @@ module _ (lines : List Line) (ends : List ℕ) (laid : IsLaid lines ends) (j : �
       let lt : j < slice_index ends o = laid.linked j (Break o releases leaves) e in
       (c.number, record { stands = h.stands; lands = lands (slice_index ends o) (EndLoop o c.number) (blocks_at lines o) lt h.stands (closes_loop lines laid.each (slice_index ends o) o c.number h.stands).behind })
 
-  -- the end of a loop leads back behind its first line
+  -- the end of a loop leads back after its first line
   pub back_leads : (o k : ℕ) → stmt_at lines j ≡ Some (EndLoop o k) → (o + 1 ≤ j) × (blocks_at lines (o + 1) ≡ blocks_at lines j)
   back_leads o k e =
       let c = closes_loop lines laid.each j o k e in
       let lt : o < j = c.before in
       (omega arith, blocks_next lines o (Loop k) c.stands ∙ sym c.within)
 
-  -- a peek leads behind the first line of one of its arms
+  -- a peek leads after the first line of one of its arms
   arm_lands : (k : ℕ) (s : Stmt) → stmt_at lines k ≡ Some s → OpensArm lines k j → LandsAt lines j (k + 1) (blocks_at lines j ++ InPeek j ∷ InArm j ∷ [])
   arm_lands k s e c = lands k s (blocks_at lines j ++ InPeek j ∷ InArm j ∷ []) c.before e c.behind
 

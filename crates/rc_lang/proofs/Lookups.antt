@@ -1,4 +1,4 @@
--- Look-ups in lists of lines and of blocks, where one more stands at the end.
+-- Look-ups in lists of lines and of blocks, where one more is at the end.
 use Rattle.std.proofs.Common.{◌≡◌, ℕ, zero, suc, ◌+◌, ◌-◌, ◌<◌, ◌≤◌, false, ◌||◌, List, [], ◌∷◌, ◌++◌, length, length-append, get_or, take, take_all, Option, Some, None, refl, sym, ap, ◌∙◌, subst, slice_get, ◌⊎◌, inl, inr, arith}
 use Rattle.std.proofs.Math.Bool.{or-false}
 use Rattle.std.proofs.lemmas.Bool.{or_parts}
@@ -78,7 +78,7 @@ in_peek_more outer bs = list_any-append is_peek outer bs
 pub in_peek_pushed : (bs : List Block) (b : Block) → in_peek (bs ++ b ∷ []) ≡ (in_peek bs || is_peek b)
 in_peek_pushed bs b = in_peek_more bs (b ∷ []) ∙ ap (λ x. in_peek bs || x) (or-false (is_peek b))
 
--- outside of peeks nothing stands directly in one
+-- outside of peeks nothing is directly in one
 pub not_directly : (bs : List Block) → in_peek bs ≡ false → directly_in_peek bs ≡ false
 not_directly bs e = go (innermost bs) refl
   where
@@ -134,7 +134,7 @@ blocks_on bs k (l ∷ lines) (suc j) s e =
     let n : k + 1 + j ≡ k + suc j = omega arith in
     blocks_on (blocks_behind bs k l.stmt) (k + 1) lines j s e ∙ ap (λ m. blocks_behind (blocks_after (blocks_behind bs k l.stmt) (k + 1) (take j lines)) m s) n
 
--- the blocks behind a line
+-- the blocks after a line
 pub blocks_suc : (lines : List Line) (j : ℕ) (s : Stmt) → stmt_at lines j ≡ Some s → blocks_at lines (suc j) ≡ blocks_behind (blocks_at lines j) j s
 blocks_suc lines j s e = let n : 0 + j ≡ j = omega arith in blocks_on [] 0 lines j s e ∙ ap (λ m. blocks_behind (blocks_at lines j) m s) n
 
@@ -147,7 +147,7 @@ blocks_past lines j h = ap (λ ls. blocks_after [] 0 ls) (take_all j lines h ∙
 pub blocks_old : (lines : List Line) (l : Line) (j : ℕ) → j ≤ length lines → blocks_at (lines ++ l ∷ []) j ≡ blocks_at lines j
 blocks_old lines l j h = ap (λ ls. blocks_after [] 0 ls) (take-append-le j lines (l ∷ []) h)
 
--- the blocks behind the new line
+-- the blocks after the new line
 pub blocks_new : (lines : List Line) (l : Line) (j : ℕ) → length lines < j → blocks_at (lines ++ l ∷ []) j ≡ blocks_behind (blocks_at lines (length lines)) (length lines) l.stmt
 blocks_new lines l j lt =
     let n : length (lines ++ l ∷ []) ≡ length lines + 1 = length-append lines (l ∷ []) in
@@ -156,7 +156,7 @@ blocks_new lines l j lt =
 
 -- ---- what nesting says of a line
 
--- Each line may stand at its place.
+-- Each line may be at its place.
 abbrev pub EachNested : List Line → Type 0
 EachNested lines = (j : ℕ) (l : Line) → slice_get lines j ≡ Some l → IsNestedIn (blocks_at lines j) l.stmt
 
@@ -166,7 +166,7 @@ nested_here lines each j s e = let l = line_with lines j s e in subst (λ x. IsN
 pub nested_start : EachNested []
 nested_start j l e = absurd (cc)
 
--- one more line that may stand at the end
+-- one more line that may be at the end
 pub nested_more : (lines : List Line) (l : Line) → EachNested lines → IsNestedIn (blocks_at lines (length lines)) l.stmt → EachNested (lines ++ l ∷ [])
 nested_more lines l each new j m e = elim (get_push lines l j m e) [
   | inl g ↦ let lt : j < length lines = slice_get_within lines j m g in subst (λ bs. IsNestedIn bs m.stmt) (sym (blocks_old lines l j (omega arith))) (each j m g)

@@ -1,4 +1,4 @@
--- Which lines opened the blocks that are open at a place, and what stood open there.
+-- Which lines opened the blocks that are open at a place, and what was open there.
 use Rattle.std.proofs.Common.{◌≡◌, ℕ, zero, suc, ◌<◌, ◌≤◌, List, [], ◌∷◌, ◌++◌, append_assoc, length, take, Some, refl, sym, ap, ◌∙◌, subst, slice_get, inl, inr, arith}
 use Rattle.std.proofs.lemmas.Bool.{cases_lt}
 use Rattle.std.proofs.lemmas.List.{take-append-le}
@@ -15,7 +15,7 @@ use Rattle.rc_lang.proofs.Lookups.{EachNested, blocks_past, blocks_suc, get_new,
 
 -- ---- the words
 
--- This stands at a place before j, where these blocks are open.
+-- This is at a place before j, where these blocks are open.
 pub record OpensAt (lines : List Line) (j o : ℕ) (s : Stmt) (outer : List Block) : Type 0 where
   pub before : o < j
   pub stands : stmt_at lines o ≡ Some s
@@ -47,7 +47,7 @@ IsPlaced lines j outer (InLoop o k) = OpensAt lines j o (Loop k) outer
 abbrev pub ArePlaced : List Line → ℕ → List Block → Type 0
 ArePlaced lines j bs = (d : ℕ) (b : Block) → slice_get bs d ≡ Some b → IsPlaced lines j (take d bs) b
 
--- the same, by recursion from the outermost in, behind outer blocks
+-- the same, by recursion from the outermost in, after outer blocks
 abbrev pub EachPlaced : List Line → ℕ → List Block → List Block → Type 0
 EachPlaced lines j outer [] = Unit {0}
 EachPlaced lines j outer (b ∷ bs) = IsPlaced lines j outer b × EachPlaced lines j (outer ++ b ∷ []) bs
@@ -80,7 +80,7 @@ all_outer lines j bs cs all d b e =
     let lt : d < length bs = slice_get_within bs d b e in
     subst (λ x. IsPlaced lines j x b) (take-append-le d bs cs (omega arith)) (all d b (get_old bs cs d b e))
 
--- the block behind the first ones
+-- the block after the first ones
 pub placed_between : (lines : List Line) (j : ℕ) (bs : List Block) (b : Block) (cs : List Block) → ArePlaced lines j (bs ++ b ∷ cs) → IsPlaced lines j bs b
 placed_between lines j bs b cs all = subst (λ x. IsPlaced lines j x b) (take_front bs (b ∷ cs)) (all (length bs) b (get_new bs b cs))
 

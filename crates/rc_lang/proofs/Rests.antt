@@ -10,8 +10,8 @@ use Rattle.rc_lang.proofs.Closing.{closes_arm, closes_if, turns}
 use Rattle.rc_lang.proofs.Jumps.{IsLaid, IsOpen, arm_leads, arm_open, else_leads, else_open, open_behind, open_start}
 use Rattle.rc_lang.proofs.Lookups.{nested_here, past_the_end}
 
--- Where a thread goes on from a line that is no event: from an else behind the end of its if, from the end of an if to
--- the next line, from the end of an arm behind its peek.
+-- Where a thread goes on from a line that is no event: from an else after the end of its if, from the end of an if to
+-- the next line, from the end of an arm after its peek.
 abbrev pub passed_to : List ℕ → ℕ → Option Stmt → Option ℕ
 passed_to ends j (Some (Else o)) = Some (slice_index ends j + 1)
 passed_to ends j (Some (EndIf o)) = Some (j + 1)
@@ -29,7 +29,7 @@ may_rest (Some (EndArm o)) = false
 may_rest (Some (EndPeek o)) = false
 may_rest _ = true
 
--- A thread that stands at this place has an event next, or stands at the end.
+-- A thread that is at this place has an event next, or is at the end.
 pub record IsRest (lines : List Line) (j : ℕ) : Type 0 where
   pub within : j ≤ length lines
   pub outside : directly_in_peek (blocks_at lines j) ≡ false
@@ -66,7 +66,7 @@ module _ (lines : List Line) (ends : List ℕ) (laid : IsLaid lines ends) where
   passes j k (Some (EndArm o)) e h = let q : slice_index ends o + 1 ≡ k = cc in subst (Passes lines j) q (record { ahead = (arm_leads lines ends laid j o e).lands.ahead; goes_on = arm_open lines ends laid j o e })
   passes j k _ e h = absurd (cc)
 
-  -- what stands directly in a peek is none that a thread goes to
+  -- what is directly in a peek is none that a thread goes to
   not_here : (j o : ℕ) → IsOpen lines j → innermost (blocks_at lines j) ≡ Some (InPeek o) → ⊥
   not_here j o h e = let d : directly_in_peek (blocks_at lines j) ≡ true = ap is_some_peek e in absurd (cc (d, h.outside))
 

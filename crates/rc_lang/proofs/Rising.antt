@@ -1,4 +1,4 @@
--- Numbers that rise: of a list of which that can be tested, and with a higher one behind them.
+-- Numbers that rise: of a list of which that can be tested, and with a higher one after them.
 use Rattle.std.proofs.Common.{◌≡◌, ℕ, zero, suc, ◌+◌, ◌<◌, Bool, true, ◌&&◌, ltb, List, [], ◌∷◌, ◌++◌, length, length-append, get_or, All, add-one, inl, inr, arith}
 use Rattle.std.specs.List.Sorted.{IsStrictlyIncreasing}
 use Rattle.std.proofs.lemmas.Bool.{and_parts, cases_lt, ltb-true}

@@ -1,4 +1,4 @@
--- From where to where a block is open, and that the arms of a peek stand before its end.
+-- From where to where a block is open, and that the arms of a peek are before its end.
 use Rattle.std.proofs.Common.{◌≡◌, ℕ, zero, suc, ◌+◌, ◌-◌, ◌<◌, ◌≤◌, List, [], ◌∷◌, ◌++◌, length, take, Option, Some, None, sym, ap, ◌∙◌, subst, slice_get, slice_index, ◌⊎◌, inl, inr, arith}
 use Rattle.std.proofs.lemmas.Bool.{cases_lt}
 use Rattle.std.proofs.lemmas.Option.{slice_get_within}
@@ -31,7 +31,7 @@ get_taken [] (suc n) d x e = absurd (cc)
 get_taken (y ∷ xs) (suc n) zero x e = e
 get_taken (y ∷ xs) (suc n) (suc d) x e = get_taken xs n d x e
 
--- a block that is open behind a line was open before it, or the line opens it
+-- a block that is open after a line was open before it, or the line opens it
 module _ (bs : List Block) (j d : ℕ) (b : Block) where
   old_or_new : (c : Block) → slice_get (bs ++ c ∷ []) d ≡ Some b → (slice_get bs d ≡ Some b) ⊎ (Some c ≡ Some b)
   old_or_new c e = elim (get_push bs c d b e) [ inl h ↦ inl h | inr h ↦ inr (ap Some h.1) ]
@@ -60,7 +60,7 @@ peek_opened_at o j (Peek x) e = cc
 peek_opened_at o j _ e = absurd (cc)
 
 module _ (lines : List Line) (o : ℕ) (b : Block) (opened : OpenedAt o b) where
-  -- A block that is open at a place was open at each place from behind the line that opened it.
+  -- A block that is open at a place was open at each place from after the line that opened it.
   pub open_since : (d m p : ℕ) → o < m → m ≤ p → slice_get (blocks_at lines p) d ≡ Some b → slice_get (blocks_at lines m) d ≡ Some b
   open_since d m zero lt le e = absurd (omega arith)
   open_since d m (suc p) lt le e = elim (cases_lt p m) [
@@ -78,7 +78,7 @@ module _ (lines : List Line) (o : ℕ) (b : Block) (opened : OpenedAt o b) where
 -- ---- arms
 
 module _ (lines : List Line) (each : EachNested lines) (o p : ℕ) where
-  -- A place directly in a peek isn't behind its closing brace.
+  -- A place directly in a peek isn't after its closing brace.
   pub peek_until : (e : ℕ) → blocks_at lines p ≡ blocks_at lines o ++ InPeek o ∷ [] → stmt_at lines e ≡ Some (EndPeek o) → p ≤ e
   peek_until e w s = elim (cases_lt e p) [
     | inl lt ↦
@@ -104,7 +104,7 @@ module _ (lines : List Line) (ends : List ℕ) (laid : IsLaid lines ends) (o p :
       some_same : (x y : Stmt) → Some x ≡ Some y → x ≡ y
       some_same x y e = cc
 
-  -- The arms of a peek stand between it and its closing brace.
+  -- The arms of a peek are between it and its closing brace.
   pub case_between : (u : ℕ) → stmt_at lines p ≡ Some (Case o u) → (o < p) × (p < slice_index ends o)
   case_between u e = arm_between (Case o u) e (λ h. absurd (cc)) (opens_case lines laid.each p o u e)
 

@@ -1,4 +1,4 @@
--- Which blocks are open at a place of a thread, and which lines may stand there.
+-- Which blocks are open at a place of a thread, and which lines may be there.
 use Rattle.std.specs.Prelude.{ℕ, ◌≡◌, ◌+◌, ◌-◌, ◌≤◌, ◌⊎◌, Bool, true, false, List, [], ◌∷◌, ◌++◌, length, take, Option, Some, None, slice_get}
 use Rattle.std.specs.List.{list_any}
 use Rattle.rc_lang.specs.declared.lines.Block.{Block}
@@ -7,14 +7,14 @@ use Rattle.rc_lang.specs.declared.lines.Line.{Line}
 use Rattle.rc_lang.specs.declared.lines.Stmt.{Stmt}
 use Rattle.rc_lang.specs.declared.lines.Stmt.TheVariants.{Do, Put, Lock, EndLock, If, Else, EndIf, Peek, Case, Other, Nothing, EndArm, EndPeek, Loop, EndLoop, Break}
 
--- Blocks stand with the innermost last.
+-- Blocks are with the innermost last.
 abbrev pub innermost : List Block → Option Block
 innermost blocks = slice_get blocks (length blocks - 1)
 
 abbrev pub without_innermost : List Block → List Block
 without_innermost blocks = take (length blocks - 1) blocks
 
--- The blocks that are open behind a line at place j, from those that are open before it.
+-- The blocks that are open after a line at place j, from those that are open before it.
 abbrev pub blocks_behind : List Block → ℕ → Stmt → List Block
 blocks_behind blocks j (Do op) = blocks
 blocks_behind blocks j (Put k) = blocks
@@ -33,7 +33,7 @@ blocks_behind blocks j (Loop k) = blocks ++ InLoop j k ∷ []
 blocks_behind blocks j (EndLoop o k) = without_innermost blocks
 blocks_behind blocks j (Break o releases leaves) = blocks
 
--- The blocks that are open behind these lines, the first of which stands at place j.
+-- The blocks that are open after these lines, the first of which is at place j.
 abbrev pub blocks_after : List Block → ℕ → List Line → List Block
 blocks_after blocks j [] = blocks
 blocks_after blocks j (line ∷ lines) = blocks_after (blocks_behind blocks j line.stmt) (j + 1) lines
@@ -64,7 +64,7 @@ in_lock blocks = list_any is_lock blocks
 abbrev pub in_peek : List Block → Bool
 in_peek blocks = list_any is_peek blocks
 
--- Directly in a peek stand only its arms.
+-- Directly in a peek are only its arms.
 abbrev pub is_some_peek : Option Block → Bool
 is_some_peek None = false
 is_some_peek (Some b) = is_peek b
@@ -73,7 +73,7 @@ abbrev pub directly_in_peek : List Block → Bool
 directly_in_peek blocks = is_some_peek (innermost blocks)
 
 -- The way of a break out of the blocks that are open, from the outermost in: the innermost loop, and whether a lock and
--- a peek stand in it on the way.
+-- a peek are in it on the way.
 pub record Way : Type 0 where
   pub loop : Option ℕ
   pub releases : Bool
@@ -94,7 +94,7 @@ way_through way (b ∷ bs) = way_through (way_past way b) bs
 abbrev pub way_out : List Block → Way
 way_out blocks = way_through (record { loop = None; releases = false; leaves = false }) blocks
 
--- The line may stand where these blocks are open.
+-- The line may be where these blocks are open.
 abbrev pub IsNestedIn : List Block → Stmt → Type 0
 IsNestedIn blocks (Do op) = directly_in_peek blocks ≡ false
 IsNestedIn blocks (Put k) = directly_in_peek blocks ≡ false
@@ -113,7 +113,7 @@ IsNestedIn blocks (Loop k) = in_peek blocks ≡ false
 IsNestedIn blocks (EndLoop o k) = innermost blocks ≡ Some (InLoop o k)
 IsNestedIn blocks (Break o releases leaves) = (directly_in_peek blocks ≡ false) × (way_out blocks ≡ record { loop = Some o; releases = releases; leaves = leaves })
 
--- Each line may stand at its place, at most 31 blocks are open inside the thread, and at its end none is.
+-- Each line may be at its place, at most 31 blocks are open inside the thread, and at its end none is.
 pub record IsNested (lines : List Line) : Type 0 where
   pub each : (j : ℕ) (l : Line) → slice_get lines j ≡ Some l → IsNestedIn (blocks_at lines j) l.stmt
   pub depth : (j : ℕ) → length (blocks_at lines j) ≤ 31

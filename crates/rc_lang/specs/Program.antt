@@ -26,7 +26,7 @@ pub record Buffer : Type 0 where
   pub bytes : ℕ
   pub shares : ℕ
 
--- What a loop says behind `when` that is held besides while the thread's flag isn't 0.
+-- What a loop says after `when` that is held besides while the thread's flag isn't 0.
 pub record More : Type 0 where
   pub shares : List Share
   pub tokens : List ℕ
@@ -220,7 +220,7 @@ pub record HasEnd (lines : List Line) (ends : List ℕ) (j : ℕ) (stmt : Stmt) 
 abbrev pub IsFirst : List Line → ℕ → Stmt → Type 0
 IsFirst lines j stmt = (k : ℕ) → k < j → stmt_at lines k ≢ Some stmt
 
--- The statement stands behind place j.
+-- The statement is after place j.
 pub record IsAhead (lines : List Line) (j : ℕ) (stmt : Stmt) : Type 0 where
   pub place : ℕ
   pub behind : j < place
@@ -233,8 +233,8 @@ pub record HasArms (lines : List Line) (ends : List ℕ) (j : ℕ) : Type 0 wher
   pub none : IsAhead lines j (Nothing j)
 
 -- The lines that belong to the line at place j are there, where the table says: an if leads to its else or its closing
--- brace, an else, a peek and a loop to the closing brace. No arm stands twice. An arm ends before its peek does, and a
--- break stands before its loop's end.
+-- brace, an else, a peek and a loop to the closing brace. No arm is twice. An arm ends before its peek does, and a
+-- break is before its loop's end.
 abbrev pub IsLinked : List Line → List ℕ → ℕ → Stmt → Type 0
 IsLinked lines ends j (Do op) = Unit {0}
 IsLinked lines ends j (Put k) = Unit {0}

@@ -37,7 +37,7 @@ impl Comparison {
     }
 }
 
-/// A statement without a block. Variables and buffers stand by their numbers, files by the numbers that they are
+/// A statement without a block. Variables and buffers are by their numbers, files by the numbers that they are
 /// declared with.
 #[derive(Clone, Copy)]
 pub enum Op {
@@ -92,7 +92,7 @@ pub enum Test {
     Take(usize),
 }
 
-/// What stands on a line. The blocks of a program are lines of their own, and a closing line names the place of the
+/// What is on a line. The blocks of a program are lines of their own, and a closing line names the place of the
 /// line that it belongs to.
 #[derive(Clone, Copy)]
 pub enum Stmt {
@@ -135,7 +135,7 @@ pub enum Stmt {
 pub struct Line {
     /// Its number in the text, from 1.
     pub number: u32,
-    /// What stands there.
+    /// What is there.
     pub stmt: Stmt,
 }
 

@@ -78,7 +78,7 @@ pub struct Share {
     pub count: u32,
 }
 
-/// What a loop says behind `when` that is held besides while the thread's flag isn't 0.
+/// What a loop says after `when` that is held besides while the thread's flag isn't 0.
 #[derive(Drop)]
 pub struct More {
     /// Shares of buffers, each buffer once.
@@ -119,11 +119,11 @@ pub struct Thread {
     /// Its lines, without the header and its closing brace.
     pub lines: Vec<Line>,
     /// For the place of an if that of its else or its closing brace, for the place of an else, a peek and a loop that
-    /// of its closing brace. What stands at the other places says nothing.
+    /// of its closing brace. What is at the other places says nothing.
     pub ends: Vec<usize>,
     /// The names of its variables, at most 64, in the order of their first uses. A variable's number is its place here.
     pub variables: Vec<Vec<u8>>,
-    /// The variable that its loops name behind `when`, in a program of version 2 or later.
+    /// The variable that its loops name after `when`, in a program of version 2 or later.
     pub flag: Option<usize>,
 }
 
@@ -131,7 +131,7 @@ impl Thread {
     ghost use Rattle.std.specs.Prelude.{◌≡◌};
     ghost use Rattle.rc_lang.specs.Parts.{view_thread};
 
-    /// The number of its flag: the variable that its loops name behind `when`. None: they name none, and what is held
+    /// The number of its flag: the variable that its loops name after `when`. None: they name none, and what is held
     /// depends on no variable.
     pub fn flag(&self) -> Option<usize>
         ensures { result ≡ (view_thread self.now).flag }

@@ -38,7 +38,7 @@ AnswersExplain bytes json old new status = (verdict : Verdict) × ExplainsAs byt
 abbrev pub AnswersStep : Option (List ℕ) → List ℕ → Option (List ℕ) → Option (List ℕ) → ℕ → Type 0
 AnswersStep bytes schedule old new status = (end : StepEnd) × StepsAs bytes schedule old new (Ok end) × (status ≡ status_of_step end)
 
--- The same where the world in which the trace ends was written behind it.
+-- The same where the world in which the trace ends was written after it.
 abbrev pub AnswersState : Option (List ℕ) → List ℕ → Option (List ℕ) → Option (List ℕ) → ℕ → Type 0
 AnswersState bytes schedule old new status = (end : StepEnd) × ShowsAs bytes schedule old new (Ok end) × (status ≡ status_of_step end)
 
@@ -88,7 +88,7 @@ AnswersCommand gives (Run seed limit summary) bytes old new status = AnswersRun 
 AnswersCommand gives Emit bytes old new status = AnswersEmit bytes old new status
 AnswersCommand gives (Show text) bytes old new status = Appends old new (string_bytes text) × (status ≡ 0)
 
--- A failure of the source is answered, or that it has no end, and only these; nothing is read behind the end.
+-- A failure of the source is answered, or that it has no end, and only these; nothing is read after the end.
 abbrev pub ReadsOnce : Given → Given → Result ℕ CommandFault → Type 0
 ReadsOnce old new (Ok status) = CountsReads {X = ℕ} old new (Ok status)
 ReadsOnce old new (Err (Words e)) = ⊥

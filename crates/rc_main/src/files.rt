@@ -1,4 +1,4 @@
-//! Texts that stand in files.
+//! Texts that are in files.
 
 ghost use Rattle.std.specs.Prelude.{◌≡◌, ◌+◌, ◌<◌, ◌≤◌, ◌^◌, ℕ, IfOk, IfSome, IsErr, List, Result};
 ghost use Rattle.rc_main.specs.declared.files.Unread.{Unread};

@@ -79,7 +79,7 @@ impl<T: Drop> From<AllocFailed<T>> for WordsFault {
     }
 }
 
-/// The words of the command line, without the program's name. A byte that isn't UTF-8 text stands in a word as NUL, which
+/// The words of the command line, without the program's name. A byte that isn't UTF-8 text is in a word as NUL, which
 /// no argument has, and two hex digits: so no file has such a name, and it is shown as `\xff`.
 pub fn given_words(rt: &(impl Env + AllocGlobal)) -> Result<Vec<String>, AllocError> {
     let alloc = rt.alloc();
@@ -124,7 +124,7 @@ fn text_of(alloc: Global, bytes: &[u8]) -> Result<String, AllocError> {
     Ok(text)
 }
 
-/// Reads the words behind the program's name.
+/// Reads the words after the program's name.
 pub fn read_words<'a>(alloc: Global, words: &'a [&'a str]) -> Result<Asked<'a>, WordsFault>
     ensures { IfOk result (λ asked. HasRanges asked.command) }
 {
@@ -162,7 +162,7 @@ fn asked_of<'a>(alloc: Global, matches: &ArgMatches<'a>) -> Result<Asked<'a>, Wo
     }
 }
 
-/// The files that are named. `-` is standard input, which stands alone.
+/// The files that are named. `-` is standard input, which is alone.
 fn files_of<'a>(alloc: Global, given: &ArgMatches<'a>) -> Result<Vec<&'a str>, WordsFault> {
     let mut files = Vec::new(alloc);
     let mut is_input = false;

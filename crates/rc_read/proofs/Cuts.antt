@@ -19,7 +19,7 @@ letter_goes : (c : Bool) (b : ℕ) (word rest : List ℕ) → c ≡ false → co
 letter_goes true b word rest e = absurd cc
 letter_goes false b word rest e = refl
 
--- the words and the letters behind them are those of the bytes before place i, whatever stands behind these
+-- the words and the letters after them are those of the bytes before place i, whatever is after these
 abbrev pub CutAt : List ℕ → ℕ → ℕ → List (List ℕ) → Type 0
 CutAt bytes start i texts = (more : List ℕ) → texts ++ words_after (take (i - start) (drop start bytes)) (without_comment more) ≡ words_of (take i bytes ++ more)
 

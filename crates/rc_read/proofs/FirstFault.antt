@@ -76,7 +76,7 @@ words_count s (w ∷ ws) = added_count (with_names s (places_in s (w ∷ ws))) (
 line_count : (s : Sheet) (line : List ℕ) → (with_line s line).count ≡ s.count + 1
 line_count s line = ap (λ (n : ℕ). n + 1) (words_count s (words_of line))
 
--- ---- the lines behind a sheet
+-- ---- the lines after a sheet
 
 abbrev TrueAt : Sheet → List (List ℕ) → ℕ → List ℕ → ℕ → Type 0
 TrueAt s lines k line n = Contains (sentences (sheet_behind s (take k lines)) line) (n, true)

@@ -18,7 +18,7 @@ use Rattle.rc_read.specs.Adds.{arms_behind}
 use Rattle.rc_read.specs.Sheets.{Arms, no_arms}
 use Rattle.rc_read.proofs.KeptLinks.{IsAbsent, MayStand}
 
--- Whether the arm stands in the peek at place o.
+-- Whether the arm is in the peek at place o.
 pub record IsSeen (lines : List Line) (o : ℕ) (is : Bool) (arm : Stmt) : Type 0 where
   pub there : is ≡ true → IsAhead lines o arm
   pub absent : is ≡ false → IsAbsent lines arm
@@ -33,7 +33,7 @@ pub record HasSeen (lines : List Line) (arms : Arms) (o : ℕ) : Type 0 where
 abbrev pub AreSeen : List Block → List Line → Arms → Type 0
 AreSeen bs lines arms = (o : ℕ) → Contains bs (InPeek o) → HasSeen lines arms o
 
--- Such a line may stand there, by the arms that were seen.
+-- Such a line may be there, by the arms that were seen.
 abbrev pub IsNewArm : Arms → Stmt → Type 0
 IsNewArm arms (Case o u) = list_any (λ v. v == u) arms.cases ≡ false
 IsNewArm arms (Other o) = arms.other ≡ false
@@ -66,7 +66,7 @@ only_peek lines each bs here o p e c =
       | inr q ↦ cc
     ]
 
--- a peek that is open behind a line was open before it, or the line opens it
+-- a peek that is open after a line was open before it, or the line opens it
 module _ (bs : List Block) (n o : ℕ) where
   was_pushed : (b : Block) → (b ≡ InPeek o → ⊥) → Contains (bs ++ b ∷ []) (InPeek o) → Contains bs (InPeek o)
   was_pushed b ne c = elim (Contains-push_cases bs b (InPeek o) c) [ inl h ↦ h | inr q ↦ absurd (ne q) ]
@@ -125,7 +125,7 @@ other_case vs v u e =
     (h.0, eqb-false v u (or_parts (v == u) false h.1).0)
 
 module _ (lines : List Line) (l : Line) (each : EachNested lines) (bs : List Block) (here : blocks_at lines (length lines) ≡ bs) (arms : Arms) (seen : AreSeen bs lines arms) where
-  -- no arm stands before its peek
+  -- no arm is before its peek
   none_yet : (t : Stmt) → ((k : ℕ) → stmt_at lines k ≡ Some t → length lines < k) → IsAbsent lines t
   none_yet t before k e = let a : k < length lines = stands_within lines k t e in let b : length lines < k = before k e in absurd (omega arith)
 

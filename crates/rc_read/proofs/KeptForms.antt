@@ -32,7 +32,7 @@ none_alone n b e = (none_true n b None e).0
 pub few_lines : (s : Sheet) (line : List ℕ) → is_too_long s line ≡ false → s.count < 4096
 few_lines s line e = leb-false 4096 s.count (or_parts (nat_le 4096 s.count) (nat_lt 256 (length line)) e).0
 
--- Where no sentence is true of a line, fewer lines than a text may have stand above it.
+-- Where no sentence is true of a line, fewer lines than a text may have are above it.
 pub few_above : (s : Sheet) (line : List ℕ) (wrong : Wrong) (items : List Item) (what : Says) → first_true (later_sentences s line wrong items what) ≡ None → s.count < 4096
 few_above s line wrong items what e =
     let p6 = (none_true 5 wrong.unknown _ e).1 in
@@ -121,7 +121,7 @@ has_form version ws row e = go (first_row rows ws) refl e
 
 -- ---- the parts of a text
 
--- The part of the text in which such a form stands.
+-- The part of the text in which such a form is.
 abbrev pub IsRegion : Stand → Region → Type 0
 IsRegion stand.First r = r ≡ Start
 IsRegion stand.Second r = r ≡ Second

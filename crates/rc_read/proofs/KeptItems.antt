@@ -40,7 +40,7 @@ module _ (threads : List ThreadOf) (s : Sheet) (MayBeFlag : ℕ → Type 0) wher
     abbrev sheet : Sheet
     sheet = record s { draft = d }
 
-    -- The items in these places are fine, whatever stands before them.
+    -- The items in these places are fine, whatever is before them.
     abbrev pub SayFine : List Spot → Type 0
     SayFine ps = (seen : Seen) → any_lacks sheet seen ps ≡ false → any_unknown s ps ≡ false → AreFine (items_in (values_of sheet seen ps))
 

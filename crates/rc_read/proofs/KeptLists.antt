@@ -127,7 +127,7 @@ module _ (threads : List ThreadOf) (s : Sheet) (MayBeFlag : ℕ → Type 0) wher
   flag_fine (Queued k ∷ is) f = flag_fine is f.1
   flag_fine (When x ∷ is) f = f.0
 
--- ---- a token of one list stands not in the other
+-- ---- a token of one list is not in the other
 
 module _ (P : ℕ → Type 0) where
   all_append : (xs ys : List ℕ) → AllByRecursion P xs → AllByRecursion P ys → AllByRecursion P (xs ++ ys)
@@ -213,7 +213,7 @@ no_queue_before is e = go (position is_when is)
 
 -- ---- what a loop holds, and what a thread holds as it begins
 
--- The items of a loop are fine, and so is the variable behind `when`, which the first version doesn't have.
+-- The items of a loop are fine, and so is the variable after `when`, which the first version doesn't have.
 pub record IsLoopOf (p : Program) (variables : ℕ) (items : List Item) : Type 0 where
   pub list : IsList p (held_in_loop items)
   pub flag : IfSome (flag_in items) (λ x. x < variables)

@@ -121,7 +121,7 @@ abbrev pub IsNewName : List (List ℕ) → List ℕ → Type 0
 IsNewName names w = (is_name w ≡ true) × (is_among names w ≡ false)
 
 module _ (threads : List ThreadOf) (s : Sheet) (d : Draft) (ws : List (List ℕ)) (its : List Item) where
-  -- A line says this, in a form that stands there.
+  -- A line says this, in a form that is there.
   abbrev pub IsTold : Stand → Says → Type 0
   IsTold st (says.Version n) = (st ≡ stand.First) × (1 ≤ n) × (n ≤ 3)
   IsTold st (says.Ring rings) = (st ≡ stand.Second) × AreRings rings

@@ -12,7 +12,7 @@ use Rattle.rc_read.specs.Spots.{Spot, are_items, behind, behind_items, behind_on
 
 -- ---- parts
 
--- The word of a part, and the words behind it.
+-- The word of a part, and the words after it.
 pub record HasWord (part : Part) (parts : List Part) (ws : List (List ℕ)) : Type 0 where
   pub word : List ℕ
   pub rest : List (List ℕ)
@@ -51,7 +51,7 @@ are_of (Fixed f ∷ parts) ws e = let h = has_word (Fixed f) parts ws refl e in 
 are_of (Items ∷ parts) ws e = tt
 are_of (part ∷ parts) ws e = let h = has_word part parts ws refl e in (h.word, spots_of parts h.rest, spots_step part parts ws h, are_of parts h.rest h.matches)
 
--- Behind a fixed word the place of the line's second word is first.
+-- After a fixed word the place of the line's second word is first.
 pub record IsSecond (f : Word) (part : Part) (parts : List Part) (ws : List (List ℕ)) : Type 0 where
   pub fits : fits part (second_of ws) ≡ true
   pub rest : List (List ℕ)
@@ -77,7 +77,7 @@ no_spot : (f : Word) (ws : List (List ℕ)) → spot_of_part (Fixed f) ws ≡ []
 no_spot f [] = refl
 no_spot f (w ∷ ws) = refl
 
--- Between fixed words, or behind one, the places are those of the items.
+-- Between fixed words, or after one, the places are those of the items.
 pub items_between : (f g : Word) (ws : List (List ℕ)) → matches (Fixed f ∷ Items ∷ Fixed g ∷ []) ws ≡ true → (rest : List (List ℕ)) × (spots_of (Fixed f ∷ Items ∷ Fixed g ∷ []) ws ≡ spots_of_items rest)
 items_between f g ws e =
     let h = has_word (Fixed f) (Items ∷ Fixed g ∷ []) ws refl e in
@@ -92,7 +92,7 @@ items_after e f g ws m =
     let k = items_between f g h.rest h.matches in
     (k.0, spots_step (Fixed e) (Fixed f ∷ Items ∷ Fixed g ∷ []) ws h ∙ k.1)
 
--- Around a flag stand the places of two lists of items.
+-- Around a flag are the places of two lists of items.
 pub record HasFlag (spots : List Spot) : Type 0 where
   pub before : List (List ℕ)
   pub flag : List ℕ

@@ -126,7 +126,7 @@ FineShares buffers None k = Unit {0}
 FineShares buffers (Some b) k = (1 ≤ k) × (k ≤ shares_at buffers b)
 
 module _ (threads : List ThreadOf) (s : Sheet) (d : Draft) where
-  -- What a value is in its place, behind a submission ring with r entries and behind a buffer, if there is one.
+  -- What a value is in its place, after a submission ring with r entries and after a buffer, if there is one.
   abbrev pub FineAt : ℕ → Option ℕ → Part → Option Value → Type 0
   FineAt r b Variable v = as_named v < length d.names
   FineAt r b Operand v = IsOperand (length d.names) (as_operand v)
@@ -217,7 +217,7 @@ module _ (threads : List ThreadOf) (s : Sheet) (d : Draft) where
   agrees_behind seen r b a Buffer w h = record { rounded = a.rounded; shares = shares_known s.buffers w (not-false (is_among (buffer_names s.buffers) w) h.known) }
   agrees_behind seen r b a part w h = a
 
-  -- No sentence is true of places whose values stand from index i on.
+  -- No sentence is true of places whose values are from index i on.
   pub record AreRight (vs : List Value) (i : ℕ) (seen : Seen) (ps : List Spot) : Type 0 where
     pub numbers : any_lacks sheet seen ps ≡ false
     pub known : any_unknown s ps ≡ false

@@ -1,4 +1,4 @@
--- A variable keeps its number as others are added behind it, so that what a place says doesn't change with them.
+-- A variable keeps its number as others are added after it, so that what a place says doesn't change with them.
 use Rattle.std.proofs.Common.{◌≡◌, ℕ, suc, ◌+◌, ◌<◌, List, [], ◌∷◌, ◌++◌, length, Bool, true, false, cond, not, ◌||◌, Option, Some, refl, sym, ap, ◌∙◌, arith}
 use Rattle.std.proofs.lemmas.Cmp.{nat_list_eq_equiv}
 use Rattle.std.proofs.lemmas.Bool.{or_parts, true_from_ne_false}

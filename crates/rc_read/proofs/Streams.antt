@@ -143,7 +143,7 @@ reads_line (Err OutOfMemory) s s' bytes h j = tt
 reads_front : (s : Sheet) (pending bytes front : List ℕ) → NoFeed front → Reads None s pending bytes → Reads None s (pending ++ front) (bytes ++ front)
 reads_front s pending bytes front n h = rw (cut-append_front bytes front n) (h.0, ap (λ (x : List ℕ). x ++ front) h.1)
 
--- a line feed behind the bytes of a line
+-- a line feed after the bytes of a line
 pub ends : (r : Result (Unit {0}) ReadFault) (s s' : Sheet) (pending front line p : List ℕ) → NoFeed front → line ≡ pending ++ front → p ≡ [] → Judges s line s' r → ReadsMore s pending (front ++ 10 ∷ []) s' p r
 ends r s s' pending front line p n el ep t = λ bytes h.
     let g = reads_front s pending bytes front n h in

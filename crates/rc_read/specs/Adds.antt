@@ -66,7 +66,7 @@ closed_by (stmt.EndPeek o) = Some o
 closed_by (stmt.EndLoop o k) = Some o
 closed_by _ = None
 
--- The table of ends, where one more line stands at place j: that line has none, and is that of the line that it closes.
+-- The table of ends, where one more line is at place j: that line has none, and is that of the line that it closes.
 abbrev pub ends_marked : List ℕ → ℕ → Option ℕ → List ℕ
 ends_marked ends j None = ends
 ends_marked ends j (Some o) = slice_set ends o j
@@ -82,7 +82,7 @@ arms_behind arms (stmt.Other o) = record arms { other = true }
 arms_behind arms (stmt.Nothing o) = record arms { none = true }
 arms_behind arms _ = arms
 
--- The lists of items behind a line: those of a loop, of a put and of a take are kept.
+-- The lists of items after a line: those of a loop, of a put and of a take are kept.
 abbrev pub lists_behind : List Items → List Item → Stmt → List Items
 lists_behind lists items (stmt.Loop k) = lists ++ held_in_loop items ∷ []
 lists_behind lists items (stmt.Put k) = lists ++ held items [] ∷ []
@@ -177,7 +177,7 @@ added s ws items Thread = record s { region = region.InThread; draft = headed (s
 added s ws items Close = closed s (innermost s.draft.blocks)
 added s ws items what = said s items what
 
--- What stands in the places of a line, its own variables among the names.
+-- What is in the places of a line, its own variables among the names.
 abbrev pub values : Sheet → List Spot → List Value
 values s spots = values_of (with_names s spots) start spots
 
@@ -194,7 +194,7 @@ says s ws = says_by (form_in s ws) (values s (places_in s ws))
 abbrev pub items : Sheet → List (List ℕ) → List Item
 items s ws = items_in (values s (places_in s ws))
 
--- The sheet behind a line, where no sentence is true of it.
+-- The sheet after a line, where no sentence is true of it.
 abbrev pub with_words : Sheet → List (List ℕ) → Sheet
 with_words s [] = s
 with_words s (w ∷ ws) = added (with_names s (places_in s (w ∷ ws))) (w ∷ ws) (items s (w ∷ ws)) (says s (w ∷ ws))

@@ -7,7 +7,7 @@ use Rattle.rc_read.specs.Sheets.{Sheet, empty}
 use Rattle.rc_read.specs.Adds.{with_line}
 use Rattle.rc_read.specs.Words.{text_lines}
 
--- The sheet behind these lines.
+-- The sheet after these lines.
 abbrev pub sheet_behind : Sheet → List (List ℕ) → Sheet
 sheet_behind s [] = s
 sheet_behind s (line ∷ lines) = sheet_behind (with_line s line) lines

@@ -8,7 +8,7 @@ abbrev pub fault_in : {X : Type 0} → Result X ReadFault → Option ReadFault
 fault_in (Ok u) = None
 fault_in (Err fault) = Some fault
 
--- Where bytes were read without a fault, these are read behind them.
+-- Where bytes were read without a fault, these are read after them.
 abbrev pub ReadsMore : {X : Type 0} → Sheet → List ℕ → List ℕ → Sheet → List ℕ → Result X ReadFault → Type 0
 ReadsMore old pending more new left r = (bytes : List ℕ) → Reads None old pending bytes → Reads (fault_in r) new left (bytes ++ more)
 

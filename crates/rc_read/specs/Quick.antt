@@ -24,7 +24,7 @@ abbrev pub first_byte : List (List ℕ) → ℕ
 first_byte ((b ∷ w) ∷ ws) = b
 first_byte _ = 0
 
--- Items stand among these parts. Each other part takes one word.
+-- Items are among these parts. Each other part takes one word.
 abbrev pub has_items : List Part → Bool
 has_items parts = list_any are_items parts
 

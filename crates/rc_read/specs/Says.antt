@@ -1,4 +1,4 @@
--- What a line says, form by form, given what stands in its places.
+-- What a line says, form by form, given what is in its places.
 use Rattle.std.specs.Prelude.{ℕ, ◌*◌, ◌==◌, List, slice_get, Option, Some, None, ℤ, pos}
 use Rattle.rc_lang.specs.declared.lines.Comparison.{Comparison}
 use Rattle.rc_lang.specs.declared.lines.Comparison.TheVariants.{Equal}

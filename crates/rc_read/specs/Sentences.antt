@@ -1,4 +1,4 @@
--- The fault sentences about a line, given what stands above it.
+-- The fault sentences about a line, given what is above it.
 use Rattle.std.specs.Prelude.{ℕ, List, [], ◌∷◌, length, take, Option, Some, None, Bool, true, false, ◌&&◌, ◌||◌, not, ◌==◌, nat_lt, nat_le, is_none, if◌then◌else◌, codes}
 use Rattle.std.specs.List.{list_any}
 use Rattle.std.specs.Str.{bytes_eq}
@@ -126,7 +126,7 @@ abbrev pub is_token : Item → Bool
 is_token (item.Token u) = true
 is_token _ = false
 
--- A token of the one list stands in the other.
+-- A token of the one list is in the other.
 abbrev pub any_in_both : List Item → List Item → Bool
 any_in_both more is = list_any (λ i. is_token i && list_any (names_same i) is) more
 
@@ -182,7 +182,7 @@ any_full s ps = list_any (λ (p : Spot). is_full s p.part) ps
 abbrev pub has_too_many_names : Sheet → List Spot → Bool
 has_too_many_names s spots = nat_lt 64 (length (names_behind s.draft.names spots))
 
--- ---- P9: a lock in a lock or in a peek, a peek or a loop in a peek, a break outside a loop, queued entries outside a lock, behind `when` or in what is put or taken
+-- ---- P9: a lock in a lock or in a peek, a peek or a loop in a peek, a break outside a loop, queued entries outside a lock, after `when` or in what is put or taken
 
 abbrev pub says_queue : Item → Bool
 says_queue (item.Queued k) = true
@@ -201,7 +201,7 @@ bad_nesting blocks is Take = any_queue is
 bad_nesting blocks is Break = is_none (way_out blocks).loop
 bad_nesting blocks is _ = false
 
--- ---- P10: an arm that doesn't stand directly in a peek, another statement that does, an arm twice, a missing arm
+-- ---- P10: an arm that isn't directly in a peek, another statement that does, an arm twice, a missing arm
 
 abbrev pub bad_case : Draft → Says → Bool
 bad_case d (Case u) = not (directly_in_peek d.blocks) || list_any (λ v. v == u) d.arms.cases
@@ -218,7 +218,7 @@ bad_case d Loop = directly_in_peek d.blocks
 bad_case d Break = directly_in_peek d.blocks
 bad_case d _ = false
 
--- ---- P11: behind `when` stands another variable than behind the thread's first
+-- ---- P11: after `when` is another variable than after the thread's first
 
 abbrev pub other_flag : Option ℕ → Option ℕ → Bool
 other_flag (Some x) (Some y) = not (x == y)

@@ -1,4 +1,4 @@
--- What stands above a line.
+-- What is above a line.
 use Rattle.std.specs.Prelude.{ℕ, ◌+◌, List, [], ◌∷◌, ◌++◌, map, Option, Some, None, Bool, true, false, not, ◌==◌, if◌then◌else◌}
 use Rattle.std.specs.List.{list_any}
 use Rattle.std.specs.Str.{bytes_eq}
@@ -35,7 +35,7 @@ pub record Draft : Type 0 where
   pub arms : Arms
   pub flag : Option ℕ
 
--- What stands above a line: how many lines, in which part of the text it stands, what the head says, what is declared,
+-- What is above a line: how many lines, in which part of the text it is, what the head says, what is declared,
 -- the finished threads and the open one.
 pub record Sheet : Type 0 where
   pub count : ℕ
@@ -112,7 +112,7 @@ is_variable Flag w = true
 is_variable Operand w = not (begins_number w)
 is_variable _ w = false
 
--- The variables behind a line with these words in their places.
+-- The variables after a line with these words in their places.
 abbrev pub names_behind : List (List ℕ) → List Spot → List (List ℕ)
 names_behind names [] = names
 names_behind names (p ∷ ps) = names_behind (if is_variable p.part p.word then with_name names p.word else names) ps

@@ -11,7 +11,7 @@ use Rattle.rc_read.specs.declared.table.Part.TheVariants.{Fixed, Variable, Opera
 use Rattle.rc_read.specs.declared.table.Row.{Row}
 use Rattle.rc_read.specs.Table.{text_of, parts_of, rows, version_of}
 
--- ---- which words stand in a place
+-- ---- which words are in a place
 
 abbrev pub comparison_of : List ℕ → Option Comparison
 comparison_of w =
@@ -27,7 +27,7 @@ abbrev pub begins_number : List ℕ → Bool
 begins_number [] = false
 begins_number (b ∷ bytes) = is_digit b || b == 45
 
--- In a place for a name stands a name, and in one for a number any word.
+-- In a place for a name is a name, and in one for a number any word.
 abbrev pub fits : Part → List ℕ → Bool
 fits (Fixed fixed) w = bytes_eq w (text_of fixed)
 fits Variable w = is_name w
@@ -55,7 +55,7 @@ item_at w (Some i) = is_item_name (take i w)
 abbrev pub is_item : List ℕ → Bool
 is_item w = item_at w (colon_in w)
 
--- A word in its place, with the part that stands there.
+-- A word in its place, with the part that is there.
 pub record Spot : Type 0 where
   pub part : Part
   pub word : List ℕ
@@ -75,7 +75,7 @@ spots_cut w (Some i) = item_spots (take i w) (drop (i + 1) w)
 abbrev pub spots_of_item : List ℕ → List Spot
 spots_of_item w = spots_cut w (colon_in w)
 
--- the items in front, and the words behind them
+-- the items in front, and the words after them
 abbrev pub spots_of_items : List (List ℕ) → List Spot
 spots_of_items [] = []
 spots_of_items (w ∷ ws) = if is_item w then spots_of_item w ++ spots_of_items ws else []
@@ -90,7 +90,7 @@ abbrev pub are_items : Part → Bool
 are_items Items = true
 are_items _ = false
 
--- The words behind those of a part, where they stand there.
+-- The words after those of a part, where they are there.
 abbrev pub behind_one : Part → List (List ℕ) → Option (List (List ℕ))
 behind_one part [] = None
 behind_one part (w ∷ ws) = if fits part w then Some ws else None
@@ -126,7 +126,7 @@ spots_of (part ∷ parts) ws = spots_at part ws ++ spots_of parts (unwrap_or (be
 
 -- ---- versions
 
--- In these places stand names.
+-- In these places are names.
 abbrev pub has_name : Part → Bool
 has_name Variable = true
 has_name Operand = true
@@ -136,7 +136,7 @@ has_name NewBuffer = true
 has_name NewThread = true
 has_name _ = false
 
--- In the place of a name stands a word that this version reserves.
+-- In the place of a name is a word that this version reserves.
 abbrev pub any_reserved : ℕ → List Spot → Bool
 any_reserved version ps = list_any (λ (p : Spot). has_name p.part && is_reserved_by version p.word) ps
 

@@ -92,7 +92,7 @@ value_at s seen part.Credits w = option_map (λ n. Item (item.Credits n)) (numbe
 value_at s seen part.Queued w = option_map (λ k. Item (item.Queued k)) (number_of 0 s.head.entries w)
 value_at s seen _ w = Some Nothing
 
--- What a place says of those behind it: the entries of a submission ring, and a buffer.
+-- What a place says of those after it: the entries of a submission ring, and a buffer.
 abbrev pub start : Seen
 start = record { rounded = 1; buffer = 0; shares = None }
 
@@ -116,13 +116,13 @@ abbrev pub values_of : Sheet → Seen → List Spot → List Value
 values_of s seen [] = []
 values_of s seen (p ∷ ps) = unwrap_or (value_at s seen p.part p.word) Nothing ∷ values_of s (seen_behind s seen p.part p.word) ps
 
--- The items of a line, and among them the variable that it names behind `when`.
+-- The items of a line, and among them the variable that it names after `when`.
 abbrev pub items_in : List Value → List ItemOf
 items_in [] = []
 items_in (Item i ∷ vs) = i ∷ items_in vs
 items_in (v ∷ vs) = items_in vs
 
--- ---- the two lists of a line, before `when` and behind it
+-- ---- the two lists of a line, before `when` and after it
 
 abbrev pub is_when : ItemOf → Bool
 is_when (item.When x) = true
@@ -142,7 +142,7 @@ before_when is = before_at is (position is_when is)
 abbrev pub behind_when : List ItemOf → List ItemOf
 behind_when is = behind_at is (position is_when is)
 
--- The variable that a line names behind `when`.
+-- The variable that a line names after `when`.
 abbrev pub flag_in : List ItemOf → Option ℕ
 flag_in [] = None
 flag_in (item.When x ∷ is) = Some x

@@ -3,17 +3,17 @@ use Rattle.std.specs.Prelude.{ℕ, List, [], ◌∷◌, ◌++◌, Bool, ◌||◌
 
 -- ---- lines
 
--- a byte before the lines that a line feed ended and the bytes behind the last of them
+-- a byte before the lines that a line feed ended and the bytes after the last of them
 abbrev pub before_line : ℕ → List (List ℕ) × List ℕ → List (List ℕ) × List ℕ
 before_line b ([], rest) = ([], b ∷ rest)
 before_line b (line ∷ lines, rest) = ((b ∷ line) ∷ lines, rest)
 
--- The lines that a line feed ended, and the bytes behind the last line feed.
+-- The lines that a line feed ended, and the bytes after the last line feed.
 abbrev pub cut : List ℕ → List (List ℕ) × List ℕ
 cut [] = ([], [])
 cut (b ∷ bytes) = if b == 10 then ([] ∷ (cut bytes).0, (cut bytes).1) else before_line b (cut bytes)
 
--- The bytes behind the last line feed are a line too, unless there are none.
+-- The bytes after the last line feed are a line too, unless there are none.
 abbrev pub last_line : List ℕ → List (List ℕ)
 last_line [] = []
 last_line (b ∷ bytes) = (b ∷ bytes) ∷ []
@@ -37,7 +37,7 @@ abbrev pub word_if_any : List ℕ → List (List ℕ)
 word_if_any [] = []
 word_if_any (b ∷ bytes) = (b ∷ bytes) ∷ []
 
--- the words of what is left of a line, behind the letters of a word so far
+-- the words of what is left of a line, after the letters of a word so far
 abbrev pub words_after : List ℕ → List ℕ → List (List ℕ)
 words_after word [] = word_if_any word
 words_after word (b ∷ bytes) = if is_blank b then word_if_any word ++ words_after [] bytes else words_after (word ++ b ∷ []) bytes

@@ -38,7 +38,7 @@ fn head_with_rings(version: u32, rings: Rings) -> Head
     }
 }
 
-// A thread whose header has these words and items and stands on this line.
+// A thread whose header has these words and items and is on this line.
 fn open_thread(
     alloc: Global,
     words: &[&[u8]],

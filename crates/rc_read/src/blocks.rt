@@ -13,7 +13,7 @@ use crate::table::Stand;
 use crate::values::Item;
 use rc_lang::lines::Block;
 
-/// The way of a break out of the open blocks: the place of the innermost loop, and whether a lock and a peek stand in
+/// The way of a break out of the open blocks: the place of the innermost loop, and whether a lock and a peek are in
 /// it on the way.
 #[derive(Clone, Copy)]
 pub struct Way {
@@ -109,7 +109,7 @@ pub fn way_out(blocks: &[Block]) -> Way
     way
 }
 
-/// Whether a form with this stand may stand in this part of a text.
+/// Whether a form with this are may be in this part of a text.
 pub fn may_stand(stand: Stand, region: Region) -> bool
     ensures { result ≡ spec.may_stand stand region }
 {
@@ -142,7 +142,7 @@ fn is_first_branch(block: Option<Block>) -> bool
     }
 }
 
-/// Whether a closing brace, an else or a thread's header stands where none may.
+/// Whether a closing brace, an else or a thread's header is where none may.
 pub fn bad_brace(parts: &Parts, says: Says) -> bool
     ensures { result ≡ spec.bad_brace (view_sheet parts.now) says }
 {
@@ -185,7 +185,7 @@ pub fn is_too_deep(parts: &Parts, says: Says) -> bool
     opens_block(says) && parts.draft.blocks.len() >= 31
 }
 
-/// Whether a line stands in a block in which it may not, or needs one that isn't open.
+/// Whether a line is in a block in which it may not, or needs one that isn't open.
 pub fn bad_nesting(draft: &Draft, items: &[Item], says: Says) -> bool
     ensures { result ≡ spec.bad_nesting (view_draft draft.now).blocks items.now says }
 {
@@ -211,7 +211,7 @@ fn has_case(arms: &Arms, u: u64) -> bool
     arms.cases.iter().any(|v| *v == u)
 }
 
-/// Whether an arm doesn't stand directly in a peek, another statement does, an arm stands twice, or one is missing.
+/// Whether an arm isn't directly in a peek, another statement does, an arm is twice, or one is missing.
 pub fn bad_case(draft: &Draft, says: Says) -> bool
     ensures { result ≡ spec.bad_case (view_draft draft.now) says }
 {

@@ -46,7 +46,7 @@ pub fn held(alloc: Global, items: &[Item]) -> Result<Items, AllocError>
     })
 }
 
-// What the items of a loop hold: those before `when`, and besides those behind it.
+// What the items of a loop hold: those before `when`, and besides those after it.
 fn held_in_loop(alloc: Global, items: &[Item]) -> Result<Items, AllocError>
     ensures { IfOk result (λ i. view_items i ≡ spec.held_in_loop items.now) }
 {
@@ -160,7 +160,7 @@ fn put_list(
     }
 }
 
-// The flag of a thread, behind a line with these items.
+// The flag of a thread, after a line with these items.
 fn flag_behind(flag: Option<usize>, items: &[Item], stmt: Stmt) -> Option<usize>
     ensures { result ≡ spec.flag_behind flag items.now stmt }
 {

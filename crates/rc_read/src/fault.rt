@@ -14,7 +14,7 @@ pub enum ReadCause {
     NotAscii = 1,
     /// The text doesn't begin with `ringcheck 1`, `ringcheck 2` or `ringcheck 3` and a line that begins with `ring`.
     BadHead,
-    /// The words are no form, or one that may not stand in this part of the text.
+    /// The words are no form, or one that may not be in this part of the text.
     BadLine,
     /// A word in a number's place is no number or is out of its range.
     BadNumber,
@@ -28,12 +28,12 @@ pub enum ReadCause {
     /// One line, byte, open block, thread, buffer, token, file or variable too many.
     TooLarge,
     /// A lock in a lock or in a peek, a peek or a loop in a peek, a break outside a loop, or queued entries said
-    /// outside a lock, behind `when` or in what is put or taken.
+    /// outside a lock, after `when` or in what is put or taken.
     BadNesting,
-    /// An arm that doesn't stand directly in a peek, another statement that does, an arm twice, or an arm that is
+    /// An arm that isn't directly in a peek, another statement that does, an arm twice, or an arm that is
     /// missing.
     BadCase,
-    /// Behind `when` stands another variable than behind the thread's first.
+    /// After `when` is another variable than after the thread's first.
     OtherFlag,
 }
 

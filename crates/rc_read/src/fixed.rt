@@ -1,9 +1,9 @@
-//! The words of the notation that stand as they are.
+//! The words of the notation that are as they are.
 
 ghost use Rattle.std.specs.Prelude.{◌≡◌};
 ghost use Rattle.rc_read.specs.Table as spec;
 
-/// A word that stands as it is.
+/// A word that is as it is.
 #[derive(Clone, Copy)]
 pub enum Word {
     Ringcheck,

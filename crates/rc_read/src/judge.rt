@@ -23,7 +23,7 @@ use crate::values::{Item, Value};
 use crate::words::{begins_strange, is, put_words};
 use std::alloc::{AllocError, Global};
 
-/// What stands in the places of a line.
+/// What is in the places of a line.
 #[derive(Drop)]
 pub struct Found<'a> {
     spots: Vec<Spot<'a>>,
@@ -83,7 +83,7 @@ fn bad_head(region: Region, row: Option<Row>, words: &[&[u8]]) -> bool
     }
 }
 
-// Whether behind `when` stands another variable than the thread's flag, if it has one.
+// Whether after `when` is another variable than the thread's flag, if it has one.
 fn other_flag(flag: Option<usize>, items: &[Item]) -> bool
     ensures { result ≡ spec.other_flag flag (flag_in_list items.now) }
 {

@@ -1,4 +1,4 @@
-//! The items of a line, in two lists, before `when` and behind it: what is named twice, and what says queued entries.
+//! The items of a line, in two lists, before `when` and after it: what is named twice, and what says queued entries.
 
 ghost use Rattle.std.specs.Prelude.{◌≡◌, position};
 ghost use Rattle.std.specs.List.{list_any};
@@ -22,7 +22,7 @@ fn place_of_when(items: &[Item]) -> Option<usize>
     items.iter().position(|item| is_when(*item))
 }
 
-/// The items before `when`, which are all where there is none, and those behind it.
+/// The items before `when`, which are all where there is none, and those after it.
 pub fn parted(items: &[Item]) -> (&[Item], &[Item])
     ensures before { result.0.now ≡ spec.before_when items.now }
     ensures behind { result.1.now ≡ spec.behind_when items.now }
@@ -33,7 +33,7 @@ pub fn parted(items: &[Item]) -> (&[Item], &[Item])
     }
 }
 
-/// The variable behind `when`.
+/// The variable after `when`.
 pub fn flag_in(items: &[Item]) -> Option<usize>
     ensures { result ≡ spec.flag_in items.now }
 {
@@ -99,7 +99,7 @@ fn is_token(item: Item) -> bool
     }
 }
 
-// Whether a token of the one list stands in the other.
+// Whether a token of the one list is in the other.
 fn any_in_both(more: &[Item], items: &[Item]) -> bool
     ensures { result ≡ sentences.any_in_both more.now items.now }
 {

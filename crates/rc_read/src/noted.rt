@@ -213,7 +213,7 @@ fn operand_of(alloc: Global, parts: &mut Parts, word: &[u8]) -> Result<Option<Va
     Ok(Some(Value::Operand(Operand::Variable(variable))))
 }
 
-// What the word of a place says. What it says of the places behind it, and what is wrong with its name, is noted, and a
+// What the word of a place says. What it says of the places after it, and what is wrong with its name, is noted, and a
 // variable is added where it is new.
 fn look_at(
     alloc: Global,

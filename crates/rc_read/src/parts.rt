@@ -7,18 +7,18 @@ use rc_lang::lines::{Block, Line};
 use rc_lang::program::{Buffer, File, Head, Items, More, Thread, Token};
 use std::alloc::Global;
 
-/// The part of a text in which a line stands.
+/// The part of a text in which a line is.
 #[derive(Clone, Copy)]
 pub enum Region {
     /// Above the first head line.
     Start,
     /// Between the head lines.
     Second,
-    /// Behind the head, above the threads.
+    /// After the head, above the threads.
     Declarations,
     /// In a thread.
     InThread,
-    /// Behind a thread, in none.
+    /// After a thread, in none.
     Between,
 }
 

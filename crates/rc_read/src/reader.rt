@@ -39,7 +39,7 @@ impl Model for Reader {
     ghost invariant = { λ r. IsReachedOrFaulty r.fault (view_sheet r.parts) };
 }
 
-// Judges a line that a line feed ends: the pending bytes and these behind them.
+// Judges a line that a line feed ends: the pending bytes and these after them.
 fn end_line<'a>(
     alloc: Global,
     parts: &mut Parts,
@@ -80,7 +80,7 @@ fn take(
     Ok(())
 }
 
-// Judges what comes behind the last line feed, unless it is empty.
+// Judges what comes after the last line feed, unless it is empty.
 fn judge_rest(alloc: Global, parts: &mut Parts, rest: &[u8]) -> Result<(), ReadFault>
     ensures { JudgesAll (view_sheet parts.old) (last_line rest.now) (view_sheet parts.new) result }
 {
@@ -178,7 +178,7 @@ impl Reader {
         self.pending.as_slice()
     }
 
-    /// What was read so far: before an error, what stands above the line that hasn't ended.
+    /// What was read so far: before an error, what is above the line that hasn't ended.
     pub fn parts(&self) -> &Parts
         ensures { view_sheet result.now ≡ self.now.sheet }
     {

@@ -13,7 +13,7 @@ use crate::words::{is, is_name};
 use rc_lang::lines::Comparison;
 use std::alloc::AllocError;
 
-/// A word in its place, with the part that stands there.
+/// A word in its place, with the part that is there.
 #[derive(Clone, Copy)]
 pub struct Spot<'a> {
     pub part: Part,
@@ -51,7 +51,7 @@ pub fn begins_number(word: &[u8]) -> bool
     }
 }
 
-/// Whether a word stands in the place of a part: a name in one for a name, any word in one for a number.
+/// Whether a word is in the place of a part: a name in one for a name, any word in one for a number.
 #[inline(always)]
 pub fn fits(part: Part, word: &[u8]) -> bool
     ensures { result ≡ spec.fits part word.now }
@@ -147,7 +147,7 @@ fn push_items<'a>(spots: &mut Vec<Spot<'a>>, words: &[&'a [u8]]) -> Result<usize
     Ok(words.len())
 }
 
-// Adds the place of a word that stands in a part. A fixed word has none.
+// Adds the place of a word that is in a part. A fixed word has none.
 fn push_word<'a>(spots: &mut Vec<Spot<'a>>, part: Part, word: &'a [u8]) -> Result<(), AllocError>
     ensures { OnOk result (view_spots spots.new.items ≡ view_spots spots.old.items ++ spec.spot_of_part part (word.now ∷ [])) }
 {
@@ -160,7 +160,7 @@ fn push_word<'a>(spots: &mut Vec<Spot<'a>>, part: Part, word: &'a [u8]) -> Resul
     }
 }
 
-// Adds the places of the words that a part takes, where they stand there. The answer is how many words they are.
+// Adds the places of the words that a part takes, where they are there. The answer is how many words they are.
 fn push_part<'a>(
     spots: &mut Vec<Spot<'a>>,
     part: Part,
@@ -206,7 +206,7 @@ fn put_places<'a>(
     Ok(at == words.len())
 }
 
-/// Whether a name stands in a place.
+/// Whether a name is in a place.
 pub fn has_name(part: Part) -> bool
     ensures { result ≡ spec.has_name part }
 {
@@ -217,7 +217,7 @@ pub fn has_name(part: Part) -> bool
     }
 }
 
-// Whether a word that this version reserves stands in the place of a name.
+// Whether a word that this version reserves is in the place of a name.
 fn any_reserved(version: u32, spots: &[Spot]) -> bool
     ensures { result ≡ spec.any_reserved version (view_spots spots.now) }
 {
@@ -236,7 +236,7 @@ fn is_form(version: u32, row: Row, spots: &[Spot]) -> bool
     version_of(row) <= version && !any_reserved(version, spots)
 }
 
-// Whether items stand in a form.
+// Whether items are in a form.
 fn has_items(row: Row) -> bool
     ensures { result ≡ quick.has_items (spec_parts_of row) }
 {

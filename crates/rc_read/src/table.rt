@@ -26,7 +26,7 @@ pub enum Range {
 /// A part of a form.
 #[derive(Clone, Copy)]
 pub enum Part {
-    /// A word that stands as it is.
+    /// A word that is as it is.
     Fixed(Word),
     Variable,
     /// A variable or a signed number.
@@ -45,7 +45,7 @@ pub enum Part {
     NewThread,
     /// Any number of items.
     Items,
-    /// The variable behind `when`.
+    /// The variable after `when`.
     Flag,
     /// In an item: the shares of the buffer before, a token that is declared above, credits and queued entries.
     HeldShares,
@@ -104,16 +104,16 @@ pub enum Row {
     Close,
 }
 
-/// Where in a text a form may stand.
+/// Where in a text a form may be.
 #[derive(Clone, Copy)]
 pub enum Stand {
     /// As the first line.
     First,
     /// As the second line.
     Second,
-    /// Behind the head, above the threads.
+    /// After the head, above the threads.
     Declaration,
-    /// Behind the head, in no thread.
+    /// After the head, in no thread.
     Header,
     /// In a thread.
     Inside,
@@ -322,7 +322,7 @@ pub fn parts_of(row: Row) -> &'static [Part]
     }
 }
 
-/// The version of the notation from which on a form stands in texts.
+/// The version of the notation from which on a form is in texts.
 pub fn version_of(row: Row) -> u32
     ensures { result ≡ spec.version_of row }
 {
@@ -333,7 +333,7 @@ pub fn version_of(row: Row) -> u32
     }
 }
 
-/// Where a form may stand.
+/// Where a form may be.
 pub fn stand_of(row: Row) -> Stand
     ensures { result ≡ spec.stand_of row }
 {

@@ -11,7 +11,7 @@ use crate::words::is;
 use rc_lang::lines::{Comparison, Operand};
 use rc_lang::numbers::{is_number, number_of, signed_number_of};
 
-/// An item of a list: shares of a buffer, a token, credits or queued entries; and `when`, which stands between two
+/// An item of a list: shares of a buffer, a token, credits or queued entries; and `when`, which is between two
 /// lists with a variable.
 #[derive(Clone, Copy)]
 pub enum Item {

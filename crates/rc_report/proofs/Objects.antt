@@ -50,7 +50,7 @@ plain_refusal TokenTwice = refl
 plain_refusal OverCredits = refl
 plain_refusal NotHeld = refl
 
--- what stands behind the name
+-- what is after the name
 abbrev behind : ℕ → ℕ → List ℕ → List ℕ
 behind code line end = codes ",\"code\":" ++ (decimal code ++ (codes ",\"line\":" ++ (decimal line ++ end)))
 

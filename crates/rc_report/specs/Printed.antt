@@ -36,7 +36,7 @@ buffer_name program b = name_of_buffer (slice_get program.buffers b)
 abbrev pub valued : List ℕ → List ℕ → List ℕ
 valued word value = joined (word ∷ value ∷ [])
 
--- the words of a step, behind a blank
+-- the words of a step, after a blank
 abbrev pub action_text : Action → List ℕ
 action_text (VariableSet v) = valued (codes " set ") (signed_decimal v)
 action_text (Loaded b) = valued (codes " load ") (decimal b)

@@ -14,7 +14,7 @@ abbrev pub is_hidden : ℕ → Bool
 is_hidden c =
     nat_lt c 0x20 || is_from 0x7f 0xa0 c || c == 0x61c || is_from 0x200e 0x2010 c || is_from 0x202a 0x202f c || is_from 0x2066 0x206a c
 
--- Four hex digits. NUL, which no argument has, stands before the two hex digits of a byte that isn't text.
+-- Four hex digits. NUL, which no argument has, is before the two hex digits of a byte that isn't text.
 abbrev pub escaped : ℕ → List ℕ
 escaped c =
     if c == 0 then codes "\\x" else codes "\\u" ++ hex_digit_at 0x1000 c ∷ hex_digit_at 0x100 c ∷ hex_digit_at 0x10 c ∷ hex_digit_at 1 c ∷ []

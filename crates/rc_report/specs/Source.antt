@@ -7,7 +7,7 @@ abbrev pub line_numbered : List (List ℕ) → ℕ → List ℕ
 line_numbered lines zero = []
 line_numbered lines (suc n) = slice_index_or lines n []
 
--- each word behind a blank
+-- each word after a blank
 abbrev pub behind_blanks : List (List ℕ) → List ℕ
 behind_blanks [] = []
 behind_blanks (word ∷ words) = codes " " ++ word ++ behind_blanks words

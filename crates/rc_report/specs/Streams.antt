@@ -78,7 +78,7 @@ pub record IsWithoutEnd (old new : Given) : Type 0 where
   pub given : Consumes old.remaining new.remaining bytes
 
 -- A source's failure is answered, or that it has no end, and only these. There are never more reads than 2,097,152, and
--- none behind the end of the input: where it was met, it was met once. Memory may run out before it or behind it.
+-- none after the end of the input: where it was met, it was met once. Memory may run out before it or after it.
 abbrev pub CountsReads : {X : Type 0} → Given → Given → Result X EngineFault → Type 0
 CountsReads old new (Ok x) = (new.failures ≡ old.failures) × (new.ends ≡ old.ends + 1) × (new.reads ≤ old.reads + 2097152)
 CountsReads old new (Err Read) = ((new.failures ≡ old.failures + 1) × (new.ends ≡ old.ends) × (new.reads ≤ old.reads + 2097152)) ⊎ IsWithoutEnd old new

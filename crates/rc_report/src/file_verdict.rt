@@ -26,7 +26,7 @@ pub fn put_file_verdict(text: &mut Vec<u8>, file: &str, verdict: &Verdict) -> Re
 }
 
 /// Adds the verdict on a file's text as JSON: one object without spaces, its keys in order, and a line feed. What isn't
-/// shown as it is stands as `\u` and four hex digits, so the file's name is the one that is decoded.
+/// shown as it is is as `\u` and four hex digits, so the file's name is the one that is decoded.
 pub fn put_file_object(
     text: &mut Vec<u8>,
     alloc: Global,

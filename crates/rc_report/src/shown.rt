@@ -13,7 +13,7 @@ use crate::writing::write_piece;
 use std::alloc::AllocError;
 
 /// Adds a text as it is shown: a control character, and a mark that turns the direction of text, as `\u` and four hex
-/// digits. NUL, which stands before the hex digits of a byte that isn't text, is `\x`.
+/// digits. NUL, which is before the hex digits of a byte that isn't text, is `\x`.
 pub fn put_shown(text: &mut Vec<u8>, name: &str) -> Result<(), AllocError>
     ensures { Puts text.old text.new (shown name.now) result }
 {

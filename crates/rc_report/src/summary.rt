@@ -260,7 +260,7 @@ fn rank(common: &mut Vec<(i32, u64)>, counted: (i32, u64)) -> Result<(), AllocEr
     Ok(())
 }
 
-/// Where a result stands among ranked ones: before the first that came less often.
+/// Where a result is among ranked ones: before the first that came less often.
 fn place_of(common: &[(i32, u64)], counted: (i32, u64)) -> usize
     ensures within { result ≤ length common.now }
     ensures place { insert common.now result counted ≡ ranked_with common.now counted }

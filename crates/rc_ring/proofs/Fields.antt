@@ -27,7 +27,7 @@ module _ (given : ℕ) (bytes : List ℕ) (size : length bytes ≡ 64) where
   back_stays : drop 40 (bytes_with_data given bytes) ≡ drop 40 bytes
   back_stays = drop_at (take 32 bytes ++ to_le_bytes w64 given) (drop 40 bytes) 40 length-head
 
-  -- what lies before the field, and behind it
+  -- what lies before the field, and after it
   before : (i j : ℕ) → j ≤ 32 → slice_range (bytes_with_data given bytes) i j ≡ slice_range bytes i j
   before i j below =
       between_is (bytes_with_data given bytes) i j

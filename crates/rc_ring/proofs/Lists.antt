@@ -31,7 +31,7 @@ slots_at-set_other slots q bytes (p ∷ places) fresh =
     slots_at-set_other slots q bytes places (λ found. fresh (suc found.0, omega (arith, found.1), found.2)) in
     cc
 
--- a write to the place behind them, and that place
+-- a write to the place after them, and that place
 slots_at-push : (slots : List (List ℕ)) (q : ℕ) (bytes : List ℕ) (places : List ℕ) → q < length slots → ¬ Contains places q → slots_at (set slots q bytes) (places ++ q ∷ []) ≡ slots_at slots places ++ bytes ∷ []
 slots_at-push slots q bytes places within fresh =
     map_push (λ (p : ℕ). get_or (set slots q bytes) p []) places q
@@ -68,7 +68,7 @@ IsSpelledSlot-bytes bytes Prepared h spelled = spelled
 abbrev head_of : RingList → ℕ
 head_of cq = get_or cq.places 0 cq.next
 
--- a completion behind the others leaves it
+-- a completion after the others leaves it
 head-push : (places : List ℕ) (next after : ℕ) → get_or (places ++ next ∷ []) 0 after ≡ get_or places 0 next
 head-push [] next after = refl
 head-push (p ∷ places) next after = refl
@@ -95,7 +95,7 @@ module _ (sq cq : RingList) (sqes cqes : List (List ℕ)) (parked : Bool) (stage
   slot_is : slot_of (get_or sqes sq.next []) stage ≡ old.slot
   slot_is = ap (λ (r : Rings). r.slot) view_is
 
-  -- while a slot is open, no queued entry stands at its place
+  -- while a slot is open, no queued entry is at its place
   has_room : slot_count old.slot ≡ 1 → length sq.places < sq.entries
   has_room is_open =
       let one : slot_count (slot_of [] stage) ≡ 1 = slot_count-slot_of [] (get_or sqes sq.next []) stage ∙ ap (λ (s : OpenSlot). slot_count s) slot_is ∙ is_open in
@@ -251,7 +251,7 @@ module _ (sq cq : RingList) (sqes cqes : List (List ℕ)) (parked : Bool) (stage
   pub hold_entries : HoldEntries old
   hold_entries = subst (λ (r : Rings). HoldEntries r) view_is (record { queue = sound.queue; prepared = sound.prepared })
 
-  -- a completion behind the others
+  -- a completion after the others
   pub after_post : (cq' : RingList) (place : ℕ) (cqe : Cqe) (bytes : List ℕ) → SpellsCqe cqe bytes → length cq.places < cq.entries
       → place ≡ cq.next → cq' ≡ record cq { places = cq.places ++ cq.next ∷ []; next = (cq.next + 1) % cq.entries }
       → rings_of sq cq' sqes (set cqes place bytes) parked stage ≡ after_call (PostCall cqe) old

@@ -147,7 +147,7 @@ number_other f a b s d x n w e q i h p k = subst (λ y. Turned w y (record { fla
     each true = rw (i, k) (strongest_left Dead Dead tt)
     each false = rw i h
 
--- ---- behind a write
+-- ---- after a write
 
 gate_weaker : (g : Bool) (s u v : Label) → Weaker s (gate g u) → Weaker u v → Weaker s (gate g v)
 gate_weaker true s u v w h = weaker_trans s u v w h

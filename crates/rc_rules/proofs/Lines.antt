@@ -87,7 +87,7 @@ by_lock Unlocked F Q d f = d
 by_lock (Locked i) F Q d f = f i refl
 
 -- What is true of a dead state, and of each with the lock held or not as before and at most 18 of a part more, is true
--- behind a statement.
+-- after a statement.
 pub effect_by : (P : Program) (a : Part → ℕ) (m : Mode) (op : Op) → IsProgram P → (Q : Label → Type 0) → Q Dead → ((b : Part → ℕ) (n : Mode) → is_locked n ≡ is_locked m → ((p : Part) → b p ≤ a p + 18) → Q (Live b n)) → Q (op_effect P a m op)
 effect_by P a m ops.GetSqe h Q d f = by_lock m _ Q d (λ i e. f _ _ (sym (ap is_locked e)) (λ p. omega arith))
 effect_by P a m (ops.PrepRead fd b len off) h Q d f = by_lock m _ Q d (λ i e. f _ _ (sym (ap is_locked e)) (λ p. omega arith))

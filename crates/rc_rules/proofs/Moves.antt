@@ -112,7 +112,7 @@ mode_free h o m e f = subst (λ x. IsFree h.program (label_in (live_of h x))) e 
 may_held : (h : Holding) (o : Option Mode) (x : Side) (m : Mode) (rule : Rule) → side_of h o ≡ x → o ≡ Some m → MayFollow x.program rule (side_label x) → MayFollow h.program rule (Live (bag h) m)
 may_held h o x m rule q e f = subst (λ y. MayFollow h.program rule (label_in (live_of h y))) e (subst (λ (s : Side). MayFollow s.program rule (side_label s)) (sym q) f)
 
--- what is peeked isn't held behind a rule either
+-- what is peeked isn't held after a rule either
 pub follow_free : (h new : Holding) (o p : Option Mode) (x : Side) (m : Mode) (rule : Rule) → side_of h o ≡ x → o ≡ Some m → IsFree h.program (label_in (live_of h o)) → MayFollow x.program rule (side_label x) → IsSame (label_in (live_of new p)) (rule_effect h.program rule (bag h) m) → new.program ≡ h.program → IsFree new.program (label_in (live_of new p))
 follow_free h new o p x m rule q e f g i r = label_free h.program new p (rule_effect h.program rule (bag h) m) r i (rule_free h.program (bag h) m rule (mode_free h o m e f) (may_held h o x m rule q e g))
 

@@ -29,7 +29,7 @@ all_pass : {A : Type 0} (p q : A → Bool) (xs : List A) → ((x : A) → p x �
 all_pass p q [] h e = refl
 all_pass p q (x ∷ xs) h e = let f = and_parts (p x) (list_all p xs) e in and_from (q x) (list_all q xs) (h x f.0) (all_pass p q xs h f.1)
 
--- a token that stands at a place is there
+-- a token that is at a place is there
 token_there : (xs : List ℕ) (i : ℕ) → i < length xs → 1 ≤ tokens_in xs (get_or xs i 0)
 token_there [] i lt = absurd (omega arith)
 token_there (x ∷ xs) zero lt = elim (one_token x xs x) [
@@ -129,7 +129,7 @@ free_with P a Unseen items e f = tt
 free_with P a (Sees u) items e f = (f.0, omega (arith, f.1, unnamed items.tokens u e))
 free_with P a SeesOther items e f = tt
 
--- What is peeked isn't held behind a take either.
+-- What is peeked isn't held after a take either.
 pub taken_free : (P : Program) (a : Part → ℕ) (m : Mode) (items : Items) → can_take P a m items ≡ true → IsFreeIn P a m → IsFreeIn P (plus a (bag_of items)) m
 taken_free P a Unlocked items e f = tt
 taken_free P a (Locked i) items e f = free_with P a i.peeked items (not_true _ (and_parts (has_room P a items) (not (names_peeked items.tokens i.peeked)) e).1) f

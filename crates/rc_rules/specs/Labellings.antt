@@ -30,7 +30,7 @@ here lines known z = label_at known (length lines) z
 abbrev pub skipped : Thread → List Line → List Sides → ℕ → Bool → Label
 skipped thread lines known o z = gate (may_skip thread.flag z (stmt_at lines o)) (label_at known o z)
 
--- the ends of the arms of the peek at o; behind an arm nothing is peeked any more
+-- the ends of the arms of the peek at o; after an arm nothing is peeked any more
 abbrev pub arm_end : Stmt → ℕ → Label → List Label
 arm_end (EndArm p) o s = cond (nat_eq p o) (peek_at Unseen s ∷ []) []
 arm_end _ o s = []
@@ -48,9 +48,9 @@ abbrev pub break_ends : List Line → List Sides → ℕ → Bool → List Label
 break_ends [] labels o z = []
 break_ends (l ∷ lines) labels o z = break_end l.stmt o (label_at labels 0 z) ++ break_ends lines (drop 1 labels) o z
 
--- The labels that lead to a side of the place behind this line of a thread, from the lines before it and the labels so
--- far. Behind a peek, before its arms, stands what was known before it; where it writes the flag, of both sides. Behind
--- an arm, and behind a break, nothing comes from above.
+-- The labels that lead to a side of the place after this line of a thread, from the lines before it and the labels so
+-- far. After a peek, before its arms, is what was known before it; where it writes the flag, of both sides. After
+-- an arm, and after a break, nothing comes from above.
 abbrev pub befores : Program → Thread → List Line → List Sides → Stmt → Bool → List Label
 befores P thread lines known (Do op) z = brings (λ y. turns (write_of thread.flag op) y z) (λ s. goes s (λ bag m. op_effect P bag m op)) (here lines known)
 befores P thread lines known (Put k) z = goes (here lines known z) (λ bag m. put_effect bag m (items_at thread.lists k)) ∷ []
@@ -94,7 +94,7 @@ abbrev pub start_of : Thread → Sides
 start_of thread = record { zero = Live (bag_of thread.items) Unlocked; other = Dead }
 
 -- The labelling obeys the rule of the line at j: the labels up to it meet the premises, and on each side the label
--- behind it is weaker than each that leads there.
+-- after it is weaker than each that leads there.
 pub record IsGoodAt (P : Program) (thread : Thread) (lines : List Line) (labels : List Sides) (j : ℕ) (stmt : Stmt) : Type 0 where
   pub meets : Meets (premises P thread (take j lines) (take (j + 1) labels) stmt)
   pub after : (z : Bool) → WeakerThanEach (label_at labels (j + 1) z) (befores P thread (take j lines) (take (j + 1) labels) stmt z)

@@ -14,7 +14,7 @@ IsReflexive = (s : Label) → Weaker s s
 abbrev pub IsTransitive : Type 0
 IsTransitive = (s t u : Label) → Weaker s t → Weaker t u → Weaker s u
 
--- Each label is weaker than the one that stands there in the second list.
+-- Each label is weaker than the one that is there in the second list.
 abbrev pub EachWeaker : List Label → List Label → Type 0
 EachWeaker [] [] = Unit {0}
 EachWeaker [] (t ∷ ts) = ⊥

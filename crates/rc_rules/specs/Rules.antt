@@ -1,4 +1,4 @@
--- The rule of each line: what it asks of the state before it, and the state behind it.
+-- The rule of each line: what it asks of the state before it, and the state after it.
 use Rattle.std.specs.Prelude.{ℕ, ◌+◌, ◌-◌, Bool, true, false, cond, min, List, [], ◌∷◌, ◌++◌, Option, Some, None, nat_eq, nat_lt, nat_le, not, ◌&&◌, slice_get}
 use Rattle.std.specs.List.{list_all, list_any}
 use Rattle.rc_lang.specs.declared.lines.Op.{Op}
@@ -347,7 +347,7 @@ joins_both ends = may_join (ends true ++ ends false)
 abbrev pub may_loop : Program → ℕ → Items → Bool → (Part → ℕ) → Mode → List (ℕ × Premise)
 may_loop P v items z bag m = (v, Is (keeps_queue (queue_on P items) m)) ∷ (v, Covers bag (bag_on z items)) ∷ []
 
--- behind the top exactly the items are held
+-- after the top exactly the items are held
 abbrev pub top_mode : Program → Items → Mode → Mode
 top_mode P items Unlocked = Unlocked
 top_mode P items (Locked i) = Locked (record { queued = queue_on P items; slot = Closed; peeked = Unseen })

@@ -67,7 +67,7 @@ abbrev pub forgets : Option ℕ → Write
 forgets None = Untouched
 forgets (Some f) = Anything
 
--- whether a thread on the side y may be on the side z behind this write
+-- whether a thread on the side y may be on the side z after this write
 abbrev pub turns : Write → Bool → Bool → Bool
 turns Untouched y z = same_side y z
 turns (Number n) y z = same_side (int_eq n (pos 0)) z

@@ -171,7 +171,7 @@ Loses old new lost = Holds new old.program (minus (bag old) lost)
 abbrev pub Gains : Holding → Holding → (Part → ℕ) → Type 0
 Gains old new gained = Holds new old.program (plus (bag old) gained)
 
--- A rule of one side changes a holding, and the mode or nothing comes behind it; or it names the least premise that
+-- A rule of one side changes a holding, and the mode or nothing comes after it; or it names the least premise that
 -- fails.
 abbrev pub Follows : Holding → Holding → Result (Option Mode) Cause → List (ℕ × Premise) → Label → Type 0
 Follows old new (Ok m) premises effect = Meets premises × IsSame (label_in (live_of new m)) effect × (new.program ≡ old.program)

@@ -47,7 +47,7 @@ pub enum Cause {
 }
 
 impl Cause {
-    /// The number that is printed behind `V`, 1 to 19.
+    /// The number that is printed after `V`, 1 to 19.
     pub fn number(self) -> u32
         ensures { result ≡ spec.premise_number self }
     {

@@ -1,4 +1,4 @@
-//! The rules of lines: what a thread must hold for each, and what it holds behind it.
+//! The rules of lines: what a thread must hold for each, and what it holds after it.
 //!
 //! Each call of a [`State`](state::State) is one rule. A state has two sides: what holds while the thread's flag is 0,
 //! and while it isn't; without a flag the second is dead. A call answers Ok with the strongest state that the rule

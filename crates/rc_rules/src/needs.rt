@@ -38,9 +38,9 @@ pub enum Asks {
     Prepared,
     /// That the open entry is prepared as the line of the token with this user data says.
     Line(u64),
-    /// That this place is below the bytes of the buffer with this number, which stands first.
+    /// That this place is below the bytes of the buffer with this number, which comes first.
     Place(usize, u32),
-    /// That this length is at most the bytes of the buffer with this number, which stands first.
+    /// That this length is at most the bytes of the buffer with this number, which comes first.
     Length(usize, u32),
     /// A completion that is peeked.
     Peeked,

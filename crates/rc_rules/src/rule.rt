@@ -33,11 +33,11 @@ pub enum Rule<'a> {
     Case(u64),
     /// `other {`.
     Other,
-    /// `none {`, and what is known behind an arm.
+    /// `none {`, and what is known after an arm.
     Nothing,
 }
 
-/// What is known behind the line, or None where nothing comes there.
+/// What is known after the line, or None where nothing comes there.
 pub fn follow(holding: &mut Holding, mode: Mode, rule: Rule) -> Result<Option<Mode>, Cause>
     requires may { rules.MayFollow holding.old.program rule (Live (bag holding.old) mode) }
     requires free { states.IsFreeIn holding.old.program (bag holding.old) mode }

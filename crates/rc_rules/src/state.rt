@@ -131,7 +131,7 @@ impl<'a> State<'a> {
         }
     }
 
-    /// The state is dead from now on, as behind the end of an arm.
+    /// The state is dead from now on, as after the end of an arm.
     pub fn die(&mut self)
         ensures dead { spec.OnBoth (λ s. s ≡ Dead) self.new }
         ensures of { spec.IsOfSame self.new self.old }
@@ -224,7 +224,7 @@ impl<'a> State<'a> {
         Ok(())
     }
 
-    /// What holds behind a write to the flag, or to another variable.
+    /// What holds after a write to the flag, or to another variable.
     fn turn(&mut self, write: Write)
         ensures { spec.Becomes self.old self.new (λ z. sides.brings (λ y. sides.turns write y z) (λ s. s) (spec.label_of self.old)) }
     {
@@ -246,7 +246,7 @@ impl<'a> State<'a> {
         }
     }
 
-    /// Whatever is written to the flag: each side is what is known of both. So it is behind a `peek_cqe` into the flag,
+    /// Whatever is written to the flag: each side is what is known of both. So it is after a `peek_cqe` into the flag,
     /// before its arms.
     pub fn flag_lost(&mut self)
         ensures { spec.Becomes self.old self.new (λ z. sides.brings (λ y. true) (λ s. s) (spec.label_of self.old)) }
@@ -307,7 +307,7 @@ impl<'a> State<'a> {
         self.follow(Rule::Other)
     }
 
-    /// Behind an arm, and behind a break that keeps the lock, nothing is peeked.
+    /// After an arm, and after a break that keeps the lock, nothing is peeked.
     pub fn forget_peeked(&mut self)
         ensures { spec.Becomes self.old self.new (λ z. rules.peek_at peeks.Unseen (spec.label_of self.old z) ∷ []) }
     {
@@ -315,7 +315,7 @@ impl<'a> State<'a> {
         self.other.forget_peeked();
     }
 
-    /// `none {`, on the state before the arms, and what is known behind an arm: nothing is peeked.
+    /// `none {`, on the state before the arms, and what is known after an arm: nothing is peeked.
     pub fn arm_none(&mut self) -> Result<(), Cause>
         ensures { spec.Gives self.old self.new result (rules.asks_both (spec.label_of self.old) (λ z bag m. rules.peek_premises m)) (λ z. rules.peek_at peeks.Unseen (spec.label_of self.old z) ∷ []) }
     {

@@ -1,4 +1,4 @@
--- Requests behind entries, and their serial numbers in the table.
+-- Requests after entries, and their serial numbers in the table.
 use Rattle.std.proofs.Common.{◌≡◌, ◌≢◌, ℕ, zero, suc, ◌+◌, ℤ, negsuc, List, [], ◌∷◌, ◌++◌, map, drop, Some, None, false, if◌then◌else◌, nat_eq, slice_get, option_map, Result, Ok, Err, ◌↔◌, refl, sym, ap, subst, ◌∙◌, arith, eq-eqb}
 use Rattle.std.proofs.lemmas.Bool.Decides.{nat_tests}
 use Rattle.std.proofs.lemmas.List.{map-append}
@@ -60,7 +60,7 @@ if_eq m n x y e = ap (λ b. if b then x else y) (eq-eqb m n e)
 if_not : (m n : ℕ) {A : Type 0} (x y : A) → m ≢ n → (if nat_eq m n then x else y) ≡ y
 if_not m n x y ne = let e : nat_eq m n ≡ false = grind (arith, nat_tests) in ap (λ b. if b then x else y) e
 
--- a number that is named stays so behind others
+-- a number that is named stays so after others
 serial_found : (serials : List Serial) (s : Serial) (u k : ℕ) → slice_get (data_in serials) k ≡ Some u → serial_of u (serials ++ s ∷ []) ≡ serial_of u serials
 serial_found [] s u k e = absurd (cc)
 serial_found (t ∷ serials) s u zero e =

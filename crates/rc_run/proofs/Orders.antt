@@ -1,4 +1,4 @@
--- In each world of a run the requests that are pending and queued stand in the order of their serial numbers, and those
+-- In each world of a run the requests that are pending and queued are in the order of their serial numbers, and those
 -- that move no bytes ask for none.
 use Rattle.std.proofs.Common.{◌≡◌, ℕ, zero, suc, ◌+◌, ◌<◌, ◌≤◌, List, [], ◌∷◌, ◌++◌, append_assoc, map, take, drop, Some, refl, sym, ap, ◌∙◌, subst, inl, inr, arith, ℤ}
 use Rattle.std.proofs.lemmas.List.{map-append, take-append-drop}

@@ -21,7 +21,7 @@ pub record IsHeld (ring : Rings) (serials : List Serial) : Type 0 where
   pub parks : ring.parked ≡ is_open ring.slot
   pub named : map (λ (s : Serial). s.user_data) serials ≡ map sqe_user_data ring.queued
 
--- none stands twice
+-- none comes twice
 abbrev pub AreDistinct : List ℕ → Type 0
 AreDistinct [] = Unit {0}
 AreDistinct (x ∷ xs) = ((k : ℕ) → slice_get xs k ≢ Some x) × AreDistinct xs

@@ -8,6 +8,6 @@ use Rattle.rc_run.specs.Jobs.{Job}
 abbrev pub overwritten : List ℕ → List ℕ → List ℕ
 overwritten bytes new = take (length bytes) (new ++ drop (length new) bytes)
 
--- The job ends with the bytes that are left behind the reference, which are as many.
+-- The job ends with the bytes that are left after the reference, which are as many.
 abbrev pub LendsBytes : MutBor Job → MutBor (List ℕ) → Fml
 LendsBytes j r = Lends the_row (Array u8 0) j r (λ w. record j.now { bytes = overwritten j.now.bytes w })

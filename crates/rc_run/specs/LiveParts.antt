@@ -11,7 +11,7 @@ use Rattle.rc_world.specs.Runs.{IsRun}
 abbrev pub view_live : Inside → Live
 view_live a = record { history = a.history.items; world = world_of a.machine; datasync = a.machine.ring.datasync; out = a.out.items }
 
--- The events are those of a run of the program, to where the machine stands; and there is room for what jobs that are
+-- The events are those of a run of the program, to where the machine is; and there is room for what jobs that are
 -- out will bring.
 pub record IsLive (a : Inside) : Type 0 where
   pub leads : IsRun (start_world (arc_value a.machine.admitted)) a.history.items (world_of a.machine)

@@ -65,7 +65,7 @@ can_move w i = is_ready (next_of w.program w.controls i)
 
 -- ---- jobs
 
--- Requests stand in the order of their serial numbers.
+-- Requests are in the order of their serial numbers.
 abbrev pub IsInOrder : List Pending → Type 0
 IsInOrder ps = (j k : ℕ) (p q : Pending) → j < k → slice_get ps j ≡ Some p → slice_get ps k ≡ Some q → p.request.serial < q.request.serial
 
@@ -76,7 +76,7 @@ is_free out r = not (list_any (λ serial. nat_eq serial r.serial) out)
 abbrev pub free : Live → List Pending
 free s = filter (λ (p : Pending). is_free s.out p.request) s.world.pending
 
--- The bytes for a request: a read's are those that stand with it, a write's are its buffer's.
+-- The bytes for a request: a read's are those that are with it, a write's are its buffer's.
 abbrev pub bytes_by : World → Pending → Kind → List ℕ
 bytes_by w p Nop = []
 bytes_by w p Fsync = []

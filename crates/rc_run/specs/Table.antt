@@ -29,7 +29,7 @@ is_stopped t = t.memory || nat_le t.limit t.turns
 abbrev pub after_refusal : Table → Table
 after_refusal t = record t { memory = true }
 
--- A turn is refused where the threads are to stop, and else for want of memory alone.
+-- A turn is refused where the threads are to stop, and else for out of memory alone.
 abbrev pub after_no_turn : Table → Table
 after_no_turn t = if is_stopped t then t else after_refusal t
 

@@ -18,7 +18,7 @@ pub struct Job {
     starved: bool,
 }
 
-// Clauses see the request, the bytes and whether there are none for want of memory.
+// Clauses see the request, the bytes and whether there are none for out of memory.
 impl Model for Job {
     ghost use Rattle.rc_run.specs.Jobs as jobs;
 

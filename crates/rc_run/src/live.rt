@@ -178,7 +178,7 @@ impl Live {
         let _ = self.machine.admitted.program();
     }
 
-    // What holds where the run stands.
+    // What holds where the run is.
     fn look(&self)
         ensures { IsCalm self.now.world }
     {
@@ -245,7 +245,7 @@ impl Live {
         }
     }
 
-    // Where a request is pending whose job is out, and where its serial number stands.
+    // Where a request is pending whose job is out, and where its serial number is.
     fn place_of(&self, request: Request) -> Option<(usize, usize)>
         ensures some { IfSome result (λ p. IsOut self.now request p.0 p.1) }
         ensures none { IfNone result (IsNotOut self.now request) }
@@ -321,7 +321,7 @@ fn pending_place(pending: &[Pending], request: Request) -> Option<usize>
     None
 }
 
-// Where a serial number stands.
+// Where a serial number is.
 fn number_of(out: &[u64], serial: u64) -> Option<usize>
     ensures some { IfSome result (λ n. (n < length out.now) × (slice_get out.now n ≡ Some serial)) }
     ensures none { IfNone result ((n : ℕ) → slice_get out.now n ≢ Some serial) }

@@ -1,4 +1,4 @@
-//! Where a run stands: the threads, the rings with their entry bytes, the requests in the kernel, and the buffers.
+//! Where a run is: the threads, the rings with their entry bytes, the requests in the kernel, and the buffers.
 
 ghost use Rattle.std.specs.Prelude.{◌≡◌, ◌+◌, ◌<◌, ◌^◌, IfOk, IsSome, MatchResult, Some, map, replicate, pos, ◌-◌};
 ghost use Rattle.std.specs.Arc.{arc_value};
@@ -30,7 +30,7 @@ pub struct Pending {
     pub bytes: Option<Vec<u8>>,
 }
 
-/// Where a run stands.
+/// Where a run is.
 #[derive(Drop)]
 pub struct Machine {
     pub admitted: Arc<Admitted, Global>,

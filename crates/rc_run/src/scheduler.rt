@@ -212,7 +212,7 @@ impl<D: Device, L: Ledger + Asked> Scheduler<D, L> {
         Scheduler { run, queue }
     }
 
-    /// The run, as it stands.
+    /// The run, as it is.
     pub fn run(&self) -> &Locked<D, L>
         ensures { result.now ≡ self.now.run }
     {
@@ -246,7 +246,7 @@ impl<D: Device, L: Ledger + Asked> Scheduler<D, L> {
         (turn, self.queue.dispatch(self.run.live()))
     }
 
-    /// Has a player stand so, and answers who runs next, which may be that player again.
+    /// Has a player are so, and answers who runs next, which may be that player again.
     pub fn rest(&mut self, thread: usize, state: State) -> Option<usize>
         ensures run { self.new.run ≡ self.old.run }
         ensures next { Dispatches self.old.run.run (record self.old.queue { states = slice_set self.old.queue.states thread state }) result self.new.queue }

@@ -27,7 +27,7 @@ both_few items false ss us ts vs a b p n y e f g k q r h =
     let r' : b p ≡ a p + bag_of (parts items.shares items.tokens items.credits) p = rw (← e, ← f) r in
     rw (g, k) (omega (arith, same_parts items p, q, r', h))
 
--- a token that stands once is given once
+-- a token that is once is given once
 pub not_yet : (xs : List ℕ) (i : ℕ) (a b : Part → ℕ) → i < length xs → ((p : Part) → b p ≡ a p + bag_of (tokens_alone (take i xs)) p) → ((u : ℕ) → a (TokenOf u) + bag_of (tokens_alone xs) (TokenOf u) ≤ 1) → b (TokenOf (get_or xs i 0)) ≡ 0
 not_yet xs i a b lt h s =
     let u = get_or xs i 0 in

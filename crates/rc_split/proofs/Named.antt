@@ -79,7 +79,7 @@ token_named (x ∷ xs) u d = elim (one_token x xs u) [
   ]
 ]
 
--- A share that stands at a place says all of its buffer.
+-- A share that is at a place says all of its buffer.
 pub share_at : (xs : List Share) (i : ℕ) (d : Share) → IsDistinct nat_eq (map (λ (s : Share). s.buffer) xs) → i < length xs → shares_in xs (get_or xs i d).buffer ≡ (get_or xs i d).count
 share_at [] i d e lt = absurd (omega arith)
 share_at (x ∷ xs) zero d e lt = elim (one_share x xs x.buffer) [

@@ -42,7 +42,7 @@ one_share s ss b =
       | inr e ↦ inr (e.0, let a : cond {A = ℕ} (nat_eq s.buffer b) s.count 0 ≡ 0 = ap (λ t. cond t s.count 0) e.1 in omega (arith, a, c))
     ]
 
--- the row behind one share more, and what is still to come of the others
+-- the row after one share more, and what is still to come of the others
 pub one_more : (rows : List ℕ) (s : Share) (ss : List Share) (b : ℕ) → slice_index (slice_set rows s.buffer (slice_index rows s.buffer + s.count)) b + shares_in ss b ≤ slice_index rows b + shares_in (s ∷ ss) b
 one_more rows s ss b =
     let v : ℕ = slice_index rows s.buffer + s.count in
@@ -162,13 +162,13 @@ module _ (P : Program) where
             omega (arith, h, o.1, z)
       ]
 
-  -- Behind a put no more of a part is there than before and what was put.
+  -- After a put no more of a part is there than before and what was put.
   pub pooled_with : (pool : Pool) (items : Items) (p : Part) → pooled P (with_items P pool items) p ≤ pooled P pool p + bag_of items p
   pooled_with pool items (ShareOf b) = shares_put pool.shares items.shares b
   pooled_with pool items (TokenOf u) = tokens_put pool.marks items.tokens u
   pooled_with pool items Credit = omega arith
 
-  -- Behind a take of what is there no more is there than what it leaves.
+  -- After a take of what is there no more is there than what it leaves.
   pub pooled_without : (pool : Pool) (items : Items) → ((p : Part) → bag_of items p ≤ pooled P pool p) → (p : Part) → pooled P (without_items P pool items) p + bag_of items p ≤ pooled P pool p
   pooled_without pool items l (ShareOf b) = shares_taken pool.shares items.shares b (l (ShareOf b))
   pooled_without pool items l (TokenOf u) = tokens_taken pool.marks items.tokens u (l (TokenOf u))

@@ -1,4 +1,4 @@
--- Where tokens stand among those of a program, and marks at their places.
+-- Where tokens are among those of a program, and marks at their places.
 use Rattle.std.proofs.Common.{◌≡◌, ℕ, ◌-◌, ◌<◌, ◌≤◌, Bool, true, false, cond, List, length, Option, Some, None, refl, sym, ap, ◌∙◌, subst, get_or, ltb, arith, nat_eq, nat_le}
 use Rattle.std.proofs.lemmas.Bool.{eqb-true, eq-eqb, ltb-true, ltb-false}
 use Rattle.std.proofs.lemmas.List.{get_or-map, length-map}

@@ -18,7 +18,7 @@ use std::marker::Model;
 struct Rows {
     /// By the numbers of the buffers.
     shares: [u32; 64],
-    /// Marks at the places of the tokens, as bits, so that a copy is small. Neighbours stand in different words, so that
+    /// Marks at the places of the tokens, as bits, so that a copy is small. Neighbours are in different words, so that
     /// one needn't wait until the other is written.
     marks: [u64; 4],
     credits: u32,

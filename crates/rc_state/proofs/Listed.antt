@@ -41,7 +41,7 @@ and_true : (b : Bool) → (b && true) ≡ b
 and_true true = refl
 and_true false = refl
 
--- whether the answer of an item may stand at a statement that is a submit, or isn't
+-- whether the answer of an item may be at a statement that is a submit, or isn't
 abbrev takes_where : World → Bool → Option ℤ → Bool
 takes_where w b None = true
 takes_where w b (Some r) = b && is_take w r

@@ -26,7 +26,7 @@ use Rattle.rc_verify.proofs.Peeking.{no_peeks, none_asked}
 use Rattle.rc_verify.proofs.Plainly.{EndsNone, opens_none, state_alone}
 use Rattle.rc_verify.proofs.Standing.{asked_at, lead_at}
 
--- What is kept of the peek that is open, which stands at o.
+-- What is kept of the peek that is open, which is at o.
 pub record Armed (P : Program) (t : Thread) (j : ℕ) (labels : List Sides) (o : ℕ) (peek : Option Arms) : Type 0 where
   pub arms : Arms
   pub is : peek ≡ Some arms

@@ -100,7 +100,7 @@ taken_from lists s new x test k items e q g =
     subst (λ t. Gives s new x (asks_both (label_of s) (λ z bag m. test_premises m t)) (λ z. gate (test_goes s.flag t z true) (goes (label_of s z) (λ bag m. test_effect (program_of s) lists bag m t)) ∷ [])) (sym e)
     (subst (λ is. Gives s new x (asks_both (label_of s) (λ z bag m. take_premises m)) (λ z. goes (label_of s z) (λ bag m. take_effect (program_of s) bag m is) ∷ [])) q g)
 
--- ---- what a branch leaves behind it
+-- ---- what a branch leaves after it
 
 stmt_front : (lines : List Line) (j o : ℕ) → o < j → stmt_at (take j lines) o ≡ stmt_at lines o
 stmt_front lines zero o lt = absurd (omega (arith, lt))

@@ -67,7 +67,7 @@ module _ (P : Program) (t : Thread) (j : ℕ) (w : Walk) (r : Reaches P t j w) (
         agree = λ m. let c = taken_closed m in (closed_agree (two (label_of s) (taken releases w.state) true ++ two (label_of s) (taken releases w.state) false) (h.closed true, (c true, (h.closed false, (c false, tt)))), tt);
       }
 
-  -- ---- behind it
+  -- ---- after it
 
   joined : (s : State) (new : Sides) (kept : List (Option State)) → Meets Asked → last_of w.loops ≡ Some s → (b : Breaks s (taken releases w.state) w.loops kept) → IsLoop P t (j + 1) (r.labels ++ new ∷ []) o b.keeps.state
   joined s new kept m q b =
@@ -97,7 +97,7 @@ module _ (P : Program) (t : Thread) (j : ℕ) (w : Walk) (r : Reaches P t j w) (
           let none : (z : Bool) → break_end (Break o releases leaves) p (label_of w.state z) ≡ [] = λ z. other_break o p releases leaves (label_of w.state z) (λ q. omega (arith, lt, q)) in
           loop_on P t j r.labels new p x (λ z. breaks_next P t j w r (Break o releases leaves) e new p z ∙ ap (λ ys. break_ends (take j t.lines) r.labels p z ++ ys) (none z) ∙ nothing_more (break_ends (take j t.lines) r.labels p z)) h
 
-  -- what is kept behind the line
+  -- what is kept after the line
   abbrev KeepsBreak : List (Option State) → Type 0
   KeepsBreak kept = (s : State) → last_of w.loops ≡ Some s → Breaks s (taken releases w.state) w.loops kept
 

@@ -55,7 +55,7 @@ no_loop_places (InPeek o ∷ bs) e = no_loop_places bs e
 no_loop_places (InArm o ∷ bs) e = no_loop_places bs e
 no_loop_places (InLoop o k ∷ bs) e = absurd (cc)
 
--- A loop that is open stands before.
+-- A loop that is open is before.
 pub loops_before : (lines : List Line) (j : ℕ) (outer bs : List Block) → EachPlaced lines j outer bs → (k o : ℕ) → slice_get (places loop_place bs) k ≡ Some o → o < j
 loops_before lines j outer [] h k o e = absurd (cc)
 loops_before lines j outer (InLock p ∷ bs) h k o e = loops_before lines j (outer ++ InLock p ∷ []) bs h.1 k o e

@@ -1,4 +1,4 @@
--- What stands at a place of a thread in the code.
+-- What is at a place of a thread in the code.
 use Rattle.std.proofs.Common.{◌≡◌, ℕ, ◌<◌, List, length, map, Option, Some, get_or, sym, ap, subst, ◌∙◌}
 use Rattle.std.proofs.lemmas.List.{get_or-map, length-map}
 use Rattle.rc_lang.specs.declared.program.Items.{Items as ItemsPart}

@@ -24,7 +24,7 @@ use Rattle.rc_verify.proofs.Fit.{AreAll, brings_fit, entered_fits, fits_alike, f
 use Rattle.rc_verify.proofs.Keeping.{popped_none, pushed_none}
 use Rattle.rc_verify.proofs.Standing.{Gave, asked_at, branches_stay, fits_here, here_is, lead_at, loops_stay, passes, peek_stays, seen_at, took}
 
--- The same places are kept behind the line at j.
+-- The same places are kept after the line at j.
 pub record SamePlaces (t : Thread) (j : ℕ) : Type 0 where
   pub branches : places branch_place (blocks_at t.lines (j + 1)) ≡ places branch_place (blocks_at t.lines j)
   pub peek : places peek_place (blocks_at t.lines (j + 1)) ≡ places peek_place (blocks_at t.lines j)
@@ -43,7 +43,7 @@ module _ (t : Thread) (j : ℕ) (bs : List Block) (b : Block) (here : blocks_at 
   closes_none i e f n = ap (places f) e ∙ popped_none f bs b i n ∙ ap (places f) (sym here)
 
 module _ (P : Program) (t : Thread) (j : ℕ) (w : Walk) (r : Reaches P t j w) (s : Stmt) (e : stmt_at t.lines j ≡ Some s) where
-  -- what fits behind the line
+  -- what fits after the line
   pub fits_behind : (x : Label) → Fits (locked_behind (in_lock (blocks_at t.lines j)) s) (most_at j + 18) x → Fits (in_lock (blocks_at t.lines (j + 1))) (most_at (j + 1)) x
   fits_behind x h = subst (λ b. Fits b (most_at (j + 1)) x) (sym (lock_next t.lines r.thread.nested.each j s e)) (fits_more (locked_behind (in_lock (blocks_at t.lines j)) s) (most_at j + 18) (most_at (j + 1)) x (omega arith) h)
 

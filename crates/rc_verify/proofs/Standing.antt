@@ -1,4 +1,4 @@
--- Where a walk stands, and how it goes on behind a line.
+-- Where a walk is, and how it goes on after a line.
 use Rattle.std.proofs.Common.{◌≡◌, ℕ, ◌+◌, ◌<◌, ◌≤◌, Bool, true, false, List, [], ◌∷◌, ◌++◌, length, length-append, length-take, take, Option, Some, None, Result, Ok, Err, refl, sym, ap, subst, ◌∙◌, inl, inr, arith, slice_get, slice_index_or, add-one}
 use Rattle.std.specs.Prelude.{OnErr}
 use Rattle.std.proofs.Math.ListN.{get_or-append}
@@ -27,7 +27,7 @@ use Rattle.rc_verify.proofs.Fit.{fits_more}
 use Rattle.rc_verify.proofs.Keeping.{kept_too, nothing_more}
 use Rattle.rc_verify.proofs.Strongest.{goes_on, take_suc_at}
 
--- what a line at place j is asked, and what leads to a side behind it
+-- what a line at place j is asked, and what leads to a side after it
 abbrev pub asked_at : Program → Thread → ℕ → List Sides → Stmt → List (ℕ × Premise)
 asked_at P t j labels s = premises P t (take j t.lines) labels s
 
@@ -161,7 +161,7 @@ module _ (P : Program) (t : Thread) (j : ℕ) (w : Walk) (r : Reaches P t j w) (
           ∙ ap (λ x. break_ends (take j t.lines) r.labels o z ++ break_end x o (label_at r.labels (length (take j t.lines)) z)) l.2
           ∙ ap (λ x. break_ends (take j t.lines) r.labels o z ++ break_end s o (on z x)) (sym here_is)
 
-  -- behind the line, with the labels of the state that the walk has there
+  -- after the line, with the labels of the state that the walk has there
   pub onward : (w' : Walk) → Meets (asked_at P t j r.labels s) → AreStrongestOf w'.state (lead_at P t j r.labels s) → IsOf P t w'.state → ((z : Bool) → Fits (in_lock (blocks_at t.lines (j + 1))) (most_at (j + 1)) (label_of w'.state z)) → Keeps P t (j + 1) (r.labels ++ sides_of w'.state ∷ []) w' → Reaches P t (j + 1) w'
   onward w' m b p f k = go line_here
     where

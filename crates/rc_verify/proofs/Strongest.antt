@@ -55,7 +55,7 @@ last_good P thread lines l ls g =
     let e : take (length lines) (lines ++ l ∷ []) ≡ lines = take-append_seam lines (l ∷ []) in
     (rw e at a.meets, λ z. let w = a.after z in rw e at w)
 
--- a line more, with labels that are weaker than each that leads behind it
+-- a line more, with labels that are weaker than each that leads after it
 pub good_more : (P : Program) (thread : Thread) (lines : List Line) (l : Line) (ls : List Sides) (s : Sides) → length ls ≡ length lines + 1 → IsGood P thread lines ls → Meets (premises P thread lines ls l.stmt) → ((z : Bool) → WeakerThanEach (on z s) (befores P thread lines ls l.stmt z)) → IsGood P thread (lines ++ l ∷ []) (ls ++ s ∷ [])
 good_more P thread lines l ls s size good meets weaker = record {
   begins = λ z. rw (get_or-append ls (s ∷ []) unreached 0 (omega (arith, size))) (good.begins z);

@@ -18,7 +18,7 @@ pub record IsOpened (s : State) (a : Arms) : Type 0 where
   pub of : IsOfSame a.ends s
   pub agree : a.agree ≡ true
 
--- What is known behind the peek, before its arms, becomes the state; where the peek writes the flag, of both sides.
+-- What is known after the peek, before its arms, becomes the state; where the peek writes the flag, of both sides.
 abbrev pub OpensPeek : {X : Type 0} → ℕ → State → State → Option Arms → Result X Cause → Type 0
 OpensPeek x old new peek (Ok y) =
     Meets (asks_both (label_of old) (λ z bag m. peek_premises m))
@@ -40,7 +40,7 @@ abbrev pub JoinsOn : State → State → (Bool → Label) → Bool → Bool → 
 JoinsOn old new end agrees true = Joins old new end agrees
 JoinsOn old new end agrees false = agrees ≡ false
 
--- An arm has ended in a state; behind it nothing is peeked.
+-- An arm has ended in a state; after it nothing is peeked.
 pub record EndsArm (old new : Arms) (s : State) : Type 0 where
   pub before : new.before ≡ old.before
   pub end : Bool → Label
@@ -51,7 +51,7 @@ pub record EndsArm (old new : Arms) (s : State) : Type 0 where
 abbrev pub EndsArmIn : Arms → Option Arms → State → Type 0
 EndsArmIn old peek s = (new : Arms) × (peek ≡ Some new) × EndsArm old new s
 
--- All arms have ended: where their ends agree, what is known behind the peek is their meet.
+-- All arms have ended: where their ends agree, what is known after the peek is their meet.
 abbrev pub ClosesPeek : {X : Type 0} → Arms → State → Result X Cause → Type 0
 ClosesPeek a new (Ok x) = (a.agree ≡ true) × (new ≡ a.ends)
 ClosesPeek a new (Err cause) = (a.agree ≡ false) × (premise_number cause ≡ 15)

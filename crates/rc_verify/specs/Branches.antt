@@ -11,7 +11,7 @@ abbrev pub MayTest : Program → List Items → Test → Type 0
 MayTest P lists (Take k) = (k < length lists) × IsItems P (items_at lists k)
 MayTest P lists _ = Unit {0}
 
--- Where the second branch begins, or what goes on behind an if without one: the state before it, on each side on which
+-- Where the second branch begins, or what goes on after an if without one: the state before it, on each side on which
 -- the test may fail.
 pub record KeepsOther (test : Test) (s : State) (old new : List (Option State)) : Type 0 where
   pub state : State

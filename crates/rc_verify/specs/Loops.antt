@@ -16,7 +16,7 @@ pub record KeepsDead (s : State) (old new : List (Option State)) : Type 0 where
   pub dead : (z : Bool) → label_of state z ≡ Dead
   pub of : IsOfSame state s
 
--- The state that is kept last is the one behind the loop.
+-- The state that is kept last is the one after the loop.
 abbrev pub ClosesLoop : {X : Type 0} → List (ℕ × Premise) → List (Option State) → List (Option State) → State → Result X Cause → Type 0
 ClosesLoop premises old new s (Ok x) = Meets premises × (last_of old ≡ Some s) × (new ≡ rest_of old)
 ClosesLoop premises old new s (Err cause) = FailsFirst (premise_number cause) premises

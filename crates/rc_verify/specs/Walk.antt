@@ -28,7 +28,7 @@ abbrev pub Fits : Bool → ℕ → Label → Type 0
 Fits lock n Dead = Unit {0}
 Fits lock n (Live bag m) = (is_locked m ≡ lock) × ((p : Part) → bag p ≤ n)
 
--- how many of each part are held at most behind j lines: a loop keeps 4,096 of one at most, and a request that is reaped
+-- how many of each part are held at most after j lines: a loop keeps 4,096 of one at most, and a request that is reaped
 -- gives back 18 in all at most
 abbrev pub most_at : ℕ → ℕ
 most_at j = 4096 + 18 * j
@@ -132,7 +132,7 @@ pub record Keeps (P : Program) (t : Thread) (j : ℕ) (labels : List Sides) (w :
   pub peek : AreKept (IsPeeked P t j labels) (places peek_place (blocks_at t.lines j)) (listed w.peek)
   pub loops : AreKept (OnKept (IsLoop P t j labels)) (places loop_place (blocks_at t.lines j)) w.loops
 
--- With these labels, the strongest for the lines so far, the walk stands at place j.
+-- With these labels, the strongest for the lines so far, the walk is at place j.
 pub record IsAt (P : Program) (t : Thread) (j : ℕ) (labels : List Sides) (w : Walk) : Type 0 where
   pub within : j ≤ length t.lines
   pub size : length labels ≡ j + 1
@@ -147,7 +147,7 @@ pub record Reaches (P : Program) (t : Thread) (j : ℕ) (w : Walk) : Type 0 wher
   pub labels : List Sides
   pub at : IsAt P t j labels w
 
--- The walk goes on behind the line at j, or that line is refused.
+-- The walk goes on after the line at j, or that line is refused.
 abbrev pub PassesLine : {X : Type 0} → Program → Thread → ℕ → Walk → Result X Cause → Type 0
 PassesLine P t j w (Ok x) = Reaches P t (j + 1) w
 PassesLine P t j w (Err cause) = (l : Line) × IsRefusedAt P t j l (premise_number cause)

@@ -84,7 +84,7 @@ pub fn open_peek<'a>(
     Ok(())
 }
 
-/// What holds behind a peek into the variable, before its arms.
+/// What holds after a peek into the variable, before its arms.
 fn peek_into(state: &mut State, variable: usize)
     ensures { states.Becomes state.old state.new (λ z. sides.brings (λ y. sides.turns (sides.write_to state.old.flag variable writes.Anything) y z) (λ s. s) (states.label_of state.old)) }
 {
@@ -140,7 +140,7 @@ fn join_end<'a>(arms: &mut Arms<'a>, end: &State<'a>)
     }
 }
 
-/// The closing brace of an arm: nothing comes from above behind it.
+/// The closing brace of an arm: nothing comes from above after it.
 fn end_arm<'a>(state: &mut State<'a>, arms: &mut Arms<'a>)
     requires of { states.IsOfSame state.old arms.old.ends }
     requires alike { arms.old.agree ≡ true → (y z : Bool) → states.AgreeOnLock (states.label_of arms.old.ends y) (rules.peek_at peeks.Unseen (states.label_of state.old z)) }

@@ -59,7 +59,7 @@ impl<'a> Labels<'a> {
         }
     }
 
-    /// Stands before the first line of a thread of the program, wherever it stood before. As it is large, all threads are
+    /// Stands before the first line of a thread of the program, wherever it was before. As it is large, all threads are
     /// walked over with one.
     pub fn begin(&mut self, thread: u32)
         requires { thread < length self.old.program.threads }
@@ -83,7 +83,7 @@ impl<'a> Labels<'a> {
         &self.walk.state
     }
 
-    /// The place of the line, or behind the last line their count.
+    /// The place of the line, or after the last line their count.
     pub fn place(&self) -> usize
         ensures { result ≡ self.now.place }
     {

@@ -31,7 +31,7 @@ pub fn open_loop<'a>(
     Ok(())
 }
 
-/// The closing brace of a loop: what goes on behind it comes from its breaks.
+/// The closing brace of a loop: what goes on after it comes from its breaks.
 pub fn close_loop<'a>(
     state: &mut State<'a>,
     loops: &mut Kept<'a>,
@@ -60,7 +60,7 @@ fn carry(end: &mut State, releases: bool)
     }
 }
 
-/// `break`, which may release the lock. Nothing comes from above behind it.
+/// `break`, which may release the lock. Nothing comes from above after it.
 pub fn leave_loop<'a>(
     state: &mut State<'a>,
     loops: &mut Kept<'a>,

@@ -24,7 +24,7 @@ pub struct Walk<'a> {
     pub state: State<'a>,
     /// At most one peek is open.
     peek: Peek<'a>,
-    /// Where the test of each open if may fail, or behind its else the end of its first branch.
+    /// Where the test of each open if may fail, or after its else the end of its first branch.
     branches: Kept<'a>,
     /// What is known where the breaks so far of each open loop join.
     loops: Kept<'a>,

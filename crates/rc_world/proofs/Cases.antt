@@ -13,7 +13,7 @@ use Rattle.rc_world.specs.declared.world.Slot.TheVariants.{Closed, Vacant, Prepa
 use Rattle.rc_world.specs.Controls.{Standing, low_byte, variable}
 use Rattle.rc_world.specs.Machine.{World, bytes_of, count_in, fills, fits_buffer, hands_over, in_rings, is_take, new_request, opens_entry, prepared_nop, prepares, queues, reaps_front, stores, submits_by, with_bytes, without_data}
 
--- It holds of the world behind a step, where that can be made.
+-- It holds of the world after a step, where that can be made.
 abbrev pub OnSome : (World → Type 0) → Option World → Type 0
 OnSome F None = Unit {0}
 OnSome F (Some v) = F v
@@ -30,7 +30,7 @@ prepared_by (Do (PrepFsync fd datasync)) = Some (new_request Fsync (pos fd) 0 0 
 prepared_by (Do PrepNop) = Some prepared_nop
 prepared_by _ = None
 
--- It holds of the world itself, and behind each change that the statement may make in it.
+-- It holds of the world itself, and after each change that the statement may make in it.
 pub record HoldsBehind (F : World → Type 0) (w : World) (s : Stmt) : Type 0 where
   pub nothing : F w
   pub bytes : (b : ℕ) (old new : List ℕ) → bytes_of w b ≡ Some old → length new ≡ length old → F (with_bytes w b new)

@@ -1,4 +1,4 @@
--- Where the jumps of a thread lead that stands at a line.
+-- Where the jumps of a thread lead that is at a line.
 use Rattle.std.proofs.Common.{ℕ, ◌<◌, ◌≤◌, Bool, length, ap, arith}
 use Rattle.rc_lang.specs.declared.lines.Op.{Op}
 use Rattle.rc_lang.specs.declared.lines.Stmt.TheVariants.{Do, Put, If, Peek, EndLoop, Break}

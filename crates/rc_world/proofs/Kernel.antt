@@ -72,7 +72,7 @@ module _ (w : World) (k : IsKept w) (u n : ℕ) (res : ℤ) (fill : ℕ) (p : Pe
   pub counted : count_in res ≤ p.request.len
   counted = count_within p.request.kind p.request.len p.request refl refl res may
 
-  -- the bytes that stand with a read are enough, and its buffer is there
+  -- the bytes that are with a read are enough, and its buffer is there
   pub enough : (stood : List ℕ) → p.bytes ≡ Some stood → count_in res ≤ length stood
   enough stood e =
       let s : length stood ≡ bytes_at w.program.buffers p.request.buffer = held.sized stood e in

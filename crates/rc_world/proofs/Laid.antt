@@ -63,7 +63,7 @@ list_is_items P made i k lt = go (slice_get P.threads i) refl lt
     go None e lt = absurd (omega arith)
     go (Some t) e lt = ((made.each i t e).lists k no_items lt).first
 
--- The place e stands below place j, and a line is there.
+-- The place e is below place j, and a line is there.
 pub record IsBelow (lines : List Line) (j e : ℕ) : Type 0 where
   pub below : j < e
   pub within : e < length lines

@@ -239,7 +239,7 @@ module _ (w : World) (safe : fault_of w ≡ None) (kept : IsKept w) (i : ℕ) (t
   line_goes l a _ e h = absurd (cc)
 
 module _ (program : Program) (w : World) (safe : fault_of w ≡ None) (sound : IsSound program w) (i : ℕ) (t : Standing) (c : slice_get w.controls.threads i ≡ Some t) where
-  -- no thread of a run stands at a line that is no event
+  -- no thread of a run is at a line that is no event
   at_rest : (l : Line) → StandsAt w i t l → may_rest (Some l.stmt) ≡ true
   at_rest l a = sym (ap may_rest (ap stmt_of a.line)) ∙ (sound.rest.each i t c).rests
 
@@ -262,7 +262,7 @@ threads_go program w safe sound i lt =
 -- ---- the kernel
 
 module _ (w : World) (safe : clashes w.pending ≡ false) where
-  -- the bytes of its buffer stand with a read
+  -- the bytes of its buffer are with a read
   given : (m : IsMemory w.program w.pending w.buffers) (k : ℕ) (p : Pending) → slice_get w.pending k ≡ Some p → (bytes : List ℕ) (stood : Option (List ℕ)) → p.bytes ≡ stood → (b : List (Option (List ℕ))) × (given_back w p.request bytes stood ≡ Some b)
   given m k p e bytes (Some stood) q = (_, refl)
   given m k p e bytes None q = (w.buffers, ap (λ c. if c then None else Some w.buffers) (false_from_ne_true (is_read p.request.kind) (λ r. true≢false (sym ((m.pending k p e).stands r q) ∙ safe))))

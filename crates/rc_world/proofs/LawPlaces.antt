@@ -29,7 +29,7 @@ use Rattle.rc_world.proofs.LawLists.{get_in_range, range_has}
 
 -- ---- the first line that passes a test
 
--- A line that passes the test stands at this place.
+-- A line that passes the test is at this place.
 record Passes (test : Stmt → Bool) (lines : List Line) (k : ℕ) : Type 0 where
   line : Line
   stands : slice_get lines k ≡ Some line
@@ -55,7 +55,7 @@ place_there test lines k l e t = (position_or_len by_line lines, ap (λ b. cond 
         let b : test (get_or lines k l).stmt ≡ true = ap (λ (m : Line). test m.stmt) (get_or_from_slice_get lines k l l e) ∙ t in
         no_first (position_or_len by_line lines) (length lines) (slice_get_within lines k l e) (λ lt. let f = fails_before_first by_line lines k l lt in absurd (cc))
 
--- behind the line of an arm a thread may go on
+-- after the line of an arm a thread may go on
 case_leads : (o u : ℕ) (s : Stmt) → is_case o u s ≡ true → leads_open s ≡ true
 case_leads o u (Case p v) e = refl
 case_leads o u _ e = absurd (cc)
@@ -107,7 +107,7 @@ module _ (program : Program) (is : IsProgram program) (i : ℕ) where
         let p = place_passes test (arms_of program i o) k e in
         open_behind (lines_of program i) lines_laid.each (o + k) p.line.stmt (ap stmt_of (get_in_range (lines_of program i) o (end_at program i o) k p.line p.stands)) (leads p.line.stmt p.passes)
 
-    -- an arm that stands between the peek and its end is found
+    -- an arm that is between the peek and its end is found
     arm_found : (test : Stmt → Bool) (s : Stmt) (p : ℕ) → stmt_at (lines_of program i) p ≡ Some s → test s ≡ true → (o < p) × (p < end_at program i o) → (k : ℕ) × (first_place test (arms_of program i o) ≡ Some k)
     arm_found test s p e t b =
         let l = line_with (lines_of program i) p s e in

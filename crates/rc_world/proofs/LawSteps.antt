@@ -10,7 +10,7 @@ use Rattle.rc_world.specs.Controls.{Move, Standing, acts, as_event, made, moved,
 use Rattle.rc_world.specs.Machine.{Pending, World, bytes_brought, completes, given_back, in_rings, kernel_event, kernel_step_of, stmt_answer, thread_step, thread_step_at, with_controls}
 use Rattle.rc_world.proofs.StepParts.{step_at}
 
--- The thread stands at this line.
+-- The thread is at this line.
 pub record StandsAt (w : World) (i : ℕ) (t : Standing) (l : Line) : Type 0 where
   pub standing : slice_get w.controls.threads i ≡ Some t
   pub line : line_at w.program i t.place ≡ Some l

@@ -38,7 +38,7 @@ take_allowed w (Some r) (Ready l) e = (and_parts (is_submit l.stmt) (is_take w r
 take_allowed w take TakenLock e = absurd (cc)
 take_allowed w take Ended e = absurd (cc)
 
--- what is enabled stands at an event
+-- what is enabled is at an event
 ready_rests : (w : World) (take : Option ℤ) (l : Line) (s : Stmt) → is_ready w take (ready_or_taken w.controls.holder l s) ≡ true → may_rest (Some s) ≡ true
 ready_rests w take l (Else o) e = absurd (cc)
 ready_rests w take l (EndIf o) e = absurd (cc)

@@ -33,7 +33,7 @@ get_without zero (y ∷ xs) j x e = (suc j, e)
 get_without (suc k) (y ∷ xs) zero x e = (0, e)
 get_without (suc k) (y ∷ xs) (suc j) x e = let h = get_without k xs j x e in (suc h.0, h.1)
 
--- an element behind the first ones
+-- an element after the first ones
 pub get_drop : {A : Type 0} (n : ℕ) (xs : List A) (k : ℕ) (x : A) → slice_get (drop n xs) k ≡ Some x → (i : ℕ) × (slice_get xs i ≡ Some x)
 get_drop zero xs k x e = (k, e)
 get_drop (suc n) [] k x e = absurd (cc)
@@ -45,7 +45,7 @@ get_take (suc n) [] k x e = absurd (cc)
 get_take (suc n) (y ∷ xs) zero x e = e
 get_take (suc n) (y ∷ xs) (suc k) x e = get_take n xs k x e
 
--- what stands at a place, if it isn't what is said for want of one
+-- what is at a place, if it isn't what is said for lack of one
 pub get_of : {A : Type 0} (xs : List (Option A)) (i : ℕ) (x : A) → slice_index_or xs i None ≡ Some x → slice_get xs i ≡ Some (Some x)
 get_of [] i x e = absurd (cc)
 get_of (y ∷ xs) zero x e = ap Some e

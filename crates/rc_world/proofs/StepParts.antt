@@ -10,7 +10,7 @@ use Rattle.rc_world.specs.Changes.{StandsAt, nowhere, standing_at}
 use Rattle.rc_world.specs.Controls.{Controls, Standing, acts, acts_on, as_event, controls_step, made, next_at, number_of_event}
 use Rattle.rc_world.proofs.Laid.{laid}
 
--- The thread stands at this place.
+-- The thread is at this place.
 pub record IsFound (c : Controls) (i j : ℕ) : Type 0 where
   pub found : slice_get c.threads i ≡ Some (standing_at c i)
   pub exists : i < length c.threads

@@ -12,7 +12,7 @@ use Rattle.rc_world.specs.Parts.{view_control}
 pub standing_is : (items : List Control) (i : ℕ) (r : Control) → i < length items → r ≡ get_or items i r → slice_index_or (map view_control items) i nowhere ≡ view_control r
 standing_is items i r lt e = get_or-map view_control items i r nowhere lt ∙ ap view_control (sym e)
 
--- a thread that changes where it stands
+-- a thread that changes where it is
 pub put_is : (items : List Control) (i : ℕ) (r x : Control) (f : Standing → Standing) → i < length items → r ≡ get_or items i r → view_control x ≡ f (view_control r)
     → map view_control (set items i x) ≡ set (map view_control items) i (f (slice_index_or (map view_control items) i nowhere))
 put_is items i r x f lt e q =

@@ -5,7 +5,7 @@ use Rattle.std.proofs.lemmas.List.{length-map}
 use Rattle.rc_world.specs.Machine.{World, fills, stores}
 use Rattle.rc_world.specs.WorldParts.{view_bytes}
 
--- what is there stands in its place
+-- what is there is in its place
 pub present : {A : Type 0} (xs : List (Option A)) (i : ℕ) → IsSome (slice_index_or xs i None) → i < length xs
 present [] i h = absurd (cc)
 present (x ∷ xs) zero h = omega arith

@@ -38,7 +38,7 @@ fn limits_are_kept(rt: HostRuntime) -> Result<(), Fail> {
     Ok(())
 }
 
-// What stands in front of the declarations, a declaration in front of its number and behind it, the most of its kind,
+// What is in front of the declarations, a declaration in front of its number and after it, the most of its kind,
 // what ends a text of so many, and the line of one more.
 type Most = (
     &'static str,

@@ -1,4 +1,4 @@
-//! What stands in the program of a text.
+//! What is in the program of a text.
 
 use super::*;
 use rc_lang::lines::{Comparison, Op, Operand, Stmt, Test};

@@ -22,7 +22,7 @@ fn expect_both(rt: &impl Abort, state: &State, zero: Option<Parts>, other: Optio
     expect_held(rt, state.on(false), other);
 }
 
-// The state behind the top of a loop: no flag but 0 leads there, and both are possible behind it.
+// The state after the top of a loop: no flag but 0 leads there, and both are possible after it.
 fn looped<'a>(alloc: Global, program: &'a Program, items: &Items) -> Result<State<'a>, AllocError>
     requires of { program.now ≡ share }
     requires list { IsList share (view_items items.now) }
@@ -74,7 +74,7 @@ fn share_besides(alloc: Global) -> Result<Items, AllocError>
     Ok(list(alloc, 0, share_more(alloc)?))
 }
 
-// A statement, the number of its cause, and the credits on both sides behind it.
+// A statement, the number of its cause, and the credits on both sides after it.
 type Written = (Op, u32, Option<u32>, Option<u32>);
 
 const WRITES: [Written; 12] = [

@@ -17,7 +17,7 @@ use std::test::Fail;
 // Shares of the buffer, token 9 or not, and credits.
 type Named = (u32, bool, u32);
 
-// What is put, the number of the cause, what is taken then, and what is held behind it: None where nothing comes there.
+// What is put, the number of the cause, what is taken then, and what is held after it: None where nothing comes there.
 type Pooled = (Named, u32, Named, Option<Named>);
 
 const NOTHING: Named = (0, false, 0);

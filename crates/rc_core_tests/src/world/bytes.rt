@@ -15,7 +15,7 @@ const READ: Item = Item::Kernel {
     fill: 65,
 };
 
-/// Sees what the four bytes of a buffer are behind these lines of a thread, over which these items go.
+/// Sees what the four bytes of a buffer are after these lines of a thread, over which these items go.
 fn bytes_are(
     rt: &impl Abort,
     alloc: Global,

@@ -33,14 +33,14 @@ const STATEMENTS: [(&str, bool); 21] = [
     ("loop keeps {\n}", false),
 ];
 
-/// Where the second thread stands before the statement, with the items that lead there.
+/// Where the second thread is before the statement, with the items that lead there.
 const PLACES: [(&str, &[u32], bool); 3] = [
     ("x = 1", &[1], false),
     ("x = 1", &[0, 1], false),
     ("lock {", &[1], true),
 ];
 
-/// The fault before a statement of the second thread, in line 12, behind a step of each of these threads.
+/// The fault before a statement of the second thread, in line 12, after a step of each of these threads.
 fn fault_before(
     rt: &impl Abort,
     alloc: Global,

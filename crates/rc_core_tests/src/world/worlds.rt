@@ -1,4 +1,4 @@
-//! A thread that is stepped to its end, and a nop that completes behind it; items that go to the pool and leave it.
+//! A thread that is stepped to its end, and a nop that completes after it; items that go to the pool and leave it.
 
 use rc_lang::program::Program;
 use rc_read::{ReadFault, read_program};

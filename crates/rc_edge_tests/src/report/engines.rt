@@ -40,7 +40,7 @@ fn each_sink_that_fails_has_a_beginning_of_the_trace(rt: HostRuntime) {
     }
 }
 
-/// Gives the text in pieces of 100 bytes, and fails behind so many.
+/// Gives the text in pieces of 100 bytes, and fails after so many.
 #[derive(Drop)]
 struct Cut {
     text: &'static [u8],

@@ -1,4 +1,4 @@
-//! Readers: each read counts, an interrupted one is a failure, and nothing is read behind the end.
+//! Readers: each read counts, an interrupted one is a failure, and nothing is read after the end.
 
 use rc_report::engine_fault::EngineFault;
 use rc_report::reading::read_text;

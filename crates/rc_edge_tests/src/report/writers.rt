@@ -83,7 +83,7 @@ fn an_interrupted_flush_is_a_failure(rt: HostRuntime) {
     }
 }
 
-/// Takes nothing behind so many bytes, one at a call.
+/// Takes nothing after so many bytes, one at a call.
 #[derive(Drop)]
 pub struct Narrow {
     pub written: Vec<u8>,

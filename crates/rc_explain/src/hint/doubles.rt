@@ -21,7 +21,7 @@ fn known_at(parts: &Parts, place: Place) -> Option<Kind> {
     }
 }
 
-/// What an item names: a token with its user data, and else what stands before the colon.
+/// What an item names: a token with its user data, and else what is before the colon.
 fn key_of(item: &[u8]) -> &[u8] {
     match place_of(item, b':') {
         None => item,

@@ -58,7 +58,7 @@ pub fn all_rows() -> &'static [Row] {
     ]
 }
 
-/// Whether a form stands in this part of a text of this version.
+/// Whether a form is in this part of a text of this version.
 pub fn may_stand(version: u32, region: Region, row: Row) -> bool {
     let stand = stand_of(row);
     version_of(row) <= version
@@ -102,7 +102,7 @@ pub fn items_in_front(version: u32, words: &[&[u8]]) -> usize {
     words.len()
 }
 
-/// How many words fit a form, from the left, which part could stand behind them, and whether items could.
+/// How many words fit a form, from the left, which part could be after them, and whether items could.
 #[derive(Clone, Copy)]
 pub struct Reach {
     pub words: usize,

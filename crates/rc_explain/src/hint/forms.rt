@@ -1,4 +1,4 @@
-//! What could stand in a line whose words are no form.
+//! What could be in a line whose words are no form.
 
 use super::fitting::{Reach, all_rows, is_reserved, longest, may_stand, reach_of};
 use super::lines::{column_of, place_of, word_at};
@@ -12,7 +12,7 @@ use rc_read::words::is;
 use rc_report::text::{put_number, put_piece};
 use std::alloc::{AllocError, Global};
 
-/// What could stand at a word: a fixed word, or what these words say.
+/// What could be at a word: a fixed word, or what these words say.
 #[derive(Clone, Copy)]
 struct Choice {
     text: &'static [u8],
@@ -55,7 +55,7 @@ fn add(choices: &mut Vec<Choice>, choice: Choice) -> Result<(), AllocError> {
     Ok(())
 }
 
-/// What could stand behind so many words, by the forms that fit them.
+/// What could be after so many words, by the forms that fit them.
 fn choices_at(
     alloc: Global,
     version: u32,
@@ -165,7 +165,7 @@ fn put_version(
     put_number(text, u64::from(version))
 }
 
-/// Where a form stands that may not stand here.
+/// Where a form is that may not be here.
 fn put_stand(text: &mut Vec<u8>, line: &[u8], word: &[u8], stand: Stand) -> Result<(), AllocError> {
     put_column(text, column_of(line, 0))?;
     put_word(text, word)?;
@@ -226,13 +226,13 @@ fn put_longest(
     Ok(())
 }
 
-/// What a whole form says that may not stand here, or not yet.
+/// What a whole form says that may not be here, or not yet.
 fn refused_form(alloc: Global, words: &[&[u8]]) -> Result<Option<Row>, AllocError> {
     let mut spots = Vec::new(alloc);
     put_spots(3, &mut spots, words)
 }
 
-/// Adds the hint for a line whose words are no form that may stand there.
+/// Adds the hint for a line whose words are no form that may be there.
 pub fn put_form(
     alloc: Global,
     text: &mut Vec<u8>,

@@ -18,7 +18,7 @@ pub fn from<'a, 'b>(words: &'b [&'a [u8]], place: usize) -> &'b [&'a [u8]] {
     }
 }
 
-/// The word at a place, and none behind the last.
+/// The word at a place, and none after the last.
 pub fn word_at<'a>(words: &[&'a [u8]], place: usize) -> &'a [u8] {
     if place < words.len() {
         words[place]
@@ -51,7 +51,7 @@ fn is_blank(b: u8) -> bool {
     b == b' ' || b == b'\t' || b == b'\r'
 }
 
-/// The column, from 1, at which a word of a line begins; behind the last word, the one behind its end.
+/// The column, from 1, at which a word of a line begins; after the last word, the one after its end.
 pub fn column_of(line: &[u8], place: usize) -> usize {
     let mut count: usize = 0;
     let mut inside = false;

@@ -180,7 +180,7 @@ pub fn put_too_large(
     }
 }
 
-/// Adds the hint for a block or a word that may not stand in the open one.
+/// Adds the hint for a block or a word that may not be in the open one.
 pub fn put_nesting(text: &mut Vec<u8>, parts: &Parts, words: &[&[u8]]) -> Result<(), AllocError> {
     let first = word_at(words, 0);
     if is(first, b"break") {

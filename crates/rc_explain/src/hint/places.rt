@@ -12,7 +12,7 @@ use rc_read::words::is;
 use rc_report::text::{put_number, put_piece};
 use std::alloc::{AllocError, Global};
 
-/// A word in its place: in which word of the line it stands, and from which byte of that on.
+/// A word in its place: in which word of the line it is, and from which byte of that on.
 #[derive(Clone, Copy)]
 pub struct Place<'a> {
     pub part: Part,
@@ -236,12 +236,12 @@ pub fn has_buffer(parts: &Parts, word: &[u8]) -> bool {
     parts.buffers.iter().any(|b| is(&b.name, word))
 }
 
-/// Whether the thread with this name stands above, or is the open one. Where none is open the draft has no name.
+/// Whether the thread with this name is above, or is the open one. Where none is open the draft has no name.
 pub fn has_thread(parts: &Parts, word: &[u8]) -> bool {
     is(&parts.draft.name, word) || parts.threads.iter().any(|t| is(&t.name, word))
 }
 
-/// Adds what stands before the name with this place in a list, and says whether the name is shown.
+/// Adds what is before the name with this place in a list, and says whether the name is shown.
 fn put_between(text: &mut Vec<u8>, place: usize) -> Result<bool, AllocError> {
     if place == 8 {
         put_piece(text, b", ..")?;

@@ -26,7 +26,7 @@ impl<'a> State<'a> {
         )
     }
 
-    /// `loop keeps ITEMS {`: behind it exactly the items are held, on each side what they say of it. A loop is turned
+    /// `loop keeps ITEMS {`: after it exactly the items are held, on each side what they say of it. A loop is turned
     /// back to with any flag, so where there is one both sides are there. The items are those of a loop of the thread.
     pub fn enter_loop(&mut self, items: &Items) -> Result<(), Cause>
         requires { IsList (spec.program_of self.old) (view_items items.now) }
@@ -57,7 +57,7 @@ impl<'a> State<'a> {
         }
     }
 
-    /// The closing brace of a loop. Nothing goes on behind it from here, so the state is dead.
+    /// The closing brace of a loop. Nothing goes on after it from here, so the state is dead.
     pub fn loop_end(&mut self, items: &Items) -> Result<(), Cause>
         ensures { spec.Gives self.old self.new result (rules.asks_both (spec.label_of self.old) (λ z bag m. rules.may_loop (spec.program_of self.old) 14 (view_items items.now) z bag m)) (λ z. []) }
     {
@@ -66,7 +66,7 @@ impl<'a> State<'a> {
         Ok(())
     }
 
-    /// Whether a `break` may stand here, which may release the lock.
+    /// Whether a `break` may be here, which may release the lock.
     pub fn may_break(&self, releases: bool) -> Result<(), Cause>
         ensures { Tests result (rules.asks_both (spec.label_of self.now) (λ z bag m. rules.may_break (spec.program_of self.now) releases m)) }
     {
@@ -76,7 +76,7 @@ impl<'a> State<'a> {
         )
     }
 
-    /// `break`, which may release the lock. The state is dead behind it. What goes to the loop's end is made of the
+    /// `break`, which may release the lock. The state is dead after it. What goes to the loop's end is made of the
     /// state before. Unless the state is dead, it is locked where the lock is released.
     pub fn break_out(&mut self, releases: bool) -> Result<(), Cause>
         requires { releases ≡ true → spec.OnBoth spec.IsLocked self.old }
