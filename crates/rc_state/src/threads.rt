@@ -96,7 +96,11 @@ fn put_variables(text: &mut Vec<u8>, world: &World<'_>, thread: u32) -> Result<(
 {
     let program = world.program();
     for x in 0..variables_of(program, thread) {
-        put_variable(text, variable_name(program, thread, x), world.variable(thread, x))?;
+        put_variable(
+            text,
+            variable_name(program, thread, x),
+            world.variable(thread, x),
+        )?;
     }
     Ok(())
 }
