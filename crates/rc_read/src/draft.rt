@@ -11,6 +11,7 @@ use crate::lists::{flag_in, parted};
 use crate::parts::{Arms, Draft};
 use crate::says::Says;
 use crate::values::Item;
+use indexmap::IndexSet;
 use rc_lang::lines::{Block, Line, Stmt, Test};
 use rc_lang::program::{Items, More, Share, Thread};
 use std::alloc::{AllocError, Global};
@@ -243,6 +244,16 @@ fn break_out(blocks: &[Block]) -> Stmt
     Stmt::Break(way.place.unwrap_or(0), way.releases, way.leaves)
 }
 
+// The names in their order. Room is made for all at once, so that a refused growth is answered and not tried again with
+// less.
+fn listed(alloc: Global, names: IndexSet<Vec<u8>>) -> Result<Vec<Vec<u8>>, AllocError>
+    ensures { IfOk result (λ list. list.items ≡ names.keys) }
+{
+    let mut list = Vec::with_capacity(alloc, names.len())?;
+    list.extend(names)?;
+    Ok(list)
+}
+
 impl Draft {
     // The statement of a line of the thread.
     pub fn stmt_in(&self, says: Says) -> Stmt
@@ -292,6 +303,7 @@ impl Draft {
     pub fn into_thread(self, alloc: Global) -> Result<Thread, AllocError>
         ensures { IfOk result (λ t. view_thread t ≡ spec.whole_thread (view_draft self)) }
     {
+        let variables = listed(alloc, self.names)?;
         Ok(Thread {
             name: self.name,
             line: self.line,
@@ -299,7 +311,7 @@ impl Draft {
             lists: self.lists,
             lines: self.lines,
             ends: self.ends,
-            variables: self.names.into_iter().collect(alloc)?,
+            variables,
             flag: self.flag,
         })
     }
