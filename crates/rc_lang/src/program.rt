@@ -269,9 +269,16 @@ impl Program {
         ensures value { result ≡ token_place self.now.tokens user_data }
         ensures made { IsProgram self.now }
     {
-        self.tokens()
-            .iter()
-            .position(|token| token.user_data == user_data)
+        let tokens = self.tokens();
+        // Mostly the tokens are numbered one after another.
+        let guess = match tokens.first() {
+            Some(first) => user_data.wrapping_sub(first.user_data) as usize,
+            None => 0,
+        };
+        if guess < tokens.len() && tokens[guess].user_data == user_data {
+            return Some(guess);
+        }
+        tokens.iter().position(|token| token.user_data == user_data)
     }
 
     /// The line at a place of a thread, if the thread and the place are there.
