@@ -12,7 +12,7 @@ pub fn accepted_is_safe()
 /// What safe means, of each world of each run of a safe program:
 ///
 /// - no thread is about to write a buffer that a pending request names, nor to read one that a pending read fills; no
-///   two pending requests and no two threads go to one buffer of which one writes it, and none after its end;
+///   two pending requests and no two threads go to one buffer while one of them writes it; nothing goes past its end;
 /// - no call on the ring is made without the lock; each `io_uring_get_sqe(3)` finds a free entry, and what the holder
 ///   does next finds the open entry at the stage that it wants; a pending request finds room in the completion ring;
 /// - each `io_uring_sqe_set_data64(3)` gives user data that no request in flight has, so that no two of them have the

@@ -14,7 +14,7 @@ use rc_rules::mode::{Inside, Mode, Peeked, Slot};
 use rc_rules::side::Side;
 use std::alloc::AllocError;
 
-/// Adds a part of which so many are held, if any.
+/// Adds a part and how many of it are held, if any.
 fn put_item(text: &mut Vec<u8>, name: &[u8], count: u32) -> Result<(), AllocError>
     ensures { Puts text.old text.new (spec.item_text name.now count) result }
 {

@@ -22,7 +22,7 @@ fn place_of_when(items: &[Item]) -> Option<usize>
     items.iter().position(|item| is_when(*item))
 }
 
-/// The items before `when`, which are all where there is none, and those after it.
+/// The items before `when` and those after it. Without a `when` all are before it.
 pub fn parted(items: &[Item]) -> (&[Item], &[Item])
     ensures before { result.0.now ≡ spec.before_when items.now }
     ensures behind { result.1.now ≡ spec.behind_when items.now }

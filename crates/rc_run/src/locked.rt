@@ -16,7 +16,7 @@ use rc_world::event::Event;
 use std::marker::{Brand, Model, PhantomData};
 use std::sync::ledger::{Book, Ledger, Share};
 
-// With so many completions that wait to be reaped no worker is woken: what it could add comes after them.
+// With so many completions that wait to be reaped no worker is woken: the next one would come after them.
 const ENOUGH: usize = 4;
 
 /// What is asked of a run: its program, and how many events of threads there may be. A type stands for both, so that

@@ -30,7 +30,7 @@ fn credits_held(threads: &[Thread]) -> u32 {
     count
 }
 
-/// Adds of which buffer the threads hold more shares than there are.
+/// Adds which buffer the threads hold too many shares of.
 pub fn put_shares(text: &mut Vec<u8>, program: &Program, thread: u32) -> Result<(), AllocError> {
     let threads = threads_up_to(program, thread);
     for buffer in 0..program.buffers().len() {

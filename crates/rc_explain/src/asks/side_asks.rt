@@ -95,7 +95,7 @@ fn put_part_asked(text: &mut Vec<u8>, side: &Side, part: Part) -> Result<(), All
     }
 }
 
-/// Adds of which buffer shares are asked for, and how many are held.
+/// Adds which buffer's shares are asked for, and how many are held.
 fn put_held(text: &mut Vec<u8>, side: &Side, buffer: usize) -> Result<(), AllocError> {
     let name = buffer_name(side.program(), buffer);
     put_pieces(text, &[b" of ", name, b"; held: "])?;

@@ -157,7 +157,7 @@ fn range_of(parts: &Parts, seen: Seen, part: Part) -> Option<(u64, u64)> {
     }
 }
 
-/// Whether the place is a signed number's and the word is none.
+/// Whether the place is a signed number's and the word isn't a signed number.
 fn lacks_sign(place: Place) -> bool {
     let is_signed = match place.part {
         Part::Signed => true,
