@@ -2,7 +2,8 @@
 
 ghost use Rattle.std.specs.Prelude.{◌≡◌, ◌≤◌, ◌<◌, pos, negsuc, ◌≤ℤ◌, true, [], length, drop, IfOk, IfSome};
 ghost use Rattle.rc_lang.specs.Requests.{may_complete};
-ghost use Rattle.rc_device.specs.Files.{blank_files, place_of, content_of, served_fsync, served_read, served_write, granted, served};
+ghost use Rattle.rc_device.specs.Files.{blank_files, place_of, content_of, served_fsync, granted, served};
+ghost use Rattle.rc_lang.specs.declared.request.Kind.TheVariants.{Read, Write};
 
 use crate::device::Device;
 use crate::file::{ROOM, StoredFile};
@@ -83,19 +84,18 @@ impl Disk {
     fn serve_granted(&mut self, request: &Request, bytes: &mut [u8], grant: u32) -> i32
         requires len { request.now.len ≤ length bytes.old }
         requires grant { grant ≤ 4096 }
-        ensures answer { result ≡ (granted self.old request.now bytes.old grant request.now.kind).answer }
-        ensures files { self.new ≡ (granted self.old request.now bytes.old grant request.now.kind).files }
-        ensures bytes { bytes.new ≡ (granted self.old request.now bytes.old grant request.now.kind).bytes }
+        ensures answer { result ≡ (served self.old request.now bytes.old (pos grant)).answer }
+        ensures files { self.new ≡ (served self.old request.now bytes.old (pos grant)).files }
+        ensures bytes { bytes.new ≡ (served self.old request.now bytes.old (pos grant)).bytes }
         ensures allowed { may_complete request.now result ≡ true }
         ensures rest { drop request.now.len bytes.new ≡ drop request.now.len bytes.old }
         ensures within { (negsuc 4094 ≤ℤ result) × (result ≤ℤ pos 4096) }
     {
-        let count = request.len.min(grant) as usize;
         match request.kind {
             Kind::Nop => 0,
             Kind::Fsync => self.fsync(request.fd),
-            Kind::Read => self.read(request, bytes, count),
-            Kind::Write => self.write(request, bytes, count),
+            Kind::Read => self.read(request, bytes, grant),
+            Kind::Write => self.write(request, bytes, grant),
         }
     }
 
@@ -108,21 +108,24 @@ impl Disk {
         }
     }
 
-    fn read(&self, request: &Request, bytes: &mut [u8], count: usize) -> i32
-        requires count { (count ≤ 4096) × (count ≤ length bytes.old) }
-        ensures answer { result ≡ (served_read self.now bytes.old request.now.off count (place_of self.now request.now.fd)).answer }
-        ensures bytes { bytes.new ≡ (served_read self.now bytes.old request.now.off count (place_of self.now request.now.fd)).bytes }
+    fn read(&self, request: &Request, bytes: &mut [u8], grant: u32) -> i32
+        requires len { request.now.len ≤ length bytes.old }
+        requires grant { grant ≤ 4096 }
+        ensures answer { result ≡ (granted self.now request.now bytes.old grant Read).answer }
+        ensures bytes { bytes.new ≡ (granted self.now request.now bytes.old grant Read).bytes }
     {
+        let count = request.len.min(grant) as usize;
         match self.place_of(request.fd) {
             Some(place) => self.files[place].read_at(request.off, count, bytes) as i32,
             None => -EBADF,
         }
     }
 
-    fn write(&mut self, request: &Request, bytes: &[u8], count: usize) -> i32
-        requires count { (count ≤ 4096) × (count ≤ length bytes.now) }
-        ensures answer { result ≡ (served_write self.old bytes.now request.now.off request.now.len count (place_of self.old request.now.fd)).answer }
-        ensures files { self.new ≡ (served_write self.old bytes.now request.now.off request.now.len count (place_of self.old request.now.fd)).files }
+    fn write(&mut self, request: &Request, bytes: &[u8], grant: u32) -> i32
+        requires len { request.now.len ≤ length bytes.now }
+        requires grant { grant ≤ 4096 }
+        ensures answer { result ≡ (granted self.old request.now bytes.now grant Write).answer }
+        ensures files { self.new ≡ (granted self.old request.now bytes.now grant Write).files }
     {
         let Some(place) = self.place_of(request.fd) else {
             return -EBADF;
@@ -134,7 +137,7 @@ impl Disk {
             return -ENOSPC;
         }
         let off = request.off as usize;
-        let count = count.min(ROOM - off);
+        let count = (request.len.min(grant) as usize).min(ROOM - off);
         self.files[place].write_at(off, &bytes[..count]);
         count as i32
     }

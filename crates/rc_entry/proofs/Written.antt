@@ -1,5 +1,5 @@
 -- What bytes that are written number by number read as.
-use Rattle.std.proofs.Common.{◌≡◌, ℕ, ◌+◌, ◌<◌, ◌^◌, ℤ, pos, negsuc, List, ◌∷◌, ◌++◌, take, drop, replicate, ap, ◌∙◌, refl, sym, subst, arith}
+use Rattle.std.proofs.Common.{◌≡◌, ℕ, ◌<◌, ◌^◌, ℤ, pos, negsuc, List, ◌∷◌, ◌++◌, replicate, ap, ◌∙◌, refl, sym, subst, arith}
 use Rattle.std.specs.Int.{w32, w64, to_le_bytes, cast_unsigned, cast_signed}
 use Rattle.std.specs.Prelude.{FitsSigned}
 use Rattle.std.proofs.lemmas.Int.{to_z-of_z}
@@ -8,13 +8,7 @@ use Rattle.std.proofs.lemmas.List.Elements.{All-replicate}
 use Rattle.rc_entry.proofs.Bytes.{AreBytes, AreBytes-cons, AreBytes-append, AreBytes-low_first, AreBytes-zeros}
 use Rattle.rc_entry.specs.declared.Cqe.{Cqe}
 use Rattle.rc_entry.specs.Spelling.{u32_at, u64_at, i32_at, HasFields, SpellsCqe}
-
--- four and eight bytes written from a place
-abbrev pub with_u32 : ℕ → ℕ → List ℕ → List ℕ
-with_u32 place number bytes = take place bytes ++ to_le_bytes w32 number ++ drop (place + 4) bytes
-
-abbrev pub with_u64 : ℕ → ℕ → List ℕ → List ℕ
-with_u64 place number bytes = take place bytes ++ to_le_bytes w64 number ++ drop (place + 8) bytes
+use Rattle.rc_entry.specs.Fields.{with_u32, with_u64}
 
 pub cast_unsigned-lt : (z : ℤ) → FitsSigned w32 z → cast_unsigned w32 z < 2 ^ 32
 cast_unsigned-lt (pos n) fits = omega arith

@@ -151,6 +151,6 @@ fault_number FsyncFlags = 4
 fault_number CompletionFlags = 5
 
 -- the fault's sentence holds of the bytes, and none with a lesser number does
-pub record IsLeastEntryFault (Holds : EntryFault → List ℕ → Type 0) (bytes : List ℕ) (fault : EntryFault) : Type 0 where
+pub record IsLeastFault (Holds : EntryFault → List ℕ → Type 0) (bytes : List ℕ) (fault : EntryFault) : Type 0 where
   pub holds : Holds fault bytes
   pub least : (other : EntryFault) → fault_number other < fault_number fault → ¬ Holds other bytes

@@ -1,7 +1,7 @@
 //! Completion entries as bytes.
 
 ghost use Rattle.std.specs.Prelude.{◌≡◌, ◌↔◌};
-ghost use Rattle.rc_entry.specs.Spelling.{SpellsCqe, IsFaultOfCqe, IsLeastEntryFault};
+ghost use Rattle.rc_entry.specs.Spelling.{SpellsCqe, IsFaultOfCqe, IsLeastFault};
 ghost use Rattle.rc_entry.specs.declared.Cqe.{Cqe};
 ghost use Rattle.rc_entry.specs.declared.EntryFault.{EntryFault};
 
@@ -26,7 +26,7 @@ pub fn encode_cqe(cqe: &Cqe) -> [u8; 16]
 /// [`EntryFault::CompletionFlags`] where the flags aren't 0.
 pub fn decode_cqe(bytes: &[u8; 16]) -> Result<Cqe, EntryFault>
     ensures value { (cqe : Cqe) → (result ≡ Ok cqe) ↔ SpellsCqe cqe bytes.now }
-    ensures fault { (f : EntryFault) → (result ≡ Err f) ↔ IsLeastEntryFault IsFaultOfCqe bytes.now f }
+    ensures fault { (f : EntryFault) → (result ≡ Err f) ↔ IsLeastFault IsFaultOfCqe bytes.now f }
 {
     if read_u32(bytes, 12) != 0 {
         return Err(EntryFault::CompletionFlags);

@@ -1,7 +1,8 @@
 //! Numbers in bytes, the lowest byte first.
 
-ghost use Rattle.std.specs.Prelude.{◌≡◌, ◌+◌, ◌≤◌, ◌++◌, length, take, drop};
-ghost use Rattle.std.specs.Int.{w32, w64, to_le_bytes, cast_unsigned};
+ghost use Rattle.std.specs.Prelude.{◌≡◌, ◌+◌, ◌≤◌, length};
+ghost use Rattle.std.specs.Int.{w32, cast_unsigned};
+ghost use Rattle.rc_entry.specs.Fields.{with_u32, with_u64};
 ghost use Rattle.rc_entry.specs.Spelling.{u32_at, u64_at, i32_at};
 
 use byteorder::{ByteOrder, LittleEndian};
@@ -33,7 +34,7 @@ pub(crate) fn read_i32(bytes: &[u8], place: usize) -> i32
 // Writes a number into the four bytes from a place.
 pub(crate) fn write_u32(bytes: &mut [u8], place: usize, number: u32)
     requires { place + 4 ≤ length bytes.old }
-    ensures { bytes.new ≡ take place bytes.old ++ to_le_bytes w32 number ++ drop (place + 4) bytes.old }
+    ensures { bytes.new ≡ with_u32 place number bytes.old }
 {
     LittleEndian::write_u32(&mut bytes[place..place + 4], number);
 }
@@ -41,7 +42,7 @@ pub(crate) fn write_u32(bytes: &mut [u8], place: usize, number: u32)
 // Writes a number into the eight bytes from a place.
 pub(crate) fn write_u64(bytes: &mut [u8], place: usize, number: u64)
     requires { place + 8 ≤ length bytes.old }
-    ensures { bytes.new ≡ take place bytes.old ++ to_le_bytes w64 number ++ drop (place + 8) bytes.old }
+    ensures { bytes.new ≡ with_u64 place number bytes.old }
 {
     LittleEndian::write_u64(&mut bytes[place..place + 8], number);
 }
@@ -49,8 +50,7 @@ pub(crate) fn write_u64(bytes: &mut [u8], place: usize, number: u64)
 // Writes a signed number into the four bytes from a place.
 pub(crate) fn write_i32(bytes: &mut [u8], place: usize, number: i32)
     requires { place + 4 ≤ length bytes.old }
-    ensures { bytes.new ≡ take place bytes.old ++ to_le_bytes w32 (cast_unsigned w32 number)
-        ++ drop (place + 4) bytes.old }
+    ensures { bytes.new ≡ with_u32 place (cast_unsigned w32 number) bytes.old }
 {
     LittleEndian::write_i32(&mut bytes[place..place + 4], number);
 }

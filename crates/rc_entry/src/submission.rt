@@ -1,7 +1,8 @@
 //! Submission entries as bytes.
 
 ghost use Rattle.std.specs.Prelude.{◌≡◌, ◌↔◌, negsuc, IsTrue};
-ghost use Rattle.rc_entry.specs.Spelling.{sqe_opcode, sqe_fd, sqe_off, sqe_addr, sqe_len, sqe_flags, sqe_user_data, sync_flags, HasFields, IsKnown, AreOthersZero, AreUnusedZero, SpellsEntry, IsFaultOfEntry, IsLeastEntryFault};
+ghost use Rattle.rc_entry.specs.Fields.{HasZeroUnused, SpellsFields};
+ghost use Rattle.rc_entry.specs.Spelling.{sqe_opcode, sqe_fd, sqe_off, sqe_addr, sqe_len, sqe_flags, sqe_user_data, sync_flags, IsKnown, AreOthersZero, SpellsEntry, IsFaultOfEntry, IsLeastFault};
 ghost use Rattle.rc_entry.specs.declared.Entry.{Entry};
 ghost use Rattle.rc_entry.specs.declared.EntryFault.{EntryFault};
 
@@ -97,8 +98,7 @@ impl Fields {
 
     // The 64 bytes with these fields, and all others 0.
     fn to_bytes(self) -> [u8; 64]
-        ensures { HasFields self.opcode self.fd self.off self.addr self.len self.flags self.user_data
-            result }
+        ensures { SpellsFields self result }
     {
         let mut bytes = [0; 64];
         bytes[0] = self.opcode;
@@ -187,9 +187,7 @@ impl Fields {
 
     // Whether every field is 0 that the opcode doesn't use.
     fn unused_are_zero(&self) -> bool
-        ensures { let fields = self.now in
-            IsTrue result
-            ↔ AreUnusedZero fields.opcode fields.off fields.addr fields.len fields.flags }
+        ensures { IsTrue result ↔ HasZeroUnused self.now }
     {
         let no_range = self.off == 0 && self.addr == 0 && self.len == 0;
         match self.opcode {
@@ -253,7 +251,7 @@ pub fn encode_sqe(entry: &Entry) -> [u8; 64]
 /// [`EntryFault::NonZeroField`], [`EntryFault::NopFd`], [`EntryFault::FsyncFlags`].
 pub fn decode_sqe(bytes: &[u8; 64]) -> Result<Entry, EntryFault>
     ensures value { (entry : Entry) → (result ≡ Ok entry) ↔ SpellsEntry entry bytes.now }
-    ensures fault { (f : EntryFault) → (result ≡ Err f) ↔ IsLeastEntryFault IsFaultOfEntry bytes.now f }
+    ensures fault { (f : EntryFault) → (result ≡ Err f) ↔ IsLeastFault IsFaultOfEntry bytes.now f }
 {
     let fields = Fields::read(bytes);
     if !is_known(fields.opcode) {

@@ -2,13 +2,18 @@
 use Rattle.std.specs.Prelude.{ℕ, List, All}
 use Rattle.rc_entry.specs.declared.Entry.{Entry}
 use Rattle.rc_entry.specs.Spelling.{SpellsEntry}
-use Rattle.rc_ring.specs.Rings.{Rings, OpenSlot, NoSlot, VacantSlot, PreparedSlot}
+use Rattle.rc_ring.specs.Rings.{Rings, bytes_with_data, entry_with_data, OpenSlot, NoSlot, VacantSlot, PreparedSlot}
 
 -- the bytes spell some entry
 abbrev pub IsSpelling : List ℕ → Type 0
 IsSpelling bytes = (entry : Entry) × SpellsEntry entry bytes
 
--- the bytes in a prepared slot do
+-- where the bytes spell an entry, they spell it with this user_data once that is written into them
+abbrev pub SpellsWithData : ℕ → List ℕ → Type 0
+SpellsWithData user_data bytes =
+    (entry : Entry) → SpellsEntry entry bytes → SpellsEntry (entry_with_data user_data entry) (bytes_with_data user_data bytes)
+
+-- the bytes in a prepared slot spell some entry
 abbrev pub IsSpelledSlot : OpenSlot → Type 0
 IsSpelledSlot NoSlot = Unit {0}
 IsSpelledSlot VacantSlot = Unit {0}

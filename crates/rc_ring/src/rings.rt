@@ -4,10 +4,8 @@ ghost use Rattle.std.specs.Prelude.{◌≡◌, ◌+◌, ◌*◌, ◌%◌, ◌<�
 ghost use Rattle.std.specs.Int.{IsPowerOfTwo};
 ghost use Rattle.std.specs.Option.{option_copied};
 ghost use Rattle.rc_index.specs.RingList.{IsRingList};
-ghost use Rattle.rc_ring.specs.Rings.{NoSlot, empty_rings, slot_count, used, is_prepared_slot, slot_bytes, open_place, Prepares, GetSqeCall, SetData64Call, AbandonCall, ParkCall, ResumeCall, SubmitCall, PostCall, CqeSeenCall, after_call, entry_with_data, bytes_with_data};
-ghost use Rattle.rc_ring.specs.Spelled.{HoldEntries};
-ghost use Rattle.rc_entry.specs.declared.Entry.{Entry};
-ghost use Rattle.rc_entry.specs.Spelling.{SpellsEntry};
+ghost use Rattle.rc_ring.specs.Rings.{NoSlot, empty_rings, slot_count, used, is_prepared_slot, slot_bytes, open_place, Prepares, GetSqeCall, SetData64Call, AbandonCall, ParkCall, ResumeCall, SubmitCall, PostCall, CqeSeenCall, after_call};
+ghost use Rattle.rc_ring.specs.Spelled.{HoldEntries, SpellsWithData};
 
 use crate::slots::{Prepared, Slot, Vacant};
 use rc_entry::{Cqe, Entry, decode_cqe, encode_cqe, encode_sqe};
@@ -103,19 +101,18 @@ impl Ring {
     }
 
     // Rings over these empty counters.
-    fn over(alloc: Global, submissions: Indices, completions: Indices) -> Result<Ring, AllocError>
-        requires submissions_law { IsRingList submissions }
-        requires submissions_empty { submissions.places ≡ [] }
-        requires completions_law { IsRingList completions }
-        requires completions_empty { completions.places ≡ [] }
-        ensures { IfOk result (λ ring. ring
-            ≡ empty_rings submissions.entries completions.entries submissions.next completions.next) }
+    fn over(alloc: Global, sq: Indices, cq: Indices) -> Result<Ring, AllocError>
+        requires sq_law { IsRingList sq }
+        requires sq_empty { sq.places ≡ [] }
+        requires cq_law { IsRingList cq }
+        requires cq_empty { cq.places ≡ [] }
+        ensures { IfOk result (λ ring. ring ≡ empty_rings sq.entries cq.entries sq.next cq.next) }
     {
-        let sqes = vec![in alloc; [0; 64]; submissions.entries() as usize]?;
-        let cqes = vec![in alloc; [0; 16]; completions.entries() as usize]?;
+        let sqes = vec![in alloc; [0; 64]; sq.entries() as usize]?;
+        let cqes = vec![in alloc; [0; 16]; cq.entries() as usize]?;
         Ok(Ring {
-            submissions,
-            completions,
+            submissions: sq,
+            completions: cq,
             sqes,
             cqes,
             stage: Stage::Closed,
@@ -298,8 +295,7 @@ impl Ring {
         requires stage { is_prepared_slot self.old.slot ≡ true }
         requires out { self.old.parked ≡ false }
         ensures after { self.new ≡ after_call (SetData64Call user_data) self.old }
-        ensures spells { (entry : Entry) → SpellsEntry entry (slot_bytes self.old.slot)
-            → SpellsEntry (entry_with_data user_data entry) (bytes_with_data user_data (slot_bytes self.old.slot)) }
+        ensures spells { SpellsWithData user_data (slot_bytes self.old.slot) }
     {
         let entry = &mut self.sqes[place as usize];
         entry[32..40].copy_from_slice(&user_data.to_le_bytes());

@@ -1,10 +1,9 @@
 //! Slots of the submission ring, with their stage in their type.
 
 ghost use Rattle.std.specs.Prelude.{◌≡◌, Bool, true, false, Some};
-ghost use Rattle.rc_ring.specs.Rings.{Prepares, SetData64Call, AbandonCall, ParkCall, after_call, open_place, is_prepared_slot, slot_bytes, entry_with_data, bytes_with_data};
-ghost use Rattle.rc_entry.specs.declared.Entry.{Entry};
+ghost use Rattle.rc_ring.specs.Rings.{Prepares, SetData64Call, AbandonCall, ParkCall, after_call, open_place, is_prepared_slot, slot_bytes};
 ghost use Rattle.rc_entry.specs.declared.Entry.TheVariants.{Nop, Fsync, Read, Write};
-ghost use Rattle.rc_entry.specs.Spelling.{SpellsEntry};
+ghost use Rattle.rc_ring.specs.Spelled.{SpellsWithData};
 
 use crate::rings::Ring;
 use rc_entry::Entry;
@@ -201,8 +200,7 @@ impl Slot<Prepared> {
         requires stage { is_prepared_slot ring.old.slot ≡ true }
         requires out { ring.old.parked ≡ false }
         ensures after { ring.new ≡ after_call (SetData64Call user_data) ring.old }
-        ensures spells { (entry : Entry) → SpellsEntry entry (slot_bytes ring.old.slot)
-            → SpellsEntry (entry_with_data user_data entry) (bytes_with_data user_data (slot_bytes ring.old.slot)) }
+        ensures spells { SpellsWithData user_data (slot_bytes ring.old.slot) }
     {
         let Slot {
             place,
