@@ -1,16 +1,17 @@
 -- The variables of a line are of no matter to its sentences.
-use Rattle.std.proofs.Common.{◌≡◌, ℕ, List, [], ◌∷◌, length, Bool, true, false, not, ◌||◌, eqb, Option, Some, None, Result, Ok, Err, refl, sym, ap, ◌∙◌}
+use Rattle.std.proofs.Common.{◌≡◌, ℕ, List, [], ◌∷◌, ◌++◌, length, take, Bool, true, false, cond, not, ◌||◌, eqb, Option, Some, None, Result, Ok, Err, refl, sym, ap, ◌∙◌, append_assoc}
+use Rattle.std.proofs.Math.Seq.{take-append_seam}
+use Rattle.std.proofs.lemmas.List.{append-nil}
 use Rattle.std.specs.Borrow.{Bor}
 use Rattle.rc_read.specs.Adds.{added, counted, form_in, items, places_in, says, values}
 use Rattle.rc_read.specs.declared.fault.ReadCause.{ReadCause}
 use Rattle.rc_read.specs.declared.says.Says.{Says}
 use Rattle.rc_read.specs.declared.says.Says.TheVariants.{Case, Close}
-use Rattle.rc_read.specs.declared.table.Part.TheVariants as part
 use Rattle.rc_read.specs.declared.table.Row.{Row}
-use Rattle.rc_read.specs.Judging.{named_sentences, JudgesRow, JudgesWords}
+use Rattle.rc_read.specs.Judging.{AddsNames, named_sentences, JudgesRow, JudgesWords}
 use Rattle.rc_read.specs.Says.{says_of, says_by}
 use Rattle.rc_read.specs.Sentences.{bad_head, bad_line, may_stand, is_unknown, any_unknown, is_double, any_double, any_named_twice, bad_brace, is_too_long, is_too_deep, is_full, any_full, has_too_many_names, bad_nesting, bad_case, other_flag, form_sentences, word_sentences, first_true}
-use Rattle.rc_read.specs.Sheets.{Sheet, Draft, with_names, naming}
+use Rattle.rc_read.specs.Sheets.{Sheet, Draft, is_among, is_variable, with_names, naming}
 use Rattle.rc_read.specs.Spots.{Spot, row_of, spots_of, spots_by}
 use Rattle.rc_read.specs.Table.{parts_of, stand_of}
 use Rattle.rc_read.specs.Texts.{texts_of}
@@ -117,3 +118,26 @@ form_next s line [] n e f = absurd cc
 form_next s line (w ∷ ws) n e f =
     let vs = texts_of (w ∷ ws) in
     next_is 2 3 (bad_head s.region (form_in s vs) vs) (bad_line s.region (form_in s vs)) (later_by s line vs (form_in s vs)) e f
+
+-- ---- the variables of a line at fault
+
+abbrev pub put_names : Sheet → List (List ℕ) → Sheet
+put_names s names = record s { draft = record s.draft { names = names } }
+
+pub adds_none : (s : Sheet) → AddsNames s s
+adds_none s = ([], ap (put_names s) (sym (append-nil s.draft.names)))
+
+grown : (b c : Bool) (names more : List (List ℕ)) (w : List ℕ) → (xs : List (List ℕ)) × (cond b (cond c (names ++ more) ((names ++ more) ++ w ∷ [])) (names ++ more) ≡ names ++ xs)
+grown true true names more w = (more, refl)
+grown true false names more w = (more ++ w ∷ [], append_assoc names more (w ∷ []))
+grown false c names more w = (more, refl)
+
+pub adds_one : (s t new : Sheet) (p : Spot) → AddsNames s t → new ≡ with_names t (p ∷ []) → AddsNames s new
+adds_one s t new p h e =
+    let g = grown (is_variable p.part p.word) (is_among (s.draft.names ++ h.0) p.word) s.draft.names h.0 p.word in
+    (g.0, e ∙ ap (λ (x : Sheet). with_names x (p ∷ [])) h.1 ∙ ap (put_names s) g.1)
+
+pub dropped : (s t new : Sheet) (n : ℕ) → AddsNames s t → n ≡ length s.draft.names → new ≡ put_names t (take n t.draft.names) → new ≡ s
+dropped s t new n h e k =
+    k ∙ ap (λ (x : Sheet). put_names x (take n x.draft.names)) h.1
+    ∙ ap (put_names s) (ap (λ (m : ℕ). take m (s.draft.names ++ h.0)) e ∙ take-append_seam s.draft.names h.0)

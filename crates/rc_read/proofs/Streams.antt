@@ -1,19 +1,22 @@
 -- Lines that come one after another, and pieces.
 use Rattle.std.proofs.Common.{◌≡◌, ℕ, suc, ◌+◌, ◌-◌, ◌<◌, List, [], ◌∷◌, ◌++◌, length, take, drop, get_or, Bool, true, false, cond, eqb, Option, Some, None, Result, Ok, Err, refl, sym, ap, subst, ◌∙◌, append_assoc, arith, length-drop}
 use Rattle.std.proofs.lemmas.Bool.{false_from_ne_true, eqb-true}
-use Rattle.std.proofs.lemmas.List.{take-append-drop, take-take, drop-take, take_more, get_or-drop}
+use Rattle.std.proofs.lemmas.List.{append-nil, take-append-drop, take-take, drop-take, take_more, get_or-drop}
 use Rattle.memchr.specs.Find.{Nowhere, Passes, is_byte}
 use Rattle.rc_lang.specs.Program.{Program}
-use Rattle.rc_read.specs.Answer.{on_line, judged, ended, answer_of}
+use Rattle.rc_read.specs.Answer.{above_fault, on_line, judged, ended, answer_of}
 use Rattle.rc_read.specs.Causes.{number_of_cause}
-use Rattle.rc_read.specs.Pieces.{fault_in, ReadsMore, IsSoundBy}
+use Rattle.rc_read.specs.Pieces.{fault_in, ReadsMore, IsSoundBy, without_parts}
 use Rattle.rc_read.specs.Sentences.{sentences, first_true}
 use Rattle.rc_read.specs.Sheets.{Sheet, empty}
 use Rattle.rc_read.specs.Adds.{with_line}
-use Rattle.rc_read.specs.Stream.{Reads, HasRead, Reading, IsAnswer, IsAnswerSoFar, IsReached, IsReachedOrFaulty, Judges, JudgesAll, Ends}
-use Rattle.rc_read.specs.Words.{cut, before_line, last_line}
+use Rattle.rc_read.specs.Stream.{Reads, HasRead, Reading, IsAnswer, IsAnswerSoFar, IsReached, IsReachedOrFaulty, Judges, JudgesAll, JudgesEnd, Ends, StopsAt, IsReadAs}
+use Rattle.rc_read.specs.Words.{cut, before_line, last_line, text_lines}
 use Rattle.rc_read.specs.declared.fault.ReadFault.{ReadFault}
 use Rattle.rc_read.specs.declared.fault.ReadFault.TheVariants.{Text, OutOfMemory}
+use Rattle.rc_read.specs.declared.parts.Unread.{Unread}
+use Rattle.rc_read.specs.View.{view_sheet}
+use Rattle.std.specs.Prelude.{is_none}
 
 abbrev pub ok : Result (Unit {0}) ReadFault
 ok = Ok tt
@@ -40,6 +43,26 @@ pub judged-append_err : (s : Sheet) (f : ℕ × ℕ) (ls ms : List (List ℕ)) �
 judged-append_err s f [] ms e = absurd cc
 judged-append_err s f (l ∷ ls) ms e =
     err_then (first_true (sentences s l)) (s.count + 1) f (judged (with_line s l) ls) (judged (with_line s l) (ls ++ ms)) (judged-append_err (with_line s l) f ls ms) e
+
+-- ---- what is above a fault
+
+above_then : (o : Option ℕ) (n : ℕ) (s t : Sheet) (rest : Result Sheet (ℕ × ℕ)) (above more : Sheet) → (rest ≡ Ok t → more ≡ above) → on_line o n rest ≡ Ok t → cond (is_none o) more s ≡ above
+above_then None n s t rest above more h e = h e
+above_then (Some m) n s t rest above more h e = absurd cc
+
+above_same : (o : Option ℕ) (n : ℕ) (s : Sheet) (f : ℕ × ℕ) (rest : Result Sheet (ℕ × ℕ)) (above more : Sheet) → (rest ≡ Err f → more ≡ above) → on_line o n rest ≡ Err f → cond (is_none o) more s ≡ cond (is_none o) above s
+above_same None n s f rest above more h e = h e
+above_same (Some m) n s f rest above more h e = refl
+
+pub above-append_ok : (s t : Sheet) (ls ms : List (List ℕ)) → judged s ls ≡ Ok t → above_fault s (ls ++ ms) ≡ above_fault t ms
+above-append_ok s t [] ms e = ap (λ (x : Sheet). above_fault x ms) (ok_is s t (Ok s) refl e)
+above-append_ok s t (l ∷ ls) ms e =
+    above_then (first_true (sentences s l)) (s.count + 1) s t (judged (with_line s l) ls) (above_fault t ms) (above_fault (with_line s l) (ls ++ ms)) (above-append_ok (with_line s l) t ls ms) e
+
+pub above-append_err : (s : Sheet) (f : ℕ × ℕ) (ls ms : List (List ℕ)) → judged s ls ≡ Err f → above_fault s (ls ++ ms) ≡ above_fault s ls
+above-append_err s f [] ms e = absurd cc
+above-append_err s f (l ∷ ls) ms e =
+    above_same (first_true (sentences s l)) (s.count + 1) s f (judged (with_line s l) ls) (above_fault (with_line s l) ls) (above_fault (with_line s l) (ls ++ ms)) (above-append_err (with_line s l) f ls ms) e
 
 -- ---- bytes
 
@@ -111,11 +134,12 @@ cut_more (b ∷ bytes) piece = let h = cut_more bytes piece in cut_line_by (cut 
 
 -- ---- what has been read
 
-fault_stays : (f : ReadFault) (s s' : Sheet) (p p' bytes piece : List ℕ) → Reads (Some f) s p bytes → Reads (Some f) s' p' (bytes ++ piece)
-fault_stays OutOfMemory s s' p p' bytes piece h = tt
-fault_stays (Text line cause) s s' p p' bytes piece h =
+fault_stays : (f : ReadFault) (s : Sheet) (p p' bytes piece : List ℕ) → Reads (Some f) s p bytes → Reads (Some f) s p' (bytes ++ piece)
+fault_stays OutOfMemory s p p' bytes piece h = tt
+fault_stays (Text line cause) s p p' bytes piece h =
     let m = cut_more bytes piece in
-    rw m.1 (judged-append_err empty (line, number_of_cause cause) (cut bytes).0 m.0 h)
+    let f : ℕ × ℕ = (line, number_of_cause cause) in
+    rw m.1 (judged-append_err empty f (cut bytes).0 m.0 h.0, h.1 ∙ sym (above-append_err empty f (cut bytes).0 m.0 h.0))
 
 abbrev as_ok : Sheet → Result Sheet (ℕ × ℕ)
 as_ok s = Ok s
@@ -126,18 +150,22 @@ as_err line number = Err (line, number)
 none_goes : (s : Sheet) (line : List ℕ) → first_true (sentences s line) ≡ None → judged s (line ∷ []) ≡ Ok (with_line s line)
 none_goes s line e = rw e refl
 
-some_ends : (s : Sheet) (line : List ℕ) (n : ℕ) → first_true (sentences s line) ≡ Some n → judged s (line ∷ []) ≡ Err (s.count + 1, n)
-some_ends s line n e = rw e refl
+some_ends : (s : Sheet) (line : List ℕ) (n : ℕ) → first_true (sentences s line) ≡ Some n → (judged s (line ∷ []) ≡ Err (s.count + 1, n)) × (above_fault s (line ∷ []) ≡ s)
+some_ends s line n e = rw e (refl, refl)
 
 -- what is said of one line is said of the lines that are this one
 one_line : (r : Result (Unit {0}) ReadFault) (s s' : Sheet) (line : List ℕ) → Judges s line s' r → JudgesAll s (line ∷ []) s' r
 one_line (Ok u) s s' line j = none_goes s line j.0 ∙ ap as_ok (sym j.1)
-one_line (Err (Text line cause)) s s' l j = some_ends s l (number_of_cause cause) j.0 ∙ ap (λ (n : ℕ). as_err n (number_of_cause cause)) (sym j.1)
+one_line (Err (Text line cause)) s s' l j =
+    let p = some_ends s l (number_of_cause cause) j.0 in
+    (p.0 ∙ ap (λ (n : ℕ). as_err n (number_of_cause cause)) (sym j.1), j.2 ∙ sym p.1)
 one_line (Err OutOfMemory) s s' line j = tt
 
 reads_line : (r : Result (Unit {0}) ReadFault) (s s' : Sheet) (bytes : List ℕ) → judged empty (cut bytes).0 ≡ Ok s → JudgesAll s ((cut bytes).1 ∷ []) s' r → Reads (fault_in r) s' [] (bytes ++ 10 ∷ [])
 reads_line (Ok u) s s' bytes h j = rw (cut-push_line bytes) (judged-append_ok empty s (cut bytes).0 ((cut bytes).1 ∷ []) h ∙ j, refl)
-reads_line (Err (Text line cause)) s s' bytes h j = rw (cut-push_line bytes) (judged-append_ok empty s (cut bytes).0 ((cut bytes).1 ∷ []) h ∙ j)
+reads_line (Err (Text line cause)) s s' bytes h j =
+    let last = (cut bytes).1 ∷ [] in
+    rw (cut-push_line bytes) (judged-append_ok empty s (cut bytes).0 last h ∙ j.0, j.1 ∙ sym (above-append_ok empty s (cut bytes).0 last h))
 reads_line (Err OutOfMemory) s s' bytes h j = tt
 
 reads_front : (s : Sheet) (pending bytes front : List ℕ) → NoFeed front → Reads None s pending bytes → Reads None s (pending ++ front) (bytes ++ front)
@@ -157,44 +185,62 @@ ends r s s' pending front line p n el ep t = λ bytes h.
 pub answer_is : (s : Sheet) (pending bytes : List ℕ) → Reads None s pending bytes → answer_of bytes ≡ ended (judged s (last_line pending))
 answer_is s pending bytes h = ap ended (judged-append_ok empty s (cut bytes).0 (last_line (cut bytes).1) h.0) ∙ ap (λ (p : List ℕ). ended (judged s (last_line p))) (sym h.1)
 
+above_is : (s : Sheet) (pending bytes : List ℕ) → Reads None s pending bytes → above_fault empty (text_lines bytes) ≡ above_fault s (last_line pending)
+above_is s pending bytes h = above-append_ok empty s (cut bytes).0 (last_line (cut bytes).1) h.0 ∙ ap (λ (p : List ℕ). above_fault s (last_line p)) (sym h.1)
+
 pub fault_answer : (line number : ℕ) (bytes : List ℕ) → judged empty (cut bytes).0 ≡ Err (line, number) → answer_of bytes ≡ Err (line, number)
 fault_answer line number bytes h = ap ended (judged-append_err empty (line, number) (cut bytes).0 (last_line (cut bytes).1) h)
 
 -- ---- as the reader goes
 
-fault_answers : (f : ReadFault) (s : Sheet) (p bytes : List ℕ) (r : Result Program ReadFault) → r ≡ Err f → Reads (Some f) s p bytes → IsAnswer bytes r
-fault_answers OutOfMemory s p bytes r e h = rw e tt
-fault_answers (Text line cause) s p bytes r e h = rw e (fault_answer line (number_of_cause cause) bytes h)
+fault_answers : (f : ReadFault) (s : Sheet) (p bytes : List ℕ) → Reads (Some f) s p bytes → StopsAt bytes f s
+fault_answers OutOfMemory s p bytes h = tt
+fault_answers (Text line cause) s p bytes h =
+    let f : ℕ × ℕ = (line, number_of_cause cause) in
+    (fault_answer line (number_of_cause cause) bytes h.0, h.1 ∙ sym (above-append_err empty f (cut bytes).0 (last_line (cut bytes).1) h.0))
 
-rest_fails : (f : ReadFault) (s s' : Sheet) (pending bytes : List ℕ) (r : Result Program ReadFault) → r ≡ Err f → JudgesAll {X = Unit {0}} s (last_line pending) s' (Err f) → Reads None s pending bytes → IsAnswer bytes r
-rest_fails OutOfMemory s s' pending bytes r e j h = rw e tt
-rest_fails (Text line cause) s s' pending bytes r e j h = rw e (answer_is s pending bytes h ∙ ap ended j)
+rest_fails : (f : ReadFault) (s s' : Sheet) (pending bytes : List ℕ) → JudgesAll {X = Unit {0}} s (last_line pending) s' (Err f) → Reads None s pending bytes → StopsAt bytes f s'
+rest_fails OutOfMemory s s' pending bytes j h = tt
+rest_fails (Text line cause) s s' pending bytes j h = (answer_is s pending bytes h ∙ ap ended j.0, j.1 ∙ sym (above_is s pending bytes h))
 
-end_answers : (r : Result Program ReadFault) (s s' : Sheet) (pending bytes : List ℕ) → judged s (last_line pending) ≡ Ok s' → Ends s' r → Reads None s pending bytes → IsAnswer bytes r
+all_read : (s s' : Sheet) (pending bytes : List ℕ) → judged s (last_line pending) ≡ Ok s' → Reads None s pending bytes → s' ≡ above_fault empty (text_lines bytes)
+all_read s s' pending bytes j h = sym (above_is s pending bytes h ∙ ap (above_fault s) (sym (append-nil (last_line pending))) ∙ above-append_ok s s' (last_line pending) [] j)
+
+end_fails : (f : ReadFault) (s s' : Sheet) (pending bytes : List ℕ) → judged s (last_line pending) ≡ Ok s' → JudgesEnd {X = Unit {0}} s' (Err f) → Reads None s pending bytes → StopsAt bytes f s'
+end_fails OutOfMemory s s' pending bytes j k h = tt
+end_fails (Text line cause) s s' pending bytes j k h = (answer_is s pending bytes h ∙ ap ended j ∙ k, all_read s s' pending bytes j h)
+
+end_answers : (r : Result Program Unread) (s s' : Sheet) (pending bytes : List ℕ) → judged s (last_line pending) ≡ Ok s' → Ends s' r → Reads None s pending bytes → IsReadAs bytes r
 end_answers (Ok p) s s' pending bytes j k h = answer_is s pending bytes h ∙ ap ended j ∙ k
-end_answers (Err (Text line cause)) s s' pending bytes j k h = answer_is s pending bytes h ∙ ap ended j ∙ k
-end_answers (Err OutOfMemory) s s' pending bytes j k h = tt
+end_answers (Err unread) s s' pending bytes j k h = subst (StopsAt bytes unread.fault) (sym k.1) (end_fails unread.fault s s' pending bytes j k.0 h)
 
 reads_none : (o : Option ReadFault) (s : Sheet) (pending bytes : List ℕ) → o ≡ None → Reads o s pending bytes → Reads None s pending bytes
 reads_none o s pending bytes e h = subst (λ f. Reads f s pending bytes) e h
 
 pub keeps_fault : (o : Option ReadFault) (f : ReadFault) (s : Sheet) (p bytes piece : List ℕ) → o ≡ Some f → Reads o s p bytes → Reads o s p (bytes ++ piece)
 keeps_fault o f s p bytes piece e h =
-    subst (λ (x : Option ReadFault). Reads x s p (bytes ++ piece)) (sym e) (fault_stays f s s p p bytes piece (subst (λ (x : Option ReadFault). Reads x s p bytes) e h))
+    subst (λ (x : Option ReadFault). Reads x s p (bytes ++ piece)) (sym e) (fault_stays f s p p bytes piece (subst (λ (x : Option ReadFault). Reads x s p bytes) e h))
 
-pub fault_finishes : (o : Option ReadFault) (f : ReadFault) (s : Sheet) (p bytes : List ℕ) → o ≡ Some f → Reads o s p bytes → IsAnswer bytes (Err f)
-fault_finishes o f s p bytes e h = fault_answers f s p bytes (Err f) refl (subst (λ (x : Option ReadFault). Reads x s p bytes) e h)
+pub fault_finishes : (o : Option ReadFault) (f : ReadFault) (s : Sheet) (p bytes : List ℕ) → o ≡ Some f → Reads o s p bytes → StopsAt bytes f s
+fault_finishes o f s p bytes e h = fault_answers f s p bytes (subst (λ (x : Option ReadFault). Reads x s p bytes) e h)
 
-pub rest_finishes : (o : Option ReadFault) (f : ReadFault) (s s' : Sheet) (pending rest bytes : List ℕ) (r : Result Program ReadFault) (j : Result (Unit {0}) ReadFault) → o ≡ None → rest ≡ pending → r ≡ Err f → j ≡ Err f → JudgesAll s (last_line rest) s' j → Reads o s pending bytes → IsAnswer bytes r
-rest_finishes o f s s' pending rest bytes r j eo ep er ej k h =
-    let k' = subst (λ (x : Result (Unit {0}) ReadFault). JudgesAll s (last_line rest) s' x) ej k in
-    let k'' = subst (λ (x : List ℕ). JudgesAll {X = Unit {0}} s (last_line x) s' (Err f)) ep k' in
-    rest_fails f s s' pending bytes r er k'' (reads_none o s pending bytes eo h)
+pub rest_finishes : (o : Option ReadFault) (f : ReadFault) (s s' : Sheet) (pending rest bytes : List ℕ) → o ≡ None → rest ≡ pending → JudgesAll {X = Unit {0}} s (last_line rest) s' (Err f) → Reads o s pending bytes → StopsAt bytes f s'
+rest_finishes o f s s' pending rest bytes eo ep j h =
+    rest_fails f s s' pending bytes (subst (λ (x : List ℕ). JudgesAll {X = Unit {0}} s (last_line x) s' (Err f)) ep j) (reads_none o s pending bytes eo h)
 
-pub end_finishes : (o : Option ReadFault) (s s' : Sheet) (pending rest bytes : List ℕ) (r : Result Program ReadFault) → o ≡ None → rest ≡ pending → judged s (last_line rest) ≡ Ok s' → Ends s' r → Reads o s pending bytes → IsAnswer bytes r
+pub end_finishes : (o : Option ReadFault) (s s' : Sheet) (pending rest bytes : List ℕ) (r : Result Program Unread) → o ≡ None → rest ≡ pending → judged s (last_line rest) ≡ Ok s' → Ends s' r → Reads o s pending bytes → IsReadAs bytes r
 end_finishes o s s' pending rest bytes r eo ep j k h =
     let j' = subst (λ (x : List ℕ). judged s (last_line x) ≡ Ok s') ep j in
     end_answers r s s' pending bytes j' k (reads_none o s pending bytes eo h)
+
+stopped : (f : ReadFault) (s : Sheet) (bytes : List ℕ) → StopsAt bytes f s → IsAnswer bytes (Err f)
+stopped (Text line cause) s bytes h = h.0
+stopped OutOfMemory s bytes h = tt
+
+-- the answer alone
+pub answers_alone : (r : Result Program Unread) (bytes : List ℕ) → IsReadAs bytes r → IsAnswer bytes (without_parts r)
+answers_alone (Ok p) bytes h = h
+answers_alone (Err unread) bytes h = stopped unread.fault (view_sheet unread.parts) bytes h
 
 -- ---- a reader whose fields are seen
 
@@ -221,7 +267,7 @@ has_read r v bytes e h = subst (λ (x : Reading). HasRead x bytes) (sym e) h
 
 so_far_by : (f : ReadFault) (s : Sheet) (p bytes : List ℕ) → Reads (Some f) s p bytes → IsAnswerSoFar {X = Unit {0}} bytes (Err f)
 so_far_by OutOfMemory s p bytes h = tt
-so_far_by (Text line cause) s p bytes h = h
+so_far_by (Text line cause) s p bytes h = h.0
 
 pub so_far_err : (o : Option ReadFault) (f : ReadFault) (s : Sheet) (p bytes : List ℕ) → o ≡ Some f → Reads o s p bytes → IsAnswerSoFar {X = Unit {0}} bytes (Err f)
 so_far_err o f s p bytes e h = so_far_by f s p bytes (subst (λ (x : Option ReadFault). Reads x s p bytes) e h)
@@ -248,21 +294,21 @@ line_at bytes piece hay at i e lt p =
     take_more piece (at + i) 0 (below_end piece hay at i e lt) ∙ ap (λ (x : ℕ). take (at + i) piece ++ x ∷ []) b ∙ ap (λ (x : List ℕ). x ++ 10 ∷ []) (split_at piece at i) in
     rw (n, t) (simp append_assoc)
 
-pub err_reads : (r e : Result (Unit {0}) ReadFault) (f : ReadFault) (s s' : Sheet) (p p' bytes line piece : List ℕ) (n : ℕ) → r ≡ Err f → e ≡ Err f → line ≡ bytes ++ take n piece → Reads (fault_in e) s p line → Reads (fault_in r) s' p' (bytes ++ piece)
-err_reads r e f s s' p p' bytes line piece n er ee el h =
+pub err_reads : (r e : Result (Unit {0}) ReadFault) (f : ReadFault) (s : Sheet) (p p' bytes line piece : List ℕ) (n : ℕ) → r ≡ Err f → e ≡ Err f → line ≡ bytes ++ take n piece → Reads (fault_in e) s p line → Reads (fault_in r) s p' (bytes ++ piece)
+err_reads r e f s p p' bytes line piece n er ee el h =
     let g : Reads (Some f) s p line = subst (λ (x : Result (Unit {0}) ReadFault). Reads (fault_in x) s p line) ee h in
-    let m : Reads (Some f) s' p' ((bytes ++ take n piece) ++ drop n piece) = fault_stays f s s' p p' (bytes ++ take n piece) (drop n piece) (subst (λ (x : List ℕ). Reads (Some f) s p x) el g) in
+    let m : Reads (Some f) s p' ((bytes ++ take n piece) ++ drop n piece) = fault_stays f s p p' (bytes ++ take n piece) (drop n piece) (subst (λ (x : List ℕ). Reads (Some f) s p x) el g) in
     let w : (bytes ++ take n piece) ++ drop n piece ≡ bytes ++ piece = append_assoc bytes (take n piece) (drop n piece) ∙ ap (λ (x : List ℕ). bytes ++ x) (take-append-drop n piece) in
-    subst (λ (x : Result (Unit {0}) ReadFault). Reads (fault_in x) s' p' (bytes ++ piece)) (sym er) (subst (λ (x : List ℕ). Reads (Some f) s' p' x) w m)
+    subst (λ (x : Result (Unit {0}) ReadFault). Reads (fault_in x) s p' (bytes ++ piece)) (sym er) (subst (λ (x : List ℕ). Reads (Some f) s p' x) w m)
 
 -- the lines before this one, and this one
 pub line_more : (r : Result (Unit {0}) ReadFault) (s0 s s' : Sheet) (p0 p p' piece hay : List ℕ) (at i : ℕ) → hay ≡ drop at piece → i < length hay → eqb (get_or hay i 0) 10 ≡ true → r ≡ Ok tt → ReadsMore s p (take (at + i - at) (drop at piece) ++ 10 ∷ []) s' p' r → ReadsMore s0 p0 (take at piece) s p ok → ReadsMore s0 p0 (take (at + i + 1) piece) s' p' ok
 line_more r s0 s s' p0 p p' piece hay at i e lt b er k g = λ bytes h.
     fed_ok r s s' p p' (bytes ++ take at piece) (take (at + i - at) (drop at piece) ++ 10 ∷ []) (bytes ++ take (at + i + 1) piece) er (line_at bytes piece hay at i e lt b) k (g bytes h)
 
-pub line_fails : (r e : Result (Unit {0}) ReadFault) (f : ReadFault) (s0 s s' t : Sheet) (p0 p p' q piece hay : List ℕ) (at i : ℕ) → hay ≡ drop at piece → i < length hay → eqb (get_or hay i 0) 10 ≡ true → r ≡ Err f → e ≡ Err f → ReadsMore s p (take (at + i - at) (drop at piece) ++ 10 ∷ []) s' p' e → ReadsMore s0 p0 (take at piece) s p ok → ReadsMore s0 p0 piece t q r
-line_fails r e f s0 s s' t p0 p p' q piece hay at i eh lt b er ee k g = λ bytes h.
-    err_reads r e f s' t p' q bytes ((bytes ++ take at piece) ++ (take (at + i - at) (drop at piece) ++ 10 ∷ [])) piece (at + i + 1) er ee (line_at bytes piece hay at i eh lt b) (k (bytes ++ take at piece) (g bytes h))
+pub line_fails : (r e : Result (Unit {0}) ReadFault) (f : ReadFault) (s0 s s' : Sheet) (p0 p p' q piece hay : List ℕ) (at i : ℕ) → hay ≡ drop at piece → i < length hay → eqb (get_or hay i 0) 10 ≡ true → r ≡ Err f → e ≡ Err f → ReadsMore s p (take (at + i - at) (drop at piece) ++ 10 ∷ []) s' p' e → ReadsMore s0 p0 (take at piece) s p ok → ReadsMore s0 p0 piece s' q r
+line_fails r e f s0 s s' p0 p p' q piece hay at i eh lt b er ee k g = λ bytes h.
+    err_reads r e f s' p' q bytes ((bytes ++ take at piece) ++ (take (at + i - at) (drop at piece) ++ 10 ∷ [])) piece (at + i + 1) er ee (line_at bytes piece hay at i eh lt b) (k (bytes ++ take at piece) (g bytes h))
 
 pub rest_more : (s0 s : Sheet) (p0 p q piece hay : List ℕ) (at : ℕ) → hay ≡ drop at piece → NoFeed hay → q ≡ p ++ hay → ReadsMore s0 p0 (take at piece) s p ok → ReadsMore s0 p0 piece s q ok
 rest_more s0 s p0 p q piece hay at e n eq g = λ bytes h.

@@ -1,5 +1,5 @@
 -- What a text is: a program, or the line and the number of a fault.
-use Rattle.std.specs.Prelude.{ℕ, ◌+◌, List, [], ◌∷◌, Option, Some, None, Result, Ok, Err, Bool, true, false, if◌then◌else◌, max}
+use Rattle.std.specs.Prelude.{ℕ, ◌+◌, List, [], ◌∷◌, Option, Some, None, Result, Ok, Err, Bool, true, false, if◌then◌else◌, is_none, max}
 use Rattle.rc_lang.specs.Program.{Program}
 use Rattle.rc_read.specs.declared.parts.Region.{Region}
 use Rattle.rc_read.specs.declared.parts.Region.TheVariants.{Start, Second}
@@ -16,6 +16,11 @@ on_line (Some n) line rest = Err (line, n)
 abbrev pub judged : Sheet → List (List ℕ) → Result Sheet (ℕ × ℕ)
 judged s [] = Ok s
 judged s (line ∷ lines) = on_line (first_true (sentences s line)) (s.count + 1) (judged (with_line s line) lines)
+
+-- The sheet above the first line with a true sentence, and without such a line that after all of them.
+abbrev pub above_fault : Sheet → List (List ℕ) → Sheet
+above_fault s [] = s
+above_fault s (line ∷ lines) = if is_none (first_true (sentences s line)) then above_fault (with_line s line) lines else s
 
 -- What was read is a program.
 abbrev pub program_in : Sheet → Program

@@ -1,6 +1,6 @@
 -- What becomes of the sheet at a line with these words, in the steps of the code.
-use Rattle.std.specs.Prelude.{◌≡◌, ℕ, List, [], ◌∷◌, length, Option, Some, None, Result, Ok, Err, Bool, ◌||◌, nat_lt}
-use Rattle.rc_read.specs.Adds.{added, counted, with_words}
+use Rattle.std.specs.Prelude.{◌≡◌, ℕ, List, [], ◌∷◌, length, Option, Some, None, Result, Ok, Err, Bool, ◌||◌, ◌++◌, IfOk, IfSome, nat_lt}
+use Rattle.rc_read.specs.Adds.{added, counted, with_line, with_words}
 use Rattle.rc_read.specs.Causes.{number_of_cause}
 use Rattle.rc_read.specs.declared.fault.ReadCause.{ReadCause}
 use Rattle.rc_read.specs.declared.says.Says.{Says}
@@ -9,7 +9,7 @@ use Rattle.rc_read.specs.declared.table.Row.{Row}
 use Rattle.rc_read.specs.declared.values.Item.{Item}
 use Rattle.rc_read.specs.declared.noted.Wrong.{Wrong}
 use Rattle.rc_read.specs.Says.{says_of}
-use Rattle.rc_read.specs.Sentences.{is_unknown, any_unknown, is_double, any_double, any_named_twice, bad_brace, is_too_long, is_too_deep, is_full, any_full, bad_nesting, bad_case, other_flag, word_sentences, first_true}
+use Rattle.rc_read.specs.Sentences.{is_unknown, any_unknown, is_double, any_double, any_named_twice, bad_brace, is_too_long, is_too_deep, is_full, any_full, bad_nesting, bad_case, other_flag, sentences, word_sentences, first_true}
 use Rattle.rc_read.specs.Sheets.{Sheet, with_names}
 use Rattle.rc_read.specs.Spots.{Spot, spots_of}
 use Rattle.rc_read.specs.Table.{parts_of}
@@ -55,3 +55,16 @@ abbrev pub JudgesWords : {E : Type 0} → Sheet → List ℕ → List (List ℕ)
 JudgesWords old line ws new (Ok None) = (first_true (word_sentences old line ws) ≡ None) × (new ≡ counted (with_words old ws))
 JudgesWords old line ws new (Ok (Some cause)) = first_true (word_sentences old line ws) ≡ Some (number_of_cause cause)
 JudgesWords old line ws new (Err e) = Unit {0}
+
+-- A line.
+abbrev pub JudgesLine : {E : Type 0} → Sheet → List ℕ → Sheet → Result (Option ReadCause) E → Type 0
+JudgesLine old line new (Ok None) = (first_true (sentences old line) ≡ None) × (new ≡ with_line old line)
+JudgesLine old line new (Ok (Some cause)) = first_true (sentences old line) ≡ Some (number_of_cause cause)
+JudgesLine old line new (Err e) = Unit {0}
+
+-- A line at fault may have added variables. They are dropped again.
+abbrev pub AddsNames : Sheet → Sheet → Type 0
+AddsNames old new = (more : List (List ℕ)) × (new ≡ record old { draft = record old.draft { names = old.draft.names ++ more } })
+
+abbrev pub OnCause : {E : Type 0} → Result (Option ReadCause) E → Type 0 → Type 0
+OnCause r X = IfOk r (λ o. IfSome o (λ _. X))

@@ -2,7 +2,7 @@
 
 ghost use Rattle.std.specs.Prelude.{◌≡◌, option_map};
 ghost use Rattle.rc_read.specs.Causes.{number_of_cause};
-ghost use Rattle.rc_read.specs.Judging.{JudgesRow, JudgesWords, later_sentences};
+ghost use Rattle.rc_read.specs.Judging.{AddsNames, JudgesLine, JudgesRow, JudgesWords, OnCause, later_sentences};
 ghost use Rattle.rc_read.specs.Sentences as spec;
 ghost use Rattle.rc_read.specs.Spots.{spots_of};
 ghost use Rattle.rc_read.specs.Stream.{Judges};
@@ -139,7 +139,8 @@ fn judge_row(
     row: Row,
 ) -> Result<Option<ReadCause>, AllocError>
     requires { view_spots found.old.spots.items ≡ spots_of (parts_of row) (texts_of words.now) }
-    ensures { JudgesRow (view_sheet parts.old) line.now (texts_of words.now) row (view_sheet parts.new) result }
+    ensures judges { JudgesRow (view_sheet parts.old) line.now (texts_of words.now) row (view_sheet parts.new) result }
+    ensures names { OnCause result (AddsNames (view_sheet parts.old) (view_sheet parts.new)) }
 {
     let (values, items) = (&mut found.values, &mut found.items);
     let put = put_values(alloc, values, items, parts, &found.spots)?;
@@ -162,7 +163,8 @@ fn judge_words<'a>(
     line: &[u8],
     words: &[&'a [u8]],
 ) -> Result<Option<ReadCause>, AllocError>
-    ensures { JudgesWords (view_sheet parts.old) line.now (texts_of words.now) (view_sheet parts.new) result }
+    ensures judges { JudgesWords (view_sheet parts.old) line.now (texts_of words.now) (view_sheet parts.new) result }
+    ensures names { OnCause result (AddsNames (view_sheet parts.old) (view_sheet parts.new)) }
 {
     if words.is_empty() {
         if is_too_long(parts, line) {
@@ -184,6 +186,23 @@ fn judge_words<'a>(
     judge_row(alloc, parts, found, line, words, row)
 }
 
+// The cause of a line, or the line is added.
+fn line_cause<'a>(
+    alloc: Global,
+    parts: &mut Parts,
+    scratch: &mut Scratch<'a>,
+    line: &'a [u8],
+) -> Result<Option<ReadCause>, AllocError>
+    ensures judges { JudgesLine (view_sheet parts.old) line.now (view_sheet parts.new) result }
+    ensures names { OnCause result (AddsNames (view_sheet parts.old) (view_sheet parts.new)) }
+{
+    if begins_strange(line) {
+        return Ok(Some(ReadCause::NotAscii));
+    }
+    put_words(&mut scratch.words, line)?;
+    judge_words(alloc, parts, &mut scratch.found, line, &scratch.words)
+}
+
 /// Judges a line, and adds it where no sentence is true of it.
 pub fn judge<'a>(
     alloc: Global,
@@ -194,17 +213,13 @@ pub fn judge<'a>(
     ensures { Judges (view_sheet parts.old) line.now (view_sheet parts.new) result }
 {
     let number = parts.count + 1;
-    let cause = if begins_strange(line) {
-        Some(ReadCause::NotAscii)
-    } else {
-        put_words(&mut scratch.words, line)?;
-        judge_words(alloc, parts, &mut scratch.found, line, &scratch.words)?
+    let names = parts.draft.names.len();
+    let Some(cause) = line_cause(alloc, parts, scratch, line)? else {
+        return Ok(());
     };
-    match cause {
-        None => Ok(()),
-        Some(cause) => Err(ReadFault::Text {
-            line: number,
-            cause,
-        }),
-    }
+    parts.draft.names.truncate(names);
+    Err(ReadFault::Text {
+        line: number,
+        cause,
+    })
 }

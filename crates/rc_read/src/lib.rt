@@ -21,4 +21,4 @@ mod values;
 pub mod words;
 
 pub use fault::{ReadCause, ReadFault};
-pub use reader::{Reader, read_program};
+pub use reader::{Reader, read_parts, read_program};

@@ -273,6 +273,7 @@ pub fn put_values(
     spots: &[Spot],
 ) -> Result<Option<Wrong>, AllocError>
     ensures lacks { IfOk result (λ o. is_none o ≡ spec.any_lacks (sheets.with_names (view_sheet parts.old) (view_spots spots.now)) spec.start (view_spots spots.now)) }
+    ensures names { OnOk result (judging.AddsNames (view_sheet parts.old) (view_sheet parts.new)) }
     ensures sheet { IfOk result (λ o. IfSome o (λ _. view_sheet parts.new ≡ sheets.with_names (view_sheet parts.old) (view_spots spots.now))) }
     ensures values { IfOk result (λ o. IfSome o (λ _. values.new.items ≡ spec.values_of (sheets.with_names (view_sheet parts.old) (view_spots spots.now)) spec.start (view_spots spots.now))) }
     ensures items { IfOk result (λ o. IfSome o (λ _. items.new.items ≡ spec.items_in (spec.values_of (sheets.with_names (view_sheet parts.old) (view_spots spots.now)) spec.start (view_spots spots.now)))) }

@@ -2,6 +2,7 @@
 
 ghost use Rattle.std.specs.Prelude.{◌≤◌};
 
+use crate::fault::ReadFault;
 use indexmap::IndexSet;
 use rc_lang::lines::{Block, Line};
 use rc_lang::program::{Buffer, File, Head, Items, More, Thread, Token};
@@ -58,6 +59,13 @@ pub struct Parts {
     pub threads: Vec<Thread>,
     pub draft: Draft,
     ghost few_lines: { count ≤ 4096 },
+}
+
+/// Why a text can't be read, and what was read above the line in question; at the text's end all lines were.
+#[derive(Drop)]
+pub struct Unread {
+    pub fault: ReadFault,
+    pub parts: Parts,
 }
 
 impl Arms {

@@ -4,14 +4,14 @@ ghost use Rattle.std.specs.Prelude.{◌≡◌, ◌+◌, ◌++◌, ◌∷◌, ◌
 ghost use Rattle.memchr.specs.Find.{Nowhere, Passes, is_byte};
 ghost use Rattle.rc_lang.specs.Program.{IsProgram};
 ghost use Rattle.rc_read.specs.Answer.{program_in as read_in};
-ghost use Rattle.rc_read.specs.Pieces.{IsSoundBy, ReadsMore};
-ghost use Rattle.rc_read.specs.Stream.{JudgesAll, JudgesEnd, Ends, IsAnswer, IsReached};
+ghost use Rattle.rc_read.specs.Pieces.{IsSoundBy, ReadsMore, without_parts};
+ghost use Rattle.rc_read.specs.Stream.{JudgesAll, JudgesEnd, Ends, IsAnswer, IsReached, IsReadAs};
 ghost use Rattle.rc_read.specs.View.{view_sheet};
 ghost use Rattle.rc_read.specs.Words.{last_line};
 
 use crate::fault::{ReadCause, ReadFault};
 use crate::judge::{Scratch, judge};
-use crate::parts::{Parts, Region};
+use crate::parts::{Parts, Region, Unread};
 use memchr::memchr;
 use rc_lang::program::{Declarations, Program};
 use std::alloc::Global;
@@ -123,19 +123,30 @@ fn judge_end(parts: &Parts) -> Result<(), ReadFault>
 }
 
 // The answer of the text's end.
-fn end_of(parts: Parts) -> Result<Program, ReadFault>
+fn end_of(parts: Parts) -> Result<Program, Unread>
     requires { IsReached (view_sheet parts) }
     ensures { Ends (view_sheet parts) result }
 {
     match judge_end(&parts) {
         Ok(()) => Ok(program_in(parts)),
-        Err(fault) => Err(fault),
+        Err(fault) => Err(Unread { fault, parts }),
+    }
+}
+
+// The answer without what was read.
+fn fault_alone(read: Result<Program, Unread>) -> Result<Program, ReadFault>
+    ensures { result ≡ without_parts read }
+{
+    match read {
+        Ok(program) => Ok(program),
+        Err(unread) => Err(unread.fault),
     }
 }
 
 impl Reader {
     ghost use Rattle.std.specs.Prelude.{◌≡◌, ◌++◌, ◌∷◌, ◌↔◌, [], List, ℕ, None, Some, Err, IsSome};
-    ghost use Rattle.rc_read.specs.Stream.{HasRead, IsAnswer, IsAnswerSoFar};
+    ghost use Rattle.rc_read.specs.Pieces.{fault_of};
+    ghost use Rattle.rc_read.specs.Stream.{HasRead, IsAnswer, IsAnswerSoFar, IsReadAs};
     ghost use Rattle.rc_read.specs.declared.fault.ReadFault.{ReadFault};
 
     /// A reader that has been fed nothing.
@@ -178,17 +189,17 @@ impl Reader {
         self.pending.as_slice()
     }
 
-    /// What was read so far: before an error, what is above the line that hasn't ended.
+    /// What was read so far: what is above the line that hasn't ended, or above the first that can't be read.
     pub fn parts(&self) -> &Parts
         ensures { view_sheet result.now ≡ self.now.sheet }
     {
         &self.parts
     }
 
-    /// What the text is that was fed: a program, or the first line that can't be read.
-    pub fn finish(self) -> Result<Program, ReadFault>
-        ensures reads { (bytes : List ℕ) → HasRead self bytes → IsAnswer bytes result }
-        ensures stays { (fault : ReadFault) → self.fault ≡ Some fault → result ≡ Err fault }
+    // What the text is that was fed: a program, or the first line that can't be read, and what is above it.
+    fn end(self) -> Result<Program, Unread>
+        ensures reads { (bytes : List ℕ) → HasRead self bytes → IsReadAs bytes result }
+        ensures stays { IsSome self.fault → fault_of result ≡ self.fault }
     {
         let Reader {
             alloc,
@@ -197,18 +208,35 @@ impl Reader {
             fault,
         } = self;
         if let Some(fault) = fault {
-            return Err(fault);
+            return Err(Unread { fault, parts });
         }
-        judge_rest(alloc, &mut parts, &pending)?;
-        end_of(parts)
+        match judge_rest(alloc, &mut parts, &pending) {
+            Ok(()) => end_of(parts),
+            Err(fault) => Err(Unread { fault, parts }),
+        }
     }
+
+    /// What the text is that was fed: a program, or the first line that can't be read.
+    pub fn finish(self) -> Result<Program, ReadFault>
+        ensures reads { (bytes : List ℕ) → HasRead self bytes → IsAnswer bytes result }
+        ensures stays { (fault : ReadFault) → self.fault ≡ Some fault → result ≡ Err fault }
+    {
+        fault_alone(self.end())
+    }
+}
+
+/// What a text is: a program, or the first line that can't be read, and what was read above it.
+pub fn read_parts(alloc: Global, bytes: &[u8]) -> Result<Program, Unread>
+    ensures { IsReadAs bytes.now result }
+{
+    let mut reader = Reader::new(alloc);
+    let _ = reader.feed(bytes);
+    reader.end()
 }
 
 /// What a text is: a program, or the first line that can't be read.
 pub fn read_program(alloc: Global, bytes: &[u8]) -> Result<Program, ReadFault>
     ensures { IsAnswer bytes.now result }
 {
-    let mut reader = Reader::new(alloc);
-    let _ = reader.feed(bytes);
-    reader.finish()
+    fault_alone(read_parts(alloc, bytes))
 }

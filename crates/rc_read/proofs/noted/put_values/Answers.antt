@@ -1,6 +1,7 @@
 use Rattle.std.proofs.Common.{◌≡◌, ◌+◌, List, ◌∷◌, [], ◌++◌, ◌||◌, Some, drop, get_or, sym, ap, ◌∙◌, append_assoc}
 use Rattle.std.proofs.lemmas.List.{drop_more}
 use Rattle.rc_read.proofs.Among.{items_first}
+use Rattle.rc_read.proofs.Judged.{adds_one}
 use Rattle.rc_read.proofs.Numbered.{sheet_on, values_on, lacks_on, unknown_on, double_on, full_on}
 use Rattle.rc_read.specs.declared.values.Item.{Item}
 use Rattle.rc_read.specs.declared.values.Value.{Value}
@@ -32,6 +33,7 @@ loop-spot-preserved c =
     let one : values_of t seen (p ∷ ps) ≡ v ∷ values_of t next ps = values_on p ps s t seen next v e says c.in_ok-says.ensures.seen in
     let at = c.in_ok-says.ensures.wrong in
     record {
+      names = adds_one (view_sheet c.args.parts.now) s (view_sheet c.look_at.new.parts) p l.invariant.names c.in_ok-says.ensures.sheet;
       sheet = sheet_on p ps s t (view_sheet c.look_at.new.parts) e c.in_ok-says.ensures.sheet;
       values = ap (λ (x : List Value). x ++ values_of t next ps) c.in_ok-push.ensures.items ∙ append_assoc l.values.items (v ∷ []) (values_of t next ps) ∙ ap (λ (x : List Value). l.values.items ++ x) (sym one) ∙ ap (λ (x : List Spot). l.values.items ++ values_of t seen x) (sym r) ∙ l.invariant.values;
       items = ap (λ (x : List Item). x ++ items_in (values_of t next ps)) c.in_ok-push_if_item.ensures ∙ append_assoc l.items.items (items_in (v ∷ [])) (items_in (values_of t next ps)) ∙ ap (λ (x : List Item). l.items.items ++ x) (sym (items_first v (values_of t next ps))) ∙ ap (λ (x : List Value). l.items.items ++ items_in x) (sym one) ∙ ap (λ (x : List Spot). l.items.items ++ items_in (values_of t seen x)) (sym r) ∙ l.invariant.items;
@@ -40,3 +42,11 @@ loop-spot-preserved c =
       double = ap (λ (x : Wrong). x.double || any_double t ps) at ∙ double_on p ps s t wrong.double (any_double t (view_spots spots)) e (ap (λ (x : List Spot). wrong.double || any_double t x) (sym r) ∙ l.invariant.double);
       full = ap (λ (x : Wrong). x.full || any_full t ps) at ∙ full_on p ps s t wrong.full (any_full t (view_spots spots)) e (ap (λ (x : List Spot). wrong.full || any_full t x) (sym r) ∙ l.invariant.full);
     }
+
+pub returns-in_default-clause-names : goal.returns-in_default-clause-names
+returns-in_default-clause-names c =
+    let l = c.loop-spot in
+    adds_one (view_sheet c.args.parts.now) (view_sheet l.parts) (view_sheet c.look_at.new.parts) (view_spot (get_or c.args.spots.now l.spot-index _)) l.invariant.names c.in_ok-says.ensures.sheet
+
+pub returns-clause-names : goal.returns-clause-names
+returns-clause-names c = c.loop-spot.invariant.names

@@ -1,4 +1,5 @@
 use Rattle.std.proofs.Common.{◌≡◌, ◌++◌, ◌||◌, drop}
+use Rattle.rc_read.specs.Judging.{AddsNames}
 use Rattle.rc_read.specs.Sentences as sentences
 use Rattle.rc_read.specs.Sheets.{with_names}
 use Rattle.rc_read.specs.Texts.{view_spots}
@@ -8,6 +9,7 @@ use Rattle.rc_read.proofs.noted.put_values.Given as goal
 
 abbrev pub invariant-loop-spot : goal.invariant-loop-spot
 invariant-loop-spot l = record {
+  names : AddsNames (view_sheet l.initial.parts) (view_sheet l.parts);
   sheet : with_names (view_sheet l.parts) (view_spots (drop l.spot-index l.spots)) ≡ with_names (view_sheet l.initial.parts) (view_spots l.spots);
   values : l.values.items ++ spec.values_of (with_names (view_sheet l.initial.parts) (view_spots l.spots)) l.noted.seen (view_spots (drop l.spot-index l.spots)) ≡ spec.values_of (with_names (view_sheet l.initial.parts) (view_spots l.spots)) spec.start (view_spots l.spots);
   items : l.items.items ++ spec.items_in (spec.values_of (with_names (view_sheet l.initial.parts) (view_spots l.spots)) l.noted.seen (view_spots (drop l.spot-index l.spots))) ≡ spec.items_in (spec.values_of (with_names (view_sheet l.initial.parts) (view_spots l.spots)) spec.start (view_spots l.spots));

@@ -1,4 +1,4 @@
-use Rattle.std.proofs.Common.{◌+◌, ◌-◌, length, take, drop, sym, ◌∙◌, arith}
+use Rattle.std.proofs.Common.{◌-◌, length, take, drop, arith}
 use Rattle.std.proofs.lemmas.List.{take_rest}
 use Rattle.std.proofs.lemmas.Result.{err_from_is_err_and}
 use Rattle.rc_read.specs.View.{view_sheet}
@@ -29,7 +29,7 @@ returns-in_err-end_line-clause-reads c =
     let feed = rw c.in-Some.is at c.memchr.ensures in
     let s = view_sheet c.end_line.new.parts in
     let rest = c.end_line.new.pending.items in
-    line_fails c.from_residual.result c.end_line.result p.0 (view_sheet c.args.parts.now) (view_sheet c.loop-i.parts) s s c.args.pending.now.items c.loop-i.pending.items rest rest piece hay at i (take_rest piece at) feed.0.high feed.1 p.1 (rw p.2 c.in_err-end_line.was) c.end_line.ensures.reads c.loop-i.invariant.reads
+    line_fails c.from_residual.result c.end_line.result p.0 (view_sheet c.args.parts.now) (view_sheet c.loop-i.parts) s c.args.pending.now.items c.loop-i.pending.items rest rest piece hay at i (take_rest piece at) feed.0.high feed.1 p.1 (rw p.2 c.in_err-end_line.was) c.end_line.ensures.reads c.loop-i.invariant.reads
 
 pub returns-clause-reads : goal.returns-clause-reads
 returns-clause-reads c =

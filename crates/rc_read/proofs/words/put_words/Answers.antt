@@ -1,4 +1,4 @@
-use Rattle.std.proofs.Common.{◌+◌, get_or, sym, ◌∙◌, arith}
+use Rattle.std.proofs.Common.{get_or, sym, ◌∙◌, arith}
 use Rattle.std.proofs.lemmas.Bool.{ne_eqb}
 use Rattle.rc_read.specs.Texts.{texts_of}
 use Rattle.rc_read.proofs.Cuts.{at_blank, at_letter, at_rest, at_comment}
