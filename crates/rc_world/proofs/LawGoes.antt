@@ -26,7 +26,7 @@ use Rattle.rc_world.specs.declared.world.Slot.TheVariants.{Closed, Vacant, Prepa
 use Rattle.rc_world.specs.Controls.{Move, Standing, acts, as_event, goes_on, loads, locks, low_byte, made, moved, number_of_event, peeks, reaps, variable}
 use Rattle.rc_world.specs.Faults.{clashes, fault_of, front_is_one, has_buffer, has_fault, is_closed, is_double_at, is_filling, is_holder, is_named, is_prepared, is_ring_call, is_vacant, names, reads_into}
 use Rattle.rc_world.specs.Items.{is_submit}
-use Rattle.rc_world.specs.Laws.{CompletesFreely, GoesOn, NoHiddenHarm, StandsAtEnd}
+use Rattle.rc_world.specs.Laws.{CompletesFreely, GoesOn, NoHiddenHarm, IsAtEnd}
 use Rattle.rc_world.specs.Kept.{IsKept, IsMemory}
 use Rattle.rc_world.specs.Machine.{Pending, World, byte_of, bytes_brought, completes, completion_of, count_in, fills, fits_buffer, front_of, given_back, hands_over, in_rings, is_read, is_take, kernel_event, kernel_step_of, new_request, opens_entry, prepared_nop, prepares, queues, reaps_front, slot_len, start_world, stmt_answer, stores, thread_step, with_bytes, with_controls}
 use Rattle.rc_world.proofs.Laid.{resolved_in}
@@ -243,7 +243,7 @@ module _ (program : Program) (w : World) (safe : fault_of w ≡ None) (sound : I
   at_rest : (l : Line) → StandsAt w i t l → may_rest (Some l.stmt) ≡ true
   at_rest l a = sym (ap may_rest (ap stmt_of a.line)) ∙ (sound.rest.each i t c).rests
 
-  at_the_end : line_at w.program i t.place ≡ None → StandsAtEnd w i
+  at_the_end : line_at w.program i t.place ≡ None → IsAtEnd w i
   at_the_end e =
       let le : t.place ≤ length (lines_of w.program i) = (sound.rest.each i t c).within in
       let p : length (lines_of w.program i) ≤ t.place = get_past (lines_of w.program i) t.place e in

@@ -3,12 +3,14 @@ use Rattle.std.specs.Prelude.{ℕ, ◌≡◌, ◌<◌, ◌≤◌, [], if◌then�
 use Rattle.rc_lang.specs.declared.lines.Op.{Op}
 use Rattle.rc_lang.specs.declared.lines.Op.TheVariants.{Set, Assign, Add, Subtract, Load, Store, Fill, Print, PrepRead, PrepWrite, PrepFsync, Submit, SubmitAndWait}
 use Rattle.rc_lang.specs.declared.lines.Stmt.{Stmt}
-use Rattle.rc_lang.specs.declared.lines.Stmt.TheVariants.{Do}
+use Rattle.rc_lang.specs.declared.lines.Stmt.TheVariants.{Do, If}
 use Rattle.rc_lang.specs.declared.lines.Test.{Test}
 use Rattle.rc_lang.specs.declared.lines.Test.TheVariants.{Compare, ReadyZero, SpaceAtLeast, Take}
-use Rattle.rc_lang.specs.Program.{IsOperand, IsProgram, Program, lines_of, lists_of, stmt_at}
-use Rattle.rc_split.specs.Pools.{Pool}
-use Rattle.rc_world.specs.Controls.{Controls, Standing, hop_of, is_arm_end, passes_arm, rest_at}
+use Rattle.rc_lang.specs.Program.{IsOperand, IsProgram, Items, Program, items_at, lines_of, lists_of, stmt_at}
+use Rattle.rc_split.specs.Pools.{Pool, without_items}
+use Rattle.rc_world.specs.declared.controls.Answer.{Answer}
+use Rattle.rc_world.specs.declared.event.Action.{Action}
+use Rattle.rc_world.specs.Controls.{Controls, Move, Standing, acts, branches, hop_of, is_arm_end, made, passes_arm, rest_at}
 
 -- where a thread is; for a number that names no thread that says nothing
 abbrev pub nowhere : Standing
@@ -16,6 +18,32 @@ nowhere = record { place = 0; variables = [] }
 
 abbrev pub standing_at : Controls → ℕ → Standing
 standing_at c i = slice_index_or c.threads i nowhere
+
+-- The thread's move, as a rule says it of the controls and of where the thread is: it does this, and these controls are
+-- left. The rule may be that of a statement.
+abbrev pub Moves : Program → ℕ → Controls → (Controls → Standing → Option Move) → Action → Controls → Type 0
+Moves program i old rule action new = made program old i (rule old (standing_at old i)) ≡ Some (action, new)
+
+abbrev pub act_at : Program → ℕ → Controls → Stmt → Answer → Option Move
+act_at program i c s a = acts program c i (standing_at c i) s a
+
+abbrev pub Acts : Program → ℕ → Controls → Stmt → Answer → Action → Controls → Type 0
+Acts program i old s a action new = Moves program i old (λ c t. acts program c i t s a) action new
+
+-- the rule of an if that is decided
+abbrev pub if_rule : Program → ℕ → Bool → Controls → Standing → Option Move
+if_rule program i holds c t = Some (branches program c i t holds)
+
+-- The test holds or not, and leaves these controls.
+abbrev pub Decides : Program → ℕ → Controls → Test → Answer → Bool → Controls → Type 0
+Decides program i old test a holds new = act_at program i old (If test) a ≡ Some (branches program new i (standing_at old i) holds)
+
+-- the items of the thread's list with this number, and what is left where they are taken or not
+abbrev pub list_at : Program → ℕ → ℕ → Items
+list_at program i k = items_at (lists_of program i) k
+
+abbrev pub after_take : Program → ℕ → ℕ → Controls → Bool → Controls
+after_take program i k c holds = record c { pool = if holds then without_items program c.pool (list_at program i k) else c.pool }
 
 -- with another value of a variable
 abbrev pub with_variable : Controls → ℕ → ℕ → ℤ → Controls

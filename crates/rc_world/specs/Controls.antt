@@ -9,7 +9,7 @@ use Rattle.rc_lang.specs.declared.lines.Op.TheVariants.{Set, Assign, Add, Subtra
 use Rattle.rc_lang.specs.declared.lines.Operand.{Operand}
 use Rattle.rc_lang.specs.declared.lines.Operand.TheVariants.{Variable, Number as Literal}
 use Rattle.rc_lang.specs.declared.lines.Stmt.{Stmt}
-use Rattle.rc_lang.specs.declared.lines.Stmt.TheVariants.{Do, Put, Lock, EndLock, If, Else, EndIf, Peek, Case, Other, Nothing, EndArm, EndPeek, Loop, EndLoop, Break}
+use Rattle.rc_lang.specs.declared.lines.Stmt.TheVariants.{Do, Put, Lock, EndLock, If, Else, EndIf, Peek, Case, Other, Nothing, EndArm, Loop, EndLoop, Break}
 use Rattle.rc_lang.specs.declared.lines.Test.{Test}
 use Rattle.rc_lang.specs.declared.lines.Test.TheVariants.{Compare, ReadyZero, SpaceAtLeast, Take}
 use Rattle.rc_lang.specs.Program.{Program, Items, Thread, items_at, lines_of, line_at, lists_of, end_at, stmt_at}
@@ -134,31 +134,23 @@ sets_variable c t x v action = record { action = action; holder = c.holder; peek
 -- where nothing is answered
 abbrev pub plainly : Move → Answer → Option Move
 plainly m Plain = Some m
-plainly m (Number n) = None
-plainly m (Byte b) = None
-plainly m (Front cqe) = None
+plainly m _ = None
 
 abbrev pub assigns : Controls → Standing → ℕ → ℤ → Answer → Option Move
 assigns c t x v a = plainly (sets_variable c t x v (VariableSet v)) a
 
 abbrev pub loads : Controls → Standing → ℕ → Answer → Option Move
 loads c t x (Byte b) = Some (sets_variable c t x (pos b) (Loaded b))
-loads c t x Plain = None
-loads c t x (Number n) = None
-loads c t x (Front cqe) = None
+loads c t x _ = None
 
 abbrev pub submits : Controls → Standing → ℕ → Answer → Option Move
 submits c t x (Number n) = Some (sets_variable c t x n (Submitted n))
-submits c t x Plain = None
-submits c t x (Byte b) = None
-submits c t x (Front cqe) = None
+submits c t x _ = None
 
 -- io_uring_cqe_seen(3): then nothing is peeked.
 abbrev pub reaps : Controls → Standing → Answer → Option Move
 reaps c t (Front cqe) = Some (record { action = Reaped cqe.user_data; holder = c.holder; peeked = false; pool = c.pool; place = t.place + 1; variables = t.variables })
-reaps c t Plain = None
-reaps c t (Number n) = None
-reaps c t (Byte b) = None
+reaps c t _ = None
 
 abbrev pub does : Controls → Standing → Op → Answer → Option Move
 does c t (Set x n) a = assigns c t x n a
@@ -202,8 +194,7 @@ peeks program c i t x Plain =
     Some (record { action = PeekedNone; holder = c.holder; peeked = c.peeked; pool = c.pool; place = none_arm program i t.place + 1; variables = slice_set t.variables x (negsuc 10) })
 peeks program c i t x (Front cqe) =
     Some (record { action = Peeked cqe; holder = c.holder; peeked = true; pool = c.pool; place = arm_for program i t.place cqe.user_data + 1; variables = slice_set t.variables x cqe.res })
-peeks program c i t x (Number n) = None
-peeks program c i t x (Byte b) = None
+peeks program c i t x _ = None
 
 -- The items go to the pool, where it has room for them.
 abbrev pub puts_items : Program → Controls → Standing → Items → Answer → Option Move
@@ -232,17 +223,11 @@ acts program c i t (Put k) a = puts_items program c t (items_at (lists_of progra
 acts program c i t Lock a = locks c i t a c.holder
 acts program c i t (EndLock o) a = plainly (releases_lock c t) a
 acts program c i t (If test) a = decides program c i t test a
-acts program c i t (Else o) a = None
-acts program c i t (EndIf o) a = None
 acts program c i t (Peek x) a = peeks program c i t x a
-acts program c i t (Case o u) a = None
-acts program c i t (Other o) a = None
-acts program c i t (Nothing o) a = None
-acts program c i t (EndArm o) a = None
-acts program c i t (EndPeek o) a = None
 acts program c i t (Loop k) a = plainly (goes_on c t Looped) a
 acts program c i t (EndLoop o k) a = plainly (returns_to c t o) a
 acts program c i t (Break o releases leaves) a = plainly (breaks program c i t o releases leaves) a
+acts program c i t _ a = None
 
 -- The controls after that: the thread comes to rest, and after the end of an arm nothing is peeked.
 abbrev pub moved : Program → Controls → ℕ → Move → Controls

@@ -29,18 +29,15 @@ is_holder (Some j) i = nat_eq j i
 
 abbrev pub is_closed : Slot → Bool
 is_closed Closed = true
-is_closed Vacant = false
-is_closed (Prepared r) = false
+is_closed _ = false
 
 abbrev pub is_vacant : Slot → Bool
-is_vacant Closed = false
 is_vacant Vacant = true
-is_vacant (Prepared r) = false
+is_vacant _ = false
 
 abbrev pub is_prepared : Slot → Bool
-is_prepared Closed = false
-is_prepared Vacant = false
 is_prepared (Prepared r) = true
+is_prepared _ = false
 
 -- ---- buffers
 

@@ -1,11 +1,20 @@
 -- Whether a statement does any harm, and that a thread has no fault, as one pass over the threads asks.
-use Rattle.std.specs.Prelude.{◌≡◌, ℕ, Bool, false, ◌||◌, if◌then◌else◌, Option, Some, None}
+use Rattle.std.specs.Prelude.{◌≡◌, ℕ, Bool, false, ◌||◌, if◌then◌else◌, List, Option, Some, None}
+use Rattle.std.specs.List.{list_any}
 use Rattle.rc_lang.specs.declared.lines.Line.{Line}
 use Rattle.rc_lang.specs.declared.lines.Stmt.{Stmt}
 use Rattle.rc_world.specs.declared.fault.FaultKind.{FaultKind}
 use Rattle.rc_world.specs.Controls.{next_line}
-use Rattle.rc_world.specs.Faults.{Access, access_of, has_fault, is_ambiguous_at, is_double_at, is_full_at, is_holder, is_out_at, is_raw_at, is_ring_call, is_unknown_at, races, reads_filling, writes_pending}
-use Rattle.rc_world.specs.Machine.{World}
+use Rattle.rc_world.specs.Faults.{Access, access_of, has_data, has_fault, is_ambiguous_at, is_double_at, is_full_at, is_holder, is_out_at, is_raw_at, is_ring_call, is_unknown_at, races, reads_filling, writes_pending}
+use Rattle.rc_world.specs.Machine.{Pending, World}
+
+-- the line that a thread has next
+abbrev pub line_of : World → ℕ → Option Line
+line_of w i = next_line w.program w.controls i
+
+-- whether one of the pending requests has this user data
+abbrev pub is_pending : ℕ → List Pending → Bool
+is_pending u ps = list_any (λ (p : Pending). has_data u p.request) ps
 
 abbrev pub harms_buffer : World → ℕ → Option Access → Bool
 harms_buffer w i None = false
@@ -19,4 +28,4 @@ is_harmful w i s = harms_buffer w i (access_of s) || is_out_at w.program s || (i
 
 -- At its next line the thread has no fault of any kind.
 abbrev pub IsHarmless : World → ℕ → Type 0
-IsHarmless w i = (kind : FaultKind) (l : Line) → next_line w.program w.controls i ≡ Some l → has_fault w kind i l.stmt ≡ false
+IsHarmless w i = (kind : FaultKind) (l : Line) → line_of w i ≡ Some l → has_fault w kind i l.stmt ≡ false

@@ -3,7 +3,7 @@ use Rattle.std.specs.Prelude.{ℕ, Bool, true, false, ◌&&◌, ◌||◌, if◌t
 use Rattle.rc_lang.specs.declared.lines.Line.{Line}
 use Rattle.rc_lang.specs.declared.lines.Op.TheVariants.{Submit, SubmitAndWait}
 use Rattle.rc_lang.specs.declared.lines.Stmt.{Stmt}
-use Rattle.rc_lang.specs.declared.lines.Stmt.TheVariants.{Do, Put, Lock, EndLock, If, Else, EndIf, Peek, Case, Other, Nothing, EndArm, EndPeek, Loop, EndLoop, Break}
+use Rattle.rc_lang.specs.declared.lines.Stmt.TheVariants.{Do, Lock, Else, EndIf, Case, Other, Nothing, EndArm, EndPeek}
 use Rattle.rc_lang.specs.Program.{Program}
 use Rattle.rc_lang.specs.Requests.{may_complete}
 use Rattle.rc_world.specs.declared.controls.Next.{Next}
@@ -18,23 +18,15 @@ use Rattle.rc_world.specs.Machine.{Pending, World, count_in, is_read, is_take, k
 -- What a thread has next: a lock that somebody holds is taken. Lines that are no events are nothing to have next, and
 -- no thread of a run is at one (the law NoHiddenHarm).
 abbrev pub ready_or_taken : Option ℕ → Line → Stmt → Next
-ready_or_taken holder l (Do op) = Ready l
-ready_or_taken holder l (Put k) = Ready l
-ready_or_taken None l Lock = Ready l
-ready_or_taken (Some j) l Lock = TakenLock
-ready_or_taken holder l (EndLock o) = Ready l
-ready_or_taken holder l (If test) = Ready l
 ready_or_taken holder l (Else o) = Ended
 ready_or_taken holder l (EndIf o) = Ended
-ready_or_taken holder l (Peek x) = Ready l
 ready_or_taken holder l (Case o u) = Ended
 ready_or_taken holder l (Other o) = Ended
 ready_or_taken holder l (Nothing o) = Ended
 ready_or_taken holder l (EndArm o) = Ended
 ready_or_taken holder l (EndPeek o) = Ended
-ready_or_taken holder l (Loop k) = Ready l
-ready_or_taken holder l (EndLoop o k) = Ready l
-ready_or_taken holder l (Break o releases leaves) = Ready l
+ready_or_taken (Some j) l Lock = TakenLock
+ready_or_taken holder l _ = Ready l
 
 abbrev pub next_by : Option ℕ → Option Line → Next
 next_by holder None = Ended
@@ -56,8 +48,7 @@ takes w (Some r) s = is_submit s && is_take w r
 
 abbrev pub is_ready : World → Option ℤ → Next → Bool
 is_ready w take (Ready l) = takes w take l.stmt
-is_ready w take TakenLock = false
-is_ready w take Ended = false
+is_ready w take _ = false
 
 -- the place of a user data among the pending requests
 abbrev pub pending_place : World → ℕ → Option ℕ

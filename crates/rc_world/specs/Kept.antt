@@ -9,8 +9,11 @@ use Rattle.rc_world.specs.Faults.{clashes, has_buffer, is_filling}
 use Rattle.rc_world.specs.Machine.{Pending, World, fits_buffer, is_read, used_entries}
 
 -- A request names a buffer that is there and has as many bytes as it moves.
+abbrev pub BufferExists : Program → Request → Type 0
+BufferExists program r = has_buffer r.kind ≡ true → r.buffer < length program.buffers
+
 pub record IsFitting (program : Program) (r : Request) : Type 0 where
-  pub exists : has_buffer r.kind ≡ true → r.buffer < length program.buffers
+  pub exists : BufferExists program r
   pub room : fits_buffer program r ≡ true
 
 abbrev pub SlotFits : Program → Slot → Type 0

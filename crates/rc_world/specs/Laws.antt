@@ -14,19 +14,19 @@ use Rattle.rc_world.specs.Runs.{IsRun}
 use Rattle.rc_world.specs.Trace.{trace_of}
 
 -- The thread is past its last line.
-abbrev pub StandsAtEnd : World → ℕ → Type 0
-StandsAtEnd w i = (t : Standing) × (slice_get w.controls.threads i ≡ Some t) × (t.place ≡ length (lines_of w.program i))
+abbrev pub IsAtEnd : World → ℕ → Type 0
+IsAtEnd w i = (t : Standing) × (slice_get w.controls.threads i ≡ Some t) × (t.place ≡ length (lines_of w.program i))
 
 -- The thread's next line takes the lock, and somebody holds it.
-abbrev pub StandsAtTakenLock : World → ℕ → Type 0
-StandsAtTakenLock w i = (l : Line) × (j : ℕ) × (next_line w.program w.controls i ≡ Some l) × (l.stmt ≡ Lock) × (w.controls.holder ≡ Some j)
+abbrev pub WaitsForLock : World → ℕ → Type 0
+WaitsForLock w i = (l : Line) × (j : ℕ) × (next_line w.program w.controls i ≡ Some l) × (l.stmt ≡ Lock) × (w.controls.holder ≡ Some j)
 
 -- The thread has a step, whatever of the allowed answers its submit gets.
 abbrev pub HasStep : World → ℕ → Type 0
 HasStep w i = (r : ℤ) → is_take w r ≡ true → (s : Event × World) × (thread_step w i r ≡ Some s)
 
 abbrev pub GoesOn : World → ℕ → Type 0
-GoesOn w i = StandsAtEnd w i ⊎ (StandsAtTakenLock w i ⊎ HasStep w i)
+GoesOn w i = IsAtEnd w i ⊎ (WaitsForLock w i ⊎ HasStep w i)
 
 -- Each pending request can complete with each result that it may have, a read with any bytes.
 abbrev pub CompletesFreely : World → Type 0

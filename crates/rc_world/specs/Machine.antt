@@ -2,9 +2,9 @@
 use Rattle.std.specs.Prelude.{ℕ, suc, ◌+◌, ◌-◌, Bool, true, false, ◌&&◌, if◌then◌else◌, List, [], ◌∷◌, ◌++◌, take, drop, map, replicate, length, Option, Some, None, nat_eq, nat_lt, nat_le, slice_get, slice_index, slice_index_or, slice_set, ℤ, pos, negsuc}
 use Rattle.rc_lang.specs.declared.lines.Line.{Line}
 use Rattle.rc_lang.specs.declared.lines.Op.{Op}
-use Rattle.rc_lang.specs.declared.lines.Op.TheVariants.{Set, Assign, Add, Subtract, Load, Store, Fill, Print, GetSqe, PrepRead, PrepWrite, PrepFsync, PrepNop, SetData64, Submit, SubmitAndWait, CqeSeen}
+use Rattle.rc_lang.specs.declared.lines.Op.TheVariants.{Load, Store, Fill, GetSqe, PrepRead, PrepWrite, PrepFsync, PrepNop, SetData64, Submit, SubmitAndWait, CqeSeen}
 use Rattle.rc_lang.specs.declared.lines.Stmt.{Stmt}
-use Rattle.rc_lang.specs.declared.lines.Stmt.TheVariants.{Do, Put, Lock, EndLock, If, Else, EndIf, Peek, Case, Other, Nothing, EndArm, EndPeek, Loop, EndLoop, Break}
+use Rattle.rc_lang.specs.declared.lines.Stmt.TheVariants.{Do, If, Peek}
 use Rattle.rc_lang.specs.declared.lines.Test.{Test}
 use Rattle.rc_lang.specs.declared.lines.Test.TheVariants.{Compare, ReadyZero, SpaceAtLeast, Take}
 use Rattle.rc_lang.specs.declared.request.Kind.{Kind}
@@ -61,8 +61,7 @@ fills w b byte (Some bytes) = Some (with_bytes w b (replicate (length bytes) byt
 
 abbrev pub slot_len : Slot → ℕ
 slot_len Closed = 0
-slot_len Vacant = 1
-slot_len (Prepared r) = 1
+slot_len _ = 1
 
 -- the entries of the submission ring in use: an open entry counts (io_uring_sq_ready(3))
 abbrev pub used_entries : World → ℕ
@@ -71,8 +70,7 @@ used_entries w = length w.queued + slot_len w.slot
 -- io_uring_get_sqe(3): an entry is opened where none is open and one is free.
 abbrev pub opens_entry : World → Slot → Option World
 opens_entry w Closed = if nat_lt (length w.queued) w.program.entries then Some (record w { slot = Vacant }) else None
-opens_entry w Vacant = None
-opens_entry w (Prepared r) = None
+opens_entry w _ = None
 
 -- a request before it has its serial number and its user data
 abbrev pub new_request : Kind → ℤ → (buffer len off : ℕ) → Request
@@ -88,21 +86,17 @@ fits_buffer program r = nat_le r.len (bytes_at program.buffers r.buffer)
 
 -- A prep fills a vacant entry.
 abbrev pub prepares : World → Request → Slot → Option World
-prepares w r Closed = None
 prepares w r Vacant = if fits_buffer w.program r then Some (record w { slot = Prepared r }) else None
-prepares w r (Prepared s) = None
+prepares w r _ = None
 
 -- io_uring_sqe_set_data64(3): the prepared entry is queued under the next serial number.
 abbrev pub queues : World → ℕ → Slot → Option World
-queues w u Closed = None
-queues w u Vacant = None
 queues w u (Prepared r) = Some (record w { slot = Closed; queued = w.queued ++ record r { serial = w.made + 1; user_data = u } ∷ []; made = w.made + 1 })
+queues w u _ = None
 
 abbrev pub is_read : Kind → Bool
-is_read Nop = false
-is_read Fsync = false
 is_read Read = true
-is_read Write = false
+is_read _ = false
 
 -- The bytes that a request takes with it as it becomes pending: a read those of its buffer, which is absent then.
 abbrev pub taken_bytes : List (Option (List ℕ)) → Request → Option (List ℕ)
@@ -147,14 +141,8 @@ reaps_front w (c ∷ cs) = Some (record w { completions = cs; completed = withou
 
 -- What a statement of a thread that is there does to the rings and the buffers; a submit is answered r.
 abbrev pub op_in_rings : World → Standing → ℤ → Op → Option World
-op_in_rings w t r (Set x n) = Some w
-op_in_rings w t r (Assign x y) = Some w
-op_in_rings w t r (Add x y z) = Some w
-op_in_rings w t r (Subtract x y z) = Some w
-op_in_rings w t r (Load x b i) = Some w
 op_in_rings w t r (Store b i x) = stores w b i (low_byte (variable t x)) (bytes_of w b)
 op_in_rings w t r (Fill b x) = fills w b (low_byte (variable t x)) (bytes_of w b)
-op_in_rings w t r (Print x) = Some w
 op_in_rings w t r GetSqe = opens_entry w w.slot
 op_in_rings w t r (PrepRead fd b len off) = prepares w (new_request Read (pos fd) b len off) w.slot
 op_in_rings w t r (PrepWrite fd b len off k) = prepares w (new_request Write (pos fd) b len off) w.slot
@@ -164,24 +152,11 @@ op_in_rings w t r (SetData64 u) = queues w u w.slot
 op_in_rings w t r (Submit x) = submits_by w r
 op_in_rings w t r (SubmitAndWait x n) = submits_by w r
 op_in_rings w t r CqeSeen = reaps_front w w.completions
+op_in_rings w t r _ = Some w
 
 abbrev pub in_rings : World → Standing → ℤ → Stmt → Option World
 in_rings w t r (Do op) = op_in_rings w t r op
-in_rings w t r (Put k) = Some w
-in_rings w t r Lock = Some w
-in_rings w t r (EndLock o) = Some w
-in_rings w t r (If test) = Some w
-in_rings w t r (Else o) = Some w
-in_rings w t r (EndIf o) = Some w
-in_rings w t r (Peek x) = Some w
-in_rings w t r (Case o u) = Some w
-in_rings w t r (Other o) = Some w
-in_rings w t r (Nothing o) = Some w
-in_rings w t r (EndArm o) = Some w
-in_rings w t r (EndPeek o) = Some w
-in_rings w t r (Loop k) = Some w
-in_rings w t r (EndLoop o k) = Some w
-in_rings w t r (Break o releases leaves) = Some w
+in_rings w t r _ = Some w
 
 -- ---- what the world answers to a statement; a submit is answered r
 

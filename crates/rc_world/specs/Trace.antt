@@ -2,7 +2,7 @@
 use Rattle.std.specs.Prelude.{ℕ, ◌+◌, Bool, true, false, ◌&&◌, if◌then◌else◌, List, [], ◌∷◌, Option, Some, None}
 use Rattle.rc_lang.specs.Program.{Program, Thread}
 use Rattle.rc_world.specs.declared.controls.Next.{Next}
-use Rattle.rc_world.specs.declared.controls.Next.TheVariants.{Ready, TakenLock, Ended}
+use Rattle.rc_world.specs.declared.controls.Next.TheVariants.{Ended}
 use Rattle.rc_world.specs.declared.event.Event.{Event}
 use Rattle.rc_world.specs.declared.event.Item.{Item}
 use Rattle.rc_world.specs.declared.fault.Fault.{Fault}
@@ -12,9 +12,8 @@ use Rattle.rc_world.specs.Machine.{World, start_world}
 
 -- Every thread from number i on has ended.
 abbrev pub has_ended : Next → Bool
-has_ended (Ready l) = false
-has_ended TakenLock = false
 has_ended Ended = true
+has_ended _ = false
 
 abbrev pub all_ended_from : World → ℕ → List Thread → Bool
 all_ended_from w i [] = true

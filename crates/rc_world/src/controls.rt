@@ -1,8 +1,10 @@
 //! Where each thread is, its variables, the lock, whether the front completion is peeked, and the pool.
 
 ghost use Rattle.std.specs.Prelude.{◌≡◌, ◌<◌, ◌≤◌, length, map, option_map, pos, replicate, ◌+ℤ◌, ◌-ℤ◌, slice_get, IfOk, IsSome, IsOkAnd};
+ghost use Rattle.rc_lang.specs.declared.lines.Stmt.TheVariants.{Do, If};
 ghost use Rattle.rc_lang.specs.Program.{IsProgram, IsOperand, end_at};
-ghost use Rattle.rc_world.specs.Changes.{CallIsSmall, StandsAt, TestIsSmall, hop_at, standing_at, with_pool};
+ghost use Rattle.rc_world.specs.Changes.{Acts, CallIsSmall, Decides, StandsAt, TestIsSmall, act_at, hop_at, standing_at, with_pool};
+ghost use Rattle.rc_world.specs.Parts.{at_first_line};
 ghost use Rattle.rc_world.specs.Controls as spec;
 
 use self::places::ready_or_taken;
@@ -212,8 +214,8 @@ impl Controls {
         answer: Answer,
     ) -> Action
         requires here { StandsAt program.now self.old thread place stmt }
-        requires step { IsSome (spec.acts program.now self.old thread (standing_at self.old thread) stmt answer) }
-        ensures { spec.made program.now self.old thread (spec.acts program.now self.old thread (standing_at self.old thread) stmt answer) ≡ Some (result, self.new) }
+        requires step { IsSome (act_at program.now thread self.old stmt answer) }
+        ensures { Acts program.now thread self.old stmt answer result self.new }
     {
         match stmt {
             Stmt::Do(op) => self.call(program, thread, place, op, answer),
@@ -258,7 +260,7 @@ impl Controls {
         requires within { place ≤ 4096 }
         requires small { CallIsSmall program.now op }
         requires step { IsSome (spec.does self.old (standing_at self.old thread) op answer) }
-        ensures { spec.made program.now self.old thread (spec.does self.old (standing_at self.old thread) op answer) ≡ Some (result, self.new) }
+        ensures { Acts program.now thread self.old (Do op) answer result self.new }
     {
         let action = match op {
             Op::Set(x, n) => return self.assign(program, thread, place, x, n),
@@ -306,9 +308,9 @@ impl Controls {
     fn decide(&mut self, program: &Program, thread: u32, test: Test, answer: Answer) -> bool
         requires exists { thread < length self.old.threads }
         requires within { TestIsSmall program.now thread test }
-        requires step { IsSome (spec.decides program.now self.old thread (standing_at self.old thread) test answer) }
+        requires step { IsSome (act_at program.now thread self.old (If test) answer) }
         ensures pool { self.new ≡ with_pool self.old self.new.pool }
-        ensures step { spec.decides program.now self.old thread (standing_at self.old thread) test answer ≡ Some (spec.branches program.now self.new thread (standing_at self.old thread) result) }
+        ensures step { Decides program.now thread self.old test answer result self.new }
     {
         match test {
             Test::Compare(x, comparison, n) => comparison.compares(self.variable(thread, x), n),
@@ -327,8 +329,7 @@ impl Controls {
 
 // As many threads that begin as these.
 fn first_places(alloc: Global, threads: &[Thread]) -> Result<Vec<Control>, AllocError>
-    ensures { IfOk result
-        (λ v. v.items ≡ replicate (length threads.now) (record { place = 0; variables = replicate 64 (pos 0) })) }
+    ensures { IfOk result (λ v. v.items ≡ replicate (length threads.now) at_first_line) }
 {
     let begun = Control {
         place: 0,

@@ -1,6 +1,6 @@
 //! Schedules: which steps are made, in order, as text.
 
-ghost use Rattle.std.specs.Prelude.{◌≡◌, ◌==◌, ◌<◌, length, position, None, Some, IfSome, MatchOption};
+ghost use Rattle.std.specs.Prelude.{◌≡◌, ◌==◌, ◌<◌, length, position, IfSome, option_map};
 ghost use Rattle.std.specs.Str.{bytes_eq};
 ghost use Rattle.rc_lang.specs.Numbers.{number_of};
 ghost use Rattle.rc_world.specs.Schedule.{ReadsSchedule};
@@ -53,7 +53,7 @@ fn place_of(c: u8, bytes: &[u8]) -> Option<usize>
 }
 
 fn halves(c: u8, bytes: &[u8]) -> Option<(&[u8], &[u8])>
-    ensures { MatchOption result (spec.halves c bytes.now ≡ None) (λ x. spec.halves c bytes.now ≡ Some (x.0.now, x.1.now)) }
+    ensures { option_map (λ x. (x.0.now, x.1.now)) result ≡ spec.halves c bytes.now }
 {
     let place = place_of(c, bytes)?;
     Some((&bytes[..place], &bytes[place + 1..]))
@@ -110,8 +110,8 @@ fn thread_item(program: &Program, piece: &[u8]) -> Option<Item>
 fn kernel_item(words: &[u8]) -> Option<Item>
     ensures { result ≡ spec.item_of_kernel words.now }
 {
-    let (user_data, behind) = halves(b'=', words)?;
-    let (res, fill) = halves(b':', behind).unwrap_or((behind, b"0"));
+    let (user_data, rest) = halves(b'=', words)?;
+    let (res, fill) = halves(b':', rest).unwrap_or((rest, b"0"));
     Some(Item::Kernel {
         user_data: number_of(0, u64::MAX, user_data)?,
         res: result_of(res)?,

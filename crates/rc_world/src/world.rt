@@ -1,12 +1,13 @@
 //! The world of a running program.
 
-ghost use Rattle.std.specs.Prelude.{◌≡◌, ◌+◌, ◌<◌, ◌≤◌, ◌^◌, ◌&&◌, Some, true, false, map, replicate, IfOk, IsSome, MatchResult};
+ghost use Rattle.std.specs.Prelude.{◌≡◌, ◌+◌, ◌<◌, ◌≤◌, ◌^◌, ◌&&◌, Some, true, false, map, replicate, IfOk, IsSome};
 ghost use Rattle.rc_lang.specs.Requests as requests;
 ghost use Rattle.rc_world.specs.Applies.{Applies};
 ghost use Rattle.rc_world.specs.Faults as faults;
 ghost use Rattle.rc_world.specs.Items as items;
+ghost use Rattle.rc_world.specs.Items.{item_step};
 ghost use Rattle.rc_world.specs.Machine as machine;
-ghost use Rattle.rc_world.specs.WorldParts.{view_pending};
+ghost use Rattle.rc_world.specs.WorldParts.{TriesEvent, view_pending};
 
 use self::bytes::Bytes;
 use self::requests::{kernel_may, place_of_pending};
@@ -210,11 +211,9 @@ impl<'a> World<'a> {
 
     // The step of a thread whose submit is answered this.
     fn step(&mut self, thread: u32, take: Option<i32>) -> Result<Event, AllocError>
-        requires step { IsSome (machine.thread_step self.old thread (items.take_of self.old take)) }
+        requires step { IsSome (item_step self.old (Item.Thread thread take)) }
         requires room { self.old.made + 1 < 2 ^ 64 }
-        ensures { MatchResult result
-            (λ e. machine.thread_step self.old thread (items.take_of self.old take) ≡ Some (e, self.new))
-            (λ _. self.new ≡ self.old) }
+        ensures { TriesEvent result self.old self.new (λ w. item_step w (Item.Thread thread take)) }
     {
         let Some(line) = self.controls.line(self.program, thread) else {
             unreachable!()

@@ -1,11 +1,13 @@
 //! What the steps of threads do to their controls.
 
-ghost use Rattle.std.specs.Prelude.{◌≡◌, ◌<◌, ◌≤◌, if◌then◌else◌, length, Some, IsSome};
-ghost use Rattle.rc_lang.specs.declared.lines.Stmt.TheVariants.{Peek, Put};
-ghost use Rattle.rc_lang.specs.Program.{end_at, items_at, lists_of};
-ghost use Rattle.rc_split.specs.Pools.{includes, without_items};
-ghost use Rattle.rc_world.specs.Changes.{StandsAt, gone_to, standing_at, with_pool, with_variable};
-ghost use Rattle.rc_world.specs.Controls as spec;
+ghost use Rattle.std.specs.Prelude.{◌≡◌, ◌<◌, ◌≤◌, length, Some, IsSome};
+ghost use Rattle.rc_lang.specs.declared.lines.Op.TheVariants.{CqeSeen, Set, Submit};
+ghost use Rattle.rc_lang.specs.declared.lines.Stmt.TheVariants.{Break, Do, Peek, Put};
+ghost use Rattle.rc_lang.specs.Program.{end_at, lists_of};
+ghost use Rattle.rc_split.specs.Pools.{includes};
+ghost use Rattle.rc_world.specs.declared.controls.Answer.TheVariants.{Plain};
+ghost use Rattle.rc_world.specs.Changes.{Acts, Moves, StandsAt, act_at, after_take, if_rule, gone_to, list_at, standing_at, with_variable};
+ghost use Rattle.rc_world.specs.Controls.{controls_step, goes_on, loads};
 
 use super::places::{arm_for, none_arm, number_of_event};
 use super::{Answer, Controls, rest};
@@ -18,8 +20,8 @@ const NO_COMPLETION: i64 = -11;
 impl Controls {
     /// What `advance` does.
     pub(crate) fn step(&mut self, program: &Program, thread: u32, answer: Answer) -> Event
-        requires { IsSome (spec.controls_step program.now self.old thread answer) }
-        ensures { spec.controls_step program.now self.old thread answer ≡ Some (result, self.new) }
+        requires { IsSome (controls_step program.now self.old thread answer) }
+        ensures { controls_step program.now self.old thread answer ≡ Some (result, self.new) }
     {
         let Some(place) = self.place(thread) else {
             unreachable!()
@@ -48,7 +50,7 @@ impl Controls {
         requires here { (standing_at self.old thread).place ≡ place }
         requires within { place ≤ 4096 }
         requires variable { x < 64 }
-        ensures { spec.made program.now self.old thread (Some (spec.sets_variable self.old (standing_at self.old thread) x value (Action.VariableSet value))) ≡ Some (result, self.new) }
+        ensures { Acts program.now thread self.old (Do (Set x value)) Plain result self.new }
     {
         self.set(thread, x, value);
         self.pass(program, thread, place, Action::VariableSet(value))
@@ -67,8 +69,8 @@ impl Controls {
         requires here { (standing_at self.old thread).place ≡ place }
         requires within { place ≤ 4096 }
         requires variable { x < 64 }
-        requires step { IsSome (spec.loads self.old (standing_at self.old thread) x answer) }
-        ensures { spec.made program.now self.old thread (spec.loads self.old (standing_at self.old thread) x answer) ≡ Some (result, self.new) }
+        requires step { IsSome (loads self.old (standing_at self.old thread) x answer) }
+        ensures { Moves program.now thread self.old (λ c t. loads c t x answer) result self.new }
     {
         let Answer::Byte(byte) = answer else {
             unreachable!()
@@ -90,8 +92,8 @@ impl Controls {
         requires here { (standing_at self.old thread).place ≡ place }
         requires within { place ≤ 4096 }
         requires variable { x < 64 }
-        requires step { IsSome (spec.submits self.old (standing_at self.old thread) x answer) }
-        ensures { spec.made program.now self.old thread (spec.submits self.old (standing_at self.old thread) x answer) ≡ Some (result, self.new) }
+        requires step { IsSome (act_at program.now thread self.old (Do (Submit x)) answer) }
+        ensures { Acts program.now thread self.old (Do (Submit x)) answer result self.new }
     {
         let Answer::Number(taken) = answer else {
             unreachable!()
@@ -111,8 +113,8 @@ impl Controls {
         requires exists { thread < length self.old.threads }
         requires here { (standing_at self.old thread).place ≡ place }
         requires within { place ≤ 4096 }
-        requires step { IsSome (spec.reaps self.old (standing_at self.old thread) answer) }
-        ensures { spec.made program.now self.old thread (spec.reaps self.old (standing_at self.old thread) answer) ≡ Some (result, self.new) }
+        requires step { IsSome (act_at program.now thread self.old (Do CqeSeen) answer) }
+        ensures { Acts program.now thread self.old (Do CqeSeen) answer result self.new }
     {
         let Answer::Front(completion) = answer else {
             unreachable!()
@@ -131,8 +133,8 @@ impl Controls {
         answer: Answer,
     ) -> Action
         requires here { StandsAt program.now self.old thread place (Put k) }
-        requires step { IsSome (spec.acts program.now self.old thread (standing_at self.old thread) (Put k) answer) }
-        ensures { spec.made program.now self.old thread (spec.acts program.now self.old thread (standing_at self.old thread) (Put k) answer) ≡ Some (result, self.new) }
+        requires step { IsSome (act_at program.now thread self.old (Put k) answer) }
+        ensures { Acts program.now thread self.old (Put k) answer result self.new }
     {
         let items = &program.lists_of(thread as usize)[k];
         self.pool.put(program, items);
@@ -142,8 +144,8 @@ impl Controls {
     // Takes the items out of the pool, if it has all of them; whether it had.
     pub(super) fn take(&mut self, program: &Program, thread: u32, k: usize) -> bool
         requires { k < length (lists_of program.now thread) }
-        ensures holds { result ≡ includes program.now self.old.pool (items_at (lists_of program.now thread) k) }
-        ensures pool { self.new ≡ with_pool self.old (if result then without_items program.now self.old.pool (items_at (lists_of program.now thread) k) else self.old.pool) }
+        ensures holds { result ≡ includes program.now self.old.pool (list_at program.now thread k) }
+        ensures pool { self.new ≡ after_take program.now thread k self.old result }
     {
         let items = &program.lists_of(thread as usize)[k];
         let holds = self.pool.includes(program, items);
@@ -165,7 +167,7 @@ impl Controls {
         requires here { (standing_at self.old thread).place ≡ place }
         requires within { place ≤ 4096 }
         requires end { end_at program.now thread place ≤ 4096 }
-        ensures { spec.made program.now self.old thread (Some (spec.branches program.now self.old thread (standing_at self.old thread) holds)) ≡ Some (result, self.new) }
+        ensures { Moves program.now thread self.old (if_rule program.now thread holds) result self.new }
     {
         let last = if holds {
             place
@@ -186,8 +188,8 @@ impl Controls {
         answer: Answer,
     ) -> Action
         requires here { StandsAt program.now self.old thread place (Peek x) }
-        requires step { IsSome (spec.peeks program.now self.old thread (standing_at self.old thread) x answer) }
-        ensures { spec.made program.now self.old thread (spec.peeks program.now self.old thread (standing_at self.old thread) x answer) ≡ Some (result, self.new) }
+        requires step { IsSome (act_at program.now thread self.old (Peek x) answer) }
+        ensures { Acts program.now thread self.old (Peek x) answer result self.new }
     {
         match answer {
             Answer::Plain => {
@@ -219,7 +221,7 @@ impl Controls {
     ) -> Action
         requires exists { thread < length self.old.threads }
         requires end { end_at program.now thread top ≤ 4096 }
-        ensures { spec.made program.now self.old thread (Some (spec.breaks program.now self.old thread (standing_at self.old thread) top releases leaves)) ≡ Some (result, self.new) }
+        ensures { Acts program.now thread self.old (Break top releases leaves) Plain result self.new }
     {
         if releases {
             self.holder = None;
@@ -243,7 +245,7 @@ impl Controls {
         requires exists { thread < length self.old.threads }
         requires here { (standing_at self.old thread).place ≡ place }
         requires within { place ≤ 4096 }
-        ensures { spec.made program.now self.old thread (Some (spec.goes_on self.old (standing_at self.old thread) action)) ≡ Some (result, self.new) }
+        ensures { Moves program.now thread self.old (λ c t. Some (goes_on c t action)) result self.new }
     {
         self.go(program, thread, place + 1);
         action

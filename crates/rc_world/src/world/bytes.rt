@@ -1,7 +1,8 @@
 //! The bytes of a buffer, which take no memory before the first of them is written.
 
-ghost use Rattle.std.specs.Prelude.{◌≡◌, ◌<◌, ◌≤◌, length, replicate, slice_get, slice_set, MatchResult};
+ghost use Rattle.std.specs.Prelude.{◌≡◌, ◌<◌, ◌≤◌, length, replicate, slice_get, slice_set};
 ghost use Rattle.rc_world.specs.Parts.{bytes_in, refilled};
+ghost use Rattle.rc_world.specs.WorldParts.{Becomes};
 
 use std::alloc::{AllocError, Global};
 use std::marker::Model;
@@ -50,7 +51,7 @@ impl Bytes {
     // A byte is written at a place.
     pub(super) fn store(&mut self, i: usize, byte: u8) -> Result<(), AllocError>
         requires { i < length self.old }
-        ensures { MatchResult result (λ _. self.new ≡ slice_set self.old i byte) (λ _. self.new ≡ self.old) }
+        ensures { Becomes result self.old self.new (λ bytes. slice_set bytes i byte) }
     {
         grow(&mut self.written, self.len)?;
         self.written[i] = byte;
@@ -59,7 +60,7 @@ impl Bytes {
 
     // A byte is written at every place.
     pub(super) fn fill(&mut self, byte: u8) -> Result<(), AllocError>
-        ensures { MatchResult result (λ _. self.new ≡ replicate (length self.old) byte) (λ _. self.new ≡ self.old) }
+        ensures { Becomes result self.old self.new (λ bytes. replicate (length bytes) byte) }
     {
         grow(&mut self.written, self.len)?;
         self.written.fill(byte);
@@ -69,7 +70,7 @@ impl Bytes {
     // A byte is written at the first places, so many of them.
     pub(super) fn refill(&mut self, count: usize, fill: u8) -> Result<(), AllocError>
         requires { count ≤ length self.old }
-        ensures { MatchResult result (λ _. self.new ≡ refilled count fill self.old) (λ _. self.new ≡ self.old) }
+        ensures { Becomes result self.old self.new (refilled count fill) }
     {
         if count == 0 {
             return Ok(());
@@ -83,9 +84,7 @@ impl Bytes {
 // The bytes after the written ones are written too, as 0.
 fn grow(written: &mut Vec<u8>, len: usize) -> Result<(), AllocError>
     requires { length written.old.items ≤ len }
-    ensures { MatchResult result
-        (λ _. written.new.items ≡ bytes_in len written.old.items)
-        (λ _. written.new.items ≡ written.old.items) }
+    ensures { Becomes result written.old.items written.new.items (bytes_in len) }
 {
     written.resize(len, 0)
 }

@@ -3,11 +3,11 @@
 ghost use Rattle.std.specs.Prelude.{◌≡◌, ◌+◌, ◌&&◌, ◌<◌, ◌≤◌, ℕ, None, map, option_map, slice_get, true};
 ghost use Rattle.std.specs.Bool.{OnFalse};
 ghost use Rattle.std.specs.List.{list_any};
-ghost use Rattle.rc_lang.specs.Program.{items_at, lists_of};
-ghost use Rattle.rc_split.specs.Pools.{overfills};
-ghost use Rattle.rc_world.specs.Controls.{next_line};
+ghost use Rattle.rc_lang.specs.declared.lines.Stmt.TheVariants.{Put};
+ghost use Rattle.rc_lang.specs.Program.{lists_of};
 ghost use Rattle.rc_world.specs.Faults as spec;
 ghost use Rattle.rc_world.specs.Harm as harm;
+ghost use Rattle.rc_world.specs.Harm.{line_of};
 ghost use Rattle.rc_world.specs.WorldParts.{view_access, view_pending};
 
 use self::statements::{
@@ -137,8 +137,7 @@ impl<'a> World<'a> {
     // The fault of this kind that a thread has.
     fn fault_at(&self, kind: FaultKind, thread: u32) -> Option<Fault>
         requires { thread ≤ 16 }
-        ensures { result
-            ≡ slice_get (spec.fault_at self.now kind thread (next_line self.now.program self.now.controls thread)) 0 }
+        ensures { result ≡ slice_get (spec.fault_at self.now kind thread (line_of self.now thread)) 0 }
     {
         let line = self.controls.line(self.program, thread)?;
         if self.has_fault(kind, thread, line.stmt) {
@@ -229,8 +228,7 @@ impl<'a> World<'a> {
 
     // What the next statement of a thread does with a buffer.
     fn next_access(&self, thread: u32) -> Option<Access>
-        ensures { option_map view_access result
-            ≡ spec.access_at (next_line self.now.program self.now.controls thread) }
+        ensures { option_map view_access result ≡ spec.access_at (line_of self.now thread) }
     {
         access_of(self.controls.line(self.program, thread)?.stmt)
     }
@@ -284,7 +282,7 @@ impl<'a> World<'a> {
 
     // Whether the pool has no room for these items of a thread. A number that names no list says no items.
     fn overfills(&self, thread: u32, k: usize) -> bool
-        ensures { result ≡ overfills self.now.program self.now.controls.pool (items_at (lists_of self.now.program thread) k) }
+        ensures { result ≡ spec.is_double_at self.now thread (Put k) }
     {
         let pool = self.controls.pool();
         match self.program.lists_of(thread as usize).get(k) {
@@ -362,7 +360,7 @@ fn any_has_data(requests: &[Request], user_data: u64) -> bool
 }
 
 fn any_pending_has_data(pending: &[Pending], user_data: u64) -> bool
-    ensures { result ≡ list_any (λ p. spec.has_data user_data p.request) (map view_pending pending.now) }
+    ensures { result ≡ harm.is_pending user_data (map view_pending pending.now) }
 {
     for pending in pending {
         if pending.request.user_data == user_data {

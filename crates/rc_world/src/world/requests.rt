@@ -2,15 +2,15 @@
 
 ghost use Rattle.std.specs.Prelude.{◌≡◌, ◌<◌, ◌≤◌, ◌&&◌, ◌||◌, length, nat_eq, position, IfSome};
 ghost use Rattle.std.specs.Vec.{vec_capacity, vec_len};
-ghost use Rattle.rc_lang.specs.Requests as requests;
-ghost use Rattle.rc_world.specs.Machine as machine;
+ghost use Rattle.rc_lang.specs.Requests.{may_complete, most_moved};
+ghost use Rattle.rc_world.specs.Machine.{is_read, without_data};
 
 use super::Pending;
 use rc_lang::request::{Kind, Request};
 
 /// Whether a request of this kind fills a buffer.
 pub fn is_read(kind: Kind) -> bool
-    ensures { result ≡ machine.is_read kind }
+    ensures { result ≡ is_read kind }
 {
     match kind {
         Kind::Nop => false,
@@ -22,7 +22,7 @@ pub fn is_read(kind: Kind) -> bool
 
 /// How many bytes a request moves at most.
 pub fn most_moved(request: Request) -> u32
-    ensures { result ≡ requests.most_moved request.len request.kind }
+    ensures { result ≡ most_moved request.len request.kind }
 {
     match request.kind {
         Kind::Nop => 0,
@@ -34,7 +34,7 @@ pub fn most_moved(request: Request) -> u32
 
 /// Whether a request may complete with this result (io_uring_enter(2)).
 pub fn may_complete(request: Request, res: i32) -> bool
-    ensures { result ≡ requests.may_complete request res }
+    ensures { result ≡ may_complete request res }
 {
     match u32::try_from(res) {
         Ok(count) => count <= most_moved(request),
@@ -44,7 +44,7 @@ pub fn may_complete(request: Request, res: i32) -> bool
 
 // Whether an item may complete the request by this result and fill byte.
 pub(super) fn kernel_may(request: Request, res: i32, fill: u8) -> bool
-    ensures { result ≡ (requests.may_complete request res && (nat_eq fill 0 || machine.is_read request.kind)) }
+    ensures { result ≡ (may_complete request res && (nat_eq fill 0 || is_read request.kind)) }
 {
     may_complete(request, res) && (fill == 0 || is_read(request.kind))
 }
@@ -70,7 +70,7 @@ fn place_of(requests: &[Request], user_data: u64) -> Option<usize>
 
 /// Leaves the requests without the first that has this user data. The room stays.
 pub fn remove_first(requests: &mut Vec<Request>, user_data: u64)
-    ensures items { requests.new.items ≡ machine.without_data user_data requests.old.items }
+    ensures items { requests.new.items ≡ without_data user_data requests.old.items }
     ensures fewer { vec_len requests.new ≤ vec_len requests.old }
     ensures capacity { vec_capacity requests.new ≡ vec_capacity requests.old }
 {

@@ -1,14 +1,18 @@
 //! What the steps of threads and of the kernel do to the rings and the buffers.
 
-ghost use Rattle.std.specs.Prelude.{◌≡◌, ◌+◌, ◌<◌, ◌≤◌, ◌^◌, true, false, length, map, option_map, pos, IfSome, IsSome, MatchResult};
+ghost use Rattle.std.specs.Prelude.{◌≡◌, ◌+◌, ◌<◌, ◌≤◌, ◌^◌, true, false, length, map, option_map, pos, IfSome, IsSome};
 ghost use Rattle.std.specs.List.{list_any};
 ghost use Rattle.std.specs.Vec.{vec_capacity, vec_len};
-ghost use Rattle.rc_world.specs.Changes.{CallIsSmall, StmtIsSmall, standing_at};
-ghost use Rattle.rc_world.specs.Faults.{clash, clashes, has_buffer};
-ghost use Rattle.rc_world.specs.Items as items;
+ghost use Rattle.rc_lang.specs.declared.lines.Stmt.TheVariants.{Do};
+ghost use Rattle.rc_world.specs.declared.event.Item.TheVariants.{Kernel};
+ghost use Rattle.rc_world.specs.Changes.{CallIsSmall, StmtIsSmall};
+ghost use Rattle.rc_world.specs.Faults.{clash, clashes};
+ghost use Rattle.rc_world.specs.Items.{item_step};
+ghost use Rattle.rc_world.specs.Kept.{BufferExists};
 ghost use Rattle.rc_world.specs.Machine as machine;
+ghost use Rattle.rc_world.specs.Machine.{bytes_of, fills, hands_over, stores};
 ghost use Rattle.rc_world.specs.Parts.{refilled};
-ghost use Rattle.rc_world.specs.WorldParts.{begun_buffers, begun_pending, given_in, view_pending};
+ghost use Rattle.rc_world.specs.WorldParts.{Becomes, HaveBegun, Tries, TriesEvent, begun_buffers, given_in, ring_step, view_pending};
 
 use super::bytes::Bytes;
 use super::faults::{has_buffer, names};
@@ -24,11 +28,9 @@ impl<'a> World<'a> {
     pub(super) fn rings(&mut self, thread: u32, stmt: Stmt, taken: i32) -> Result<(), AllocError>
         requires exists { thread < length self.old.controls.threads }
         requires small { StmtIsSmall self.old.program stmt }
-        requires step { IsSome (machine.in_rings self.old (standing_at self.old.controls thread) taken stmt) }
+        requires step { IsSome (ring_step self.old thread taken stmt) }
         requires room { self.old.made + 1 < 2 ^ 64 }
-        ensures { MatchResult result
-            (λ _. machine.in_rings self.old (standing_at self.old.controls thread) taken stmt ≡ Some self.new)
-            (λ _. self.new ≡ self.old) }
+        ensures { Tries result self.old self.new (λ w. ring_step w thread taken stmt) }
     {
         match stmt {
             Stmt::Do(op) => self.call(thread, op, taken),
@@ -40,11 +42,9 @@ impl<'a> World<'a> {
     fn call(&mut self, thread: u32, op: Op, taken: i32) -> Result<(), AllocError>
         requires exists { thread < length self.old.controls.threads }
         requires small { CallIsSmall self.old.program op }
-        requires step { IsSome (machine.op_in_rings self.old (standing_at self.old.controls thread) taken op) }
+        requires step { IsSome (ring_step self.old thread taken (Do op)) }
         requires room { self.old.made + 1 < 2 ^ 64 }
-        ensures { MatchResult result
-            (λ _. machine.op_in_rings self.old (standing_at self.old.controls thread) taken op ≡ Some self.new)
-            (λ _. self.new ≡ self.old) }
+        ensures { Tries result self.old self.new (λ w. ring_step w thread taken (Do op)) }
     {
         match op {
             Op::Store(buffer, i, x) => {
@@ -74,10 +74,8 @@ impl<'a> World<'a> {
 
     // A byte is written at a place of a buffer.
     fn store(&mut self, buffer: usize, i: u32, byte: u8) -> Result<(), AllocError>
-        requires { IsSome (machine.stores self.old buffer i byte (machine.bytes_of self.old buffer)) }
-        ensures { MatchResult result
-            (λ _. machine.stores self.old buffer i byte (machine.bytes_of self.old buffer) ≡ Some self.new)
-            (λ _. self.new ≡ self.old) }
+        requires { IsSome (stores self.old buffer i byte (bytes_of self.old buffer)) }
+        ensures { Tries result self.old self.new (λ w. stores w buffer i byte (bytes_of w buffer)) }
     {
         match &mut self.buffers[buffer] {
             Some(bytes) => bytes.store(i as usize, byte)?,
@@ -88,10 +86,8 @@ impl<'a> World<'a> {
 
     // A byte is written at every place of a buffer.
     fn fill(&mut self, buffer: usize, byte: u8) -> Result<(), AllocError>
-        requires { IsSome (machine.fills self.old buffer byte (machine.bytes_of self.old buffer)) }
-        ensures { MatchResult result
-            (λ _. machine.fills self.old buffer byte (machine.bytes_of self.old buffer) ≡ Some self.new)
-            (λ _. self.new ≡ self.old) }
+        requires { IsSome (fills self.old buffer byte (bytes_of self.old buffer)) }
+        ensures { Tries result self.old self.new (λ w. fills w buffer byte (bytes_of w buffer)) }
     {
         match &mut self.buffers[buffer] {
             Some(bytes) => bytes.fill(byte)?,
@@ -110,7 +106,7 @@ impl<'a> World<'a> {
 
     // The open entry is filled.
     fn prepare(&mut self, request: Request)
-        requires exists { has_buffer request.kind ≡ true → request.buffer < length self.old.program.buffers }
+        requires exists { BufferExists self.old.program request }
         requires step { IsSome (machine.prepares self.old request self.old.slot) }
         ensures { machine.prepares self.old request self.old.slot ≡ Some self.new }
     {
@@ -121,9 +117,7 @@ impl<'a> World<'a> {
     fn queue(&mut self, user_data: u64) -> Result<(), AllocError>
         requires step { IsSome (machine.queues self.old user_data self.old.slot) }
         requires room { self.old.made + 1 < 2 ^ 64 }
-        ensures { MatchResult result
-            (λ _. machine.queues self.old user_data self.old.slot ≡ Some self.new)
-            (λ _. self.new ≡ self.old) }
+        ensures { Tries result self.old self.new (λ w. machine.queues w user_data w.slot) }
     {
         let Slot::Prepared(request) = self.slot else {
             unreachable!()
@@ -142,9 +136,7 @@ impl<'a> World<'a> {
     // The first queued requests become pending, as many as the submit took.
     fn hand_over(&mut self, taken: i32) -> Result<(), AllocError>
         requires { machine.is_take self.old taken ≡ true }
-        ensures { MatchResult result
-            (λ _. self.new ≡ machine.hands_over self.old (machine.count_in taken))
-            (λ _. self.new ≡ self.old) }
+        ensures { Becomes result self.old self.new (λ w. hands_over w (machine.count_in taken)) }
     {
         let count = count_in(taken);
         self.pending.reserve(count)?;
@@ -171,11 +163,8 @@ impl<'a> World<'a> {
         fill: u8,
     ) -> Result<Event, AllocError>
         requires calm { clashes self.old.pending ≡ false }
-        requires step { IsSome (items.kernel_item self.old res fill (items.pending_place self.old user_data)) }
-        ensures { MatchResult result
-            (λ e. items.kernel_item self.old res fill (items.pending_place self.old user_data)
-            ≡ Some (e, self.new))
-            (λ _. self.new ≡ self.old) }
+        requires step { IsSome (item_step self.old (Kernel user_data res fill)) }
+        ensures { TriesEvent result self.old self.new (λ w. item_step w (Kernel user_data res fill)) }
     {
         let Some(place) = place_of_pending(&self.pending, user_data) else {
             unreachable!()
@@ -194,10 +183,8 @@ impl<'a> World<'a> {
 
 // The first bytes of a read become the fill byte.
 fn refill(bytes: &mut Option<Bytes>, count: usize, fill: u8) -> Result<(), AllocError>
-    requires { IfSome bytes.old (λ stood. count ≤ length stood) }
-    ensures { MatchResult result
-        (λ _. bytes.new ≡ option_map (refilled count fill) bytes.old)
-        (λ _. bytes.new ≡ bytes.old) }
+    requires { IfSome bytes.old (λ b. count ≤ length b) }
+    ensures { Becomes result bytes.old bytes.new (option_map (refilled count fill)) }
 {
     match bytes {
         Some(bytes) => bytes.refill(count, fill),
@@ -256,8 +243,7 @@ fn begin_all(
 ) -> bool
     requires room { vec_len pending.old + length requests.now ≤ vec_capacity pending.old }
     requires clash { had_clash ≡ clashes (map view_pending pending.old.items) }
-    ensures pending { map view_pending pending.new.items
-        ≡ begun_pending (map view_pending pending.old.items) buffers.old.items requests.now }
+    ensures pending { HaveBegun pending.old pending.new buffers.old.items requests.now }
     ensures buffers { buffers.new.items ≡ begun_buffers buffers.old.items requests.now }
     ensures clash { result ≡ clashes (map view_pending pending.new.items) }
 {

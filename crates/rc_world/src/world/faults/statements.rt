@@ -2,6 +2,7 @@
 
 ghost use Rattle.std.specs.Prelude.{◌≡◌, ◌&&◌, option_map};
 ghost use Rattle.rc_world.specs.Faults as spec;
+ghost use Rattle.rc_world.specs.Faults.{conflicts};
 ghost use Rattle.rc_world.specs.WorldParts.{view_access};
 
 use crate::world::Slot;
@@ -37,7 +38,7 @@ pub(super) fn access_of(stmt: Stmt) -> Option<Access>
 }
 
 pub(super) fn conflicts(access: Option<Access>, other: Option<Access>) -> bool
-    ensures { result ≡ spec.conflicts (option_map view_access access) (option_map view_access other) }
+    ensures { result ≡ conflicts (option_map view_access access) (option_map view_access other) }
 {
     match (access, other) {
         (Some(access), Some(other)) => {
