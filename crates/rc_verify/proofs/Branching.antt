@@ -31,7 +31,7 @@ use Rattle.rc_rules.specs.States.{State, AgreeOnLock, Becomes, Gives, IsOfSame, 
 use Rattle.rc_verify.specs.declared.walk.Walk.{Walk}
 use Rattle.rc_verify.specs.Arms.{two}
 use Rattle.rc_verify.specs.Branches.{KeepsOther, MayTest}
-use Rattle.rc_verify.specs.Kept.{last_of, rest_of}
+use Rattle.rc_verify.specs.Stack.{last_of, rest_of}
 use Rattle.rc_verify.specs.Walk.{AreKept, Fits, IsBranch, OnKept, PassesLine, Reaches, branch_place, loop_place, most_at, peek_place, places}
 use Rattle.rc_verify.proofs.Fit.{fits_alike, fits_more, gate_fits, strongest_fits, test_fits}
 use Rattle.rc_verify.proofs.Joining.{above, below}

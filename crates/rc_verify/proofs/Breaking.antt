@@ -15,7 +15,7 @@ use Rattle.rc_rules.specs.Rules.{asks, asks_both, may_break}
 use Rattle.rc_rules.specs.Sides.{Sides, on}
 use Rattle.rc_rules.specs.States.{State, Gives, IsLocked, OnBoth, label_of, program_of, sides_of}
 use Rattle.rc_verify.specs.declared.walk.Walk.{Walk}
-use Rattle.rc_verify.specs.Kept.{last_of, rest_of}
+use Rattle.rc_verify.specs.Stack.{last_of, rest_of}
 use Rattle.rc_verify.specs.Arms.{two}
 use Rattle.rc_verify.specs.Loops.{Breaks, MayBreak, taken}
 use Rattle.rc_verify.specs.Walk.{AreKept, Fits, IsClosed, IsLoop, OnKept, PassesLine, Reaches, branch_place, loop_place, most_at, peek_place, places}

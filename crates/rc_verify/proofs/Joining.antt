@@ -12,7 +12,7 @@ use Rattle.rc_rules.proofs.Growth.{agree_grows}
 use Rattle.rc_rules.proofs.Weaker.{meets_left, meets_right, not_both, weaker_refl}
 use Rattle.rc_verify.specs.declared.arms.Arms.{Arms}
 use Rattle.rc_verify.specs.Arms.{Joins, JoinsOn, two}
-use Rattle.rc_verify.specs.Kept.{last_of, rest_of}
+use Rattle.rc_verify.specs.Stack.{last_of, rest_of}
 use Rattle.rc_verify.specs.Loops.{Breaks, FitsWith, KeepsMeet, MayBreak, taken}
 
 -- ---- labels that say the same

@@ -9,7 +9,7 @@ use Rattle.rc_lang.specs.declared.lines.Block.TheVariants.{InLock, InIf, InElse,
 use Rattle.rc_lang.specs.Nesting.{innermost, without_innermost}
 use Rattle.rc_lang.proofs.Lookups.{innermost_split}
 use Rattle.rc_rules.specs.States.{State}
-use Rattle.rc_verify.specs.Kept.{kept_in, last_of, rest_of}
+use Rattle.rc_verify.specs.Stack.{kept_in, last_of, rest_of}
 use Rattle.rc_verify.specs.Walk.{AreKept, OnKept, branch_place, listed, loop_place, places}
 
 -- ---- places

@@ -21,7 +21,7 @@ use Rattle.rc_rules.specs.Rules.{asks_both, broken, may_loop, top}
 use Rattle.rc_rules.specs.Sides.{Sides, brings, forgets, on, turns}
 use Rattle.rc_rules.specs.States.{State, Gives, IsOfSame, OnBoth, label_of, program_of, sides_of}
 use Rattle.rc_verify.specs.declared.walk.Walk.{Walk}
-use Rattle.rc_verify.specs.Kept.{last_of, rest_of}
+use Rattle.rc_verify.specs.Stack.{last_of, rest_of}
 use Rattle.rc_verify.specs.Loops.{ClosesLoop, KeepsDead}
 use Rattle.rc_verify.specs.Walk.{AreKept, Fits, IsClosed, IsLoop, OnKept, PassesLine, Reaches, branch_place, loop_place, most_at, peek_place, places}
 use Rattle.rc_verify.proofs.Branching.{on_ok}

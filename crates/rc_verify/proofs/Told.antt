@@ -8,7 +8,7 @@ use Rattle.rc_rules.specs.Labellings.{HasLabels, IsGood, IsRefusedAt}
 use Rattle.rc_rules.specs.Sides.{on, unreached}
 use Rattle.rc_rules.specs.States.{program_of, sides_of}
 use Rattle.rc_verify.specs.declared.walk.Walk.{Walk}
-use Rattle.rc_verify.specs.Labels.{Goes, IsHere, IsRefusedFor, IsStrongestAt, Labels, Stands}
+use Rattle.rc_verify.specs.Labels.{Goes, IsHere, IsRefusedFor, IsStrongestAt, Labels, IsAtLine}
 use Rattle.rc_verify.specs.Walk.{Reaches}
 use Rattle.rc_verify.proofs.Beginning.{refuses_line, same_thread}
 
@@ -29,22 +29,22 @@ told P t j w r = record {
 here_at : (P : Program) (t : Thread) (j : ℕ) (w : Walk) → Reaches P t j w → IsHere P t j w.state
 here_at P t j w r = (r.at.here.of, told P t j w r)
 
-pub here_now : (P : Program) (t : Thread) (j : ℕ) (w : Walk) (x : Option Cause) → Stands P t j w x → IsHere P t j w.state
+pub here_now : (P : Program) (t : Thread) (j : ℕ) (w : Walk) (x : Option Cause) → IsAtLine P t j w x → IsHere P t j w.state
 here_now P t j w None r = here_at P t j w r
 here_now P t j w (Some c) s = s.1
 
-pub refused_here : (P : Program) (t : Thread) (j : ℕ) (old new : Walk) (x : Option Cause) (cause : Cause) → Stands P t j old x → x ≡ None → IsRefusedFor (program_of old.state) t j cause → new.state ≡ old.state → IsRefusedFor P t j cause × IsHere P t j new.state
+pub refused_here : (P : Program) (t : Thread) (j : ℕ) (old new : Walk) (x : Option Cause) (cause : Cause) → IsAtLine P t j old x → x ≡ None → IsRefusedFor (program_of old.state) t j cause → new.state ≡ old.state → IsRefusedFor P t j cause × IsHere P t j new.state
 refused_here P t j old new None cause r n f e = (subst (λ (y : Program). IsRefusedFor y t j cause) r.at.here.of.program f, subst (IsHere P t j) (sym e) (here_at P t j old r))
 refused_here P t j old new (Some c) cause s n f e = absurd cc
 
-module _ (P : Program) (t : Thread) (j : ℕ) (w : Walk) (x : Option Cause) (v : Labels) (e : record { program = P; thread = t; place = j; state = w.state } ≡ v) (s : Stands P t j w x) where
+module _ (P : Program) (t : Thread) (j : ℕ) (w : Walk) (x : Option Cause) (v : Labels) (e : record { program = P; thread = t; place = j; state = w.state } ≡ v) (s : IsAtLine P t j w x) where
   pub told_view : IsHere v.program v.thread v.place v.state
   told_view = subst (λ (u : Labels). IsHere u.program u.thread u.place u.state) e (here_now P t j w x s)
 
   pub at_end : x ≡ None → length t.lines ≤ j → (v.place ≡ length v.thread.lines) × HasLabels v.program v.thread v.thread.lines
   at_end n le = subst (λ (u : Labels). (u.place ≡ length u.thread.lines) × HasLabels u.program u.thread u.thread.lines) e (go x s n)
     where
-      go : (x : Option Cause) → Stands P t j w x → x ≡ None → (j ≡ length t.lines) × HasLabels P t t.lines
+      go : (x : Option Cause) → IsAtLine P t j w x → x ≡ None → (j ≡ length t.lines) × HasLabels P t t.lines
       go None r n = (let within = r.at.within in omega (arith, within, le), (r.labels, subst (λ ls. IsGood P t ls r.labels) (take_all j t.lines le) r.at.strongest.good))
       go (Some c) r n = absurd cc
 

@@ -1,5 +1,5 @@
 -- What the verifier answers.
-use Rattle.std.specs.Prelude.{ℕ, ◌≡◌, ◌⊎◌, Result, Ok, Err}
+use Rattle.std.specs.Prelude.{ℕ, ◌≡◌, ◌⊎◌, Result, Ok, Err, Some, slice_get}
 use Rattle.rc_lang.specs.declared.lines.Line.{Line}
 use Rattle.rc_lang.specs.Program.{Program, Thread}
 use Rattle.rc_rules.specs.Causes.{premise_number}
@@ -7,6 +7,10 @@ use Rattle.rc_rules.specs.Labellings.{HasLabels, Passes, Accepts, IsHeaderRefuse
 use Rattle.rc_verify.specs.declared.refusal.Refusal.{Refusal}
 use Rattle.rc_verify.specs.declared.refusal.VerifyFault.{VerifyFault}
 use Rattle.rc_verify.specs.declared.refusal.VerifyFault.TheVariants.{Refused, OutOfMemory}
+
+-- It is so of the thread with this number.
+abbrev pub OnThread : Program → ℕ → (Thread → Type 0) → Type 0
+OnThread P i F = (t : Thread) → slice_get P.threads i ≡ Some t → F t
 
 -- The lines of a thread have a labelling, or this one is refused.
 abbrev pub IsWalked : {X : Type 0} → Program → Thread → Result X Refusal → Type 0

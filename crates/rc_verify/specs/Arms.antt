@@ -5,10 +5,10 @@ use Rattle.rc_rules.specs.declared.flag.Write.TheVariants.{Anything}
 use Rattle.rc_rules.specs.declared.mode.Peeked.TheVariants.{Unseen}
 use Rattle.rc_rules.specs.Causes.{premise_number}
 use Rattle.rc_rules.specs.Labels.{Label, Dead, IsStrongest}
-use Rattle.rc_rules.specs.Premises.{Meets, FailsFirst}
+use Rattle.rc_rules.specs.Premises.{Premise, Meets, FailsFirst}
 use Rattle.rc_rules.specs.Rules.{asks_both, joins_both, peek_at, peek_premises}
 use Rattle.rc_rules.specs.Sides.{brings, turns, write_to}
-use Rattle.rc_rules.specs.States.{State, Becomes, IsOfSame, label_of}
+use Rattle.rc_rules.specs.States.{State, AgreeOnLock, Becomes, Gives, IsOfSame, label_of}
 use Rattle.rc_verify.specs.declared.arms.Arms.{Arms}
 
 -- No arm has ended, and what is known before them is this state.
@@ -18,17 +18,43 @@ pub record IsOpened (s : State) (a : Arms) : Type 0 where
   pub of : IsOfSame a.ends s
   pub agree : a.agree ≡ true
 
+-- the premises of a peek, and of each of its arms
+abbrev pub peek_asks : State → List (ℕ × Premise)
+peek_asks s = asks_both (label_of s) (λ z bag m. peek_premises m)
+
+-- Where a peek writes the flag, what is known on a side is what was known on both.
+abbrev pub PeeksInto : ℕ → State → State → Type 0
+PeeksInto x old new = Becomes old new (λ z. brings (λ y. turns (write_to old.flag x Anything) y z) (λ s. s) (label_of old))
+
 -- What is known after the peek, before its arms, becomes the state; where the peek writes the flag, of both sides.
 abbrev pub OpensPeek : {X : Type 0} → ℕ → State → State → Option Arms → Result X Cause → Type 0
 OpensPeek x old new peek (Ok y) =
-    Meets (asks_both (label_of old) (λ z bag m. peek_premises m))
-    × Becomes old new (λ z. brings (λ y. turns (write_to old.flag x Anything) y z) (λ s. s) (label_of old))
-    × ((a : Arms) × (peek ≡ Some a) × IsOpened new a)
-OpensPeek x old new peek (Err cause) = FailsFirst (premise_number cause) (asks_both (label_of old) (λ z bag m. peek_premises m))
+    Meets (peek_asks old) × PeeksInto x old new × ((a : Arms) × (peek ≡ Some a) × IsOpened new a)
+OpensPeek x old new peek (Err cause) = FailsFirst (premise_number cause) (peek_asks old)
 
 -- the labels of two states, those of one side beside each other
 abbrev pub two : (Bool → Label) → (Bool → Label) → Bool → List Label
 two s t z = s z ∷ t z ∷ []
+
+-- The premises of the peek hold before the arms, and the state becomes what the arm is entered with.
+abbrev pub EntersArm : {X : Type 0} → Arms → (Label → Label) → State → Result X Cause → Type 0
+EntersArm a arm new result = Gives a.before new result (peek_asks a.before) (λ z. arm (label_of a.before z) ∷ [])
+
+-- Unless a side is dead, the state and this end are locked, or both are not.
+abbrev pub AreAlike : State → (Bool → Label) → Type 0
+AreAlike s end = (y z : Bool) → AgreeOnLock (label_of s y) (end z)
+
+-- the labels of an arm's end
+abbrev pub arm_end : State → Bool → Label
+arm_end s z = peek_at Unseen (label_of s z)
+
+-- As long as the ends agree, this one is like them.
+abbrev pub MayEnd : Arms → (Bool → Label) → Type 0
+MayEnd a end = a.agree ≡ true → AreAlike a.ends end
+
+-- The state and this end meet, or their slots aren't at one stage.
+abbrev pub GivesMeet : {X : Type 0} → State → State → (Bool → Label) → Result X Cause → Type 0
+GivesMeet old new end result = Gives old new result (joins_both (two (label_of old) end)) (two (label_of old) end)
 
 -- This end and the ones before agree, and the new meet is that of both; or they don't, and nothing changes.
 abbrev pub Joins : State → State → (Bool → Label) → Bool → Type 0
@@ -40,13 +66,16 @@ abbrev pub JoinsOn : State → State → (Bool → Label) → Bool → Bool → 
 JoinsOn old new end agrees true = Joins old new end agrees
 JoinsOn old new end agrees false = agrees ≡ false
 
+abbrev pub JoinsEnd : Arms → Arms → (Bool → Label) → Type 0
+JoinsEnd old new end = JoinsOn old.ends new.ends end new.agree old.agree
+
 -- An arm has ended in a state; after it nothing is peeked.
 pub record EndsArm (old new : Arms) (s : State) : Type 0 where
   pub before : new.before ≡ old.before
   pub end : Bool → Label
-  pub forgets : (z : Bool) → IsStrongest (end z) (peek_at Unseen (label_of s z) ∷ [])
+  pub forgets : (z : Bool) → IsStrongest (end z) (arm_end s z ∷ [])
   pub of : IsOfSame new.ends old.ends
-  pub joins : JoinsOn old.ends new.ends end new.agree old.agree
+  pub joins : JoinsEnd old new end
 
 abbrev pub EndsArmIn : Arms → Option Arms → State → Type 0
 EndsArmIn old peek s = (new : Arms) × (peek ≡ Some new) × EndsArm old new s

@@ -1,7 +1,8 @@
 -- Where a part was last held.
-use Rattle.std.specs.Prelude.{ℕ, ◌≡◌, ◌<◌, Bool, true, false, Option, Some, None}
+use Rattle.std.specs.Prelude.{ℕ, ◌≡◌, ◌<◌, ◌≤◌, Bool, true, false, Option, Some, None, length, slice_get, take}
 use Rattle.rc_lang.specs.Program.{Program, Thread}
 use Rattle.rc_split.specs.declared.part.Part.{Part as Given}
+use Rattle.rc_rules.specs.Labellings.{HasLabels}
 use Rattle.rc_rules.specs.Readers.{some_has}
 use Rattle.rc_rules.specs.Sides.{Sides, on}
 use Rattle.rc_verify.specs.Labels.{IsStrongestAt}
@@ -14,3 +15,8 @@ HasAt P t j part has = (s : Sides) × IsStrongestAt P t j s × (some_has (λ z. 
 abbrev pub IsLastHeld : Program → Thread → ℕ → Given → Option ℕ → Type 0
 IsLastHeld P t n part None = (j : ℕ) → j < n → HasAt P t j part false
 IsLastHeld P t n part (Some k) = (k < n) × HasAt P t k part true × ((j : ℕ) → k < j → j < n → HasAt P t j part false)
+
+-- It is found where the lines before n have labels.
+abbrev pub FindsLastHeld : Program → ℕ → ℕ → Given → Option ℕ → Type 0
+FindsLastHeld P i n part last =
+    (t : Thread) → slice_get P.threads i ≡ Some t → n ≤ length t.lines → HasLabels P t (take n t.lines) → IsLastHeld P t n part last

@@ -24,6 +24,10 @@ pub record Labels : Type 0 where
   pub place : ℕ
   pub state : State
 
+-- The state has the strongest labels at the place.
+abbrev pub HasStrongest : Labels → Type 0
+HasStrongest l = IsStrongestAt l.program l.thread l.place (sides_of l.state)
+
 -- The line at j is refused for this cause.
 abbrev pub IsRefusedFor : Program → Thread → ℕ → Cause → Type 0
 IsRefusedFor P t j cause = (l : Line) × IsRefusedAt P t j l (premise_number cause)
@@ -39,6 +43,6 @@ Goes old new (Ok false) = (new ≡ old) × (old.place ≡ length old.thread.line
 Goes old new (Err cause) = (new ≡ old) × IsRefusedFor old.program old.thread old.place cause
 
 -- Inside, a walk has come to the line, or the line is refused, and the state is that before it.
-abbrev pub Stands : Program → Thread → ℕ → Walk → Option Cause → Type 0
-Stands P t j w None = Reaches P t j w
-Stands P t j w (Some cause) = IsRefusedFor P t j cause × IsHere P t j w.state
+abbrev pub IsAtLine : Program → Thread → ℕ → Walk → Option Cause → Type 0
+IsAtLine P t j w None = Reaches P t j w
+IsAtLine P t j w (Some cause) = IsRefusedFor P t j cause × IsHere P t j w.state

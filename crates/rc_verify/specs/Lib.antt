@@ -1,6 +1,6 @@
 pub mod Strongest
 pub mod Answer
-pub mod Kept
+pub mod Stack
 pub mod Branches
 pub mod Arms
 pub mod Loops

@@ -151,3 +151,10 @@ pub record Reaches (P : Program) (t : Thread) (j : ℕ) (w : Walk) : Type 0 wher
 abbrev pub PassesLine : {X : Type 0} → Program → Thread → ℕ → Walk → Result X Cause → Type 0
 PassesLine P t j w (Ok x) = Reaches P t (j + 1) w
 PassesLine P t j w (Err cause) = (l : Line) × IsRefusedAt P t j l (premise_number cause)
+
+-- The same of the program that the walk goes over.
+abbrev pub IsBefore : Thread → ℕ → Walk → Type 0
+IsBefore t j w = Reaches (program_of w.state) t j w
+
+abbrev pub Passes : {X : Type 0} → Thread → ℕ → Walk → Walk → Result X Cause → Type 0
+Passes t j old new result = PassesLine (program_of old.state) t j new result

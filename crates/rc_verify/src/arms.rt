@@ -86,7 +86,7 @@ pub fn open_peek<'a>(
 
 /// What holds after a peek into the variable, before its arms.
 fn peek_into(state: &mut State, variable: usize)
-    ensures { states.Becomes state.old state.new (λ z. sides.brings (λ y. sides.turns (sides.write_to state.old.flag variable writes.Anything) y z) (λ s. s) (states.label_of state.old)) }
+    ensures { spec.PeeksInto variable state.old state.new }
 {
     if state.flag() == Some(variable) {
         state.flag_lost();
@@ -104,7 +104,7 @@ pub fn arms_of<'a, 'b>(peek: &'b Peek<'a>) -> &'b Arms<'a>
 /// `case U {`. The token is declared.
 pub fn enter_case<'a>(state: &mut State<'a>, arms: &Arms<'a>, user_data: u64) -> Result<(), Cause>
     requires { DeclaresToken (states.program_of arms.now.before) user_data }
-    ensures { states.Gives arms.now.before state.new result (rules.asks_both (states.label_of arms.now.before) (λ z bag m. rules.peek_premises m)) (λ z. rules.case_at user_data (states.label_of arms.now.before z) ∷ []) }
+    ensures { spec.EntersArm arms.now (rules.case_at user_data) state.new result }
 {
     state.copy_from(&arms.before);
     state.arm_case(user_data)?;
@@ -113,7 +113,7 @@ pub fn enter_case<'a>(state: &mut State<'a>, arms: &Arms<'a>, user_data: u64) ->
 
 /// `other {`.
 pub fn enter_other<'a>(state: &mut State<'a>, arms: &Arms<'a>) -> Result<(), Cause>
-    ensures { states.Gives arms.now.before state.new result (rules.asks_both (states.label_of arms.now.before) (λ z bag m. rules.peek_premises m)) (λ z. rules.peek_at peeks.SeesOther (states.label_of arms.now.before z) ∷ []) }
+    ensures { spec.EntersArm arms.now (rules.peek_at peeks.SeesOther) state.new result }
 {
     state.copy_from(&arms.before);
     state.arm_other()
@@ -121,7 +121,7 @@ pub fn enter_other<'a>(state: &mut State<'a>, arms: &Arms<'a>) -> Result<(), Cau
 
 /// `none {`.
 pub fn enter_none<'a>(state: &mut State<'a>, arms: &Arms<'a>) -> Result<(), Cause>
-    ensures { states.Gives arms.now.before state.new result (rules.asks_both (states.label_of arms.now.before) (λ z bag m. rules.peek_premises m)) (λ z. rules.peek_at peeks.Unseen (states.label_of arms.now.before z) ∷ []) }
+    ensures { spec.EntersArm arms.now (rules.peek_at peeks.Unseen) state.new result }
 {
     state.copy_from(&arms.before);
     state.arm_none()
@@ -130,10 +130,10 @@ pub fn enter_none<'a>(state: &mut State<'a>, arms: &Arms<'a>) -> Result<(), Caus
 /// An arm's end joins the ends before it, as long as they agree.
 fn join_end<'a>(arms: &mut Arms<'a>, end: &State<'a>)
     requires of { states.IsOfSame end.now arms.old.ends }
-    requires alike { arms.old.agree ≡ true → (y z : Bool) → states.AgreeOnLock (states.label_of arms.old.ends y) (states.label_of end.now z) }
+    requires alike { spec.MayEnd arms.old (states.label_of end.now) }
     ensures before { arms.new.before ≡ arms.old.before }
     ensures of { states.IsOfSame arms.new.ends arms.old.ends }
-    ensures joins { spec.JoinsOn arms.old.ends arms.new.ends (states.label_of end.now) arms.new.agree arms.old.agree }
+    ensures joins { spec.JoinsEnd arms.old arms.new (states.label_of end.now) }
 {
     if arms.agree {
         arms.agree = arms.ends.meet(end).is_ok();
@@ -143,7 +143,7 @@ fn join_end<'a>(arms: &mut Arms<'a>, end: &State<'a>)
 /// The closing brace of an arm: nothing comes from above after it.
 fn end_arm<'a>(state: &mut State<'a>, arms: &mut Arms<'a>)
     requires of { states.IsOfSame state.old arms.old.ends }
-    requires alike { arms.old.agree ≡ true → (y z : Bool) → states.AgreeOnLock (states.label_of arms.old.ends y) (rules.peek_at peeks.Unseen (states.label_of state.old z)) }
+    requires alike { spec.MayEnd arms.old (spec.arm_end state.old) }
     ensures dead { states.OnBoth (λ s. s ≡ Dead) state.new }
     ensures same { states.IsOfSame state.new state.old }
     ensures ends { spec.EndsArm arms.old arms.new state.old }
@@ -157,7 +157,7 @@ fn end_arm<'a>(state: &mut State<'a>, arms: &mut Arms<'a>)
 pub fn end_arms<'a>(state: &mut State<'a>, peek: &mut Peek<'a>)
     requires kept { IsSome peek.old }
     requires of { IfSome peek.old (λ a. states.IsOfSame state.old a.ends) }
-    requires alike { IfSome peek.old (λ a. a.agree ≡ true → (y z : Bool) → states.AgreeOnLock (states.label_of a.ends y) (rules.peek_at peeks.Unseen (states.label_of state.old z))) }
+    requires alike { IfSome peek.old (λ a. spec.MayEnd a (spec.arm_end state.old)) }
     ensures dead { states.OnBoth (λ s. s ≡ Dead) state.new }
     ensures same { states.IsOfSame state.new state.old }
     ensures ends { (a : parts.Arms) → peek.old ≡ Some a → spec.EndsArmIn a peek.new state.old }

@@ -1,15 +1,15 @@
 //! The headers of threads: what they hold together is at most what there is.
 
-ghost use Rattle.std.specs.Prelude.{◌≡◌, ◌+◌, ◌<◌, List, length, nat_le, take, OnOk};
+ghost use Rattle.std.specs.Prelude.{◌≡◌, ◌+◌, ◌<◌, length, nat_le, OnOk};
 ghost use Rattle.std.specs.List.{list_all};
 ghost use Rattle.rc_lang.specs.Parts.{view_items};
-ghost use Rattle.rc_lang.specs.Program.{IsItems, Thread};
-ghost use Rattle.rc_rules.specs.Labellings.{header_premises, headers_bag};
+ghost use Rattle.rc_lang.specs.Program.{IsItems};
 ghost use Rattle.rc_rules.specs.Premises.{Meets, Tests};
 ghost use Rattle.rc_rules.specs.Rules.{limit};
 ghost use Rattle.rc_split.specs.Bags as bags;
 ghost use Rattle.rc_split.specs.Holdings.{bag, Holds};
 ghost use Rattle.rc_verify.specs.Headers as spec;
+ghost use Rattle.rc_verify.specs.Headers.{header_asks, held_by};
 
 use rc_lang::program::{Items, Program, Share};
 use rc_rules::cause::Cause;
@@ -44,7 +44,7 @@ fn tokens_fit(held: &Holding, tokens: &[u64]) -> bool
 fn judge_items(program: &Program, held: &Holding, items: &Items) -> Result<(), Cause>
     requires within { bags.IsWithin (bag held.now) (limit program.now) }
     requires items { IsItems program.now (view_items items.now) }
-    ensures { (ts : List Thread) → bags.IsSameBag (headers_bag ts) (bags.plus (bag held.now) (bags.bag_of (view_items items.now))) → Tests result (header_premises program.now ts) }
+    ensures { spec.JudgesItems program.now (bag held.now) (view_items items.now) result }
 {
     if !shares_fit(program, held, &items.shares) {
         return Err(Cause::OverShares);
@@ -62,10 +62,10 @@ fn judge_items(program: &Program, held: &Holding, items: &Items) -> Result<(), C
 /// together at most what there is, and all of it is held from now on, or this is the least premise that fails.
 pub fn judge_header(program: &Program, thread: u32, held: &mut Holding) -> Result<(), Cause>
     requires there { thread < length program.now.threads }
-    requires before { Meets (header_premises program.now (take thread program.now.threads)) }
-    requires held { Holds held.old program.now (headers_bag (take thread program.now.threads)) }
-    ensures tests { Tests result (header_premises program.now (take (thread + 1) program.now.threads)) }
-    ensures held { OnOk result (Holds held.new program.now (headers_bag (take (thread + 1) program.now.threads))) }
+    requires before { Meets (header_asks program.now thread) }
+    requires held { Holds held.old program.now (held_by program.now thread) }
+    ensures tests { Tests result (header_asks program.now (thread + 1)) }
+    ensures held { OnOk result (Holds held.new program.now (held_by program.now (thread + 1))) }
 {
     let items = &program.threads()[thread as usize].items;
     judge_items(program, held, items)?;

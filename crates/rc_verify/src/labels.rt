@@ -2,7 +2,6 @@
 
 ghost use Rattle.std.specs.Prelude.{◌≡◌, ◌<◌, length, Some, slice_get};
 ghost use Rattle.rc_lang.specs.Parts.{view_thread};
-ghost use Rattle.rc_rules.specs.States.{sides_of};
 ghost use Rattle.rc_verify.specs.Labels as spec;
 ghost use Rattle.rc_verify.specs.Walk.{IsOf};
 
@@ -12,7 +11,7 @@ use rc_rules::cause::Cause;
 use rc_rules::state::State;
 use std::marker::Model;
 
-/// Stands at a line of a thread, and goes on line by line until the line that is refused, or the thread's end. It takes
+/// Is at a line of a thread, and goes on line by line until the line that is refused, or the thread's end. It takes
 /// no memory.
 #[derive(Drop)]
 pub struct Labels<'a> {
@@ -38,11 +37,12 @@ impl<'a> Model for Labels<'a> {
       state = l.walk.state;
     } };
 
-    ghost invariant = { λ l. spec.Stands l.program.now (view_thread l.part.now) l.place l.walk l.refused };
+    ghost invariant = { λ l. spec.IsAtLine l.program.now (view_thread l.part.now) l.place l.walk l.refused };
 }
 
 impl<'a> Labels<'a> {
-    /// Stands before the first line of a thread.
+    /// Is before the first line of a thread. Inlined, so that the walk is made where it stays, with no copy: it has 46 KB.
+    #[inline(always)]
     pub fn new(program: &'a Program, thread: u32) -> Labels<'a>
         requires { thread < length program.now.threads }
         ensures of { result.program ≡ program.now }
@@ -59,7 +59,7 @@ impl<'a> Labels<'a> {
         }
     }
 
-    /// Stands before the first line of a thread of the program, wherever it was before. As it is large, all threads are
+    /// Is before the first line of a thread of the program, wherever it was before. As it is large, all threads are
     /// walked over with one.
     pub fn begin(&mut self, thread: u32)
         requires { thread < length self.old.program.threads }
@@ -78,7 +78,7 @@ impl<'a> Labels<'a> {
     pub fn state(&self) -> &State<'a>
         ensures value { result.now ≡ self.now.state }
         ensures of { IsOf self.now.program self.now.thread self.now.state }
-        ensures strongest { spec.IsStrongestAt self.now.program self.now.thread self.now.place (sides_of self.now.state) }
+        ensures strongest { spec.HasStrongest self.now }
     {
         &self.walk.state
     }

@@ -1,11 +1,10 @@
 //! The verifier.
 
-ghost use Rattle.std.specs.Prelude.{◌≡◌, ◌+◌, ◌<◌, length, slice_get, Some, take, OnOk};
-ghost use Rattle.rc_lang.specs.Program.{Thread};
-ghost use Rattle.rc_rules.specs.Labellings.{header_premises, headers_bag};
+ghost use Rattle.std.specs.Prelude.{◌≡◌, ◌+◌, ◌<◌, length, OnOk};
 ghost use Rattle.rc_rules.specs.Premises.{Meets};
 ghost use Rattle.rc_split.specs.Holdings.{Holds};
-ghost use Rattle.rc_verify.specs.Answer.{IsJudged, IsWalked, Verifies};
+ghost use Rattle.rc_verify.specs.Answer.{IsJudged, IsWalked, OnThread, Verifies};
+ghost use Rattle.rc_verify.specs.Headers.{header_asks, held_by};
 
 use crate::headers::judge_header;
 use crate::labels::Labels;
@@ -22,7 +21,7 @@ fn walk_thread<'a>(
 ) -> Result<(), Refusal>
     requires there { thread < length program.now.threads }
     requires of { labels.old.program ≡ program.now }
-    ensures walked { (t : Thread) → slice_get program.now.threads thread ≡ Some t → IsWalked program.now t result }
+    ensures walked { OnThread program.now thread (λ t. IsWalked program.now t result) }
     ensures same { labels.new.program ≡ program.now }
 {
     let part = &program.threads()[thread as usize];
@@ -48,11 +47,11 @@ fn judge_thread<'a>(
 ) -> Result<(), Refusal>
     requires there { thread < length program.now.threads }
     requires of { labels.old.program ≡ program.now }
-    requires before { Meets (header_premises program.now (take thread program.now.threads)) }
-    requires held { Holds held.old program.now (headers_bag (take thread program.now.threads)) }
-    ensures judged { (t : Thread) → slice_get program.now.threads thread ≡ Some t → IsJudged program.now thread t result }
+    requires before { Meets (header_asks program.now thread) }
+    requires held { Holds held.old program.now (held_by program.now thread) }
+    ensures judged { OnThread program.now thread (λ t. IsJudged program.now thread t result) }
     ensures same { labels.new.program ≡ program.now }
-    ensures held { OnOk result (Holds held.new program.now (headers_bag (take (thread + 1) program.now.threads))) }
+    ensures held { OnOk result (Holds held.new program.now (held_by program.now (thread + 1))) }
 {
     if let Err(cause) = judge_header(program, thread, held) {
         let line = program.threads()[thread as usize].line;

@@ -1,18 +1,18 @@
 //! The walk over the lines of a thread.
 
-ghost use Rattle.std.specs.Prelude.{◌≡◌, ◌<◌, length, OnErr, Some, slice_get};
+ghost use Rattle.std.specs.Prelude.{◌≡◌, ◌<◌, length, OnErr, Some};
 ghost use Rattle.rc_lang.specs.Parts.{view_thread};
 ghost use Rattle.rc_lang.specs.Program as programs;
 ghost use Rattle.rc_lang.specs.Program.{IsProgram};
-ghost use Rattle.rc_rules.specs.States.{program_of};
+ghost use Rattle.rc_verify.specs.Answer.{OnThread};
 ghost use Rattle.rc_verify.specs.Walk as spec;
 
 use crate::arms::{
     Peek, arms_of, close_peek, end_arms, enter_case, enter_none, enter_other, open_peek,
 };
-use crate::branches::{end_if, enter_if, turn};
-use crate::kept::Kept;
+use crate::branches::{begin_else, end_if, enter_if};
 use crate::loops::{close_loop, leave_loop, open_loop};
+use crate::stack::StateStack;
 use rc_lang::lines::Stmt;
 use rc_lang::program::{Program, Thread};
 use rc_rules::cause::Cause;
@@ -25,31 +25,32 @@ pub struct Walk<'a> {
     /// At most one peek is open.
     peek: Peek<'a>,
     /// Where the test of each open if may fail, or after its else the end of its first branch.
-    branches: Kept<'a>,
+    branches: StateStack<'a>,
     /// What is known where the breaks so far of each open loop join.
-    loops: Kept<'a>,
+    loops: StateStack<'a>,
 }
 
 impl<'a> Walk<'a> {
-    /// Stands before the first line of a thread. A walk is large, so all threads are walked over with one.
+    /// Is before the first line of a thread. A walk is large, so all threads are walked over with one.
+    #[inline(always)]
     pub fn new(program: &'a Program, thread: u32) -> Walk<'a>
         requires made { IsProgram program.now }
         requires there { thread < length program.now.threads }
-        ensures { (t : programs.Thread) → slice_get program.now.threads thread ≡ Some t → spec.Reaches program.now t 0 result }
+        ensures { OnThread program.now thread (λ t. spec.Reaches program.now t 0 result) }
     {
         Walk {
             state: State::first(program, thread),
             peek: Peek::none(program),
-            branches: Kept::new(),
-            loops: Kept::new(),
+            branches: StateStack::new(),
+            loops: StateStack::new(),
         }
     }
 
-    /// Stands before the first line of a thread, whatever was walked over before.
+    /// Is before the first line of a thread, whatever was walked over before.
     pub fn begin(&mut self, program: &'a Program, thread: u32)
         requires made { IsProgram program.now }
         requires there { thread < length program.now.threads }
-        ensures { (t : programs.Thread) → slice_get program.now.threads thread ≡ Some t → spec.Reaches program.now t 0 self.new }
+        ensures { OnThread program.now thread (λ t. spec.Reaches program.now t 0 self.new) }
     {
         self.state = State::first(program, thread);
         self.branches.clear();
@@ -60,9 +61,9 @@ impl<'a> Walk<'a> {
 
 /// Goes over the statement at a place: the least premise that fails, if one does.
 pub fn pass<'a>(walk: &mut Walk<'a>, thread: &Thread, place: usize, stmt: Stmt) -> Result<(), Cause>
-    requires stands { programs.stmt_at thread.now.lines.items place ≡ Some stmt }
-    requires reaches { spec.Reaches (program_of walk.old.state) (view_thread thread.now) place walk.old }
-    ensures passes { spec.PassesLine (program_of walk.old.state) (view_thread thread.now) place walk.new result }
+    requires here { programs.stmt_at thread.now.lines.items place ≡ Some stmt }
+    requires reaches { spec.IsBefore (view_thread thread.now) place walk.old }
+    ensures passes { spec.Passes (view_thread thread.now) place walk.old walk.new result }
     ensures stays { OnErr result (walk.new.state ≡ walk.old.state) }
 {
     match stmt {
@@ -72,7 +73,7 @@ pub fn pass<'a>(walk: &mut Walk<'a>, thread: &Thread, place: usize, stmt: Stmt) 
         Stmt::EndLock(_) => walk.state.release(),
         Stmt::If(test) => enter_if(&mut walk.state, &mut walk.branches, test, &thread.lists),
         Stmt::Else(_) => {
-            turn(&mut walk.state, &mut walk.branches);
+            begin_else(&mut walk.state, &mut walk.branches);
             Ok(())
         }
         Stmt::EndIf(_) => end_if(&mut walk.state, &mut walk.branches),

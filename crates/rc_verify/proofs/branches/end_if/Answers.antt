@@ -6,5 +6,5 @@ use Rattle.rc_verify.proofs.branches.end_if.Goals as goal
 
 pub returns-clause-gives : goal.returns-clause-gives
 returns-clause-gives c = λ s e.
-    let q : c.innermost.result.now ≡ s = cc (c.innermost.ensures, e) in
+    let q : c.top.result.now ≡ s = cc (c.top.ensures, e) in
     subst (λ (t : State). Gives c.args.state.now c.meet-answer.new.self c.meet-answer.result (joins_both (two (label_of c.args.state.now) (label_of t))) (two (label_of c.args.state.now) (label_of t))) q c.meet-answer.ensures

@@ -1,12 +1,10 @@
-//! States that are kept until a block ends.
+//! Stacks of states, each kept until its block ends.
 
 ghost use Rattle.std.specs.Prelude.{◌≡◌, ◌<◌, ◌∷◌, ◌++◌, [], length, Some, IsSome};
-ghost use Rattle.rc_rules.specs.Labels.{Dead};
-ghost use Rattle.rc_rules.specs.States as states;
-ghost use Rattle.rc_rules.specs.States.{State as SpecState, label_of};
+ghost use Rattle.rc_rules.specs.States.{label_of};
 ghost use Rattle.rc_verify.specs.Branches.{KeepsOther};
-ghost use Rattle.rc_verify.specs.Kept as spec;
-ghost use Rattle.rc_verify.specs.Loops.{FitsWith, KeepsDead, KeepsMeet};
+ghost use Rattle.rc_verify.specs.Stack as spec;
+ghost use Rattle.rc_verify.specs.Loops.{FitsWith, HoldsDead, KeepsDead, KeepsMeet};
 
 use crate::branches::take_branch;
 use arrayvec::ArrayVec;
@@ -15,16 +13,16 @@ use rc_rules::state::State;
 use std::marker::Model;
 use std::mem;
 
-/// A state for each open branch, or for each open loop, the innermost last: at most 31 blocks are open. States are
-/// large, so the room of one that was let go is written again.
+/// A state for each open branch, or for each open loop, the innermost on top: at most 31 blocks are open. States are
+/// large, so the room of one that was popped is written again.
 #[derive(Drop)]
-pub struct Kept<'a> {
+pub struct StateStack<'a> {
     rooms: ArrayVec<Option<State<'a>>, 31>,
     // How many of the rooms are in use.
     count: usize,
 }
 
-impl<'a> Model for Kept<'a> {
+impl<'a> Model for StateStack<'a> {
     ghost use Rattle.std.specs.Prelude.{List, Option, length, take, ◌≤◌};
     ghost use Rattle.rc_rules.specs.States.{State};
 
@@ -47,7 +45,7 @@ fn write<'a>(room: &mut Option<State<'a>>, state: &State<'a>)
 
 // A state that nothing reaches is in the room from now on, of the same program and thread as this one.
 fn write_dead<'a>(room: &mut Option<State<'a>>, state: &State<'a>)
-    ensures { (s : SpecState) × (room.new ≡ Some s) × states.OnBoth (λ l. l ≡ Dead) s × states.IsOfSame s state.now }
+    ensures { HoldsDead state.now room.new }
 {
     match room {
         Some(kept) => kept.die_as(state),
@@ -55,26 +53,26 @@ fn write_dead<'a>(room: &mut Option<State<'a>>, state: &State<'a>)
     }
 }
 
-impl<'a> Kept<'a> {
-    /// Nothing is kept yet.
-    pub fn new() -> Kept<'a>
+impl<'a> StateStack<'a> {
+    /// An empty stack.
+    pub fn new() -> StateStack<'a>
         ensures { result ≡ [] }
     {
-        Kept {
+        StateStack {
             rooms: ArrayVec::new(),
             count: 0,
         }
     }
 
-    /// Nothing is kept any more.
+    /// Empties the stack.
     pub fn clear(&mut self)
         ensures { self.new ≡ [] }
     {
         self.count = 0;
     }
 
-    /// Keeps the state too.
-    pub fn keep(&mut self, state: &State<'a>)
+    /// Pushes the state.
+    pub fn push(&mut self, state: &State<'a>)
         requires { length self.old < 31 }
         ensures { self.new ≡ self.old ++ Some state.now ∷ [] }
     {
@@ -86,8 +84,8 @@ impl<'a> Kept<'a> {
         self.count += 1;
     }
 
-    /// Keeps a state too that nothing reaches, of the same program and thread as this one.
-    pub fn keep_dead(&mut self, state: &State<'a>)
+    /// Pushes a state that nothing reaches, of the same program and thread as this one.
+    pub fn push_dead(&mut self, state: &State<'a>)
         requires { length self.old < 31 }
         ensures { KeepsDead state.now self.old self.new }
     {
@@ -100,19 +98,19 @@ impl<'a> Kept<'a> {
         self.count += 1;
     }
 
-    /// Keeps too what goes from this state to the second branch of a test, or past an if without one.
-    pub fn keep_skipped(&mut self, state: &State<'a>, test: Test)
+    /// Pushes what goes from this state to the second branch of a test, or past an if without one.
+    pub fn push_skipped(&mut self, state: &State<'a>, test: Test)
         requires { length self.old < 31 }
         ensures { KeepsOther test state.now self.old self.new }
     {
-        self.keep(state);
+        self.push(state);
         if let Some(kept) = &mut self.rooms.as_mut_slice()[self.count - 1] {
             take_branch(kept, test, false);
         }
     }
 
-    /// The innermost state. There is one.
-    pub fn innermost(&self) -> &State<'a>
+    /// The state on top. There is one.
+    pub fn top(&self) -> &State<'a>
         requires { IsSome (spec.last_of self.now) }
         ensures { spec.last_of self.now ≡ Some result.now }
     {
@@ -122,8 +120,8 @@ impl<'a> Kept<'a> {
         }
     }
 
-    /// Puts the state in the place of the innermost one, which it becomes. There is one.
-    pub fn swap(&mut self, state: &mut State<'a>)
+    /// Puts the state in the place of the one on top, which it becomes. There is one.
+    pub fn swap_top(&mut self, state: &mut State<'a>)
         requires { IsSome (spec.last_of self.old) }
         ensures state { spec.last_of self.old ≡ Some state.new }
         ensures kept { self.new ≡ spec.rest_of self.old ++ Some state.old ∷ [] }
@@ -134,11 +132,11 @@ impl<'a> Kept<'a> {
         }
     }
 
-    /// The innermost state becomes the one where it and this end join. The slot is at the same stage in both.
-    pub fn join(&mut self, end: &State<'a>)
+    /// The state on top becomes the one where it and this end join. The slot is at the same stage in both.
+    pub fn join_top(&mut self, end: &State<'a>)
         requires kept { IsSome (spec.last_of self.old) }
-        requires fits { (s : SpecState) → spec.last_of self.old ≡ Some s → FitsWith s end.now }
-        ensures { (s : SpecState) → spec.last_of self.old ≡ Some s → KeepsMeet s (label_of end.now) self.old self.new }
+        requires fits { spec.OnLast self.old (λ s. FitsWith s end.now) }
+        ensures { spec.OnLast self.old (λ s. KeepsMeet s (label_of end.now) self.old self.new) }
     {
         match &mut self.rooms.as_mut_slice()[self.count - 1] {
             Some(exits) => {
@@ -148,8 +146,8 @@ impl<'a> Kept<'a> {
         }
     }
 
-    /// Lets the innermost state go.
-    pub fn let_go(&mut self)
+    /// Drops the state on top.
+    pub fn pop(&mut self)
         ensures { self.new ≡ spec.rest_of self.old }
     {
         self.count = self.count.saturating_sub(1);

@@ -1,7 +1,7 @@
 use Rattle.std.proofs.Common.{refl}
 use Rattle.rc_verify.proofs.Joining.{break_joins}
 use Rattle.rc_verify.proofs.Keeping.{last_room, none_kept, room_written}
-use Rattle.rc_verify.proofs.kept.Kept.join.Goals as goal
+use Rattle.rc_verify.proofs.stack.StateStack.join_top.Goals as goal
 
 pub meet-requires-clause-of : goal.meet-requires-clause-of
 meet-requires-clause-of c = (c.requires.fits c.in-Some.exits (last_room _ _ _ _ _ _ c.self.view_is c.self.invariant c.requires.kept c.as_mut_slice.ensures.value c.in-Some.is)).of
