@@ -2,7 +2,7 @@
 -- is known before a peek's arms and where they join, and of each open loop what is known where its breaks join.
 use Rattle.std.specs.Prelude.{ℕ, ◌≡◌, ◌+◌, ◌*◌, ◌<◌, ◌≤◌, Bool, true, false, List, [], ◌∷◌, ◌++◌, length, take, Option, Some, None, Result, Ok, Err, slice_get}
 use Rattle.rc_lang.specs.declared.lines.Block.{Block}
-use Rattle.rc_lang.specs.declared.lines.Block.TheVariants.{InLock, InIf, InElse, InPeek, InArm, InLoop}
+use Rattle.rc_lang.specs.declared.lines.Block.TheVariants.{InIf, InElse, InPeek, InLoop}
 use Rattle.rc_lang.specs.declared.lines.Line.{Line}
 use Rattle.rc_lang.specs.Nesting.{blocks_at, in_lock}
 use Rattle.rc_lang.specs.Program.{Program, Thread, IsProgram, IsThread}
@@ -46,28 +46,17 @@ IsClosed (Live bag m) = has_no_slot m ≡ true
 
 -- the places of the lines before which a branch's state is kept, of the peek, and of the loops
 abbrev pub branch_place : Block → List ℕ
-branch_place (InLock o) = []
 branch_place (InIf o) = o ∷ []
 branch_place (InElse o) = o ∷ []
-branch_place (InPeek o) = []
-branch_place (InArm o) = []
-branch_place (InLoop o k) = []
+branch_place _ = []
 
 abbrev pub peek_place : Block → List ℕ
-peek_place (InLock o) = []
-peek_place (InIf o) = []
-peek_place (InElse o) = []
 peek_place (InPeek o) = o ∷ []
-peek_place (InArm o) = []
-peek_place (InLoop o k) = []
+peek_place _ = []
 
 abbrev pub loop_place : Block → List ℕ
-loop_place (InLock o) = []
-loop_place (InIf o) = []
-loop_place (InElse o) = []
-loop_place (InPeek o) = []
-loop_place (InArm o) = []
 loop_place (InLoop o k) = o ∷ []
+loop_place _ = []
 
 abbrev pub places : (Block → List ℕ) → List Block → List ℕ
 places f [] = []
@@ -76,9 +65,8 @@ places f (b ∷ bs) = f b ++ places f bs
 -- For each of the places something is kept of which this is true.
 abbrev pub AreKept : {X : Type 0} → (ℕ → X → Type 0) → List ℕ → List X → Type 0
 AreKept R [] [] = Unit {0}
-AreKept R [] (x ∷ xs) = ⊥
-AreKept R (o ∷ os) [] = ⊥
 AreKept R (o ∷ os) (x ∷ xs) = R o x × AreKept R os xs
+AreKept R _ _ = ⊥
 
 -- A state is kept of which this is true.
 abbrev pub OnKept : (ℕ → State → Type 0) → ℕ → Option State → Type 0
