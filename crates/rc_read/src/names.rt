@@ -53,6 +53,14 @@ pub fn has_file(files: &[File], number: u32) -> bool
 pub fn has_token(tokens: &[Token], user_data: u64) -> bool
     ensures { result ≡ spec.has_token tokens.now user_data }
 {
+    // Mostly the tokens are numbered one after another.
+    let guess = match tokens.first() {
+        Some(first) => user_data.wrapping_sub(first.user_data) as usize,
+        None => 0,
+    };
+    if guess < tokens.len() && tokens[guess].user_data == user_data {
+        return true;
+    }
     tokens.iter().any(|token| token.user_data == user_data)
 }
 
