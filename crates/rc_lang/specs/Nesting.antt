@@ -5,7 +5,7 @@ use Rattle.rc_lang.specs.declared.lines.Block.{Block}
 use Rattle.rc_lang.specs.declared.lines.Block.TheVariants.{InLock, InIf, InElse, InPeek, InArm, InLoop}
 use Rattle.rc_lang.specs.declared.lines.Line.{Line}
 use Rattle.rc_lang.specs.declared.lines.Stmt.{Stmt}
-use Rattle.rc_lang.specs.declared.lines.Stmt.TheVariants.{Do, Put, Lock, EndLock, If, Else, EndIf, Peek, Case, Other, Nothing, EndArm, EndPeek, Loop, EndLoop, Break}
+use Rattle.rc_lang.specs.declared.lines.Stmt.TheVariants.{Lock, EndLock, If, Else, EndIf, Peek, Case, Other, Nothing, EndArm, EndPeek, Loop, EndLoop, Break}
 
 -- Blocks are with the innermost last.
 abbrev pub innermost : List Block → Option Block
@@ -16,22 +16,20 @@ without_innermost blocks = take (length blocks - 1) blocks
 
 -- The blocks that are open after a line at place j, from those that are open before it.
 abbrev pub blocks_behind : List Block → ℕ → Stmt → List Block
-blocks_behind blocks j (Do op) = blocks
-blocks_behind blocks j (Put k) = blocks
 blocks_behind blocks j Lock = blocks ++ InLock j ∷ []
-blocks_behind blocks j (EndLock o) = without_innermost blocks
 blocks_behind blocks j (If test) = blocks ++ InIf j ∷ []
 blocks_behind blocks j (Else o) = without_innermost blocks ++ InElse j ∷ []
-blocks_behind blocks j (EndIf o) = without_innermost blocks
 blocks_behind blocks j (Peek x) = blocks ++ InPeek j ∷ []
 blocks_behind blocks j (Case o u) = blocks ++ InArm o ∷ []
 blocks_behind blocks j (Other o) = blocks ++ InArm o ∷ []
 blocks_behind blocks j (Nothing o) = blocks ++ InArm o ∷ []
+blocks_behind blocks j (Loop k) = blocks ++ InLoop j k ∷ []
+blocks_behind blocks j (EndLock o) = without_innermost blocks
+blocks_behind blocks j (EndIf o) = without_innermost blocks
 blocks_behind blocks j (EndArm o) = without_innermost blocks
 blocks_behind blocks j (EndPeek o) = without_innermost blocks
-blocks_behind blocks j (Loop k) = blocks ++ InLoop j k ∷ []
 blocks_behind blocks j (EndLoop o k) = without_innermost blocks
-blocks_behind blocks j (Break o releases leaves) = blocks
+blocks_behind blocks j _ = blocks
 
 -- The blocks that are open after these lines, the first of which is at place j.
 abbrev pub blocks_after : List Block → ℕ → List Line → List Block
@@ -44,19 +42,11 @@ blocks_at lines j = blocks_after [] 0 (take j lines)
 
 abbrev pub is_lock : Block → Bool
 is_lock (InLock o) = true
-is_lock (InIf o) = false
-is_lock (InElse o) = false
-is_lock (InPeek o) = false
-is_lock (InArm o) = false
-is_lock (InLoop o k) = false
+is_lock _ = false
 
 abbrev pub is_peek : Block → Bool
-is_peek (InLock o) = false
-is_peek (InIf o) = false
-is_peek (InElse o) = false
 is_peek (InPeek o) = true
-is_peek (InArm o) = false
-is_peek (InLoop o k) = false
+is_peek _ = false
 
 abbrev pub in_lock : List Block → Bool
 in_lock blocks = list_any is_lock blocks
@@ -80,12 +70,10 @@ pub record Way : Type 0 where
   pub leaves : Bool
 
 abbrev pub way_past : Way → Block → Way
-way_past way (InLock o) = record { loop = way.loop; releases = true; leaves = way.leaves }
-way_past way (InIf o) = way
-way_past way (InElse o) = way
-way_past way (InPeek o) = record { loop = way.loop; releases = way.releases; leaves = true }
-way_past way (InArm o) = way
+way_past way (InLock o) = record way { releases = true }
+way_past way (InPeek o) = record way { leaves = true }
 way_past way (InLoop o k) = record { loop = Some o; releases = false; leaves = false }
+way_past way _ = way
 
 abbrev pub way_through : Way → List Block → Way
 way_through way [] = way
@@ -96,11 +84,8 @@ way_out blocks = way_through (record { loop = None; releases = false; leaves = f
 
 -- The line may be where these blocks are open.
 abbrev pub IsNestedIn : List Block → Stmt → Type 0
-IsNestedIn blocks (Do op) = directly_in_peek blocks ≡ false
-IsNestedIn blocks (Put k) = directly_in_peek blocks ≡ false
 IsNestedIn blocks Lock = (in_lock blocks ≡ false) × (in_peek blocks ≡ false)
 IsNestedIn blocks (EndLock o) = innermost blocks ≡ Some (InLock o)
-IsNestedIn blocks (If test) = directly_in_peek blocks ≡ false
 IsNestedIn blocks (Else o) = innermost blocks ≡ Some (InIf o)
 IsNestedIn blocks (EndIf o) = (innermost blocks ≡ Some (InIf o)) ⊎ (innermost blocks ≡ Some (InElse o))
 IsNestedIn blocks (Peek x) = in_peek blocks ≡ false
@@ -112,6 +97,7 @@ IsNestedIn blocks (EndPeek o) = innermost blocks ≡ Some (InPeek o)
 IsNestedIn blocks (Loop k) = in_peek blocks ≡ false
 IsNestedIn blocks (EndLoop o k) = innermost blocks ≡ Some (InLoop o k)
 IsNestedIn blocks (Break o releases leaves) = (directly_in_peek blocks ≡ false) × (way_out blocks ≡ record { loop = Some o; releases = releases; leaves = leaves })
+IsNestedIn blocks _ = directly_in_peek blocks ≡ false
 
 -- Each line may be at its place, at most 31 blocks are open inside the thread, and at its end none is.
 pub record IsNested (lines : List Line) : Type 0 where

@@ -5,18 +5,18 @@ use Rattle.std.specs.List.Sorted.{IsStrictlyIncreasing}
 use Rattle.std.specs.Str.{bytes_eq}
 use Rattle.rc_lang.specs.declared.lines.Line.{Line}
 use Rattle.rc_lang.specs.declared.lines.Op.{Op}
-use Rattle.rc_lang.specs.declared.lines.Op.TheVariants.{Set, Assign, Add, Subtract, Load, Store, Fill, Print, GetSqe, PrepRead, PrepWrite, PrepFsync, PrepNop, SetData64, Submit, SubmitAndWait, CqeSeen}
+use Rattle.rc_lang.specs.declared.lines.Op.TheVariants.{Set, Assign, Add, Subtract, Load, Store, Fill, Print, PrepRead, PrepWrite, PrepFsync, SetData64, Submit, SubmitAndWait}
 use Rattle.rc_lang.specs.declared.lines.Operand.{Operand}
 use Rattle.rc_lang.specs.declared.lines.Operand.TheVariants.{Variable, Number}
 use Rattle.rc_lang.specs.declared.lines.Stmt.{Stmt}
-use Rattle.rc_lang.specs.declared.lines.Stmt.TheVariants.{Do, Put, Lock, EndLock, If, Else, EndIf, Peek, Case, Other, Nothing, EndArm, EndPeek, Loop, EndLoop, Break}
+use Rattle.rc_lang.specs.declared.lines.Stmt.TheVariants.{Do, Put, If, Else, EndIf, Peek, Case, Other, Nothing, EndArm, EndPeek, Loop, EndLoop, Break}
 use Rattle.rc_lang.specs.declared.lines.Test.{Test}
 use Rattle.rc_lang.specs.declared.lines.Test.TheVariants.{Compare, ReadyZero, SpaceAtLeast, Take}
 use Rattle.rc_lang.specs.declared.program.File.{File}
 use Rattle.rc_lang.specs.declared.program.Share.{Share}
 use Rattle.rc_lang.specs.declared.program.Token.{Token}
 use Rattle.rc_lang.specs.declared.program.TokenKind.{TokenKind}
-use Rattle.rc_lang.specs.declared.program.TokenKind.TheVariants.{Read, Write, Fsync, Nop}
+use Rattle.rc_lang.specs.declared.program.TokenKind.TheVariants.{Read, Write}
 use Rattle.rc_lang.specs.Names.{is_name}
 use Rattle.rc_lang.specs.Nesting.{IsNested, blocks_at, in_lock}
 
@@ -175,15 +175,13 @@ IsResolvedOp program variables (Load x b i) = (x < variables) × (b < length pro
 IsResolvedOp program variables (Store b i x) = (b < length program.buffers) × (i ≤ 4095) × (x < variables)
 IsResolvedOp program variables (Fill b x) = (b < length program.buffers) × (x < variables)
 IsResolvedOp program variables (Print x) = x < variables
-IsResolvedOp program variables GetSqe = Unit {0}
 IsResolvedOp program variables (PrepRead fd b len off) = IsMove program fd b len off
 IsResolvedOp program variables (PrepWrite fd b len off k) = IsMove program fd b len off × IsShare program b k
 IsResolvedOp program variables (PrepFsync fd datasync) = DeclaresFile program fd
-IsResolvedOp program variables PrepNop = Unit {0}
 IsResolvedOp program variables (SetData64 u) = DeclaresToken program u
 IsResolvedOp program variables (Submit x) = x < variables
 IsResolvedOp program variables (SubmitAndWait x n) = (x < variables) × (n ≤ 2048)
-IsResolvedOp program variables CqeSeen = Unit {0}
+IsResolvedOp program variables _ = Unit {0}
 
 abbrev pub IsResolvedTest : Program → (variables lists : ℕ) → Test → Type 0
 IsResolvedTest program variables lists (Compare x c n) = x < variables
@@ -194,20 +192,12 @@ IsResolvedTest program variables lists (Take k) = k < lists
 abbrev pub IsResolved : Program → (variables lists : ℕ) → Stmt → Type 0
 IsResolved program variables lists (Do op) = IsResolvedOp program variables op
 IsResolved program variables lists (Put k) = k < lists
-IsResolved program variables lists Lock = Unit {0}
-IsResolved program variables lists (EndLock o) = Unit {0}
 IsResolved program variables lists (If test) = IsResolvedTest program variables lists test
-IsResolved program variables lists (Else o) = Unit {0}
-IsResolved program variables lists (EndIf o) = Unit {0}
 IsResolved program variables lists (Peek x) = x < variables
 IsResolved program variables lists (Case o u) = DeclaresToken program u
-IsResolved program variables lists (Other o) = Unit {0}
-IsResolved program variables lists (Nothing o) = Unit {0}
-IsResolved program variables lists (EndArm o) = Unit {0}
-IsResolved program variables lists (EndPeek o) = Unit {0}
 IsResolved program variables lists (Loop k) = k < lists
 IsResolved program variables lists (EndLoop o k) = k < lists
-IsResolved program variables lists (Break o releases leaves) = Unit {0}
+IsResolved program variables lists _ = Unit {0}
 
 -- ---- links
 
@@ -236,22 +226,16 @@ pub record HasArms (lines : List Line) (ends : List ℕ) (j : ℕ) : Type 0 wher
 -- brace, an else, a peek and a loop to the closing brace. No arm is twice. An arm ends before its peek does, and a
 -- break is before its loop's end.
 abbrev pub IsLinked : List Line → List ℕ → ℕ → Stmt → Type 0
-IsLinked lines ends j (Do op) = Unit {0}
-IsLinked lines ends j (Put k) = Unit {0}
-IsLinked lines ends j Lock = Unit {0}
-IsLinked lines ends j (EndLock o) = Unit {0}
 IsLinked lines ends j (If test) = HasEnd lines ends j (Else j) ⊎ HasEnd lines ends j (EndIf j)
 IsLinked lines ends j (Else o) = HasEnd lines ends j (EndIf j)
-IsLinked lines ends j (EndIf o) = Unit {0}
 IsLinked lines ends j (Peek x) = HasArms lines ends j
 IsLinked lines ends j (Case o u) = IsFirst lines j (Case o u)
 IsLinked lines ends j (Other o) = IsFirst lines j (Other o)
 IsLinked lines ends j (Nothing o) = IsFirst lines j (Nothing o)
 IsLinked lines ends j (EndArm o) = j < slice_index ends o
-IsLinked lines ends j (EndPeek o) = Unit {0}
 IsLinked lines ends j (Loop k) = HasEnd lines ends j (EndLoop j k)
-IsLinked lines ends j (EndLoop o k) = Unit {0}
 IsLinked lines ends j (Break o releases leaves) = j < slice_index ends o
+IsLinked lines ends j _ = Unit {0}
 
 -- ---- what is kept
 
@@ -321,8 +305,7 @@ pub record IsBuffer (buffer : Buffer) : Type 0 where
 abbrev pub IsTokenKind : Program → TokenKind → Type 0
 IsTokenKind program (Read b) = b < length program.buffers
 IsTokenKind program (Write b k) = (b < length program.buffers) × IsShare program b k
-IsTokenKind program Fsync = Unit {0}
-IsTokenKind program Nop = Unit {0}
+IsTokenKind program _ = Unit {0}
 
 -- The numbers of a thread's lines, from its header's on, and those of all threads.
 abbrev pub numbers_from : ℕ → List Line → List ℕ

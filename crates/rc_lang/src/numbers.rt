@@ -41,7 +41,7 @@ pub fn number_of(low: u64, high: u64, word: &[u8]) -> Option<u64>
 }
 
 fn positive_number_of(low: i64, high: i64, word: &[u8]) -> Option<i64>
-    ensures value { result ≡ spec.signed_in low high (spec.is_number word.now) (pos (spec.value_of word.now)) }
+    ensures value { result ≡ spec.in_range low high word.now (pos (spec.value_of word.now)) }
     ensures within { IfSome result (λ n. (low ≤ℤ n) × (n ≤ℤ high)) }
 {
     let n = number_of(0, i64::MAX as u64, word)? as i64;
@@ -50,7 +50,7 @@ fn positive_number_of(low: i64, high: i64, word: &[u8]) -> Option<i64>
 
 fn minus(n: u64) -> i64
     requires { n ≤ 2 ^ 63 }
-    ensures { result ≡ spec.negative n }
+    ensures { result ≡ spec.minus n }
 {
     match n {
         0 => 0,
@@ -58,11 +58,11 @@ fn minus(n: u64) -> i64
     }
 }
 
-fn negative_number_of(low: i64, high: i64, digits: &[u8]) -> Option<i64>
-    ensures value { result ≡ spec.signed_in low high (spec.is_number digits.now) (spec.negative (spec.value_of digits.now)) }
+fn negative_number_of(low: i64, high: i64, word: &[u8]) -> Option<i64>
+    ensures value { result ≡ spec.in_range low high word.now (spec.minus (spec.value_of word.now)) }
     ensures within { IfSome result (λ n. (low ≤ℤ n) × (n ≤ℤ high)) }
 {
-    let n = minus(number_of(0, 1 << 63, digits)?);
+    let n = minus(number_of(0, 1 << 63, word)?);
     (low <= n && n <= high).then_some(n)
 }
 
