@@ -1,5 +1,5 @@
 -- What becomes of the sheet at a line with these words, in the steps of the code.
-use Rattle.std.specs.Prelude.{◌≡◌, ℕ, List, [], ◌∷◌, length, Option, Some, None, Result, Ok, Err, Bool, ◌||◌, ◌++◌, IfOk, IfSome, nat_lt}
+use Rattle.std.specs.Prelude.{◌≡◌, ℕ, List, [], ◌∷◌, length, Option, Some, None, Result, Ok, Err, Bool, ◌||◌, ◌++◌, IfOk, IfSome, nat_lt, option_map}
 use Rattle.rc_read.specs.Adds.{added, counted, with_line, with_words}
 use Rattle.rc_read.specs.Causes.{number_of_cause}
 use Rattle.rc_read.specs.declared.fault.ReadCause.{ReadCause}
@@ -7,13 +7,15 @@ use Rattle.rc_read.specs.declared.says.Says.{Says}
 use Rattle.rc_read.specs.declared.table.Part.{Part}
 use Rattle.rc_read.specs.declared.table.Row.{Row}
 use Rattle.rc_read.specs.declared.values.Item.{Item}
+use Rattle.rc_read.specs.declared.noted.Noted.{Noted}
 use Rattle.rc_read.specs.declared.noted.Wrong.{Wrong}
+use Rattle.rc_read.specs.declared.values.Value.{Value}
 use Rattle.rc_read.specs.Says.{says_of}
 use Rattle.rc_read.specs.Sentences.{is_unknown, any_unknown, is_double, any_double, any_named_twice, bad_brace, is_too_long, is_too_deep, is_full, any_full, bad_nesting, bad_case, other_flag, sentences, word_sentences, first_true}
 use Rattle.rc_read.specs.Sheets.{Sheet, with_names}
 use Rattle.rc_read.specs.Spots.{Spot, spots_of}
 use Rattle.rc_read.specs.Table.{parts_of}
-use Rattle.rc_read.specs.Values.{any_lacks, values_of, items_in, flag_in, start}
+use Rattle.rc_read.specs.Values.{any_lacks, values_of, items_in, flag_in, seen_behind, start, value_at}
 
 -- What is wrong with the name in a place or is wrong already, and with one in these places.
 abbrev pub wrong_with : Sheet → Part → List ℕ → Wrong → Wrong
@@ -68,3 +70,23 @@ AddsNames old new = (more : List (List ℕ)) × (new ≡ record old { draft = re
 
 abbrev pub OnCause : {E : Type 0} → Result (Option ReadCause) E → Type 0 → Type 0
 OnCause r X = IfOk r (λ o. IfSome o (λ _. X))
+
+-- What a place says, what it says of the places after it, and what is wrong with its name.
+abbrev pub IsValue : Sheet → Part → List ℕ → Noted → Option Value → Type 0
+IsValue s part word old value = value ≡ value_at s old.seen part word
+
+abbrev pub IsSeen : Sheet → Part → List ℕ → Noted → Noted → Type 0
+IsSeen s part word old new = new.seen ≡ seen_behind s old.seen part word
+
+abbrev pub IsWrong : Sheet → Part → List ℕ → Noted → Noted → Type 0
+IsWrong s part word old new = new.wrong ≡ wrong_with s part word old.wrong
+
+abbrev pub with_unknown : Wrong → Bool → Wrong
+with_unknown wrong unknown = record wrong { unknown = unknown || wrong.unknown }
+
+abbrev pub with_repeat : Wrong → (double full : Bool) → Wrong
+with_repeat wrong double full = record wrong { double = double || wrong.double; full = full || wrong.full }
+
+-- The cause is the number of the first true sentence.
+abbrev pub Finds : Option ReadCause → List (ℕ × Bool) → Type 0
+Finds cause sentences = option_map number_of_cause cause ≡ first_true sentences

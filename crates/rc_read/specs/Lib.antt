@@ -9,6 +9,7 @@ pub mod Says
 pub mod Sentences
 pub mod Sheets
 pub mod Spots
+pub mod Steps
 pub mod Stream
 pub mod Table
 pub mod Texts

@@ -3,6 +3,8 @@ use Rattle.std.specs.Prelude.{ℕ, List, map}
 use Rattle.std.specs.Global.{Vec}
 use Rattle.rc_lang.specs.Nesting.{Way}
 use Rattle.rc_lang.specs.Parts.{view_buffer, view_items, view_thread}
+use Rattle.rc_lang.specs.Program.{Items}
+use Rattle.rc_lang.specs.declared.program.Items.{Items as ItemsPart}
 use Rattle.rc_read.specs.Sheets.{Sheet, Draft, Arms}
 use Rattle.rc_read.specs.declared.blocks.Way.{Way as WayPart}
 use Rattle.rc_read.specs.declared.parts.Arms.{Arms as ArmsPart}
@@ -12,6 +14,9 @@ use Rattle.rc_read.specs.declared.parts.Parts.{Parts}
 abbrev pub view_names : List (Vec ℕ) → List (List ℕ)
 view_names names = map (λ n. n.items) names
 
+abbrev pub view_lists : Vec ItemsPart → List Items
+view_lists lists = map view_items lists.items
+
 abbrev pub view_arms : ArmsPart → Arms
 view_arms a = record { cases = a.cases.items; other = a.other; none = a.none }
 
@@ -20,7 +25,7 @@ view_draft d = record {
   name = d.name.items;
   line = d.line;
   items = view_items d.items;
-  lists = map view_items d.lists.items;
+  lists = view_lists d.lists;
   names = view_names d.names.keys;
   blocks = d.blocks.items;
   lines = d.lines.items;

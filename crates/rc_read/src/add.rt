@@ -1,11 +1,10 @@
 //! What a line adds to what was read so far.
 
-ghost use Rattle.std.specs.Prelude.{◌≡◌, ◌<◌, [], None, IfOk, OnOk};
-ghost use Rattle.rc_lang.specs.Nesting as nesting;
+ghost use Rattle.std.specs.Prelude.{◌≡◌, ◌<◌, [], None, OnOk};
 ghost use Rattle.rc_read.specs.Adds as spec;
-ghost use Rattle.rc_read.specs.Sheets.{headed};
+ghost use Rattle.rc_read.specs.Steps.{AddsLine, Becomes, CountsLine, OpensThread};
 ghost use Rattle.rc_read.specs.Texts.{texts_of};
-ghost use Rattle.rc_read.specs.View.{view_draft, view_sheet};
+ghost use Rattle.rc_read.specs.View.{view_sheet};
 
 use crate::blocks::innermost;
 use crate::draft::held;
@@ -45,7 +44,7 @@ fn open_thread(
     items: &[Item],
     line: u32,
 ) -> Result<Draft, AllocError>
-    ensures { IfOk result (λ d. view_draft d ≡ headed (spec.second_of (texts_of words.now)) line (spec.held items.now [])) }
+    ensures { OpensThread result words.now line items.now }
 {
     Ok(Draft {
         name: Vec::from_slice(alloc, second_of(words))?,
@@ -59,7 +58,7 @@ impl Parts {
     // Adds a line of the open thread.
     fn say(&mut self, alloc: Global, items: &[Item], says: &Says) -> Result<(), AllocError>
         requires { self.old.count < 4096 }
-        ensures ok { OnOk result (view_sheet self.new ≡ spec.said (view_sheet self.old) items.now says.now) }
+        ensures ok { Becomes result self.new (spec.said (view_sheet self.old) items.now says.now) }
         ensures count { self.new.count ≡ self.old.count }
     {
         let stmt = self.draft.stmt_in(*says);
@@ -80,7 +79,7 @@ impl Parts {
     // Closes the innermost block, and without one the thread.
     fn close(&mut self, alloc: Global) -> Result<(), AllocError>
         requires { self.old.count < 4096 }
-        ensures ok { OnOk result (view_sheet self.new ≡ spec.closed (view_sheet self.old) (nesting.innermost self.old.draft.blocks.items)) }
+        ensures ok { AddsLine result self.old [] [] Says.Close self.new }
         ensures count { self.new.count ≡ self.old.count }
     {
         match innermost(&self.draft.blocks) {
@@ -92,7 +91,7 @@ impl Parts {
     // Opens a thread.
     fn open(&mut self, alloc: Global, words: &[&[u8]], items: &[Item]) -> Result<(), AllocError>
         requires { self.old.count < 4096 }
-        ensures ok { OnOk result (view_sheet self.new ≡ spec.added (view_sheet self.old) (texts_of words.now) items.now Says.Thread) }
+        ensures ok { AddsLine result self.old words.now items.now Says.Thread self.new }
         ensures count { self.new.count ≡ self.old.count }
     {
         self.draft = open_thread(alloc, words, items, self.count + 1)?;
@@ -108,7 +107,7 @@ impl Parts {
         bytes: u32,
         shares: u32,
     ) -> Result<(), AllocError>
-        ensures ok { OnOk result (view_sheet self.new ≡ spec.added (view_sheet self.old) (texts_of words.now) [] (Says.Buffer bytes shares)) }
+        ensures ok { AddsLine result self.old words.now [] (Says.Buffer bytes shares) self.new }
         ensures count { self.new.count ≡ self.old.count }
     {
         let name = Vec::from_slice(alloc, second_of(words))?;
@@ -128,7 +127,7 @@ impl Parts {
         says: &Says,
     ) -> Result<(), AllocError>
         requires { self.old.count < 4096 }
-        ensures ok { OnOk result (view_sheet self.new ≡ spec.added (view_sheet self.old) (texts_of words.now) items.now says.now) }
+        ensures ok { AddsLine result self.old words.now items.now says.now self.new }
         ensures count { self.new.count ≡ self.old.count }
     {
         match *says {
@@ -165,7 +164,7 @@ impl Parts {
         says: &Says,
     ) -> Result<(), AllocError>
         requires { self.old.count < 4096 }
-        ensures { OnOk result (view_sheet self.new ≡ spec.counted (spec.added (view_sheet self.old) (texts_of words.now) items.now says.now)) }
+        ensures { CountsLine result self.old words.now items.now says.now self.new }
     {
         self.put(alloc, words, items, says)?;
         self.count_line();

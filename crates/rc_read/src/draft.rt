@@ -4,7 +4,8 @@ ghost use Rattle.std.specs.Prelude.{◌≡◌, ◌++◌, ◌∷◌, [], map, sli
 ghost use Rattle.rc_lang.specs.Nesting as nesting;
 ghost use Rattle.rc_lang.specs.Parts.{view_items, view_thread};
 ghost use Rattle.rc_read.specs.Adds as spec;
-ghost use Rattle.rc_read.specs.View.{view_arms, view_draft};
+ghost use Rattle.rc_read.specs.Steps.{AddsList};
+ghost use Rattle.rc_read.specs.View.{view_arms, view_draft, view_lists};
 
 use crate::blocks::{innermost, way_out};
 use crate::lists::{flag_in, parted};
@@ -127,7 +128,7 @@ fn put_end(ends: &mut Vec<usize>, place: usize, stmt: Stmt) -> Result<(), AllocE
 
 // Adds the items of a loop.
 fn push_items(alloc: Global, lists: &mut Vec<Items>, items: &[Item]) -> Result<(), AllocError>
-    ensures { OnOk result (map view_items lists.new.items ≡ map view_items lists.old.items ++ spec.held_in_loop items.now ∷ []) }
+    ensures { AddsList result lists.old lists.new (spec.held_in_loop items.now) }
 {
     lists.push(held_in_loop(alloc, items)?)?;
     Ok(())
@@ -135,7 +136,7 @@ fn push_items(alloc: Global, lists: &mut Vec<Items>, items: &[Item]) -> Result<(
 
 // Adds the items of a put or a take.
 fn push_pool(alloc: Global, lists: &mut Vec<Items>, items: &[Item]) -> Result<(), AllocError>
-    ensures { OnOk result (map view_items lists.new.items ≡ map view_items lists.old.items ++ spec.held items.now [] ∷ []) }
+    ensures { AddsList result lists.old lists.new (spec.held items.now []) }
 {
     lists.push(held(alloc, items)?)?;
     Ok(())
@@ -148,7 +149,7 @@ fn put_list(
     items: &[Item],
     stmt: Stmt,
 ) -> Result<(), AllocError>
-    ensures { OnOk result (map view_items lists.new.items ≡ spec.lists_behind (map view_items lists.old.items) items.now stmt) }
+    ensures { OnOk result (view_lists lists.new ≡ spec.lists_behind (view_lists lists.old) items.now stmt) }
 {
     match stmt {
         Stmt::Loop(_) => push_items(alloc, lists, items),

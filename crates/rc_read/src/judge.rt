@@ -1,10 +1,10 @@
 //! The fault sentences about a line, and what becomes of the parts at it.
 
-ghost use Rattle.std.specs.Prelude.{◌≡◌, option_map};
-ghost use Rattle.rc_read.specs.Causes.{number_of_cause};
-ghost use Rattle.rc_read.specs.Judging.{AddsNames, JudgesLine, JudgesRow, JudgesWords, OnCause, later_sentences};
+ghost use Rattle.std.specs.Prelude.{◌≡◌};
+ghost use Rattle.rc_read.specs.Judging.{AddsNames, Finds, JudgesLine, OnCause, later_sentences};
 ghost use Rattle.rc_read.specs.Sentences as spec;
 ghost use Rattle.rc_read.specs.Spots.{spots_of};
+ghost use Rattle.rc_read.specs.Steps.{JudgesAny, JudgesForm};
 ghost use Rattle.rc_read.specs.Stream.{Judges};
 ghost use Rattle.rc_read.specs.Table.{parts_of};
 ghost use Rattle.rc_read.specs.Texts.{texts_of, view_spots};
@@ -104,7 +104,7 @@ fn later_cause(
     items: &[Item],
     says: Says,
 ) -> Option<ReadCause>
-    ensures { option_map number_of_cause result ≡ spec.first_true (later_sentences (view_sheet parts.now) line.now wrong items.now says) }
+    ensures { Finds result (later_sentences (view_sheet parts.now) line.now wrong items.now says) }
 {
     if wrong.unknown {
         Some(ReadCause::UnknownName)
@@ -139,7 +139,7 @@ fn judge_row(
     row: Row,
 ) -> Result<Option<ReadCause>, AllocError>
     requires { view_spots found.old.spots.items ≡ spots_of (parts_of row) (texts_of words.now) }
-    ensures judges { JudgesRow (view_sheet parts.old) line.now (texts_of words.now) row (view_sheet parts.new) result }
+    ensures judges { JudgesForm parts.old line.now words.now row parts.new result }
     ensures names { OnCause result (AddsNames (view_sheet parts.old) (view_sheet parts.new)) }
 {
     let (values, items) = (&mut found.values, &mut found.items);
@@ -163,7 +163,7 @@ fn judge_words<'a>(
     line: &[u8],
     words: &[&'a [u8]],
 ) -> Result<Option<ReadCause>, AllocError>
-    ensures judges { JudgesWords (view_sheet parts.old) line.now (texts_of words.now) (view_sheet parts.new) result }
+    ensures judges { JudgesAny parts.old line.now words.now parts.new result }
     ensures names { OnCause result (AddsNames (view_sheet parts.old) (view_sheet parts.new)) }
 {
     if words.is_empty() {

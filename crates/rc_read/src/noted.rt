@@ -1,10 +1,11 @@
 //! What is noted of the places of a line, one after another.
 
-ghost use Rattle.std.specs.Prelude.{◌≡◌, ◌++◌, ◌∷◌, [], IfOk, IfSome, OnOk, is_none};
+ghost use Rattle.std.specs.Prelude.{◌≡◌, ◌++◌, ◌∷◌, [], IfOk, OnOk};
 ghost use Rattle.rc_lang.specs.Numbers.{number_of as number_in_range};
-ghost use Rattle.rc_read.specs.Judging as judging;
+ghost use Rattle.rc_read.specs.Judging.{AddsNames, IsSeen, IsValue, IsWrong};
 ghost use Rattle.rc_read.specs.Sentences as sentences;
-ghost use Rattle.rc_read.specs.Sheets as sheets;
+ghost use Rattle.rc_read.specs.Sheets.{number_in};
+ghost use Rattle.rc_read.specs.Steps.{AddsName, PutsItems, PutsNames, PutsValues, TellsLack, TellsWrong};
 ghost use Rattle.rc_read.specs.Texts.{view_spots};
 ghost use Rattle.rc_read.specs.Values as spec;
 ghost use Rattle.rc_read.specs.View.{view_sheet};
@@ -69,13 +70,14 @@ pub struct Wrong {
 
 // What is noted of the places so far: what they say of the next, and what is wrong with their names.
 #[derive(Clone, Copy)]
-struct Noted {
+pub struct Noted {
     seen: Seen,
     wrong: Wrong,
 }
 
 impl Noted {
-    ghost use Rattle.std.specs.Prelude.{◌≡◌, ◌||◌, false};
+    ghost use Rattle.std.specs.Prelude.{◌≡◌, false};
+    ghost use Rattle.rc_read.specs.Judging.{with_repeat, with_unknown};
     ghost use Rattle.rc_read.specs.Values.{start};
 
     // Before the first place.
@@ -96,7 +98,7 @@ impl Noted {
     // Notes whether a name isn't declared.
     fn lack(&mut self, unknown: bool)
         ensures seen { self.new.seen ≡ self.old.seen }
-        ensures wrong { self.new.wrong ≡ record self.old.wrong { unknown = unknown || self.old.wrong.unknown } }
+        ensures wrong { self.new.wrong ≡ with_unknown self.old.wrong unknown }
     {
         self.wrong.unknown = unknown | self.wrong.unknown;
     }
@@ -104,7 +106,7 @@ impl Noted {
     // Notes whether a name is declared a second time, and whether it is one too many.
     fn repeat(&mut self, double: bool, full: bool)
         ensures seen { self.new.seen ≡ self.old.seen }
-        ensures wrong { self.new.wrong ≡ record self.old.wrong { double = double || self.old.wrong.double; full = full || self.old.wrong.full } }
+        ensures wrong { self.new.wrong ≡ with_repeat self.old.wrong double full }
     {
         self.wrong.double = double | self.wrong.double;
         self.wrong.full = full | self.wrong.full;
@@ -112,9 +114,9 @@ impl Noted {
 }
 
 fn look_at_buffer(parts: &Parts, noted: &mut Noted, word: &[u8]) -> Option<Value>
-    ensures value { result ≡ spec.value_at (view_sheet parts.now) noted.old.seen Part.Buffer word.now }
-    ensures seen { noted.new.seen ≡ spec.seen_behind (view_sheet parts.now) noted.old.seen Part.Buffer word.now }
-    ensures wrong { noted.new.wrong ≡ judging.wrong_with (view_sheet parts.now) Part.Buffer word.now noted.old.wrong }
+    ensures value { IsValue (view_sheet parts.now) Part.Buffer word.now noted.old result }
+    ensures seen { IsSeen (view_sheet parts.now) Part.Buffer word.now noted.old noted.new }
+    ensures wrong { IsWrong (view_sheet parts.now) Part.Buffer word.now noted.old noted.new }
 {
     let (buffer, shares) = find_buffer(&parts.buffers, word);
     noted.lack(shares.is_none());
@@ -127,7 +129,7 @@ fn look_at_buffer(parts: &Parts, noted: &mut Noted, word: &[u8]) -> Option<Value
 fn look_at_token(parts: &Parts, noted: &mut Noted, word: &[u8]) -> Option<u64>
     ensures value { result ≡ spec.user_data_of word.now }
     ensures seen { noted.new.seen ≡ noted.old.seen }
-    ensures wrong { noted.new.wrong ≡ judging.wrong_with (view_sheet parts.now) Part.Token word.now noted.old.wrong }
+    ensures wrong { IsWrong (view_sheet parts.now) Part.Token word.now noted.old noted.new }
 {
     let user_data = user_data_of(word);
     noted.lack(lacks_token(parts, user_data));
@@ -135,9 +137,9 @@ fn look_at_token(parts: &Parts, noted: &mut Noted, word: &[u8]) -> Option<u64>
 }
 
 fn look_at_file(parts: &Parts, noted: &mut Noted, word: &[u8]) -> Option<Value>
-    ensures value { result ≡ spec.value_at (view_sheet parts.now) noted.old.seen Part.File word.now }
+    ensures value { IsValue (view_sheet parts.now) Part.File word.now noted.old result }
     ensures seen { noted.new.seen ≡ noted.old.seen }
-    ensures wrong { noted.new.wrong ≡ judging.wrong_with (view_sheet parts.now) Part.File word.now noted.old.wrong }
+    ensures wrong { IsWrong (view_sheet parts.now) Part.File word.now noted.old noted.new }
 {
     let number = file_number_of(word);
     noted.lack(lacks_file(parts, number));
@@ -155,9 +157,9 @@ fn look_at_size(noted: &mut Noted, word: &[u8]) -> Option<Value>
 }
 
 fn look_at_new_file(parts: &Parts, noted: &mut Noted, word: &[u8]) -> Option<Value>
-    ensures value { result ≡ spec.value_at (view_sheet parts.now) noted.old.seen Part.NewFile word.now }
+    ensures value { IsValue (view_sheet parts.now) Part.NewFile word.now noted.old result }
     ensures seen { noted.new.seen ≡ noted.old.seen }
-    ensures wrong { noted.new.wrong ≡ judging.wrong_with (view_sheet parts.now) Part.NewFile word.now noted.old.wrong }
+    ensures wrong { IsWrong (view_sheet parts.now) Part.NewFile word.now noted.old noted.new }
 {
     let number = file_number_of(word);
     noted.repeat(repeats_file(parts, number), parts.files.len() >= 16);
@@ -165,18 +167,18 @@ fn look_at_new_file(parts: &Parts, noted: &mut Noted, word: &[u8]) -> Option<Val
 }
 
 fn look_at_new_buffer(parts: &Parts, noted: &mut Noted, word: &[u8]) -> Option<Value>
-    ensures value { result ≡ spec.value_at (view_sheet parts.now) noted.old.seen Part.NewBuffer word.now }
+    ensures value { IsValue (view_sheet parts.now) Part.NewBuffer word.now noted.old result }
     ensures seen { noted.new.seen ≡ noted.old.seen }
-    ensures wrong { noted.new.wrong ≡ judging.wrong_with (view_sheet parts.now) Part.NewBuffer word.now noted.old.wrong }
+    ensures wrong { IsWrong (view_sheet parts.now) Part.NewBuffer word.now noted.old noted.new }
 {
     noted.repeat(has_buffer(&parts.buffers, word), parts.buffers.len() >= 64);
     Some(Value::Nothing)
 }
 
 fn look_at_new_token(parts: &Parts, noted: &mut Noted, word: &[u8]) -> Option<Value>
-    ensures value { result ≡ spec.value_at (view_sheet parts.now) noted.old.seen Part.NewToken word.now }
+    ensures value { IsValue (view_sheet parts.now) Part.NewToken word.now noted.old result }
     ensures seen { noted.new.seen ≡ noted.old.seen }
-    ensures wrong { noted.new.wrong ≡ judging.wrong_with (view_sheet parts.now) Part.NewToken word.now noted.old.wrong }
+    ensures wrong { IsWrong (view_sheet parts.now) Part.NewToken word.now noted.old noted.new }
 {
     let user_data = user_data_of(word);
     noted.repeat(repeats_token(parts, user_data), parts.tokens.len() >= 256);
@@ -184,9 +186,9 @@ fn look_at_new_token(parts: &Parts, noted: &mut Noted, word: &[u8]) -> Option<Va
 }
 
 fn look_at_new_thread(parts: &Parts, noted: &mut Noted, word: &[u8]) -> Option<Value>
-    ensures value { result ≡ spec.value_at (view_sheet parts.now) noted.old.seen Part.NewThread word.now }
+    ensures value { IsValue (view_sheet parts.now) Part.NewThread word.now noted.old result }
     ensures seen { noted.new.seen ≡ noted.old.seen }
-    ensures wrong { noted.new.wrong ≡ judging.wrong_with (view_sheet parts.now) Part.NewThread word.now noted.old.wrong }
+    ensures wrong { IsWrong (view_sheet parts.now) Part.NewThread word.now noted.old noted.new }
 {
     let double = has_thread(&parts.threads, word) || is(&parts.draft.name, word);
     noted.repeat(double, parts.threads.len() >= 16);
@@ -195,8 +197,8 @@ fn look_at_new_thread(parts: &Parts, noted: &mut Noted, word: &[u8]) -> Option<V
 
 // The number of a variable, which is added where it is new.
 fn variable_of(alloc: Global, parts: &mut Parts, word: &[u8]) -> Result<usize, AllocError>
-    ensures number { IfOk result (λ n. n ≡ sheets.number_in (view_sheet parts.old).draft.names word.now) }
-    ensures sheet { OnOk result (view_sheet parts.new ≡ sheets.with_names (view_sheet parts.old) (record { part = Part.Variable; word = word.now } ∷ [])) }
+    ensures number { IfOk result (λ n. n ≡ number_in (view_sheet parts.old).draft.names word.now) }
+    ensures sheet { AddsName result parts.old Part.Variable word.now parts.new }
 {
     Ok(add_name(alloc, &mut parts.draft.names, word)?)
 }
@@ -204,7 +206,7 @@ fn variable_of(alloc: Global, parts: &mut Parts, word: &[u8]) -> Result<usize, A
 // What an operand is. A variable is added where it is new.
 fn operand_of(alloc: Global, parts: &mut Parts, word: &[u8]) -> Result<Option<Value>, AllocError>
     ensures value { IfOk result (λ o. o ≡ spec.operand_of (view_sheet parts.old) word.now) }
-    ensures sheet { OnOk result (view_sheet parts.new ≡ sheets.with_names (view_sheet parts.old) (record { part = Part.Operand; word = word.now } ∷ [])) }
+    ensures sheet { AddsName result parts.old Part.Operand word.now parts.new }
 {
     if begins_number(word) {
         return Ok(signed_value(word));
@@ -222,10 +224,10 @@ fn look_at(
     part: Part,
     word: &[u8],
 ) -> Result<Option<Value>, AllocError>
-    ensures value { IfOk result (λ o. o ≡ spec.value_at (view_sheet parts.old) noted.old.seen part word.now) }
-    ensures seen { OnOk result (noted.new.seen ≡ spec.seen_behind (view_sheet parts.old) noted.old.seen part word.now) }
-    ensures wrong { OnOk result (noted.new.wrong ≡ judging.wrong_with (view_sheet parts.old) part word.now noted.old.wrong) }
-    ensures sheet { OnOk result (view_sheet parts.new ≡ sheets.with_names (view_sheet parts.old) (record { part = part; word = word.now } ∷ [])) }
+    ensures value { IfOk result (IsValue (view_sheet parts.old) part word.now noted.old) }
+    ensures seen { OnOk result (IsSeen (view_sheet parts.old) part word.now noted.old noted.new) }
+    ensures wrong { OnOk result (IsWrong (view_sheet parts.old) part word.now noted.old noted.new) }
+    ensures sheet { AddsName result parts.old part word.now parts.new }
 {
     Ok(match part {
         Part::Fixed(_) | Part::Items => Some(Value::Nothing),
@@ -272,12 +274,12 @@ pub fn put_values(
     parts: &mut Parts,
     spots: &[Spot],
 ) -> Result<Option<Wrong>, AllocError>
-    ensures lacks { IfOk result (λ o. is_none o ≡ spec.any_lacks (sheets.with_names (view_sheet parts.old) (view_spots spots.now)) spec.start (view_spots spots.now)) }
-    ensures names { OnOk result (judging.AddsNames (view_sheet parts.old) (view_sheet parts.new)) }
-    ensures sheet { IfOk result (λ o. IfSome o (λ _. view_sheet parts.new ≡ sheets.with_names (view_sheet parts.old) (view_spots spots.now))) }
-    ensures values { IfOk result (λ o. IfSome o (λ _. values.new.items ≡ spec.values_of (sheets.with_names (view_sheet parts.old) (view_spots spots.now)) spec.start (view_spots spots.now))) }
-    ensures items { IfOk result (λ o. IfSome o (λ _. items.new.items ≡ spec.items_in (spec.values_of (sheets.with_names (view_sheet parts.old) (view_spots spots.now)) spec.start (view_spots spots.now)))) }
-    ensures wrong { IfOk result (λ o. IfSome o (λ wrong. wrong ≡ judging.wrong_in (sheets.with_names (view_sheet parts.old) (view_spots spots.now)) (view_spots spots.now))) }
+    ensures lacks { TellsLack result (view_sheet parts.old) (view_spots spots.now) }
+    ensures names { OnOk result (AddsNames (view_sheet parts.old) (view_sheet parts.new)) }
+    ensures sheet { PutsNames result parts.old spots.now parts.new }
+    ensures values { PutsValues result parts.old spots.now values.new }
+    ensures items { PutsItems result parts.old spots.now items.new }
+    ensures wrong { TellsWrong result (view_sheet parts.old) (view_spots spots.now) }
 {
     let mut noted = Noted::new();
     values.clear();

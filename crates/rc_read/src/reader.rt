@@ -4,7 +4,8 @@ ghost use Rattle.std.specs.Prelude.{◌≡◌, ◌+◌, ◌++◌, ◌∷◌, ◌
 ghost use Rattle.memchr.specs.Find.{Nowhere, Passes, is_byte};
 ghost use Rattle.rc_lang.specs.Program.{IsProgram};
 ghost use Rattle.rc_read.specs.Answer.{program_in as read_in};
-ghost use Rattle.rc_read.specs.Pieces.{IsSoundBy, ReadsMore, without_parts};
+ghost use Rattle.rc_read.specs.Pieces.{IsSoundBy, without_parts};
+ghost use Rattle.rc_read.specs.Steps.{ReadsLine, ReadsPiece};
 ghost use Rattle.rc_read.specs.Stream.{JudgesAll, JudgesEnd, Ends, IsAnswer, IsReached, IsReadAs};
 ghost use Rattle.rc_read.specs.View.{view_sheet};
 ghost use Rattle.rc_read.specs.Words.{last_line};
@@ -48,7 +49,7 @@ fn end_line<'a>(
     front: &'a [u8],
 ) -> Result<(), ReadFault>
     requires { Nowhere (Passes (is_byte 10) front.now) 0 (length front.now) }
-    ensures reads { ReadsMore (view_sheet parts.old) pending.old.items (front.now ++ 10 ∷ []) (view_sheet parts.new) pending.new.items result }
+    ensures reads { ReadsLine parts.old pending.old front.now parts.new pending.new result }
     ensures sound { IsReached (view_sheet parts.old) → IsSoundBy result (view_sheet parts.new) }
 {
     if pending.is_empty() {
@@ -67,7 +68,7 @@ fn take(
     pending: &mut Vec<u8>,
     piece: &[u8],
 ) -> Result<(), ReadFault>
-    ensures reads { ReadsMore (view_sheet parts.old) pending.old.items piece.now (view_sheet parts.new) pending.new.items result }
+    ensures reads { ReadsPiece parts.old pending.old piece.now parts.new pending.new result }
     ensures sound { IsReached (view_sheet parts.old) → IsSoundBy result (view_sheet parts.new) }
 {
     let mut scratch = Scratch::new(alloc);
@@ -165,7 +166,7 @@ impl Reader {
     /// Takes the next piece of the text. The answer is an error where a line that a line feed has ended so far can't
     /// be read, or a growth was refused; after an error each call answers it again.
     pub fn feed(&mut self, piece: &[u8]) -> Result<(), ReadFault>
-        ensures reads { (bytes : List ℕ) → HasRead self.old bytes → HasRead self.new (bytes ++ piece.now) }
+        ensures reads { (text : List ℕ) → HasRead self.old text → HasRead self.new (text ++ piece.now) }
         ensures so_far { (bytes : List ℕ) → HasRead self.old bytes → IsAnswerSoFar (bytes ++ piece.now) result }
         ensures kept { (fault : ReadFault) → (result ≡ Err fault) ↔ (self.new.fault ≡ Some fault) }
         ensures stays { IsSome self.old.fault → self.new ≡ self.old }

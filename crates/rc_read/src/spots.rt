@@ -1,10 +1,10 @@
 //! Which form a line has, and the places of its words.
 
-ghost use Rattle.std.specs.Prelude.{◌≡◌, ◌≤◌, ◌++◌, ◌∷◌, [], length, true, if◌then◌else◌, IfOk, IfSome, OnOk};
+ghost use Rattle.std.specs.Prelude.{◌≡◌, ◌≤◌, ◌∷◌, [], length, true, IfOk, IfSome};
 ghost use Rattle.rc_read.specs.Quick as quick;
 ghost use Rattle.rc_read.specs.Spots as spec;
 ghost use Rattle.rc_read.specs.Table.{parts_of as spec_parts_of, rows as all_rows};
-ghost use Rattle.rc_read.specs.Texts.{texts_of, view_spots};
+ghost use Rattle.rc_read.specs.Texts.{Adds, AddsIfSo, AddsSome, HasSpots, HasSpotsOfRow, texts_of, view_spots};
 
 use crate::fixed::text_of;
 use crate::reserved::is_reserved_by;
@@ -90,7 +90,7 @@ fn push_named<'a>(
     number: &'a [u8],
 ) -> Result<bool, AllocError>
     ensures is { IfOk result (λ b. b ≡ spec.is_item_name name.now) }
-    ensures spots { IfOk result (λ b. view_spots spots.new.items ≡ view_spots spots.old.items ++ (if b then spec.item_spots name.now number.now else [])) }
+    ensures spots { AddsIfSo result spots.old spots.new (spec.item_spots name.now number.now) }
 {
     if is(name, b"t") {
         spots.push(Spot {
@@ -125,7 +125,7 @@ fn push_named<'a>(
 // Adds the places of a word, if it is an item.
 fn push_item<'a>(spots: &mut Vec<Spot<'a>>, word: &'a [u8]) -> Result<bool, AllocError>
     ensures is { IfOk result (λ b. b ≡ spec.is_item word.now) }
-    ensures spots { IfOk result (λ b. view_spots spots.new.items ≡ view_spots spots.old.items ++ (if b then spec.spots_of_item word.now else [])) }
+    ensures spots { AddsIfSo result spots.old spots.new (spec.spots_of_item word.now) }
 {
     match colon_in(word) {
         None => Ok(false),
@@ -137,7 +137,7 @@ fn push_item<'a>(spots: &mut Vec<Spot<'a>>, word: &'a [u8]) -> Result<bool, Allo
 fn push_items<'a>(spots: &mut Vec<Spot<'a>>, words: &[&'a [u8]]) -> Result<usize, AllocError>
     ensures value { IfOk result (λ n. n ≡ quick.items_in_front (texts_of words.now)) }
     ensures within { IfOk result (λ n. n ≤ length words.now) }
-    ensures spots { OnOk result (view_spots spots.new.items ≡ view_spots spots.old.items ++ spec.spots_of_items (texts_of words.now)) }
+    ensures spots { Adds result spots.old spots.new (spec.spots_of_items (texts_of words.now)) }
 {
     for (i, word) in words.iter().enumerate() {
         if !push_item(spots, word)? {
@@ -149,7 +149,7 @@ fn push_items<'a>(spots: &mut Vec<Spot<'a>>, words: &[&'a [u8]]) -> Result<usize
 
 // Adds the place of a word that is in a part. A fixed word has none.
 fn push_word<'a>(spots: &mut Vec<Spot<'a>>, part: Part, word: &'a [u8]) -> Result<(), AllocError>
-    ensures { OnOk result (view_spots spots.new.items ≡ view_spots spots.old.items ++ spec.spot_of_part part (word.now ∷ [])) }
+    ensures { Adds result spots.old spots.new (spec.spot_of_part part (word.now ∷ [])) }
 {
     match part {
         Part::Fixed(_) => Ok(()),
@@ -168,7 +168,7 @@ fn push_part<'a>(
 ) -> Result<Option<usize>, AllocError>
     ensures value { IfOk result (λ o. o ≡ quick.taken_by part (texts_of words.now)) }
     ensures within { IfOk result (λ o. IfSome o (λ n. n ≤ length words.now)) }
-    ensures spots { IfOk result (λ o. IfSome o (λ _. view_spots spots.new.items ≡ view_spots spots.old.items ++ spec.spots_at part (texts_of words.now))) }
+    ensures spots { AddsSome result spots.old spots.new (spec.spots_at part (texts_of words.now)) }
 {
     if are_items(part) {
         return Ok(Some(push_items(spots, words)?));
@@ -192,7 +192,7 @@ fn put_places<'a>(
     words: &[&'a [u8]],
 ) -> Result<bool, AllocError>
     ensures matches { IfOk result (λ b. b ≡ spec.matches parts.now (texts_of words.now)) }
-    ensures spots { IfOk result (λ b. b ≡ true → view_spots spots.new.items ≡ spec.spots_of parts.now (texts_of words.now)) }
+    ensures spots { IfOk result (λ b. b ≡ true → HasSpots spots.new parts.now words.now) }
 {
     spots.clear();
     let mut at = 0;
@@ -249,7 +249,7 @@ fn has_items(row: Row) -> bool
 // Puts the places of a line with these words there, where it has this form.
 fn put_form<'a>(spots: &mut Vec<Spot<'a>>, row: Row, words: &[&'a [u8]]) -> Result<bool, AllocError>
     ensures matches { IfOk result (λ b. b ≡ spec.matches (spec_parts_of row) (texts_of words.now)) }
-    ensures spots { IfOk result (λ b. b ≡ true → view_spots spots.new.items ≡ spec.spots_of (spec_parts_of row) (texts_of words.now)) }
+    ensures spots { IfOk result (λ b. b ≡ true → HasSpots spots.new (spec_parts_of row) words.now) }
 {
     let parts = parts_of(row);
     // Each part takes one word, but for items.
@@ -266,7 +266,7 @@ fn first_row<'a>(
     words: &[&'a [u8]],
 ) -> Result<Option<Row>, AllocError>
     ensures row { IfOk result (λ o. o ≡ spec.first_row rows.now (texts_of words.now)) }
-    ensures spots { IfOk result (λ o. IfSome o (λ row. view_spots spots.new.items ≡ spec.spots_of (spec_parts_of row) (texts_of words.now))) }
+    ensures spots { HasSpotsOfRow result spots.new words.now }
 {
     for row in rows {
         if put_form(spots, *row, words)? {
@@ -292,7 +292,7 @@ fn first_byte(words: &[&[u8]]) -> u8
 // The first row whose parts the words are. Their places are put there. Most lines begin with a fixed word.
 fn find_row<'a>(spots: &mut Vec<Spot<'a>>, words: &[&'a [u8]]) -> Result<Option<Row>, AllocError>
     ensures row { IfOk result (λ o. o ≡ spec.first_row all_rows (texts_of words.now)) }
-    ensures spots { IfOk result (λ o. IfSome o (λ row. view_spots spots.new.items ≡ spec.spots_of (spec_parts_of row) (texts_of words.now))) }
+    ensures spots { HasSpotsOfRow result spots.new words.now }
 {
     if let Some(row) = first_row(spots, rows_of(first_byte(words)), words)? {
         return Ok(Some(row));
@@ -308,7 +308,7 @@ pub fn put_spots<'a>(
     words: &[&'a [u8]],
 ) -> Result<Option<Row>, AllocError>
     ensures row { IfOk result (λ o. o ≡ spec.row_of version (texts_of words.now)) }
-    ensures spots { IfOk result (λ o. IfSome o (λ row. view_spots spots.new.items ≡ spec.spots_of (spec_parts_of row) (texts_of words.now))) }
+    ensures spots { HasSpotsOfRow result spots.new words.now }
 {
     let Some(row) = find_row(spots, words)? else {
         return Ok(None);

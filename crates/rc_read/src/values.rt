@@ -1,7 +1,7 @@
 //! What the words of a line say in their places.
 
 ghost use Rattle.std.specs.Prelude.{◌≡◌, ◌≤◌, option_map};
-ghost use Rattle.rc_lang.specs.Numbers.{number_of as number_in_range};
+ghost use Rattle.rc_lang.specs.Numbers.{number_of as number_in};
 ghost use Rattle.rc_read.specs.Values as spec;
 ghost use Rattle.rc_read.specs.View.{view_sheet};
 
@@ -45,7 +45,7 @@ pub struct Seen {
 }
 
 pub fn small_number_of(low: u32, high: u32, word: &[u8]) -> Option<u32>
-    ensures { result ≡ number_in_range low high word.now }
+    ensures { result ≡ number_in low high word.now }
 {
     Some(number_of(u64::from(low), u64::from(high), word)? as u32)
 }
@@ -148,7 +148,7 @@ pub fn user_data_value(user_data: Option<u64>) -> Option<Value>
 }
 
 pub fn held_shares(buffer: usize, word: &[u8]) -> Option<Value>
-    ensures { result ≡ option_map (λ k. Value.Item (Item.Shares buffer k)) (number_in_range 1 16 word.now) }
+    ensures { result ≡ option_map (λ k. Value.Item (Item.Shares buffer k)) (number_in 1 16 word.now) }
 {
     let count = small_number_of(1, 16, word)?;
     Some(Value::Item(Item::Shares(buffer, count)))
@@ -161,14 +161,14 @@ pub fn held_token(user_data: Option<u64>) -> Option<Value>
 }
 
 pub fn held_credits(word: &[u8]) -> Option<Value>
-    ensures { result ≡ option_map (λ n. Value.Item (Item.Credits n)) (number_in_range 0 2048 word.now) }
+    ensures { result ≡ option_map (λ n. Value.Item (Item.Credits n)) (number_in 0 2048 word.now) }
 {
     let count = small_number_of(0, 2048, word)?;
     Some(Value::Item(Item::Credits(count)))
 }
 
 pub fn held_queued(entries: u32, word: &[u8]) -> Option<Value>
-    ensures { result ≡ option_map (λ k. Value.Item (Item.Queued k)) (number_in_range 0 entries word.now) }
+    ensures { result ≡ option_map (λ k. Value.Item (Item.Queued k)) (number_in 0 entries word.now) }
 {
     let count = small_number_of(0, entries, word)?;
     Some(Value::Item(Item::Queued(count)))

@@ -1,10 +1,10 @@
 //! The words of a line, as slices of it.
 
-ghost use Rattle.std.specs.Prelude.{◌≡◌, ◌++◌, OnOk, take};
+ghost use Rattle.std.specs.Prelude.{◌≡◌, OnOk, take};
 ghost use Rattle.std.specs.Str.{bytes_eq};
 ghost use Rattle.rc_lang.specs.Names as names;
 ghost use Rattle.rc_read.specs.Sentences.{any_strange, is_strange};
-ghost use Rattle.rc_read.specs.Texts.{texts_of};
+ghost use Rattle.rc_read.specs.Texts.{AddsWords, texts_of};
 ghost use Rattle.rc_read.specs.Words as spec;
 
 use crate::reserved::is_reserved;
@@ -52,7 +52,7 @@ fn is_blank(b: u8) -> bool
 
 // Adds a word, unless it is empty.
 fn push_word<'a>(words: &mut Vec<&'a [u8]>, word: &'a [u8]) -> Result<(), AllocError>
-    ensures { OnOk result (texts_of words.new.items ≡ texts_of words.old.items ++ spec.word_if_any word.now) }
+    ensures { AddsWords result words.old words.new (spec.word_if_any word.now) }
 {
     if !word.is_empty() {
         words.push(word)?;
