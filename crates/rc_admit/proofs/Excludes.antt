@@ -20,7 +20,8 @@ use Rattle.rc_rules.specs.declared.mode.Peeked.{Peeked}
 use Rattle.rc_rules.specs.declared.mode.Peeked.TheVariants.{Unseen, Sees, SeesOther}
 use Rattle.rc_rules.specs.declared.mode.Slot.TheVariants.{Closed, Vacant}
 use Rattle.rc_rules.specs.Premises.{Meets}
-use Rattle.rc_rules.specs.Rules.{is_seen, kind_of, limit, may_release, op_premises, owned, put_premises, same_slot}
+use Rattle.rc_rules.specs.Needs.{line_premises}
+use Rattle.rc_rules.specs.Rules.{is_seen, kind_of, limit, owned, same_slot}
 use Rattle.rc_rules.specs.States.{is_locked}
 use Rattle.rc_rules.proofs.Weaker.{same_slot_is}
 use Rattle.rc_split.specs.Bags.{Part, ShareOf, TokenOf, Credit, bag_of}
@@ -47,22 +48,22 @@ use Rattle.rc_world.proofs.LawFaultless.{without_fault}
 -- ---- what the rules ask of an access
 
 -- A statement that writes a buffer has all its shares.
-all_by : (P : Program) (b : Part → ℕ) (m : Mode) (op : Op) → Meets (op_premises P b m op) → (a : Access) → access_by op ≡ Some a → a.writes ≡ true → shares_at P.buffers a.buffer ≤ b (ShareOf a.buffer)
+all_by : (P : Program) (b : Part → ℕ) (m : Mode) (op : Op) → Meets (line_premises P [] b m (Do op)) → (a : Access) → access_by op ≡ Some a → a.writes ≡ true → shares_at P.buffers a.buffer ≤ b (ShareOf a.buffer)
 all_by P b m (Load x c j) h a e y = let z : false ≡ a.writes = ap (λ (x : Access). x.writes) (same_Some (record { buffer = c; writes = false }) a e) in absurd (cc)
-all_by P b m (Store c j x) h a e y = subst (λ (x : Access). shares_at P.buffers x.buffer ≤ b (ShareOf x.buffer)) (same_Some (record { buffer = c; writes = true }) a e) (leb-true _ _ (met 7 (op_premises P b m (Store c j x)) h))
-all_by P b m (Fill c x) h a e y = subst (λ (x : Access). shares_at P.buffers x.buffer ≤ b (ShareOf x.buffer)) (same_Some (record { buffer = c; writes = true }) a e) (leb-true _ _ (met 7 (op_premises P b m (Fill c x)) h))
+all_by P b m (Store c j x) h a e y = subst (λ (x : Access). shares_at P.buffers x.buffer ≤ b (ShareOf x.buffer)) (same_Some (record { buffer = c; writes = true }) a e) (leb-true _ _ (met 7 (line_premises P [] b m (Do (Store c j x))) h))
+all_by P b m (Fill c x) h a e y = subst (λ (x : Access). shares_at P.buffers x.buffer ≤ b (ShareOf x.buffer)) (same_Some (record { buffer = c; writes = true }) a e) (leb-true _ _ (met 7 (line_premises P [] b m (Do (Fill c x))) h))
 all_by P b m _ h a e y = absurd (cc)
 
 -- One that reads or writes it has a share.
-one_by : (P : Program) → IsProgram P → (b : Part → ℕ) (m : Mode) (n k : ℕ) (op : Op) → Meets (op_premises P b m op) → IsResolved P n k (Do op) → (a : Access) → access_by op ≡ Some a → 1 ≤ b (ShareOf a.buffer)
-one_by P made b m n k (Load x c j) h r a e = subst (λ (x : Access). 1 ≤ b (ShareOf x.buffer)) (same_Some (record { buffer = c; writes = false }) a e) (leb-true 1 _ (met 8 (op_premises P b m (Load x c j)) h))
+one_by : (P : Program) → IsProgram P → (b : Part → ℕ) (m : Mode) (n k : ℕ) (op : Op) → Meets (line_premises P [] b m (Do op)) → IsResolved P n k (Do op) → (a : Access) → access_by op ≡ Some a → 1 ≤ b (ShareOf a.buffer)
+one_by P made b m n k (Load x c j) h r a e = subst (λ (x : Access). 1 ≤ b (ShareOf x.buffer)) (same_Some (record { buffer = c; writes = false }) a e) (leb-true 1 _ (met 8 (line_premises P [] b m (Do (Load x c j))) h))
 one_by P made b m n k (Store c j x) h r a e =
     let s : 1 ≤ shares_at P.buffers c = buffer_shared P made c r.0 in
-    let g : shares_at P.buffers c ≤ b (ShareOf c) = leb-true _ _ (met 7 (op_premises P b m (Store c j x)) h) in
+    let g : shares_at P.buffers c ≤ b (ShareOf c) = leb-true _ _ (met 7 (line_premises P [] b m (Do (Store c j x))) h) in
     subst (λ (x : Access). 1 ≤ b (ShareOf x.buffer)) (same_Some (record { buffer = c; writes = true }) a e) (omega arith)
 one_by P made b m n k (Fill c x) h r a e =
     let s : 1 ≤ shares_at P.buffers c = buffer_shared P made c r.0 in
-    let g : shares_at P.buffers c ≤ b (ShareOf c) = leb-true _ _ (met 7 (op_premises P b m (Fill c x)) h) in
+    let g : shares_at P.buffers c ≤ b (ShareOf c) = leb-true _ _ (met 7 (line_premises P [] b m (Do (Fill c x))) h) in
     subst (λ (x : Access). 1 ≤ b (ShareOf x.buffer)) (same_Some (record { buffer = c; writes = true }) a e) (omega arith)
 one_by P made b m n k _ h r a e = absurd (cc)
 
@@ -213,7 +214,7 @@ module _ (w : World) (made : IsProgram w.program) (S : Stand) (edge : HasEdge w.
   vacant_at : (i : ℕ) (s : Inside) → modes i ≡ Locked s → s.slot ≡ Vacant → w.slot ≡ entries.Vacant
   vacant_at i s e f = slot_vacant w.slot (subst (λ x. SlotFits w.slot x) f (ring_at i s e).2)
 
-  asked : (i : ℕ) (op : Op) → is_ring_op op ≡ true → Meets (op_premises P (bags i) (modes i) op) → InRing P (bags i) (modes i) op
+  asked : (i : ℕ) (op : Op) → is_ring_op op ≡ true → Meets (line_premises P [] (bags i) (modes i) (Do op)) → InRing P (bags i) (modes i) op
   asked i op r h = in_ring P (bags i) (modes i) op r h
 
   -- a call that wants no open entry, and one that wants a vacant one
@@ -223,7 +224,7 @@ module _ (w : World) (made : IsProgram w.program) (S : Stand) (edge : HasEdge w.
   wants_vacant : (i : ℕ) (op : Op) (x : InRing P (bags i) (modes i) op) → same_slot x.inside.slot Vacant ≡ true → not (is_vacant w.slot) ≡ false
   wants_vacant i op x h = ap (λ y. not (is_vacant y)) (vacant_at i x.inside x.is (same_slot_is x.inside.slot Vacant h))
 
-  is_not_raw : (i : ℕ) (op : Op) → Meets (op_premises P (bags i) (modes i) op) → op_is_raw w.slot op ≡ false
+  is_not_raw : (i : ℕ) (op : Op) → Meets (line_premises P [] (bags i) (modes i) (Do op)) → op_is_raw w.slot op ≡ false
   is_not_raw i GetSqe h = let x = asked i GetSqe refl h in wants_closed i _ x (x.asked 4)
   is_not_raw i (PrepRead fd b len off) h = let x = asked i (PrepRead fd b len off) refl h in wants_vacant i _ x (x.asked 5)
   is_not_raw i (PrepWrite fd b len off k) h = let x = asked i (PrepWrite fd b len off k) refl h in wants_vacant i _ x (x.asked 5)
@@ -239,10 +240,10 @@ module _ (w : World) (made : IsProgram w.program) (S : Stand) (edge : HasEdge w.
   is_not_raw i _ h = refl
 
   -- what releases the lock
-  released_closed : (i : ℕ) → is_locked (modes i) ≡ true → Meets (may_release P (modes i)) → not (is_closed w.slot) ≡ false
+  released_closed : (i : ℕ) → is_locked (modes i) ≡ true → Meets (line_premises P [] (bags i) (modes i) (EndLock 0)) → not (is_closed w.slot) ≡ false
   released_closed i l h =
       let s = inside_of (modes i) l in
-      let m = met 4 (may_release P (Locked s.0)) (subst (λ n. Meets (may_release P n)) s.1 h) in
+      let m = met 4 (line_premises P [] (bags i) (Locked s.0) (EndLock 0)) (subst (λ n. Meets (line_premises P [] (bags i) n (EndLock 0))) s.1 h) in
       ap (λ y. not (is_closed y)) (closed_at i s.0 s.1 (same_slot_is s.0.slot Closed m))
 
   no_raw_entry : (i : ℕ) (s : Stmt) (vars : List ℤ) (k : ℕ) → EdgeAt P S i (bags i) (modes i) vars k (Some s) → is_raw_at w.slot s ≡ false
@@ -344,9 +345,9 @@ module _ (w : World) (made : IsProgram w.program) (S : Stand) (edge : HasEdge w.
   no_unknown_reap i (Do _) vars k h = refl
   no_unknown_reap i _ vars k h = refl
 
-  op_within : (i : ℕ) (op : Op) → Meets (op_premises P (bags i) (modes i) op) → op_is_out P op ≡ false
-  op_within i (Load x b j) h = lt-leb (bytes_at P.buffers b) j (ltb-true _ _ (met 9 (op_premises P (bags i) (modes i) (Load x b j)) h))
-  op_within i (Store b j x) h = lt-leb (bytes_at P.buffers b) j (ltb-true _ _ (met 9 (op_premises P (bags i) (modes i) (Store b j x)) h))
+  op_within : (i : ℕ) (op : Op) → Meets (line_premises P [] (bags i) (modes i) (Do op)) → op_is_out P op ≡ false
+  op_within i (Load x b j) h = lt-leb (bytes_at P.buffers b) j (ltb-true _ _ (met 9 (line_premises P [] (bags i) (modes i) (Do (Load x b j))) h))
+  op_within i (Store b j x) h = lt-leb (bytes_at P.buffers b) j (ltb-true _ _ (met 9 (line_premises P [] (bags i) (modes i) (Do (Store b j x))) h))
   op_within i (PrepRead fd b len off) h = let s = asked i (PrepRead fd b len off) refl h in not_from_true (nat_le len (bytes_at P.buffers b)) (s.asked 9)
   op_within i (PrepWrite fd b len off k) h = let s = asked i (PrepWrite fd b len off k) refl h in not_from_true (nat_le len (bytes_at P.buffers b)) (s.asked 9)
   op_within i _ h = refl
@@ -358,10 +359,10 @@ module _ (w : World) (made : IsProgram w.program) (S : Stand) (edge : HasEdge w.
   -- ---- the pool
 
   -- What a thread holds isn't in the pool.
-  room_for_put : (i : ℕ) (items : Items) → i < length w.controls.threads → Meets (put_premises (bags i) (modes i) items) → (p : Part) → pooled P w.controls.pool p + bag_of items p ≤ limit P p
+  room_for_put : (i : ℕ) (items : Items) → i < length w.controls.threads → Meets (line_premises P (items ∷ []) (bags i) (modes i) (Put 0)) → (p : Part) → pooled P w.controls.pool p + bag_of items p ≤ limit P p
   room_for_put i items lt h p =
       let s = inside_of (modes i) (asks_lock (modes i) _ h) in
-      let mine : bag_of items p ≤ bags i p = (subst (λ m. Meets (put_premises (bags i) m items)) s.1 h).0 p in
+      let mine : bag_of items p ≤ bags i p = (subst (λ m. Meets (line_premises P (items ∷ []) (bags i) m (Put 0))) s.1 h).0 p in
       let all : bags i p + unheld P w p ≤ limit P p = one_and_flight p i lt in
       omega arith
 

@@ -30,8 +30,10 @@ use Rattle.rc_rules.specs.Labellings.{IsGood, IsGoodAt, here, label_at, skipped}
 use Rattle.rc_rules.specs.declared.flag.Write.TheVariants.{Anything}
 use Rattle.rc_rules.specs.Sides.{Sides, brings, forgets, may_skip, on, test_goes, turns, unreached, write_of, write_to}
 use Rattle.rc_rules.specs.Premises.{Meets, Premise}
-use Rattle.rc_rules.specs.Rules.{asks, asks_both, broken, case_at, goes, may_break, may_loop, may_release, op_effect, op_premises, peek_at, peek_premises, put_effect, put_premises, test_effect, test_premises, top_mode, with_peeked}
+use Rattle.rc_rules.specs.Needs.{line_premises}
+use Rattle.rc_rules.specs.Rules.{asks, asks_both, broken, case_at, goes, op_effect, peek_at, premises_of, put_effect, stmt_needs, test_effect, top_mode, under_lock, with_peeked}
 use Rattle.rc_rules.specs.States.{is_locked}
+use Rattle.rc_rules.proofs.Rising.{leave_same, op_same, test_same}
 use Rattle.rc_rules.proofs.Weaker.{locked_same, peeked_grows, peeked_locked, weaker_trans}
 use Rattle.rc_split.specs.Bags.{Part, TokenOf, bag_of, bag_on, minus}
 use Rattle.rc_world.specs.Controls.{arm_for, none_arm}
@@ -197,7 +199,7 @@ module _ (P : Program) (wf : IsProgram P) (i : ℕ) (thread : Thread) (labels : 
     comes_by s may F t e y h = comes s F t e (brought may (λ l. goes l F) (here (take k lines) (take (k + 1) labels)) t side y h)
 
     do_edge : (op : Op) → stmt_at lines k ≡ Some (Do op) → EdgeAt P (Labelled P) i b m vars k (Some (Do op))
-    do_edge op e = (asked (Do op) (λ z bag m. op_premises P bag m op) e g.meets, for_each (op_effect P b m op) (λ new may c n. Leads (Labelled P) i c n new (k + 1)) to)
+    do_edge op e = (subst Meets (op_same P thread.lists side b m op) (asked (Do op) (λ z bag m. premises_of P thread.lists z bag m (stmt_needs (Do op))) e g.meets), for_each (op_effect P b m op) (λ new may c n. Leads (Labelled P) i c n new (k + 1)) to)
       where
         g : IsGoodAt P thread lines labels k (Do op)
         g = good_at k (Do op) e
@@ -213,8 +215,8 @@ module _ (P : Program) (wf : IsProgram P) (i : ℕ) (thread : Thread) (labels : 
     put_edge n e =
         let g = good_at k (Put n) e in
         let items : Items = items_at thread.lists n in
-        subst (λ lists. Meets (put_premises b m (items_at lists n)) × Leads (Labelled P) i (minus b (bag_of (items_at lists n))) m vars (k + 1)) (sym lists_are)
-        (asked (Put n) (λ z bag m. put_premises bag m items) e g.meets, same (minus b (bag_of items)) m vars (k + 1) (blocks_next lines k (Put n) e) refl a.stored (comes (Put n) (λ bag m. put_effect bag m items) (label_at labels (k + 1) side) e (g.after side).0))
+        subst (λ lists. Meets (line_premises P lists b m (Put n)) × Leads (Labelled P) i (minus b (bag_of (items_at lists n))) m vars (k + 1)) (sym lists_are)
+        (asked (Put n) (λ z bag m. line_premises P thread.lists bag m (Put n)) e g.meets, same (minus b (bag_of items)) m vars (k + 1) (blocks_next lines k (Put n) e) refl a.stored (comes (Put n) (λ bag m. put_effect bag m items) (label_at labels (k + 1) side) e (g.after side).0))
 
     lock_edge : stmt_at lines k ≡ Some Lock → EdgeAt P (Labelled P) i b m vars k (Some Lock)
     lock_edge e =
@@ -230,7 +232,7 @@ module _ (P : Program) (wf : IsProgram P) (i : ℕ) (thread : Thread) (labels : 
         let c = closes_lock lines laid.each k o e in
         let l : in_lock (blocks_at lines k) ≡ true = ap in_lock c.within ∙ in_lock_pushed (blocks_at lines o) (InLock o) ∙ or-true (in_lock (blocks_at lines o)) in
         let f : in_lock (blocks_at lines o) ≡ false = (nested_here lines laid.each o Lock c.stands).0 in
-        (a.locked ∙ l, asked (EndLock o) (λ z bag m. may_release P m) e g.meets, out b Unlocked (k + 1) (blocks_at lines o) (InLock o ∷ []) c.within c.behind (sym f) (comes (EndLock o) (λ bag m. Live bag Unlocked) (label_at labels (k + 1) side) e (g.after side).0))
+        (a.locked ∙ l, asked (EndLock o) (λ z bag m. line_premises P [] bag m (EndLock 0)) e g.meets, out b Unlocked (k + 1) (blocks_at lines o) (InLock o ∷ []) c.within c.behind (sym f) (comes (EndLock o) (λ bag m. Live bag Unlocked) (label_at labels (k + 1) side) e (g.after side).0))
 
     -- a false if
     false_edge : (test : Test) → stmt_at lines k ≡ Some (If test) → MayPass test vars false → Leads (Labelled P) i b m vars (end_at P i k + 1)
@@ -250,7 +252,7 @@ module _ (P : Program) (wf : IsProgram P) (i : ℕ) (thread : Thread) (labels : 
     if_edge : (test : Test) → stmt_at lines k ≡ Some (If test) → EdgeAt P (Labelled P) i b m vars k (Some (If test))
     if_edge test e =
         let g = good_at k (If test) e in (
-          asked (If test) (λ z bag n. test_premises n test) e g.meets,
+          subst Meets (test_same P thread.lists side b m test) (asked (If test) (λ z bag n. premises_of P thread.lists z bag n (stmt_needs (If test))) e g.meets),
           where_known (test_effect P (lists_of P i) b m test) (MayPass test vars true) (λ c n. Leads (Labelled P) i c n vars (k + 1)) (λ may.
               let w = comes (If test) (λ bag n. test_effect P thread.lists bag n test) (label_at labels (k + 1) side) e (ungate (test_goes flag test side true) (label_at labels (k + 1) side) _ (test_may flag test vars true may) (g.after side).0) in
               behind_test P (lists_of P i) b m test (λ c n. Leads (Labelled P) i c n vars (k + 1)) (label_at labels (k + 1) side) (subst (λ lists. Weaker (label_at labels (k + 1) side) (test_effect P lists b m test)) (sym lists_are) w)
@@ -278,7 +280,7 @@ module _ (P : Program) (wf : IsProgram P) (i : ℕ) (thread : Thread) (labels : 
 
     -- into an arm of the peek that is here
     peek_edge : (x : ℕ) → stmt_at lines k ≡ Some (Peek x) → EdgeAt P (Labelled P) i b m vars k (Some (Peek x))
-    peek_edge x e = (asked (Peek x) (λ z bag n. peek_premises n) e g.meets, λ u v. to_arm u v, λ v. to_none v)
+    peek_edge x e = (asked (Peek x) (λ z bag n. line_premises P [] bag n (Peek 0)) e g.meets, λ u v. to_arm u v, λ v. to_none v)
       where
         g : IsGoodAt P thread lines labels k (Peek x)
         g = good_at k (Peek x) e
@@ -324,7 +326,7 @@ module _ (P : Program) (wf : IsProgram P) (i : ℕ) (thread : Thread) (labels : 
     peek_inside : (o x : ℕ) → stmt_at lines o ≡ Some (Peek x) → Entered flag lines labels o → in_lock (blocks_at lines o) ≡ true
     peek_inside o x e h =
         let z : Bool = side_of flag h.variables in
-        sym h.locked ∙ asks_lock h.mode _ (subst (λ s. Meets (asks s (λ bag n. peek_premises n))) (here_is o z (Peek x) e ∙ h.label) (meets_side (λ y. asks (here (take o lines) (take (o + 1) labels) y) (λ bag n. peek_premises n)) z (good_at o (Peek x) e).meets))
+        sym h.locked ∙ asks_lock h.mode _ (subst (λ s. Meets (asks s (λ bag n. under_lock 1 n (λ i. [])))) (here_is o z (Peek x) e ∙ h.label) (meets_side (λ y. asks (here (take o lines) (take (o + 1) labels) y) (λ bag n. under_lock 1 n (λ i. []))) z (good_at o (Peek x) e).meets))
 
     arm_edge : (o : ℕ) → stmt_at lines k ≡ Some (EndArm o) → EdgeAt P (Labelled P) i b m vars k (Some (EndArm o))
     arm_edge o e =
@@ -342,7 +344,7 @@ module _ (P : Program) (wf : IsProgram P) (i : ℕ) (thread : Thread) (labels : 
         let g = good_at k (Loop n) e in
         let items = items_at thread.lists n in
         let w = comes_by (Loop n) (λ y. turns (forgets flag) y side) (λ bag o. Live (bag_on side items) (top_mode P items o)) (label_at labels (k + 1) side) e (loop_turns flag vars vars) (g.after side) in
-        into b m vars (k + 1) (InLoop k n ∷ []) (blocks_next lines k (Loop n) e) refl a.stored (entered, tt) refl (weaker_trans (label_at labels (k + 1) side) (Live (bag_on side items) (top_mode P items m)) (Live b m) w (covered P 13 items side b m (asked (Loop n) (λ z bag o. may_loop P 13 items z bag o) e g.meets)))
+        into b m vars (k + 1) (InLoop k n ∷ []) (blocks_next lines k (Loop n) e) refl a.stored (entered, tt) refl (weaker_trans (label_at labels (k + 1) side) (Live (bag_on side items) (top_mode P items m)) (Live b m) w (covered P 13 items side b m (asked (Loop n) (λ z bag o. premises_of P thread.lists z bag o (stmt_needs (Loop n))) e g.meets)))
 
     -- back to the line after the top of a loop: its opener was entered, so the label there is of exactly the items
     again_edge : (o n : ℕ) → stmt_at lines k ≡ Some (EndLoop o n) → EdgeAt P (Labelled P) i b m vars k (Some (EndLoop o n))
@@ -355,7 +357,7 @@ module _ (P : Program) (wf : IsProgram P) (i : ℕ) (thread : Thread) (labels : 
         let w = subst (λ s. Weaker (label_at labels (o + 1) side) (top_of s)) (here_is o (side_of flag h.variables) (Loop n) c.stands ∙ h.label) y in
         let s : is_locked h.mode ≡ is_locked m = h.locked ∙ sym (a.locked ∙ ap in_lock c.within ∙ same_lock (blocks_at lines o) (InLoop o n) refl) in
         let v = subst (λ l. Weaker (label_at labels (o + 1) side) (Live (bag_on side items) l)) (top_same P items h.mode m s) w in
-        same b m vars (o + 1) (back_leads lines ends laid k o n e).1 refl a.stored (weaker_trans (label_at labels (o + 1) side) (Live (bag_on side items) (top_mode P items m)) (Live b m) v (covered P 14 items side b m (asked (EndLoop o n) (λ z bag l. may_loop P 14 items z bag l) e (good_at k (EndLoop o n) e).meets)))
+        same b m vars (o + 1) (back_leads lines ends laid k o n e).1 refl a.stored (weaker_trans (label_at labels (o + 1) side) (Live (bag_on side items) (top_mode P items m)) (Live b m) v (covered P 14 items side b m (asked (EndLoop o n) (λ z bag l. premises_of P thread.lists z bag l (stmt_needs (EndLoop o n))) e (good_at k (EndLoop o n) e).meets)))
 
     break_edge : (o : ℕ) (releases leaves : Bool) → stmt_at lines k ≡ Some (Break o releases leaves) → EdgeAt P (Labelled P) i b m vars k (Some (Break o releases leaves))
     break_edge o releases leaves e =
@@ -365,7 +367,7 @@ module _ (P : Program) (wf : IsProgram P) (i : ℕ) (thread : Thread) (labels : 
         let l = line_with lines k (Break o releases leaves) e in
         let w = break_in side (take (end_at P i o) lines) (take (end_at P i o + 1) labels) (label_at labels (end_at P i o + 1) side) k o releases leaves l.0 (get_take (end_at P i o) k lines l.0 lt l.1) l.2 ((good_at (end_at P i o) (EndLoop o h.0) h.1.stands).after side) in (
           λ t. elim (or_cases releases leaves t) [ inl r ↦ a.locked ∙ c.locked r | inr r ↦ a.locked ∙ in_peek_locked (c.peeked ∙ r) ],
-          asked (Break o releases leaves) (λ z bag n. may_break P releases n) e (good_at k (Break o releases leaves) e).meets,
+          subst Meets (leave_same P thread.lists side b m o releases leaves) (asked (Break o releases leaves) (λ z bag n. premises_of P thread.lists z bag n (stmt_needs (Break o releases leaves))) e (good_at k (Break o releases leaves) e).meets),
           behind_break b m releases (λ d n. Leads (Labelled P) i d n vars (end_at P i o + 1)) (label_at labels (end_at P i o + 1) side) (subst (λ s. Weaker (label_at labels (end_at P i o + 1) side) (broken releases s)) (known_at (end_at P i o) (omega arith)) w)
               (λ n s v. out b n (end_at P i o + 1) (blocks_at lines o) (InLoop o c.number ∷ c.inner) c.within h.1.lands.blocks (s ∙ ap (λ x. cond releases false x) a.locked ∙ sym c.lock_outside) v),
         )

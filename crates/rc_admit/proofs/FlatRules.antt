@@ -1,5 +1,5 @@
 -- What passes from a label to a weaker one, and through the rules of lines.
-use Rattle.std.proofs.Common.{◌≡◌, ℕ, Bool, true, false, cond, List, refl, sym, inr}
+use Rattle.std.proofs.Common.{◌≡◌, ℕ, Bool, true, false, cond, List, [], ◌∷◌, refl, sym, inr}
 use Rattle.std.specs.Prelude.{nat_le}
 use Rattle.std.proofs.lemmas.Bool.{and_parts, leb-true}
 use Rattle.rc_lang.specs.declared.lines.Op.{Op}
@@ -11,8 +11,8 @@ use Rattle.rc_rules.specs.declared.mode.Mode.TheVariants.{Unlocked, Locked}
 use Rattle.rc_rules.specs.declared.mode.Peeked.TheVariants.{Unseen}
 use Rattle.rc_rules.specs.declared.mode.Slot.TheVariants.{Closed}
 use Rattle.rc_rules.specs.Labels.{Label, Dead, Live, Weaker, WeakerMode}
-use Rattle.rc_rules.specs.Premises.{Meets}
-use Rattle.rc_rules.specs.Rules.{broken, can_take, keeps_queue, may_loop, op_effect, queue_on, same_slot, test_effect, test_mode, top_mode, with_peeked}
+use Rattle.rc_rules.specs.Premises.{Premise, Is, Covers, Meets}
+use Rattle.rc_rules.specs.Rules.{broken, can_take, keeps_queue, op_effect, queue_on, same_slot, test_effect, test_mode, top_mode, with_peeked}
 use Rattle.rc_rules.specs.States.{is_locked}
 use Rattle.rc_rules.proofs.Lines.{effect_by}
 use Rattle.rc_rules.proofs.Weaker.{peeked_locked, same_slot_is, test_locked}
@@ -77,7 +77,7 @@ queue_less P items (Locked s) e = record {
   peeked = inr refl;
 }
 
-pub covered : (P : Program) (v : ℕ) (items : Items) (z : Bool) (b : Part → ℕ) (m : Mode) → Meets (may_loop P v items z b m) → Weaker (Live (bag_on z items) (top_mode P items m)) (Live b m)
+pub covered : (P : Program) (v : ℕ) (items : Items) (z : Bool) (b : Part → ℕ) (m : Mode) → Meets ((v, Is (keeps_queue (queue_on P items) m)) ∷ (v, Covers b (bag_on z items)) ∷ []) → Weaker (Live (bag_on z items) (top_mode P items m)) (Live b m)
 covered P v items z b m h = (h.1.0, queue_less P items m h.0)
 
 pub top_same : (P : Program) (items : Items) (m n : Mode) → is_locked m ≡ is_locked n → top_mode P items m ≡ top_mode P items n

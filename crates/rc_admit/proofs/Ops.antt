@@ -2,6 +2,7 @@
 use Rattle.std.proofs.Common.{◌≡◌, ℕ, ◌+◌, ◌-◌, ◌≤◌, ◌<◌, Bool, true, false, cond, List, [], ◌∷◌, ◌++◌, length, take, drop, map, Option, Some, None, refl, sym, ap, ◌∙◌, subst, inl, inr, arith, length-append, length-drop}
 use Rattle.std.proofs.lemmas.Bool.{leb-true, ltb-true}
 use Rattle.std.specs.Prelude.{slice_get, slice_set, nat_lt, ℤ, if◌then◌else◌}
+use Rattle.rc_lang.specs.declared.lines.Stmt.TheVariants.{Do}
 use Rattle.rc_lang.specs.declared.lines.Op.{Op}
 use Rattle.rc_lang.specs.declared.lines.Op.TheVariants.{Set, Load, Store, Fill, Print, GetSqe, PrepRead, PrepWrite, PrepFsync, PrepNop, SetData64, Submit, SubmitAndWait, CqeSeen}
 use Rattle.rc_lang.specs.declared.program.TokenKind.{TokenKind}
@@ -15,7 +16,8 @@ use Rattle.rc_rules.specs.declared.mode.Peeked.{Peeked}
 use Rattle.rc_rules.specs.declared.mode.Peeked.TheVariants.{Unseen, Sees, SeesOther}
 use Rattle.rc_rules.specs.declared.mode.Slot.{Slot}
 use Rattle.rc_rules.specs.declared.mode.Slot.TheVariants.{Closed, Vacant, Prepared}
-use Rattle.rc_rules.specs.Rules.{is_seen, kind_bag, kind_of, line_bag, op_effect, op_premises, owned, reaped}
+use Rattle.rc_rules.specs.Needs.{line_premises}
+use Rattle.rc_rules.specs.Rules.{is_seen, kind_bag, kind_of, line_bag, op_effect, owned, reaped}
 use Rattle.rc_rules.specs.Premises.{Meets}
 use Rattle.rc_rules.proofs.Weaker.{same_slot_is}
 use Rattle.rc_split.specs.Bags.{Part, ShareOf, TokenOf, Credit, shares_bag, token_bag, credits_bag, minus, plus}
@@ -338,10 +340,10 @@ module _ (P : Program) (S : Stand) (edge : HasEdge P S) (w : World) (bags : ℕ 
   Behind op b m = (new : List ℤ) → MayBecome op t.variables new → Leads S i b m new (t.place + 1)
 
   -- of one that calls the ring, inside the lock
-  ring : (op : Op) → is_ring_op op ≡ true → Meets (op_premises P (bags i) (modes i) op) × AtLive (op_effect P (bags i) (modes i) op) (Behind op) → (x : InRing P (bags i) (modes i) op) × AtLive (op_effect P (bags i) (Locked x.inside) op) (Behind op)
+  ring : (op : Op) → is_ring_op op ≡ true → Meets (line_premises P [] (bags i) (modes i) (Do op)) × AtLive (op_effect P (bags i) (modes i) op) (Behind op) → (x : InRing P (bags i) (modes i) op) × AtLive (op_effect P (bags i) (Locked x.inside) op) (Behind op)
   ring op r h = let x = in_ring P (bags i) (modes i) op r h.0 in (x, subst (λ m. AtLive (op_effect P (bags i) m op) (Behind op)) x.is h.1)
 
-  pub op_keeps : (op : Op) → Meets (op_premises P (bags i) (modes i) op) × AtLive (op_effect P (bags i) (modes i) op) (λ b m. (new : List ℤ) → MayBecome op t.variables new → Leads S i b m new (t.place + 1)) → Keeps P S w.controls i (op_in_rings w t r op) (does w.controls t op (op_answer w r op))
+  pub op_keeps : (op : Op) → Meets (line_premises P [] (bags i) (modes i) (Do op)) × AtLive (op_effect P (bags i) (modes i) op) (λ b m. (new : List ℤ) → MayBecome op t.variables new → Leads S i b m new (t.place + 1)) → Keeps P S w.controls i (op_in_rings w t r op) (does w.controls t op (op_answer w r op))
   op_keeps (Set x n) h = quietly w.buffers _ (h.1 _ refl)
   op_keeps (Load x b j) h = load_keeps x (byte_of j (bytes_of w b)) (λ v. h.1 _ (v, refl))
   op_keeps (Store b j x) h = store_keeps b j (low_byte (variable t x)) _ (bytes_of w b) (h.1 t.variables refl)

@@ -22,7 +22,8 @@ use Rattle.rc_rules.specs.declared.mode.Slot.TheVariants.{Closed, Vacant, Prepar
 use Rattle.rc_rules.specs.Labels.{Live, WeakerMode}
 use Rattle.rc_rules.specs.Premises.{Meets}
 use Rattle.rc_rules.proofs.Weaker.{mode_trans}
-use Rattle.rc_rules.specs.Rules.{broken, kind_bag, kind_of, limit, may_break, may_release, op_effect, op_premises, owned, peek_premises, put_premises, test_effect, test_premises, with_peeked}
+use Rattle.rc_rules.specs.Needs.{line_premises}
+use Rattle.rc_rules.specs.Rules.{broken, kind_bag, kind_of, limit, op_effect, owned, test_effect, with_peeked}
 use Rattle.rc_rules.specs.States.{is_locked}
 use Rattle.rc_split.specs.Bags.{Part, TokenOf, bag_of, credits_bag, minus}
 use Rattle.rc_split.specs.Pools.{pooled}
@@ -71,22 +72,22 @@ MayPass (Take k) vars b = Unit {0}
 -- The edge law at the line k of thread i: the state before it meets the premises of the line, and the rule's state
 -- after it leads to one in which the thread may be.
 abbrev pub EdgeAt : Program → Stand → ℕ → (Part → ℕ) → Mode → List ℤ → ℕ → Option Stmt → Type 0
-EdgeAt P S i b m vars k (Some (Do op)) = Meets (op_premises P b m op) × AtLive (op_effect P b m op) (λ c n. (new : List ℤ) → MayBecome op vars new → Leads S i c n new (k + 1))
-EdgeAt P S i b m vars k (Some (Put n)) = Meets (put_premises b m (items_at (lists_of P i) n)) × Leads S i (minus b (bag_of (items_at (lists_of P i) n))) m vars (k + 1)
+EdgeAt P S i b m vars k (Some (Do op)) = Meets (line_premises P [] b m (Do op)) × AtLive (op_effect P b m op) (λ c n. (new : List ℤ) → MayBecome op vars new → Leads S i c n new (k + 1))
+EdgeAt P S i b m vars k (Some (Put n)) = Meets (line_premises P (lists_of P i) b m (Put n)) × Leads S i (minus b (bag_of (items_at (lists_of P i) n))) m vars (k + 1)
 EdgeAt P S i b m vars k (Some Lock) = (m ≡ Unlocked) × Leads S i b (Locked (record { queued = P.left; slot = Closed; peeked = Unseen })) vars (k + 1)
-EdgeAt P S i b m vars k (Some (EndLock o)) = (is_locked m ≡ true) × Meets (may_release P m) × Leads S i b Unlocked vars (k + 1)
-EdgeAt P S i b m vars k (Some (If test)) = Meets (test_premises m test)
+EdgeAt P S i b m vars k (Some (EndLock o)) = (is_locked m ≡ true) × Meets (line_premises P [] b m (EndLock 0)) × Leads S i b Unlocked vars (k + 1)
+EdgeAt P S i b m vars k (Some (If test)) = Meets (line_premises P [] b m (If test))
     × AtLive (test_effect P (lists_of P i) b m test) (λ c n. MayPass test vars true → Leads S i c n vars (k + 1))
     × (MayPass test vars false → Leads S i b m vars (end_at P i k + 1))
 EdgeAt P S i b m vars k (Some (Else o)) = Leads S i b m vars (end_at P i k + 1)
 EdgeAt P S i b m vars k (Some (EndIf o)) = Leads S i b m vars (k + 1)
-EdgeAt P S i b m vars k (Some (Peek x)) = Meets (peek_premises m)
+EdgeAt P S i b m vars k (Some (Peek x)) = Meets (line_premises P [] b m (Peek 0))
     × ((u : ℕ) (v : ℤ) → (1 ≤ b (TokenOf u)) ⊎ (Leads S i b (with_peeked (Sees u) m) (slice_set vars x v) (arm_for P i k u + 1) ⊎ Leads S i b (with_peeked SeesOther m) (slice_set vars x v) (arm_for P i k u + 1)))
     × ((v : ℤ) → Leads S i b (with_peeked Unseen m) (slice_set vars x v) (none_arm P i k + 1))
 EdgeAt P S i b m vars k (Some (EndArm o)) = (is_locked m ≡ true) × Leads S i b (with_peeked Unseen m) vars (end_at P i o + 1)
 EdgeAt P S i b m vars k (Some (Loop n)) = Leads S i b m vars (k + 1)
 EdgeAt P S i b m vars k (Some (EndLoop o n)) = Leads S i b m vars (o + 1)
-EdgeAt P S i b m vars k (Some (Break o releases leaves)) = ((releases || leaves) ≡ true → is_locked m ≡ true) × Meets (may_break P releases m)
+EdgeAt P S i b m vars k (Some (Break o releases leaves)) = ((releases || leaves) ≡ true → is_locked m ≡ true) × Meets (line_premises P [] b m (Break 0 releases false))
     × AtLive (broken releases (Live b m)) (λ c n. Leads S i c n vars (end_at P i o + 1))
 EdgeAt P S i b m vars k _ = Unit {0}
 

@@ -1,5 +1,6 @@
 -- What the rules say of a live state, premise by premise, and of the state after a line.
 use Rattle.std.proofs.Common.{◌≡◌, ℕ, true, false, cond, nat_eq, List, [], ◌∷◌, Option, Some, None, refl}
+use Rattle.rc_lang.specs.declared.lines.Stmt.TheVariants.{Do}
 use Rattle.rc_lang.specs.declared.lines.Op.{Op}
 use Rattle.rc_lang.specs.declared.lines.Op.TheVariants.{Set, Assign, Add, Subtract, Load, Store, Fill, Print}
 use Rattle.rc_lang.specs.declared.program.TokenKind.{TokenKind}
@@ -11,7 +12,8 @@ use Rattle.rc_rules.specs.declared.mode.Slot.{Slot}
 use Rattle.rc_rules.specs.declared.mode.Slot.TheVariants.{Prepared}
 use Rattle.rc_rules.specs.Labels.{Label, Dead, Live}
 use Rattle.rc_rules.specs.Premises.{Premise, Is, IsMet, Meets}
-use Rattle.rc_rules.specs.Rules.{is_prepared_as, locked, op_premises}
+use Rattle.rc_rules.specs.Needs.{line_premises}
+use Rattle.rc_rules.specs.Rules.{is_prepared_as, under_lock}
 use Rattle.rc_rules.specs.States.{is_locked}
 use Rattle.rc_rules.proofs.Weaker.{same_slot_is}
 use Rattle.rc_split.specs.Bags.{Part}
@@ -41,7 +43,7 @@ pub inside_of : (m : Mode) → is_locked m ≡ true → (s : Inside) × (m ≡ L
 inside_of Unlocked e = absurd (cc)
 inside_of (Locked s) e = (s, refl)
 
-pub asks_lock : (m : Mode) (F : Inside → List (ℕ × Premise)) → Meets (locked m F) → is_locked m ≡ true
+pub asks_lock : (m : Mode) (F : Inside → List (ℕ × Premise)) → Meets (under_lock 1 m F) → is_locked m ≡ true
 asks_lock Unlocked F h = absurd (let e : false ≡ true = h.0 in cc)
 asks_lock (Locked s) F h = refl
 
@@ -49,13 +51,13 @@ asks_lock (Locked s) F h = refl
 pub record InRing (P : Program) (b : Part → ℕ) (m : Mode) (op : Op) : Type 0 where
   pub inside : Inside
   pub is : m ≡ Locked inside
-  pub asked : (v : ℕ) → IsMet (numbered v (op_premises P b (Locked inside) op))
+  pub asked : (v : ℕ) → IsMet (numbered v (line_premises P [] b (Locked inside) (Do op)))
 
-pub in_ring : (P : Program) (b : Part → ℕ) (m : Mode) (op : Op) → is_ring_op op ≡ true → Meets (op_premises P b m op) → InRing P b m op
-in_ring P b (Locked s) op r h = record { inside = s; is = refl; asked = λ v. met v (op_premises P b (Locked s) op) h }
+pub in_ring : (P : Program) (b : Part → ℕ) (m : Mode) (op : Op) → is_ring_op op ≡ true → Meets (line_premises P [] b m (Do op)) → InRing P b m op
+in_ring P b (Locked s) op r h = record { inside = s; is = refl; asked = λ v. met v (line_premises P [] b (Locked s) (Do op)) h }
 in_ring P b Unlocked op r h = absurd (go op r h)
   where
-    go : (op : Op) → is_ring_op op ≡ true → Meets (op_premises P b Unlocked op) → ⊥
+    go : (op : Op) → is_ring_op op ≡ true → Meets (line_premises P [] b Unlocked (Do op)) → ⊥
     go (Set x n) r h = cc
     go (Assign x y) r h = cc
     go (Add x y z) r h = cc

@@ -20,7 +20,8 @@ use Rattle.rc_rules.specs.declared.mode.Peeked.TheVariants.{Unseen, Sees, SeesOt
 use Rattle.rc_rules.specs.declared.mode.Slot.TheVariants.{Closed}
 use Rattle.rc_rules.specs.Labels.{Label, Dead, Live}
 use Rattle.rc_rules.specs.Premises.{Meets}
-use Rattle.rc_rules.specs.Rules.{broken, can_take, has_room, limit, may_break, may_release, names_peeked, names_peeked_in, owned, put_premises, take_effect, test_effect, test_mode, test_premises, with_peeked}
+use Rattle.rc_rules.specs.Needs.{line_premises}
+use Rattle.rc_rules.specs.Rules.{broken, can_take, has_room, limit, names_peeked, names_peeked_in, owned, take_effect, test_effect, test_mode, with_peeked}
 use Rattle.rc_rules.specs.States.{is_locked}
 use Rattle.rc_rules.proofs.Weaker.{same_slot_is}
 use Rattle.rc_split.specs.Bags.{Part, TokenOf, bag_of, minus, plus, token_bag}
@@ -139,7 +140,7 @@ module _ (P : Program) (made : IsProgram P) (S : Stand) (edge : HasEdge P S) (w 
   abbrev branched : Bool → World
   branched holds = put P w i ((if holds then t.place else end_at P i t.place) + 1) t.variables
 
-  ready_keeps : (holds : Bool) → int_eq (pos (used_entries w)) (pos 0) ≡ holds → Meets (test_premises (modes i) ReadyZero) → Leads S i (bags i) (test_mode P ReadyZero (modes i)) t.variables (t.place + 1) → Leads S i (bags i) (modes i) t.variables (end_at P i t.place + 1) → WellOwned P S (branched holds)
+  ready_keeps : (holds : Bool) → int_eq (pos (used_entries w)) (pos 0) ≡ holds → Meets (line_premises P [] (bags i) (modes i) (If ReadyZero)) → Leads S i (bags i) (test_mode P ReadyZero (modes i)) t.variables (t.place + 1) → Leads S i (bags i) (modes i) t.variables (end_at P i t.place + 1) → WellOwned P S (branched holds)
   ready_keeps false e q a b = goes _ _ _ _ _ still b
   ready_keeps true e q a b =
       let s = inside_of (modes i) (asks_lock (modes i) _ q) in
@@ -148,7 +149,7 @@ module _ (P : Program) (made : IsProgram P) (S : Stand) (edge : HasEdge P S) (w 
       let q : length w.queued + slot_len w.slot ≡ 0 = cc in
       goes _ _ _ _ _ (knows P S w bags modes i o w.controls.peeked s.0 (record s.0 { queued = 0 }) s.1 refl (omega arith) h.2) (subst (λ m. Leads S i (bags i) (test_mode P ReadyZero m) t.variables (t.place + 1)) s.1 a)
 
-  space_keeps : (n : ℕ) (holds : Bool) → int_le (pos n) (pos (w.program.entries - used_entries w)) ≡ holds → Meets (test_premises (modes i) (SpaceAtLeast n)) → Leads S i (bags i) (test_mode P (SpaceAtLeast n) (modes i)) t.variables (t.place + 1) → Leads S i (bags i) (modes i) t.variables (end_at P i t.place + 1) → WellOwned P S (branched holds)
+  space_keeps : (n : ℕ) (holds : Bool) → int_le (pos n) (pos (w.program.entries - used_entries w)) ≡ holds → Meets (line_premises P [] (bags i) (modes i) (If (SpaceAtLeast n))) → Leads S i (bags i) (test_mode P (SpaceAtLeast n) (modes i)) t.variables (t.place + 1) → Leads S i (bags i) (modes i) t.variables (end_at P i t.place + 1) → WellOwned P S (branched holds)
   space_keeps n false e q a b = goes _ _ _ _ _ still b
   space_keeps n true e q a b =
       let s = inside_of (modes i) (asks_lock (modes i) _ q) in
@@ -165,11 +166,11 @@ module _ (P : Program) (made : IsProgram P) (S : Stand) (edge : HasEdge P S) (w 
   -- ---- the pool
 
   -- items that go there
-  put_keeps : (items : Items) → Meets (put_premises (bags i) (modes i) items) → Leads S i (minus (bags i) (bag_of items)) (modes i) t.variables (t.place + 1) → Keeps P S w.controls i (Some w) (puts_items P w.controls t items Plain)
+  put_keeps : (items : Items) → Meets (line_premises P (items ∷ []) (bags i) (modes i) (Put 0)) → Leads S i (minus (bags i) (bag_of items)) (modes i) t.variables (t.place + 1) → Keeps P S w.controls i (Some w) (puts_items P w.controls t items Plain)
   put_keeps items q l = go (overfills P w.controls.pool items)
     where
       covered : (p : Part) → bag_of items p ≤ bags i p
-      covered p = let s = inside_of (modes i) (asks_lock (modes i) _ q) in (subst (λ m. Meets (put_premises (bags i) m items)) s.1 q).0 p
+      covered p = let s = inside_of (modes i) (asks_lock (modes i) _ q) in (subst (λ m. Meets (line_premises P (items ∷ []) (bags i) m (Put 0))) s.1 q).0 p
 
       go : (y : Bool) → Keeps P S w.controls i (Some w) (if y then None else plainly (record (goes_on w.controls t ItemsPut) { pool = with_items P w.controls.pool items }) Plain)
       go true = tt
@@ -212,7 +213,7 @@ module _ (P : Program) (made : IsProgram P) (S : Stand) (edge : HasEdge P S) (w 
           goes _ _ _ _ _ (pools P S w (without_items P w.controls.pool items) bags modes i (plus (bags i) (bag_of items)) o (λ p. omega (arith, pooled_without P w.controls.pool items there p)))
           (subst (λ c. AtLive (cond c (Live (plus (bags i) (bag_of items)) (modes i)) Dead) (λ c n. Leads S i c n t.variables (t.place + 1))) (may_be_taken items there) a)
 
-  if_keeps : (test : Test) → Meets (test_premises (modes i) test) → AtLive (test_effect P (lists_of P i) (bags i) (modes i) test) (λ c n. MayPass test t.variables true → Leads S i c n t.variables (t.place + 1)) → (MayPass test t.variables false → Leads S i (bags i) (modes i) t.variables (end_at P i t.place + 1)) → Keeps P S w.controls i (Some w) (decides P w.controls i t test (test_answer w test))
+  if_keeps : (test : Test) → Meets (line_premises P [] (bags i) (modes i) (If test)) → AtLive (test_effect P (lists_of P i) (bags i) (modes i) test) (λ c n. MayPass test t.variables true → Leads S i c n t.variables (t.place + 1)) → (MayPass test t.variables false → Leads S i (bags i) (modes i) t.variables (end_at P i t.place + 1)) → Keeps P S w.controls i (Some w) (decides P w.controls i t test (test_answer w test))
   if_keeps (Compare x c n) q a b = compare_keeps (compares c (slice_index_or t.variables x (pos 0)) n) a b
   if_keeps ReadyZero q a b = ready_keeps (int_eq (pos (used_entries w)) (pos 0)) refl q (a tt) (b tt)
   if_keeps (SpaceAtLeast n) q a b = space_keeps n (int_le (pos n) (pos (w.program.entries - used_entries w))) refl q (a tt) (b tt)
@@ -234,13 +235,13 @@ module _ (P : Program) (made : IsProgram P) (S : Stand) (edge : HasEdge P S) (w 
     ]
   ]
 
-  release_keeps : (pe : Bool) (k : ℕ) → is_locked (modes i) ≡ true → Meets (may_release P (modes i)) → Leads S i (bags i) Unlocked t.variables k → WellOwned P S (put P (with_lock w None pe) i k t.variables)
+  release_keeps : (pe : Bool) (k : ℕ) → is_locked (modes i) ≡ true → Meets (line_premises P [] (bags i) (modes i) (EndLock 0)) → Leads S i (bags i) Unlocked t.variables k → WellOwned P S (put P (with_lock w None pe) i k t.variables)
   release_keeps pe k l h a =
       let s = inside_of (modes i) l in
-      let m = λ (v : ℕ). met v (may_release P (Locked s.0)) (subst (λ n. Meets (may_release P n)) s.1 h) in
+      let m = λ (v : ℕ). met v (line_premises P [] (bags i) (Locked s.0) (EndLock 0)) (subst (λ n. Meets (line_premises P [] (bags i) n (EndLock 0))) s.1 h) in
       goes _ _ _ _ _ (frees P S w bags modes i o pe s.0 s.1 (same_slot_is s.0.slot Closed (m 4)) (leb-true _ _ (m 12))) a
 
-  break_keeps : (releases leaves : Bool) (p : ℕ) → ((releases || leaves) ≡ true → is_locked (modes i) ≡ true) → Meets (may_break P releases (modes i)) → AtLive (broken releases (Live (bags i) (modes i))) (λ b n. Leads S i b n t.variables (end_at P i p + 1)) → Keeps P S w.controls i (Some w) (Some (breaks P w.controls i t p releases leaves))
+  break_keeps : (releases leaves : Bool) (p : ℕ) → ((releases || leaves) ≡ true → is_locked (modes i) ≡ true) → Meets (line_premises P [] (bags i) (modes i) (Break 0 releases false)) → AtLive (broken releases (Live (bags i) (modes i))) (λ b n. Leads S i b n t.variables (end_at P i p + 1)) → Keeps P S w.controls i (Some w) (Some (breaks P w.controls i t p releases leaves))
   break_keeps true leaves p l h a = release_keeps (if leaves then false else w.controls.peeked) (end_at P i p + 1) (l refl) h a
   break_keeps false leaves p l h a = go (modes i) refl leaves l
     where

@@ -4,6 +4,7 @@ use Rattle.std.specs.Prelude.{ℤ, pos}
 use Rattle.std.specs.Ordering.{int_eq}
 use Rattle.std.proofs.lemmas.Bool.{and_parts}
 use Rattle.rc_lang.specs.declared.lines.Op.{Op}
+use Rattle.rc_lang.specs.declared.lines.Stmt.TheVariants.{Do}
 use Rattle.rc_lang.specs.declared.lines.Op.TheVariants as ops
 use Rattle.rc_lang.specs.Program.{Program}
 use Rattle.rc_rules.specs.declared.cause.Cause.{Cause}
@@ -16,7 +17,8 @@ use Rattle.rc_rules.specs.Causes.{premise_number}
 use Rattle.rc_rules.specs.Labels.{Label, Dead, Live, Weaker, IsStrongest, IsSame}
 use Rattle.rc_rules.specs.OneRule.{rule_premises, rule_effect, only_computes, MayFollow}
 use Rattle.rc_rules.specs.Premises.{Premise, Meets, FailsFirst, Tests}
-use Rattle.rc_rules.specs.Rules.{asks, asks_both, goes, op_premises, op_effect}
+use Rattle.rc_rules.specs.Needs.{line_premises}
+use Rattle.rc_rules.specs.Rules.{asks, asks_both, goes, op_effect}
 use Rattle.rc_rules.specs.Sides.{gate, brings, turns}
 use Rattle.rc_rules.specs.States.{Side, State, side_label, label_of, program_of, is_live, IsState, GivesSide, Gives, Becomes, OnBoth, AgreeOnLock}
 use Rattle.rc_rules.proofs.Alike.{Alike, Joined, alike, alike_lock, alike_slot, alike_sym, same_alike, goes_alike, joins_alike, agree_swap}
@@ -195,7 +197,7 @@ met_kept x y f g a b c d s t e q h k l j m n p r =
 -- ---- statements that only compute
 
 module _ (P : Program) where
-  computes : (op : Op) (a : Part → ℕ) (m : Mode) → only_computes op ≡ true → (op_premises P a m op ≡ []) × (op_effect P a m op ≡ Live a m)
+  computes : (op : Op) (a : Part → ℕ) (m : Mode) → only_computes op ≡ true → (line_premises P [] a m (Do op) ≡ []) × (op_effect P a m op ≡ Live a m)
   computes (ops.Set x n) a m e = (refl, refl)
   computes (ops.Assign x y) a m e = (refl, refl)
   computes (ops.Add x y z) a m e = (refl, refl)
@@ -214,7 +216,7 @@ module _ (P : Program) where
   computes (ops.SubmitAndWait x n) a m e = absurd (cc)
   computes ops.CqeSeen a m e = absurd (cc)
 
-  asks_nothing : (op : Op) (s : Label) → only_computes op ≡ true → asks s (λ b m. op_premises P b m op) ≡ []
+  asks_nothing : (op : Op) (s : Label) → only_computes op ≡ true → asks s (λ b m. line_premises P [] b m (Do op)) ≡ []
   asks_nothing op Dead e = refl
   asks_nothing op (Live a m) e = (computes op a m e).0
 
@@ -223,7 +225,7 @@ module _ (P : Program) where
   stays_as op (Live a m) e = subst (λ t. IsStrongest (Live a m) (t ∷ [])) (sym (computes op a m e).1) (strongest (Live a m) (Live a m) (λ p. refl, refl))
 
 -- Such a statement leaves a state as it is.
-pub computes_only : (x : State) (op : Op) → only_computes op ≡ true → Meets (asks_both (label_of x) (λ z b m. op_premises (program_of x) b m op)) × Becomes x x (λ z. goes (label_of x z) (λ b m. op_effect (program_of x) b m op) ∷ [])
+pub computes_only : (x : State) (op : Op) → only_computes op ≡ true → Meets (asks_both (label_of x) (λ z b m. line_premises (program_of x) [] b m (Do op))) × Becomes x x (λ z. goes (label_of x z) (λ b m. op_effect (program_of x) b m op) ∷ [])
 computes_only x op e = (
   rw (asks_nothing (program_of x) op (label_of x true) e, asks_nothing (program_of x) op (label_of x false) e) tt,
   record { each = λ z. stays_as (program_of x) op (label_of x z) e; of = record { program = refl; flag = refl } },

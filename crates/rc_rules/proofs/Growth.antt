@@ -9,7 +9,7 @@ use Rattle.rc_lang.specs.declared.lines.Stmt.TheVariants.{Do, Put, Lock, EndLock
 use Rattle.rc_lang.specs.declared.lines.Test.{Test}
 use Rattle.rc_lang.specs.declared.lines.Test.TheVariants.{Compare, ReadyZero, SpaceAtLeast, Take}
 use Rattle.rc_lang.specs.Program.{Program, Thread, Items, items_at, stmt_at}
-use Rattle.rc_split.specs.Bags.{Part, ShareOf, TokenOf, Credit, bag_of, plus, IsWithin}
+use Rattle.rc_split.specs.Bags.{Part, ShareOf, TokenOf, Credit, bag_of, bag_on, plus, IsWithin}
 use Rattle.rc_rules.specs.declared.mode.Inside.{Inside}
 use Rattle.rc_rules.specs.declared.mode.Mode.{Mode}
 use Rattle.rc_rules.specs.declared.mode.Mode.TheVariants.{Unlocked, Locked}
@@ -18,8 +18,8 @@ use Rattle.rc_rules.specs.declared.mode.Peeked.TheVariants.{Unseen, Sees, SeesOt
 use Rattle.rc_rules.specs.declared.mode.Slot.{Slot}
 use Rattle.rc_rules.specs.declared.mode.Slot.TheVariants.{Closed, Vacant}
 use Rattle.rc_rules.specs.Labels.{Label, Dead, Live, Weaker, WeakerMode, WeakerInside}
-use Rattle.rc_rules.specs.Premises.{Premise, IsMet, Meets, MeetsBelow}
-use Rattle.rc_rules.specs.Rules.{kind_of, same_slot, has_kind, is_prepared_as, is_seen, locked, if_locked, op_premises, op_effect, reaped, ring_of, asks, asks_both, joins_both, goes, entered, may_release, released, put_premises, put_effect, can_take, take_effect, test_premises, test_effect, peek_premises, with_peeked, peek_at, case_at, agree_modes, agree, agree_each, agree_all, may_join, queue_on, keeps_queue, may_loop, top_mode, top, may_break, broken}
+use Rattle.rc_rules.specs.Premises.{Premise, Is, Covers, IsMet, Meets, MeetsBelow}
+use Rattle.rc_rules.specs.Rules.{kind_of, same_slot, has_kind, is_prepared_as, is_seen, under_lock, premises_of, op_needs, test_needs, leave_needs, if_locked, op_effect, reaped, ring_of, asks, asks_both, joins_both, goes, entered, released, put_effect, can_take, take_effect, test_effect, with_peeked, peek_at, case_at, agree_modes, agree, agree_each, agree_all, queue_on, keeps_queue, top_mode, top, broken}
 use Rattle.rc_rules.specs.Labellings.{label_at, here, skipped, arm_end, arm_ends, break_end, break_ends, befores, premises}
 use Rattle.rc_rules.specs.Laws.{EachWeaker, IsStronger, GrowsAt}
 use Rattle.rc_rules.specs.declared.flag.Write.TheVariants.{Anything}
@@ -97,32 +97,32 @@ seen : (p q : Peeked) → (p ≡ q) ⊎ (p ≡ Unseen) → is_seen p ≡ true �
 seen p q d e = elim d [ inl h ↦ subst (λ y. is_seen y ≡ true) h e | inr h ↦ absurd (let x : is_seen p ≡ false = ap is_seen h in cc) ]
 
 -- what is asked of the lock first, and what is left in it
-locked_less : (F G : Inside → List (ℕ × Premise)) (m n : Mode) → ((i j : Inside) → WeakerInside i j → Less (F i) (G j)) → WeakerMode m n → Less (locked m F) (locked n G)
+locked_less : (F G : Inside → List (ℕ × Premise)) (m n : Mode) → ((i j : Inside) → WeakerInside i j → Less (F i) (G j)) → WeakerMode m n → Less (under_lock 1 m F) (under_lock 1 n G)
 locked_less F G Unlocked Unlocked h v = (refl, λ e. e, tt)
 locked_less F G (Locked i) (Locked j) h v = h i j v
 locked_less F G Unlocked (Locked j) h v = absurd v
 locked_less F G (Locked i) Unlocked h v = absurd v
 
-locked_grows : (A : Inside → List (ℕ × Premise)) (F G : Inside → Label) (m n : Mode) → Meets (locked m A) → ((i j : Inside) → Meets (A i) → WeakerInside i j → Weaker (F i) (G j)) → WeakerMode m n → Weaker (if_locked m F) (if_locked n G)
+locked_grows : (A : Inside → List (ℕ × Premise)) (F G : Inside → Label) (m n : Mode) → Meets (under_lock 1 m A) → ((i j : Inside) → Meets (A i) → WeakerInside i j → Weaker (F i) (G j)) → WeakerMode m n → Weaker (if_locked m F) (if_locked n G)
 locked_grows A F G Unlocked Unlocked h g v = tt
 locked_grows A F G (Locked i) (Locked j) h g v = g i j h v
 locked_grows A F G Unlocked (Locked j) h g v = absurd v
 locked_grows A F G (Locked i) Unlocked h g v = absurd v
 
-asks_less : (P : Program) (op : Op) → AsksLess (λ b m. op_premises P b m op)
-asks_less P (ops.Load x d i) b c m n w v = (refl, more 1 (b (ShareOf d)) (c (ShareOf d)) (w (ShareOf d)), (refl, λ h. h, tt))
-asks_less P (ops.Store d i x) b c m n w v = (refl, more _ (b (ShareOf d)) (c (ShareOf d)) (w (ShareOf d)), (refl, λ h. h, tt))
-asks_less P (ops.Fill d x) b c m n w v = (refl, more _ (b (ShareOf d)) (c (ShareOf d)) (w (ShareOf d)), tt)
-asks_less P ops.GetSqe b c m n w v = locked_less _ _ m n (λ i j v. (refl, more 1 (b Credit) (c Credit) (w Credit), (refl, fewer j.queued i.queued P.entries v.queued, (refl, slot_of i j Closed v, tt)))) v
-asks_less P (ops.PrepRead f d l o) b c m n w v = locked_less _ _ m n (λ i j v. (refl, slot_of i j Vacant v, (refl, more _ (b (ShareOf d)) (c (ShareOf d)) (w (ShareOf d)), (refl, λ h. h, tt)))) v
-asks_less P (ops.PrepWrite f d l o k) b c m n w v = locked_less _ _ m n (λ i j v. (refl, slot_of i j Vacant v, (refl, more k (b (ShareOf d)) (c (ShareOf d)) (w (ShareOf d)), (refl, λ h. h, tt)))) v
-asks_less P (ops.PrepFsync f d) b c m n w v = locked_less _ _ m n (λ i j v. (refl, slot_of i j Vacant v, tt)) v
-asks_less P ops.PrepNop b c m n w v = locked_less _ _ m n (λ i j v. (refl, slot_of i j Vacant v, tt)) v
-asks_less P (ops.SetData64 u) b c m n w v = locked_less _ _ m n (λ i j v. (refl, subst (λ y. has_kind y ≡ true) v.slot, (refl, subst (λ y. is_prepared_as (kind_of P u) y ≡ true) v.slot, (refl, more 1 (b (TokenOf u)) (c (TokenOf u)) (w (TokenOf u)), tt)))) v
-asks_less P (ops.Submit x) b c m n w v = locked_less _ _ m n (λ i j v. (refl, slot_of i j Closed v, tt)) v
-asks_less P (ops.SubmitAndWait x k) b c m n w v = locked_less _ _ m n (λ i j v. (refl, slot_of i j Closed v, tt)) v
-asks_less P ops.CqeSeen b c m n w v = locked_less _ _ m n (λ i j v. (refl, seen i.peeked j.peeked v.peeked, tt)) v
-asks_less P _ b c m n w v = tt
+asks_less : (P : Program) (lists : List Items) (z : Bool) (op : Op) → AsksLess (λ b m. premises_of P lists z b m (op_needs op))
+asks_less P lists z (ops.Load x d i) b c m n w v = (refl, more 1 (b (ShareOf d)) (c (ShareOf d)) (w (ShareOf d)), (refl, λ h. h, tt))
+asks_less P lists z (ops.Store d i x) b c m n w v = (refl, more _ (b (ShareOf d)) (c (ShareOf d)) (w (ShareOf d)), (refl, λ h. h, tt))
+asks_less P lists z (ops.Fill d x) b c m n w v = (refl, more _ (b (ShareOf d)) (c (ShareOf d)) (w (ShareOf d)), tt)
+asks_less P lists z ops.GetSqe b c m n w v = locked_less _ _ m n (λ i j v. (refl, more 1 (b Credit) (c Credit) (w Credit), (refl, fewer j.queued i.queued P.entries v.queued, (refl, slot_of i j Closed v, tt)))) v
+asks_less P lists z (ops.PrepRead f d l o) b c m n w v = locked_less _ _ m n (λ i j v. (refl, slot_of i j Vacant v, (refl, more _ (b (ShareOf d)) (c (ShareOf d)) (w (ShareOf d)), (refl, λ h. h, tt)))) v
+asks_less P lists z (ops.PrepWrite f d l o k) b c m n w v = locked_less _ _ m n (λ i j v. (refl, slot_of i j Vacant v, (refl, more k (b (ShareOf d)) (c (ShareOf d)) (w (ShareOf d)), (refl, λ h. h, tt)))) v
+asks_less P lists z (ops.PrepFsync f d) b c m n w v = locked_less _ _ m n (λ i j v. (refl, slot_of i j Vacant v, tt)) v
+asks_less P lists z ops.PrepNop b c m n w v = locked_less _ _ m n (λ i j v. (refl, slot_of i j Vacant v, tt)) v
+asks_less P lists z (ops.SetData64 u) b c m n w v = locked_less _ _ m n (λ i j v. (refl, subst (λ y. has_kind y ≡ true) v.slot, (refl, subst (λ y. is_prepared_as (kind_of P u) y ≡ true) v.slot, (refl, more 1 (b (TokenOf u)) (c (TokenOf u)) (w (TokenOf u)), tt)))) v
+asks_less P lists z (ops.Submit x) b c m n w v = locked_less _ _ m n (λ i j v. (refl, slot_of i j Closed v, tt)) v
+asks_less P lists z (ops.SubmitAndWait x k) b c m n w v = locked_less _ _ m n (λ i j v. (refl, slot_of i j Closed v, tt)) v
+asks_less P lists z ops.CqeSeen b c m n w v = locked_less _ _ m n (λ i j v. (refl, seen i.peeked j.peeked v.peeked, tt)) v
+asks_less P lists z _ b c m n w v = tt
 
 unchanged : (b c : Part → ℕ) (i j : Inside) (s : Slot) → IsWithin b c → WeakerInside i j → Weaker (Live b (Locked (record i { slot = s }))) (Live c (Locked (record j { slot = s })))
 unchanged b c i j s w v = (w, record { queued = v.queued; slot = refl; peeked = v.peeked })
@@ -130,15 +130,15 @@ unchanged b c i j s w v = (w, record { queued = v.queued; slot = refl; peeked = 
 reaps_more : (P : Program) (p q : Peeked) → (p ≡ q) ⊎ (p ≡ Unseen) → is_seen p ≡ true → (x : Part) → reaped P p x ≤ reaped P q x
 reaps_more P p q d e x = elim d [ inl h ↦ subst (λ y. reaped P p x ≤ reaped P y x) h (omega arith) | inr h ↦ absurd (let g : is_seen p ≡ false = ap is_seen h in cc) ]
 
-grows : (P : Program) (op : Op) → Grows (λ b m. op_premises P b m op) (λ b m. op_effect P b m op)
-grows P ops.GetSqe b c m n w v h = locked_grows _ _ _ m n h (λ i j a v. (λ p. omega (arith, w p), record { queued = omega (arith, v.queued); slot = refl; peeked = v.peeked })) v
-grows P (ops.PrepRead f d l o) b c m n w v h = locked_grows _ _ _ m n h (λ i j a v. unchanged _ _ i j _ (λ p. omega (arith, w p)) v) v
-grows P (ops.PrepWrite f d l o k) b c m n w v h = locked_grows _ _ _ m n h (λ i j a v. unchanged _ _ i j _ (λ p. omega (arith, w p)) v) v
-grows P (ops.PrepFsync f d) b c m n w v h = locked_grows _ _ _ m n h (λ i j a v. unchanged b c i j _ w v) v
-grows P ops.PrepNop b c m n w v h = locked_grows _ _ _ m n h (λ i j a v. unchanged b c i j _ w v) v
-grows P (ops.SetData64 u) b c m n w v h = locked_grows _ _ _ m n h (λ i j a v. unchanged _ _ i j _ (λ p. omega (arith, w p)) v) v
-grows P ops.CqeSeen b c m n w v h = locked_grows _ _ _ m n h (λ i j a v. (λ p. omega (arith, w p, reaps_more P i.peeked j.peeked v.peeked a.0 p), record { queued = v.queued; slot = v.slot; peeked = inl refl })) v
-grows P _ b c m n w v h = (w, v)
+grows : (P : Program) (lists : List Items) (z : Bool) (op : Op) → Grows (λ b m. premises_of P lists z b m (op_needs op)) (λ b m. op_effect P b m op)
+grows P lists z ops.GetSqe b c m n w v h = locked_grows _ _ _ m n h (λ i j a v. (λ p. omega (arith, w p), record { queued = omega (arith, v.queued); slot = refl; peeked = v.peeked })) v
+grows P lists z (ops.PrepRead f d l o) b c m n w v h = locked_grows _ _ _ m n h (λ i j a v. unchanged _ _ i j _ (λ p. omega (arith, w p)) v) v
+grows P lists z (ops.PrepWrite f d l o k) b c m n w v h = locked_grows _ _ _ m n h (λ i j a v. unchanged _ _ i j _ (λ p. omega (arith, w p)) v) v
+grows P lists z (ops.PrepFsync f d) b c m n w v h = locked_grows _ _ _ m n h (λ i j a v. unchanged b c i j _ w v) v
+grows P lists z ops.PrepNop b c m n w v h = locked_grows _ _ _ m n h (λ i j a v. unchanged b c i j _ w v) v
+grows P lists z (ops.SetData64 u) b c m n w v h = locked_grows _ _ _ m n h (λ i j a v. unchanged _ _ i j _ (λ p. omega (arith, w p)) v) v
+grows P lists z ops.CqeSeen b c m n w v h = locked_grows _ _ _ m n h (λ i j a v. (λ p. omega (arith, w p, reaps_more P i.peeked j.peeked v.peeked a.0 p), record { queued = v.queued; slot = v.slot; peeked = inl refl })) v
+grows P lists z _ b c m n w v h = (w, v)
 
 -- ---- blocks
 
@@ -150,19 +150,20 @@ no_asks (Live b m) = tt
 plain_grow : (E : (Part → ℕ) → Mode → Label) → Grows (λ b m. []) E → (s t : Label) → Weaker s t → Weaker (goes s E) (goes t E)
 plain_grow E g s t w = goes_grow (λ b m. []) E g s t w (no_asks s)
 
-peek_less : AsksLess (λ b m. peek_premises m)
+peek_less : AsksLess (λ b m. under_lock 1 m (λ i. []))
 peek_less b c m n w v = locked_less _ _ m n (λ i j v. tt) v
 
-test_less : (test : Test) → AsksLess (λ b m. test_premises m test)
-test_less (Compare x k n) b d m o w v = tt
-test_less ReadyZero b d m o w v = peek_less b d m o w v
-test_less (SpaceAtLeast n) b d m o w v = peek_less b d m o w v
-test_less (Take k) b d m o w v = peek_less b d m o w v
+test_less : (P : Program) (lists : List Items) (z : Bool) (test : Test) → AsksLess (λ b m. premises_of P lists z b m (test_needs test))
+test_less P lists z (Compare x k n) b d m o w v = tt
+test_less P lists z _ b d m o w v = peek_less b d m o w v
 
-put_less : (items : Items) → AsksLess (λ b m. put_premises b m items)
+abbrev put_asks : Items → (Part → ℕ) → Mode → List (ℕ × Premise)
+put_asks items b m = under_lock 1 m (λ i. (19, Covers b (bag_of items)) ∷ [])
+
+put_less : (items : Items) → AsksLess (λ b m. put_asks items b m)
 put_less items b c m n w v = locked_less _ _ m n (λ i j v. (refl, λ h p. omega (arith, h p, w p), tt)) v
 
-put_grows : (items : Items) → Grows (λ b m. put_premises b m items) (λ b m. put_effect b m items)
+put_grows : (items : Items) → Grows (λ b m. put_asks items b m) (λ b m. put_effect b m items)
 put_grows items b c m n w v h = (λ p. omega (arith, w p), v)
 
 -- who holds less can take what one who holds more can
@@ -198,12 +199,9 @@ left_less P (Locked i) (Locked j) v h = below j.queued i.queued P.left v.queued 
 left_less P Unlocked (Locked j) v h = absurd v
 left_less P (Locked i) Unlocked v h = absurd v
 
-break_less : (P : Program) (r : Bool) → AsksLess (λ b m. may_break P r m)
-break_less P true b c m n w v = (refl, closed_less m n v, (refl, left_less P m n v, tt))
-break_less P false b c m n w v = (refl, closed_less m n v, tt)
-
-release_less : (P : Program) → AsksLess (λ b m. may_release P m)
-release_less P = break_less P true
+leave_less : (P : Program) (lists : List Items) (z : Bool) (r : Bool) → AsksLess (λ b m. premises_of P lists z b m (leave_needs r))
+leave_less P lists z true b c m n w v = (refl, closed_less m n v, (refl, left_less P m n v, tt))
+leave_less P lists z false b c m n w v = (refl, closed_less m n v, tt)
 
 queue_grows : (P : Program) (items : Items) (m n : Mode) → WeakerMode m n → keeps_queue (queue_on P items) m ≡ true → keeps_queue (queue_on P items) n ≡ true
 queue_grows P items Unlocked Unlocked v h = refl
@@ -211,7 +209,10 @@ queue_grows P items (Locked i) (Locked j) v h = let g = and_parts _ _ h in and_f
 queue_grows P items Unlocked (Locked j) v h = absurd v
 queue_grows P items (Locked i) Unlocked v h = absurd v
 
-loop_less : (P : Program) (k : ℕ) (items : Items) (z : Bool) → AsksLess (λ b m. may_loop P k items z b m)
+abbrev loop_asks : Program → ℕ → Items → Bool → (Part → ℕ) → Mode → List (ℕ × Premise)
+loop_asks P k items z b m = (k, Is (keeps_queue (queue_on P items) m)) ∷ (k, Covers b (bag_on z items)) ∷ []
+
+loop_less : (P : Program) (k : ℕ) (items : Items) (z : Bool) → AsksLess (λ b m. loop_asks P k items z b m)
 loop_less P k items z b c m n w v = (refl, queue_grows P items m n v, (refl, λ h p. omega (arith, h p, w p), tt))
 
 top_grows : (P : Program) (items : Items) (z : Bool) (s t : Label) → Weaker s t → Weaker (top P items z s) (top P items z t)
@@ -287,7 +288,7 @@ agree_all_grows [] (t ∷ ts) g e = absurd g
 agree_all_grows (s ∷ ss) [] g e = absurd g
 agree_all_grows (s ∷ ss) (t ∷ ts) g e = let h = and_parts (agree_each s ss) (agree_all ss) e in and_from _ _ (agree_each_grows s t ss ts g.0 g.1 h.0) (agree_all_grows ss ts g.1 h.1)
 
-join_less : (ss ts : List Label) → EachWeaker ss ts → Less (may_join ss) (may_join ts)
+join_less : (ss ts : List Label) → EachWeaker ss ts → Less ((15, Is (agree_all ss)) ∷ []) ((15, Is (agree_all ts)) ∷ [])
 join_less ss ts g = (refl, agree_all_grows ss ts g, tt)
 
 -- ---- labellings
@@ -348,22 +349,22 @@ module _ (P : Program) (thread : Thread) (lines : List Line) (known more : List 
 
   -- a stronger labelling asks for less
   pub premises_grow : (s : Stmt) → Eases (premises P thread lines known s) (premises P thread lines more s)
-  premises_grow (Do op) = both_grow (λ z b m. op_premises P b m op) (λ z. asks_less P op)
-  premises_grow (Put k) = both_grow (λ z b m. put_premises b m (items_at thread.lists k)) (λ z. put_less (items_at thread.lists k))
-  premises_grow (EndLock o) = both_grow (λ z b m. may_release P m) (λ z. release_less P)
-  premises_grow (If test) = both_grow (λ z b m. test_premises m test) (λ z. test_less test)
+  premises_grow (Do op) = both_grow (λ z b m. premises_of P thread.lists z b m (op_needs op)) (λ z. asks_less P thread.lists z op)
+  premises_grow (Put k) = both_grow (λ z b m. put_asks (items_at thread.lists k) b m) (λ z. put_less (items_at thread.lists k))
+  premises_grow (EndLock o) = both_grow (λ z b m. premises_of P thread.lists z b m (leave_needs true)) (λ z. leave_less P thread.lists z true)
+  premises_grow (If test) = both_grow (λ z b m. premises_of P thread.lists z b m (test_needs test)) (λ z. test_less P thread.lists z test)
   premises_grow (EndIf o) = joins_less (λ z. here lines known z ∷ skipped thread lines known o z ∷ []) (λ z. here lines more z ∷ skipped thread lines more o z ∷ []) (ends_grow o)
-  premises_grow (Peek x) = both_grow (λ z b m. peek_premises m) (λ z. peek_less)
+  premises_grow (Peek x) = both_grow (λ z b m. under_lock 1 m (λ i. [])) (λ z. peek_less)
   premises_grow (EndPeek o) = joins_less (λ z. arm_ends lines known o z) (λ z. arm_ends lines more o z) (λ z. arms_grow lines known more o z g)
-  premises_grow (Loop k) = both_grow (λ z b m. may_loop P 13 (items_at thread.lists k) z b m) (loop_less P 13 (items_at thread.lists k))
-  premises_grow (EndLoop o k) = both_grow (λ z b m. may_loop P 14 (items_at thread.lists k) z b m) (loop_less P 14 (items_at thread.lists k))
-  premises_grow (Break o r l) = both_grow (λ z b m. may_break P r m) (λ z. break_less P r)
+  premises_grow (Loop k) = both_grow (λ z b m. loop_asks P 13 (items_at thread.lists k) z b m) (loop_less P 13 (items_at thread.lists k))
+  premises_grow (EndLoop o k) = both_grow (λ z b m. loop_asks P 14 (items_at thread.lists k) z b m) (loop_less P 14 (items_at thread.lists k))
+  premises_grow (Break o r l) = both_grow (λ z b m. premises_of P thread.lists z b m (leave_needs r)) (λ z. leave_less P thread.lists z r)
   premises_grow _ = no_premise
 
   -- and gives stronger states
   pub befores_grow : (s : Stmt) (z : Bool) → Meets (premises P thread lines known s) → EachWeaker (befores P thread lines known s z) (befores P thread lines more s z)
-  befores_grow (Do op) z h = brings_grow (λ y. turns (write_of thread.flag op) y z) (λ s. goes s (λ b m. op_effect P b m op)) (λ y. goes_grow (λ b m. op_premises P b m op) (λ b m. op_effect P b m op) (grows P op) _ _ (here_grows y) (side_met (λ x b m. op_premises P b m op) y h))
-  befores_grow (Put k) z h = (goes_grow (λ b m. put_premises b m (items_at thread.lists k)) (λ b m. put_effect b m (items_at thread.lists k)) (put_grows (items_at thread.lists k)) _ _ (here_grows z) (side_met (λ x b m. put_premises b m (items_at thread.lists k)) z h), tt)
+  befores_grow (Do op) z h = brings_grow (λ y. turns (write_of thread.flag op) y z) (λ s. goes s (λ b m. op_effect P b m op)) (λ y. goes_grow (λ b m. premises_of P thread.lists y b m (op_needs op)) (λ b m. op_effect P b m op) (grows P thread.lists y op) _ _ (here_grows y) (side_met (λ x b m. premises_of P thread.lists x b m (op_needs op)) y h))
+  befores_grow (Put k) z h = (goes_grow (λ b m. put_asks (items_at thread.lists k) b m) (λ b m. put_effect b m (items_at thread.lists k)) (put_grows (items_at thread.lists k)) _ _ (here_grows z) (side_met (λ x b m. put_asks (items_at thread.lists k) b m) z h), tt)
   befores_grow Lock z h = (entered_grows P _ _ (here_grows z), tt)
   befores_grow (EndLock o) z h = (released_grows _ _ (here_grows z), tt)
   befores_grow (If test) z h = (gate_grows (test_goes thread.flag test z true) _ _ (plain_grow (λ b m. test_effect P thread.lists b m test) (test_grows P thread.lists test) _ _ (here_grows z)), tt)

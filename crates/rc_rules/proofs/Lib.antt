@@ -1,5 +1,5 @@
 mod Passing
-pub mod Asking
+pub mod Rising
 pub mod Weaker
 pub mod Lines
 pub mod Room

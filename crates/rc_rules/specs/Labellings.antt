@@ -5,7 +5,7 @@ use Rattle.rc_lang.specs.declared.lines.Line.{Line}
 use Rattle.rc_lang.specs.declared.lines.Stmt.{Stmt}
 use Rattle.rc_lang.specs.declared.lines.Stmt.TheVariants.{Do, Put, Lock, EndLock, If, Else, EndIf, Peek, Case, Other, Nothing, EndArm, EndPeek, Loop, EndLoop, Break}
 use Rattle.rc_lang.specs.Program.{Program, Thread, items_at, stmt_at}
-use Rattle.rc_rules.specs.declared.cause.Cause.TheVariants.{LoopEntry, LoopBody, OverShares, TokenTwice, OverCredits}
+use Rattle.rc_rules.specs.declared.cause.Cause.TheVariants.{OverShares, TokenTwice, OverCredits}
 use Rattle.rc_rules.specs.declared.mode.Mode.TheVariants.{Unlocked}
 use Rattle.rc_rules.specs.declared.mode.Peeked.TheVariants.{Unseen, SeesOther}
 use Rattle.rc_rules.specs.declared.flag.Write.TheVariants.{Anything}
@@ -14,7 +14,7 @@ use Rattle.rc_rules.specs.Causes.{premise_number}
 use Rattle.rc_rules.specs.Labels.{Label, Dead, Live, WeakerThanEach, IsSame}
 use Rattle.rc_rules.specs.Sides.{Sides, on, unreached, gate, brings, turns, write_to, write_of, forgets, test_goes, may_skip}
 use Rattle.rc_rules.specs.Premises.{Premise, Covers, Meets, MeetsBelow}
-use Rattle.rc_rules.specs.Rules.{limit, op_premises, op_effect, put_premises, put_effect, asks_both, goes, entered, may_release, released, test_premises, test_effect, peek_premises, peek_at, case_at, joins_both, may_loop, top, may_break, broken}
+use Rattle.rc_rules.specs.Rules.{limit, op_effect, put_effect, asked, goes, entered, released, test_effect, peek_at, case_at, joins_both, top, broken}
 
 -- ---- the labels that a line sees
 
@@ -69,23 +69,18 @@ befores P thread lines known (Loop k) z = brings (λ y. turns (forgets thread.fl
 befores P thread lines known (EndLoop o k) z = break_ends lines known o z
 befores P thread lines known (Break o releases leaves) z = []
 
+-- The premises are those of what the line needs, on each side of the point before it; where ends join, they are of all
+-- of those.
 abbrev pub premises : Program → Thread → List Line → List Sides → Stmt → List (ℕ × Premise)
-premises P thread lines known (Do op) = asks_both (here lines known) (λ z bag m. op_premises P bag m op)
-premises P thread lines known (Put k) = asks_both (here lines known) (λ z bag m. put_premises bag m (items_at thread.lists k))
 premises P thread lines known Lock = []
-premises P thread lines known (EndLock o) = asks_both (here lines known) (λ z bag m. may_release P m)
-premises P thread lines known (If test) = asks_both (here lines known) (λ z bag m. test_premises m test)
 premises P thread lines known (Else o) = []
 premises P thread lines known (EndIf o) = joins_both (befores P thread lines known (EndIf o))
-premises P thread lines known (Peek x) = asks_both (here lines known) (λ z bag m. peek_premises m)
 premises P thread lines known (Case o u) = []
 premises P thread lines known (Other o) = []
 premises P thread lines known (Nothing o) = []
 premises P thread lines known (EndArm o) = []
 premises P thread lines known (EndPeek o) = joins_both (befores P thread lines known (EndPeek o))
-premises P thread lines known (Loop k) = asks_both (here lines known) (λ z bag m. may_loop P (premise_number LoopEntry) (items_at thread.lists k) z bag m)
-premises P thread lines known (EndLoop o k) = asks_both (here lines known) (λ z bag m. may_loop P (premise_number LoopBody) (items_at thread.lists k) z bag m)
-premises P thread lines known (Break o releases leaves) = asks_both (here lines known) (λ z bag m. may_break P releases m)
+premises P thread lines known stmt = asked P thread.lists (here lines known) stmt
 
 -- ---- labellings
 

@@ -1,4 +1,3 @@
-pub mod Asks
 pub mod Causes
 pub mod Labels
 pub mod Premises

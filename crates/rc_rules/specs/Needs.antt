@@ -1,5 +1,6 @@
 -- Needs: when one is met, and how the code keeps them.
 use Rattle.std.specs.Prelude.{ℕ, ◌<◌, Bool, true, List, [], ◌∷◌, Option, Some, None, Result}
+use Rattle.rc_lang.specs.declared.lines.Stmt.{Stmt}
 use Rattle.rc_lang.specs.Program.{Program, Items}
 use Rattle.rc_split.specs.Bags.{Part}
 use Rattle.rc_split.specs.Holdings.{Holding, bag}
@@ -8,8 +9,8 @@ use Rattle.rc_rules.specs.declared.mode.Mode.{Mode}
 use Rattle.rc_rules.specs.declared.needs.Asks.{Asks}
 use Rattle.rc_rules.specs.Causes.{premise_number}
 use Rattle.rc_rules.specs.Labels.{Label, Dead, Live}
-use Rattle.rc_rules.specs.Premises.{IsMet, Tests}
-use Rattle.rc_rules.specs.Rules.{meant, meant_besides, premises_of}
+use Rattle.rc_rules.specs.Premises.{Premise, IsMet, Tests}
+use Rattle.rc_rules.specs.Rules.{meant, meant_besides, premises_of, stmt_needs}
 
 -- A need is met: each premise that it stands for is.
 abbrev pub IsMetNeed : Program → List Items → Bool → (Part → ℕ) → Mode → Asks → Type 0
@@ -36,5 +37,9 @@ AreRising v [] = Unit {0}
 AreRising v (need ∷ rest) = (v < premise_number need.0) × AreRising (premise_number need.0) rest
 
 -- Ok: the needs are met. A cause: the first whose need isn't.
-abbrev pub Checks : {X : Type 0} → Holding → Mode → List (Option (Cause × Asks)) → Result X Cause → Type 0
-Checks h m needs result = Tests result (premises_of h.program [] true (bag h) m (listed needs))
+abbrev pub Checks : {X : Type 0} → Holding → List Items → Bool → Mode → List (Cause × Asks) → Result X Cause → Type 0
+Checks h lists z m needs result = Tests result (premises_of h.program lists z (bag h) m needs)
+
+-- The premises of a line that needs the same on both sides.
+abbrev pub line_premises : Program → List Items → (Part → ℕ) → Mode → Stmt → List (ℕ × Premise)
+line_premises P lists bag m stmt = premises_of P lists true bag m (stmt_needs stmt)

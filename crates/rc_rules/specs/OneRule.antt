@@ -1,29 +1,39 @@
 -- Lines that are one rule for each side of a state.
-use Rattle.std.specs.Prelude.{ℕ, Bool, true, false, List, []}
+use Rattle.std.specs.Prelude.{ℕ, Bool, true, false, List, [], ◌∷◌}
 use Rattle.rc_lang.specs.declared.lines.Op.{Op}
 use Rattle.rc_lang.specs.declared.lines.Op.TheVariants as ops
+use Rattle.rc_lang.specs.declared.lines.Stmt.{Stmt}
+use Rattle.rc_lang.specs.declared.lines.Stmt.TheVariants as stmts
+use Rattle.rc_lang.specs.declared.lines.Test.TheVariants.{Take as Taken}
 use Rattle.rc_lang.specs.Parts.{view_items}
-use Rattle.rc_lang.specs.Program.{Program, DeclaresToken, IsItems}
+use Rattle.rc_lang.specs.Program.{Program, Items, DeclaresToken, IsItems}
 use Rattle.rc_split.specs.Bags.{Part}
 use Rattle.rc_rules.specs.declared.mode.Mode.{Mode}
 use Rattle.rc_rules.specs.declared.mode.Peeked.TheVariants.{Unseen, SeesOther}
 use Rattle.rc_rules.specs.declared.rule.Rule.{Rule}
 use Rattle.rc_rules.specs.declared.rule.Rule.TheVariants.{Do, Put, Lock, Release, If, Take, Case, Other, Nothing}
 use Rattle.rc_rules.specs.Labels.{Label, Live}
+use Rattle.rc_rules.specs.Needs.{line_premises}
 use Rattle.rc_rules.specs.Premises.{Premise}
-use Rattle.rc_rules.specs.Rules.{op_premises, op_effect, put_premises, put_effect, entered, may_release, released, test_premises, test_mode, take_premises, take_effect, peek_premises, peek_at, case_at}
+use Rattle.rc_rules.specs.Rules.{op_effect, put_effect, entered, released, test_mode, take_effect, peek_at, case_at}
 use Rattle.rc_rules.specs.States.{IsSmall}
 
+-- the line, where a list of items has the number 0, and the lists; an arm asks what its peek does
+abbrev pub line_of : Rule → Stmt
+line_of (Do op) = stmts.Do op
+line_of (Put items) = stmts.Put 0
+line_of Lock = stmts.Lock
+line_of Release = stmts.EndLock 0
+line_of (If test) = stmts.If test
+line_of (Take items) = stmts.If (Taken 0)
+line_of _ = stmts.Peek 0
+
+abbrev pub lists_of : Rule → List Items
+lists_of (Put items) = view_items items.now ∷ []
+lists_of _ = []
+
 abbrev pub rule_premises : Program → Rule → (Part → ℕ) → Mode → List (ℕ × Premise)
-rule_premises P (Do op) bag m = op_premises P bag m op
-rule_premises P (Put items) bag m = put_premises bag m (view_items items.now)
-rule_premises P Lock bag m = []
-rule_premises P Release bag m = may_release P m
-rule_premises P (If test) bag m = test_premises m test
-rule_premises P (Take items) bag m = take_premises m
-rule_premises P (Case u) bag m = peek_premises m
-rule_premises P Other bag m = peek_premises m
-rule_premises P Nothing bag m = peek_premises m
+rule_premises P rule bag m = line_premises P (lists_of rule) bag m (line_of rule)
 
 -- Of a test it is what is known of the ring; what a take brings is told by its own rule.
 abbrev pub rule_effect : Program → Rule → (Part → ℕ) → Mode → Label

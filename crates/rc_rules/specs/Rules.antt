@@ -3,6 +3,8 @@ use Rattle.std.specs.Prelude.{ℕ, ◌+◌, ◌-◌, Bool, true, false, cond, mi
 use Rattle.std.specs.List.{list_all, list_any}
 use Rattle.rc_lang.specs.declared.lines.Op.{Op}
 use Rattle.rc_lang.specs.declared.lines.Op.TheVariants as ops
+use Rattle.rc_lang.specs.declared.lines.Stmt.{Stmt}
+use Rattle.rc_lang.specs.declared.lines.Stmt.TheVariants as stmts
 use Rattle.rc_lang.specs.declared.lines.Test.{Test}
 use Rattle.rc_lang.specs.declared.lines.Test.TheVariants.{Compare, ReadyZero, SpaceAtLeast, Take}
 use Rattle.rc_lang.specs.declared.program.Share.{Share}
@@ -118,10 +120,6 @@ abbrev pub under_lock : ℕ → Mode → (Inside → List (ℕ × Premise)) → 
 under_lock v Unlocked F = (v, Is false) ∷ []
 under_lock v (Locked i) F = F i
 
--- Most calls on the ring are asked for the lock first.
-abbrev pub locked : Mode → (Inside → List (ℕ × Premise)) → List (ℕ × Premise)
-locked m F = under_lock (premise_number causes.Unlocked) m F
-
 -- ---- needs
 
 -- what is known of the ring: without the lock no slot is open, and nothing is queued or peeked
@@ -163,11 +161,12 @@ abbrev pub premises_of : Program → List Items → Bool → (Part → ℕ) → 
 premises_of P lists z bag m [] = []
 premises_of P lists z bag m (need ∷ rest) = then_asked P lists z bag m (premise_number need.0) need.1 (λ n. premises_of P lists z bag n rest)
 
--- ---- statements without a block: what they need, and the state after them; the others need nothing and leave it
+-- ---- what each line needs, in the order of the numbers of the causes
 
 abbrev pub lock : Cause × Asks
 lock = (causes.Unlocked, needs.Lock)
 
+-- statements without a block; the others need nothing
 abbrev pub op_needs : Op → List (Cause × Asks)
 op_needs (ops.Load x b i) = (causes.NoShare, needs.Part (parts.Shares b 1)) ∷ (causes.OutOfBuffer, needs.Place b i) ∷ []
 op_needs (ops.Store b i x) = (causes.NotWhole, needs.Whole b) ∷ (causes.OutOfBuffer, needs.Place b i) ∷ []
@@ -183,9 +182,29 @@ op_needs (ops.SubmitAndWait x n) = lock ∷ (causes.SlotOpen, needs.Closed) ∷ 
 op_needs ops.CqeSeen = lock ∷ (causes.NoEntry, needs.Peeked) ∷ []
 op_needs _ = []
 
--- They name no list of items, and need the same on both sides.
-abbrev pub op_premises : Program → (Part → ℕ) → Mode → Op → List (ℕ × Premise)
-op_premises P bag m op = premises_of P [] true bag m (op_needs op)
+abbrev pub test_needs : Test → List (Cause × Asks)
+test_needs (Compare x c n) = []
+test_needs _ = lock ∷ []
+
+-- where the lock is released (true), and where a loop is left with it or without one
+abbrev pub leave_needs : Bool → List (Cause × Asks)
+leave_needs true = (causes.SlotOpen, needs.Closed) ∷ (causes.QueueLeft, needs.Left) ∷ []
+leave_needs false = (causes.SlotOpen, needs.Closed) ∷ []
+
+abbrev pub stmt_needs : Stmt → List (Cause × Asks)
+stmt_needs (stmts.Do op) = op_needs op
+stmt_needs (stmts.Put k) = lock ∷ (causes.NotHeld, needs.Items k) ∷ []
+stmt_needs (stmts.EndLock o) = leave_needs true
+stmt_needs (stmts.If test) = test_needs test
+stmt_needs (stmts.EndIf o) = (causes.JoinMismatch, needs.Agreeing) ∷ []
+stmt_needs (stmts.Peek x) = lock ∷ []
+stmt_needs (stmts.EndPeek o) = (causes.JoinMismatch, needs.Agreeing) ∷ []
+stmt_needs (stmts.Loop k) = (causes.LoopEntry, needs.Loop k) ∷ []
+stmt_needs (stmts.EndLoop o k) = (causes.LoopBody, needs.Loop k) ∷ []
+stmt_needs (stmts.Break o releases leaves) = leave_needs releases
+stmt_needs _ = []
+
+-- ---- the state after a statement without a block; most leave it
 
 -- no premise of a call on the ring is met without the lock
 abbrev pub if_locked : Mode → (Inside → Label) → Label
@@ -219,6 +238,10 @@ asks (Live bag m) F = F bag m
 abbrev pub asks_both : (Bool → Label) → (Bool → (Part → ℕ) → Mode → List (ℕ × Premise)) → List (ℕ × Premise)
 asks_both labels F = asks (labels true) (F true) ++ asks (labels false) (F false)
 
+-- what a line is asked there, in a thread with these lists of items
+abbrev pub asked : Program → List Items → (Bool → Label) → Stmt → List (ℕ × Premise)
+asked P lists labels stmt = asks_both labels (λ z bag m. premises_of P lists z bag m (stmt_needs stmt))
+
 abbrev pub goes : Label → ((Part → ℕ) → Mode → Label) → Label
 goes Dead F = Dead
 goes (Live bag m) F = F bag m
@@ -228,23 +251,12 @@ goes (Live bag m) F = F bag m
 abbrev pub entered : Program → Label → Label
 entered P s = goes s (λ bag m. Live bag (Locked (record { queued = P.left; slot = Closed; peeked = Unseen })))
 
--- what is needed where the lock is released (true), and where a loop is left with it or without one
-abbrev pub leave_needs : Bool → List (Cause × Asks)
-leave_needs true = (causes.SlotOpen, needs.Closed) ∷ (causes.QueueLeft, needs.Left) ∷ []
-leave_needs false = (causes.SlotOpen, needs.Closed) ∷ []
-
-abbrev pub may_release : Program → Mode → List (ℕ × Premise)
-may_release P m = premises_of P [] true nothing m (leave_needs true)
-
 abbrev pub released : Label → Label
 released s = goes s (λ bag m. Live bag Unlocked)
 
 -- ---- the pool
 
--- What is put is held, and then it isn't any more.
-abbrev pub put_premises : (Part → ℕ) → Mode → Items → List (ℕ × Premise)
-put_premises bag m items = locked m (λ i. (premise_number causes.NotHeld, Covers bag (bag_of items)) ∷ [])
-
+-- What is put isn't held any more.
 abbrev pub put_effect : (Part → ℕ) → Mode → Items → Label
 put_effect bag m items = Live (minus bag (bag_of items)) m
 
@@ -271,20 +283,11 @@ names_peeked_in tokens (Locked i) = names_peeked tokens i.peeked
 abbrev pub can_take : Program → (Part → ℕ) → Mode → Items → Bool
 can_take P bag m items = has_room P bag items && not (names_peeked_in items.tokens m)
 
-abbrev pub take_premises : Mode → List (ℕ × Premise)
-take_premises m = locked m (λ i. [])
-
 -- Where the pool can't have them, nothing reaches the branch that takes them.
 abbrev pub take_effect : Program → (Part → ℕ) → Mode → Items → Label
 take_effect P bag m items = cond (can_take P bag m items) (Live (plus bag (bag_of items)) m) Dead
 
 -- ---- tests
-
-abbrev pub test_premises : Mode → Test → List (ℕ × Premise)
-test_premises m (Compare x c n) = []
-test_premises m ReadyZero = locked m (λ i. [])
-test_premises m (SpaceAtLeast n) = locked m (λ i. [])
-test_premises m (Take k) = take_premises m
 
 -- what is known in the first branch
 abbrev pub test_mode : Program → Test → Mode → Mode
@@ -301,9 +304,6 @@ test_effect P lists bag m (Take k) = take_effect P bag m (items_at lists k)
 test_effect P lists bag m test = Live bag (test_mode P test m)
 
 -- ---- peeks
-
-abbrev pub peek_premises : Mode → List (ℕ × Premise)
-peek_premises m = locked m (λ i. [])
 
 abbrev pub with_peeked : Peeked → Mode → Mode
 with_peeked peeked Unlocked = Unlocked
@@ -333,19 +333,11 @@ abbrev pub agree_all : List Label → Bool
 agree_all [] = true
 agree_all (s ∷ ss) = agree_each s ss && agree_all ss
 
-abbrev pub may_join : List Label → List (ℕ × Premise)
-may_join ends = (premise_number causes.JoinMismatch, Is (agree_all ends)) ∷ []
-
--- the ends of both sides agree
+-- all ends of both sides that join agree
 abbrev pub joins_both : (Bool → List Label) → List (ℕ × Premise)
-joins_both ends = may_join (ends true ++ ends false)
+joins_both ends = (premise_number causes.JoinMismatch, Is (agree_all (ends true ++ ends false))) ∷ []
 
 -- ---- loops
-
--- At a loop's top and at its end no slot is open, the items are held, and in a lock no more entries are queued than the
--- loop says.
-abbrev pub may_loop : Program → ℕ → Items → Bool → (Part → ℕ) → Mode → List (ℕ × Premise)
-may_loop P v items z bag m = (v, Is (keeps_queue (queue_on P items) m)) ∷ (v, Covers bag (bag_on z items)) ∷ []
 
 -- after the top exactly the items are held
 abbrev pub top_mode : Program → Items → Mode → Mode
@@ -354,9 +346,6 @@ top_mode P items (Locked i) = Locked (record { queued = queue_on P items; slot =
 
 abbrev pub top : Program → Items → Bool → Label → Label
 top P items z s = goes s (λ bag m. Live (bag_on z items) (top_mode P items m))
-
-abbrev pub may_break : Program → Bool → Mode → List (ℕ × Premise)
-may_break P releases m = premises_of P [] true nothing m (leave_needs releases)
 
 -- what a break takes to the end of its loop
 abbrev pub broken : Bool → Label → Label

@@ -1,6 +1,10 @@
 -- What the calls of `State` do.
-use Rattle.std.specs.Prelude.{ℕ, ◌≡◌, ◌≤◌, ◌^◌, Bool, true, false, List, Option, Some, None, Result, Ok, Err, cond, max, nat_eq, slice_get, ◌||◌}
+use Rattle.std.specs.Prelude.{ℕ, ◌≡◌, ◌≤◌, ◌-◌, ◌^◌, Bool, true, false, List, [], Option, Some, None, Result, Ok, Err, cond, max, min, nat_eq, slice_get, ◌||◌}
 use Rattle.rc_lang.specs.declared.lines.Op.{Op}
+use Rattle.rc_lang.specs.declared.lines.Stmt.{Stmt}
+use Rattle.rc_lang.specs.declared.lines.Stmt.TheVariants.{Do}
+use Rattle.rc_lang.specs.declared.lines.Test.{Test}
+use Rattle.rc_lang.specs.declared.lines.Test.TheVariants.{ReadyZero, SpaceAtLeast}
 use Rattle.rc_lang.specs.declared.program.TokenKind.{TokenKind}
 use Rattle.rc_lang.specs.Program.{Program, Thread, Items, DeclaresToken, IsTokenKind}
 use Rattle.rc_rules.specs.declared.cause.Cause.{Cause}
@@ -15,8 +19,8 @@ use Rattle.rc_rules.specs.declared.needs.Asks.{Asks}
 use Rattle.rc_rules.specs.Causes.{premise_number}
 use Rattle.rc_rules.specs.Labellings.{start_of}
 use Rattle.rc_rules.specs.Labels.{Label, Dead, Live, IsStrongest, IsSame}
-use Rattle.rc_rules.specs.Needs.{IsMetOn}
-use Rattle.rc_rules.specs.Rules.{agree, op_effect, op_premises}
+use Rattle.rc_rules.specs.Needs.{IsMetOn, line_premises}
+use Rattle.rc_rules.specs.Rules.{agree, asks_both, op_effect}
 pub use Rattle.rc_rules.specs.Rules.{is_locked}
 use Rattle.rc_rules.specs.Sides.{Sides, on}
 use Rattle.rc_rules.specs.Premises.{Premise, Meets, FailsFirst}
@@ -69,6 +73,10 @@ label_of s z = on z (sides_of s)
 
 abbrev pub program_of : State → Program
 program_of s = s.zero.program
+
+-- what a line that needs the same on both sides is asked
+abbrev pub asked_alike : State → List Items → Stmt → List (ℕ × Premise)
+asked_alike s lists stmt = asks_both (label_of s) (λ z bag m. line_premises (program_of s) lists bag m stmt)
 
 -- Where the front completion is known to have some user data, that token is declared, and not held.
 abbrev pub IsFreeFor : Program → (Part → ℕ) → Peeked → Type 0
@@ -151,14 +159,9 @@ abbrev pub GivesSide : {X : Type 0} → Side → Side → Result X Cause → Lis
 GivesSide old new (Ok x) premises label = Meets premises × IsSame (side_label new) label × (new.program ≡ old.program)
 GivesSide old new (Err cause) premises label = FailsFirst (premise_number cause) premises × (new ≡ old)
 
--- A rule of one line changes a holding and the mode to the effect, or names the least premise that fails.
-abbrev pub Steps : Holding → Holding → Result Mode Cause → List (ℕ × Premise) → Label → Type 0
-Steps old new (Ok m) premises effect = Meets premises × IsSame (Live (bag new) m) effect × (new.program ≡ old.program)
-Steps old new (Err cause) premises effect = FailsFirst (premise_number cause) premises × (new ≡ old)
-
 -- The premises of a statement hold.
 abbrev pub MeetsOp : Holding → Mode → Op → Type 0
-MeetsOp h m op = Meets (op_premises h.program (bag h) m op)
+MeetsOp h m op = Meets (line_premises h.program [] (bag h) m (Do op))
 
 -- The holding and the mode are changed to the statement's effect.
 abbrev pub DoesOp : Holding → Holding → Mode → Mode → Op → Type 0
@@ -171,8 +174,11 @@ Loses old new lost = Holds new old.program (minus (bag old) lost)
 abbrev pub Gains : Holding → Holding → (Part → ℕ) → Type 0
 Gains old new gained = Holds new old.program (plus (bag old) gained)
 
--- A rule of one side changes a holding, and the mode or nothing comes after it; or it names the least premise that
--- fails.
+-- A rule of one side changes a holding, and the mode or nothing comes after it.
+abbrev pub Leaves : Holding → Holding → Option Mode → Label → Type 0
+Leaves old new m effect = IsSame (label_in (live_of new m)) effect × (new.program ≡ old.program)
+
+-- Or it names the least premise that fails.
 abbrev pub Follows : Holding → Holding → Result (Option Mode) Cause → List (ℕ × Premise) → Label → Type 0
 Follows old new (Ok m) premises effect = Meets premises × IsSame (label_in (live_of new m)) effect × (new.program ≡ old.program)
 Follows old new (Err cause) premises effect = FailsFirst (premise_number cause) premises × (new ≡ old)
@@ -182,10 +188,11 @@ abbrev pub IsLine : Program → Option TokenKind → Type 0
 IsLine P None = Unit {0}
 IsLine P (Some kind) = IsTokenKind P kind
 
--- A rule of a block changes the mode to this one, or names the least premise that fails.
-abbrev pub Turns : Result Mode Cause → List (ℕ × Premise) → Mode → Type 0
-Turns (Ok m) premises mode = Meets premises × (m ≡ mode)
-Turns (Err cause) premises mode = FailsFirst (premise_number cause) premises
+-- how many entries are queued in the first branch of a test
+abbrev pub queued_behind : Program → Test → ℕ → ℕ
+queued_behind P ReadyZero n = 0
+queued_behind P (SpaceAtLeast k) n = min n (P.entries - k)
+queued_behind P _ n = n
 
 -- ---- two states
 

@@ -9,7 +9,7 @@ ghost use Rattle.rc_split.specs.Holdings.{bag};
 use crate::blocks::{keeps_queue, queue_on};
 use crate::cause::Cause;
 use crate::mode::{Mode, Slot, has_kind, is_prepared_as, is_seen, ring_of, same_slot};
-use rc_lang::lines::Op;
+use rc_lang::lines::{Op, Stmt, Test};
 use rc_lang::program::{Items, Program, TokenKind};
 use rc_split::holding::Holding;
 use rc_split::part::Part;
@@ -64,26 +64,26 @@ pub type Need = (Cause, Asks);
 /// What a line needs, in the order of the numbers of the causes. Nothing comes after a None.
 pub type Needs = [Option<Need>; 4];
 
-pub const LOCK: Need = (Cause::Unlocked, Asks::Lock);
+const LOCK: Need = (Cause::Unlocked, Asks::Lock);
 
 const CLOSED: Need = (Cause::SlotOpen, Asks::Closed);
 
 const VACANT: Need = (Cause::NoSlot, Asks::Vacant);
 
-pub fn one(a: Need) -> Needs
+fn one(a: Need) -> Needs
     ensures { spec.listed result ≡ a ∷ [] }
 {
     [Some(a), None, None, None]
 }
 
-pub fn two(a: Need, b: Need) -> Needs
+fn two(a: Need, b: Need) -> Needs
     ensures { spec.listed result ≡ a ∷ b ∷ [] }
 {
     [Some(a), Some(b), None, None]
 }
 
 /// What a statement without a block needs.
-pub fn op_needs(op: Op) -> Needs
+fn op_needs(op: Op) -> Needs
     ensures { spec.listed result ≡ rules.op_needs op }
 {
     match op {
@@ -130,7 +130,7 @@ pub fn op_needs(op: Op) -> Needs
 }
 
 /// What is needed where the lock is released, or where a loop is left with it or without one.
-pub fn leave_needs(releases: bool) -> Needs
+fn leave_needs(releases: bool) -> Needs
     ensures { spec.listed result ≡ rules.leave_needs releases }
 {
     if releases {
@@ -140,10 +140,57 @@ pub fn leave_needs(releases: bool) -> Needs
     }
 }
 
-/// The first cause whose need isn't met, if there is one. No need is of the items of a list.
-pub fn checked(holding: &Holding, mode: Mode, needs: &[Option<(Cause, Asks)>]) -> Result<(), Cause>
+fn test_needs(test: Test) -> Needs
+    ensures { spec.listed result ≡ rules.test_needs test }
+{
+    match test {
+        Test::Compare(_, _, _) => [None; 4],
+        _ => one(LOCK),
+    }
+}
+
+/// What a line needs.
+pub fn needs_of(stmt: Stmt) -> Needs
+    ensures { spec.listed result ≡ rules.stmt_needs stmt }
+{
+    match stmt {
+        Stmt::Do(op) => op_needs(op),
+        Stmt::Put(k) => two(LOCK, (Cause::NotHeld, Asks::Items(k))),
+        Stmt::EndLock(_) => leave_needs(true),
+        Stmt::If(test) => test_needs(test),
+        Stmt::EndIf(_) => one((Cause::JoinMismatch, Asks::Agreeing)),
+        Stmt::Peek(_) => one(LOCK),
+        Stmt::EndPeek(_) => one((Cause::JoinMismatch, Asks::Agreeing)),
+        Stmt::Loop(k) => one((Cause::LoopEntry, Asks::Loop(k))),
+        Stmt::EndLoop(_, k) => one((Cause::LoopBody, Asks::Loop(k))),
+        Stmt::Break(_, releases, _) => leave_needs(releases),
+        _ => [None; 4],
+    }
+}
+
+/// Whether a side meets what a line needs, as [`is_met`] says it: else the first cause whose need isn't met.
+pub fn checked(
+    holding: &Holding,
+    lists: &[Items],
+    zero: bool,
+    mode: Mode,
+    stmt: Stmt,
+) -> Result<(), Cause>
+    ensures { spec.Checks holding.now (map view_items lists.now) zero mode (rules.stmt_needs stmt) result }
+{
+    all_met(holding, lists, zero, mode, &needs_of(stmt))
+}
+
+/// The numbers of the causes rise, so that the first need that isn't met has the least.
+fn all_met(
+    holding: &Holding,
+    lists: &[Items],
+    zero: bool,
+    mode: Mode,
+    needs: &[Option<Need>],
+) -> Result<(), Cause>
     requires { (v : ℕ) × spec.AreRising v (spec.listed needs.now) }
-    ensures { spec.Checks holding.now mode needs.now result }
+    ensures { spec.Checks holding.now (map view_items lists.now) zero mode (spec.listed needs.now) result }
 {
     let [first, rest @ ..] = needs else {
         return Ok(());
@@ -151,10 +198,10 @@ pub fn checked(holding: &Holding, mode: Mode, needs: &[Option<(Cause, Asks)>]) -
     let Some((cause, asks)) = *first else {
         return Ok(());
     };
-    if !is_met(holding, &[], true, mode, asks) {
+    if !is_met(holding, lists, zero, mode, asks) {
         return Err(cause);
     }
-    checked(holding, mode, rest)
+    all_met(holding, lists, zero, mode, rest)
 }
 
 /// Whether a need is met, in a thread with these lists of items, on a side of the flag where so much is held and so much

@@ -1,35 +1,23 @@
 //! The rules of statements without a block, on a holding and a mode.
 
-ghost use Rattle.std.specs.Prelude.{◌≡◌, ◌≤◌, ◌^◌, MatchResult, true};
+ghost use Rattle.std.specs.Prelude.{◌≡◌, ◌≤◌, ◌^◌, true};
 ghost use Rattle.rc_lang.specs.Program.{IsProgram, IsTokenKind};
 ghost use Rattle.rc_rules.specs.OneRule.{only_computes};
 ghost use Rattle.rc_rules.specs.Rules as rules;
 ghost use Rattle.rc_rules.specs.States as states;
 ghost use Rattle.rc_split.specs.Bags as bags;
 ghost use Rattle.rc_split.specs.Holdings.{Holds, bag};
-ghost use Rattle.rc_rules.specs.declared.cause.Cause.TheVariants as causes;
 ghost use Rattle.rc_rules.specs.declared.mode.Mode.TheVariants as modes;
 ghost use Rattle.rc_rules.specs.declared.mode.Peeked.TheVariants as peeks;
 ghost use Rattle.rc_rules.specs.declared.mode.Slot.TheVariants as slots;
 ghost use Rattle.rc_lang.specs.declared.lines.Op.TheVariants as ops;
 
-use crate::cause::Cause;
 use crate::mode::{Inside, Mode, Peeked, Slot};
-use crate::needs::{checked, kind_of, op_needs};
+use crate::needs::kind_of;
 use rc_lang::lines::Op;
 use rc_lang::program::TokenKind;
 use rc_split::holding::Holding;
 use rc_split::part::Part;
-
-/// The rule of the statement.
-pub fn step(holding: &mut Holding, mode: Mode, op: &Op) -> Result<Mode, Cause>
-    requires small { (p : bags.Part) → bag holding.old p ≤ 2 ^ 19 }
-    requires free { states.IsFreeIn holding.old.program (bag holding.old) mode }
-    ensures { states.Steps holding.old holding.new result (rules.op_premises holding.old.program (bag holding.old) mode op.now) (rules.op_effect holding.old.program (bag holding.old) mode op.now) }
-{
-    checked(holding, mode, &op_needs(*op))?;
-    Ok(after(holding, mode, op))
-}
 
 /// Whether a statement only computes: it asks for nothing, and what is held and known of the ring stays.
 pub fn only_computes(op: &Op) -> bool
@@ -45,18 +33,8 @@ pub fn only_computes(op: &Op) -> bool
     }
 }
 
-/// What is known inside the lock, where it is held.
-pub fn locked(mode: Mode) -> Result<Inside, Cause>
-    ensures { MatchResult result (λ i. mode ≡ modes.Locked i) (λ c. (c ≡ causes.Unlocked) × (mode ≡ modes.Unlocked)) }
-{
-    match mode {
-        Mode::Locked(inside) => Ok(inside),
-        Mode::Unlocked => Err(Cause::Unlocked),
-    }
-}
-
 /// What is known after a statement whose premises hold. Without the lock nothing changes.
-fn after(holding: &mut Holding, mode: Mode, op: &Op) -> Mode
+pub fn after(holding: &mut Holding, mode: Mode, op: &Op) -> Mode
     requires met { states.MeetsOp holding.old mode op.now }
     requires small { (p : bags.Part) → bag holding.old p ≤ 2 ^ 19 }
     requires free { states.IsFreeIn holding.old.program (bag holding.old) mode }

@@ -10,38 +10,23 @@ ghost use Rattle.rc_rules.specs.States as states;
 ghost use Rattle.rc_split.specs.Bags as bags;
 ghost use Rattle.rc_split.specs.Holdings.{bag};
 
-use crate::cause::Cause;
 use crate::mode::{Mode, Peeked};
-use crate::ops::locked;
 use rc_lang::program::{Items, Share};
 use rc_split::holding::Holding;
 use rc_split::part::Part;
 
-/// `put ITEMS`: what is held goes to the pool.
-pub fn put(holding: &mut Holding, mode: Mode, items: &Items) -> Result<Mode, Cause>
-    ensures { states.Steps holding.old holding.new result (rules.put_premises (bag holding.old) mode (view_items items.now)) (rules.put_effect (bag holding.old) mode (view_items items.now)) }
-{
-    locked(mode)?;
-    if !holding.covers(items) {
-        return Err(Cause::NotHeld);
-    }
-    holding.lose(items);
-    Ok(mode)
-}
-
 /// The first branch of `if take ITEMS`: what the pool had is held. None: the pool can't have it, so nothing comes
 /// there.
-pub fn take(holding: &mut Holding, mode: Mode, items: &Items) -> Result<Option<Mode>, Cause>
+pub fn take(holding: &mut Holding, mode: Mode, items: &Items) -> Option<Mode>
     requires made { IsItems holding.old.program (view_items items.now) }
     requires small { (p : bags.Part) → bag holding.old p ≤ 2 ^ 19 }
-    ensures { states.Follows holding.old holding.new result (rules.take_premises mode) (rules.take_effect holding.old.program (bag holding.old) mode (view_items items.now)) }
+    ensures { states.Leaves holding.old holding.new result (rules.take_effect holding.old.program (bag holding.old) mode (view_items items.now)) }
 {
-    locked(mode)?;
     if !can_take(holding, mode, items) {
-        return Ok(None);
+        return None;
     }
     holding.gain(items);
-    Ok(Some(mode))
+    Some(mode)
 }
 
 /// Whether the pool may have the items: neither the thread nor the request that is peeked has them.

@@ -1,18 +1,24 @@
 //! The rule of one line, on what is held on one side of a state and what is known of the ring there.
 
+ghost use Rattle.std.specs.Prelude.{◌≡◌, map};
+ghost use Rattle.rc_lang.specs.Parts.{view_items};
 ghost use Rattle.rc_rules.specs.Labels.{Live};
 ghost use Rattle.rc_rules.specs.OneRule as rules;
-ghost use Rattle.rc_rules.specs.Rules.{case_at, peek_premises};
+ghost use Rattle.rc_rules.specs.Premises.{Meets};
+ghost use Rattle.rc_rules.specs.Rules.{case_at};
 ghost use Rattle.rc_rules.specs.States as states;
 ghost use Rattle.rc_split.specs.Holdings.{bag};
 
+use crate::blocks::{behind_test, in_arm};
 use crate::cause::Cause;
 use crate::mode::{Inside, Mode, Peeked, Slot};
-use crate::{blocks, ops, pool};
-use rc_lang::lines::{Op, Test};
+use crate::needs::checked;
+use crate::{ops, pool};
+use rc_lang::lines::{Op, Stmt, Test};
 use rc_lang::program::Items;
 use rc_split::holding::Holding;
 use rc_split::part::Part;
+use std::slice;
 
 /// What a line is, as far as it is one rule for each side.
 #[derive(Clone, Copy)]
@@ -37,39 +43,74 @@ pub enum Rule<'a> {
     Nothing,
 }
 
-/// What is known after the line, or None where nothing comes there.
+/// The line, where a list of items has the number 0. An arm asks what its peek does.
+fn line_of(rule: Rule) -> Stmt
+    ensures { result ≡ rules.line_of rule.entry }
+{
+    match rule {
+        Rule::Do(op) => Stmt::Do(op),
+        Rule::Put(_) => Stmt::Put(0),
+        Rule::Lock => Stmt::Lock,
+        Rule::Release => Stmt::EndLock(0),
+        Rule::If(test) => Stmt::If(test),
+        Rule::Take(_) => Stmt::If(Test::Take(0)),
+        _ => Stmt::Peek(0),
+    }
+}
+
+/// The lists of items that the line's needs name.
+fn lists_of<'a>(rule: Rule<'a>) -> &'a [Items]
+    ensures { map view_items result.now ≡ rules.lists_of rule.entry }
+{
+    match rule {
+        Rule::Put(items) => slice::from_ref(items),
+        _ => &[],
+    }
+}
+
+/// What is known after the line, or None where nothing comes there. None of their needs depends on the side.
 pub fn follow(holding: &mut Holding, mode: Mode, rule: Rule) -> Result<Option<Mode>, Cause>
     requires may { rules.MayFollow holding.old.program rule (Live (bag holding.old) mode) }
     requires free { states.IsFreeIn holding.old.program (bag holding.old) mode }
     ensures { states.Follows holding.old holding.new result (rules.rule_premises holding.old.program rule.entry (bag holding.old) mode) (rules.rule_effect holding.old.program rule.entry (bag holding.old) mode) }
 {
+    checked(holding, lists_of(rule), true, mode, line_of(rule))?;
+    Ok(after(holding, mode, rule))
+}
+
+/// What is known after a line whose premises hold.
+fn after(holding: &mut Holding, mode: Mode, rule: Rule) -> Option<Mode>
+    requires met { Meets (rules.rule_premises holding.old.program rule (bag holding.old) mode) }
+    requires may { rules.MayFollow holding.old.program rule (Live (bag holding.old) mode) }
+    requires free { states.IsFreeIn holding.old.program (bag holding.old) mode }
+    ensures { states.Leaves holding.old holding.new result (rules.rule_effect holding.old.program rule.entry (bag holding.old) mode) }
+{
     match rule {
-        Rule::Do(op) => Ok(Some(ops::step(holding, mode, &op)?)),
-        Rule::Put(items) => Ok(Some(pool::put(holding, mode, items)?)),
-        Rule::Lock => Ok(Some(Mode::Locked(Inside {
+        Rule::Do(op) => Some(ops::after(holding, mode, &op)),
+        Rule::Put(items) => {
+            holding.lose(items);
+            Some(mode)
+        }
+        Rule::Lock => Some(Mode::Locked(Inside {
             queued: holding.program().left(),
             slot: Slot::Closed,
             peeked: Peeked::Unseen,
-        }))),
-        Rule::Release => {
-            blocks::may_release(holding, mode)?;
-            Ok(Some(Mode::Unlocked))
-        }
-        Rule::If(test) => Ok(Some(blocks::behind_test(holding.program(), test, mode)?)),
+        })),
+        Rule::Release => Some(Mode::Unlocked),
+        Rule::If(test) => Some(behind_test(holding.program(), test, mode)),
         Rule::Take(items) => pool::take(holding, mode, items),
         Rule::Case(user_data) => in_case(holding, mode, user_data),
-        Rule::Other => Ok(Some(blocks::in_arm(Peeked::SeesOther, mode)?)),
-        Rule::Nothing => Ok(Some(blocks::in_arm(Peeked::Unseen, mode)?)),
+        Rule::Other => Some(in_arm(Peeked::SeesOther, mode)),
+        Rule::Nothing => Some(in_arm(Peeked::Unseen, mode)),
     }
 }
 
 /// Where the token is held the arm can't be reached: no request under it is in flight.
-fn in_case(holding: &Holding, mode: Mode, user_data: u64) -> Result<Option<Mode>, Cause>
-    ensures { states.Follows holding.now holding.now result (peek_premises mode) (case_at user_data (Live (bag holding.now) mode)) }
+fn in_case(holding: &Holding, mode: Mode, user_data: u64) -> Option<Mode>
+    ensures { states.Leaves holding.now holding.now result (case_at user_data (Live (bag holding.now) mode)) }
 {
-    let arm = blocks::in_arm(Peeked::Sees(user_data), mode)?;
     if holding.holds(Part::Token(user_data)) {
-        return Ok(None);
+        return None;
     }
-    Ok(Some(arm))
+    Some(in_arm(Peeked::Sees(user_data), mode))
 }

@@ -3,7 +3,6 @@
 ghost use Rattle.std.specs.Prelude.{◌≡◌, ◌↔◌, ◌∷◌, [], map, nat_le, IsTrue, None, true};
 ghost use Rattle.rc_lang.specs.Parts.{view_items};
 ghost use Rattle.rc_lang.specs.Program.{IsItems, IsList};
-ghost use Rattle.rc_rules.specs.Causes.{premise_number};
 ghost use Rattle.rc_rules.specs.Labels.{Live, IsSame, IsStrongest};
 ghost use Rattle.rc_rules.specs.OneRule as one;
 ghost use Rattle.rc_rules.specs.Premises.{Tests};
@@ -17,8 +16,9 @@ ghost use Rattle.rc_split.specs.Bags.{Credit, ShareOf, TokenOf, bag_on, bag_of};
 use crate::blocks;
 use crate::cause::Cause;
 use crate::mode::{Mode, Peeked};
-use crate::needs::{Asks, is_met};
+use crate::needs::{Asks, checked, is_met};
 use crate::rule::{Rule, follow};
+use rc_lang::lines::Stmt;
 use rc_lang::program::{Items, Program};
 use rc_split::holding::Holding;
 use rc_split::part::Part;
@@ -190,36 +190,14 @@ impl<'a> Side<'a> {
         Ok(())
     }
 
-    /// Whether a loop's items are held on this side, the zero one or the other; the cause says whether at the loop's
-    /// top or at its end.
-    pub fn may_loop(&self, items: &Items, zero: bool, cause: Cause) -> Result<(), Cause>
-        ensures { Tests result (rules.asks (spec.side_label self.now) (λ bag m. rules.may_loop self.now.program (premise_number cause) (view_items items.now) zero bag m)) }
+    /// Whether this side, the zero one or the other, meets what a line needs. Where nothing reaches the side it does.
+    pub fn checked(&self, lists: &[Items], zero: bool, stmt: Stmt) -> Result<(), Cause>
+        ensures { Tests result (rules.asks (spec.side_label self.now) (λ bag m. rules.premises_of self.now.program (map view_items lists.now) zero bag m (rules.stmt_needs stmt))) }
     {
         let Some(mode) = self.mode else {
             return Ok(());
         };
-        blocks::may_loop(&self.holding, items, zero, mode, cause)
-    }
-
-    /// Whether the thread may leave its loop here. Where nothing reaches the side it may.
-    pub fn may_break(&self, releases: bool) -> Result<(), Cause>
-        ensures { Tests result (rules.asks (spec.side_label self.now) (λ bag m. rules.may_break self.now.program releases m)) }
-    {
-        let Some(mode) = self.mode else {
-            return Ok(());
-        };
-        blocks::may_break(&self.holding, releases, mode)
-    }
-
-    /// Whether the arms of a peek may be entered here. Where nothing reaches the side they may.
-    pub fn may_peek(&self) -> Result<(), Cause>
-        ensures { Tests result (rules.asks (spec.side_label self.now) (λ bag m. rules.peek_premises m)) }
-    {
-        let Some(mode) = self.mode else {
-            return Ok(());
-        };
-        blocks::in_arm(Peeked::Unseen, mode)?;
-        Ok(())
+        checked(&self.holding, lists, zero, mode, stmt)
     }
 
     /// What the front completion is isn't known any more.

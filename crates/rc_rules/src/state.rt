@@ -1,6 +1,6 @@
 //! What holds at a point of a thread, and the rules that change it.
 
-ghost use Rattle.std.specs.Prelude.{◌≡◌, ◌<◌, ◌∷◌, [], Bool, true, IsOkAnd, IfOk, Some, slice_get, length};
+ghost use Rattle.std.specs.Prelude.{◌≡◌, ◌<◌, ◌∷◌, [], Bool, true, IsOkAnd, IfOk, Some, map, slice_get, length};
 ghost use Rattle.rc_lang.specs.Parts.{view_items};
 ghost use Rattle.rc_lang.specs.Program as programs;
 ghost use Rattle.rc_lang.specs.Program.{DeclaresToken, IsItems};
@@ -51,7 +51,7 @@ impl<'a> Model for State<'a> {
 pub fn transfer(state: &mut State, stmt: &Stmt) -> Result<(), Cause>
     requires small { spec.OnBoth spec.IsSmall state.old }
     requires plain { (op : Op) × (stmt.now ≡ stmts.Do op) }
-    ensures { (op : Op) → stmt.now ≡ stmts.Do op → spec.Gives state.old state.new result (rules.asks_both (spec.label_of state.old) (λ z bag m. rules.op_premises (spec.program_of state.old) bag m op)) (λ z. sides.brings (λ y. sides.turns (sides.write_of state.old.flag op) y z) (λ s. rules.goes s (λ bag m. rules.op_effect (spec.program_of state.old) bag m op)) (spec.label_of state.old)) }
+    ensures { (op : Op) → stmt.now ≡ stmts.Do op → spec.Gives state.old state.new result (spec.asked_alike state.old [] (stmts.Do op)) (λ z. sides.brings (λ y. sides.turns (sides.write_of state.old.flag op) y z) (λ s. rules.goes s (λ bag m. rules.op_effect (spec.program_of state.old) bag m op)) (spec.label_of state.old)) }
 {
     let Stmt::Do(op) = stmt else {
         return Ok(());
@@ -183,6 +183,16 @@ impl<'a> State<'a> {
         }
     }
 
+    /// Whether both sides meet what a line needs.
+    fn checked(&self, lists: &[Items], stmt: Stmt) -> Result<(), Cause>
+        ensures { Tests result (rules.asked (spec.program_of self.now) (map view_items lists.now) (spec.label_of self.now) stmt) }
+    {
+        lesser(
+            self.zero.checked(lists, true, stmt),
+            self.other.checked(lists, false, stmt),
+        )
+    }
+
     /// Goes over a line on each side by itself.
     fn follow(&mut self, rule: Rule) -> Result<(), Cause>
         requires { spec.OnBoth (one.MayFollow (spec.program_of self.old) rule) self.old }
@@ -200,7 +210,7 @@ impl<'a> State<'a> {
     /// Goes over a statement on each side by itself. One that only computes asks for nothing and leaves what is held.
     fn follow_op(&mut self, op: &Op) -> Result<(), Cause>
         requires { spec.OnBoth spec.IsSmall self.old }
-        ensures { spec.Gives self.old self.new result (rules.asks_both (spec.label_of self.old) (λ z bag m. rules.op_premises (spec.program_of self.old) bag m op.now)) (λ z. rules.goes (spec.label_of self.old z) (λ bag m. rules.op_effect (spec.program_of self.old) bag m op.now) ∷ []) }
+        ensures { spec.Gives self.old self.new result (spec.asked_alike self.old [] (stmts.Do op.now)) (λ z. rules.goes (spec.label_of self.old z) (λ bag m. rules.op_effect (spec.program_of self.old) bag m op.now) ∷ []) }
     {
         if ops::only_computes(op) {
             return Ok(());
@@ -277,23 +287,23 @@ impl<'a> State<'a> {
     /// The closing brace of a lock. The state is dead, or locked.
     pub fn release(&mut self) -> Result<(), Cause>
         requires { spec.OnBoth spec.IsLocked self.old }
-        ensures { spec.Gives self.old self.new result (rules.asks_both (spec.label_of self.old) (λ z bag m. rules.may_release (spec.program_of self.old) m)) (λ z. rules.released (spec.label_of self.old z) ∷ []) }
+        ensures { spec.Gives self.old self.new result (spec.asked_alike self.old [] (stmts.EndLock 0)) (λ z. rules.released (spec.label_of self.old z) ∷ []) }
     {
         self.follow(Rule::Release)
     }
 
     /// Whether the arms of a peek may be entered here.
     pub fn may_peek(&self) -> Result<(), Cause>
-        ensures { Tests result (rules.asks_both (spec.label_of self.now) (λ z bag m. rules.peek_premises m)) }
+        ensures { Tests result (spec.asked_alike self.now [] (stmts.Peek 0)) }
     {
-        lesser(self.zero.may_peek(), self.other.may_peek())
+        self.checked(&[], Stmt::Peek(0))
     }
 
     /// `case U {`, on the state before the arms; whether the arm can be reached. Where the token is held it can't: no
     /// request under it is in flight. The token is declared.
     pub fn arm_case(&mut self, user_data: u64) -> Result<bool, Cause>
         requires { DeclaresToken (spec.program_of self.old) user_data }
-        ensures gives { spec.Gives self.old self.new result (rules.asks_both (spec.label_of self.old) (λ z bag m. rules.peek_premises m)) (λ z. rules.case_at user_data (spec.label_of self.old z) ∷ []) }
+        ensures gives { spec.Gives self.old self.new result (spec.asked_alike self.old [] (stmts.Peek 0)) (λ z. rules.case_at user_data (spec.label_of self.old z) ∷ []) }
         ensures live { IfOk result (λ live. live ≡ spec.is_reached self.new) }
     {
         self.follow(Rule::Case(user_data))?;
@@ -302,7 +312,7 @@ impl<'a> State<'a> {
 
     /// `other {`, on the state before the arms.
     pub fn arm_other(&mut self) -> Result<(), Cause>
-        ensures { spec.Gives self.old self.new result (rules.asks_both (spec.label_of self.old) (λ z bag m. rules.peek_premises m)) (λ z. rules.peek_at peeks.SeesOther (spec.label_of self.old z) ∷ []) }
+        ensures { spec.Gives self.old self.new result (spec.asked_alike self.old [] (stmts.Peek 0)) (λ z. rules.peek_at peeks.SeesOther (spec.label_of self.old z) ∷ []) }
     {
         self.follow(Rule::Other)
     }
@@ -317,21 +327,21 @@ impl<'a> State<'a> {
 
     /// `none {`, on the state before the arms, and what is known after an arm: nothing is peeked.
     pub fn arm_none(&mut self) -> Result<(), Cause>
-        ensures { spec.Gives self.old self.new result (rules.asks_both (spec.label_of self.old) (λ z bag m. rules.peek_premises m)) (λ z. rules.peek_at peeks.Unseen (spec.label_of self.old z) ∷ []) }
+        ensures { spec.Gives self.old self.new result (spec.asked_alike self.old [] (stmts.Peek 0)) (λ z. rules.peek_at peeks.Unseen (spec.label_of self.old z) ∷ []) }
     {
         self.follow(Rule::Nothing)
     }
 
     /// The first branch of `if sq_ready == 0`.
     pub fn ready_zero(&mut self) -> Result<(), Cause>
-        ensures { spec.Gives self.old self.new result (rules.asks_both (spec.label_of self.old) (λ z bag m. rules.test_premises m tests.ReadyZero)) (λ z. rules.goes (spec.label_of self.old z) (λ bag m. Live bag (rules.test_mode (spec.program_of self.old) tests.ReadyZero m)) ∷ []) }
+        ensures { spec.Gives self.old self.new result (spec.asked_alike self.old [] (stmts.If tests.ReadyZero)) (λ z. rules.goes (spec.label_of self.old z) (λ bag m. Live bag (rules.test_mode (spec.program_of self.old) tests.ReadyZero m)) ∷ []) }
     {
         self.follow(Rule::If(Test::ReadyZero))
     }
 
     /// The first branch of `if sq_space_left >= n`; n is at most the entries.
     pub fn space_at_least(&mut self, n: u32) -> Result<(), Cause>
-        ensures { spec.Gives self.old self.new result (rules.asks_both (spec.label_of self.old) (λ z bag m. rules.test_premises m (tests.SpaceAtLeast n))) (λ z. rules.goes (spec.label_of self.old z) (λ bag m. Live bag (rules.test_mode (spec.program_of self.old) (tests.SpaceAtLeast n) m)) ∷ []) }
+        ensures { spec.Gives self.old self.new result (spec.asked_alike self.old [] (stmts.If (tests.SpaceAtLeast n))) (λ z. rules.goes (spec.label_of self.old z) (λ bag m. Live bag (rules.test_mode (spec.program_of self.old) (tests.SpaceAtLeast n) m)) ∷ []) }
     {
         self.follow(Rule::If(Test::SpaceAtLeast(n)))
     }

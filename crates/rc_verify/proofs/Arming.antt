@@ -14,9 +14,9 @@ use Rattle.rc_rules.specs.declared.cause.Cause.{Cause}
 use Rattle.rc_rules.specs.declared.mode.Peeked.TheVariants.{Unseen, SeesOther}
 use Rattle.rc_rules.specs.Labels.{Label}
 use Rattle.rc_rules.specs.Labellings.{label_at}
-use Rattle.rc_rules.specs.Rules.{asks_both, case_at, peek_at, peek_premises}
+use Rattle.rc_rules.specs.Rules.{case_at, peek_at}
 use Rattle.rc_rules.specs.Sides.{Sides, on, unreached}
-use Rattle.rc_rules.specs.States.{State, Gives, label_of, program_of, sides_of}
+use Rattle.rc_rules.specs.States.{asked_alike, State, Gives, label_of, program_of, sides_of}
 use Rattle.rc_verify.specs.declared.arms.Arms.{Arms}
 use Rattle.rc_verify.specs.declared.walk.Walk.{Walk}
 use Rattle.rc_verify.specs.Walk.{AreKept, Fits, IsPeeked, PassesLine, Reaches, branch_place, listed, loop_place, most_at, peek_place, places}
@@ -67,7 +67,7 @@ module _ (P : Program) (t : Thread) (j : ℕ) (w : Walk) (r : Reaches P t j w) w
       subst (λ (p : Program). DeclaresToken p u) (sym h.before.of.program) (r.thread.resolved j (Case o u) e)
 
   -- an arm's first state, from the one before the arms
-  any_arm_passes : {X : Type 0} (s : Stmt) (o : ℕ) (a : Arms) (new : State) (x : Result X Cause) (B : Label → Label) (e : stmt_at t.lines j ≡ Some s) → OpensArm t.lines j o → w.peek ≡ Some a → ((labels : List Sides) → asked_at P t j labels s ≡ []) → ((labels : List Sides) → lead_at P t j labels s ≡ (λ z. B (label_at labels (o + 1) z) ∷ [])) → ((b : Bool) → locked_behind b s ≡ b) → ((b : Bool) (n : ℕ) (l : Label) → Fits b n l → Fits b n (B l)) → EndsNone s → Gives a.before new x (asks_both (label_of a.before) (λ z bag m. peek_premises m)) (λ z. B (label_of a.before z) ∷ []) → blocks_at t.lines (j + 1) ≡ blocks_at t.lines j ++ InArm o ∷ [] → PassesLine P t j (record { state = new; branches = w.branches; peek = w.peek; loops = w.loops }) x
+  any_arm_passes : {X : Type 0} (s : Stmt) (o : ℕ) (a : Arms) (new : State) (x : Result X Cause) (B : Label → Label) (e : stmt_at t.lines j ≡ Some s) → OpensArm t.lines j o → w.peek ≡ Some a → ((labels : List Sides) → asked_at P t j labels s ≡ []) → ((labels : List Sides) → lead_at P t j labels s ≡ (λ z. B (label_at labels (o + 1) z) ∷ [])) → ((b : Bool) → locked_behind b s ≡ b) → ((b : Bool) (n : ℕ) (l : Label) → Fits b n l → Fits b n (B l)) → EndsNone s → Gives a.before new x (asked_alike a.before [] (Peek 0)) (λ z. B (label_of a.before z) ∷ []) → blocks_at t.lines (j + 1) ≡ blocks_at t.lines j ++ InArm o ∷ [] → PassesLine P t j (record { state = new; branches = w.branches; peek = w.peek; loops = w.loops }) x
   any_arm_passes s o a new x B e c q asked leads lock fits none g n =
       let h = peeked_is o a (opening o c) q in
       let before = sides_of a.before in
@@ -81,17 +81,17 @@ module _ (P : Program) (t : Thread) (j : ℕ) (w : Walk) (r : Reaches P t j w) w
       state_alone P t j w r s e a.before new (slice_index_or r.labels (o + 1) unreached) x (λ p f l. []) (λ p f l z. B (on z l) ∷ []) h.before.of (sym known) (asked r.labels) (leads r.labels) (λ z. (f' z, tt))
       (record { branches = places_same branch_place refl; peek = places_same peek_place refl; loops = places_same loop_place refl }) none g'
 
-  pub case_passes : {X : Type 0} (o u : ℕ) (a : Arms) (new : State) (x : Result X Cause) → stmt_at t.lines j ≡ Some (Case o u) → w.peek ≡ Some a → Gives a.before new x (asks_both (label_of a.before) (λ z bag m. peek_premises m)) (λ z. case_at u (label_of a.before z) ∷ []) → PassesLine P t j (record { state = new; branches = w.branches; peek = w.peek; loops = w.loops }) x
+  pub case_passes : {X : Type 0} (o u : ℕ) (a : Arms) (new : State) (x : Result X Cause) → stmt_at t.lines j ≡ Some (Case o u) → w.peek ≡ Some a → Gives a.before new x (asked_alike a.before [] (Peek 0)) (λ z. case_at u (label_of a.before z) ∷ []) → PassesLine P t j (record { state = new; branches = w.branches; peek = w.peek; loops = w.loops }) x
   case_passes o u a new x e q g = any_arm_passes (Case o u) o a new x (case_at u) e (opens_case t.lines r.thread.nested.each j o u e) q (λ ls. refl) (λ ls. refl) (λ b. refl) (case_fits u) (record { arms = λ p y. refl; breaks = λ p y. refl }) g (blocks_next t.lines j (Case o u) e)
 
-  pub other_passes : {X : Type 0} (o : ℕ) (a : Arms) (new : State) (x : Result X Cause) → stmt_at t.lines j ≡ Some (Other o) → w.peek ≡ Some a → Gives a.before new x (asks_both (label_of a.before) (λ z bag m. peek_premises m)) (λ z. peek_at SeesOther (label_of a.before z) ∷ []) → PassesLine P t j (record { state = new; branches = w.branches; peek = w.peek; loops = w.loops }) x
+  pub other_passes : {X : Type 0} (o : ℕ) (a : Arms) (new : State) (x : Result X Cause) → stmt_at t.lines j ≡ Some (Other o) → w.peek ≡ Some a → Gives a.before new x (asked_alike a.before [] (Peek 0)) (λ z. peek_at SeesOther (label_of a.before z) ∷ []) → PassesLine P t j (record { state = new; branches = w.branches; peek = w.peek; loops = w.loops }) x
   other_passes o a new x e q g = any_arm_passes (Other o) o a new x (peek_at SeesOther) e (opens_other t.lines r.thread.nested.each j o e) q (λ ls. refl) (λ ls. refl) (λ b. refl) (peek_fits SeesOther) (record { arms = λ p y. refl; breaks = λ p y. refl }) g (blocks_next t.lines j (Other o) e)
 
-  pub none_passes : {X : Type 0} (o : ℕ) (a : Arms) (new : State) (x : Result X Cause) → stmt_at t.lines j ≡ Some (Nothing o) → w.peek ≡ Some a → Gives a.before new x (asks_both (label_of a.before) (λ z bag m. peek_premises m)) (λ z. peek_at Unseen (label_of a.before z) ∷ []) → PassesLine P t j (record { state = new; branches = w.branches; peek = w.peek; loops = w.loops }) x
+  pub none_passes : {X : Type 0} (o : ℕ) (a : Arms) (new : State) (x : Result X Cause) → stmt_at t.lines j ≡ Some (Nothing o) → w.peek ≡ Some a → Gives a.before new x (asked_alike a.before [] (Peek 0)) (λ z. peek_at Unseen (label_of a.before z) ∷ []) → PassesLine P t j (record { state = new; branches = w.branches; peek = w.peek; loops = w.loops }) x
   none_passes o a new x e q g = any_arm_passes (Nothing o) o a new x (peek_at Unseen) e (opens_nothing t.lines r.thread.nested.each j o e) q (λ ls. refl) (λ ls. refl) (λ b. refl) (peek_fits Unseen) (record { arms = λ p y. refl; breaks = λ p y. refl }) g (blocks_next t.lines j (Nothing o) e)
 
   -- No arm is refused.
-  pub arm_stays : {X : Type 0} (o : ℕ) (a : Arms) (new : State) (x : Result X Cause) (bs : Bool → List Label) → OpensArm t.lines j o → w.peek ≡ Some a → Gives a.before new x (asks_both (label_of a.before) (λ z bag m. peek_premises m)) bs → OnErr x (new ≡ w.state)
+  pub arm_stays : {X : Type 0} (o : ℕ) (a : Arms) (new : State) (x : Result X Cause) (bs : Bool → List Label) → OpensArm t.lines j o → w.peek ≡ Some a → Gives a.before new x (asked_alike a.before [] (Peek 0)) bs → OnErr x (new ≡ w.state)
   arm_stays o a new x bs c q g = go x (subst (λ ps. Gives a.before new x ps bs) (none_asked (label_of a.before) (peeked_is o a (opening o c) q).locked) g)
     where
       go : {X : Type 0} (x : Result X Cause) → Gives a.before new x [] bs → OnErr x (new ≡ w.state)

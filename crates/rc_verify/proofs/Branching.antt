@@ -25,9 +25,10 @@ use Rattle.rc_rules.specs.declared.mode.Peeked.TheVariants.{Unseen}
 use Rattle.rc_rules.specs.Labels.{Label, Dead, Live, Weaker, WeakerInside, WeakerMode, IsStrongest}
 use Rattle.rc_rules.specs.Labellings.{here, label_at, skipped}
 use Rattle.rc_rules.specs.Premises.{Meets, Premise}
-use Rattle.rc_rules.specs.Rules.{asks, asks_both, goes, joins_both, take_effect, take_premises, test_effect, test_premises}
+use Rattle.rc_rules.specs.Needs.{line_premises}
+use Rattle.rc_rules.specs.Rules.{asks, asks_both, goes, joins_both, take_effect, test_effect}
 use Rattle.rc_rules.specs.Sides.{Sides, gate, may_skip, on, test_goes, unreached}
-use Rattle.rc_rules.specs.States.{State, AgreeOnLock, Becomes, Gives, IsOfSame, label_of, program_of, sides_of}
+use Rattle.rc_rules.specs.States.{asked_alike, State, AgreeOnLock, Becomes, Gives, IsOfSame, label_of, program_of, sides_of}
 use Rattle.rc_verify.specs.declared.walk.Walk.{Walk}
 use Rattle.rc_verify.specs.Arms.{two}
 use Rattle.rc_verify.specs.Branches.{KeepsOther, MayTest}
@@ -35,6 +36,7 @@ use Rattle.rc_verify.specs.Stack.{last_of, rest_of}
 use Rattle.rc_verify.specs.Walk.{AreKept, Fits, IsBranch, OnKept, PassesLine, Reaches, branch_place, loop_place, most_at, peek_place, places}
 use Rattle.rc_verify.proofs.Fit.{fits_alike, fits_more, gate_fits, strongest_fits, test_fits}
 use Rattle.rc_verify.proofs.Joining.{above, below}
+use Rattle.rc_rules.proofs.Rising.{test_asked}
 use Rattle.rc_rules.proofs.Weaker.{meets_append, only_itself}
 use Rattle.rc_verify.proofs.Keeping.{KeepsLast, few_branches, few_places, keep_more, kept_length, last_kept, places_pushed, pushed_none, same_last, some_last}
 use Rattle.rc_verify.proofs.Plainly.{fits_behind, fits_known, loops_same, opens_none, peek_same}
@@ -85,7 +87,7 @@ none_asked (Live a m) = tt
 
 -- what a test asks and lets through, of the first branch
 abbrev pub Tested : List Items → State → State → Test → Type 0
-Tested lists s new test = Meets (asks_both (label_of s) (λ z bag m. test_premises m test)) × Becomes s new (λ z. gate (test_goes s.flag test z true) (goes (label_of s z) (λ bag m. test_effect (program_of s) lists bag m test)) ∷ [])
+Tested lists s new test = Meets (asked_alike s [] (If test)) × Becomes s new (λ z. gate (test_goes s.flag test z true) (goes (label_of s z) (λ bag m. test_effect (program_of s) lists bag m test)) ∷ [])
 
 -- A comparison asks nothing, and says nothing of what is held.
 pub compared : (lists : List Items) (s new : State) (test : Test) (x : ℕ) (c : Comparison) (n : ℤ) → test ≡ Compare x c n → Becomes s new (λ z. gate (test_goes s.flag test z true) (label_of s z) ∷ []) → Tested lists s new test
@@ -95,10 +97,10 @@ compared lists s new test x c n e h = subst (Tested lists s new) (sym e) (meets_
     each z = subst (λ l. IsStrongest (label_of new z) (gate (test_goes s.flag (Compare x c n) z true) l ∷ [])) (sym (same_too (label_of s z))) (subst (λ k. IsStrongest (label_of new z) (gate (test_goes s.flag k z true) (label_of s z) ∷ [])) e (h.each z))
 
 -- A take asks and gives what the items do that it names.
-pub taken_from : {X : Type 0} (lists : List Items) (s new : State) (x : Result X Cause) (test : Test) (k : ℕ) (items : Items) → test ≡ Take k → items ≡ items_at lists k → Gives s new x (asks_both (label_of s) (λ z bag m. take_premises m)) (λ z. goes (label_of s z) (λ bag m. take_effect (program_of s) bag m items) ∷ []) → Gives s new x (asks_both (label_of s) (λ z bag m. test_premises m test)) (λ z. gate (test_goes s.flag test z true) (goes (label_of s z) (λ bag m. test_effect (program_of s) lists bag m test)) ∷ [])
+pub taken_from : {X : Type 0} (lists : List Items) (s new : State) (x : Result X Cause) (test : Test) (k : ℕ) (items : Items) → test ≡ Take k → items ≡ items_at lists k → Gives s new x (asked_alike s [] (If (Take 0))) (λ z. goes (label_of s z) (λ bag m. take_effect (program_of s) bag m items) ∷ []) → Gives s new x (asked_alike s [] (If test)) (λ z. gate (test_goes s.flag test z true) (goes (label_of s z) (λ bag m. test_effect (program_of s) lists bag m test)) ∷ [])
 taken_from lists s new x test k items e q g =
-    subst (λ t. Gives s new x (asks_both (label_of s) (λ z bag m. test_premises m t)) (λ z. gate (test_goes s.flag t z true) (goes (label_of s z) (λ bag m. test_effect (program_of s) lists bag m t)) ∷ [])) (sym e)
-    (subst (λ is. Gives s new x (asks_both (label_of s) (λ z bag m. take_premises m)) (λ z. goes (label_of s z) (λ bag m. take_effect (program_of s) bag m is) ∷ [])) q g)
+    subst (λ t. Gives s new x (asked_alike s [] (If t)) (λ z. gate (test_goes s.flag t z true) (goes (label_of s z) (λ bag m. test_effect (program_of s) lists bag m t)) ∷ [])) (sym e)
+    (subst (λ is. Gives s new x (asked_alike s [] (If (Take 0))) (λ z. goes (label_of s z) (λ bag m. take_effect (program_of s) bag m is) ∷ [])) q g)
 
 -- ---- what a branch leaves after it
 
@@ -147,13 +149,13 @@ module _ (P : Program) (t : Thread) (j : ℕ) (w : Walk) (r : Reaches P t j w) w
   pub may_test : (test : Test) (lists : List Items) → stmt_at t.lines j ≡ Some (If test) → lists ≡ t.lists → MayTest (program_of w.state) lists test
   may_test test lists e q = subst (λ (p : Program). MayTest p lists test) (sym r.at.here.of.program) (subst (λ (is : List Items). MayTest P is test) (sym q) (tests_here test e))
 
-  pub if_passes : {X : Type 0} (test : Test) (lists : List Items) (new : State) (kept : List (Option State)) (x : Result X Cause) → stmt_at t.lines j ≡ Some (If test) → lists ≡ t.lists → Gives w.state new x (asks_both (label_of w.state) (λ z bag m. test_premises m test)) (λ z. gate (test_goes w.state.flag test z true) (goes (label_of w.state z) (λ bag m. test_effect (program_of w.state) lists bag m test)) ∷ []) → OnOk x (KeepsOther test w.state w.branches kept) → PassesLine P t j (record { state = new; branches = kept; peek = w.peek; loops = w.loops }) x
+  pub if_passes : {X : Type 0} (test : Test) (lists : List Items) (new : State) (kept : List (Option State)) (x : Result X Cause) → stmt_at t.lines j ≡ Some (If test) → lists ≡ t.lists → Gives w.state new x (asked_alike w.state [] (If test)) (λ z. gate (test_goes w.state.flag test z true) (goes (label_of w.state z) (λ bag m. test_effect (program_of w.state) lists bag m test)) ∷ []) → OnOk x (KeepsOther test w.state w.branches kept) → PassesLine P t j (record { state = new; branches = kept; peek = w.peek; loops = w.loops }) x
   if_passes test lists new kept x e same_lists h k =
-      let g = subst (λ (is : List Items). Gives w.state new x (asks_both (label_of w.state) (λ z bag m. test_premises m test)) (λ z. gate (test_goes w.state.flag test z true) (goes (label_of w.state z) (λ bag m. test_effect (program_of w.state) is bag m test)) ∷ [])) same_lists h in
+      let g = subst (λ (is : List Items). Gives w.state new x (asked_alike w.state [] (If test)) (λ z. gate (test_goes w.state.flag test z true) (goes (label_of w.state z) (λ bag m. test_effect (program_of w.state) is bag m test)) ∷ [])) same_lists h in
       let w' : Walk = record { state = new; branches = kept; peek = w.peek; loops = w.loops } in
-      let F : Program → Option ℕ → Sides → List (ℕ × Premise) = λ p f l. asks_both (λ z. on z l) (λ z bag m. test_premises m test) in
+      let F : Program → Option ℕ → Sides → List (ℕ × Premise) = λ p f l. asks_both (λ z. on z l) (λ z bag m. line_premises p [] bag m (If test)) in
       let B : Program → Option ℕ → Sides → Bool → List Label = λ p f l z. gate (test_goes f test z true) (goes (on z l) (λ bag m. test_effect p t.lists bag m test)) ∷ [] in
-      let gave = took P t w.state new (seen_at t j r.labels) x F B r.at.here.of (here_is P t j w r (If test) e) g in
+      let gave = subst (λ ps. Gave P t new x ps (B P t.flag (seen_at t j r.labels))) (sym (test_asked P t.lists (λ z. on z (seen_at t j r.labels)) test)) (took P t w.state new (seen_at t j r.labels) x F B r.at.here.of (here_is P t j w r (If test) e) g) in
       let bs = blocks_at t.lines j in
       let n : blocks_at t.lines (j + 1) ≡ bs ++ InIf j ∷ [] = blocks_next t.lines j (If test) e in
       let same = opens_none t j bs (InIf j) refl n in

@@ -11,9 +11,11 @@ use Rattle.rc_rules.specs.declared.cause.Cause.{Cause}
 use Rattle.rc_rules.specs.Labels.{Label, IsStrongest}
 use Rattle.rc_rules.specs.Labellings.{break_end, break_ends}
 use Rattle.rc_rules.specs.Premises.{Meets, Premise}
-use Rattle.rc_rules.specs.Rules.{asks, asks_both, may_break}
+use Rattle.rc_rules.specs.Needs.{line_premises}
+use Rattle.rc_rules.specs.Rules.{asks, asks_both}
 use Rattle.rc_rules.specs.Sides.{Sides, on}
-use Rattle.rc_rules.specs.States.{State, Gives, IsLocked, OnBoth, label_of, program_of, sides_of}
+use Rattle.rc_rules.specs.States.{asked_alike, State, Gives, IsLocked, OnBoth, label_of, program_of, sides_of}
+use Rattle.rc_rules.proofs.Rising.{leave_asked}
 use Rattle.rc_verify.specs.declared.walk.Walk.{Walk}
 use Rattle.rc_verify.specs.Stack.{last_of, rest_of}
 use Rattle.rc_verify.specs.Arms.{two}
@@ -27,7 +29,7 @@ use Rattle.rc_verify.proofs.Joining.{each_meets}
 use Rattle.rc_verify.proofs.Keeping.{KeepsLast, keep_more, kept_too, last_kept, nothing_more, places_more, same_last, some_last}
 use Rattle.rc_verify.proofs.Looping.{loops_before, no_loop_places}
 use Rattle.rc_verify.proofs.Plainly.{branches_same, fits_behind, peek_same}
-use Rattle.rc_verify.proofs.Standing.{breaks_next, fits_here, here_is, loop_on, of_same, passes, same_of, seen_at, took}
+use Rattle.rc_verify.proofs.Standing.{Gave, breaks_next, fits_here, here_is, loop_on, of_same, passes, same_of, seen_at, took}
 
 module _ (P : Program) (t : Thread) (j : ℕ) (w : Walk) (r : Reaches P t j w) (o : ℕ) (releases leaves : Bool) (e : stmt_at t.lines j ≡ Some (Break o releases leaves)) where
   out : LeavesLoop t.lines j o releases leaves
@@ -53,10 +55,10 @@ module _ (P : Program) (t : Thread) (j : ℕ) (w : Walk) (r : Reaches P t j w) (
 
   -- what both sides are asked
   abbrev Asked : List (ℕ × Premise)
-  Asked = asks_both (label_of w.state) (λ z bag m. may_break (program_of w.state) releases m)
+  Asked = asked_alike w.state [] (Break 0 releases false)
 
   taken_closed : Meets Asked → (z : Bool) → IsClosed (taken releases w.state z)
-  taken_closed m z = broken_closed (program_of w.state) releases (label_of w.state z) (each_meets (label_of w.state) (λ s. asks s (λ bag m. may_break (program_of w.state) releases m)) m z)
+  taken_closed m z = broken_closed (program_of w.state) releases (label_of w.state z) (each_meets (label_of w.state) (λ s. asks s (λ bag m. line_premises (program_of w.state) [] bag m (Break 0 releases false))) m z)
 
   pub may_leave : (s : State) → last_of w.loops ≡ Some s → MayBreak s w.state releases
   may_leave s q =
@@ -104,8 +106,8 @@ module _ (P : Program) (t : Thread) (j : ℕ) (w : Walk) (r : Reaches P t j w) (
   pub break_passes : {X : Type 0} (new : State) (kept : List (Option State)) (x : Result X Cause) → Gives w.state new x Asked (λ z. []) → OnOk x (KeepsBreak kept) → PassesLine P t j (record { state = new; branches = w.branches; peek = w.peek; loops = kept }) x
   break_passes new kept x g k =
       let w' : Walk = record { state = new; branches = w.branches; peek = w.peek; loops = kept } in
-      let F : Program → Option ℕ → Sides → List (ℕ × Premise) = λ p f l. asks_both (λ z. on z l) (λ z bag m. may_break p releases m) in
-      let gave = took P t w.state new (seen_at t j r.labels) x F (λ p f l z. []) r.at.here.of (here_is P t j w r (Break o releases leaves) e) g in
+      let F : Program → Option ℕ → Sides → List (ℕ × Premise) = λ p f l. asks_both (λ z. on z l) (λ z bag m. line_premises p [] bag m (Break 0 releases false)) in
+      let gave = subst (λ ps. Gave P t new x ps (λ z. [])) (sym (leave_asked P t.lists (λ z. on z (seen_at t j r.labels)) o releases leaves)) (took P t w.state new (seen_at t j r.labels) x F (λ p f l z. []) r.at.here.of (here_is P t j w r (Break o releases leaves) e) g) in
       passes P t j w r (Break o releases leaves) e w' x gave
       (λ b z. fits_behind P t j w r (Break o releases leaves) e (label_of new z) (strongest_fits (in_lock (blocks_at t.lines j)) (most_at j + 18) (label_of new z) [] tt (b z)))
       (λ y q. record {

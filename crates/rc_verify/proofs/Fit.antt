@@ -1,5 +1,6 @@
 -- Which labels fit a place in a lock or not, and how many of each part are held there.
 use Rattle.std.proofs.Common.{◌≡◌, ℕ, ◌+◌, ◌^◌, ◌≤◌, Bool, true, false, cond, not, nat_lt, List, [], ◌∷◌, refl, sym, ap, subst, ◌∙◌, ◌⊎◌, inl, inr, arith}
+use Rattle.rc_lang.specs.declared.lines.Stmt.TheVariants.{Break}
 use Rattle.rc_lang.specs.declared.lines.Op.{Op}
 use Rattle.rc_lang.specs.declared.lines.Test.{Test}
 use Rattle.rc_lang.specs.declared.lines.Test.TheVariants.{Compare, ReadyZero, SpaceAtLeast, Take}
@@ -13,7 +14,8 @@ use Rattle.rc_rules.specs.declared.mode.Slot.TheVariants.{Closed}
 use Rattle.rc_rules.specs.Labels.{Label, Dead, Live, Weaker, WeakerThanEach, IsStrongest, IsSame}
 use Rattle.rc_rules.specs.Labellings.{start_of}
 use Rattle.rc_rules.specs.Sides.{brings, gate, on}
-use Rattle.rc_rules.specs.Rules.{same_slot, op_effect, put_effect, can_take, has_room, names_peeked_in, take_effect, goes, entered, released, test_effect, with_peeked, peek_at, case_at, top, broken, asks, may_break}
+use Rattle.rc_rules.specs.Needs.{line_premises}
+use Rattle.rc_rules.specs.Rules.{same_slot, op_effect, put_effect, can_take, has_room, names_peeked_in, take_effect, goes, entered, released, test_effect, with_peeked, peek_at, case_at, top, broken, asks}
 use Rattle.rc_rules.specs.Premises.{Meets}
 use Rattle.rc_rules.specs.States.{is_locked, IsLocked, IsUnlocked, AgreeOnLock, IsSmall}
 use Rattle.rc_rules.proofs.Headers.{few}
@@ -154,7 +156,7 @@ broken_fits false b c n s e f = subst (λ x. Fits x n (peek_at Unseen s)) (sym e
 
 -- ---- breaks leave no slot open
 
-pub broken_closed : (P : Program) (releases : Bool) (s : Label) → Meets (asks s (λ bag m. may_break P releases m)) → IsClosed (broken releases s)
+pub broken_closed : (P : Program) (releases : Bool) (s : Label) → Meets (asks s (λ bag m. line_premises P [] bag m (Break 0 releases false))) → IsClosed (broken releases s)
 broken_closed P true Dead h = tt
 broken_closed P true (Live a m) h = refl
 broken_closed P false Dead h = tt

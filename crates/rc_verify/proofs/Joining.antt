@@ -1,13 +1,14 @@
 -- Two states that join: arms, breaks, and the ends of branches.
 use Rattle.std.proofs.Common.{◌≡◌, ℕ, ◌<◌, Bool, true, false, ◌&&◌, List, [], ◌∷◌, ◌++◌, Option, Some, Result, Ok, Err, refl, sym, ap, subst, ◌∙◌, arith}
 use Rattle.std.specs.Result.{is_ok}
+use Rattle.rc_lang.specs.declared.lines.Stmt.TheVariants.{Break}
 use Rattle.rc_rules.specs.declared.cause.Cause.{Cause}
 use Rattle.rc_rules.specs.declared.mode.Mode.TheVariants.{Unlocked, Locked}
 use Rattle.rc_rules.specs.Causes.{premise_number}
 use Rattle.rc_rules.specs.Labels.{Label, Dead, Live, Weaker, IsStrongest}
-use Rattle.rc_rules.specs.Premises.{Premise, Meets, FailsFirst}
-use Rattle.rc_rules.specs.Rules.{agree, agree_all, asks_both, joins_both, may_break, may_join}
-use Rattle.rc_rules.specs.States.{State, Becomes, IsOfSame, label_of, program_of, AgreeOnLock, Gives}
+use Rattle.rc_rules.specs.Premises.{Premise, Is, Meets, FailsFirst}
+use Rattle.rc_rules.specs.Rules.{agree, agree_all, joins_both}
+use Rattle.rc_rules.specs.States.{asked_alike, State, Becomes, IsOfSame, label_of, program_of, AgreeOnLock, Gives}
 use Rattle.rc_rules.proofs.Growth.{agree_grows}
 use Rattle.rc_rules.proofs.Weaker.{meets_left, meets_right, not_both, weaker_refl}
 use Rattle.rc_verify.specs.declared.arms.Arms.{Arms}
@@ -46,17 +47,20 @@ same_state s t e = record { program = ap program_of e; flag = ap (λ (x : State)
 
 -- ---- two that join
 
-join_all : (ends : List Label) → agree_all ends ≡ true → Meets (may_join ends)
+abbrev AllAgree : List Label → List (ℕ × Premise)
+AllAgree ends = (15, Is (agree_all ends)) ∷ []
+
+join_all : (ends : List Label) → agree_all ends ≡ true → Meets (AllAgree ends)
 join_all ends e = (e, tt)
 
-pub differ_all : (ends : List Label) (n : ℕ) → FailsFirst n (may_join ends) → agree_all ends ≡ false
+pub differ_all : (ends : List Label) (n : ℕ) → FailsFirst n (AllAgree ends) → agree_all ends ≡ false
 differ_all ends n f = go (agree_all ends) refl
   where
     go : (b : Bool) → agree_all ends ≡ b → b ≡ false
     go true e = absurd (not_both n _ (join_all ends e) f)
     go false e = refl
 
-pub fails_join : (ends : List Label) → agree_all ends ≡ false → FailsFirst 15 (may_join ends)
+pub fails_join : (ends : List Label) → agree_all ends ≡ false → FailsFirst 15 (AllAgree ends)
 fails_join ends e = record { below = (λ lt. absurd (not_less lt), tt); fails = λ m. absurd (cc (m.0 (omega arith), e)) }
   where
     not_less : 15 < 15 → ⊥
@@ -101,7 +105,7 @@ agree_too m n x y e f v w h = more (agree m x) (agree m e) (agree m n) (agree m 
     more true a' true true c' true d' false k' l l' p q r s t h = absurd (cc)
     more true a' true true c' true d' true k' false l' p q r s t h = absurd (cc)
 
-pub fits_with : (s here moved end : State) (b : Bool) → moved ≡ here → MayBreak s here b → Meets (asks_both (label_of here) (λ z bag m. may_break (program_of here) b m)) → Becomes moved end (λ z. taken b moved z ∷ []) → FitsWith s end
+pub fits_with : (s here moved end : State) (b : Bool) → moved ≡ here → MayBreak s here b → Meets (asked_alike here [] (Break 0 b false)) → Becomes moved end (λ z. taken b moved z ∷ []) → FitsWith s end
 fits_with s here moved end b q f h w =
     let w' : Becomes here end (λ z. taken b here z ∷ []) = subst (λ (t : State). Becomes t end (λ z. taken b t z ∷ [])) q w in
     let v : (z : Bool) → Weaker (label_of end z) (taken b here z) = λ z. below (label_of end z) (taken b here z) (w'.each z) in

@@ -17,7 +17,7 @@ use Rattle.rc_rules.specs.Causes.{premise_number}
 use Rattle.rc_rules.specs.Labels.{Label, Dead, IsStrongest}
 use Rattle.rc_rules.specs.Labellings.{break_end, break_ends, here, label_at}
 use Rattle.rc_rules.specs.Premises.{Premise}
-use Rattle.rc_rules.specs.Rules.{asks_both, broken, may_loop, top}
+use Rattle.rc_rules.specs.Rules.{asked, broken, top}
 use Rattle.rc_rules.specs.Sides.{Sides, brings, forgets, on, turns}
 use Rattle.rc_rules.specs.States.{State, Gives, IsOfSame, OnBoth, label_of, program_of, sides_of}
 use Rattle.rc_verify.specs.declared.walk.Walk.{Walk}
@@ -109,14 +109,14 @@ module _ (P : Program) (t : Thread) (j : ℕ) (w : Walk) (r : Reaches P t j w) w
 
   -- what the rule of a loop gives, with these items
   abbrev pub Loops : {X : Type 0} → Items → State → Result X Cause → Type 0
-  Loops items new x = Gives w.state new x (asks_both (label_of w.state) (λ z bag m. may_loop (program_of w.state) 13 items z bag m)) (λ z. brings (λ y. turns (forgets w.state.flag) y z) (λ s. top (program_of w.state) items z s) (label_of w.state))
+  Loops items new x = Gives w.state new x (asked (program_of w.state) (items ∷ []) (label_of w.state) (Loop 0)) (λ z. brings (λ y. turns (forgets w.state.flag) y z) (λ s. top (program_of w.state) items z s) (label_of w.state))
 
   pub loop_passes : {X : Type 0} (k : ℕ) (items : Items) (new : State) (kept : List (Option State)) (x : Result X Cause) → stmt_at t.lines j ≡ Some (Loop k) → items ≡ items_at t.lists k → Loops items new x → OnOk x (KeepsDead w.state w.loops kept) → PassesLine P t j (record { state = new; branches = w.branches; peek = w.peek; loops = kept }) x
   loop_passes k items new kept x e q g d =
       let w' : Walk = record { state = new; branches = w.branches; peek = w.peek; loops = kept } in
       let i = items_at t.lists k in
       let g' : Loops i new x = subst (λ (y : Items). Loops y new x) q g in
-      let F : Program → Option ℕ → Sides → List (ℕ × Premise) = λ p f l. asks_both (λ z. on z l) (λ z bag m. may_loop p 13 i z bag m) in
+      let F : Program → Option ℕ → Sides → List (ℕ × Premise) = λ p f l. asked p (i ∷ []) (λ z. on z l) (Loop 0) in
       let B : Program → Option ℕ → Sides → Bool → List Label = λ p f l z. brings (λ y. turns (forgets f) y z) (λ s. top p i z s) (λ y. on y l) in
       let gave = took P t w.state new (seen_at t j r.labels) x F B r.at.here.of (here_is P t j w r (Loop k) e) g' in
       let bs = blocks_at t.lines j in
@@ -148,14 +148,14 @@ module _ (P : Program) (t : Thread) (j : ℕ) (w : Walk) (r : Reaches P t j w) w
   pub end_loop_some : (o k : ℕ) → stmt_at t.lines j ≡ Some (EndLoop o k) → IsSome (last_of w.loops)
   end_loop_some o k e = some_last (IsLoop P t j r.labels) _ o w.loops (end_kept o k e)
 
-  pub end_loop_passes : {X : Type 0} (o k : ℕ) (items : Items) (new : State) (kept : List (Option State)) (x : Result X Cause) → stmt_at t.lines j ≡ Some (EndLoop o k) → items ≡ items_at t.lists k → ClosesLoop (asks_both (label_of w.state) (λ z bag m. may_loop (program_of w.state) 14 items z bag m)) w.loops kept new x → PassesLine P t j (record { state = new; branches = w.branches; peek = w.peek; loops = kept }) x
-  end_loop_passes o k items new kept x e q g = go x (subst (λ ps. ClosesLoop ps w.loops kept new x) asked g)
+  pub end_loop_passes : {X : Type 0} (o k : ℕ) (items : Items) (new : State) (kept : List (Option State)) (x : Result X Cause) → stmt_at t.lines j ≡ Some (EndLoop o k) → items ≡ items_at t.lists k → ClosesLoop (asked (program_of w.state) (items ∷ []) (label_of w.state) (EndLoop 0 0)) w.loops kept new x → PassesLine P t j (record { state = new; branches = w.branches; peek = w.peek; loops = kept }) x
+  end_loop_passes o k items new kept x e q g = go x (subst (λ ps. ClosesLoop ps w.loops kept new x) same_asked g)
     where
-      asked : asks_both (label_of w.state) (λ z bag m. may_loop (program_of w.state) 14 items z bag m) ≡ asked_at P t j r.labels (EndLoop o k)
-      asked =
-          ap (λ (i : Items). asks_both (label_of w.state) (λ z bag m. may_loop (program_of w.state) 14 i z bag m)) q
-          ∙ ap (λ (p : Program). asks_both (label_of w.state) (λ z bag m. may_loop p 14 (items_at t.lists k) z bag m)) r.at.here.of.program
-          ∙ ap (λ (l : Sides). asks_both (λ z. on z l) (λ z bag m. may_loop P 14 (items_at t.lists k) z bag m)) (here_is P t j w r (EndLoop o k) e)
+      same_asked : asked (program_of w.state) (items ∷ []) (label_of w.state) (EndLoop 0 0) ≡ asked_at P t j r.labels (EndLoop o k)
+      same_asked =
+          ap (λ (i : Items). asked (program_of w.state) (i ∷ []) (label_of w.state) (EndLoop 0 0)) q
+          ∙ ap (λ (p : Program). asked p (items_at t.lists k ∷ []) (label_of w.state) (EndLoop 0 0)) r.at.here.of.program
+          ∙ ap (λ (l : Sides). asked P (items_at t.lists k ∷ []) (λ z. on z l) (EndLoop 0 0)) (here_is P t j w r (EndLoop o k) e)
 
       same : (f : Block → List ℕ) → f (InLoop o k) ≡ [] → places f (blocks_at t.lines (j + 1)) ≡ places f (blocks_at t.lines j)
       same f n = let c = closes_loop t.lines r.thread.nested.each j o k e in ap (places f) c.behind ∙ sym (ap (places f) c.within ∙ pushed_none f (blocks_at t.lines o) (InLoop o k) n)

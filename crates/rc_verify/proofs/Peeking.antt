@@ -19,9 +19,10 @@ use Rattle.rc_rules.specs.Causes.{premise_number}
 use Rattle.rc_rules.specs.Labels.{Label, Dead, Live, Weaker, IsStrongest}
 use Rattle.rc_rules.specs.Labellings.{arm_end, arm_ends, label_at}
 use Rattle.rc_rules.specs.Premises.{FailsFirst, Meets, Premise}
-use Rattle.rc_rules.specs.Rules.{agree_all, asks, asks_both, peek_at, peek_premises}
+use Rattle.rc_rules.specs.Needs.{line_premises}
+use Rattle.rc_rules.specs.Rules.{agree_all, asks, asks_both, peek_at, under_lock}
 use Rattle.rc_rules.specs.Sides.{Sides, brings, on, turns, write_to}
-use Rattle.rc_rules.specs.States.{State, Becomes, IsLocked, OnBoth, label_of, sides_of}
+use Rattle.rc_rules.specs.States.{asked_alike, State, Becomes, IsLocked, OnBoth, label_of, sides_of}
 use Rattle.rc_verify.specs.Arms.{IsOpened, OpensPeek}
 use Rattle.rc_verify.specs.declared.arms.Arms.{Arms}
 use Rattle.rc_verify.specs.declared.walk.Walk.{Walk}
@@ -57,19 +58,23 @@ no_peeks (b ∷ bs) e = let h = or_parts (is_peek b) (in_peek bs) e in ap (λ os
 
 -- ---- labels
 
-met_locked : (s : Label) → Meets (asks s (λ bag m. peek_premises m)) → IsLocked s
+-- what a side is asked
+abbrev peek_asks : Label → List (ℕ × Premise)
+peek_asks s = asks s (λ bag m. under_lock 1 m (λ i. []))
+
+met_locked : (s : Label) → Meets (peek_asks s) → IsLocked s
 met_locked Dead h = tt
 met_locked (Live b Unlocked) h = absurd (cc (h.0))
 met_locked (Live b (Locked i)) h = tt
 
-locked_asks : (s : Label) → IsLocked s → asks s (λ bag m. peek_premises m) ≡ []
+locked_asks : (s : Label) → IsLocked s → peek_asks s ≡ []
 locked_asks Dead h = refl
 locked_asks (Live b Unlocked) h = absurd h
 locked_asks (Live b (Locked i)) h = refl
 
 -- Nothing is asked where both sides have the lock.
-pub none_asked : (s : Bool → Label) → ((z : Bool) → IsLocked (s z)) → asks_both s (λ z bag m. peek_premises m) ≡ []
-none_asked s h = ap (λ ps. ps ++ asks (s false) (λ bag m. peek_premises m)) (locked_asks (s true) (h true)) ∙ locked_asks (s false) (h false)
+pub none_asked : (s : Bool → Label) → ((z : Bool) → IsLocked (s z)) → peek_asks (s true) ++ peek_asks (s false) ≡ []
+none_asked s h = ap (λ ps. ps ++ peek_asks (s false)) (locked_asks (s true) (h true)) ∙ locked_asks (s false) (h false)
 
 pub dead_strongest : (s : Label) → s ≡ Dead → IsStrongest s []
 dead_strongest s e = record { weaker = tt; strongest = λ t w. subst (λ z. Weaker t z) (sym e) tt }
@@ -120,22 +125,22 @@ module _ (P : Program) (t : Thread) (j : ℕ) (w : Walk) (r : Reaches P t j w) w
       }
 
   -- what the peek asks of the walk's state, it asks of the labels before it
-  asked_is : (v : ℕ) → stmt_at t.lines j ≡ Some (Peek v) → asks_both (label_of w.state) (λ z bag m. peek_premises m) ≡ asks_both (λ z. on z (seen_at t j r.labels)) (λ z bag m. peek_premises m)
-  asked_is v e = ap (λ (l : Sides). asks_both (λ z. on z l) (λ z bag m. peek_premises m)) (here_is P t j w r (Peek v) e)
+  asked_is : (v : ℕ) → stmt_at t.lines j ≡ Some (Peek v) → asked_alike w.state [] (Peek 0) ≡ asks_both (λ z. on z (seen_at t j r.labels)) (λ z bag m. line_premises P [] bag m (Peek 0))
+  asked_is v e = ap (λ (l : Sides). asks_both (λ z. on z l) (λ z bag m. line_premises P [] bag m (Peek 0))) (here_is P t j w r (Peek v) e)
 
   pub peek_passes : {X : Type 0} (v : ℕ) (new : State) (peek : Option Arms) (x : Result X Cause) → stmt_at t.lines j ≡ Some (Peek v) → OpensPeek v w.state new peek x → PassesLine P t j (record { state = new; branches = w.branches; peek = peek; loops = w.loops }) x
   peek_passes v new peek (Ok y) e g =
       let w' : Walk = record { state = new; branches = w.branches; peek = peek; loops = w.loops } in
       let bs = blocks_at t.lines j in
       let may : Bool → Bool → Bool = λ z y. turns (write_to w.state.flag v Anything) y z in
-      let F : Program → Option ℕ → Sides → List (ℕ × Premise) = λ p f l. asks_both (λ z. on z l) (λ z bag m. peek_premises m) in
+      let F : Program → Option ℕ → Sides → List (ℕ × Premise) = λ p f l. asks_both (λ z. on z l) (λ z bag m. line_premises p [] bag m (Peek 0)) in
       let B : Program → Option ℕ → Sides → Bool → List Label = λ p f l z. brings (λ y. turns (write_to f v Anything) y z) (λ s. s) (λ y. on y l) in
       let gave = took P t w.state new (seen_at t j r.labels) (Ok y) F B r.at.here.of (here_is P t j w r (Peek v) e) (g.0, g.1) in
       let n : blocks_at t.lines (j + 1) ≡ bs ++ InPeek j ∷ [] = blocks_next t.lines j (Peek v) e in
       let same = opens_none t j bs (InPeek j) refl n in
       let f : (z : Bool) → Fits (in_lock bs) (most_at j + 18) (label_of w.state z) = λ z. fits_more (in_lock bs) (most_at j) (most_at j + 18) (label_of w.state z) (omega arith) (fits_here P t j w r (Peek v) e z) in
       let f' : (z : Bool) → Fits (in_lock bs) (most_at j + 18) (label_of new z) = λ z. strongest_fits (in_lock bs) (most_at j + 18) (label_of new z) _ (brings_fit (may z) (λ s. s) (label_of w.state) (in_lock bs) (most_at j + 18) f) (g.1.each z) in
-      let m = each_meets (label_of w.state) (λ s. asks s (λ bag m. peek_premises m)) g.0 in
+      let m = each_meets (label_of w.state) peek_asks g.0 in
       let l : OnBoth IsLocked new = λ z. brought_locked (may z) (λ s. s) (label_of w.state) (label_of new z) (λ y. met_locked (label_of w.state y) (m y)) (g.1.each z) in
       let p : places peek_place (blocks_at t.lines (j + 1)) ≡ j ∷ [] = ap (places peek_place) n ∙ places_pushed peek_place bs (InPeek j) ∙ ap (λ os. os ++ j ∷ []) (no_peeks bs (nested_here t.lines r.thread.nested.each j (Peek v) e)) in
       let one : AreKept (IsPeeked P t (j + 1) (r.labels ++ sides_of new ∷ [])) (j ∷ []) (g.2.0 ∷ []) = (opened v new g.2.0 e gave.2 l g.2.2, tt) in

@@ -15,9 +15,11 @@ use Rattle.rc_rules.specs.declared.cause.Cause.{Cause}
 use Rattle.rc_rules.specs.Labels.{Label, IsStrongest}
 use Rattle.rc_rules.specs.Labellings.{arm_end, break_end, here}
 use Rattle.rc_rules.specs.Premises.{Premise}
-use Rattle.rc_rules.specs.Rules.{asks_both, entered, goes, may_release, op_effect, op_premises, put_effect, put_premises, released}
+use Rattle.rc_rules.specs.Needs.{line_premises}
+use Rattle.rc_rules.specs.Rules.{asks_both, entered, goes, op_effect, put_effect, released}
 use Rattle.rc_rules.specs.Sides.{Sides, brings, on, turns, write_of}
-use Rattle.rc_rules.specs.States.{State, AgreeOnLock, Gives, IsLocked, IsSmall, IsUnlocked, OnBoth, label_of, program_of, sides_of}
+use Rattle.rc_rules.specs.States.{asked_alike, State, AgreeOnLock, Gives, IsLocked, IsSmall, IsUnlocked, OnBoth, label_of, program_of, sides_of}
+use Rattle.rc_rules.proofs.Rising.{op_asked}
 use Rattle.rc_verify.specs.declared.walk.Walk.{Walk}
 use Rattle.rc_verify.specs.Walk.{AreKept, Fits, IsBranch, IsLoop, IsOf, IsPeeked, Keeps, OnKept, PassesLine, Reaches, branch_place, listed, loop_place, most_at, peek_place, places}
 use Rattle.rc_verify.proofs.Fit.{AreAll, brings_fit, entered_fits, fits_alike, fits_locked, fits_more, fits_small, fits_unlocked, op_fits, put_fits, released_fits, strongest_fits}
@@ -80,25 +82,25 @@ module _ (P : Program) (t : Thread) (j : ℕ) (w : Walk) (r : Reaches P t j w) w
   pub small_here : (s : Stmt) → stmt_at t.lines j ≡ Some s → OnBoth IsSmall w.state
   small_here s e z = let l = stands_within t.lines j s e in fits_small (in_lock (blocks_at t.lines j)) (most_at j) (label_of w.state z) (few_held j (length t.lines) l r.thread.few_lines) (fits_here P t j w r s e z)
 
-  pub do_passes : {X : Type 0} (op : Op) (new : State) (x : Result X Cause) → stmt_at t.lines j ≡ Some (Do op) → Gives w.state new x (asks_both (label_of w.state) (λ z bag m. op_premises (program_of w.state) bag m op)) (λ z. brings (λ y. turns (write_of w.state.flag op) y z) (λ s. goes s (λ bag m. op_effect (program_of w.state) bag m op)) (label_of w.state)) → PassesLine P t j (record { state = new; branches = w.branches; peek = w.peek; loops = w.loops }) x
+  pub do_passes : {X : Type 0} (op : Op) (new : State) (x : Result X Cause) → stmt_at t.lines j ≡ Some (Do op) → Gives w.state new x (asked_alike w.state [] (Do op)) (λ z. brings (λ y. turns (write_of w.state.flag op) y z) (λ s. goes s (λ bag m. op_effect (program_of w.state) bag m op)) (label_of w.state)) → PassesLine P t j (record { state = new; branches = w.branches; peek = w.peek; loops = w.loops }) x
   do_passes op new x e g =
       let n = blocks_next t.lines j (Do op) e in
       let lock = in_lock (blocks_at t.lines j) in
-      state_alone P t j w r (Do op) e w.state new (seen_at t j r.labels) x (λ p f l. asks_both (λ z. on z l) (λ z bag m. op_premises p bag m op)) (λ p f l z. brings (λ y. turns (write_of f op) y z) (λ s. goes s (λ bag m. op_effect p bag m op)) (λ y. on y l)) r.at.here.of (here_is P t j w r (Do op) e) refl refl
+      state_alone P t j w r (Do op) e w.state new (seen_at t j r.labels) x (λ p f l. asks_both (λ z. on z l) (λ z bag m. line_premises p [] bag m (Do op))) (λ p f l z. brings (λ y. turns (write_of f op) y z) (λ s. goes s (λ bag m. op_effect p bag m op)) (λ y. on y l)) r.at.here.of (here_is P t j w r (Do op) e) (op_asked P t.lists (λ z. on z (seen_at t j r.labels)) op) refl
       (λ z. brings_fit (λ y. turns (write_of t.flag op) y z) (λ s. goes s (λ bag m. op_effect P bag m op)) (here (take j t.lines) r.labels) lock (most_at j + 18) (λ y. op_fits P lock (most_at j) _ op r.made (fits_known P t j w r (Do op) e y)))
       (record { branches = ap (places branch_place) n; peek = ap (places peek_place) n; loops = ap (places loop_place) n })
       (record { arms = λ o x. refl; breaks = λ o x. refl }) g
 
-  pub put_passes : {X : Type 0} (k : ℕ) (items : Items) (new : State) (x : Result X Cause) → stmt_at t.lines j ≡ Some (Put k) → items ≡ items_at t.lists k → Gives w.state new x (asks_both (label_of w.state) (λ z bag m. put_premises bag m items)) (λ z. goes (label_of w.state z) (λ bag m. put_effect bag m items) ∷ []) → PassesLine P t j (record { state = new; branches = w.branches; peek = w.peek; loops = w.loops }) x
+  pub put_passes : {X : Type 0} (k : ℕ) (items : Items) (new : State) (x : Result X Cause) → stmt_at t.lines j ≡ Some (Put k) → items ≡ items_at t.lists k → Gives w.state new x (asked_alike w.state (items ∷ []) (Put 0)) (λ z. goes (label_of w.state z) (λ bag m. put_effect bag m items) ∷ []) → PassesLine P t j (record { state = new; branches = w.branches; peek = w.peek; loops = w.loops }) x
   put_passes k items new x e q g =
       let n = blocks_next t.lines j (Put k) e in
       let lock = in_lock (blocks_at t.lines j) in
       let own : Items = items_at t.lists k in
-      state_alone P t j w r (Put k) e w.state new (seen_at t j r.labels) x (λ p f l. asks_both (λ z. on z l) (λ z bag m. put_premises bag m own)) (λ p f l z. goes (on z l) (λ bag m. put_effect bag m own) ∷ []) r.at.here.of (here_is P t j w r (Put k) e) refl refl
+      state_alone P t j w r (Put k) e w.state new (seen_at t j r.labels) x (λ p f l. asks_both (λ z. on z l) (λ z bag m. line_premises p (own ∷ []) bag m (Put 0))) (λ p f l z. goes (on z l) (λ bag m. put_effect bag m own) ∷ []) r.at.here.of (here_is P t j w r (Put k) e) refl refl
       (λ z. (fits_more lock (most_at j) (most_at j + 18) _ (omega arith) (put_fits own lock (most_at j) _ (fits_known P t j w r (Put k) e z)), tt))
       (record { branches = ap (places branch_place) n; peek = ap (places peek_place) n; loops = ap (places loop_place) n })
       (record { arms = λ o x. refl; breaks = λ o x. refl })
-      (subst (λ (is : Items). Gives w.state new x (asks_both (label_of w.state) (λ z bag m. put_premises bag m is)) (λ z. goes (label_of w.state z) (λ bag m. put_effect bag m is) ∷ [])) q g)
+      (subst (λ (is : Items). Gives w.state new x (asked_alike w.state (is ∷ []) (Put 0)) (λ z. goes (label_of w.state z) (λ bag m. put_effect bag m is) ∷ [])) q g)
 
   -- Both sides are locked, or both are not.
   pub sides_here : (s : Stmt) → stmt_at t.lines j ≡ Some s → AgreeOnLock (label_of w.state true) (label_of w.state false)
@@ -121,10 +123,10 @@ module _ (P : Program) (t : Thread) (j : ℕ) (w : Walk) (r : Reaches P t j w) w
       let b : in_lock (blocks_at t.lines j) ≡ true = ap in_lock c.within ∙ in_lock_pushed (blocks_at t.lines o) (InLock o) ∙ or-true (in_lock (blocks_at t.lines o)) in
       fits_locked (most_at j) (label_of w.state z) (subst (λ b. Fits b (most_at j) (label_of w.state z)) b (fits_here P t j w r (EndLock o) e z))
 
-  pub release_passes : {X : Type 0} (o : ℕ) (new : State) (x : Result X Cause) → stmt_at t.lines j ≡ Some (EndLock o) → Gives w.state new x (asks_both (label_of w.state) (λ z bag m. may_release (program_of w.state) m)) (λ z. released (label_of w.state z) ∷ []) → PassesLine P t j (record { state = new; branches = w.branches; peek = w.peek; loops = w.loops }) x
+  pub release_passes : {X : Type 0} (o : ℕ) (new : State) (x : Result X Cause) → stmt_at t.lines j ≡ Some (EndLock o) → Gives w.state new x (asked_alike w.state [] (EndLock 0)) (λ z. released (label_of w.state z) ∷ []) → PassesLine P t j (record { state = new; branches = w.branches; peek = w.peek; loops = w.loops }) x
   release_passes o new x e g =
       let n = closes_none t j (blocks_at t.lines j) (InLock o) refl (nested_here t.lines r.thread.nested.each j (EndLock o) e) (blocks_next t.lines j (EndLock o) e) in
-      state_alone P t j w r (EndLock o) e w.state new (seen_at t j r.labels) x (λ p f l. asks_both (λ z. on z l) (λ z bag m. may_release p m)) (λ p f l z. released (on z l) ∷ []) r.at.here.of (here_is P t j w r (EndLock o) e) refl refl
+      state_alone P t j w r (EndLock o) e w.state new (seen_at t j r.labels) x (λ p f l. asks_both (λ z. on z l) (λ z bag m. line_premises p [] bag m (EndLock 0))) (λ p f l z. released (on z l) ∷ []) r.at.here.of (here_is P t j w r (EndLock o) e) refl refl
       (λ z. (fits_more false (most_at j) (most_at j + 18) _ (omega arith) (released_fits (in_lock (blocks_at t.lines j)) (most_at j) _ (fits_known P t j w r (EndLock o) e z)), tt))
       (record { branches = n branch_place refl; peek = n peek_place refl; loops = n loop_place refl })
       (record { arms = λ o x. refl; breaks = λ o x. refl }) g

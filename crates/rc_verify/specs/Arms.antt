@@ -1,14 +1,15 @@
 -- The arms of a peek, as they are opened and ended.
 use Rattle.std.specs.Prelude.{ℕ, ◌≡◌, List, Bool, true, false, [], ◌∷◌, Option, Some, Result, Ok, Err}
+use Rattle.rc_lang.specs.declared.lines.Stmt.TheVariants.{Peek}
 use Rattle.rc_rules.specs.declared.cause.Cause.{Cause}
 use Rattle.rc_rules.specs.declared.flag.Write.TheVariants.{Anything}
 use Rattle.rc_rules.specs.declared.mode.Peeked.TheVariants.{Unseen}
 use Rattle.rc_rules.specs.Causes.{premise_number}
 use Rattle.rc_rules.specs.Labels.{Label, Dead, IsStrongest}
 use Rattle.rc_rules.specs.Premises.{Premise, Meets, FailsFirst}
-use Rattle.rc_rules.specs.Rules.{asks_both, joins_both, peek_at, peek_premises}
+use Rattle.rc_rules.specs.Rules.{joins_both, peek_at}
 use Rattle.rc_rules.specs.Sides.{brings, turns, write_to}
-use Rattle.rc_rules.specs.States.{State, AgreeOnLock, Becomes, Gives, IsOfSame, label_of}
+use Rattle.rc_rules.specs.States.{State, AgreeOnLock, Becomes, Gives, IsOfSame, asked_alike, label_of}
 use Rattle.rc_verify.specs.declared.arms.Arms.{Arms}
 
 -- No arm has ended, and what is known before them is this state.
@@ -20,7 +21,7 @@ pub record IsOpened (s : State) (a : Arms) : Type 0 where
 
 -- the premises of a peek, and of each of its arms
 abbrev pub peek_asks : State → List (ℕ × Premise)
-peek_asks s = asks_both (label_of s) (λ z bag m. peek_premises m)
+peek_asks s = asked_alike s [] (Peek 0)
 
 -- Where a peek writes the flag, what is known on a side is what was known on both.
 abbrev pub PeeksInto : ℕ → State → State → Type 0

@@ -1,13 +1,15 @@
 -- What is kept of loops.
-use Rattle.std.specs.Prelude.{ℕ, ◌≡◌, Bool, List, [], ◌∷◌, ◌++◌, Option, Some, Result, Ok, Err}
+use Rattle.std.specs.Prelude.{ℕ, ◌≡◌, Bool, false, List, [], ◌∷◌, ◌++◌, Option, Some, Result, Ok, Err}
+use Rattle.rc_lang.specs.declared.lines.Stmt.{Stmt}
+use Rattle.rc_lang.specs.declared.lines.Stmt.TheVariants.{Loop, EndLoop, Break}
 use Rattle.rc_lang.specs.Program.{Items}
 use Rattle.rc_rules.specs.declared.cause.Cause.{Cause}
 use Rattle.rc_rules.specs.Causes.{premise_number}
 use Rattle.rc_rules.specs.Labels.{Label, Dead, IsStrongest}
 use Rattle.rc_rules.specs.Premises.{Premise, Meets, FailsFirst}
-use Rattle.rc_rules.specs.Rules.{asks_both, broken, joins_both, may_break, may_loop, top}
+use Rattle.rc_rules.specs.Rules.{asked, broken, joins_both, top}
 use Rattle.rc_rules.specs.Sides.{brings, forgets, turns}
-use Rattle.rc_rules.specs.States.{State, Becomes, Gives, IsOfSame, OnBoth, label_of, program_of}
+use Rattle.rc_rules.specs.States.{State, Becomes, Gives, asked_alike, IsOfSame, OnBoth, label_of, program_of}
 use Rattle.rc_verify.specs.Arms.{AreAlike, two}
 use Rattle.rc_verify.specs.Stack.{OnLast, last_of, rest_of}
 
@@ -22,17 +24,17 @@ pub record KeepsDead (s : State) (old new : List (Option State)) : Type 0 where
 abbrev pub HoldsDead : State → Option State → Type 0
 HoldsDead s room = (dead : State) × (room ≡ Some dead) × OnBoth (λ l. l ≡ Dead) dead × IsOfSame dead s
 
--- the premises of a loop's top or end, under this number, and those of a break
-abbrev pub loop_asks : ℕ → Items → State → List (ℕ × Premise)
-loop_asks v items s = asks_both (label_of s) (λ z bag m. may_loop (program_of s) v items z bag m)
+-- the premises of a loop's top or end, and those of a break
+abbrev pub loop_asks : Stmt → Items → State → List (ℕ × Premise)
+loop_asks stmt items s = asked (program_of s) (items ∷ []) (label_of s) stmt
 
 abbrev pub break_asks : Bool → State → List (ℕ × Premise)
-break_asks releases s = asks_both (label_of s) (λ z bag m. may_break (program_of s) releases m)
+break_asks releases s = asked_alike s [] (Break 0 releases false)
 
 -- The premises of the top hold, and what the loop keeps is known, of a flag that the loop may write on no side.
 abbrev pub OpensLoop : {X : Type 0} → Items → State → State → Result X Cause → Type 0
 OpensLoop items old new result =
-    Gives old new result (loop_asks 13 items old)
+    Gives old new result (loop_asks (Loop 0) items old)
     (λ z. brings (λ y. turns (forgets old.flag) y z) (λ s. top (program_of old) items z s) (label_of old))
 
 -- The premises of the end hold, and the state that is kept last is the one after the loop.
@@ -41,7 +43,7 @@ ClosesLoop premises old new s (Ok x) = Meets premises × (last_of old ≡ Some s
 ClosesLoop premises old new s (Err cause) = FailsFirst (premise_number cause) premises
 
 abbrev pub Closes : {X : Type 0} → Items → State → List (Option State) → List (Option State) → State → Result X Cause → Type 0
-Closes items here old new s result = ClosesLoop (loop_asks 14 items here) old new s result
+Closes items here old new s result = ClosesLoop (loop_asks (EndLoop 0 0) items here) old new s result
 
 -- The slot is at one stage on each side of both, and all are locked or none is.
 pub record FitsWith (s end : State) : Type 0 where

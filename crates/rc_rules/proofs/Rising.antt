@@ -1,0 +1,84 @@
+-- The numbers of a line's needs rise.
+use Rattle.std.proofs.Common.{◌≡◌, ℕ, ◌<◌, Bool, true, false, List, [], ◌∷◌, ◌++◌, refl, ap, ◌∙◌, arith}
+use Rattle.rc_lang.specs.declared.lines.Op.{Op}
+use Rattle.rc_lang.specs.declared.lines.Op.TheVariants as ops
+use Rattle.rc_lang.specs.declared.lines.Stmt.{Stmt}
+use Rattle.rc_lang.specs.declared.lines.Stmt.TheVariants as stmts
+use Rattle.rc_lang.specs.declared.lines.Stmt.TheVariants.{Do, Put, EndLock, If, EndIf, Peek, EndPeek, EndLoop, Break}
+use Rattle.rc_lang.specs.declared.lines.Test.{Test}
+use Rattle.rc_lang.specs.declared.lines.Test.TheVariants.{Compare}
+use Rattle.rc_lang.specs.Program.{Program, Items}
+use Rattle.rc_split.specs.Bags.{Part}
+use Rattle.rc_rules.specs.declared.mode.Mode.{Mode}
+use Rattle.rc_rules.specs.Labels.{Label, Dead, Live}
+use Rattle.rc_rules.specs.Needs.{AreRising, line_premises}
+use Rattle.rc_rules.specs.Premises.{Premise}
+use Rattle.rc_rules.specs.Rules.{asked, asks, asks_both, premises_of, stmt_needs}
+
+pub rising : (s : Stmt) → AreRising 0 (stmt_needs s)
+rising (Do (ops.Load x b i)) = (omega arith, (omega arith, tt))
+rising (Do (ops.Store b i x)) = (omega arith, (omega arith, tt))
+rising (Do (ops.Fill b x)) = (omega arith, tt)
+rising (Do ops.GetSqe) = (omega arith, (omega arith, (omega arith, (omega arith, tt))))
+rising (Do (ops.PrepRead fd b len off)) = (omega arith, (omega arith, (omega arith, (omega arith, tt))))
+rising (Do (ops.PrepWrite fd b len off k)) = (omega arith, (omega arith, (omega arith, (omega arith, tt))))
+rising (Do (ops.PrepFsync fd datasync)) = (omega arith, (omega arith, tt))
+rising (Do ops.PrepNop) = (omega arith, (omega arith, tt))
+rising (Do (ops.SetData64 u)) = (omega arith, (omega arith, (omega arith, (omega arith, tt))))
+rising (Do (ops.Submit x)) = (omega arith, (omega arith, tt))
+rising (Do (ops.SubmitAndWait x n)) = (omega arith, (omega arith, tt))
+rising (Do ops.CqeSeen) = (omega arith, (omega arith, tt))
+rising (Do _) = tt
+rising (Put k) = (omega arith, (omega arith, tt))
+rising (EndLock o) = (omega arith, (omega arith, tt))
+rising (If (Compare x c n)) = tt
+rising (If _) = (omega arith, tt)
+rising (EndIf o) = (omega arith, tt)
+rising (Peek x) = (omega arith, tt)
+rising (EndPeek o) = (omega arith, tt)
+rising (stmts.Loop k) = (omega arith, tt)
+rising (EndLoop o k) = (omega arith, tt)
+rising (Break o true leaves) = (omega arith, (omega arith, tt))
+rising (Break o false leaves) = (omega arith, tt)
+rising _ = tt
+
+-- ---- lines that name no list, and need the same on both sides
+
+pub op_same : (P : Program) (lists : List Items) (z : Bool) (bag : Part → ℕ) (m : Mode) (op : Op) → premises_of P lists z bag m (stmt_needs (Do op)) ≡ line_premises P [] bag m (Do op)
+op_same P lists z bag m (ops.Load x b i) = refl
+op_same P lists z bag m (ops.Store b i x) = refl
+op_same P lists z bag m (ops.Fill b x) = refl
+op_same P lists z bag m ops.GetSqe = refl
+op_same P lists z bag m (ops.PrepRead fd b len off) = refl
+op_same P lists z bag m (ops.PrepWrite fd b len off k) = refl
+op_same P lists z bag m (ops.PrepFsync fd datasync) = refl
+op_same P lists z bag m ops.PrepNop = refl
+op_same P lists z bag m (ops.SetData64 u) = refl
+op_same P lists z bag m (ops.Submit x) = refl
+op_same P lists z bag m (ops.SubmitAndWait x n) = refl
+op_same P lists z bag m ops.CqeSeen = refl
+op_same P lists z bag m _ = refl
+
+pub leave_same : (P : Program) (lists : List Items) (z : Bool) (bag : Part → ℕ) (m : Mode) (o : ℕ) (releases leaves : Bool) → premises_of P lists z bag m (stmt_needs (Break o releases leaves)) ≡ line_premises P [] bag m (Break 0 releases false)
+leave_same P lists z bag m o true leaves = refl
+leave_same P lists z bag m o false leaves = refl
+
+pub test_same : (P : Program) (lists : List Items) (z : Bool) (bag : Part → ℕ) (m : Mode) (test : Test) → premises_of P lists z bag m (stmt_needs (If test)) ≡ line_premises P [] bag m (If test)
+test_same P lists z bag m (Compare x c n) = refl
+test_same P lists z bag m _ = refl
+
+side_same : (s : Label) (F G : (Part → ℕ) → Mode → List (ℕ × Premise)) → ((bag : Part → ℕ) (m : Mode) → F bag m ≡ G bag m) → asks s F ≡ asks s G
+side_same Dead F G h = refl
+side_same (Live bag m) F G h = h bag m
+
+pub asks_same : (labels : Bool → Label) (F G : Bool → (Part → ℕ) → Mode → List (ℕ × Premise)) → ((z : Bool) (bag : Part → ℕ) (m : Mode) → F z bag m ≡ G z bag m) → asks_both labels F ≡ asks_both labels G
+asks_same labels F G h = ap (λ ps. ps ++ asks (labels false) (F false)) (side_same (labels true) (F true) (G true) (h true)) ∙ ap (λ ps. asks (labels true) (G true) ++ ps) (side_same (labels false) (F false) (G false) (h false))
+
+pub op_asked : (P : Program) (lists : List Items) (labels : Bool → Label) (op : Op) → asked P lists labels (Do op) ≡ asks_both labels (λ z bag m. line_premises P [] bag m (Do op))
+op_asked P lists labels op = asks_same labels _ _ (λ z bag m. op_same P lists z bag m op)
+
+pub leave_asked : (P : Program) (lists : List Items) (labels : Bool → Label) (o : ℕ) (releases leaves : Bool) → asked P lists labels (Break o releases leaves) ≡ asks_both labels (λ z bag m. line_premises P [] bag m (Break 0 releases false))
+leave_asked P lists labels o releases leaves = asks_same labels _ _ (λ z bag m. leave_same P lists z bag m o releases leaves)
+
+pub test_asked : (P : Program) (lists : List Items) (labels : Bool → Label) (test : Test) → asked P lists labels (If test) ≡ asks_both labels (λ z bag m. line_premises P [] bag m (If test))
+test_asked P lists labels test = asks_same labels _ _ (λ z bag m. test_same P lists z bag m test)
