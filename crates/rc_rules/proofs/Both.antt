@@ -15,7 +15,7 @@ use Rattle.rc_rules.specs.declared.flag.Write.TheVariants.{Number}
 use Rattle.rc_rules.specs.declared.rule.Rule.{Rule}
 use Rattle.rc_rules.specs.Causes.{premise_number}
 use Rattle.rc_rules.specs.Labels.{Label, Dead, Live, Weaker, IsStrongest, IsSame}
-use Rattle.rc_rules.specs.OneRule.{rule_premises, rule_effect, only_computes, MayFollow}
+use Rattle.rc_rules.specs.OneRule.{rule_premises, rule_effect, only_computes, MayFollow, SideGoes, StateGoes}
 use Rattle.rc_rules.specs.Premises.{Premise, Meets, FailsFirst, Tests}
 use Rattle.rc_rules.specs.Needs.{line_premises}
 use Rattle.rc_rules.specs.Rules.{asks, asks_both, goes, op_effect}
@@ -29,13 +29,6 @@ dead_of Dead e = refl
 dead_of (Live a m) e = absurd (cc)
 
 -- ---- one rule
-
--- a side, or a state, goes over a line; the program is that of the state
-abbrev pub SideGoes : Program → Rule → Side → Side → Result (Unit {0}) Cause → Type 0
-SideGoes P rule old new r = GivesSide old new r (asks (side_label old) (λ b m. rule_premises P rule b m)) (goes (side_label old) (λ b m. rule_effect P rule b m))
-
-abbrev pub StateGoes : Rule → State → State → Result (Unit {0}) Cause → Type 0
-StateGoes rule old new r = Gives old new r (asks_both (label_of old) (λ z b m. rule_premises (program_of old) rule b m)) (λ z. goes (label_of old z) (λ b m. rule_effect (program_of old) rule b m) ∷ [])
 
 pub may_zero : (x : State) (f : Option ℕ) (a b s : Side) (rule : Rule) → record { flag = f; zero = a; other = b } ≡ x → s ≡ a → OnBoth (MayFollow (program_of x) rule) x → MayFollow s.program rule (side_label s)
 may_zero x f a b s rule e q h = subst (λ (y : Side). MayFollow y.program rule (side_label y)) (sym q) (subst (λ (y : State). MayFollow (program_of y) rule (label_of y true)) (sym e) (h true))

@@ -1,5 +1,5 @@
 -- Lines that are one rule for each side of a state.
-use Rattle.std.specs.Prelude.{ℕ, Bool, true, false, List, [], ◌∷◌}
+use Rattle.std.specs.Prelude.{ℕ, Bool, true, false, List, [], ◌∷◌, Option, Result}
 use Rattle.rc_lang.specs.declared.lines.Op.{Op}
 use Rattle.rc_lang.specs.declared.lines.Op.TheVariants as ops
 use Rattle.rc_lang.specs.declared.lines.Stmt.{Stmt}
@@ -8,6 +8,8 @@ use Rattle.rc_lang.specs.declared.lines.Test.TheVariants.{Take as Taken}
 use Rattle.rc_lang.specs.Parts.{view_items}
 use Rattle.rc_lang.specs.Program.{Program, Items, DeclaresToken, IsItems}
 use Rattle.rc_split.specs.Bags.{Part}
+use Rattle.rc_split.specs.Holdings.{Holding, bag}
+use Rattle.rc_rules.specs.declared.cause.Cause.{Cause}
 use Rattle.rc_rules.specs.declared.mode.Mode.{Mode}
 use Rattle.rc_rules.specs.declared.mode.Peeked.TheVariants.{Unseen, SeesOther}
 use Rattle.rc_rules.specs.declared.rule.Rule.{Rule}
@@ -15,8 +17,8 @@ use Rattle.rc_rules.specs.declared.rule.Rule.TheVariants.{Do, Put, Lock, Release
 use Rattle.rc_rules.specs.Labels.{Label, Live}
 use Rattle.rc_rules.specs.Needs.{line_premises}
 use Rattle.rc_rules.specs.Premises.{Premise}
-use Rattle.rc_rules.specs.Rules.{op_effect, put_effect, entered, released, test_mode, take_effect, peek_at, case_at}
-use Rattle.rc_rules.specs.States.{IsSmall}
+use Rattle.rc_rules.specs.Rules.{asks, asks_both, goes, op_effect, put_effect, entered, released, test_mode, take_effect, peek_at, case_at}
+use Rattle.rc_rules.specs.States.{State, Side, Follows, Gives, GivesSide, IsSmall, Leaves, label_of, program_of, side_label}
 
 -- the line, where a list of items has the number 0, and the lists; an arm asks what its peek does
 abbrev pub line_of : Rule → Stmt
@@ -46,6 +48,19 @@ rule_effect P (Take items) bag m = take_effect P bag m (view_items items.now)
 rule_effect P (Case u) bag m = case_at u (Live bag m)
 rule_effect P Other bag m = peek_at SeesOther (Live bag m)
 rule_effect P Nothing bag m = peek_at Unseen (Live bag m)
+
+-- A rule of a line on a holding, on a side and on a state; and what it leaves where its premises hold.
+abbrev pub LeavesBy : Holding → Holding → Option Mode → Rule → Mode → Type 0
+LeavesBy old new left rule m = Leaves old new left (rule_effect old.program rule (bag old) m)
+
+abbrev pub FollowsBy : Holding → Holding → Result (Option Mode) Cause → Rule → Mode → Type 0
+FollowsBy old new result rule m = Follows old new result (rule_premises old.program rule (bag old) m) (rule_effect old.program rule (bag old) m)
+
+abbrev pub SideGoes : Program → Rule → Side → Side → Result (Unit {0}) Cause → Type 0
+SideGoes P rule old new r = GivesSide old new r (asks (side_label old) (λ b m. rule_premises P rule b m)) (goes (side_label old) (λ b m. rule_effect P rule b m))
+
+abbrev pub StateGoes : Rule → State → State → Result (Unit {0}) Cause → Type 0
+StateGoes rule old new r = Gives old new r (asks_both (label_of old) (λ z b m. rule_premises (program_of old) rule b m)) (λ z. goes (label_of old z) (λ b m. rule_effect (program_of old) rule b m) ∷ [])
 
 -- whether a statement only computes: it asks for nothing, and what is held and known of the ring stays
 abbrev pub only_computes : Op → Bool

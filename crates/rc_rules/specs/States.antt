@@ -1,28 +1,30 @@
 -- What the calls of `State` do.
-use Rattle.std.specs.Prelude.{ℕ, ◌≡◌, ◌≤◌, ◌-◌, ◌^◌, Bool, true, false, List, [], Option, Some, None, Result, Ok, Err, cond, max, min, nat_eq, slice_get, ◌||◌}
+use Rattle.std.specs.Prelude.{ℕ, ◌≡◌, ◌≤◌, ◌+◌, ◌-◌, ◌^◌, Bool, true, false, List, [], ◌∷◌, Option, Some, None, Result, Ok, Err, cond, max, min, nat_eq, nat_le, slice_get, ◌||◌}
 use Rattle.rc_lang.specs.declared.lines.Op.{Op}
 use Rattle.rc_lang.specs.declared.lines.Stmt.{Stmt}
-use Rattle.rc_lang.specs.declared.lines.Stmt.TheVariants.{Do}
+use Rattle.rc_lang.specs.declared.lines.Stmt.TheVariants.{Do, If, Loop, Put}
 use Rattle.rc_lang.specs.declared.lines.Test.{Test}
 use Rattle.rc_lang.specs.declared.lines.Test.TheVariants.{ReadyZero, SpaceAtLeast}
 use Rattle.rc_lang.specs.declared.program.TokenKind.{TokenKind}
-use Rattle.rc_lang.specs.Program.{Program, Thread, Items, DeclaresToken, IsTokenKind}
+use Rattle.rc_lang.specs.declared.program.Share.{Share}
+use Rattle.rc_lang.specs.Program.{Program, Thread, Items, DeclaresToken, IsTokenKind, shares_at}
 use Rattle.rc_rules.specs.declared.cause.Cause.{Cause}
 use Rattle.rc_rules.specs.declared.mode.Inside.{Inside}
 use Rattle.rc_rules.specs.declared.mode.Mode.{Mode}
 use Rattle.rc_rules.specs.declared.mode.Mode.TheVariants.{Unlocked, Locked}
 use Rattle.rc_rules.specs.declared.mode.Peeked.{Peeked}
 use Rattle.rc_rules.specs.declared.mode.Peeked.TheVariants.{Unseen, Sees, SeesOther}
-use Rattle.rc_split.specs.Bags.{Part, TokenOf, minus, plus}
-use Rattle.rc_split.specs.Holdings.{Holding, Holds, bag}
+use Rattle.rc_split.specs.Bags.{Part, ShareOf, TokenOf}
+use Rattle.rc_split.specs.Holdings.{Holding, bag}
 use Rattle.rc_rules.specs.declared.needs.Asks.{Asks}
 use Rattle.rc_rules.specs.Causes.{premise_number}
 use Rattle.rc_rules.specs.Labellings.{start_of}
 use Rattle.rc_rules.specs.Labels.{Label, Dead, Live, IsStrongest, IsSame}
 use Rattle.rc_rules.specs.Needs.{IsMetOn, line_premises}
-use Rattle.rc_rules.specs.Rules.{agree, asks_both, op_effect}
+use Rattle.rc_rules.specs.Rules.{agree, asked, asks, asks_both, goes, op_effect, premises_of, put_effect, stmt_needs, test_effect, top}
 pub use Rattle.rc_rules.specs.Rules.{is_locked}
-use Rattle.rc_rules.specs.Sides.{Sides, on}
+use Rattle.rc_rules.specs.declared.flag.Write.{Write}
+use Rattle.rc_rules.specs.Sides.{Sides, brings, forgets, gate, on, turns, write_of}
 use Rattle.rc_rules.specs.Premises.{Premise, Meets, FailsFirst}
 
 -- One side of a state: the program, and what is held and whether the lock is, unless nothing reaches the point.
@@ -77,6 +79,13 @@ program_of s = s.zero.program
 -- what a line that needs the same on both sides is asked
 abbrev pub asked_alike : State → List Items → Stmt → List (ℕ × Premise)
 asked_alike s lists stmt = asks_both (label_of s) (λ z bag m. line_premises (program_of s) lists bag m stmt)
+
+-- what any line is asked on both sides, and on one
+abbrev pub asked_of : State → List Items → Stmt → List (ℕ × Premise)
+asked_of s lists stmt = asked (program_of s) lists (label_of s) stmt
+
+abbrev pub asked_on : Side → List Items → Bool → Stmt → List (ℕ × Premise)
+asked_on s lists z stmt = asks (side_label s) (λ bag m. premises_of s.program lists z bag m (stmt_needs stmt))
 
 -- Where the front completion is known to have some user data, that token is declared, and not held.
 abbrev pub IsFreeFor : Program → (Part → ℕ) → Peeked → Type 0
@@ -153,6 +162,44 @@ abbrev pub Gives : {X : Type 0} → State → State → Result X Cause → List 
 Gives old new (Ok x) premises befores = Meets premises × Becomes old new befores
 Gives old new (Err cause) premises befores = FailsFirst (premise_number cause) premises × (new ≡ old)
 
+-- Each side becomes this of its label; or is left where there is a way to it.
+abbrev pub BecomesEach : State → State → (Label → Label) → Type 0
+BecomesEach old new F = Becomes old new (λ z. F (label_of old z) ∷ [])
+
+abbrev pub KeepsWhere : State → State → (Bool → Bool) → Type 0
+KeepsWhere old new may = Becomes old new (λ z. gate (may z) (label_of old z) ∷ [])
+
+-- The flag is written.
+abbrev pub TurnsBy : State → State → Write → Type 0
+TurnsBy old new write = Becomes old new (λ z. brings (λ y. turns write y z) (λ s. s) (label_of old))
+
+-- The line is gone over, with this effect; or nothing goes on after it.
+abbrev pub GoesOver : State → State → Result (Unit {0}) Cause → List Items → Stmt → (Label → Label) → Type 0
+GoesOver old new result lists stmt F = Gives old new result (asked_alike old lists stmt) (λ z. F (label_of old z) ∷ [])
+
+abbrev pub Ends : State → State → Result (Unit {0}) Cause → List Items → Stmt → Type 0
+Ends old new result lists stmt = Gives old new result (asked_alike old lists stmt) (λ z. [])
+
+-- so of a statement without a block, before its write to the flag and with it
+abbrev pub done : State → Op → Label → Label
+done s op l = goes l (λ bag m. op_effect (program_of s) bag m op)
+
+abbrev pub Does : State → State → Result (Unit {0}) Cause → Op → Type 0
+Does old new result op = Gives old new result (asked_alike old [] (Do op)) (λ z. brings (λ y. turns (write_of old.flag op) y z) (done old op) (label_of old))
+
+-- so of a put, of the first branch of a test, and of a loop's top
+abbrev pub Puts : State → State → Result (Unit {0}) Cause → Items → Type 0
+Puts old new result items = GoesOver old new result (items ∷ []) (Put 0) (λ l. goes l (λ bag m. put_effect bag m items))
+
+abbrev pub GoesInto : State → State → Result (Unit {0}) Cause → List Items → Test → Type 0
+GoesInto old new result lists test = GoesOver old new result lists (If test) (λ l. goes l (λ bag m. test_effect (program_of old) lists bag m test))
+
+abbrev pub tops : State → Items → Bool → List Label
+tops s items z = brings (λ y. turns (forgets s.flag) y z) (λ l. top (program_of s) items z l) (label_of s)
+
+abbrev pub EntersLoop : State → State → Result (Unit {0}) Cause → Items → Type 0
+EntersLoop old new result items = Gives old new result (asked_of old (items ∷ []) (Loop 0)) (tops old items)
+
 -- Of one side: Ok, the premises hold, and its label is the same as this. A cause: the least premise that fails, and
 -- nothing changes.
 abbrev pub GivesSide : {X : Type 0} → Side → Side → Result X Cause → List (ℕ × Premise) → Label → Type 0
@@ -167,12 +214,8 @@ MeetsOp h m op = Meets (line_premises h.program [] (bag h) m (Do op))
 abbrev pub DoesOp : Holding → Holding → Mode → Mode → Op → Type 0
 DoesOp old new m n op = IsSame (Live (bag new) n) (op_effect old.program (bag old) m op) × (new.program ≡ old.program)
 
--- These parts are taken from a holding, or given to it.
-abbrev pub Loses : Holding → Holding → (Part → ℕ) → Type 0
-Loses old new lost = Holds new old.program (minus (bag old) lost)
-
-abbrev pub Gains : Holding → Holding → (Part → ℕ) → Type 0
-Gains old new gained = Holds new old.program (plus (bag old) gained)
+abbrev pub DoesInside : Holding → Holding → Inside → Inside → Op → Type 0
+DoesInside old new i j op = DoesOp old new (Locked i) (Locked j) op
 
 -- A rule of one side changes a holding, and the mode or nothing comes after it.
 abbrev pub Leaves : Holding → Holding → Option Mode → Label → Type 0
@@ -193,6 +236,13 @@ abbrev pub queued_behind : Program → Test → ℕ → ℕ
 queued_behind P ReadyZero n = 0
 queued_behind P (SpaceAtLeast k) n = min n (P.entries - k)
 queued_behind P _ n = n
+
+-- With the share, and with the token, no more is held than there is.
+abbrev pub share_fits : Holding → Share → Bool
+share_fits h s = nat_le (bag h (ShareOf s.buffer) + s.count) (shares_at h.program.buffers s.buffer)
+
+abbrev pub token_fits : Holding → ℕ → Bool
+token_fits h u = nat_le (bag h (TokenOf u) + 1) 1
 
 -- ---- two states
 

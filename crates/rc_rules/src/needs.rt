@@ -3,7 +3,9 @@
 ghost use Rattle.std.specs.Prelude.{ℕ, ◌≡◌, ◌∷◌, ◌↔◌, [], map, IsTrue};
 ghost use Rattle.rc_lang.specs.Parts.{view_items};
 ghost use Rattle.rc_rules.specs.Needs as spec;
+ghost use Rattle.rc_rules.specs.Needs.{listed};
 ghost use Rattle.rc_rules.specs.Rules as rules;
+ghost use Rattle.rc_rules.specs.Rules.{stmt_needs};
 ghost use Rattle.rc_split.specs.Holdings.{bag};
 
 use crate::blocks::{keeps_queue, queue_on};
@@ -71,20 +73,20 @@ const CLOSED: Need = (Cause::SlotOpen, Asks::Closed);
 const VACANT: Need = (Cause::NoSlot, Asks::Vacant);
 
 fn one(a: Need) -> Needs
-    ensures { spec.listed result ≡ a ∷ [] }
+    ensures { listed result ≡ a ∷ [] }
 {
     [Some(a), None, None, None]
 }
 
 fn two(a: Need, b: Need) -> Needs
-    ensures { spec.listed result ≡ a ∷ b ∷ [] }
+    ensures { listed result ≡ a ∷ b ∷ [] }
 {
     [Some(a), Some(b), None, None]
 }
 
 /// What a statement without a block needs.
 fn op_needs(op: Op) -> Needs
-    ensures { spec.listed result ≡ rules.op_needs op }
+    ensures { listed result ≡ rules.op_needs op }
 {
     match op {
         Op::Load(_, buffer, place) => two(
@@ -131,7 +133,7 @@ fn op_needs(op: Op) -> Needs
 
 /// What is needed where the lock is released, or where a loop is left with it or without one.
 fn leave_needs(releases: bool) -> Needs
-    ensures { spec.listed result ≡ rules.leave_needs releases }
+    ensures { listed result ≡ rules.leave_needs releases }
 {
     if releases {
         two(CLOSED, (Cause::QueueLeft, Asks::Left))
@@ -141,7 +143,7 @@ fn leave_needs(releases: bool) -> Needs
 }
 
 fn test_needs(test: Test) -> Needs
-    ensures { spec.listed result ≡ rules.test_needs test }
+    ensures { listed result ≡ rules.test_needs test }
 {
     match test {
         Test::Compare(_, _, _) => [None; 4],
@@ -151,7 +153,7 @@ fn test_needs(test: Test) -> Needs
 
 /// What a line needs.
 pub fn needs_of(stmt: Stmt) -> Needs
-    ensures { spec.listed result ≡ rules.stmt_needs stmt }
+    ensures { listed result ≡ stmt_needs stmt }
 {
     match stmt {
         Stmt::Do(op) => op_needs(op),
@@ -176,7 +178,7 @@ pub fn checked(
     mode: Mode,
     stmt: Stmt,
 ) -> Result<(), Cause>
-    ensures { spec.Checks holding.now (map view_items lists.now) zero mode (rules.stmt_needs stmt) result }
+    ensures { spec.Checks holding.now (map view_items lists.now) zero mode (stmt_needs stmt) result }
 {
     all_met(holding, lists, zero, mode, &needs_of(stmt))
 }
@@ -189,8 +191,8 @@ fn all_met(
     mode: Mode,
     needs: &[Option<Need>],
 ) -> Result<(), Cause>
-    requires { (v : ℕ) × spec.AreRising v (spec.listed needs.now) }
-    ensures { spec.Checks holding.now (map view_items lists.now) zero mode (spec.listed needs.now) result }
+    requires { (v : ℕ) × spec.AreRising v (listed needs.now) }
+    ensures { spec.Checks holding.now (map view_items lists.now) zero mode (listed needs.now) result }
 {
     let [first, rest @ ..] = needs else {
         return Ok(());

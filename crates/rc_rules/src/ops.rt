@@ -6,7 +6,7 @@ ghost use Rattle.rc_rules.specs.OneRule.{only_computes};
 ghost use Rattle.rc_rules.specs.Rules as rules;
 ghost use Rattle.rc_rules.specs.States as states;
 ghost use Rattle.rc_split.specs.Bags as bags;
-ghost use Rattle.rc_split.specs.Holdings.{Holds, bag};
+ghost use Rattle.rc_split.specs.Holdings.{Gains, Loses, bag};
 ghost use Rattle.rc_rules.specs.declared.mode.Mode.TheVariants as modes;
 ghost use Rattle.rc_rules.specs.declared.mode.Peeked.TheVariants as peeks;
 ghost use Rattle.rc_rules.specs.declared.mode.Slot.TheVariants as slots;
@@ -50,7 +50,7 @@ fn after_inside(holding: &mut Holding, inside: Inside, op: &Op) -> Inside
     requires met { states.MeetsOp holding.old (modes.Locked inside) op.now }
     requires small { (p : bags.Part) → bag holding.old p ≤ 2 ^ 19 }
     requires free { states.IsFreeFor holding.old.program (bag holding.old) inside.peeked }
-    ensures { states.DoesOp holding.old holding.new (modes.Locked inside) (modes.Locked result) op.now }
+    ensures { states.DoesInside holding.old holding.new inside result op.now }
 {
     match *op {
         Op::GetSqe => opened(holding, inside),
@@ -69,7 +69,7 @@ fn after_inside(holding: &mut Holding, inside: Inside, op: &Op) -> Inside
 /// `io_uring_get_sqe(3)`: a credit goes to the open slot, which counts as a queued entry.
 fn opened(holding: &mut Holding, inside: Inside) -> Inside
     requires met { states.MeetsOp holding.old (modes.Locked inside) ops.GetSqe }
-    ensures { states.DoesOp holding.old holding.new (modes.Locked inside) (modes.Locked result) ops.GetSqe }
+    ensures { states.DoesInside holding.old holding.new inside result ops.GetSqe }
 {
     // The queue has room below this number, so that the sum fits.
     let _ = holding.program().entries();
@@ -85,7 +85,7 @@ fn opened(holding: &mut Holding, inside: Inside) -> Inside
 fn prepared(holding: &mut Holding, inside: Inside, kind: TokenKind) -> Inside
     requires held { bags.IsWithin (rules.kind_bag holding.old.program kind) (bag holding.old) }
     ensures slot { result ≡ record inside { slot = slots.Prepared kind } }
-    ensures lost { states.Loses holding.old holding.new (rules.kind_bag holding.old.program kind) }
+    ensures lost { Loses holding.old holding.new (rules.kind_bag holding.old.program kind) }
 {
     match kind {
         TokenKind::Read(buffer) => {
@@ -108,7 +108,7 @@ fn prepared(holding: &mut Holding, inside: Inside, kind: TokenKind) -> Inside
 fn queued(holding: &mut Holding, inside: Inside, user_data: u64) -> Inside
     requires held { 1 ≤ bag holding.old (bags.TokenOf user_data) }
     ensures slot { result ≡ record inside { slot = slots.Closed } }
-    ensures lost { states.Loses holding.old holding.new (bags.token_bag user_data) }
+    ensures lost { Loses holding.old holding.new (bags.token_bag user_data) }
 {
     let _ = holding.take(Part::Token(user_data));
     Inside {
@@ -122,7 +122,7 @@ fn seen(holding: &mut Holding, inside: Inside) -> Inside
     requires small { (p : bags.Part) → bag holding.old p ≤ 2 ^ 19 }
     requires free { states.IsFreeFor holding.old.program (bag holding.old) inside.peeked }
     ensures ring { result ≡ record inside { peeked = peeks.Unseen } }
-    ensures gained { states.Gains holding.old holding.new (rules.reaped holding.old.program inside.peeked) }
+    ensures gained { Gains holding.old holding.new (rules.reaped holding.old.program inside.peeked) }
 {
     reap(holding, inside.peeked);
     Inside {
@@ -134,7 +134,7 @@ fn seen(holding: &mut Holding, inside: Inside) -> Inside
 fn reap(holding: &mut Holding, peeked: Peeked)
     requires small { (p : bags.Part) → bag holding.old p ≤ 2 ^ 19 }
     requires free { states.IsFreeFor holding.old.program (bag holding.old) peeked }
-    ensures { Holds holding.new holding.old.program (bags.plus (bag holding.old) (rules.reaped holding.old.program peeked)) }
+    ensures { Gains holding.old holding.new (rules.reaped holding.old.program peeked) }
 {
     match peeked {
         Peeked::Unseen => {}
@@ -146,7 +146,7 @@ fn reap(holding: &mut Holding, peeked: Peeked)
 fn reap_request(holding: &mut Holding, user_data: u64)
     requires small { (p : bags.Part) → bag holding.old p ≤ 2 ^ 19 }
     requires free { states.IsFreeFor holding.old.program (bag holding.old) (peeks.Sees user_data) }
-    ensures { Holds holding.new holding.old.program (bags.plus (bag holding.old) (rules.owned holding.old.program user_data)) }
+    ensures { Gains holding.old holding.new (rules.owned holding.old.program user_data) }
 {
     give_line(holding, kind_of(holding.program(), user_data));
     holding.give(Part::Token(user_data));
@@ -157,7 +157,7 @@ fn give_line(holding: &mut Holding, kind: Option<TokenKind>)
     requires small { (p : bags.Part) → bag holding.old p ≤ 2 ^ 19 }
     requires made { IsProgram holding.old.program }
     requires declared { states.IsLine holding.old.program kind }
-    ensures { Holds holding.new holding.old.program (bags.plus (bag holding.old) (rules.line_bag holding.old.program kind)) }
+    ensures { Gains holding.old holding.new (rules.line_bag holding.old.program kind) }
 {
     match kind {
         Some(kind) => give_shares(holding, kind),
@@ -169,7 +169,7 @@ fn give_shares(holding: &mut Holding, kind: TokenKind)
     requires small { (p : bags.Part) → bag holding.old p ≤ 2 ^ 19 }
     requires made { IsProgram holding.old.program }
     requires declared { IsTokenKind holding.old.program kind }
-    ensures { Holds holding.new holding.old.program (bags.plus (bag holding.old) (rules.kind_bag holding.old.program kind)) }
+    ensures { Gains holding.old holding.new (rules.kind_bag holding.old.program kind) }
 {
     match kind {
         TokenKind::Read(buffer) => {

@@ -3,8 +3,7 @@
 ghost use Rattle.std.specs.Prelude.{◌≡◌, ◌+◌, ◌≤◌, ◌^◌, nat_eq, nat_le};
 ghost use Rattle.std.specs.List.{list_all, list_any};
 ghost use Rattle.rc_lang.specs.Parts.{view_items};
-ghost use Rattle.rc_lang.specs.Program.{IsItems, IsProgram, shares_at};
-ghost use Rattle.rc_lang.specs.declared.program.Share as given;
+ghost use Rattle.rc_lang.specs.Program.{IsItems, IsProgram};
 ghost use Rattle.rc_rules.specs.Rules as rules;
 ghost use Rattle.rc_rules.specs.States as states;
 ghost use Rattle.rc_split.specs.Bags as bags;
@@ -55,13 +54,13 @@ fn has_room(holding: &Holding, items: &Items) -> bool
 }
 
 fn shares_fit(holding: &Holding, shares: &[Share]) -> bool
-    ensures { result ≡ list_all (λ (s : given.Share). nat_le (bag holding.now (bags.ShareOf s.buffer) + s.count) (shares_at holding.now.program.buffers s.buffer)) shares.now }
+    ensures { result ≡ list_all (states.share_fits holding.now) shares.now }
 {
     shares.iter().all(|share| share_fits(holding, *share))
 }
 
 fn share_fits(holding: &Holding, share: Share) -> bool
-    ensures { result ≡ nat_le (bag holding.now (bags.ShareOf share.buffer) + share.count) (shares_at holding.now.program.buffers share.buffer) }
+    ensures { result ≡ states.share_fits holding.now share }
 {
     let shares = holding.program().shares_at(share.buffer);
     if shares < share.count {
@@ -72,13 +71,13 @@ fn share_fits(holding: &Holding, share: Share) -> bool
 }
 
 fn tokens_fit(holding: &Holding, tokens: &[u64]) -> bool
-    ensures { result ≡ list_all (λ u. nat_le (bag holding.now (bags.TokenOf u) + 1) 1) tokens.now }
+    ensures { result ≡ list_all (states.token_fits holding.now) tokens.now }
 {
     tokens.iter().all(|token| token_fits(holding, *token))
 }
 
 fn token_fits(holding: &Holding, user_data: u64) -> bool
-    ensures { result ≡ nat_le (bag holding.now (bags.TokenOf user_data) + 1) 1 }
+    ensures { result ≡ states.token_fits holding.now user_data }
 {
     !holding.holds(Part::Token(user_data))
 }

@@ -72,7 +72,7 @@ fn lists_of<'a>(rule: Rule<'a>) -> &'a [Items]
 pub fn follow(holding: &mut Holding, mode: Mode, rule: Rule) -> Result<Option<Mode>, Cause>
     requires may { rules.MayFollow holding.old.program rule (Live (bag holding.old) mode) }
     requires free { states.IsFreeIn holding.old.program (bag holding.old) mode }
-    ensures { states.Follows holding.old holding.new result (rules.rule_premises holding.old.program rule.entry (bag holding.old) mode) (rules.rule_effect holding.old.program rule.entry (bag holding.old) mode) }
+    ensures { rules.FollowsBy holding.old holding.new result rule.entry mode }
 {
     checked(holding, lists_of(rule), true, mode, line_of(rule))?;
     Ok(after(holding, mode, rule))
@@ -83,7 +83,7 @@ fn after(holding: &mut Holding, mode: Mode, rule: Rule) -> Option<Mode>
     requires met { Meets (rules.rule_premises holding.old.program rule (bag holding.old) mode) }
     requires may { rules.MayFollow holding.old.program rule (Live (bag holding.old) mode) }
     requires free { states.IsFreeIn holding.old.program (bag holding.old) mode }
-    ensures { states.Leaves holding.old holding.new result (rules.rule_effect holding.old.program rule.entry (bag holding.old) mode) }
+    ensures { rules.LeavesBy holding.old holding.new result rule.entry mode }
 {
     match rule {
         Rule::Do(op) => Some(ops::after(holding, mode, &op)),

@@ -181,7 +181,7 @@ impl<'a> Side<'a> {
     /// Goes over a line. A dead side meets every premise and stays dead.
     pub fn follow(&mut self, rule: Rule) -> Result<(), Cause>
         requires { one.MayFollow self.old.program rule (spec.side_label self.old) }
-        ensures { spec.GivesSide self.old self.new result (rules.asks (spec.side_label self.old) (λ bag m. one.rule_premises self.old.program rule.entry bag m)) (rules.goes (spec.side_label self.old) (λ bag m. one.rule_effect self.old.program rule.entry bag m)) }
+        ensures { one.SideGoes self.old.program rule.entry self.old self.new result }
     {
         let Some(mode) = self.mode else {
             return Ok(());
@@ -192,7 +192,7 @@ impl<'a> Side<'a> {
 
     /// Whether this side, the zero one or the other, meets what a line needs. Where nothing reaches the side it does.
     pub fn checked(&self, lists: &[Items], zero: bool, stmt: Stmt) -> Result<(), Cause>
-        ensures { Tests result (rules.asks (spec.side_label self.now) (λ bag m. rules.premises_of self.now.program (map view_items lists.now) zero bag m (rules.stmt_needs stmt))) }
+        ensures { Tests result (spec.asked_on self.now (map view_items lists.now) zero stmt) }
     {
         let Some(mode) = self.mode else {
             return Ok(());

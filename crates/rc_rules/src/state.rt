@@ -7,12 +7,13 @@ ghost use Rattle.rc_lang.specs.Program.{DeclaresToken, IsItems};
 ghost use Rattle.rc_lang.specs.declared.lines.Op.{Op};
 ghost use Rattle.rc_lang.specs.declared.lines.Stmt.TheVariants as stmts;
 ghost use Rattle.rc_lang.specs.declared.lines.Test.TheVariants as tests;
-ghost use Rattle.rc_rules.specs.Labels.{Dead, Live};
+ghost use Rattle.rc_rules.specs.Labels.{Dead};
 ghost use Rattle.rc_rules.specs.OneRule as one;
 ghost use Rattle.rc_rules.specs.Premises.{Tests};
 ghost use Rattle.rc_rules.specs.Rules as rules;
 ghost use Rattle.rc_rules.specs.Sides as sides;
 ghost use Rattle.rc_rules.specs.States as spec;
+ghost use Rattle.rc_rules.specs.declared.flag.Write.TheVariants as writes;
 ghost use Rattle.rc_rules.specs.declared.mode.Peeked.TheVariants as peeks;
 
 use crate::cause::Cause;
@@ -51,7 +52,7 @@ impl<'a> Model for State<'a> {
 pub fn transfer(state: &mut State, stmt: &Stmt) -> Result<(), Cause>
     requires small { spec.OnBoth spec.IsSmall state.old }
     requires plain { (op : Op) × (stmt.now ≡ stmts.Do op) }
-    ensures { (op : Op) → stmt.now ≡ stmts.Do op → spec.Gives state.old state.new result (spec.asked_alike state.old [] (stmts.Do op)) (λ z. sides.brings (λ y. sides.turns (sides.write_of state.old.flag op) y z) (λ s. rules.goes s (λ bag m. rules.op_effect (spec.program_of state.old) bag m op)) (spec.label_of state.old)) }
+    ensures { (op : Op) → stmt.now ≡ stmts.Do op → spec.Does state.old state.new result op }
 {
     let Stmt::Do(op) = stmt else {
         return Ok(());
@@ -185,7 +186,7 @@ impl<'a> State<'a> {
 
     /// Whether both sides meet what a line needs.
     fn checked(&self, lists: &[Items], stmt: Stmt) -> Result<(), Cause>
-        ensures { Tests result (rules.asked (spec.program_of self.now) (map view_items lists.now) (spec.label_of self.now) stmt) }
+        ensures { Tests result (spec.asked_of self.now (map view_items lists.now) stmt) }
     {
         lesser(
             self.zero.checked(lists, true, stmt),
@@ -196,7 +197,7 @@ impl<'a> State<'a> {
     /// Goes over a line on each side by itself.
     fn follow(&mut self, rule: Rule) -> Result<(), Cause>
         requires { spec.OnBoth (one.MayFollow (spec.program_of self.old) rule) self.old }
-        ensures { spec.Gives self.old self.new result (rules.asks_both (spec.label_of self.old) (λ z bag m. one.rule_premises (spec.program_of self.old) rule.entry bag m)) (λ z. rules.goes (spec.label_of self.old z) (λ bag m. one.rule_effect (spec.program_of self.old) rule.entry bag m) ∷ []) }
+        ensures { one.StateGoes rule.entry self.old self.new result }
     {
         if !self.other.is_live() {
             return self.zero.follow(rule);
@@ -210,7 +211,7 @@ impl<'a> State<'a> {
     /// Goes over a statement on each side by itself. One that only computes asks for nothing and leaves what is held.
     fn follow_op(&mut self, op: &Op) -> Result<(), Cause>
         requires { spec.OnBoth spec.IsSmall self.old }
-        ensures { spec.Gives self.old self.new result (spec.asked_alike self.old [] (stmts.Do op.now)) (λ z. rules.goes (spec.label_of self.old z) (λ bag m. rules.op_effect (spec.program_of self.old) bag m op.now) ∷ []) }
+        ensures { spec.GoesOver self.old self.new result [] (stmts.Do op.now) (spec.done self.old op.now) }
     {
         if ops::only_computes(op) {
             return Ok(());
@@ -222,7 +223,7 @@ impl<'a> State<'a> {
     #[inline(never)]
     fn follow_both(&mut self, rule: Rule) -> Result<(), Cause>
         requires { spec.OnBoth (one.MayFollow (spec.program_of self.old) rule) self.old }
-        ensures { spec.Gives self.old self.new result (rules.asks_both (spec.label_of self.old) (λ z bag m. one.rule_premises (spec.program_of self.old) rule.entry bag m)) (λ z. rules.goes (spec.label_of self.old z) (λ bag m. one.rule_effect (spec.program_of self.old) rule.entry bag m) ∷ []) }
+        ensures { one.StateGoes rule.entry self.old self.new result }
     {
         let mut zero = self.zero.again();
         let mut other = self.other.again();
@@ -236,7 +237,7 @@ impl<'a> State<'a> {
 
     /// What holds after a write to the flag, or to another variable.
     fn turn(&mut self, write: Write)
-        ensures { spec.Becomes self.old self.new (λ z. sides.brings (λ y. sides.turns write y z) (λ s. s) (spec.label_of self.old)) }
+        ensures { spec.TurnsBy self.old self.new write }
     {
         match write {
             Write::Untouched => {}
@@ -259,14 +260,14 @@ impl<'a> State<'a> {
     /// Whatever is written to the flag: each side is what is known of both. So it is after a `peek_cqe` into the flag,
     /// before its arms.
     pub fn flag_lost(&mut self)
-        ensures { spec.Becomes self.old self.new (λ z. sides.brings (λ y. true) (λ s. s) (spec.label_of self.old)) }
+        ensures { spec.TurnsBy self.old self.new writes.Anything }
     {
         self.turn(Write::Anything);
     }
 
     /// A branch of a test of the flag: the first, where the test holds, or the other.
     pub fn flag_test(&mut self, op: Comparison, n: i64, first: bool)
-        ensures { spec.Becomes self.old self.new (λ z. sides.gate (sides.side_goes op n z first) (spec.label_of self.old z) ∷ []) }
+        ensures { spec.KeepsWhere self.old self.new (λ z. sides.side_goes op n z first) }
     {
         if !side_goes(op, n, true, first) {
             self.zero.die();
@@ -287,7 +288,7 @@ impl<'a> State<'a> {
     /// The closing brace of a lock. The state is dead, or locked.
     pub fn release(&mut self) -> Result<(), Cause>
         requires { spec.OnBoth spec.IsLocked self.old }
-        ensures { spec.Gives self.old self.new result (spec.asked_alike self.old [] (stmts.EndLock 0)) (λ z. rules.released (spec.label_of self.old z) ∷ []) }
+        ensures { spec.GoesOver self.old self.new result [] (stmts.EndLock 0) rules.released }
     {
         self.follow(Rule::Release)
     }
@@ -312,14 +313,14 @@ impl<'a> State<'a> {
 
     /// `other {`, on the state before the arms.
     pub fn arm_other(&mut self) -> Result<(), Cause>
-        ensures { spec.Gives self.old self.new result (spec.asked_alike self.old [] (stmts.Peek 0)) (λ z. rules.peek_at peeks.SeesOther (spec.label_of self.old z) ∷ []) }
+        ensures { spec.GoesOver self.old self.new result [] (stmts.Peek 0) (rules.peek_at peeks.SeesOther) }
     {
         self.follow(Rule::Other)
     }
 
     /// After an arm, and after a break that keeps the lock, nothing is peeked.
     pub fn forget_peeked(&mut self)
-        ensures { spec.Becomes self.old self.new (λ z. rules.peek_at peeks.Unseen (spec.label_of self.old z) ∷ []) }
+        ensures { spec.BecomesEach self.old self.new (rules.peek_at peeks.Unseen) }
     {
         self.zero.forget_peeked();
         self.other.forget_peeked();
@@ -327,21 +328,21 @@ impl<'a> State<'a> {
 
     /// `none {`, on the state before the arms, and what is known after an arm: nothing is peeked.
     pub fn arm_none(&mut self) -> Result<(), Cause>
-        ensures { spec.Gives self.old self.new result (spec.asked_alike self.old [] (stmts.Peek 0)) (λ z. rules.peek_at peeks.Unseen (spec.label_of self.old z) ∷ []) }
+        ensures { spec.GoesOver self.old self.new result [] (stmts.Peek 0) (rules.peek_at peeks.Unseen) }
     {
         self.follow(Rule::Nothing)
     }
 
     /// The first branch of `if sq_ready == 0`.
     pub fn ready_zero(&mut self) -> Result<(), Cause>
-        ensures { spec.Gives self.old self.new result (spec.asked_alike self.old [] (stmts.If tests.ReadyZero)) (λ z. rules.goes (spec.label_of self.old z) (λ bag m. Live bag (rules.test_mode (spec.program_of self.old) tests.ReadyZero m)) ∷ []) }
+        ensures { spec.GoesInto self.old self.new result [] tests.ReadyZero }
     {
         self.follow(Rule::If(Test::ReadyZero))
     }
 
     /// The first branch of `if sq_space_left >= n`; n is at most the entries.
     pub fn space_at_least(&mut self, n: u32) -> Result<(), Cause>
-        ensures { spec.Gives self.old self.new result (spec.asked_alike self.old [] (stmts.If (tests.SpaceAtLeast n))) (λ z. rules.goes (spec.label_of self.old z) (λ bag m. Live bag (rules.test_mode (spec.program_of self.old) (tests.SpaceAtLeast n) m)) ∷ []) }
+        ensures { spec.GoesInto self.old self.new result [] (tests.SpaceAtLeast n) }
     {
         self.follow(Rule::If(Test::SpaceAtLeast(n)))
     }

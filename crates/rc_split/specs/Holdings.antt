@@ -1,12 +1,12 @@
 -- What a `Holding` stands for: the bag that is in its rows.
-use Rattle.std.specs.Prelude.{ℕ, ◌≡◌, ◌/◌, ◌%◌, ◌^◌, ◌<◌, Bool, true, false, cond, List, length, Option, Some, None, nat_eq, nat_le, slice_index, All}
+use Rattle.std.specs.Prelude.{ℕ, ◌≡◌, ◌+◌, ◌≤◌, ◌⊎◌, ◌/◌, ◌%◌, ◌^◌, ◌<◌, Bool, true, false, cond, List, length, Option, Some, None, nat_eq, nat_le, slice_index, All}
 use Rattle.std.specs.Int.{bit_at}
 use Rattle.rc_lang.specs.Program.{Program, IsProgram, DeclaresToken, token_place}
 use Rattle.rc_lang.specs.declared.program.Share.{Share}
 use Rattle.rc_split.specs.declared.part.Part.{Part as Given}
 use Rattle.rc_split.specs.declared.part.Part.TheVariants.{Shares, Token, Credits}
 use Rattle.rc_lang.specs.Program.{Items, besides}
-use Rattle.rc_split.specs.Bags.{Part, ShareOf, TokenOf, Credit, shares_bag, token_bag, credits_bag, bag_of, minus, IsWithin}
+use Rattle.rc_split.specs.Bags.{Part, ShareOf, TokenOf, Credit, shares_bag, token_bag, credits_bag, bag_of, bag_on, shares_alone, plus, minus, IsWithin}
 
 -- a program's shares by the numbers of its buffers, marks at the places of its tokens that are held, and the credits
 pub record Holding : Type 0 where
@@ -41,7 +41,29 @@ pub record Holds (h : Holding) (program : Program) (b : Part → ℕ) : Type 0 w
   pub of : h.program ≡ program
   pub each : (p : Part) → bag h p ≡ b p
 
+-- All of what items say of a side of the flag is held.
+abbrev pub Covers : Holding → Bool → Items → Type 0
+Covers h z items = IsWithin (bag_on z items) (bag h)
+
 -- ---- parts that are given and taken
+
+-- This is taken from a holding, or given to it.
+abbrev pub Loses : Holding → Holding → (Part → ℕ) → Type 0
+Loses old new lost = Holds new old.program (minus (bag old) lost)
+
+abbrev pub Gains : Holding → Holding → (Part → ℕ) → Type 0
+Gains old new gained = Holds new old.program (plus (bag old) gained)
+
+-- With more no count comes to 2^20, and with more items no token is held twice.
+abbrev pub StaysSmall : Holding → (Part → ℕ) → Type 0
+StaysSmall h more = (p : Part) → plus (bag h) more p < 2 ^ 20
+
+abbrev pub HasEachOnce : Holding → Items → Type 0
+HasEachOnce h more = (u : ℕ) → plus (bag h) (bag_of more) (TokenOf u) ≤ 1
+
+-- With these shares no count of a buffer that they name overflows.
+abbrev pub CanCount : List ℕ → List Share → Type 0
+CanCount counts shares = (b : ℕ) → (bag_of (shares_alone shares) (ShareOf b) ≡ 0) ⊎ (slice_index counts b + bag_of (shares_alone shares) (ShareOf b) < 2 ^ 32)
 
 abbrev pub given_bag : Given → Part → ℕ
 given_bag (Shares b k) p = shares_bag b k p
@@ -60,9 +82,12 @@ IsDeclared program (Shares b k) = b < length program.buffers
 IsDeclared program (Token u) = DeclaresToken program u
 IsDeclared program (Credits n) = Unit {0}
 
--- Items name only what the program declares.
+-- Shares, and items, name only what the program declares.
+abbrev pub NameBuffers : Program → List Share → Type 0
+NameBuffers program shares = All (λ (s : Share). s.buffer < length program.buffers) shares
+
 pub record AreDeclared (program : Program) (items : Items) : Type 0 where
-  pub buffers : All (λ (s : Share). s.buffer < length program.buffers) items.shares
+  pub buffers : NameBuffers program items.shares
   pub tokens : All (DeclaresToken program) items.tokens
 
 -- Both lists of a loop's items do, or the first alone where what is held besides isn't asked for.
@@ -78,7 +103,7 @@ IsFresh b (Credits n) = Unit {0}
 
 -- The part is taken where it is held, and else nothing changes.
 abbrev pub Takes : {X : Type 0} → Holding → Holding → Given → Option X → Type 0
-Takes old new part (Some x) = (covers_part (bag old) part ≡ true) × Holds new old.program (minus (bag old) (given_bag part))
+Takes old new part (Some x) = (covers_part (bag old) part ≡ true) × Loses old new (given_bag part)
 Takes old new part None = (covers_part (bag old) part ≡ false) × (new ≡ old)
 
 -- The token has a place among those of the program.
@@ -96,5 +121,5 @@ Marks old new u held = Holds new old.program (marked held u (bag old))
 
 -- All the items are taken, or one isn't held.
 abbrev pub TakesAll : Holding → Holding → Items → Bool → Type 0
-TakesAll old new items true = IsWithin (bag_of items) (bag old) × Holds new old.program (minus (bag old) (bag_of items))
+TakesAll old new items true = IsWithin (bag_of items) (bag old) × Loses old new (bag_of items)
 TakesAll old new items false = IsWithin (bag_of items) (bag old) → ⊥

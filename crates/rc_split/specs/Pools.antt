@@ -25,19 +25,25 @@ pooled P pool (ShareOf b) = slice_index pool.shares b
 pooled P pool (TokenOf u) = mark_at pool.marks (token_place P.tokens u)
 pooled P pool Credit = pool.credits
 
--- The pool has at least the items.
+-- The pool has so many shares of a buffer, a token.
+abbrev pub has_share : Pool → Share → Bool
+has_share pool s = nat_le s.count (slice_index pool.shares s.buffer)
+
+abbrev pub has_token : Program → Pool → ℕ → Bool
+has_token P pool u = nat_le 1 (pooled P pool (TokenOf u))
+
+-- It has at least the items.
 abbrev pub includes : Program → Pool → Items → Bool
-includes P pool items =
-    list_all (λ (s : Share). nat_le s.count (pooled P pool (ShareOf s.buffer))) items.shares && list_all (λ u. nat_le 1 (pooled P pool (TokenOf u))) items.tokens
-    && nat_le items.credits (pooled P pool Credit)
+includes P pool items = list_all (has_share pool) items.shares && list_all (has_token P pool) items.tokens && nat_le items.credits pool.credits
+
+-- With these shares it would have more of their buffer than there are.
+abbrev pub is_too_many : Program → Pool → Share → Bool
+is_too_many P pool s = nat_lt (shares_at P.buffers s.buffer) (slice_index pool.shares s.buffer + s.count)
 
 -- With the items it would have more shares of a buffer than there are, a token twice, or more credits than completion
 -- entries.
 abbrev pub overfills : Program → Pool → Items → Bool
-overfills P pool items =
-    list_any (λ (s : Share). nat_lt (shares_at P.buffers s.buffer) (pooled P pool (ShareOf s.buffer) + s.count)) items.shares
-    || list_any (λ u. nat_le 1 (pooled P pool (TokenOf u))) items.tokens
-    || nat_lt P.completion_entries (pooled P pool Credit + items.credits)
+overfills P pool items = list_any (is_too_many P pool) items.shares || list_any (has_token P pool) items.tokens || nat_lt P.completion_entries (pool.credits + items.credits)
 
 -- ---- items that are put, and that are taken
 

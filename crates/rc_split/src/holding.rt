@@ -1,10 +1,10 @@
 //! Holdings as rows.
 
-ghost use Rattle.std.specs.Prelude.{◌≡◌, ◌^◌, ◌<◌, ℕ, IsOkAnd, IsTrue, ◌↔◌, true, ◌≤◌, All, length};
+ghost use Rattle.std.specs.Prelude.{◌≡◌, ◌^◌, ◌<◌, ℕ, IsOkAnd, IsTrue, ◌↔◌, true, ◌≤◌, All};
 ghost use Rattle.rc_lang.specs.Parts.{view_items};
-ghost use Rattle.rc_lang.specs.declared.program.Share as rows;
 ghost use Rattle.rc_lang.specs.Program.{IsProgram, DeclaresToken};
 ghost use Rattle.rc_split.specs.Bags as bags;
+ghost use Rattle.rc_split.specs.Bags.{bag_of, parts};
 ghost use Rattle.rc_split.specs.Holdings as spec;
 
 use crate::part::Part;
@@ -144,7 +144,7 @@ impl<'a> Holding<'a> {
 
     /// Whether all of the items are held, each as often as they name it. Counts are always below 2^20.
     pub fn covers(&self, items: &Items) -> bool
-        ensures answer { IsTrue result ↔ bags.IsWithin (bags.bag_of (view_items items.now)) (spec.bag self.now) }
+        ensures answer { IsTrue result ↔ spec.Covers self.now true (view_items items.now) }
         ensures small { (p : bags.Part) → spec.bag self.now p < 2 ^ 20 }
     {
         self.covers_on(items, true)
@@ -153,7 +153,7 @@ impl<'a> Holding<'a> {
     /// Whether all that a loop's items say of a side of the flag is held: on the zero side what they name, on the other
     /// what they name besides as well. Counts are always below 2^20.
     pub fn covers_on(&self, items: &Items, zero: bool) -> bool
-        ensures answer { IsTrue result ↔ bags.IsWithin (bags.bag_on zero (view_items items.now)) (spec.bag self.now) }
+        ensures answer { IsTrue result ↔ spec.Covers self.now zero (view_items items.now) }
         ensures small { (p : bags.Part) → spec.bag self.now p < 2 ^ 20 }
     {
         let mut rest = self.again();
@@ -166,7 +166,7 @@ impl<'a> Holding<'a> {
 
     /// Takes all of these away. False: one of them isn't held.
     fn take_parts(&mut self, shares: &[Share], tokens: &[u64], credits: u32) -> bool
-        ensures { spec.TakesAll self.old self.new (bags.parts shares.now tokens.now credits) result }
+        ensures { spec.TakesAll self.old self.new (parts shares.now tokens.now credits) result }
     {
         if !self.take_shares(shares) {
             return false;
@@ -230,7 +230,7 @@ impl<'a> Holding<'a> {
     /// Takes all of the items away, which are held.
     pub fn lose(&mut self, lost: &Items)
         requires { bags.IsWithin (bags.bag_of (view_items lost.now)) (spec.bag self.old) }
-        ensures { spec.Holds self.new self.old.program (bags.minus (spec.bag self.old) (bags.bag_of (view_items lost.now))) }
+        ensures { spec.Loses self.old self.new (bags.bag_of (view_items lost.now)) }
     {
         self.take_parts(&lost.shares, &lost.tokens, lost.credits);
     }
@@ -239,18 +239,18 @@ impl<'a> Holding<'a> {
     /// comes to 2^20.
     pub fn gain(&mut self, gained: &Items)
         requires names { spec.AreDeclared self.old.program (view_items gained.now) }
-        requires once { (u : ℕ) → bags.plus (spec.bag self.old) (bags.bag_of (view_items gained.now)) (bags.TokenOf u) ≤ 1 }
-        requires small { (p : bags.Part) → bags.plus (spec.bag self.old) (bags.bag_of (view_items gained.now)) p < 2 ^ 20 }
-        ensures { spec.Holds self.new self.old.program (bags.plus (spec.bag self.old) (bags.bag_of (view_items gained.now))) }
+        requires once { spec.HasEachOnce self.old (view_items gained.now) }
+        requires small { spec.StaysSmall self.old (bags.bag_of (view_items gained.now)) }
+        ensures { spec.Gains self.old self.new (bags.bag_of (view_items gained.now)) }
     {
         self.give_parts(&gained.shares, &gained.tokens, gained.credits);
     }
 
     fn give_parts(&mut self, shares: &[Share], tokens: &[u64], credits: u32)
-        requires names { spec.AreDeclared self.old.program (bags.parts shares.now tokens.now credits) }
-        requires once { (u : ℕ) → bags.plus (spec.bag self.old) (bags.bag_of (bags.parts shares.now tokens.now credits)) (bags.TokenOf u) ≤ 1 }
-        requires small { (p : bags.Part) → bags.plus (spec.bag self.old) (bags.bag_of (bags.parts shares.now tokens.now credits)) p < 2 ^ 20 }
-        ensures { spec.Holds self.new self.old.program (bags.plus (spec.bag self.old) (bags.bag_of (bags.parts shares.now tokens.now credits))) }
+        requires names { spec.AreDeclared self.old.program (parts shares.now tokens.now credits) }
+        requires once { spec.HasEachOnce self.old (parts shares.now tokens.now credits) }
+        requires small { spec.StaysSmall self.old (bag_of (parts shares.now tokens.now credits)) }
+        ensures { spec.Gains self.old self.new (bag_of (parts shares.now tokens.now credits)) }
     {
         self.give_shares(shares);
         self.give_tokens(tokens);
@@ -267,9 +267,9 @@ impl<'a> Holding<'a> {
     }
 
     fn give_shares(&mut self, shares: &[Share])
-        requires names { All (λ (s : rows.Share). s.buffer < length self.old.program.buffers) shares.now }
-        requires small { (p : bags.Part) → bags.plus (spec.bag self.old) (bags.bag_of (bags.shares_alone shares.now)) p < 2 ^ 20 }
-        ensures { spec.Holds self.new self.old.program (bags.plus (spec.bag self.old) (bags.bag_of (bags.shares_alone shares.now))) }
+        requires names { spec.NameBuffers self.old.program shares.now }
+        requires small { spec.StaysSmall self.old (bags.bag_of (bags.shares_alone shares.now)) }
+        ensures { spec.Gains self.old self.new (bags.bag_of (bags.shares_alone shares.now)) }
     {
         for share in shares {
             self.give(Part::Shares(share.buffer, share.count));
@@ -278,9 +278,9 @@ impl<'a> Holding<'a> {
 
     fn give_tokens(&mut self, tokens: &[u64])
         requires names { All (DeclaresToken self.old.program) tokens.now }
-        requires once { (u : ℕ) → bags.plus (spec.bag self.old) (bags.bag_of (bags.tokens_alone tokens.now)) (bags.TokenOf u) ≤ 1 }
-        requires small { (p : bags.Part) → bags.plus (spec.bag self.old) (bags.bag_of (bags.tokens_alone tokens.now)) p < 2 ^ 20 }
-        ensures { spec.Holds self.new self.old.program (bags.plus (spec.bag self.old) (bags.bag_of (bags.tokens_alone tokens.now))) }
+        requires once { spec.HasEachOnce self.old (bags.tokens_alone tokens.now) }
+        requires small { spec.StaysSmall self.old (bags.bag_of (bags.tokens_alone tokens.now)) }
+        ensures { spec.Gains self.old self.new (bags.bag_of (bags.tokens_alone tokens.now)) }
     {
         for user_data in tokens {
             self.give(Part::Token(*user_data));
@@ -291,8 +291,8 @@ impl<'a> Holding<'a> {
     pub fn give(&mut self, part: Part)
         requires declared { spec.IsDeclared self.old.program part }
         requires fresh { spec.IsFresh (spec.bag self.old) part }
-        requires small { (p : bags.Part) → bags.plus (spec.bag self.old) (spec.given_bag part) p < 2 ^ 20 }
-        ensures { spec.Holds self.new self.old.program (bags.plus (spec.bag self.old) (spec.given_bag part)) }
+        requires small { spec.StaysSmall self.old (spec.given_bag part) }
+        ensures { spec.Gains self.old self.new (spec.given_bag part) }
     {
         match part {
             Part::Shares(buffer, count) => rows::raise(&mut self.rows.shares, buffer, count),
@@ -326,7 +326,7 @@ impl<'a> Holding<'a> {
 
     fn remove(&mut self, part: Part)
         requires { spec.covers_part (spec.bag self.old) part ≡ true }
-        ensures { spec.Holds self.new self.old.program (bags.minus (spec.bag self.old) (spec.given_bag part)) }
+        ensures { spec.Loses self.old self.new (spec.given_bag part) }
     {
         match part {
             Part::Shares(buffer, count) => rows::lessen(&mut self.rows.shares, buffer, count),

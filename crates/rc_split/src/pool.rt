@@ -1,13 +1,12 @@
 //! The pool: what threads put where each of them can take it, under the lock.
 
-ghost use Rattle.std.specs.Prelude.{◌≡◌, ◌+◌, ◌^◌, ◌<◌, ◌⊎◌, ℕ, false, nat_le, nat_lt, slice_index, All};
+ghost use Rattle.std.specs.Prelude.{◌≡◌, ◌<◌, false, slice_index, All};
 ghost use Rattle.std.specs.List.{list_all, list_any};
 ghost use Rattle.rc_lang.specs.Parts.{view_items};
 ghost use Rattle.rc_lang.specs.declared.program.Share as given;
-ghost use Rattle.rc_lang.specs.Program.{IsItems, shares_at, token_place};
-ghost use Rattle.rc_split.specs.Bags.{ShareOf, bag_of, shares_alone};
+ghost use Rattle.rc_lang.specs.Program.{IsItems, token_place};
+ghost use Rattle.rc_split.specs.Holdings.{CanCount};
 ghost use Rattle.rc_split.specs.Pools as spec;
-ghost use Rattle.rc_split.specs.Pools.{mark_at};
 
 use crate::rows;
 use rc_lang::program::{Items, Program, Share};
@@ -99,7 +98,7 @@ impl Pool {
     }
 
     fn has_shares(&self, shares: &[Share]) -> bool
-        ensures { result ≡ list_all (λ (s : given.Share). nat_le s.count (slice_index self.now.shares s.buffer)) shares.now }
+        ensures { result ≡ list_all (spec.has_share self.now) shares.now }
     {
         shares
             .iter()
@@ -107,7 +106,7 @@ impl Pool {
     }
 
     fn has_too_many(&self, program: &Program, shares: &[Share]) -> bool
-        ensures { result ≡ list_any (λ (s : given.Share). nat_lt (shares_at program.now.buffers s.buffer) (slice_index self.now.shares s.buffer + s.count)) shares.now }
+        ensures { result ≡ list_any (spec.is_too_many program.now self.now) shares.now }
     {
         shares.iter().any(|share| {
             let shares = u64::from(self.shares_of(share.buffer)) + u64::from(share.count);
@@ -117,7 +116,7 @@ impl Pool {
 
     /// Whether a token of the program is in the pool.
     pub fn has_token(&self, program: &Program, user_data: u64) -> bool
-        ensures { result ≡ nat_le 1 (mark_at self.now.marks (token_place program.now.tokens user_data)) }
+        ensures { result ≡ spec.has_token program.now self.now user_data }
     {
         match program.token_place(user_data) {
             Some(place) => self.marks.get(place).copied().unwrap_or(false),
@@ -126,13 +125,13 @@ impl Pool {
     }
 
     fn has_tokens(&self, program: &Program, tokens: &[u64]) -> bool
-        ensures { result ≡ list_all (λ u. nat_le 1 (mark_at self.now.marks (token_place program.now.tokens u))) tokens.now }
+        ensures { result ≡ list_all (spec.has_token program.now self.now) tokens.now }
     {
         tokens.iter().all(|token| self.has_token(program, *token))
     }
 
     fn has_some(&self, program: &Program, tokens: &[u64]) -> bool
-        ensures { result ≡ list_any (λ u. nat_le 1 (mark_at self.now.marks (token_place program.now.tokens u))) tokens.now }
+        ensures { result ≡ list_any (spec.has_token program.now self.now) tokens.now }
     {
         tokens.iter().any(|token| self.has_token(program, *token))
     }
@@ -140,8 +139,8 @@ impl Pool {
     /// Adds these shares, of buffers that have a place here. No count of a buffer that they name overflows.
     fn add_shares(&mut self, shares: &[Share])
         requires there { All (λ (s : given.Share). s.buffer < 64) shares.now }
-        requires small { (b : ℕ) → (bag_of (shares_alone shares.now) (ShareOf b) ≡ 0) ⊎ (slice_index self.old.shares b + bag_of (shares_alone shares.now) (ShareOf b) < 2 ^ 32) }
-        ensures { self.new ≡ record { shares = spec.more_shares self.old.shares shares.now; marks = self.old.marks; credits = self.old.credits } }
+        requires small { CanCount self.old.shares shares.now }
+        ensures { self.new ≡ record self.old { shares = spec.more_shares self.old.shares shares.now } }
     {
         for share in shares {
             let there = self.shares_of(share.buffer);
@@ -150,7 +149,7 @@ impl Pool {
     }
 
     fn lessen_shares(&mut self, shares: &[Share])
-        ensures { self.new ≡ record { shares = spec.fewer_shares self.old.shares shares.now; marks = self.old.marks; credits = self.old.credits } }
+        ensures { self.new ≡ record self.old { shares = spec.fewer_shares self.old.shares shares.now } }
     {
         for share in shares {
             rows::lower(&mut self.shares, share.buffer, share.count);
@@ -158,7 +157,7 @@ impl Pool {
     }
 
     fn mark_all(&mut self, program: &Program, tokens: &[u64], is: bool)
-        ensures { self.new ≡ record { shares = self.old.shares; marks = spec.with_marks program.now is self.old.marks tokens.now; credits = self.old.credits } }
+        ensures { self.new ≡ record self.old { marks = spec.with_marks program.now is self.old.marks tokens.now } }
     {
         for token in tokens {
             self.mark(program, *token, is);
@@ -167,7 +166,7 @@ impl Pool {
 
     /// Marks a token as there, or not.
     fn mark(&mut self, program: &Program, user_data: u64, is: bool)
-        ensures { self.new ≡ record { shares = self.old.shares; marks = spec.with_mark is self.old.marks (token_place program.now.tokens user_data); credits = self.old.credits } }
+        ensures { self.new ≡ record self.old { marks = spec.with_mark is self.old.marks (token_place program.now.tokens user_data) } }
     {
         if let Some(place) = program.token_place(user_data) {
             self.marks[place] = is;

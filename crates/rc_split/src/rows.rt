@@ -4,31 +4,31 @@ ghost use Rattle.std.specs.Prelude.{◌≡◌, ◌+◌, ◌-◌, ◌^◌, ◌<�
 ghost use Rattle.rc_split.specs.Holdings as spec;
 
 /// Takes so many from the count at a place.
-pub fn lessen(counts: &mut [u32; 64], place: usize, by: u32)
-    requires { by ≤ slice_index counts.old place }
-    ensures { (k : ℕ) → slice_index counts.new k ≡ slice_index counts.old k - cond (nat_eq place k) by 0 }
+pub fn lessen(row: &mut [u32; 64], place: usize, by: u32)
+    requires { by ≤ slice_index row.old place }
+    ensures { (k : ℕ) → slice_index row.new k ≡ slice_index row.old k - cond (nat_eq place k) by 0 }
 {
-    if place < counts.len() {
-        counts[place] -= by;
+    if place < row.len() {
+        row[place] -= by;
     }
 }
 
 /// Takes so many from the count at a place, or as many as are there.
-pub fn lower(counts: &mut [u32; 64], place: usize, by: u32)
-    ensures { counts.new ≡ slice_set counts.old place (slice_index counts.old place - by) }
+pub fn lower(row: &mut [u32; 64], place: usize, by: u32)
+    ensures { row.new ≡ slice_set row.old place (slice_index row.old place - by) }
 {
-    if place < counts.len() {
-        counts[place] = counts[place].saturating_sub(by);
+    if place < row.len() {
+        row[place] = row[place].saturating_sub(by);
     }
 }
 
 /// Adds so many to the count at a place.
-pub fn raise(counts: &mut [u32; 64], place: usize, by: u32)
+pub fn raise(row: &mut [u32; 64], place: usize, by: u32)
     requires there { place < 64 }
-    requires small { slice_index counts.old place + by < 2 ^ 20 }
-    ensures { (k : ℕ) → slice_index counts.new k ≡ slice_index counts.old k + cond (nat_eq place k) by 0 }
+    requires small { slice_index row.old place + by < 2 ^ 20 }
+    ensures { (k : ℕ) → slice_index row.new k ≡ slice_index row.old k + cond (nat_eq place k) by 0 }
 {
-    counts[place] += by;
+    row[place] += by;
 }
 
 /// Whether the place is marked.

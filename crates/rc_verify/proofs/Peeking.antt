@@ -59,22 +59,22 @@ no_peeks (b ∷ bs) e = let h = or_parts (is_peek b) (in_peek bs) e in ap (λ os
 -- ---- labels
 
 -- what a side is asked
-abbrev peek_asks : Label → List (ℕ × Premise)
-peek_asks s = asks s (λ bag m. under_lock 1 m (λ i. []))
+abbrev side_asks : Label → List (ℕ × Premise)
+side_asks s = asks s (λ bag m. under_lock 1 m (λ i. []))
 
-met_locked : (s : Label) → Meets (peek_asks s) → IsLocked s
+met_locked : (s : Label) → Meets (side_asks s) → IsLocked s
 met_locked Dead h = tt
 met_locked (Live b Unlocked) h = absurd (cc (h.0))
 met_locked (Live b (Locked i)) h = tt
 
-locked_asks : (s : Label) → IsLocked s → peek_asks s ≡ []
+locked_asks : (s : Label) → IsLocked s → side_asks s ≡ []
 locked_asks Dead h = refl
 locked_asks (Live b Unlocked) h = absurd h
 locked_asks (Live b (Locked i)) h = refl
 
 -- Nothing is asked where both sides have the lock.
-pub none_asked : (s : Bool → Label) → ((z : Bool) → IsLocked (s z)) → peek_asks (s true) ++ peek_asks (s false) ≡ []
-none_asked s h = ap (λ ps. ps ++ peek_asks (s false)) (locked_asks (s true) (h true)) ∙ locked_asks (s false) (h false)
+pub none_asked : (s : Bool → Label) → ((z : Bool) → IsLocked (s z)) → side_asks (s true) ++ side_asks (s false) ≡ []
+none_asked s h = ap (λ ps. ps ++ side_asks (s false)) (locked_asks (s true) (h true)) ∙ locked_asks (s false) (h false)
 
 pub dead_strongest : (s : Label) → s ≡ Dead → IsStrongest s []
 dead_strongest s e = record { weaker = tt; strongest = λ t w. subst (λ z. Weaker t z) (sym e) tt }
@@ -140,7 +140,7 @@ module _ (P : Program) (t : Thread) (j : ℕ) (w : Walk) (r : Reaches P t j w) w
       let same = opens_none t j bs (InPeek j) refl n in
       let f : (z : Bool) → Fits (in_lock bs) (most_at j + 18) (label_of w.state z) = λ z. fits_more (in_lock bs) (most_at j) (most_at j + 18) (label_of w.state z) (omega arith) (fits_here P t j w r (Peek v) e z) in
       let f' : (z : Bool) → Fits (in_lock bs) (most_at j + 18) (label_of new z) = λ z. strongest_fits (in_lock bs) (most_at j + 18) (label_of new z) _ (brings_fit (may z) (λ s. s) (label_of w.state) (in_lock bs) (most_at j + 18) f) (g.1.each z) in
-      let m = each_meets (label_of w.state) peek_asks g.0 in
+      let m = each_meets (label_of w.state) side_asks g.0 in
       let l : OnBoth IsLocked new = λ z. brought_locked (may z) (λ s. s) (label_of w.state) (label_of new z) (λ y. met_locked (label_of w.state y) (m y)) (g.1.each z) in
       let p : places peek_place (blocks_at t.lines (j + 1)) ≡ j ∷ [] = ap (places peek_place) n ∙ places_pushed peek_place bs (InPeek j) ∙ ap (λ os. os ++ j ∷ []) (no_peeks bs (nested_here t.lines r.thread.nested.each j (Peek v) e)) in
       let one : AreKept (IsPeeked P t (j + 1) (r.labels ++ sides_of new ∷ [])) (j ∷ []) (g.2.0 ∷ []) = (opened v new g.2.0 e gave.2 l g.2.2, tt) in

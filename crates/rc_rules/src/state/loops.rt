@@ -21,7 +21,7 @@ impl<'a> State<'a> {
     /// back to with any flag, so where there is one both sides are there. The items are those of a loop of the thread.
     pub fn enter_loop(&mut self, items: &Items) -> Result<(), Cause>
         requires { IsList (spec.program_of self.old) (view_items items.now) }
-        ensures { spec.Gives self.old self.new result (rules.asked (spec.program_of self.old) (view_items items.now ∷ []) (spec.label_of self.old) (stmts.Loop 0)) (λ z. sides.brings (λ y. sides.turns (sides.forgets self.old.flag) y z) (λ s. rules.top (spec.program_of self.old) (view_items items.now) z s) (spec.label_of self.old)) }
+        ensures { spec.EntersLoop self.old self.new result (view_items items.now) }
     {
         self.checked(slice::from_ref(items), Stmt::Loop(0))?;
         if let Some(mode) = self.mode() {
@@ -34,7 +34,7 @@ impl<'a> State<'a> {
     fn enter(&mut self, items: &Items, mode: Mode)
         requires made { IsList (spec.program_of self.old) (view_items items.now) }
         requires mode { spec.mode_of self.old ≡ Some mode }
-        ensures { spec.Becomes self.old self.new (λ z. sides.brings (λ y. sides.turns (sides.forgets self.old.flag) y z) (λ s. rules.top (spec.program_of self.old) (view_items items.now) z s) (spec.label_of self.old)) }
+        ensures { spec.Becomes self.old self.new (spec.tops self.old (view_items items.now)) }
     {
         match self.flag {
             None => {
@@ -68,7 +68,7 @@ impl<'a> State<'a> {
     /// state before. Unless the state is dead, it is locked where the lock is released.
     pub fn break_out(&mut self, releases: bool) -> Result<(), Cause>
         requires { releases ≡ true → spec.OnBoth spec.IsLocked self.old }
-        ensures { spec.Gives self.old self.new result (spec.asked_alike self.old [] (stmts.Break 0 releases false)) (λ z. []) }
+        ensures { spec.Ends self.old self.new result [] (stmts.Break 0 releases false) }
     {
         self.may_break(releases)?;
         self.die();

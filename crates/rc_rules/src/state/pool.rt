@@ -16,7 +16,7 @@ use rc_lang::program::Items;
 impl<'a> State<'a> {
     /// `put ITEMS`: the items are held, and then they aren't any more.
     pub fn put(&mut self, items: &Items) -> Result<(), Cause>
-        ensures { spec.Gives self.old self.new result (spec.asked_alike self.old (view_items items.now ∷ []) (stmts.Put 0)) (λ z. rules.goes (spec.label_of self.old z) (λ bag m. rules.put_effect bag m (view_items items.now)) ∷ []) }
+        ensures { spec.Puts self.old self.new result (view_items items.now) }
     {
         self.follow(Rule::Put(items))
     }
@@ -27,7 +27,7 @@ impl<'a> State<'a> {
     pub fn take(&mut self, items: &Items) -> Result<(), Cause>
         requires made { IsItems (spec.program_of self.old) (view_items items.now) }
         requires small { spec.OnBoth spec.IsSmall self.old }
-        ensures { spec.Gives self.old self.new result (spec.asked_alike self.old [] (stmts.If (tests.Take 0))) (λ z. rules.goes (spec.label_of self.old z) (λ bag m. rules.take_effect (spec.program_of self.old) bag m (view_items items.now)) ∷ []) }
+        ensures { spec.GoesInto self.old self.new result (view_items items.now ∷ []) (tests.Take 0) }
     {
         self.follow(Rule::Take(items))
     }

@@ -1,5 +1,6 @@
 use Rattle.std.proofs.Common.{refl, subst, sym, ◌∙◌}
-use Rattle.rc_rules.proofs.Both.{StateGoes, alone_zero, alone_other, dead_of, may_zero, may_other}
+use Rattle.rc_rules.specs.OneRule.{StateGoes}
+use Rattle.rc_rules.proofs.Both.{alone_zero, alone_other, dead_of, may_zero, may_other}
 use Rattle.rc_rules.proofs.state.State.follow.Goals as goal
 
 pub follow-requires : goal.follow-requires

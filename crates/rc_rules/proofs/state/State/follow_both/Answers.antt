@@ -1,6 +1,7 @@
 use Rattle.std.proofs.Common.{Ok, subst, sym, ◌∙◌}
 use Rattle.rc_rules.specs.States.{IsState}
-use Rattle.rc_rules.proofs.Both.{StateGoes, may_zero, may_other, same_pair, both_went, both_kept}
+use Rattle.rc_rules.specs.OneRule.{StateGoes}
+use Rattle.rc_rules.proofs.Both.{may_zero, may_other, same_pair, both_went, both_kept}
 use Rattle.rc_rules.proofs.state.State.follow_both.Goals as goal
 
 pub follow-on_zero-requires : goal.follow-on_zero-requires
