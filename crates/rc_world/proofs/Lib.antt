@@ -1,4 +1,4 @@
-mod Pieces
+pub mod Pieces
 mod Pooling
 pub mod Lists
 pub mod Requests

@@ -18,28 +18,28 @@ place_of_thread parts threads name e = sym (position_map view_thread (λ (t : Th
 
 -- ---- the items so far, and what becomes of the pieces that are left
 
-abbrev pub read_more : List Item → (List Item → Result (List Item) ℕ) → Option Item → Result (List Item) ℕ
+abbrev pub read_more : {A : Type 0} → List A → (List A → Result (List A) ℕ) → Option A → Result (List A) ℕ
 read_more items rest None = Err (length items + 1)
 read_more items rest (Some item) = rest (items ++ item ∷ [])
 
-abbrev pub read_on : (List ℕ → Option Item) → List Item → List (List ℕ) → Result (List Item) ℕ
+abbrev pub read_on : {A : Type 0} → (List ℕ → Option A) → List A → List (List ℕ) → Result (List A) ℕ
 read_on f items [] = Ok items
 read_on f items (piece ∷ pieces) = read_more items (λ more. read_on f more pieces) (f piece)
 
-abbrev before : List Item → Result (List Item) ℕ → Result (List Item) ℕ
+abbrev before : {A : Type 0} → List A → Result (List A) ℕ → Result (List A) ℕ
 before items (Ok more) = Ok (items ++ more)
 before items (Err n) = Err (length items + n)
 
-none_first : (items more : List Item) (b : Bool) → b ≡ true → Err (length items + 1) ≡ before items (items_or (cond b (Some 0) None) more)
+none_first : {A : Type 0} → (items more : List A) (b : Bool) → b ≡ true → Err (length items + 1) ≡ before items (items_or (cond b (Some 0) None) more)
 none_first items more true e = refl
 none_first items more false e = absurd cc
 
-some_goes_on : (items more : List Item) (item : Item) (k : ℕ) (b c : Bool) → c ≡ b → before (items ++ item ∷ []) (items_or (cond b (Some k) None) more) ≡ before items (items_or (cond c (Some (1 + k)) None) (item ∷ more))
-some_goes_on items more item k true true e = ap error (omega (arith, length-append items (item ∷ []))) where
-  error : ℕ → Result (List Item) ℕ
+some_goes_on : {A : Type 0} → (items more : List A) (item : A) (k : ℕ) (b c : Bool) → c ≡ b → before (items ++ item ∷ []) (items_or (cond b (Some k) None) more) ≡ before items (items_or (cond c (Some (1 + k)) None) (item ∷ more))
+some_goes_on {A = A} items more item k true true e = ap error (omega (arith, length-append items (item ∷ []))) where
+  error : ℕ → Result (List A) ℕ
   error n = Err n
-some_goes_on items more item k false false e = ap answer (append_assoc items (item ∷ []) more) where
-  answer : List Item → Result (List Item) ℕ
+some_goes_on {A = A} items more item k false false e = ap answer (append_assoc items (item ∷ []) more) where
+  answer : List A → Result (List A) ℕ
   answer xs = Ok xs
 some_goes_on items more item k true false e = absurd cc
 some_goes_on items more item k false true e = absurd cc
@@ -47,8 +47,8 @@ some_goes_on items more item k false true e = absurd cc
 ltb-suc : (m n : ℕ) → ltb (1 + m) (suc n) ≡ ltb m n
 ltb-suc m n = elim (cases_lt m n) [ inl l ↦ lt-ltb (1 + m) (suc n) (omega arith) ∙ sym (lt-ltb m n l) | inr l ↦ le-ltb (1 + m) (suc n) (omega arith) ∙ sym (le-ltb m n l) ]
 
-read_by : (f : List ℕ → Option Item) (items : List Item) (pieces : List (List ℕ)) (o : Option Item)
-    → ((more : List Item) → read_on f more pieces ≡ before more (items_or (position (λ p. is_none (f p)) pieces) (filter_map f pieces)))
+read_by : {A : Type 0} → (f : List ℕ → Option A) (items : List A) (pieces : List (List ℕ)) (o : Option A)
+    → ((more : List A) → read_on f more pieces ≡ before more (items_or (position (λ p. is_none (f p)) pieces) (filter_map f pieces)))
     → read_more items (λ more. read_on f more pieces) o
     ≡ before items (items_or (cond (ltb (cond (not (is_none o)) (1 + position_or_len (λ p. is_none (f p)) pieces) 0) (suc (length pieces))) (Some (cond (not (is_none o)) (1 + position_or_len (λ p. is_none (f p)) pieces) 0)) None) (cons_option o (filter_map f pieces)))
 read_by f items pieces None h = none_first items (filter_map f pieces) (ltb 0 (suc (length pieces))) (lt-ltb 0 (suc (length pieces)) (omega arith))
@@ -56,16 +56,16 @@ read_by f items pieces (Some item) h =
     let k : ℕ = position_or_len (λ p. is_none (f p)) pieces in
     h (items ++ item ∷ []) ∙ some_goes_on items (filter_map f pieces) item k (ltb k (length pieces)) (ltb (1 + k) (suc (length pieces))) (ltb-suc k (length pieces))
 
-pub read_on_is : (f : List ℕ → Option Item) (items : List Item) (pieces : List (List ℕ)) → read_on f items pieces ≡ before items (items_or (position (λ p. is_none (f p)) pieces) (filter_map f pieces))
-read_on_is f items [] = ap answer (sym (append-nil items)) where
-  answer : List Item → Result (List Item) ℕ
+pub read_on_is : {A : Type 0} → (f : List ℕ → Option A) (items : List A) (pieces : List (List ℕ)) → read_on f items pieces ≡ before items (items_or (position (λ p. is_none (f p)) pieces) (filter_map f pieces))
+read_on_is {A = A} f items [] = ap answer (sym (append-nil items)) where
+  answer : List A → Result (List A) ℕ
   answer xs = Ok xs
 read_on_is f items (piece ∷ pieces) = read_by f items pieces (f piece) (λ more. read_on_is f more pieces)
 
-before_none : (r : Result (List Item) ℕ) → before [] r ≡ r
+before_none : {A : Type 0} → (r : Result (List A) ℕ) → before [] r ≡ r
 before_none (Ok more) = refl
-before_none (Err n) = ap error (omega arith) where
-  error : ℕ → Result (List Item) ℕ
+before_none {A = A} (Err n) = ap error (omega arith) where
+  error : ℕ → Result (List A) ℕ
   error n = Err n
 
 pieces_are : (text : List ℕ) → eqb (length text) 0 ≡ false → pieces_of text ≡ slice_split (λ b. eqb b 44) text
@@ -80,16 +80,16 @@ reads_all program items text none some =
 
 -- ---- one turn of the loop, from the n-th piece
 
-turn_is : (f : List ℕ → Option Item) (items : List Item) (pieces : List (List ℕ)) (n : ℕ) (piece : List ℕ) → (n < length pieces) × (piece ≡ get_or pieces n piece) → read_on f items (drop n pieces) ≡ read_more items (λ more. read_on f more (drop (n + 1) pieces)) (f piece)
+turn_is : {A : Type 0} → (f : List ℕ → Option A) (items : List A) (pieces : List (List ℕ)) (n : ℕ) (piece : List ℕ) → (n < length pieces) × (piece ≡ get_or pieces n piece) → read_on f items (drop n pieces) ≡ read_more items (λ more. read_on f more (drop (n + 1) pieces)) (f piece)
 turn_is f items pieces n piece h = at_drop_more (read_on f items) pieces n piece h.0 ∙ ap (λ (p : List ℕ). read_more items (λ more. read_on f more (drop (n + 1) pieces)) (f p)) (sym h.1)
 
-pub takes_item : (f : List ℕ → Option Item) (items new : List Item) (pieces : List (List ℕ)) (n m : ℕ) (piece : List ℕ) (item : Item) (whole : Result (List Item) ℕ) → (n < length pieces) × (piece ≡ get_or pieces n piece) → f piece ≡ Some item → new ≡ items ++ item ∷ [] → m ≡ n + 1 → read_on f items (drop n pieces) ≡ whole → read_on f new (drop m pieces) ≡ whole
+pub takes_item : {A : Type 0} → (f : List ℕ → Option A) (items new : List A) (pieces : List (List ℕ)) (n m : ℕ) (piece : List ℕ) (item : A) (whole : Result (List A) ℕ) → (n < length pieces) × (piece ≡ get_or pieces n piece) → f piece ≡ Some item → new ≡ items ++ item ∷ [] → m ≡ n + 1 → read_on f items (drop n pieces) ≡ whole → read_on f new (drop m pieces) ≡ whole
 takes_item f items new pieces n m piece item whole h e a b k =
     rw (a, b) (sym (ap (read_more items (λ more. read_on f more (drop (n + 1) pieces))) e) ∙ sym (turn_is f items pieces n piece h) ∙ k)
 
-pub stops_at : (f : List ℕ → Option Item) (items : List Item) (pieces : List (List ℕ)) (n count : ℕ) (piece : List ℕ) (whole : Result (List Item) ℕ) → (n < length pieces) × (piece ≡ get_or pieces n piece) → f piece ≡ None → count ≡ length items → read_on f items (drop n pieces) ≡ whole → whole ≡ Err (count + 1)
+pub stops_at : {A : Type 0} → (f : List ℕ → Option A) (items : List A) (pieces : List (List ℕ)) (n count : ℕ) (piece : List ℕ) (whole : Result (List A) ℕ) → (n < length pieces) × (piece ≡ get_or pieces n piece) → f piece ≡ None → count ≡ length items → read_on f items (drop n pieces) ≡ whole → whole ≡ Err (count + 1)
 stops_at f items pieces n count piece whole h e m k =
     rw m (sym k ∙ turn_is f items pieces n piece h ∙ ap (read_more items (λ more. read_on f more (drop (n + 1) pieces))) e)
 
-pub ends_with_all : (f : List ℕ → Option Item) (items : List Item) (pieces : List (List ℕ)) (n : ℕ) (whole : Result (List Item) ℕ) → n ≡ length pieces → read_on f items (drop n pieces) ≡ whole → whole ≡ Ok items
+pub ends_with_all : {A : Type 0} → (f : List ℕ → Option A) (items : List A) (pieces : List (List ℕ)) (n : ℕ) (whole : Result (List A) ℕ) → n ≡ length pieces → read_on f items (drop n pieces) ≡ whole → whole ≡ Ok items
 ends_with_all f items pieces n whole e k = sym k ∙ at_drop_all (read_on f items) pieces n (omega (arith, e))

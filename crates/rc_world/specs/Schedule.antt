@@ -68,7 +68,7 @@ item_of program [] = None
 item_of program (b ∷ bytes) = if is_kernel_item (b ∷ bytes) then item_of_kernel (drop 2 (b ∷ bytes)) else item_of_thread program (b ∷ bytes)
 
 -- The items of a schedule, or the number of the first piece that isn't one, from 1.
-abbrev pub items_or : Option ℕ → List Item → Result (List Item) ℕ
+abbrev pub items_or : {A : Type 0} → Option ℕ → List A → Result (List A) ℕ
 items_or None items = Ok items
 items_or (Some place) items = Err (place + 1)
 

@@ -52,7 +52,8 @@ fn place_of(c: u8, bytes: &[u8]) -> Option<usize>
     bytes.iter().position(|b| *b == c)
 }
 
-fn halves(c: u8, bytes: &[u8]) -> Option<(&[u8], &[u8])>
+/// What is before the first byte `c`, and what is after it, where there is one.
+pub fn halves(c: u8, bytes: &[u8]) -> Option<(&[u8], &[u8])>
     ensures { option_map (λ x. (x.0.now, x.1.now)) result ≡ spec.halves c bytes.now }
 {
     let place = place_of(c, bytes)?;
@@ -68,7 +69,8 @@ fn place_of_name(threads: &[Thread], name: &[u8]) -> Option<usize>
         .position(|thread| thread.name.as_slice() == name)
 }
 
-fn thread_named(program: &Program, name: &[u8]) -> Option<u32>
+/// The number of the thread with this name.
+pub fn thread_named(program: &Program, name: &[u8]) -> Option<u32>
     ensures { result ≡ spec.thread_named program.now name.now }
 {
     let place = place_of_name(program.threads(), name)?;
@@ -119,7 +121,8 @@ fn kernel_item(words: &[u8]) -> Option<Item>
     })
 }
 
-fn item_of(program: &Program, piece: &[u8]) -> Option<Item>
+/// The item that a piece of a schedule names, if it names one.
+pub fn item_of(program: &Program, piece: &[u8]) -> Option<Item>
     ensures { result ≡ spec.item_of program.now piece.now }
 {
     match piece {
