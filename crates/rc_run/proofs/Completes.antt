@@ -75,8 +75,8 @@ module _ (w : World) (k : IsKept w) (n : ℕ) (res : ℤ) (bytes : List ℕ) (p 
       ∙ ap (λ b. if b then kernel_event w n res p.request (given_back w p.request (brought p.request bytes) p.bytes) else None) allowed.1
       ∙ ap (kernel_event w n res p.request) (given p.bytes refl)
 
-  abbrev done : List Pending → List Request → List Completion → List (Option (List ℕ)) → Option (Event × World)
-  done ps cs qs bs = Some (ByKernel (completion_of p.request res), record w { pending = ps; completed = cs; completions = qs; buffers = bs })
+  abbrev step_with : List Pending → List Request → List Completion → List (Option (List ℕ)) → Option (Event × World)
+  step_with ps cs qs bs = Some (ByKernel (completion_of p.request res), record w { pending = ps; completed = cs; completions = qs; buffers = bs })
 
   -- what the code has made of the lists
   pub completed_so : (pending : List Pending) (completed : List Request) (completions : List Completion) (buffers : List (Option (List ℕ)))
@@ -86,10 +86,10 @@ module _ (w : World) (k : IsKept w) (n : ℕ) (res : ℤ) (bytes : List ℕ) (p 
   completed_so pending completed completions buffers a c q b =
       let bs = given_to w.buffers p.request bytes p.bytes in
       completed_as
-      ∙ ap (λ x. done x (w.completed ++ p.request ∷ []) (w.completions ++ completion_of p.request res ∷ []) bs) (sym a)
-      ∙ ap (λ x. done pending x (w.completions ++ completion_of p.request res ∷ []) bs) (sym c)
-      ∙ ap (λ x. done pending completed x bs) (sym q)
-      ∙ ap (λ x. done pending completed completions x) (sym b)
+      ∙ ap (λ x. step_with x (w.completed ++ p.request ∷ []) (w.completions ++ completion_of p.request res ∷ []) bs) (sym a)
+      ∙ ap (λ x. step_with pending x (w.completions ++ completion_of p.request res ∷ []) bs) (sym c)
+      ∙ ap (λ x. step_with pending completed x bs) (sym q)
+      ∙ ap (λ x. step_with pending completed completions x) (sym b)
 
 pub asks_count : (stood : Option (Vec ℕ)) (n : ℕ) (bytes : List ℕ) → ((xs : List ℕ) → view_bytes stood ≡ Some xs → n ≤ length bytes) → IfSome stood (λ (v : Vec ℕ). n ≤ length bytes)
 asks_count None n bytes h = tt

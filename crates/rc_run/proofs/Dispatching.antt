@@ -1,12 +1,12 @@
--- A player whose thread could make an event waits only where the run moves on: what a dispatch leaves of that.
+-- A thread that could make an event waits only while the run moves on: what a dispatch leaves of that.
 use Rattle.std.proofs.Common.{◌≡◌, ◌⊎◌, ℕ, zero, suc, ◌+◌, ◌<◌, ◌≤◌, inl, inr, Bool, true, false, ◌&&◌, ◌||◌, List, [], ◌∷◌, length, nat_eq, Option, Some, None, refl, sym, subst, ◌∙◌, slice_set, slice_get, arith}
 use Rattle.std.specs.Prelude.{not}
 use Rattle.std.proofs.lemmas.Bool.{and_parts, cases_lt}
 use Rattle.rc_run.specs.declared.scheduler.State.{State}
 use Rattle.rc_run.specs.declared.scheduler.State.TheVariants.{Running, Ready, Waiting}
 use Rattle.rc_run.specs.Lives.{Live, can_move}
-use Rattle.rc_run.specs.Scheduler.{AnyRuns, Dispatches, MovesOn, NobodyIn, RunQueue, due, is_due, is_kept, is_running, state_at}
-use Rattle.rc_run.specs.Table.{Table}
+use Rattle.rc_run.specs.Scheduler.{AnyRuns, Dispatches, MovesOn, NobodyIn, RunQueue, due, is_due, is_held_back, is_running, state_at}
+use Rattle.rc_run.specs.LockedRun.{LockedRun}
 
 -- Nobody up to the next place either.
 pub nobody_more : (test : ℕ → Bool) (from n : ℕ) → NobodyIn test from n → test n ≡ false → NobodyIn test from (n + 1)
@@ -33,19 +33,19 @@ waits_for s put k (Waiting since) true kept e = go (length s.world.pending) _ e
     go zero b e = absurd (cc)
     go (suc n) b e = omega arith
 
-pub moves_on : (t : Table) (s : Live) (q v : RunQueue) (o : Option ℕ) → s ≡ t.run → Dispatches s q o v → MovesOn (record { run = t; queue = v })
+pub moves_on : (t : LockedRun) (s : Live) (q v : RunQueue) (o : Option ℕ) → s ≡ t.run → Dispatches s q o v → MovesOn (record { run = t; queue = v })
 moves_on t s q v (Some i) same d k kept =
     let e = subst (λ (l : Live). Dispatches l q (Some i) v) same d in
     let passes : due t.run q i ≡ true = elim e.1 [
       | inl f ↦ f.2
       | inr f ↦ f.1.2
     ] in
-    let p = and_parts (is_due t.run q.put i (state_at q.states i)) (can_move t.run.world i) passes in
-    inl (i, subst (λ (w : RunQueue). slice_get w.states i ≡ Some Running) (sym e.2) (runs_at t.run q.put q.states i i p.0), p.1)
+    let p = and_parts (is_due t.run q.last_put i (state_at q.states i)) (can_move t.run.world i) passes in
+    inl (i, subst (λ (w : RunQueue). slice_get w.states i ≡ Some Running) (sym e.2) (runs_at t.run q.last_put q.states i i p.0), p.1)
 moves_on t s q v None same d k kept =
     let e = subst (λ (l : Live). Dispatches l q None v) same d in
-    let kept_so : is_kept (record { run = t; queue = q }) k ≡ true = subst (λ w. is_kept (record { run = t; queue = w }) k ≡ true) e.1 kept in
+    let kept_so : is_held_back (record { run = t; queue = q }) k ≡ true = subst (λ w. is_held_back (record { run = t; queue = w }) k ≡ true) e.1 kept in
     elim e.0 [
       | inl a ↦ inl (subst (AnyRuns t.run) (sym e.1) a)
-      | inr nobody ↦ inr (inl (waits_for t.run q.put k (state_at q.states k) (can_move t.run.world k) kept_so (nobody k)))
+      | inr nobody ↦ inr (inl (waits_for t.run q.last_put k (state_at q.states k) (can_move t.run.world k) kept_so (nobody k)))
     ]

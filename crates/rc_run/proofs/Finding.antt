@@ -5,7 +5,7 @@ use Rattle.std.proofs.lemmas.List.{drop_more}
 use Rattle.std.proofs.lemmas.Option.{same_Some, slice_get-get_or, slice_get_within}
 use Rattle.rc_lang.specs.declared.request.Request.{Request}
 use Rattle.rc_run.specs.declared.machine.Pending.{Pending}
-use Rattle.rc_run.specs.Lives.{IsAsked}
+use Rattle.rc_run.specs.Lives.{IsPendingAt}
 
 pub not_false : (b c : Bool) → c ≡ not b → c ≡ false → b ≡ true
 not_false true c e f = refl
@@ -22,9 +22,9 @@ found_here test xs k left n x lt at passes none kept =
     ∙ sym (ap (λ m. slice_get (filter test (drop k xs)) m) none) ∙ kept
 
 -- not here either
-pub asked_more : (xs : List Pending) (r : Request) (k : ℕ) (x : Pending) → k < length xs → x ≡ get_or xs k x → (x.request ≡ r → ⊥) → ((j : ℕ) → j < k → IsAsked xs r j → ⊥)
-    → (j : ℕ) → j < k + 1 → IsAsked xs r j → ⊥
-asked_more xs r k x lt at other before j le a = elim (cases_lt j k) [
+pub not_pending_more : (xs : List Pending) (r : Request) (k : ℕ) (x : Pending) → k < length xs → x ≡ get_or xs k x → (x.request ≡ r → ⊥) → ((j : ℕ) → j < k → IsPendingAt xs r j → ⊥)
+    → (j : ℕ) → j < k + 1 → IsPendingAt xs r j → ⊥
+not_pending_more xs r k x lt at other before j le a = elim (cases_lt j k) [
   | inl less ↦ before j less a
   | inr more ↦
       let same : j ≡ k = omega arith in
@@ -32,7 +32,7 @@ asked_more xs r k x lt at other before j le a = elim (cases_lt j k) [
       other (ap (λ (y : Pending). y.request) one ∙ a.same)
 ]
 
-pub asked_nowhere : (xs : List Pending) (r : Request) (n : ℕ) → length xs ≤ n → ((j : ℕ) → j < n → IsAsked xs r j → ⊥) → (k : ℕ) → IsAsked xs r k → ⊥
-asked_nowhere xs r n le before k a =
+pub pending_nowhere : (xs : List Pending) (r : Request) (n : ℕ) → length xs ≤ n → ((j : ℕ) → j < n → IsPendingAt xs r j → ⊥) → (k : ℕ) → IsPendingAt xs r k → ⊥
+pending_nowhere xs r n le before k a =
     let lt : k < length xs = slice_get_within xs k a.part a.here in
     before k (omega (arith, lt, le)) a

@@ -14,7 +14,8 @@ use Rattle.rc_world.proofs.LawLists.{get_at, get_past}
 use Rattle.rc_run.specs.declared.machine.Pending.{Pending as PendingPart}
 use Rattle.rc_run.specs.Calm.{IsCalm}
 use Rattle.rc_run.specs.Jobs.{IsJob, Job}
-use Rattle.rc_run.specs.Lives.{IsAsked, IsJobOf, IsOut, Lent, Live, free, is_free}
+use Rattle.rc_run.specs.LiveParts.{free_parts}
+use Rattle.rc_run.specs.Lives.{IsJobOf, IsOut, IsPendingAt, Lent, Live, free, is_free}
 use Rattle.rc_run.specs.Machine.{brought, completed_at, completed_by, pending_of}
 use Rattle.rc_run.proofs.Turns.{goes_one_on}
 
@@ -27,9 +28,6 @@ kept_one false x ys xs e = e
 kept_map : (test : Pending → Bool) (xs : List PendingPart) → filter test (map pending_of xs) ≡ map pending_of (filter (λ x. test (pending_of x)) xs)
 kept_map test [] = refl
 kept_map test (x ∷ xs) = kept_one (test (pending_of x)) x (filter test (map pending_of xs)) (filter (λ x. test (pending_of x)) xs) (kept_map test xs)
-
-abbrev free_parts : List ℕ → List PendingPart → List PendingPart
-free_parts out items = filter (λ (p : PendingPart). is_free out p.request) items
 
 free_is : (s : Live) (items : List PendingPart) → s.world.pending ≡ map pending_of items → free s ≡ map pending_of (free_parts s.out items)
 free_is s items e = ap (filter (λ (p : Pending). is_free s.out p.request)) e ∙ kept_map (λ (p : Pending). is_free s.out p.request) items
@@ -65,13 +63,13 @@ lent s v items choice count place job serial pending counted lt at of number aft
 -- ---- the request of a job
 
 -- a pending request, in the code and in the world
-pub asked : (items : List PendingPart) (r : Request) (k : ℕ) (p : Pending) → slice_get (map pending_of items) k ≡ Some p → p.request ≡ r → IsAsked items r k
-asked [] r k p e q = absurd (cc)
-asked (x ∷ items) r zero p e q = record { part = x; here = refl; same = ap (λ (y : Pending). y.request) (same_Some _ _ e) ∙ q }
-asked (x ∷ items) r (suc k) p e q = let a = asked items r k p e q in record { part = a.part; here = a.here; same = a.same }
+pub pending_at : (items : List PendingPart) (r : Request) (k : ℕ) (p : Pending) → slice_get (map pending_of items) k ≡ Some p → p.request ≡ r → IsPendingAt items r k
+pending_at [] r k p e q = absurd (cc)
+pending_at (x ∷ items) r zero p e q = record { part = x; here = refl; same = ap (λ (y : Pending). y.request) (same_Some _ _ e) ∙ q }
+pending_at (x ∷ items) r (suc k) p e q = let a = pending_at items r k p e q in record { part = a.part; here = a.here; same = a.same }
 
-pub asked_here : (items : List PendingPart) (r : Request) (k : ℕ) (a : IsAsked items r k) → slice_get (map pending_of items) k ≡ Some (pending_of a.part)
-asked_here items r k a = slice_get-map pending_of items k ∙ ap (option_map pending_of) a.here
+pub pending_here : (items : List PendingPart) (r : Request) (k : ℕ) (a : IsPendingAt items r k) → slice_get (map pending_of items) k ≡ Some (pending_of a.part)
+pending_here items r k a = slice_get-map pending_of items k ∙ ap (option_map pending_of) a.here
 
 -- ---- results
 

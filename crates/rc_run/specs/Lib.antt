@@ -1,13 +1,12 @@
 pub mod Calm
 pub mod Held
-pub mod JobParts
 pub mod Jobs
 pub mod Lending
 pub mod LiveParts
 pub mod Lives
+pub mod LockedRun
 pub mod Machine
 pub mod Reports
 pub mod Requests
 pub mod Rooms
 pub mod Scheduler
-pub mod Table

@@ -120,7 +120,7 @@ abbrev pub IsNotOut : Live → Request → Type 0
 IsNotOut s r = (k n : ℕ) → IsOut s r k n → ⊥
 
 -- The request is pending, as the k-th.
-pub record IsAsked (pending : List PendingPart) (r : Request) (k : ℕ) : Type 0 where
+pub record IsPendingAt (pending : List PendingPart) (r : Request) (k : ℕ) : Type 0 where
   pub part : PendingPart
   pub here : slice_get pending k ≡ Some part
   pub same : part.request ≡ r

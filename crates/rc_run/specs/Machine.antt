@@ -1,6 +1,7 @@
 -- The world that a machine's parts stand for.
 use Rattle.std.specs.Prelude.{ℕ, ◌≡◌, ◌+◌, ◌≤◌, Bool, false, List, [], ◌∷◌, ◌++◌, map, Option, Some, None, ℤ, pos, negsuc, min, length, take, drop, slice_get, slice_set}
 use Rattle.std.specs.Arc.{arc_value}
+use Rattle.rc_world.specs.declared.controls.Answer.{Answer}
 use Rattle.rc_world.specs.declared.event.Event.{Event}
 use Rattle.rc_lang.specs.declared.lines.Op.{Op}
 use Rattle.rc_lang.specs.declared.lines.Op.TheVariants.{GetSqe, PrepRead, PrepWrite, PrepFsync, PrepNop, SetData64, Submit, SubmitAndWait}
@@ -10,10 +11,13 @@ use Rattle.rc_lang.specs.declared.lines.Stmt.TheVariants.{Do}
 use Rattle.rc_lang.specs.declared.request.Request.{Request}
 use Rattle.rc_world.specs.declared.world.Slot.{Slot}
 use Rattle.rc_world.specs.declared.world.Slot.TheVariants.{Closed}
+use Rattle.std.specs.Global.{Vec}
 use Rattle.std.specs.Vec.{vec_capacity, vec_len}
 use Rattle.rc_run.specs.Held.{AreDistinct}
 use Rattle.rc_run.specs.Requests.{data_of}
-use Rattle.rc_world.specs.Machine.{Pending, World, bytes_brought, kernel_step}
+use Rattle.rc_world.specs.Changes.{standing_at}
+use Rattle.rc_world.specs.Controls.{Controls, controls_step}
+use Rattle.rc_world.specs.Machine.{Pending, World, bytes_brought, bytes_of, fills, in_rings, kernel_step, stores}
 use Rattle.rc_world.specs.WorldParts.{view_bytes}
 use Rattle.rc_run.specs.declared.machine.Machine.{Machine}
 use Rattle.rc_run.specs.declared.machine.Pending.{Pending as PendingPart}
@@ -45,17 +49,17 @@ submit_answer w (pos n) = pos (min n (length w.queued))
 submit_answer w (negsuc n) = negsuc n
 
 -- Whether the open entry is an fsync that asks for fdatasync(2), once a statement is made; before, it was this.
-abbrev pub datasync_by_call : Op → Bool → Bool
-datasync_by_call GetSqe b = false
-datasync_by_call (PrepRead fd buffer len off) b = false
-datasync_by_call (PrepWrite fd buffer len off k) b = false
-datasync_by_call (PrepFsync fd datasync) b = datasync
-datasync_by_call PrepNop b = false
-datasync_by_call (SetData64 u) b = false
-datasync_by_call _ b = b
+abbrev pub datasync_by_op : Op → Bool → Bool
+datasync_by_op GetSqe b = false
+datasync_by_op (PrepRead fd buffer len off) b = false
+datasync_by_op (PrepWrite fd buffer len off k) b = false
+datasync_by_op (PrepFsync fd datasync) b = datasync
+datasync_by_op PrepNop b = false
+datasync_by_op (SetData64 u) b = false
+datasync_by_op _ b = b
 
 abbrev pub datasync_by : Stmt → Bool → Bool
-datasync_by (Do op) b = datasync_by_call op b
+datasync_by (Do op) b = datasync_by_op op b
 datasync_by _ b = b
 
 abbrev pub datasync_after : Option Line → Bool → Bool
@@ -97,3 +101,26 @@ completed_by w k res bytes = completed_at w k res bytes (slice_get w.pending k)
 abbrev pub given_to : List (Option (List ℕ)) → Request → List ℕ → Option (List ℕ) → List (Option (List ℕ))
 given_to buffers r bytes None = buffers
 given_to buffers r bytes (Some stood) = slice_set buffers r.buffer (Some (take r.len bytes ++ drop r.len stood))
+
+-- ---- the calls of a machine
+
+-- what a statement of a thread makes of the rings and the buffers
+abbrev pub ring_step : Machine → ℕ → ℤ → Stmt → Option World
+ring_step m i taken stmt = in_rings (world_of m) (standing_at m.controls i) taken stmt
+
+abbrev pub store_step : Machine → ℕ → ℕ → ℕ → Option World
+store_step m buffer i byte = stores (world_of m) buffer i byte (bytes_of (world_of m) buffer)
+
+abbrev pub fill_step : Machine → ℕ → ℕ → Option World
+fill_step m buffer byte = fills (world_of m) buffer byte (bytes_of (world_of m) buffer)
+
+abbrev pub control_step : Machine → ℕ → Answer → Option (Event × Controls)
+control_step m i answer = controls_step (arc_value m.admitted) m.controls i answer
+
+-- It holds of the pending request at this place.
+abbrev pub AtPlace : Machine → ℕ → (Pending → Type 0) → Type 0
+AtPlace m place Holds = (p : Pending) → slice_get (world_of m).pending place ≡ Some p → Holds p
+
+-- the buffers, as a world has them
+abbrev pub views : Vec (Option (Vec ℕ)) → List (Option (List ℕ))
+views buffers = map view_bytes buffers.items

@@ -97,6 +97,10 @@ empty_ring entries completion_entries = record {
   made = 0;
 }
 
+-- the open entry is prepared
+abbrev pub with_prepared : RequestRing → Request → Bool → RequestRing
+with_prepared r q datasync = record r { slot = Prepared q; datasync = datasync }
+
 -- the prepared request goes last into the queue, under the next serial number
 abbrev pub after_data : RequestRing → ℕ → Request → RequestRing
 after_data r u q = record r { slot = Closed; datasync = false; queued = r.queued ++ record q { serial = r.made + 1; user_data = u } ∷ []; made = r.made + 1 }

@@ -1,14 +1,14 @@
-//! Gates: what is told of the turns of threads.
+//! Gates: what sees the turns of threads.
 
-/// What each thread passes before a turn, and tells after it. It may hold a thread back.
+/// What each thread calls before a turn and after it. It may hold a thread back.
 ///
-/// Turns are counted from 1 for each thread. One that waits for the lock of the program keeps its number, and is not
-/// told as answered. No lock is held meanwhile.
+/// Turns are counted from 1 for each thread. One that waits for the lock of the program keeps its number, and isn't
+/// answered. No lock is held meanwhile.
 pub trait Gate {
-    /// Passed before a turn of a thread.
+    /// Called before a turn of a thread.
     fn pass(&self, thread: u32, turn: u64);
 
-    /// Told after a turn of a thread that made an event.
+    /// Called after a turn of a thread that made an event.
     fn answered(&self, thread: u32, turn: u64);
 }
 

@@ -25,11 +25,10 @@ impl Model for Job {
     ghost Value = { jobs.Job };
 
     ghost use Rattle.rc_run.specs.Jobs.{IsJob};
-    ghost use Rattle.rc_run.specs.JobParts.{view_job};
 
-    ghost view = { view_job };
+    ghost view = { λ j. record { request = j.request; bytes = j.bytes.items; starved = j.starved } };
 
-    ghost invariant = { λ j. IsJob (view_job j) };
+    ghost invariant = { λ j. IsJob (record { request = j.request; bytes = j.bytes.items; starved = j.starved }) };
 }
 
 impl Job {

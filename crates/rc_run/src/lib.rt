@@ -1,4 +1,4 @@
-//! Runs admitted programs: a run under way, over rings of real entry bytes, and the threads that play it.
+//! Runs admitted programs: a run under way, over rings of real entry bytes, and the threads that make its events.
 #![tactic(auto)]
 
 pub mod gate;

@@ -1,13 +1,14 @@
 //! A run under way.
 
-ghost use Rattle.std.specs.Prelude.{◌≡◌, ◌≢◌, ◌+◌, ◌≤◌, ◌<◌, ◌↔◌, ℕ, negsuc, ◌≤ℤ◌, [], true, not, None, IsTrue, IfOk, IfErr, IfSome, IfNone, OnOk, OnErr, MatchOption, Some, length, slice_get, filter};
+ghost use Rattle.std.specs.Prelude.{◌≡◌, ◌≢◌, ◌≤◌, ◌<◌, ◌↔◌, ℕ, negsuc, ◌≤ℤ◌, [], not, None, IsTrue, IfOk, IfErr, IfSome, IfNone, OnOk, OnErr, Some, true, length, slice_get};
 ghost use Rattle.std.specs.Arc.{arc_value};
 ghost use Rattle.rc_world.specs.Items.{next_of};
 ghost use Rattle.rc_world.specs.Machine.{start_world};
 ghost use Rattle.rc_world.specs.Runs.{IsRun, IsSafe};
 ghost use Rattle.rc_run.specs.Calm.{IsCalm};
 ghost use Rattle.rc_run.specs.Jobs.{allows};
-ghost use Rattle.rc_run.specs.Lives.{IsAsked, IsInOrder, IsNotOut, IsOut, Lent, Posted, Turned, begun, can_move, free, has_ended, is_free};
+ghost use Rattle.rc_run.specs.LiveParts.{free_parts};
+ghost use Rattle.rc_run.specs.Lives.{IsInOrder, IsNotOut, IsOut, IsPendingAt, Lent, Posted, Turned, begun, can_move, free, has_ended, is_free};
 
 use crate::job::Job;
 use crate::machine::{Machine, Pending};
@@ -209,7 +210,8 @@ impl Live {
     /// The job of a request that is pending and whose job isn't out: of those, in the order of their serial numbers, the
     /// one that the choice names.
     pub fn take_job(&mut self, choice: u32) -> Result<Option<Job>, AllocError>
-        ensures ok { IfOk result (λ o. MatchOption o ((free self.old ≡ []) × (self.new ≡ self.old)) (λ j. Lent self.old choice j self.new)) }
+        ensures some { IfOk result (λ o. IfSome o (λ j. Lent self.old choice j self.new)) }
+        ensures none { IfOk result (λ o. IfNone o ((free self.old ≡ []) × (self.new ≡ self.old))) }
         ensures err { OnErr result (self.new ≡ self.old) }
         ensures order { IsInOrder self.old.world.pending }
     {
@@ -234,7 +236,9 @@ impl Live {
     pub fn post(&mut self, job: Job, res: i32) -> Result<(), Job>
         requires { allows job res ≡ true }
         ensures ok { OnOk result (Posted self.old job res self.new) }
-        ensures err { IfErr result (λ j. (j ≡ job) × (self.new ≡ self.old) × IsNotOut self.old job.request) }
+        ensures back { IfErr result (λ j. j ≡ job) }
+        ensures same { OnErr result (self.new ≡ self.old) }
+        ensures not_out { OnErr result (IsNotOut self.old job.request) }
     {
         match self.place_of(job.request()) {
             Some((place, number)) => {
@@ -282,7 +286,7 @@ fn is_out(out: &[u64], request: Request) -> bool
 
 // How many pending requests are free.
 fn free_count(pending: &[Pending], out: &[u64]) -> usize
-    ensures { result ≡ length (filter (λ p. is_free out.now p.request) pending.now) }
+    ensures { result ≡ length (free_parts out.now pending.now) }
 {
     pending
         .iter()
@@ -292,8 +296,9 @@ fn free_count(pending: &[Pending], out: &[u64]) -> usize
 
 // The place of a free request, by its place among the free ones.
 fn free_place(pending: &[Pending], out: &[u64], n: usize) -> Option<usize>
-    ensures some { IfSome result (λ k. (k < length pending.now) × (slice_get pending.now k ≡ slice_get (filter (λ p. is_free out.now p.request) pending.now) n)) }
-    ensures none { IfNone result (slice_get (filter (λ p. is_free out.now p.request) pending.now) n ≡ None) }
+    ensures within { IfSome result (λ k. k < length pending.now) }
+    ensures some { IfSome result (λ k. slice_get pending.now k ≡ slice_get (free_parts out.now pending.now) n) }
+    ensures none { IfNone result (slice_get (free_parts out.now pending.now) n ≡ None) }
 {
     let mut left = n;
     for k in 0..pending.len() {
@@ -310,8 +315,8 @@ fn free_place(pending: &[Pending], out: &[u64], n: usize) -> Option<usize>
 
 // Where a request is pending.
 fn pending_place(pending: &[Pending], request: Request) -> Option<usize>
-    ensures some { IfSome result (λ k. IsAsked pending.now request k) }
-    ensures none { IfNone result ((k : ℕ) → ¬ IsAsked pending.now request k) }
+    ensures some { IfSome result (λ k. IsPendingAt pending.now request k) }
+    ensures none { IfNone result ((k : ℕ) → ¬ IsPendingAt pending.now request k) }
 {
     for k in 0..pending.len() {
         if same_request(pending[k].request, request) {

@@ -1,11 +1,10 @@
 //! What lies under the lock of a run.
 
-ghost use Rattle.std.specs.Prelude.{◌≡◌, ◌⊎◌, ◌↔◌, ◌||◌, ◌+◌, ◌<◌, ◌≤◌, ℕ, negsuc, ◌≤ℤ◌, [], true, false, None, length, if◌then◌else◌, nat_lt, IfErr, IfNone, IfSome, IsTrue, MatchOption, OnOk};
+ghost use Rattle.std.specs.Prelude.{◌≡◌, ◌⊎◌, ◌↔◌, ◌<◌, ◌≤◌, ℕ, negsuc, ◌≤ℤ◌, [], true, false, IfErr, IfNone, IfSome, IsTrue, MatchOption, OnErr, OnOk, OnSome, length};
 ghost use Rattle.rc_run.specs.Jobs.{allows};
 ghost use Rattle.rc_run.specs.Reports.{AllEnded, IsUnended};
 ghost use Rattle.rc_run.specs.Lives.{IsNotOut, Lent, Posted, Turned, begun, free};
-ghost use Rattle.rc_run.specs.Table.{EndsAs, IsOver, IsTable, after_no_turn, after_refusal, is_lock_free, is_stopped, new_table, turns_by};
-ghost use Rattle.rc_world.specs.Items.{next_of};
+ghost use Rattle.rc_run.specs.LockedRun.{EndsAs, IsLockedRun, IsOver, LendsNone, after_no_turn, after_refusal, is_stopped, new_run, with_turn};
 ghost use Rattle.rc_world.specs.Runs.{IsSafe};
 
 use crate::job::Job;
@@ -19,9 +18,9 @@ use std::sync::ledger::{Book, Ledger, Share};
 // With so many completions that wait to be reaped no worker is woken: the next one would come after them.
 const ENOUGH: usize = 4;
 
-/// What is asked of a run: its program, and how many events of threads there may be. A type stands for both, so that
-/// whatever is found under the lock is a run of that program.
-pub trait Asked {
+/// The configuration of a run: its program, and how many events of threads there may be. A type stands for both, so that
+/// what is found under the lock is a run of that program.
+pub trait RunConfig {
     ghost use Rattle.std.specs.Prelude.{ℕ};
     ghost use Rattle.rc_lang.specs.Program.{Program};
 
@@ -30,7 +29,7 @@ pub trait Asked {
     ghost limit: { ℕ };
 }
 
-impl Asked for Brand {
+impl RunConfig for Brand {
     ghost use Rattle.std.specs.Prelude.{[]};
 
     ghost program = { record { version = 1; entries = 0; completion_entries = 0; left = 0; files = []; buffers = []; tokens = []; threads = [] } };
@@ -47,7 +46,7 @@ pub struct Counted<L: Ledger> {
     pub ghost same: { share.amount ≡ events },
 }
 
-/// How a run stands once its threads have stopped.
+/// How a run ended, once its threads have stopped.
 #[derive(Clone, Copy)]
 pub enum Ending {
     /// Each thread has ended, and no growth was refused.
@@ -60,7 +59,7 @@ pub enum Ending {
 
 /// A run that is under way, with the book of its events.
 #[derive(Drop)]
-pub struct Locked<D: Device, L: Ledger + Asked> {
+pub struct LockedRun<D: Device, L: Ledger + RunConfig> {
     live: Live,
     events: Book<L>,
     // How many events of threads there may be, and how many there are.
@@ -72,26 +71,26 @@ pub struct Locked<D: Device, L: Ledger + Asked> {
 }
 
 // Clauses see all but the book.
-impl<D: Device, L: Ledger + Asked> Model for Locked<D, L> {
-    ghost use Rattle.rc_run.specs.Table.{IsTable, Table};
+impl<D: Device, L: Ledger + RunConfig> Model for LockedRun<D, L> {
+    ghost use Rattle.rc_run.specs.LockedRun as locked;
 
-    ghost Value = { Table };
+    ghost Value = { locked.LockedRun };
 
     ghost view = { λ s. record { run = s.live; turns = s.turns; limit = s.limit; memory = s.memory } };
 
-    ghost invariant = { λ s. IsTable D.gives L.program L.limit s.events.total (record { run = s.live; turns = s.turns; limit = s.limit; memory = s.memory }) };
+    ghost invariant = { λ s. locked.IsLockedRun D.gives L.program L.limit s.events.total (record { run = s.live; turns = s.turns; limit = s.limit; memory = s.memory }) };
 }
 
-impl<D: Device, L: Ledger + Asked> Locked<D, L> {
+impl<D: Device, L: Ledger + RunConfig> LockedRun<D, L> {
     /// A run with no event, and a book of none.
-    pub fn new(live: Live, events: Book<L>, limit: u64) -> Locked<D, L>
+    pub fn new(live: Live, events: Book<L>, limit: u64) -> LockedRun<D, L>
         requires live { live ≡ begun L.program }
         requires safe { IsSafe L.program }
         requires limit { limit ≡ L.limit }
         requires total { events.total ≡ 0 }
-        ensures { result ≡ new_table live limit }
+        ensures { result ≡ new_run live limit }
     {
-        Locked {
+        LockedRun {
             live,
             events,
             limit,
@@ -108,31 +107,10 @@ impl<D: Device, L: Ledger + Asked> Locked<D, L> {
         &self.live
     }
 
-    /// How many events there are.
-    pub fn len(&self) -> usize
-        ensures { result ≡ length self.now.run.history }
-    {
-        self.live.history().len()
-    }
-
-    /// How many requests are queued.
-    pub fn queued(&self) -> u32
-        ensures value { result ≡ length self.now.run.world.queued }
-        ensures few { result ≤ 1024 }
-    {
-        self.live.queued()
-    }
-
-    /// How many pending requests have no job that is out.
-    pub fn free(&self) -> usize
-        ensures { result ≡ length (free self.now.run) }
-    {
-        self.live.free()
-    }
-
     /// How many workers to wake: for each job one, unless four completions wait to be reaped.
     pub fn workers(&self) -> usize
-        ensures { result ≡ (if nat_lt (length self.now.run.world.completed) 4 then length (free self.now.run) else 0) }
+        ensures few { length self.now.run.world.completed < 4 → result ≡ length (free self.now.run) }
+        ensures enough { 4 ≤ length self.now.run.world.completed → result ≡ 0 }
     {
         if self.live.completed() < ENOUGH {
             self.live.free()
@@ -141,26 +119,12 @@ impl<D: Device, L: Ledger + Asked> Locked<D, L> {
         }
     }
 
-    /// Whether no thread holds the lock of the program.
-    pub fn is_free(&self) -> bool
-        ensures { result ≡ is_lock_free self.now.run.world }
-    {
-        self.live.holder().is_none()
-    }
-
-    /// What a thread has next.
-    pub fn next(&self, thread: u32) -> Next
-        ensures { result ≡ next_of self.now.run.world.program self.now.run.world.controls thread }
-    {
-        self.live.next(thread)
-    }
-
-    /// Makes the next statement of a thread, and counts it. None where the limit is reached or memory was refused.
+    /// Makes the next statement of a thread, and counts it. None if the limit is reached or memory was refused.
     pub fn turn(&mut self, thread: u32, take: i32, mine: &mut Counted<L>) -> Option<Turn>
         requires { negsuc 4094 ≤ℤ take }
         ensures some { IfSome result (λ t. Turned self.old.run thread take t self.new.run) }
-        ensures goes_on { IfSome result (λ _. is_stopped self.old ≡ false) }
-        ensures counted { IfSome result (λ t. self.new ≡ record self.old { run = self.new.run; turns = self.old.turns + turns_by t }) }
+        ensures goes_on { OnSome result (is_stopped self.old ≡ false) }
+        ensures rest { IfSome result (λ t. self.new ≡ with_turn self.old self.new.run t) }
         ensures none { IfNone result (self.new ≡ after_no_turn self.old) }
     {
         if self.memory || self.turns >= self.limit {
@@ -188,11 +152,11 @@ impl<D: Device, L: Ledger + Asked> Locked<D, L> {
         }
     }
 
-    /// Lends a job, if there is one. Where memory is refused that is noted.
+    /// Lends a job, if there is one. Refused memory is noted.
     pub fn take_job(&mut self, choice: u32) -> Option<Job>
         ensures some { IfSome result (λ j. Lent self.old.run choice j self.new.run) }
-        ensures rest { IfSome result (λ _. self.new ≡ record self.old { run = self.new.run }) }
-        ensures none { IfNone result (((free self.old.run ≡ []) × (self.new ≡ self.old)) ⊎ (self.new ≡ after_refusal self.old)) }
+        ensures rest { OnSome result (self.new ≡ record self.old { run = self.new.run }) }
+        ensures none { IfNone result (LendsNone self.old self.new) }
     {
         match self.live.take_job(choice) {
             Ok(job) => job,
@@ -209,7 +173,9 @@ impl<D: Device, L: Ledger + Asked> Locked<D, L> {
         requires given { D.gives job.request.user_data res ⊎ (res ≡ negsuc 11) }
         ensures ok { OnOk result (Posted self.old.run job res self.new.run) }
         ensures rest { OnOk result (self.new ≡ record self.old { run = self.new.run }) }
-        ensures err { IfErr result (λ j. (j ≡ job) × (self.new ≡ self.old) × IsNotOut self.old.run job.request) }
+        ensures back { IfErr result (λ j. j ≡ job) }
+        ensures same { OnErr result (self.new ≡ self.old) }
+        ensures not_out { OnErr result (IsNotOut self.old.run job.request) }
     {
         let Counted {
             events: count,
@@ -234,7 +200,7 @@ impl<D: Device, L: Ledger + Asked> Locked<D, L> {
         self.memory = true;
     }
 
-    /// How the run stands. Where a thread hasn't ended, the limit is asked for before memory.
+    /// How the run ended. If a thread hasn't ended, the limit comes before memory.
     pub fn ending(&self) -> Ending
         ensures { EndsAs self.now result }
     {
@@ -250,9 +216,9 @@ impl<D: Device, L: Ledger + Asked> Locked<D, L> {
     pub fn close(self, all: &mut Share<L>) -> Vec<Event>
         requires { all.old.parts ≡ L.parts }
         ensures history { result.items ≡ self.run.history }
-        ensures table { IsTable D.gives L.program L.limit all.old.amount self }
+        ensures kept { IsLockedRun D.gives L.program L.limit all.old.amount self }
     {
-        let Locked {
+        let LockedRun {
             live,
             mut events,
             ..

@@ -1,14 +1,13 @@
 //! Where a run is: the threads, the rings with their entry bytes, the requests in the kernel, and the buffers.
 
-ghost use Rattle.std.specs.Prelude.{◌≡◌, ◌+◌, ◌<◌, ◌^◌, IfOk, IsSome, MatchResult, Some, map, replicate, pos, ◌-◌};
+ghost use Rattle.std.specs.Prelude.{◌≡◌, ◌+◌, ◌<◌, ◌^◌, IfOk, IsSome, OnErr, OnOk, Some, map, replicate};
 ghost use Rattle.std.specs.Arc.{arc_value};
 ghost use Rattle.rc_lang.specs.Program.{IsProgram};
-ghost use Rattle.rc_world.specs.Controls.{controls_step, next_line};
+ghost use Rattle.rc_world.specs.Controls.{next_line};
 ghost use Rattle.rc_world.specs.Items.{next_of};
 ghost use Rattle.rc_world.specs.Kept.{IsKept};
 ghost use Rattle.rc_world.specs.Machine as machine;
-ghost use Rattle.rc_world.specs.WorldParts.{view_bytes};
-ghost use Rattle.rc_run.specs.Machine.{IsClosedAt, IsFreshAt, IsSameRest, IsSized, datasync_by, submit_answer, world_of};
+ghost use Rattle.rc_run.specs.Machine.{IsClosedAt, IsFreshAt, IsSameRest, IsSized, control_step, datasync_by, submit_answer, views, world_of};
 
 mod jobs;
 mod rings;
@@ -89,12 +88,10 @@ impl Machine {
         requires suits { IsClosedAt self.old.ring.slot line.stmt }
         requires fresh { IsFreshAt (world_of self.old) line.stmt }
         requires room { self.old.ring.made + 1 < 2 ^ 64 }
-        ensures step { MatchResult result
-            (λ e. machine.thread_step (world_of self.old) thread taken ≡ Some (e, world_of self.new))
-            (λ _. world_of self.new ≡ world_of self.old) }
-        ensures datasync { MatchResult result
-            (λ _. self.new.ring.datasync ≡ datasync_by line.stmt self.old.ring.datasync)
-            (λ _. self.new.ring.datasync ≡ self.old.ring.datasync) }
+        ensures ok { IfOk result (λ e. machine.thread_step (world_of self.old) thread taken ≡ Some (e, world_of self.new)) }
+        ensures err { OnErr result (world_of self.new ≡ world_of self.old) }
+        ensures flag_kept { OnErr result (self.new.ring.datasync ≡ self.old.ring.datasync) }
+        ensures flag { OnOk result (self.new.ring.datasync ≡ datasync_by line.stmt self.old.ring.datasync) }
         ensures rest { IsSameRest self.old self.new }
     {
         let answer = self.answer(taken, line.stmt);
@@ -104,8 +101,8 @@ impl Machine {
 
     // The step of a thread in its controls.
     fn advance(&mut self, thread: u32, answer: Answer) -> Event
-        requires { IsSome (controls_step (arc_value self.old.admitted) self.old.controls thread answer) }
-        ensures step { controls_step (arc_value self.old.admitted) self.old.controls thread answer ≡ Some (result, self.new.controls) }
+        requires { IsSome (control_step self.old thread answer) }
+        ensures step { control_step self.old thread answer ≡ Some (result, self.new.controls) }
         ensures rest { self.new ≡ record self.old { controls = self.new.controls } }
     {
         match self
@@ -137,28 +134,23 @@ impl Machine {
             Stmt::Do(Op::Submit(_)) => Answer::Number(taken),
             Stmt::Do(Op::SubmitAndWait(_, _)) => Answer::Number(taken),
             Stmt::Do(Op::CqeSeen) => self.front(),
-            Stmt::If(Test::ReadyZero) => Answer::Number(self.used()),
-            Stmt::If(Test::SpaceAtLeast(_)) => Answer::Number(self.space_left()),
+            Stmt::If(test) => self.test_answer(test),
             Stmt::Peek(_) => self.front(),
             _ => Answer::Plain,
         }
     }
 
-    // How many entries are queued or open.
-    fn used(&self) -> i32
+    // What the world answers to a test.
+    fn test_answer(&self, test: Test) -> Answer
         requires { IsSized self.now }
-        ensures { result ≡ pos (machine.used_entries (world_of self.now)) }
+        ensures { result ≡ machine.test_answer (world_of self.now) test }
     {
-        let _program = self.program();
-        self.ring.used() as i32
-    }
-
-    // How many entries are free.
-    fn space_left(&self) -> i32
-        requires { IsSized self.now }
-        ensures { result ≡ pos ((arc_value self.now.admitted).entries - machine.used_entries (world_of self.now)) }
-    {
-        (self.program().entries() - self.ring.used()) as i32
+        let entries = self.program().entries();
+        match test {
+            Test::ReadyZero => Answer::Number(self.ring.used() as i32),
+            Test::SpaceAtLeast(_) => Answer::Number((entries - self.ring.used()) as i32),
+            Test::Compare(_, _, _) | Test::Take(_) => Answer::Plain,
+        }
     }
 
     // The byte at a place of a buffer.
@@ -187,7 +179,7 @@ impl Machine {
 
 // Buffers whose bytes are all 0.
 fn zeroed(alloc: Global, buffers: &[Buffer]) -> Result<Vec<Option<Vec<u8>>>, AllocError>
-    ensures { IfOk result (λ v. map view_bytes v.items ≡ map (λ b. Some (replicate b.bytes 0)) buffers.now) }
+    ensures { IfOk result (λ v. views v ≡ map (λ b. Some (replicate b.bytes 0)) buffers.now) }
 {
     let mut zeroed = Vec::new(alloc);
     for buffer in buffers {

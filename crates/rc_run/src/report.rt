@@ -1,4 +1,4 @@
-//! What is told of a run.
+//! What a run reports.
 
 use rc_world::event::Event;
 use thiserror::Error;
@@ -17,7 +17,7 @@ pub struct RunReport {
 /// Why a run didn't end. Codes 20, 30 and 31.
 #[derive(Debug, Drop, Error)]
 pub enum RunFault {
-    /// Memory ran out, or a thread could not be made; the run so far.
+    /// Memory ran out, or a thread couldn't be made; the run so far.
     #[error("out of memory (20)")]
     OutOfMemory(RunReport),
     /// The limit was reached; the run so far.

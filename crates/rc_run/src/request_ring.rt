@@ -7,7 +7,7 @@ ghost use Rattle.rc_lang.specs.declared.request.Request.{Request as SpecRequest}
 ghost use Rattle.rc_world.specs.declared.world.Slot.TheVariants.{Closed, Vacant, Prepared};
 ghost use Rattle.rc_world.specs.Machine.{new_request, prepared_nop, slot_len};
 ghost use Rattle.rc_run.specs.Held.{AreDistinct};
-ghost use Rattle.rc_run.specs.Requests.{address_of, after_data, buffer_at, data_of, empty_ring, request_of, serial_of};
+ghost use Rattle.rc_run.specs.Requests.{address_of, after_data, buffer_at, data_of, empty_ring, request_of, serial_of, with_prepared};
 
 use rc_entry::{Cqe, Entry, decode_sqe};
 use rc_lang::request::{Kind, Request};
@@ -79,7 +79,7 @@ impl RequestRing {
     /// Makes the open entry a read.
     pub fn prepare_read(&mut self, fd: i32, buffer: u32, len: u32, off: u32)
         requires { self.old.slot ≡ Vacant }
-        ensures { self.new ≡ record self.old { slot = Prepared (new_request Read fd buffer len off); datasync = false } }
+        ensures { self.new ≡ with_prepared self.old (new_request Read fd buffer len off) false }
     {
         let slot = self.ring.resume_vacant();
         let slot = slot.prep_read(&mut self.ring, fd, address_of(buffer), len, u64::from(off));
@@ -89,7 +89,7 @@ impl RequestRing {
     /// Makes the open entry a write.
     pub fn prepare_write(&mut self, fd: i32, buffer: u32, len: u32, off: u32)
         requires { self.old.slot ≡ Vacant }
-        ensures { self.new ≡ record self.old { slot = Prepared (new_request Write fd buffer len off); datasync = false } }
+        ensures { self.new ≡ with_prepared self.old (new_request Write fd buffer len off) false }
     {
         let slot = self.ring.resume_vacant();
         let slot = slot.prep_write(&mut self.ring, fd, address_of(buffer), len, u64::from(off));
@@ -99,7 +99,7 @@ impl RequestRing {
     /// Makes the open entry an fsync, or with `datasync` an fdatasync.
     pub fn prepare_fsync(&mut self, fd: i32, datasync: bool)
         requires { self.old.slot ≡ Vacant }
-        ensures { self.new ≡ record self.old { slot = Prepared (new_request Fsync fd 0 0 0); datasync = datasync } }
+        ensures { self.new ≡ with_prepared self.old (new_request Fsync fd 0 0 0) datasync }
     {
         let slot = self.ring.resume_vacant();
         let slot = slot.prep_fsync(&mut self.ring, fd, datasync);
@@ -109,7 +109,7 @@ impl RequestRing {
     /// Makes the open entry a nop.
     pub fn prepare_nop(&mut self)
         requires { self.old.slot ≡ Vacant }
-        ensures { self.new ≡ record self.old { slot = Prepared prepared_nop; datasync = false } }
+        ensures { self.new ≡ with_prepared self.old prepared_nop false }
     {
         let slot = self.ring.resume_vacant();
         let slot = slot.prep_nop(&mut self.ring);
@@ -212,13 +212,6 @@ impl RequestRing {
         } else {
             self.ring.resume_vacant().abandon(&mut self.ring);
         }
-    }
-
-    /// How many requests were made.
-    pub fn made(&self) -> u64
-        ensures { result ≡ self.now.made }
-    {
-        self.made
     }
 }
 

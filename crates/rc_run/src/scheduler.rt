@@ -1,16 +1,16 @@
-//! What lies under the lock of a run: the run itself, and which of its players makes events next.
+//! What lies under the lock of a run: the run itself, and which of its threads runs next.
 
-ghost use Rattle.std.specs.Prelude.{◌≡◌, ◌↔◌, ◌⊎◌, ◌&&◌, ◌||◌, ◌+◌, ◌^◌, ◌<◌, ◌≤ℤ◌, ℕ, negsuc, true, false, not, [], IfErr, IfNone, IfOk, IfSome, IsTrue, MatchOption, OnOk, length, slice_get, slice_set};
+ghost use Rattle.std.specs.Prelude.{◌≡◌, ◌↔◌, ◌⊎◌, ◌+◌, ◌^◌, ◌<◌, ◌≤ℤ◌, ℕ, negsuc, true, false, IfErr, IfNone, IfOk, IfSome, IsTrue, OnErr, OnOk, OnSome, length};
 ghost use Rattle.std.specs.List.{list_any};
 ghost use Rattle.rc_lang.specs.Program.{lines_of};
 ghost use Rattle.rc_run.specs.Jobs.{allows};
-ghost use Rattle.rc_run.specs.Lives.{IsNotOut, Lent, Posted, Turned, free, has_ended};
-ghost use Rattle.rc_run.specs.Scheduler.{AnyRuns, Dispatches, IsFirstIn, IsInTurn, NobodyIn, after_turn, awaits, due, is_case_for, is_due, is_running, new_queue, state_at};
-ghost use Rattle.rc_run.specs.Table.{after_no_turn, after_refusal, is_stopped, turns_by};
+ghost use Rattle.rc_run.specs.Lives.{IsNotOut, Lent, Posted, Turned};
+ghost use Rattle.rc_run.specs.LockedRun.{LendsNone, after_no_turn, after_refusal, is_stopped, with_turn};
+ghost use Rattle.rc_run.specs.Scheduler.{AnyRuns, Dispatches, IsFirstIn, IsNextDue, NobodyIn, RunsNext, awaits_front, due, is_case_for, new_queue, state_at, waits, with_put, with_state};
 
 use crate::job::Job;
 use crate::live::{Live, Turn};
-use crate::locked::{Asked, Counted, Locked};
+use crate::locked::{Counted, LockedRun, RunConfig};
 use rc_device::device::Device;
 use rc_lang::lines::{Line, Stmt};
 use rc_lang::program::Program;
@@ -19,28 +19,28 @@ use std::alloc::{AllocError, Global};
 use std::marker::Model;
 use std::sync::ledger::Ledger;
 
-// A player that waits gets its turn after so many events in any case.
-const ROUND: usize = 1000;
+// A thread that waits is due after so many events in any case.
+const MAX_WAIT: usize = 1000;
 
-/// How a player stands.
+/// The state of a thread.
 #[derive(Clone, Copy)]
 pub enum State {
-    /// It makes events, where its thread can.
+    /// It makes events, if it can.
     Running,
-    /// It waits for its turn.
+    /// It could go on, and lets others run.
     Ready,
-    /// Its thread found nothing to do when there were so many events.
+    /// It found nothing to do when there were so many events.
     Waiting(usize),
 }
 
-/// The players of a run, by the numbers of their threads.
+/// The threads of a run, by their numbers in the program.
 #[derive(Drop)]
 pub struct RunQueue {
     states: Vec<State>,
-    // Where the search for the next one begins, so that each gets its turn.
+    // Where the search for the next one begins: round robin.
     next: usize,
     // How many events there were when items were put into the pool last.
-    put: usize,
+    last_put: usize,
 }
 
 impl Model for RunQueue {
@@ -48,7 +48,7 @@ impl Model for RunQueue {
 
     ghost Value = { scheduler.RunQueue };
 
-    ghost view = { λ q. record { states = q.states.items; next = q.next; put = q.put } };
+    ghost view = { λ q. record { states = q.states.items; next = q.next; last_put = q.last_put } };
 }
 
 impl RunQueue {
@@ -59,13 +59,13 @@ impl RunQueue {
         Ok(RunQueue {
             states: vec![in alloc; State::Running; threads]?,
             next: 0,
-            put: 0,
+            last_put: 0,
         })
     }
 
-    // Notes a turn, after which there are so many events.
-    fn note(&mut self, turn: Option<Turn>, events: usize)
-        ensures { self.new ≡ after_turn turn events self.old }
+    // Notes a turn, after which the run is this.
+    fn note(&mut self, turn: Option<Turn>, live: &Live)
+        ensures { self.new ≡ with_put turn live.now self.old }
     {
         if matches!(
             turn,
@@ -74,20 +74,19 @@ impl RunQueue {
                 ..
             }))
         ) {
-            self.put = events;
+            self.last_put = live.history().len();
         }
     }
 
-    // Notes how a player stands.
     fn set(&mut self, thread: usize, state: State)
-        ensures { self.new ≡ record self.old { states = slice_set self.old.states thread state } }
+        ensures { self.new ≡ with_state self.old thread state }
     {
         if thread < self.states.len() {
             self.states[thread] = state;
         }
     }
 
-    // Has the next player run that is due, unless one is running whose thread can make an event.
+    // Has the next thread run that is due, unless one is running that can make an event.
     fn dispatch(&mut self, live: &Live) -> Option<usize>
         ensures { Dispatches live.now self.old result self.new }
     {
@@ -100,7 +99,7 @@ impl RunQueue {
         Some(thread)
     }
 
-    // Whether a player is running whose thread can make an event.
+    // Whether a thread is running that can make an event.
     fn any_runs(&self, live: &Live) -> bool
         ensures { IsTrue result ↔ AnyRuns live.now self.now }
     {
@@ -112,7 +111,7 @@ impl RunQueue {
         false
     }
 
-    // Whether a player is to run again, and its thread can make an event.
+    // Whether a thread is to run again, and can make an event.
     fn is_due(&self, live: &Live, thread: usize) -> bool
         ensures { result ≡ due live.now self.now thread }
     {
@@ -121,8 +120,8 @@ impl RunQueue {
             State::Ready => true,
             State::Waiting(since) => {
                 live.pending() == 0
-                    || since < self.put
-                    || live.history().len().saturating_sub(since) >= ROUND
+                    || since < self.last_put
+                    || live.history().len().saturating_sub(since) >= MAX_WAIT
                     || awaits_front(live, thread)
             }
         };
@@ -138,7 +137,7 @@ impl RunQueue {
 
 // Whether a thread has a case for the completion that is reaped next.
 fn awaits_front(live: &Live, thread: usize) -> bool
-    ensures { result ≡ awaits (lines_of live.now.world.program thread) (slice_get live.now.world.completions 0) }
+    ensures { result ≡ awaits_front live.now thread }
 {
     match live.front() {
         Some(front) => has_case(lines(live.admitted().program(), thread), front.user_data),
@@ -161,9 +160,10 @@ fn has_case(lines: &[Line], user_data: u64) -> bool
     lines.iter().any(|line| matches!(line.stmt, Stmt::Case(_, other) if other == user_data))
 }
 
-// The next player in turn that is due.
+// The next thread that is due, round robin.
 fn next_due(queue: &RunQueue, live: &Live) -> Option<usize>
-    ensures next { MatchOption result ((i : ℕ) → due live.now queue.now i ≡ false) (IsInTurn (due live.now queue.now) queue.now.next (length queue.now.states)) }
+    ensures some { IfSome result (IsNextDue live.now queue.now) }
+    ensures none { IfNone result ((i : ℕ) → due live.now queue.now i ≡ false) }
     ensures fits { IfSome result (λ i. i + 1 < 2 ^ 64) }
 {
     let next = queue.next;
@@ -175,7 +175,8 @@ fn next_due(queue: &RunQueue, live: &Live) -> Option<usize>
 
 // The first that is due from one place to another.
 fn first_due(queue: &RunQueue, live: &Live, from: usize, to: usize) -> Option<usize>
-    ensures { MatchOption result (NobodyIn (due live.now queue.now) from to) (IsFirstIn (due live.now queue.now) from to) }
+    ensures some { IfSome result (IsFirstIn (due live.now queue.now) from to) }
+    ensures none { IfNone result (NobodyIn (due live.now queue.now) from to) }
 {
     for thread in from..to {
         if queue.is_due(live, thread) {
@@ -185,15 +186,15 @@ fn first_due(queue: &RunQueue, live: &Live, from: usize, to: usize) -> Option<us
     None
 }
 
-/// A run, and how its players stand. A player whose thread could make an event waits only where another is running whose
-/// thread can make one, a request is pending, or the run is to stop.
+/// A run, and the states of its threads. A thread that could make an event waits only while another one is running that
+/// can, a request is pending, or the run is to stop.
 #[derive(Drop)]
-pub struct Scheduler<D: Device, L: Ledger + Asked> {
-    run: Locked<D, L>,
+pub struct Scheduler<D: Device, L: Ledger + RunConfig> {
+    run: LockedRun<D, L>,
     queue: RunQueue,
 }
 
-impl<D: Device, L: Ledger + Asked> Model for Scheduler<D, L> {
+impl<D: Device, L: Ledger + RunConfig> Model for Scheduler<D, L> {
     ghost use Rattle.rc_run.specs.Scheduler as scheduler;
 
     ghost Value = { scheduler.Scheduler };
@@ -203,9 +204,9 @@ impl<D: Device, L: Ledger + Asked> Model for Scheduler<D, L> {
     ghost invariant = { λ s. scheduler.MovesOn (record { run = s.run; queue = s.queue }) };
 }
 
-impl<D: Device, L: Ledger + Asked> Scheduler<D, L> {
-    /// A run whose players are all running.
-    pub fn new(run: Locked<D, L>, queue: RunQueue) -> Scheduler<D, L>
+impl<D: Device, L: Ledger + RunConfig> Scheduler<D, L> {
+    /// A run whose threads are all running.
+    pub fn new(run: LockedRun<D, L>, queue: RunQueue) -> Scheduler<D, L>
         requires { queue ≡ new_queue (length queue.states) }
         ensures { result ≡ record { run = run; queue = queue } }
     {
@@ -213,21 +214,22 @@ impl<D: Device, L: Ledger + Asked> Scheduler<D, L> {
     }
 
     /// The run, as it is.
-    pub fn run(&self) -> &Locked<D, L>
+    pub fn run(&self) -> &LockedRun<D, L>
         ensures { result.now ≡ self.now.run }
     {
         &self.run
     }
 
     /// The run, at its end.
-    pub fn into_run(self) -> Locked<D, L>
+    pub fn into_run(self) -> LockedRun<D, L>
         ensures { result ≡ self.run }
     {
         let Scheduler { run, .. } = self;
         run
     }
 
-    /// Makes the next statement of a thread, and counts it; none where the run is to stop. Answers also who runs next.
+    /// Makes the next statement of a thread, and counts it; none if the run is to stop. Answers also which thread runs
+    /// next.
     pub fn turn(
         &mut self,
         thread: u32,
@@ -236,44 +238,45 @@ impl<D: Device, L: Ledger + Asked> Scheduler<D, L> {
     ) -> (Option<Turn>, Option<usize>)
         requires { negsuc 4094 ≤ℤ take }
         ensures some { IfSome result.0 (λ t. Turned self.old.run.run thread take t self.new.run.run) }
-        ensures goes_on { IfSome result.0 (λ _. is_stopped self.old.run ≡ false) }
-        ensures counted { IfSome result.0 (λ t. self.new.run ≡ record self.old.run { run = self.new.run.run; turns = self.old.run.turns + turns_by t }) }
+        ensures goes_on { OnSome result.0 (is_stopped self.old.run ≡ false) }
+        ensures rest { IfSome result.0 (λ t. self.new.run ≡ with_turn self.old.run self.new.run.run t) }
         ensures none { IfNone result.0 (self.new.run ≡ after_no_turn self.old.run) }
-        ensures next { Dispatches self.new.run.run (after_turn result.0 (length self.new.run.run.history) self.old.queue) result.1 self.new.queue }
+        ensures next { RunsNext (with_put result.0 self.new.run.run self.old.queue) result.1 self.new }
     {
         let turn = self.run.turn(thread, take, mine);
-        self.queue.note(turn, self.run.len());
+        self.queue.note(turn, self.run.live());
         (turn, self.queue.dispatch(self.run.live()))
     }
 
-    /// Has a player are so, and answers who runs next, which may be that player again.
-    pub fn rest(&mut self, thread: usize, state: State) -> Option<usize>
+    /// Puts a thread into this state, and answers which one runs next, which may be the same.
+    pub fn suspend(&mut self, thread: usize, state: State) -> Option<usize>
         ensures run { self.new.run ≡ self.old.run }
-        ensures next { Dispatches self.old.run.run (record self.old.queue { states = slice_set self.old.queue.states thread state }) result self.new.queue }
+        ensures next { RunsNext (with_state self.old.queue thread state) result self.new }
     {
         self.queue.set(thread, state);
         self.queue.dispatch(self.run.live())
     }
 
-    /// Whether a player waits: it isn't running, the run goes on, and its thread hasn't ended.
+    /// Whether a thread waits: it isn't running, the run goes on, and it hasn't ended.
     pub fn waits(&self, thread: usize) -> bool
-        ensures { result ≡ (not (is_running (state_at self.now.queue.states thread)) && (not (is_stopped self.now.run) && not (has_ended self.now.run.run.world thread))) }
+        ensures { result ≡ waits self.now thread }
     {
         !matches!(self.queue.state(thread), State::Running)
             && !self.run.is_stopped()
             && !self.run.live().has_ended(thread)
     }
 
-    /// Lends a job, if there is one. Where memory is refused that is noted.
+    /// Lends a job, if there is one. Refused memory is noted.
     pub fn take_job(&mut self, choice: u32) -> Option<Job>
         ensures some { IfSome result (λ j. Lent self.old.run.run choice j self.new.run.run) }
-        ensures rest { IfSome result (λ _. self.new ≡ record self.old { run = record self.old.run { run = self.new.run.run } }) }
-        ensures none { IfNone result (((free self.old.run.run ≡ []) × (self.new ≡ self.old)) ⊎ (self.new ≡ record self.old { run = after_refusal self.old.run })) }
+        ensures rest { OnSome result (self.new.run ≡ record self.old.run { run = self.new.run.run }) }
+        ensures none { IfNone result (LendsNone self.old.run self.new.run) }
+        ensures queue { self.new.queue ≡ self.old.queue }
     {
         self.run.take_job(choice)
     }
 
-    /// Makes the result of a job an event, and answers who runs next. A job that isn't out comes back.
+    /// Makes the result of a job an event, and answers which thread runs next. A job that isn't out comes back.
     pub fn post(
         &mut self,
         job: Job,
@@ -284,8 +287,10 @@ impl<D: Device, L: Ledger + Asked> Scheduler<D, L> {
         requires given { D.gives job.request.user_data res ⊎ (res ≡ negsuc 11) }
         ensures ok { OnOk result.0 (Posted self.old.run.run job res self.new.run.run) }
         ensures rest { OnOk result.0 (self.new.run ≡ record self.old.run { run = self.new.run.run }) }
-        ensures err { IfErr result.0 (λ j. (j ≡ job) × (self.new.run ≡ self.old.run) × IsNotOut self.old.run.run job.request) }
-        ensures next { Dispatches self.new.run.run self.old.queue result.1 self.new.queue }
+        ensures back { IfErr result.0 (λ j. j ≡ job) }
+        ensures same { OnErr result.0 (self.new.run ≡ self.old.run) }
+        ensures not_out { OnErr result.0 (IsNotOut self.old.run.run job.request) }
+        ensures next { RunsNext self.old.queue result.1 self.new }
     {
         let posted = self.run.post(job, res, mine);
         (posted, self.queue.dispatch(self.run.live()))

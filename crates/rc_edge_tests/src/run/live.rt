@@ -15,8 +15,8 @@ fn live(alloc: Global, text: &str) -> Result<Live, Fail> {
     Ok(Live::start(alloc, admitted(alloc, text)?)?)
 }
 
-// A run that made turns of its first thread, whose submits take nothing.
-fn played(alloc: Global, text: &str, turns: u32) -> Result<Live, Fail> {
+// A run after so many turns of its first thread, whose submits take nothing.
+fn after_turns(alloc: Global, text: &str, turns: u32) -> Result<Live, Fail> {
     let mut live = live(alloc, text)?;
     for _ in 0..turns {
         live.turn(0, 0)?;
@@ -24,8 +24,8 @@ fn played(alloc: Global, text: &str, turns: u32) -> Result<Live, Fail> {
     Ok(live)
 }
 
-// The turn that makes this event of a line.
-fn done(thread: u32, line: u32, action: Action) -> Turn {
+// The turn of a thread at this line.
+fn turn_at(thread: u32, line: u32, action: Action) -> Turn {
     Turn::Done(Event::ByThread {
         thread,
         line,
@@ -61,8 +61,8 @@ fn makes(live: &mut Live, thread: u32, take: i32, turn: Turn) -> bool
 #[test]
 fn a_thread_waits_for_the_lock_that_another_took(rt: HostRuntime) -> Result<(), Fail> {
     let mut live = live(rt.alloc(), HANDOFF)?;
-    assert!(rt; makes(&mut live, 0, 0, done(0, 7, Action::Locked)));
-    assert!(rt; makes(&mut live, 1, 0, done(1, 20, Action::Looped)));
+    assert!(rt; makes(&mut live, 0, 0, turn_at(0, 7, Action::Locked)));
+    assert!(rt; makes(&mut live, 1, 0, turn_at(1, 20, Action::Looped)));
     assert!(rt; makes(&mut live, 1, 0, Turn::Waits));
     assert!(rt; makes(&mut live, 2, 0, Turn::Ended));
     assert_eq!(rt; live.history().len(), 2);
@@ -71,18 +71,18 @@ fn a_thread_waits_for_the_lock_that_another_took(rt: HostRuntime) -> Result<(), 
 
 #[test]
 fn a_submit_may_be_answered_with_an_error(rt: HostRuntime) -> Result<(), Fail> {
-    let mut live = played(rt.alloc(), SHARE, 4)?;
-    assert!(rt; makes(&mut live, 0, 0, done(0, 11, Action::Looped)));
+    let mut live = after_turns(rt.alloc(), SHARE, 4)?;
+    assert!(rt; makes(&mut live, 0, 0, turn_at(0, 11, Action::Looped)));
     assert_eq!(rt; live.queued(), 1);
-    assert!(rt; makes(&mut live, 0, -11, done(0, 12, Action::Submitted(-11))));
+    assert!(rt; makes(&mut live, 0, -11, turn_at(0, 12, Action::Submitted(-11))));
     assert_eq!(rt; live.queued(), 1);
     Ok(())
 }
 
 #[test]
 fn a_submit_takes_no_more_than_is_queued(rt: HostRuntime) -> Result<(), Fail> {
-    let mut live = played(rt.alloc(), SHARE, 5)?;
-    assert!(rt; makes(&mut live, 0, 9, done(0, 12, Action::Submitted(1))));
+    let mut live = after_turns(rt.alloc(), SHARE, 5)?;
+    assert!(rt; makes(&mut live, 0, 9, turn_at(0, 12, Action::Submitted(1))));
     assert_eq!(rt; live.queued(), 0);
     Ok(())
 }
@@ -111,7 +111,7 @@ fn has_bounds(job: &Job) -> bool {
 
 #[test]
 fn a_job_is_out_once_and_posted_once(rt: HostRuntime) -> Result<(), Fail> {
-    let mut live = played(rt.alloc(), SHARE, 5)?;
+    let mut live = after_turns(rt.alloc(), SHARE, 5)?;
     live.turn(0, 9)?;
     let Some(mut job) = live.take_job(3)? else {
         return Err("a job".into());
@@ -130,7 +130,7 @@ fn a_job_is_out_once_and_posted_once(rt: HostRuntime) -> Result<(), Fail> {
 
 // A run of HANDOFF whose request is pending.
 fn submitted(alloc: Global) -> Result<Live, Fail> {
-    let mut live = played(alloc, HANDOFF, 5)?;
+    let mut live = after_turns(alloc, HANDOFF, 5)?;
     live.turn(0, 1)?;
     Ok(live)
 }

@@ -1,14 +1,13 @@
 //! Jobs, and what their results do to the rings and the buffers.
 
-ghost use Rattle.std.specs.Prelude.{◌≡◌, ◌+◌, ◌++◌, ◌<◌, ◌≤◌, IfOk, IfSome, IsSome, Some, [], unwrap_or, length, map, slice_get, take, drop};
+ghost use Rattle.std.specs.Prelude.{◌≡◌, ◌+◌, ◌++◌, ◌<◌, ◌≤◌, IfOk, IfSome, IsSome, Some, [], unwrap_or, length, take, drop};
 ghost use Rattle.std.specs.Vec.{vec_capacity, vec_len};
 ghost use Rattle.rc_world.specs.Kept.{IsKept};
-ghost use Rattle.rc_world.specs.Machine as machine;
 ghost use Rattle.rc_world.specs.Machine.{bytes_brought};
 ghost use Rattle.rc_world.specs.WorldParts.{view_bytes};
 ghost use Rattle.rc_run.specs.Calm.{IsCalm};
 ghost use Rattle.rc_run.specs.Lives.{IsJobOf, bytes_for};
-ghost use Rattle.rc_run.specs.Machine.{IsSized, completed_by, given_to, world_of};
+ghost use Rattle.rc_run.specs.Machine.{AtPlace, IsSized, completed_by, given_to, views, world_of};
 
 use super::{Machine, Pending};
 use crate::job::Job;
@@ -21,7 +20,7 @@ impl Machine {
     pub fn job(&self, alloc: Global, place: usize) -> Result<Job, AllocError>
         requires place { place < length self.now.pending.items }
         requires calm { IsCalm (world_of self.now) }
-        ensures { IfOk result (λ j. (p : machine.Pending) → slice_get (world_of self.now).pending place ≡ Some p → IsJobOf (world_of self.now) p j) }
+        ensures { IfOk result (λ j. AtPlace self.now place (λ p. IsJobOf (world_of self.now) p j)) }
     {
         let request = self.pending[place].request;
         match self.bytes_for(alloc, place) {
@@ -36,7 +35,7 @@ impl Machine {
     // A copy of the bytes for the pending request at this place.
     fn bytes_for(&self, alloc: Global, place: usize) -> Result<Vec<u8>, AllocError>
         requires { place < length self.now.pending.items }
-        ensures { IfOk result (λ v. (p : machine.Pending) → slice_get (world_of self.now).pending place ≡ Some p → v.items ≡ bytes_for (world_of self.now) p) }
+        ensures { IfOk result (λ v. AtPlace self.now place (λ p. v.items ≡ bytes_for (world_of self.now) p)) }
     {
         let pending = &self.pending[place];
         match pending.request.kind {
@@ -57,7 +56,7 @@ impl Machine {
         requires step { IsSome (completed_by (world_of self.old) place res bytes.now) }
         requires kept { IsKept (world_of self.old) }
         requires ring { length self.old.ring.completions < self.old.ring.completion_entries }
-        requires enough { (p : machine.Pending) → slice_get (world_of self.old).pending place ≡ Some p → bytes_brought p.request ≤ length bytes.now }
+        requires enough { AtPlace self.old place (λ p. bytes_brought p.request ≤ length bytes.now) }
         requires room { vec_len self.old.completed < vec_capacity self.old.completed }
         ensures step { completed_by (world_of self.old) place res bytes.now ≡ Some (result, world_of self.new) }
         ensures sized { IsSized self.new }
@@ -69,9 +68,9 @@ impl Machine {
     {
         let Pending {
             request,
-            bytes: stood,
+            bytes: kept,
         } = self.pending.remove(place);
-        give_back(&mut self.buffers, request, stood, bytes);
+        give_back(&mut self.buffers, request, kept, bytes);
         let completion = Completion {
             user_data: request.user_data,
             res,
@@ -96,17 +95,17 @@ fn copy_of(alloc: Global, bytes: &Option<Vec<u8>>) -> Result<Vec<u8>, AllocError
 fn give_back(
     buffers: &mut Vec<Option<Vec<u8>>>,
     request: Request,
-    stood: Option<Vec<u8>>,
+    kept: Option<Vec<u8>>,
     bytes: &[u8],
 )
-    requires there { IfSome stood (λ _. request.buffer < length buffers.old.items) }
-    requires enough { IfSome stood (λ v. request.len ≤ length v.items) }
-    requires brought { IfSome stood (λ _. request.len ≤ length bytes.now) }
-    ensures { map view_bytes buffers.new.items ≡ given_to (map view_bytes buffers.old.items) request bytes.now (view_bytes stood) }
+    requires there { IfSome kept (λ _. request.buffer < length buffers.old.items) }
+    requires enough { IfSome kept (λ v. request.len ≤ length v.items) }
+    requires brought { IfSome kept (λ _. request.len ≤ length bytes.now) }
+    ensures { views buffers.new ≡ given_to (views buffers.old) request bytes.now (view_bytes kept) }
 {
-    match stood {
-        Some(stood) => {
-            buffers[request.buffer as usize] = Some(changed(stood, request.len, bytes));
+    match kept {
+        Some(kept) => {
+            buffers[request.buffer as usize] = Some(changed(kept, request.len, bytes));
         }
         None => {}
     }

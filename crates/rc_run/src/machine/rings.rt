@@ -1,15 +1,15 @@
 //! What the steps of threads do to the rings and the buffers.
 
-ghost use Rattle.std.specs.Prelude.{◌≡◌, ◌+◌, ◌<◌, ◌≤◌, ◌^◌, IsSome, MatchResult, Some, true, length, map, take};
+ghost use Rattle.std.specs.Prelude.{◌≡◌, ◌+◌, ◌<◌, ◌≤◌, ◌^◌, IsSome, OnErr, OnOk, Some, true, length, map, take};
 ghost use Rattle.std.specs.Arc.{arc_value};
 ghost use Rattle.std.specs.Vec.{vec_capacity, vec_len};
-ghost use Rattle.rc_world.specs.Changes.{CallIsSmall, StmtIsSmall, standing_at};
+ghost use Rattle.rc_world.specs.Changes.{CallIsSmall, StmtIsSmall};
 ghost use Rattle.rc_lang.specs.declared.lines.Stmt.TheVariants.{Do};
 ghost use Rattle.rc_world.specs.declared.world.Slot.TheVariants.{Closed};
-ghost use Rattle.rc_world.specs.Machine as machine;
+ghost use Rattle.rc_world.specs.Machine.{count_in, hands_over, is_take, reaps_front, taken_bytes, without_taken};
 ghost use Rattle.rc_world.specs.WorldParts.{begun_buffers, begun_pending, view_bytes};
 ghost use Rattle.rc_run.specs.Held.{AreDistinct};
-ghost use Rattle.rc_run.specs.Machine.{IsClosedAt, IsFreshAt, IsSameRest, IsSized, datasync_by, datasync_by_call, pending_of, world_of};
+ghost use Rattle.rc_run.specs.Machine.{IsClosedAt, IsFreshAt, IsSameRest, IsSized, datasync_by, datasync_by_op, fill_step, pending_of, ring_step, store_step, views, world_of};
 ghost use Rattle.rc_run.specs.Requests.{data_of};
 
 use super::{Machine, Pending};
@@ -25,16 +25,14 @@ impl Machine {
         requires exists { thread < length self.old.controls.threads }
         requires small { StmtIsSmall (arc_value self.old.admitted) stmt }
         requires sized { IsSized self.old }
-        requires step { IsSome (machine.in_rings (world_of self.old) (standing_at self.old.controls thread) taken stmt) }
+        requires step { IsSome (ring_step self.old thread taken stmt) }
         requires suits { IsClosedAt self.old.ring.slot stmt }
         requires fresh { IsFreshAt (world_of self.old) stmt }
         requires room { self.old.ring.made + 1 < 2 ^ 64 }
-        ensures step { MatchResult result
-            (λ _. machine.in_rings (world_of self.old) (standing_at self.old.controls thread) taken stmt ≡ Some (world_of self.new))
-            (λ _. world_of self.new ≡ world_of self.old) }
-        ensures datasync { MatchResult result
-            (λ _. self.new.ring.datasync ≡ datasync_by stmt self.old.ring.datasync)
-            (λ _. self.new.ring.datasync ≡ self.old.ring.datasync) }
+        ensures ok { OnOk result (ring_step self.old thread taken stmt ≡ Some (world_of self.new)) }
+        ensures err { OnErr result (world_of self.new ≡ world_of self.old) }
+        ensures flag_kept { OnErr result (self.new.ring.datasync ≡ self.old.ring.datasync) }
+        ensures flag { OnOk result (self.new.ring.datasync ≡ datasync_by stmt self.old.ring.datasync) }
         ensures rest { IsSameRest self.old self.new }
     {
         match stmt {
@@ -48,16 +46,14 @@ impl Machine {
         requires exists { thread < length self.old.controls.threads }
         requires small { CallIsSmall (arc_value self.old.admitted) op }
         requires sized { IsSized self.old }
-        requires step { IsSome (machine.op_in_rings (world_of self.old) (standing_at self.old.controls thread) taken op) }
+        requires step { IsSome (ring_step self.old thread taken (Do op)) }
         requires suits { IsClosedAt self.old.ring.slot (Do op) }
         requires fresh { IsFreshAt (world_of self.old) (Do op) }
         requires room { self.old.ring.made + 1 < 2 ^ 64 }
-        ensures step { MatchResult result
-            (λ _. machine.op_in_rings (world_of self.old) (standing_at self.old.controls thread) taken op ≡ Some (world_of self.new))
-            (λ _. world_of self.new ≡ world_of self.old) }
-        ensures datasync { MatchResult result
-            (λ _. self.new.ring.datasync ≡ datasync_by_call op self.old.ring.datasync)
-            (λ _. self.new.ring.datasync ≡ self.old.ring.datasync) }
+        ensures ok { OnOk result (ring_step self.old thread taken (Do op) ≡ Some (world_of self.new)) }
+        ensures err { OnErr result (world_of self.new ≡ world_of self.old) }
+        ensures flag_kept { OnErr result (self.new.ring.datasync ≡ self.old.ring.datasync) }
+        ensures flag { OnOk result (self.new.ring.datasync ≡ datasync_by_op op self.old.ring.datasync) }
         ensures rest { IsSameRest self.old self.new }
     {
         match op {
@@ -88,8 +84,8 @@ impl Machine {
 
     // A byte is written at a place of a buffer.
     fn store(&mut self, buffer: usize, i: u32, byte: u8)
-        requires { IsSome (machine.stores (world_of self.old) buffer i byte (machine.bytes_of (world_of self.old) buffer)) }
-        ensures step { machine.stores (world_of self.old) buffer i byte (machine.bytes_of (world_of self.old) buffer) ≡ Some (world_of self.new) }
+        requires { IsSome (store_step self.old buffer i byte) }
+        ensures step { store_step self.old buffer i byte ≡ Some (world_of self.new) }
         ensures rest { self.new ≡ record self.old { buffers = self.new.buffers } }
     {
         match &mut self.buffers[buffer] {
@@ -100,8 +96,8 @@ impl Machine {
 
     // A byte is written at every place of a buffer.
     fn fill(&mut self, buffer: usize, byte: u8)
-        requires { IsSome (machine.fills (world_of self.old) buffer byte (machine.bytes_of (world_of self.old) buffer)) }
-        ensures step { machine.fills (world_of self.old) buffer byte (machine.bytes_of (world_of self.old) buffer) ≡ Some (world_of self.new) }
+        requires { IsSome (fill_step self.old buffer byte) }
+        ensures step { fill_step self.old buffer byte ≡ Some (world_of self.new) }
         ensures rest { self.new ≡ record self.old { buffers = self.new.buffers } }
     {
         match &mut self.buffers[buffer] {
@@ -112,13 +108,12 @@ impl Machine {
 
     // The first queued requests become pending, as many as the submit took.
     fn hand_over(&mut self, taken: i32) -> Result<(), AllocError>
-        requires take { machine.is_take (world_of self.old) taken ≡ true }
+        requires take { is_take (world_of self.old) taken ≡ true }
         requires closed { self.old.ring.slot ≡ Closed }
         requires distinct { AreDistinct (data_of self.old.ring.queued) }
         requires sized { IsSized self.old }
-        ensures step { MatchResult result
-            (λ _. world_of self.new ≡ machine.hands_over (world_of self.old) (machine.count_in taken))
-            (λ _. world_of self.new ≡ world_of self.old) }
+        ensures ok { OnOk result (world_of self.new ≡ hands_over (world_of self.old) (count_in taken)) }
+        ensures err { OnErr result (world_of self.new ≡ world_of self.old) }
         ensures datasync { self.new.ring.datasync ≡ self.old.ring.datasync }
         ensures rest { IsSameRest self.old self.new }
         ensures controls { self.new.controls ≡ self.old.controls }
@@ -132,9 +127,9 @@ impl Machine {
 
     // The front completion goes, and its request is no longer in flight.
     fn reap(&mut self)
-        requires step { IsSome (machine.reaps_front (world_of self.old) self.old.ring.completions) }
+        requires step { IsSome (reaps_front (world_of self.old) self.old.ring.completions) }
         requires sized { IsSized self.old }
-        ensures step { machine.reaps_front (world_of self.old) self.old.ring.completions ≡ Some (world_of self.new) }
+        ensures step { reaps_front (world_of self.old) self.old.ring.completions ≡ Some (world_of self.new) }
         ensures datasync { self.new.ring.datasync ≡ self.old.ring.datasync }
         ensures rest { IsSameRest self.old self.new }
         ensures controls { self.new.controls ≡ self.old.controls }
@@ -157,8 +152,8 @@ fn begin_all(
     requires room { vec_len pending.old + count ≤ vec_capacity pending.old }
     requires queued { count ≤ length ring.now.queued }
     ensures pending { map pending_of pending.new.items
-        ≡ begun_pending (map pending_of pending.old.items) (map view_bytes buffers.old.items) (take count ring.now.queued) }
-    ensures buffers { map view_bytes buffers.new.items ≡ begun_buffers (map view_bytes buffers.old.items) (take count ring.now.queued) }
+        ≡ begun_pending (map pending_of pending.old.items) (views buffers.old) (take count ring.now.queued) }
+    ensures buffers { views buffers.new ≡ begun_buffers (views buffers.old) (take count ring.now.queued) }
 {
     for i in 0..count {
         let Some(request) = ring.request(i) else {
@@ -171,8 +166,8 @@ fn begin_all(
 
 // The bytes that a request takes with it as it becomes pending.
 fn taken_bytes(buffers: &mut Vec<Option<Vec<u8>>>, request: Request) -> Option<Vec<u8>>
-    ensures bytes { view_bytes result ≡ machine.taken_bytes (map view_bytes buffers.old.items) request }
-    ensures buffers { map view_bytes buffers.new.items ≡ machine.without_taken (map view_bytes buffers.old.items) request }
+    ensures bytes { view_bytes result ≡ taken_bytes (views buffers.old) request }
+    ensures buffers { views buffers.new ≡ without_taken (views buffers.old) request }
 {
     if !is_read(request.kind) {
         return None;
@@ -185,7 +180,7 @@ fn taken_bytes(buffers: &mut Vec<Option<Vec<u8>>>, request: Request) -> Option<V
 
 // The number in a count or a negative errno, which counts for 0.
 fn count_in(number: i32) -> u32
-    ensures { result ≡ machine.count_in number }
+    ensures { result ≡ count_in number }
 {
     u32::try_from(number).unwrap_or(0)
 }

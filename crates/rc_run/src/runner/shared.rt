@@ -1,14 +1,18 @@
 //! What the threads of a run share.
 
-ghost use Rattle.std.specs.Prelude.{◌<◌};
+ghost use Rattle.std.specs.Prelude.{◌≡◌, ◌<◌};
+ghost use Rattle.std.specs.Arc.{arc_value};
 
-use crate::locked::Asked;
-use crate::scheduler::Scheduler;
+use crate::live::Live;
+use crate::locked::{LockedRun, RunConfig};
+use crate::scheduler::{RunQueue, Scheduler};
+use rc_admit::admitted::Admitted;
 use rc_device::chooser::Chooser;
 use rc_device::device::Device;
+use std::alloc::{AllocError, Global};
 use std::hint::spin_loop;
-use std::sync::ledger::Ledger;
-use std::sync::{Condvar, Mutex, MutexGuard, Wait};
+use std::sync::ledger::{Book, Ledger};
+use std::sync::{Arc, Condvar, Mutex, MutexGuard, Wait};
 
 // How often a thread tries to take the lock of the run before it sleeps until it has it: that is held for a moment, and to
 // wake a thread takes a hundred such moments.
@@ -16,20 +20,52 @@ const TRIES: u32 = 500;
 
 /// What the threads share. Each lock is held for a moment; that of the chooser also inside that of the run.
 ///
-/// How a player stands changes under the lock of the run alone, and a player that waits looks there before it sleeps: so no
-/// wake is lost, with the lock held or without.
+/// The state of a thread changes only under the lock of the run, and a thread that waits looks there before it sleeps: so
+/// no wake is lost, with the lock held or without.
 #[derive(Drop)]
-pub struct Shared<D: Device, C, L: Ledger + Asked> {
+pub struct Shared<D: Device, C, L: Ledger + RunConfig> {
     pub scheduler: Mutex<Scheduler<D, L>>,
     pub device: Mutex<D>,
     pub chooser: Mutex<C>,
-    /// For each player, that it runs again.
-    pub bells: Vec<Condvar>,
-    /// A request became pending.
-    pub offered: Condvar,
+    /// For each thread of the program, that it runs again.
+    pub runs_again: Vec<Condvar>,
+    /// For the workers, that there is a job.
+    pub has_job: Condvar,
 }
 
-impl<D: Device, C, L: Ledger + Asked> Shared<D, C, L> {
+impl<D: Device, C, L: Ledger + RunConfig> Shared<D, C, L> {
+    /// A run at its start, with a book of no event.
+    pub fn new(
+        alloc: Global,
+        admitted: &Arc<Admitted, Global>,
+        book: Book<L>,
+        limit: u64,
+        device: D,
+        chooser: C,
+    ) -> Result<Shared<D, C, L>, AllocError>
+    where
+        D: Drop,
+        C: Drop,
+        requires program { L.program ≡ arc_value admitted.now }
+        requires limit { limit ≡ L.limit }
+        requires total { book.total ≡ 0 }
+    {
+        let threads = admitted.program().threads().len();
+        let live = Live::start(alloc, Arc::try_clone(admitted)?)?;
+        let queue = RunQueue::new(alloc, threads)?;
+        let mut runs_again = Vec::new(alloc);
+        for _ in 0..threads {
+            runs_again.push(Condvar::new())?;
+        }
+        Ok(Shared {
+            scheduler: Mutex::new(Scheduler::new(LockedRun::new(live, book, limit), queue)),
+            device: Mutex::new(device),
+            chooser: Mutex::new(chooser),
+            runs_again,
+            has_job: Condvar::new(),
+        })
+    }
+
     /// Takes the lock of the run.
     pub fn hold<R: Wait>(&self, rt: &R) -> MutexGuard<'_, Scheduler<D, L>> {
         for _ in 0..TRIES {
@@ -41,43 +77,36 @@ impl<D: Device, C, L: Ledger + Asked> Shared<D, C, L> {
         self.scheduler.lock(rt)
     }
 
-    /// Wakes the player that runs next, and so many workers.
-    pub fn tell(&self, player: Option<usize>, workers: usize) {
-        if let Some(player) = player {
-            self.ring(player);
+    /// Wakes the thread that runs next, and so many workers.
+    pub fn wake(&self, thread: Option<usize>, workers: usize) {
+        if let Some(condvar) = thread.and_then(|thread| self.runs_again.get(thread)) {
+            condvar.notify_one();
         }
         match workers {
             0 => {}
-            1 => self.offered.notify_one(),
-            _ => self.offered.notify_all(),
+            1 => self.has_job.notify_one(),
+            _ => self.has_job.notify_all(),
         }
     }
 
-    /// Wakes a player that runs again.
-    pub fn ring(&self, player: usize) {
-        if let Some(bell) = self.bells.get(player) {
-            bell.notify_one();
+    /// Wakes all who sleep: one that leaves for good may have been what they waited for.
+    pub fn wake_all(&self) {
+        for condvar in &self.runs_again {
+            condvar.notify_one();
         }
-    }
-
-    /// Wakes all who sleep: one who leaves for good may have been what they waited for.
-    pub fn tell_all(&self) {
-        for bell in &self.bells {
-            bell.notify_one();
-        }
-        self.offered.notify_all();
+        self.has_job.notify_all();
     }
 
     /// Has the run stop, since memory was refused.
     pub fn stop<R: Wait>(&self, rt: &R) {
         self.hold(rt).refuse();
-        self.tell_all();
+        self.wake_all();
     }
 }
 
 /// A choice below n.
 #[inline(always)]
-pub fn draw<D: Device, C: Chooser, L: Ledger + Asked, R: Wait>(
+pub fn draw<D: Device, C: Chooser, L: Ledger + RunConfig, R: Wait>(
     rt: &R,
     shared: &Shared<D, C, L>,
     n: u32,

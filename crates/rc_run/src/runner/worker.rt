@@ -4,7 +4,7 @@ ghost use Rattle.std.specs.Prelude.{◌≡◌, ◌⊎◌, ◌≤◌, pos, negsuc
 ghost use Rattle.rc_run.specs.Jobs.{allows};
 
 use crate::job::Job;
-use crate::locked::{Asked, Counted};
+use crate::locked::{Counted, RunConfig};
 use crate::runner::shared::{Shared, draw};
 use rc_device::chooser::Chooser;
 use rc_device::device::Device;
@@ -12,7 +12,7 @@ use std::sync::Wait;
 use std::sync::ledger::Ledger;
 
 /// Serves jobs until the run is over. A job that is out is posted in any case.
-pub fn work<D: Device, C: Chooser, L: Ledger + Asked, R: Wait>(
+pub fn work<D: Device, C: Chooser, L: Ledger + RunConfig, R: Wait>(
     rt: &R,
     shared: &Shared<D, C, L>,
     mut mine: Counted<L>,
@@ -31,17 +31,17 @@ pub fn work<D: Device, C: Chooser, L: Ledger + Asked, R: Wait>(
             }
             None => {
                 shared
-                    .offered
+                    .has_job
                     .wait_while(rt, guard, |scheduler| scheduler.run().is_idle());
             }
         }
     }
-    shared.tell_all();
+    shared.wake_all();
     mine
 }
 
 // What a device is granted for a request of this length: to move as much, or less, or to fail with -5 (EIO).
-fn draw_grant<D: Device, C: Chooser, L: Ledger + Asked, R: Wait>(
+fn draw_grant<D: Device, C: Chooser, L: Ledger + RunConfig, R: Wait>(
     rt: &R,
     shared: &Shared<D, C, L>,
     len: u32,
@@ -57,7 +57,7 @@ fn draw_grant<D: Device, C: Chooser, L: Ledger + Asked, R: Wait>(
 }
 
 // Has the device serve a job, with no lock of the run held. A starved job fails with -12 (ENOMEM).
-fn served<D: Device, C: Chooser, L: Ledger + Asked, R: Wait>(
+fn served<D: Device, C: Chooser, L: Ledger + RunConfig, R: Wait>(
     rt: &R,
     shared: &Shared<D, C, L>,
     job: Job,
@@ -67,7 +67,8 @@ fn served<D: Device, C: Chooser, L: Ledger + Asked, R: Wait>(
     ensures request { result.0.request ≡ job.request }
     ensures rest { drop job.request.len result.0.bytes ≡ drop job.request.len job.bytes }
     ensures starved { job.starved ≡ true → (result.0 ≡ job) × (result.1 ≡ negsuc 11) }
-    ensures fed { job.starved ≡ false → (result.0.starved ≡ false) × D.gives job.request.user_data result.1 }
+    ensures fed { job.starved ≡ false → result.0.starved ≡ false }
+    ensures from_device { job.starved ≡ false → D.gives job.request.user_data result.1 }
 {
     if job.starved() {
         return (job, -12);
@@ -82,7 +83,7 @@ fn served<D: Device, C: Chooser, L: Ledger + Asked, R: Wait>(
 }
 
 // Posts the result of a job.
-fn post<D: Device, C, L: Ledger + Asked, R: Wait>(
+fn post<D: Device, C, L: Ledger + RunConfig, R: Wait>(
     rt: &R,
     shared: &Shared<D, C, L>,
     job: Job,
@@ -95,7 +96,7 @@ fn post<D: Device, C, L: Ledger + Asked, R: Wait>(
     let mut guard = shared.hold(rt);
     let (posted, next) = guard.post(job, res, mine);
     drop(guard);
-    shared.tell(next, 0);
+    shared.wake(next, 0);
     if let Err(job) = posted {
         job.give_up();
     }

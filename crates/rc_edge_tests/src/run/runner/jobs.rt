@@ -298,7 +298,7 @@ break
 }
 ";
 
-/// Takes four entries at once, serves the third of the free requests, and tells of the second grant.
+/// Takes four entries at once, serves the third of the free requests, and raises a flag at the second grant.
 #[derive(Drop)]
 struct Third {
     flags: Arc<Flags, Global>,

@@ -1,4 +1,4 @@
-//! When the threads of a run make their turns, and what a gate is told of them.
+//! When the threads of a run make their turns, and what a gate sees of them.
 
 use super::{Flags, LastButOne, Late, linger, prints};
 use crate::run::examples::{HANDOFF, admitted};
@@ -13,7 +13,7 @@ use std::sync::atomic::{AtomicU64, Ordering};
 use std::test::*;
 
 /// Holds this turn of each of two threads until that of the other has come, thread 0 some time longer. Sees that the
-/// turns of each thread are counted from 1, and each is told as answered once.
+/// turns of each thread are counted from 1, and each is answered once.
 #[derive(Drop)]
 struct Together {
     flags: Arc<Flags, Global>,

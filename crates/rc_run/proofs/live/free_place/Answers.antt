@@ -9,4 +9,4 @@ returns-then-left-eq0-clause-some c =
     let x = c.index-pending-k.result in
     let passes = not_false (is_free c.args.out.now x.request) c.is_out.result (c.is_out.ensures ∙ ap (λ (y : Pending). not (is_free c.args.out.now y.request)) (sym c.index-pending-k.is)) c.if-is_out.false in
     let none : c.loop-k.left ≡ 0 = search rules in
-    (c.loop-k-test.true, found_here (λ (p : Pending). is_free c.args.out.now p.request) c.args.pending.now c.loop-k.k c.loop-k.left c.args.n x c.loop-k-test.true c.index-pending-k.is passes none c.loop-k.invariant)
+    found_here (λ (p : Pending). is_free c.args.out.now p.request) c.args.pending.now c.loop-k.k c.loop-k.left c.args.n x c.loop-k-test.true c.index-pending-k.is passes none c.loop-k.invariant

@@ -10,8 +10,8 @@ use Rattle.rc_run.specs.Machine.{world_of}
 use Rattle.rc_run.proofs.Posting.{lent, none_free, some_free}
 use Rattle.rc_run.proofs.live.Live.take_job.Goals as goal
 
-pub returns-then-count-eq0-clause-ok : goal.returns-then-count-eq0-clause-ok
-returns-then-count-eq0-clause-ok c =
+pub returns-then-count-eq0-clause-none : goal.returns-then-count-eq0-clause-none
+returns-then-count-eq0-clause-none c =
     let a = c.self.inside in
     let none : length (filter (λ (p : Pending). is_free a.out.items p.request) a.machine.pending.items) ≡ 0 = search rules in
     (ap free (sym c.self.view_is) ∙ none_free (view_live a) a.machine.pending.items refl none, refl)
@@ -24,8 +24,8 @@ unreachable-requires c =
     let none : slice_get (filter (λ (p : Pending). is_free a.out.items p.request) a.machine.pending.items) (c.args.choice % c.free_count-count.result) ≡ None = search rules in
     some_free (view_live a) a.machine.pending.items c.args.choice c.free_count-count.result counted some none
 
-pub returns-clause-ok : goal.returns-clause-ok
-returns-clause-ok c =
+pub returns-clause-some : goal.returns-clause-some
+returns-clause-some c =
     let a = c.self.inside in
     let m = a.machine in
     let w = world_of m in

@@ -39,7 +39,7 @@ invariant_of-self-2 c =
     let calm = subst (λ (l : Live). IsCalm l.world) (sym c.self.view_is) c.look.ensures in
     let rest = c.in_ok-event.ensures.rest in
     record {
-      leads = turned_leads (arc_value a.machine.admitted) (arc_value c.step.new.self.admitted) w v a.history.items c.push_reserved.new.self.items c.args.thread (to_z w32 (of_z w32 c.taken-taken.result)) c.in_ok-event.event c.self.invariant.leads calm.no_fault c.in_ok-event.ensures.step (ap arc_value rest.admitted) (search rules);
+      leads = turned_leads (arc_value a.machine.admitted) (arc_value c.step.new.self.admitted) w v a.history.items c.push_reserved.new.self.items c.args.thread (to_z w32 (of_z w32 c.taken-taken.result)) c.in_ok-event.event c.self.invariant.leads calm.no_fault c.in_ok-event.ensures.ok (ap arc_value rest.admitted) (search rules);
       sized = rest.sized;
       counted = search rules;
       room = search rules;
@@ -55,7 +55,7 @@ returns-clause-ok c =
     let made = c.in_ok-event.ensures in
     let taken = c.taken-taken.ensures ∙ ap (submit_answer w) (to_z-of_z w32 c.args.take c.ranges.take) in
     let same = to_z-of_z w32 c.taken-taken.result (record { sfits = c.taken-taken.type_inv }) ∙ taken in
-    let step = subst (λ (r : ℤ). thread_step w c.args.thread r ≡ Some (e, v)) same made.step in
+    let step = subst (λ (r : ℤ). thread_step w c.args.thread r ≡ Some (e, v)) same made.ok in
     let line = ready_line w c.args.thread c.in-Ready.line (sym c.next.ensures ∙ c.in-Ready.is) in
     let with : List Event → Bool → Live = λ h b. record { history = h; world = v; datasync = b; out = a.out.items } in
     let d = c.step.new.self.ring.datasync in
@@ -63,7 +63,7 @@ returns-clause-ok c =
     let after =
     ap (λ h. with h d) c.push_reserved.ensures.items
     ∙ ap (λ h. with (h ++ e ∷ []) d) c.reserve.ensures.items
-    ∙ ap (with longer) made.datasync
+    ∙ ap (with longer) made.flag
     ∙ ap (λ o. with longer (datasync_after o a.machine.ring.datasync)) (sym line)
     in
     subst (λ (s : Live). (thread_step s.world c.args.thread (submit_answer s.world c.args.take) ≡ Some (e, v)) × (with c.push_reserved.new.self.items d ≡ grown s e v (datasync_next s c.args.thread))) c.self.view_is (step, after)

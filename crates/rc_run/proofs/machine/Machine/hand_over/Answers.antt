@@ -7,8 +7,8 @@ use Rattle.rc_run.specs.Machine.{pending_of, world_of}
 use Rattle.rc_run.specs.Requests.{RequestRing}
 use Rattle.rc_run.proofs.machine.Machine.hand_over.Goals as goal
 
-pub returns-clause-step : goal.returns-clause-step
-returns-clause-step c =
+pub returns-clause-ok : goal.returns-clause-ok
+returns-clause-ok c =
     let m = c.args.self.now in
     let n = c.count_in-count.result in
     let count = c.count_in-count.ensures ∙ ap count_in (to_z-of_z w32 c.args.taken c.ranges.taken) in

@@ -24,16 +24,16 @@ advance-requires c =
     let w = world_of c.args.self.now in
     let l = c.args.line in
     let read = to_z-of_z w32 c.args.taken c.ranges.taken in
-    let rings = ap (λ z. in_rings w (standing_at w.controls c.args.thread) z l.stmt) (sym read) ∙ c.in_ok-rings.ensures.step in
+    let rings = ap (λ z. in_rings w (standing_at w.controls c.args.thread) z l.stmt) (sym read) ∙ c.in_ok-rings.ensures.ok in
     let answer = c.answer-answer.ensures ∙ ap (λ z. stmt_answer w z l.stmt) read in
     step_ready w c.requires.kept c.args.thread c.args.taken l c.requires.line (world_of c.rings.new.self) rings c.answer-answer.result answer c.requires.step
 
-pub returns-clause-step : goal.returns-clause-step
-returns-clause-step c =
+pub returns-clause-ok : goal.returns-clause-ok
+returns-clause-ok c =
     let w = world_of c.args.self.now in
     let l = c.args.line in
     let read = to_z-of_z w32 c.args.taken c.ranges.taken in
-    let rings = ap (λ z. in_rings w (standing_at w.controls c.args.thread) z l.stmt) (sym read) ∙ c.in_ok-rings.ensures.step in
+    let rings = ap (λ z. in_rings w (standing_at w.controls c.args.thread) z l.stmt) (sym read) ∙ c.in_ok-rings.ensures.ok in
     let answer = c.answer-answer.ensures ∙ ap (λ z. stmt_answer w z l.stmt) read in
     step_done w c.requires.kept c.args.thread c.args.taken l c.requires.line (world_of c.rings.new.self) rings c.answer-answer.result answer c.advance.result c.advance.new.self.controls c.advance.ensures.step
     ∙ ap (λ (m : Machine). Some (c.advance.result, world_of m)) (sym c.advance.ensures.rest)

@@ -3,7 +3,7 @@ use Rattle.std.specs.Prelude.{ℤ}
 use Rattle.std.proofs.Math.Facts.{to_z-of_z}
 use Rattle.rc_run.specs.Lives.{Turned}
 use Rattle.rc_run.proofs.Growing.{turn_more}
-use Rattle.rc_run.proofs.locked.Locked.turn.Goals as goal
+use Rattle.rc_run.proofs.locked.LockedRun.turn.Goals as goal
 
 pub invariant_of-self : goal.invariant_of-self
 invariant_of-self g c =
@@ -14,7 +14,7 @@ invariant_of-self g c =
     let P : ℤ → Type 0 = λ z. Turned s c.args.thread z o.field-0 v in
     let more = turn_more g.D.Device.gives s v c.args.thread c.args.take o.field-0 o.event (search rules) (subst P (to_z-of_z c.ranges.take) o.ensures.ok) in
     record {
-      run = more.run g.L.Asked.program i.safe i.run;
+      run = more.run g.L.RunConfig.program i.safe i.run;
       safe = i.safe;
       given = more.given i.given;
       counted = more.long ∙ ap (λ n. n + 1) i.counted ∙ sym (c.audit.ensures.total ∙ c.add.ensures.total);

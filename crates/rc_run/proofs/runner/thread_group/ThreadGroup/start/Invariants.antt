@@ -1,5 +1,5 @@
 use Rattle.std.proofs.Common.{◌≡◌, ◌+◌, vec_len, vec_capacity}
-use Rattle.rc_run.proofs.runner.crew.Crew.start.Given as goal
+use Rattle.rc_run.proofs.runner.thread_group.ThreadGroup.start.Given as goal
 
 abbrev pub invariant-loop-number : goal.invariant-loop-number
 invariant-loop-number g l =

@@ -1,11 +1,11 @@
-//! Crews: the players of a run, or its workers, from their start to what they counted.
+//! Groups of threads: those of the program, or the workers, from their start to what they counted.
 
 ghost use Rattle.std.specs.Prelude.{◌≡◌, ◌+◌, ◌≤◌, IfOk, sum};
-ghost use Rattle.rc_run.specs.Rooms.{HasCapacity, IsAtWork};
+ghost use Rattle.rc_run.specs.Rooms.{HasRoom, IsStarted};
 
 use crate::gate::Gate;
-use crate::locked::{Asked, Counted};
-use crate::runner::player::play;
+use crate::locked::{Counted, RunConfig};
+use crate::runner::program_thread::run_thread;
 use crate::runner::shared::Shared;
 use crate::runner::worker::work;
 use rc_device::chooser::Chooser;
@@ -15,16 +15,16 @@ use std::sync::Wait;
 use std::sync::ledger::{Ledger, Share};
 use std::thread::{JoinHandle, Scope, Threads};
 
-/// What the threads of a crew do.
+/// What the threads of a group do.
 #[derive(Clone, Copy)]
 pub enum Role {
-    /// Each plays the thread of the program with its number.
-    Player,
+    /// Each runs the thread of the program with its number.
+    Program,
     /// Each serves jobs.
     Worker,
 }
 
-// A thread that runs, or the count of one that could not be made.
+// A thread that runs, or the count of one that couldn't be made.
 #[derive(Drop)]
 pub enum Started<L: Ledger> {
     Running(JoinHandle<Counted<L>>),
@@ -33,19 +33,19 @@ pub enum Started<L: Ledger> {
 
 /// The threads that are started, and room for what each counts.
 #[derive(Drop)]
-pub struct Crew<L: Ledger> {
+pub struct ThreadGroup<L: Ledger> {
     pub started: Vec<Started<L>>,
     pub counts: Vec<u64>,
 }
 
-// Starts a thread of a crew. Where it can't be made the run is to stop, and its part is played here.
+// Starts a thread of a group. If it can't be made the run is to stop, and it is called here, to its end.
 fn spawn<
     's,
     E,
     D: Device + Drop + Send + 's,
     C: Chooser + Drop + Send + 's,
     G: Gate + Sync + 's,
-    L: Ledger + Asked + Send + Sync + 's,
+    L: Ledger + RunConfig + Send + Sync + 's,
     R: Threads + Wait + Sync + 's,
 >(
     scope: &Scope<'s, E>,
@@ -57,7 +57,7 @@ fn spawn<
     mine: Counted<L>,
 ) -> Started<L> {
     let act = move || match role {
-        Role::Player => play(rt, shared, gate, number, mine),
+        Role::Program => run_thread(rt, shared, gate, number, mine),
         Role::Worker => work(rt, shared, mine),
     };
     match scope.spawn(act) {
@@ -69,19 +69,18 @@ fn spawn<
     }
 }
 
-impl<L: Ledger> Crew<L> {
-    /// Nobody, with room for so many.
-    pub fn new(alloc: Global, count: u32) -> Result<Crew<L>, AllocError>
-        ensures { IfOk result (λ r. HasCapacity count r.started × HasCapacity count r.counts) }
+impl<L: Ledger> ThreadGroup<L> {
+    /// No thread, with room for so many.
+    pub fn new(alloc: Global, count: u32) -> Result<ThreadGroup<L>, AllocError>
+        ensures { IfOk result (λ g. HasRoom count g.started g.counts) }
     {
-        Ok(Crew {
+        Ok(ThreadGroup {
             started: Vec::with_capacity(alloc, count as usize)?,
             counts: Vec::with_capacity(alloc, count as usize)?,
         })
     }
 
-    /// Starts its threads, each with a part of the share. Where one can't be made the run is to stop, and its
-    /// part is played here.
+    /// Starts its threads, each with a part of the share. If one can't be made the run is to stop.
     pub fn start<
         's,
         E,
@@ -98,17 +97,17 @@ impl<L: Ledger> Crew<L> {
         role: Role,
         count: u32,
         all: &mut Share<L>,
-    ) -> Crew<L>
+    ) -> ThreadGroup<L>
     where
-        L: Asked + Send + Sync + 's,
-        requires room { HasCapacity count self.started × HasCapacity count self.counts }
+        L: RunConfig + Send + Sync + 's,
+        requires room { HasRoom count self.started self.counts }
         requires parts { count ≤ all.old.parts }
         requires amount { all.old.amount ≡ 0 }
-        ensures at_work { IsAtWork count result.started result.counts }
+        ensures started { IsStarted count result.started result.counts }
         ensures parts { all.new.parts + count ≡ all.old.parts }
         ensures amount { all.new.amount ≡ 0 }
     {
-        let Crew {
+        let ThreadGroup {
             mut started,
             counts,
         } = self;
@@ -119,16 +118,16 @@ impl<L: Ledger> Crew<L> {
             };
             started.push_reserved(spawn(scope, rt, shared, gate, role, number, mine));
         }
-        Crew { started, counts }
+        ThreadGroup { started, counts }
     }
 
     /// Waits for each thread, and answers what each counted. The shares come back into one.
     pub fn join<R: Threads>(self, rt: &R, count: u32, all: &mut Share<L>) -> Vec<u64>
-        requires at_work { IsAtWork count self.started self.counts }
+        requires started { IsStarted count self.started self.counts }
         ensures parts { all.new.parts ≡ all.old.parts + count }
         ensures amount { all.new.amount ≡ all.old.amount + sum result.items }
     {
-        let Crew {
+        let ThreadGroup {
             started,
             mut counts,
         } = self;
