@@ -1,5 +1,5 @@
 -- What lies under the lock of a run.
-use Rattle.std.specs.Prelude.{ℕ, ℤ, ◌≡◌, ◌⊎◌, ◌+◌, ◌<◌, ◌≤◌, Bool, true, false, ◌||◌, if◌then◌else◌, List, [], count_by, length, nat_le}
+use Rattle.std.specs.Prelude.{ℕ, ℤ, ◌≡◌, ◌⊎◌, ◌+◌, ◌<◌, ◌≤◌, Bool, true, false, ◌||◌, if◌then◌else◌, [], count_by, length, nat_le}
 use Rattle.rc_lang.specs.Program.{Program}
 use Rattle.rc_run.specs.declared.live.Turn.{Turn}
 use Rattle.rc_run.specs.declared.live.Turn.TheVariants as turn
@@ -7,7 +7,7 @@ use Rattle.rc_run.specs.declared.locked.Ending.{Ending}
 use Rattle.rc_run.specs.declared.locked.Ending.TheVariants as ending
 use Rattle.rc_run.specs.Lives.{Live, free}
 use Rattle.rc_run.specs.Reports.{AllEnded, AllGiven, IsUnended, is_turn}
-use Rattle.rc_world.specs.Machine.{World, start_world}
+use Rattle.rc_world.specs.Machine.{start_world}
 use Rattle.rc_world.specs.Runs.{IsRun, IsSafe}
 
 -- The run, how many of its events are of threads and how many may be, and whether memory was refused.
@@ -16,10 +16,6 @@ pub record LockedRun : Type 0 where
   pub turns : ℕ
   pub limit : ℕ
   pub memory : Bool
-
--- nothing is counted
-abbrev pub new_run : Live → ℕ → LockedRun
-new_run run limit = record { run = run; turns = 0; limit = limit; memory = false }
 
 -- Memory was refused, or the limit is reached.
 abbrev pub is_stopped : LockedRun → Bool

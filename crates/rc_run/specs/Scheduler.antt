@@ -1,5 +1,5 @@
 -- What lies under the lock of a run: the run itself, and which of its threads runs next.
-use Rattle.std.specs.Prelude.{ℕ, ◌≡◌, ◌⊎◌, ◌+◌, ◌-◌, ◌<◌, ◌≤◌, Bool, true, false, ◌&&◌, ◌||◌, not, if◌then◌else◌, List, length, replicate, Option, None, Some, nat_eq, nat_le, nat_lt, slice_get, slice_index_or, slice_set}
+use Rattle.std.specs.Prelude.{ℕ, ◌≡◌, ◌⊎◌, ◌+◌, ◌-◌, ◌<◌, ◌≤◌, Bool, true, false, ◌&&◌, ◌||◌, not, List, length, replicate, Option, None, Some, nat_eq, nat_le, nat_lt, slice_get, slice_index_or, slice_set}
 use Rattle.std.specs.List.{list_any}
 use Rattle.rc_lang.specs.declared.lines.Line.{Line}
 use Rattle.rc_lang.specs.declared.lines.Stmt.{Stmt}
@@ -107,10 +107,7 @@ MovesOn s = (i : ℕ) → is_held_back s i ≡ true → AnyRuns s.run.run s.queu
 abbrev pub waits : Scheduler → ℕ → Bool
 waits s i = not (is_running (state_at s.queue.states i)) && (not (is_stopped s.run) && not (has_ended s.run.run.world i))
 
-abbrev pub puts : Option Turn → Bool
-puts (Some (Done (ByThread i line ItemsPut))) = true
-puts turn = false
-
 -- the queue after a turn in this run: a put is noted, with how many events there are
 abbrev pub with_put : Option Turn → Live → RunQueue → RunQueue
-with_put turn s q = if puts turn then record q { last_put = length s.history } else q
+with_put (Some (Done (ByThread i line ItemsPut))) s q = record q { last_put = length s.history }
+with_put turn s q = q

@@ -4,7 +4,7 @@ ghost use Rattle.std.specs.Prelude.{◌≡◌, ◌⊎◌, ◌↔◌, ◌<◌, �
 ghost use Rattle.rc_run.specs.Jobs.{allows};
 ghost use Rattle.rc_run.specs.Reports.{AllEnded, IsUnended};
 ghost use Rattle.rc_run.specs.Lives.{IsNotOut, Lent, Posted, Turned, begun, free};
-ghost use Rattle.rc_run.specs.LockedRun.{EndsAs, IsLockedRun, IsOver, LendsNone, after_no_turn, after_refusal, is_stopped, new_run, with_turn};
+ghost use Rattle.rc_run.specs.LockedRun.{EndsAs, IsLockedRun, IsOver, LendsNone, after_no_turn, after_refusal, is_stopped, with_turn};
 ghost use Rattle.rc_world.specs.Runs.{IsSafe};
 
 use crate::job::Job;
@@ -88,7 +88,7 @@ impl<D: Device, L: Ledger + RunConfig> LockedRun<D, L> {
         requires safe { IsSafe L.program }
         requires limit { limit ≡ L.limit }
         requires total { events.total ≡ 0 }
-        ensures { result ≡ new_run live limit }
+        ensures { result ≡ record { run = live; turns = 0; limit = limit; memory = false } }
     {
         LockedRun {
             live,
