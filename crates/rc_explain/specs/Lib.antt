@@ -1,6 +1,6 @@
 pub mod Above
-pub mod Causes
 pub mod Explains
 pub mod Judged
 pub mod Listed
+pub mod Members
 pub mod StateText

@@ -23,7 +23,15 @@ use std::alloc::{AllocError, Global};
 #[derive(Drop)]
 pub struct Need {
     pub asks: Vec<u8>,
-    pub missing: Option<Part>,
+    pub missing: Option<Missing>,
+}
+
+/// A part that isn't held on a side of the flag (that of a flag that is 0, or the other), and whether it is on the other.
+#[derive(Clone, Copy)]
+pub struct Missing {
+    pub part: Part,
+    pub zero: bool,
+    pub on_other: bool,
 }
 
 /// What the header of a thread asks for that is refused for the cause, and what the threads up to it hold.
@@ -76,9 +84,14 @@ pub fn line_need(
 }
 
 /// The part that is asked for of a state and that is missing on a side, the zero one first.
-fn missing_of(thread: usize, state: &State, asks: Asks) -> Option<Part> {
+fn missing_of(thread: usize, state: &State, asks: Asks) -> Option<Missing> {
     let zero = is_short(state.on(true), thread, true, asks);
-    missing_part(state.on(zero), thread, zero, asks)
+    let part = missing_part(state.on(zero), thread, zero, asks)?;
+    Some(Missing {
+        part,
+        zero,
+        on_other: state.on(!zero).holds(part),
+    })
 }
 
 /// Adds what is asked for of a state, on a side on which less is there; which one, if it is the only one.

@@ -1,72 +1,63 @@
 //! Why each cause is a mistake, and how it is mended as a rule.
 
 ghost use Rattle.std.specs.Prelude.{◌≡◌};
-ghost use Rattle.rc_explain.specs.Causes as spec;
+ghost use Rattle.rc_read.specs.Causes.{number_of_cause};
+ghost use Rattle.rc_rules.specs.Causes.{premise_number};
 
 use rc_read::ReadCause;
 use rc_rules::cause::Cause;
 
-/// Why a text isn't accepted.
+/// What is said of a cause.
 #[derive(Clone, Copy)]
-pub enum Code {
-    /// A line can't be read.
-    Unreadable(ReadCause),
-    /// A line is refused.
-    Refused(Cause),
+pub struct Advice {
+    /// The letter and the number of the cause.
+    pub letter: &'static str,
+    pub number: u32,
+    /// Why it is a mistake, in one sentence.
+    pub why: &'static str,
+    /// How it is mended as a rule, in one sentence.
+    pub mend: &'static str,
 }
 
-impl Code {
-    ghost use Rattle.std.specs.Prelude.{◌≡◌};
-    ghost use Rattle.rc_explain.specs.Causes as spec;
-
-    /// The number of the cause, after its letter.
-    pub fn number(self) -> u32
-        ensures { result ≡ spec.number_of self }
-    {
-        match self {
-            Code::Unreadable(cause) => u32::from(cause.number()),
-            Code::Refused(cause) => cause.number(),
-        }
+/// What is said of a line that can't be read.
+pub fn advice_on_read(cause: ReadCause) -> Advice
+    ensures { result.number ≡ number_of_cause cause }
+{
+    Advice {
+        letter: "P",
+        number: u32::from(cause.number()),
+        why: sentence_of_read(cause),
+        mend: mend_of_read(cause),
     }
 }
 
-/// Why it is a mistake, in one sentence.
-pub fn sentence_of(code: Code) -> &'static str
-    ensures { result.now ≡ spec.sentence_of code }
+/// What is said of a line that is refused.
+pub fn advice_on_rule(cause: Cause) -> Advice
+    ensures { result.number ≡ premise_number cause }
 {
-    match code {
-        Code::Unreadable(cause) => sentence_of_read(cause),
-        Code::Refused(cause) => sentence_of_rule(cause),
-    }
-}
-
-/// How it is mended as a rule, in one sentence.
-pub fn mend_of(code: Code) -> &'static str
-    ensures { result.now ≡ spec.mend_of code }
-{
-    match code {
-        Code::Unreadable(cause) => mend_of_read(cause),
-        Code::Refused(cause) => mend_of_rule(cause),
+    Advice {
+        letter: "V",
+        number: cause.number(),
+        why: sentence_of_rule(cause),
+        mend: mend_of_rule(cause),
     }
 }
 
 /// Why a line that can't be read is a mistake.
-fn sentence_of_read(cause: ReadCause) -> &'static str
-    ensures { result.now ≡ spec.sentence_of_read cause }
-{
+fn sentence_of_read(cause: ReadCause) -> &'static str {
     match cause {
         ReadCause::NotAscii =>
             "The notation is ASCII, so that no two names look alike; such a byte is mostly a dash, a quote or a blank that came with pasted text.",
         ReadCause::BadHead =>
             "The first line says in which version of the notation the rest is written, and the second how large the rings are.",
         ReadCause::BadLine =>
-            "The words are no form of the notation, or the line stands where none of its kind may.",
+            "The words are no form of the notation, or a line of this form may not be here.",
         ReadCause::BadNumber =>
-            "The word in a number's place is no number, or lies outside of the range of that place.",
+            "The word in a number's place is no number, or is out of the range of that place.",
         ReadCause::UnknownName =>
             "A text is read once, from the top, and no line above this one declares what it names.",
         ReadCause::DoubleName =>
-            "Each name and each number stands for one thing, and a request is known by its user data alone.",
+            "Each name and each number means one thing, and a request is known only by its user data.",
         ReadCause::Braces =>
             "Each block has a closing brace of its own, and here one is missing or one too many.",
         ReadCause::TooLarge =>
@@ -81,9 +72,7 @@ fn sentence_of_read(cause: ReadCause) -> &'static str
 }
 
 /// Why a line that is refused is a mistake.
-fn sentence_of_rule(cause: Cause) -> &'static str
-    ensures { result.now ≡ spec.sentence_of_rule cause }
-{
+fn sentence_of_rule(cause: Cause) -> &'static str {
     match cause {
         Cause::Unlocked =>
             "liburing takes no lock, and two threads in its calls at once may get the same entry or see one completion twice.",
@@ -92,25 +81,25 @@ fn sentence_of_rule(cause: Cause) -> &'static str
         Cause::QueueFull =>
             "Where the submission ring is full `io_uring_get_sqe(3)` answers NULL, and a prep would write through it.",
         Cause::SlotOpen =>
-            "An entry that isn't finished would go to the kernel with the next submit, or be left behind for another thread.",
+            "An entry that isn't finished would go to the kernel with the next submit, or be left for another thread.",
         Cause::NoSlot =>
             "A prep fills an entry that `get_sqe` opened, and `set_data64` queues one that a prep filled; without one it spoils another request.",
         Cause::WrongKind =>
-            "Whoever reaps the completion sees its user data alone, and gets what the token's line says and not what the request took.",
+            "The thread that reaps the completion sees only its user data, and gets what the token's line says and not what the request took.",
         Cause::NotWhole =>
-            "Who writes a buffer has to be alone with it, and shares that aren't held here may be another thread's or a request's in flight.",
+            "A buffer is written only by a thread that has all its shares; those that aren't held here may be another thread's or a request's in flight.",
         Cause::NoShare =>
             "Without a share of the buffer another thread or the kernel may be writing it at this moment.",
         Cause::OutOfBuffer =>
-            "The bytes behind the last one of the buffer are another variable's or nobody's.",
+            "The bytes after the last one of the buffer are another variable's or nobody's.",
         Cause::NoToken =>
-            "A completion is known by its user data alone, and of two requests in flight with the same nobody knows which one ended.",
+            "A completion is known only by its user data, and if two requests in flight have the same, nobody knows which one ended.",
         Cause::NoEntry =>
             "`io_uring_cqe_seen(3)` moves the head of the completion ring past whatever is there, even if nobody looked at it.",
         Cause::QueueLeft =>
             "A submit may take fewer entries than are queued, and what is left is in the way of the thread that locks next.",
         Cause::LoopEntry =>
-            "Exactly what a loop keeps counts as held in it and behind it, so what isn't there where it begins would come from nowhere.",
+            "Exactly what a loop keeps counts as held in it and after it, so what isn't held where it begins would come from nowhere.",
         Cause::LoopBody =>
             "The body of a loop begins again with what the loop keeps, and at its end not all of that is there.",
         Cause::JoinMismatch =>
@@ -127,36 +116,32 @@ fn sentence_of_rule(cause: Cause) -> &'static str
 }
 
 /// How a line that can't be read is mended.
-fn mend_of_read(cause: ReadCause) -> &'static str
-    ensures { result.now ≡ spec.mend_of_read cause }
-{
+fn mend_of_read(cause: ReadCause) -> &'static str {
     match cause {
         ReadCause::NotAscii => "Write an ASCII character in its place.",
         ReadCause::BadHead =>
             "Begin the text with `ringcheck 1`, or the version that it needs, and then `ring N`.",
         ReadCause::BadLine =>
-            "Compare the line with the forms in docs/notation.md; words are cut at blanks alone, so a brace stands apart.",
+            "Compare the line with the forms in docs/notation.md; words are separated only by blanks, so a brace has one before and after it.",
         ReadCause::BadNumber =>
-            "Write a number within the range; a small buffer can stand for a large one.",
+            "Write a number within the range; a small buffer can model a large one.",
         ReadCause::UnknownName =>
             "Declare the file, the buffer or the token above this line, or mend the name.",
         ReadCause::DoubleName =>
             "Give the second another name or number; in a list of items write the sum.",
-        ReadCause::Braces => "Let each thread, lock, `if`, peek, arm and loop end by its own `}`.",
-        ReadCause::TooLarge => "Leave away what nothing names, or split the text.",
+        ReadCause::Braces => "End each thread, lock, `if`, peek, arm and loop with its own `}`.",
+        ReadCause::TooLarge => "Remove what nothing names, or split the text.",
         ReadCause::BadNesting =>
-            "Keep the body of the inner block, and leave the block itself away or move it out of the outer one.",
+            "Keep the body of the inner block, and remove the block itself or move it out of the outer one.",
         ReadCause::BadCase =>
-            "Add the arm that is missing, empty if nothing is to be done there, or move the line into an arm.",
+            "Add the arm that is missing, which may be empty, or move the line into an arm.",
         ReadCause::OtherFlag =>
-            "Name the same variable behind each `when`, or give each loop a thread of its own.",
+            "Name the same variable after each `when`, or give each loop a thread of its own.",
     }
 }
 
 /// How a line that is refused is mended.
-fn mend_of_rule(cause: Cause) -> &'static str
-    ensures { result.now ≡ spec.mend_of_rule cause }
-{
+fn mend_of_rule(cause: Cause) -> &'static str {
     match cause {
         Cause::Unlocked =>
             "Put the call into `lock {` .. `}`, together with the calls that rely on what it answered.",
@@ -190,9 +175,9 @@ fn mend_of_rule(cause: Cause) -> &'static str
         Cause::OverShares =>
             "Declare a share for each thread that reads, or let one thread begin with them and pass them on by a request.",
         Cause::TokenTwice =>
-            "Declare a token for each thread, or let whoever reaps its request have it next.",
+            "Declare a token for each thread, or let the thread that reaps its request have it next.",
         Cause::OverCredits =>
             "Declare a larger completion ring by `cq`, or hold fewer credits in the headers.",
-        Cause::NotHeld => "Put it where it was got back: behind the `cqe_seen` in its own `case`.",
+        Cause::NotHeld => "Put it where it came back: after the `cqe_seen` in its own `case`.",
     }
 }

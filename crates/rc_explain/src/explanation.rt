@@ -3,7 +3,7 @@
 ghost use Rattle.std.specs.Prelude.{◌<◌, length};
 
 use crate::asks::{Need, header_need, line_need};
-use crate::causes::{Code, mend_of, sentence_of};
+use crate::causes::{Advice, advice_on_read, advice_on_rule};
 use crate::hint::put_hint;
 use crate::judged::Judged;
 use crate::listing::put_listing;
@@ -11,7 +11,7 @@ use crate::lost::put_lost;
 use crate::spot::{Spot, spot_of};
 use rc_lang::program::Program;
 use rc_report::source::Lines;
-use rc_report::text::{put_number, put_piece, put_pieces};
+use rc_report::text::{put_counted, put_piece, put_pieces};
 use rc_report::verdict::Refusal;
 use rc_rules::cause::Cause;
 use rc_verify::labels::Labels;
@@ -33,7 +33,7 @@ pub fn explanation(alloc: Global, source: &[u8], judged: &Judged) -> Result<Vec<
         Judged::Unreadable { line, cause } => {
             put_hint(&mut text, alloc, source, *line, *cause)?;
             put_piece(&mut text, b"\n")?;
-            put_code(&mut text, b"P", Code::Unreadable(*cause))?;
+            put_advice(&mut text, advice_on_read(*cause))?;
         }
     }
     Ok(text)
@@ -66,12 +66,12 @@ fn put_refused(
     if let Some(spot) = spot_of(program, line) {
         let need = put_spot(alloc, &mut listing, lines, program, spot, cause)?;
         put_pieces(text, &[&need.asks, b"\n"])?;
-        if let (Some(place), Some(part)) = (spot.place, need.missing) {
-            put_lost(text, lines, program, spot.thread, place, part)?;
+        if let (Some(place), Some(missing)) = (spot.place, need.missing) {
+            put_lost(text, lines, program, spot.thread, place, missing)?;
             put_piece(text, b"\n")?;
         }
     }
-    put_code(text, b"V", Code::Refused(cause))?;
+    put_advice(text, advice_on_rule(cause))?;
     put_piece(text, &listing)
 }
 
@@ -99,11 +99,14 @@ fn put_spot(
 }
 
 /// Adds why something is a mistake, how it is mended, and where more is said of it.
-fn put_code(text: &mut Vec<u8>, letter: &[u8], code: Code) -> Result<(), AllocError> {
-    let why = sentence_of(code).as_bytes();
-    let mend = mend_of(code).as_bytes();
-    put_pieces(text, &[b"why: ", why, b"\nmend: ", mend])?;
-    put_pieces(text, &[b"\nsee ", letter])?;
-    put_number(text, u64::from(code.number()))?;
-    put_piece(text, b" in docs/causes.md\n")
+fn put_advice(text: &mut Vec<u8>, advice: Advice) -> Result<(), AllocError> {
+    let (why, mend) = (advice.why.as_bytes(), advice.mend.as_bytes());
+    let letter = advice.letter.as_bytes();
+    put_pieces(text, &[b"why: ", why, b"\nmend: ", mend, b"\nsee "])?;
+    put_counted(
+        text,
+        letter,
+        u64::from(advice.number),
+        b" in docs/causes.md\n",
+    )
 }

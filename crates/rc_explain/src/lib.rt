@@ -3,7 +3,7 @@
 #![tactic(auto)]
 
 mod asks;
-pub mod causes;
+mod causes;
 pub mod engine;
 mod explanation;
 pub mod hint;

@@ -2,7 +2,7 @@
 
 ghost use Rattle.std.specs.Prelude.{◌≡◌, ◌<◌, IfOk, length};
 ghost use Rattle.rc_explain.specs.Listed as spec;
-ghost use Rattle.rc_explain.specs.Listed.{view_page};
+ghost use Rattle.rc_explain.specs.Listed.{Lists, view_page};
 ghost use Rattle.rc_lang.specs.Parts.{view_thread};
 ghost use Rattle.rc_report.specs.Text.{Puts};
 ghost use Rattle.rc_rules.specs.States.{side_label};
@@ -206,7 +206,7 @@ fn put_named(
     requires thread { view_thread part.now ≡ labels.old.thread }
     requires first { labels.old.place ≡ 0 }
     requires of { labels.old.program ≡ program.now }
-    ensures text { spec.Lists source.now program.now (view_thread part.now) text.old text.new result }
+    ensures text { Lists source.now program.now (view_thread part.now) text.old text.new result }
     ensures same { labels.new.program ≡ labels.old.program }
 {
     let (name, lines): (&[u8], &[Line]) = (&part.name, &part.lines);

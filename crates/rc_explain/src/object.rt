@@ -1,14 +1,15 @@
 //! A verdict and what explains it, as JSON.
 
 ghost use Rattle.std.specs.Prelude.{◌≡◌, ◌<◌, IfOk, OnOk, length};
-ghost use Rattle.serde_json.specs.Data.{object, put as with_member, string};
-ghost use Rattle.serde_json.specs.View.{members_view, view};
+ghost use Rattle.serde_json.specs.Data.{string};
+ghost use Rattle.serde_json.specs.View.{view};
 ghost use Rattle.rc_explain.specs.Judged.{verdict_of};
 ghost use Rattle.rc_explain.specs.Explains.{IsObjectOf, TellsLine, TellsVerdict};
+ghost use Rattle.rc_explain.specs.Members.{IsPut, whole};
 ghost use Rattle.rc_report.specs.declared.verdict.Verdict.TheVariants.{Accepted, Refused, Unreadable};
 
 use crate::asks::{Need, header_need, line_need};
-use crate::causes::{Code, mend_of, sentence_of};
+use crate::causes::{Advice, advice_on_read, advice_on_rule};
 use crate::hint::put_hint;
 use crate::judged::Judged;
 use crate::lost::put_lost;
@@ -25,6 +26,8 @@ use rc_verify::labels::Labels;
 use serde_json::{Map, Value, json};
 use std::alloc::{AllocError, Global};
 
+type Members = Map<String, Value>;
+
 /// What is said of a text that was judged: one object without spaces, its keys in order.
 pub fn object_text(alloc: Global, source: &[u8], judged: &Judged) -> Result<Vec<u8>, AllocError>
     ensures { IfOk result (λ json. IsObjectOf (verdict_of judged.now) json.items) }
@@ -35,12 +38,8 @@ pub fn object_text(alloc: Global, source: &[u8], judged: &Judged) -> Result<Vec<
 }
 
 /// The members of what is said of a text.
-fn members_of(
-    alloc: Global,
-    source: &[u8],
-    judged: &Judged,
-) -> Result<Map<String, Value>, AllocError>
-    ensures { IfOk result (λ members. TellsVerdict (verdict_of judged.now) (object (members_view members.entries))) }
+fn members_of(alloc: Global, source: &[u8], judged: &Judged) -> Result<Members, AllocError>
+    ensures { IfOk result (λ members. TellsVerdict (verdict_of judged.now) (whole members)) }
 {
     match judged {
         Judged::Accepted(program) => accepted_members(alloc, program),
@@ -50,13 +49,8 @@ fn members_of(
 }
 
 /// Adds a member, or gives it this value.
-fn put(
-    alloc: Global,
-    members: &mut Map<String, Value>,
-    key: &str,
-    value: Value,
-) -> Result<(), AllocError>
-    ensures put { OnOk result (members_view members.new.entries ≡ with_member key.now (view value) (members_view members.old.entries)) }
+fn put(alloc: Global, members: &mut Members, key: &str, value: Value) -> Result<(), AllocError>
+    ensures put { OnOk result (IsPut key.now (view value) members.old members.new) }
 {
     let name = String::from_str(alloc, key)?;
     drop(members.insert(name, value)?);
@@ -64,13 +58,8 @@ fn put(
 }
 
 /// Adds a member that is a text.
-fn put_text(
-    alloc: Global,
-    members: &mut Map<String, Value>,
-    key: &str,
-    text: &str,
-) -> Result<(), AllocError>
-    ensures put { OnOk result (members_view members.new.entries ≡ with_member key.now (string text.now) (members_view members.old.entries)) }
+fn put_text(alloc: Global, members: &mut Members, key: &str, text: &str) -> Result<(), AllocError>
+    ensures put { OnOk result (IsPut key.now (string text.now) members.old members.new) }
 {
     let text = String::from_str(alloc, text)?;
     put(alloc, members, key, Value::from(text))?;
@@ -80,13 +69,13 @@ fn put_text(
 /// Adds what the line of a verdict says: its word, and the line that isn't good with its cause.
 fn put_line(
     alloc: Global,
-    members: &mut Map<String, Value>,
+    members: &mut Members,
     word: &str,
     name: &str,
     code: u32,
     line: u32,
 ) -> Result<(), AllocError>
-    ensures { OnOk result (TellsLine word.now name.now code line (object (members_view members.new.entries))) }
+    ensures { OnOk result (TellsLine word.now name.now code line (whole members.new)) }
 {
     put_text(alloc, members, "cause", name)?;
     put(alloc, members, "code", Value::from(code))?;
@@ -96,8 +85,8 @@ fn put_line(
 }
 
 /// What is said of an accepted program.
-fn accepted_members(alloc: Global, program: &Program) -> Result<Map<String, Value>, AllocError>
-    ensures { IfOk result (λ members. TellsVerdict Accepted (object (members_view members.entries))) }
+fn accepted_members(alloc: Global, program: &Program) -> Result<Members, AllocError>
+    ensures { IfOk result (λ members. TellsVerdict Accepted (whole members)) }
 {
     let threads = threads_of(alloc, program)?;
     let mut members = Map::new(alloc);
@@ -127,15 +116,15 @@ fn refused_members(
     source: &[u8],
     program: &Program,
     refusal: Refusal,
-) -> Result<Map<String, Value>, AllocError>
-    ensures { IfOk result (λ members. TellsVerdict (Refused refusal) (object (members_view members.entries))) }
+) -> Result<Members, AllocError>
+    ensures { IfOk result (λ members. TellsVerdict (Refused refusal) (whole members)) }
 {
     let Refusal { line, cause } = refusal;
     let mut members = Map::new(alloc);
     if let Some(spot) = spot_of(program, line) {
         put_spot(alloc, &mut members, source, program, spot, cause)?;
     }
-    put_code(alloc, &mut members, "V", Code::Refused(cause))?;
+    put_advice(alloc, &mut members, advice_on_rule(cause))?;
     put_line(
         alloc,
         &mut members,
@@ -150,7 +139,7 @@ fn refused_members(
 /// Adds what a refused line asks for, where a part that is missing was last held, and the lines of its thread up to it.
 fn put_spot(
     alloc: Global,
-    members: &mut Map<String, Value>,
+    members: &mut Members,
     source: &[u8],
     program: &Program,
     spot: Spot,
@@ -161,10 +150,10 @@ fn put_spot(
     let mut threads = Vec::new(alloc);
     let need = push_spot(alloc, &mut threads, program, spot, cause)?;
     put_bytes(alloc, members, "asks", &need.asks)?;
-    if let (Some(place), Some(part)) = (spot.place, need.missing) {
+    if let (Some(place), Some(missing)) = (spot.place, need.missing) {
         let mut lost = Vec::new(alloc);
         let lines = Lines::of(alloc, source)?;
-        put_lost(&mut lost, &lines, program, spot.thread, place, part)?;
+        put_lost(&mut lost, &lines, program, spot.thread, place, missing)?;
         put_bytes(alloc, members, "lost", &lost)?;
     }
     let name = &program.threads()[spot.thread as usize].name;
@@ -198,14 +187,14 @@ fn unreadable_members(
     source: &[u8],
     line: u32,
     cause: ReadCause,
-) -> Result<Map<String, Value>, AllocError>
-    ensures { IfOk result (λ members. TellsVerdict (Unreadable line cause) (object (members_view members.entries))) }
+) -> Result<Members, AllocError>
+    ensures { IfOk result (λ members. TellsVerdict (Unreadable line cause) (whole members)) }
 {
     let mut members = Map::new(alloc);
     let mut hint = Vec::new(alloc);
     put_hint(&mut hint, alloc, source, line, cause)?;
     put_bytes(alloc, &mut members, "hint", &hint)?;
-    put_code(alloc, &mut members, "P", Code::Unreadable(cause))?;
+    put_advice(alloc, &mut members, advice_on_read(cause))?;
     put_line(
         alloc,
         &mut members,
@@ -218,22 +207,17 @@ fn unreadable_members(
 }
 
 /// Adds the number of a cause after its letter, why it is a mistake, and how it is mended.
-fn put_code(
-    alloc: Global,
-    members: &mut Map<String, Value>,
-    letter: &str,
-    code: Code,
-) -> Result<(), AllocError> {
-    let id = format!(in alloc; "{letter}{}", code.number())?;
+fn put_advice(alloc: Global, members: &mut Members, advice: Advice) -> Result<(), AllocError> {
+    let id = format!(in alloc; "{}{}", advice.letter, advice.number)?;
     put(alloc, members, "id", Value::String(id))?;
-    put_text(alloc, members, "mend", mend_of(code))?;
-    put_text(alloc, members, "why", sentence_of(code))
+    put_text(alloc, members, "mend", advice.mend)?;
+    put_text(alloc, members, "why", advice.why)
 }
 
 /// Adds a member that is a text. Its bytes are ASCII, as all words of the notation.
 fn put_bytes(
     alloc: Global,
-    members: &mut Map<String, Value>,
+    members: &mut Members,
     key: &str,
     bytes: &[u8],
 ) -> Result<(), AllocError> {

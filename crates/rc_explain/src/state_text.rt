@@ -2,7 +2,7 @@
 
 ghost use Rattle.std.specs.Prelude.{map};
 ghost use Rattle.rc_explain.specs.StateText as spec;
-ghost use Rattle.rc_explain.specs.StateText.{bag_on};
+ghost use Rattle.rc_explain.specs.StateText.{bag_on, share_text, shares_text};
 ghost use Rattle.rc_lang.specs.Parts.{view_buffer as view};
 ghost use Rattle.rc_report.specs.Text.{Puts};
 ghost use Rattle.rc_rules.specs.States.{side_label};
@@ -29,17 +29,17 @@ fn put_item(text: &mut Vec<u8>, name: &[u8], count: u32) -> Result<(), AllocErro
 fn put_share(
     text: &mut Vec<u8>,
     side: &Side,
-    number: usize,
+    place: usize,
     buffer: &Buffer,
 ) -> Result<(), AllocError>
-    ensures { Puts text.old text.new (spec.share_text (bag_on side.now) number (view buffer.now)) result }
+    ensures { Puts text.old text.new (share_text (bag_on side.now) place (view buffer.now)) result }
 {
-    put_item(text, &buffer.name, side.shares(number))
+    put_item(text, &buffer.name, side.shares(place))
 }
 
 /// Adds the shares that are held.
 fn put_shares(text: &mut Vec<u8>, side: &Side, buffers: &[Buffer]) -> Result<(), AllocError>
-    ensures { Puts text.old text.new (spec.shares_text (map view buffers.now) (bag_on side.now)) result }
+    ensures { Puts text.old text.new (shares_text (map view buffers.now) (bag_on side.now)) result }
 {
     for (number, buffer) in buffers.iter().enumerate() {
         put_share(text, side, number, buffer)?;

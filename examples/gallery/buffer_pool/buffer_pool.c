@@ -1,6 +1,6 @@
 /* Written by `ringcheck c` from a text that it accepts. It needs POSIX threads and liburing 2.2 or later:
    cc -std=c11 -Wall -Wextra -O2 THIS.c -luring -lpthread
-   With -DRINGCHECK_LOG=N, `--log FILE` has the first N events written to FILE, and the program ends behind them. */
+   With -DRINGCHECK_LOG=N, `--log FILE` has the first N events written to FILE, and the program ends after them. */
 #define _GNU_SOURCE
 #include <errno.h>
 #include <fcntl.h>
@@ -25,14 +25,14 @@ _Static_assert(EAGAIN == 11, "the text has -11 where no completion is there");
 static struct io_uring ring;
 static pthread_mutex_t ring_lock;
 
-/* Ends the program where a call of this line of the text answers what it never does in a program that is accepted. */
+/* Ends the program if a call of this line of the text answers what it never does in an accepted program. */
 __attribute__((unused)) _Noreturn static void stop(int line, const char *call, long answer)
 {
     fprintf(stderr, "line %d: %s answers %ld\n", line, call, answer);
     exit(EXIT_FAILURE);
 }
 
-/* Ends the program where it can't begin. */
+/* Ends the program if it can't begin. */
 _Noreturn static void fail(const char *what, int error)
 {
     fprintf(stderr, "%s: %s\n", what, strerror(error));
@@ -121,7 +121,7 @@ static int log_fill(uint64_t data, int moved)
     return 0;
 }
 
-/* Writes each completion that stands in the ring and wasn't seen before, with the byte that fills what it moved. */
+/* Writes each completion that is in the ring and wasn't seen before, with the byte that fills what it moved. */
 __attribute__((unused)) static void log_completions(void)
 {
     struct io_uring_cqe *cqe;
@@ -616,7 +616,7 @@ static void *(*const bodies[])(void *) = {
     NULL,
 };
 
-/* A file that is opened for reading and writing, or for reading alone where it can't be written. */
+/* A file that is opened for reading and writing, or only for reading if it can't be written. */
 static int open_path(const char *path)
 {
     int opened = open(path, O_RDWR | O_CLOEXEC);
@@ -654,7 +654,7 @@ static void open_named(const char *word)
     fail(word, EINVAL);
 }
 
-/* Opens the files: new ones where no word names another. */
+/* Opens the files: new ones if no word names another. */
 static void open_files(char **words)
 {
     const struct named_file *file;
@@ -697,7 +697,7 @@ static void open_ring(void)
         fail("io_uring_queue_init_params", ENOSYS);
 }
 
-/* The words of the command line behind what is said of the log. */
+/* The words of the command line after what is said of the log. */
 static char **open_log(char **words)
 {
 #ifdef RINGCHECK_LOG

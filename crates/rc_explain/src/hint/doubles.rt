@@ -1,6 +1,5 @@
 //! What is declared or named twice.
 
-use super::fitting::is_item;
 use super::lines::{between, column_of, place_of, word_at};
 use super::places::{Kind, Place, has_buffer, has_file, has_thread, has_token, put_place, word_of};
 use super::wording::{put_column, put_word};
@@ -21,38 +20,45 @@ fn known_at(parts: &Parts, place: Place) -> Option<Kind> {
     }
 }
 
-/// What an item names: a token with its user data, and else what is before the colon.
-fn key_of(item: &[u8]) -> &[u8] {
-    match place_of(item, b':') {
-        None => item,
-        Some(i) => {
-            if is(between(item, 0, i), b"t") {
-                item
-            } else {
-                between(item, 0, i)
-            }
+/// Whether two places are of items that name the same.
+fn are_alike(place: &Place, other: &Place) -> bool {
+    match (place.part, other.part) {
+        (Part::Buffer, Part::Buffer) | (Part::HeldToken, Part::HeldToken) => {
+            is(place.word, other.word)
         }
+        (Part::Credits, Part::Credits) | (Part::Queued, Part::Queued) => true,
+        _ => false,
     }
 }
 
-fn is_token(item: &[u8]) -> bool {
-    place_of(item, b':') == Some(1) && is(between(item, 0, 1), b"t")
-}
-
-/// Whether the item at a place names what an earlier one names: in its list, or a token in either.
-fn repeats(version: u32, words: &[&[u8]], place: usize) -> bool {
-    let item = word_at(words, place);
+/// Whether an item names what one before it does: in its list, or a token in either.
+fn repeats(before: &[Place], place: &Place) -> bool {
     let mut found = false;
-    for i in 0..place {
-        let other = word_at(words, i);
-        if is(other, b"when") && !is_token(item) {
-            found = false;
-        }
-        if is_item(version, other) && is(key_of(other), key_of(item)) {
-            found = true;
-        }
+    for other in before {
+        found = match other.part {
+            Part::Flag => found && matches!(place.part, Part::HeldToken),
+            _ => found || are_alike(place, other),
+        };
     }
     found
+}
+
+/// Adds that an item names again what an earlier one does.
+fn put_again(
+    text: &mut Vec<u8>,
+    line: &[u8],
+    place: &Place,
+    item: &[u8],
+) -> Result<(), AllocError> {
+    put_column(text, column_of(line, place.at))?;
+    put_word(text, item)?;
+    put_piece(text, b" names ")?;
+    let name = match place.part {
+        Part::HeldToken => item,
+        _ => between(item, 0, place_of(item, b':').unwrap_or(0)),
+    };
+    put_word(text, name)?;
+    put_piece(text, b" again")
 }
 
 /// Adds the hint for a name that is declared or named twice.
@@ -72,14 +78,9 @@ pub fn put_double_name(
             return put_piece(text, b" is declared above already");
         }
     }
-    let version = parts.head.version;
-    for i in 0..words.len() {
-        if is_item(version, words[i]) && repeats(version, words, i) {
-            put_column(text, column_of(line, i))?;
-            put_word(text, words[i])?;
-            put_piece(text, b" names ")?;
-            put_word(text, key_of(words[i]))?;
-            return put_piece(text, b" again");
+    for i in 0..places.len() {
+        if repeats(&places[..i], &places[i]) {
+            return put_again(text, line, &places[i], word_at(words, places[i].at));
         }
     }
     Ok(())

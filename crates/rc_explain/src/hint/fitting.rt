@@ -4,62 +4,12 @@ use super::lines::{between, from, place_of};
 use rc_read::parts::Region;
 use rc_read::reserved::is_reserved_by;
 use rc_read::spots::{fits, has_name};
-use rc_read::table::{Part, Row, Stand, parts_of, stand_of, version_of};
+use rc_read::table::{Part, Row, Stand, assignments, parts_of, rows_of, stand_of, version_of};
 use rc_read::words::{is, is_name, is_spelt};
+use std::alloc::{AllocError, Global};
 
-/// Each form, in the order in which they are tried.
-pub fn all_rows() -> &'static [Row] {
-    &[
-        Row::Close,
-        Row::Else,
-        Row::Break,
-        Row::GetSqe,
-        Row::CqeSeen,
-        Row::Case,
-        Row::PrepNop,
-        Row::Peek,
-        Row::Print,
-        Row::PrepRead,
-        Row::PrepWrite,
-        Row::PrepFsync,
-        Row::Put,
-        Row::Lock,
-        Row::Loop,
-        Row::LoopWhen,
-        Row::Other,
-        Row::Nothing,
-        Row::SetData64,
-        Row::Store,
-        Row::Fill,
-        Row::IfReady,
-        Row::If,
-        Row::IfSpace,
-        Row::IfTake,
-        Row::Thread,
-        Row::TokenRead,
-        Row::TokenWrite,
-        Row::TokenFsync,
-        Row::TokenNop,
-        Row::File,
-        Row::Buffer,
-        Row::Ring,
-        Row::RingCq,
-        Row::RingLeft,
-        Row::RingCqLeft,
-        Row::Version,
-        Row::SecondVersion,
-        Row::ThirdVersion,
-        Row::Submit,
-        Row::Set,
-        Row::Add,
-        Row::Subtract,
-        Row::Load,
-        Row::SubmitAndWait,
-    ]
-}
-
-/// Whether a form is in this part of a text of this version.
-pub fn may_stand(version: u32, region: Region, row: Row) -> bool {
+/// Whether a form may be in this part of a text of this version.
+pub fn may_be(version: u32, region: Region, row: Row) -> bool {
     let stand = stand_of(row);
     version_of(row) <= version
         && match region {
@@ -71,13 +21,38 @@ pub fn may_stand(version: u32, region: Region, row: Row) -> bool {
         }
 }
 
+fn push_forms(
+    forms: &mut Vec<Row>,
+    version: u32,
+    region: Region,
+    rows: &[Row],
+) -> Result<(), AllocError> {
+    for row in rows {
+        if may_be(version, region, *row) {
+            forms.push(*row)?;
+        }
+    }
+    Ok(())
+}
+
+/// The forms that may be in this part of a text of this version: those that begin with a variable are the last.
+pub fn forms_of(alloc: Global, version: u32, region: Region) -> Result<Vec<Row>, AllocError> {
+    let mut forms = Vec::new(alloc);
+    for first in b'a'..=b'}' {
+        push_forms(&mut forms, version, region, rows_of(first))?;
+    }
+    push_forms(&mut forms, version, region, assignments())?;
+    Ok(forms)
+}
+
 /// Whether a word would be a name, if it weren't reserved in this version.
 pub fn is_reserved(version: u32, word: &[u8]) -> bool {
     is_spelt(word) && (is_reserved_by(version, word) || !is_name(word))
 }
 
-fn stands(version: u32, part: Part, word: &[u8]) -> bool {
-    fits(part, word) && !(has_name(part) && is_reserved(version, word))
+/// Whether a word is in the place of a part in this version.
+fn is_in(version: u32, part: Part, word: &[u8]) -> bool {
+    fits(part, word) && !(has_name(part) && is_reserved_by(version, word))
 }
 
 /// Whether a word is an item in this version.
@@ -92,14 +67,10 @@ pub fn is_item(version: u32, word: &[u8]) -> bool {
     }
 }
 
-/// How many items of this version stand in front.
+/// How many items of this version are in front.
 pub fn items_in_front(version: u32, words: &[&[u8]]) -> usize {
-    for i in 0..words.len() {
-        if !is_item(version, words[i]) {
-            return i;
-        }
-    }
-    words.len()
+    let first = words.iter().position(|word| !is_item(version, word));
+    first.unwrap_or(words.len())
 }
 
 /// How many words fit a form, from the left, which part could be after them, and whether items could.
@@ -110,36 +81,28 @@ pub struct Reach {
     pub items: bool,
 }
 
-/// How far the words fit these parts.
-pub fn reach_of(version: u32, parts: &[Part], words: &[&[u8]]) -> Reach {
+/// How far the words fit a form.
+pub fn reach_of(version: u32, row: Row, words: &[&[u8]]) -> Reach {
     let mut at: usize = 0;
     let mut items = false;
-    for part in parts {
+    for part in parts_of(row) {
         if let Part::Items = *part {
             at = at.saturating_add(items_in_front(version, from(words, at)));
             items = true;
-        } else {
-            match from(words, at) {
-                [] => {
-                    return Reach {
-                        words: at,
-                        next: Some(*part),
-                        items,
-                    };
-                }
-                [word, ..] => {
-                    if !stands(version, *part, word) {
-                        return Reach {
-                            words: at,
-                            next: Some(*part),
-                            items,
-                        };
-                    }
-                    at = at.saturating_add(1);
-                    items = false;
-                }
+            continue;
+        }
+        match from(words, at) {
+            [word, ..] if is_in(version, *part, word) => {}
+            _ => {
+                return Reach {
+                    words: at,
+                    next: Some(*part),
+                    items,
+                };
             }
         }
+        at = at.saturating_add(1);
+        items = false;
     }
     Reach {
         words: at,
@@ -148,13 +111,11 @@ pub fn reach_of(version: u32, parts: &[Part], words: &[&[u8]]) -> Reach {
     }
 }
 
-/// How many words the longest fitting form of this part of the text fits.
-pub fn longest(version: u32, region: Region, words: &[&[u8]]) -> usize {
+/// How many words the longest fitting form fits.
+pub fn longest(version: u32, forms: &[Row], words: &[&[u8]]) -> usize {
     let mut most = 0;
-    for row in all_rows() {
-        if may_stand(version, region, *row) {
-            most = most.max(reach_of(version, parts_of(*row), words).words);
-        }
+    for row in forms {
+        most = most.max(reach_of(version, *row, words).words);
     }
     most
 }

@@ -1,13 +1,13 @@
 //! What could be in a line whose words are no form.
 
-use super::fitting::{Reach, all_rows, is_reserved, longest, may_stand, reach_of};
+use super::fitting::{forms_of, is_reserved, longest, may_be, reach_of};
 use super::lines::{column_of, place_of, word_at};
 use super::near::{Nearest, nearer, none_near};
 use super::wording::{put_column, put_word};
 use rc_read::fixed::text_of;
-use rc_read::parts::{Parts, Region};
-use rc_read::spots::{fits, put_spots};
-use rc_read::table::{Part, Row, Stand, parts_of, stand_of, version_of};
+use rc_read::parts::Parts;
+use rc_read::spots::{fits, has_name, put_spots};
+use rc_read::table::{Part, Row, Stand, parts_of, rows_of, stand_of, version_of};
 use rc_read::words::is;
 use rc_report::text::{put_number, put_piece};
 use std::alloc::{AllocError, Global};
@@ -44,32 +44,42 @@ fn choice_of(next: Option<Part>) -> Choice {
     }
 }
 
-/// Adds a choice that isn't there yet.
-fn add(choices: &mut Vec<Choice>, choice: Choice) -> Result<(), AllocError> {
-    for other in choices.iter() {
-        if is(other.text, choice.text) {
-            return Ok(());
+/// What could be at a word, each once, and whether a name could.
+#[derive(Drop)]
+struct Choices {
+    list: Vec<Choice>,
+    named: bool,
+}
+
+impl Choices {
+    /// Adds a choice that isn't there yet.
+    fn add(&mut self, choice: Choice) -> Result<(), AllocError> {
+        if !self.list.iter().any(|other| is(other.text, choice.text)) {
+            self.list.push(choice)?;
         }
+        Ok(())
     }
-    choices.push(choice)?;
-    Ok(())
 }
 
 /// What could be after so many words, by the forms that fit them.
 fn choices_at(
     alloc: Global,
     version: u32,
-    region: Region,
+    forms: &[Row],
     words: &[&[u8]],
     most: usize,
-) -> Result<Vec<Choice>, AllocError> {
-    let mut choices = Vec::new(alloc);
-    for row in all_rows() {
-        let reach: Reach = reach_of(version, parts_of(*row), words);
-        if may_stand(version, region, *row) && reach.words == most {
-            add(&mut choices, choice_of(reach.next))?;
+) -> Result<Choices, AllocError> {
+    let mut choices = Choices {
+        list: Vec::new(alloc),
+        named: false,
+    };
+    for row in forms {
+        let reach = reach_of(version, *row, words);
+        if reach.words == most {
+            choices.add(choice_of(reach.next))?;
+            choices.named |= reach.next.is_some_and(has_name);
             if reach.items {
-                add(&mut choices, named(b"items"))?;
+                choices.add(named(b"items"))?;
             }
         }
     }
@@ -99,17 +109,10 @@ fn first_of(row: Row) -> &'static [u8] {
 }
 
 /// The first word of a form that is spelt nearest.
-fn near_first(
-    alloc: Global,
-    version: u32,
-    region: Region,
-    word: &[u8],
-) -> Result<Nearest<'static>, AllocError> {
+fn near_first(alloc: Global, forms: &[Row], word: &[u8]) -> Result<Nearest<'static>, AllocError> {
     let mut nearest = none_near();
-    for row in all_rows() {
-        if may_stand(version, region, *row) {
-            nearest = nearer(alloc, word, nearest, first_of(*row))?;
-        }
+    for row in forms {
+        nearest = nearer(alloc, word, nearest, first_of(*row))?;
     }
     Ok(nearest)
 }
@@ -118,7 +121,7 @@ fn near_first(
 fn put_spelling(text: &mut Vec<u8>, version: u32, word: &[u8]) -> Result<(), AllocError> {
     let brace = place_of(word, b'{').is_some() || place_of(word, b'}').is_some();
     if brace && word.len() > 1 {
-        put_piece(text, b"; '{' and '}' stand apart from other words")?;
+        put_piece(text, b"; '{' and '}' are words of their own")?;
     }
     if word.iter().any(|b| b.is_ascii_uppercase()) {
         put_piece(text, b"; words have lower case letters")?;
@@ -159,9 +162,9 @@ fn put_version(
     put_column(text, column_of(line, 0))?;
     put_piece(text, b"this form of ")?;
     put_word(text, word)?;
-    put_piece(text, b" stands in texts from version ")?;
+    put_piece(text, b" needs version ")?;
     put_number(text, u64::from(version_of(row)))?;
-    put_piece(text, b" on; the head says version ")?;
+    put_piece(text, b"; the head says version ")?;
     put_number(text, u64::from(version))
 }
 
@@ -170,57 +173,46 @@ fn put_stand(text: &mut Vec<u8>, line: &[u8], word: &[u8], stand: Stand) -> Resu
     put_column(text, column_of(line, 0))?;
     put_word(text, word)?;
     let place: &'static [u8] = match stand {
-        Stand::First | Stand::Second => b" stands in the head alone, once",
-        Stand::Declaration => b" stands above the threads alone",
-        Stand::Header => b" begins a thread, which stands in no other",
-        Stand::Inside => b" stands in a thread alone",
-        Stand::Brace => b" closes a block, and stands in a thread alone",
+        Stand::First | Stand::Second => b" may only be in the head, once",
+        Stand::Declaration => b" may only be above the threads",
+        Stand::Header => b" begins a thread, and may not be in another",
+        Stand::Inside => b" may only be in a thread",
+        Stand::Brace => b" closes a block, and may only be in a thread",
     };
     put_piece(text, place)
 }
 
-/// The form that begins with a fixed word, wherever in a text it stands.
+/// The form that begins with a fixed word, wherever in a text it may be.
 fn begun(word: &[u8]) -> Option<Row> {
-    for row in all_rows() {
-        if !word.is_empty() && is(word, first_of(*row)) {
-            return Some(*row);
-        }
-    }
-    None
-}
-
-fn is_named(choice: Choice) -> bool {
-    is(choice.text, b"a name")
-        || is(choice.text, b"a variable")
-        || is(choice.text, b"a variable or a number")
-}
-
-fn can_be_named(choices: &[Choice]) -> bool {
-    choices.iter().any(|choice| is_named(*choice))
+    let [first, ..] = word else {
+        return None;
+    };
+    let mut rows = rows_of(*first).iter();
+    rows.find(|row| is(word, first_of(**row))).copied()
 }
 
 fn put_longest(
     alloc: Global,
     text: &mut Vec<u8>,
-    parts: &Parts,
+    version: u32,
+    forms: &[Row],
     line: &[u8],
     words: &[&[u8]],
     most: usize,
 ) -> Result<(), AllocError> {
-    let version = parts.head.version;
-    let choices = choices_at(alloc, version, parts.region, words, most)?;
+    let choices = choices_at(alloc, version, forms, words, most)?;
     put_column(text, column_of(line, most))?;
     if most < words.len() {
         put_word(text, word_at(words, most))?;
     } else {
         put_piece(text, b"the end of the line")?;
     }
-    put_piece(text, b" behind ")?;
+    put_piece(text, b" after ")?;
     put_word(text, word_at(words, most.saturating_sub(1)))?;
     put_piece(text, b": ")?;
-    put_choices(text, &choices)?;
+    put_choices(text, &choices.list)?;
     let word = word_at(words, most);
-    if can_be_named(&choices) || !is_reserved(version, word) {
+    if choices.named || !is_reserved(version, word) {
         put_spelling(text, version, word)?;
     }
     Ok(())
@@ -246,20 +238,21 @@ pub fn put_form(
         if version_of(row) > version {
             return put_version(text, version, line, first, row);
         }
-        if !may_stand(version, parts.region, row) {
+        if !may_be(version, parts.region, row) {
             return put_stand(text, line, first, stand_of(row));
         }
     }
-    let most = longest(version, parts.region, words);
+    let forms = forms_of(alloc, version, parts.region)?;
+    let most = longest(version, &forms, words);
     if most == 0 {
         if let Some(row) = begun(first) {
             return put_stand(text, line, first, stand_of(row));
         }
     }
-    let nearest = near_first(alloc, version, parts.region, first)?;
+    let nearest = near_first(alloc, &forms, first)?;
     let is_near = nearest.distance > 0 && nearest.distance < 3;
     if most == 0 || (most == 1 && is_near && fits(Part::Variable, first)) {
         return put_first(text, version, line, first, nearest);
     }
-    put_longest(alloc, text, parts, line, words, most)
+    put_longest(alloc, text, version, &forms, line, words, most)
 }

@@ -19,10 +19,7 @@ pub fn put_strange(text: &mut Vec<u8>, line: &[u8]) -> Result<(), AllocError> {
             put_column(text, i + 1)?;
             put_piece(text, b"byte ")?;
             put_number(text, u64::from(line[i]))?;
-            return put_piece(
-                text,
-                b"; in a text stand tabs and the bytes 32 to 126 alone",
-            );
+            return put_piece(text, b"; a text has only tabs and the bytes 32 to 126");
         }
     }
     Ok(())
@@ -118,7 +115,7 @@ pub fn put_braces(
             if is(word_at(words, 1), b"else") {
                 put_piece(text, b" 'else' ends no first branch: ")?;
             } else {
-                put_piece(text, b" can't stand here: ")?;
+                put_piece(text, b" may not be here: ")?;
             }
             put_open(text, parts)
         }
@@ -184,20 +181,20 @@ pub fn put_too_large(
 pub fn put_nesting(text: &mut Vec<u8>, parts: &Parts, words: &[&[u8]]) -> Result<(), AllocError> {
     let first = word_at(words, 0);
     if is(first, b"break") {
-        return put_piece(text, b"'break' stands in a loop alone, and no loop is open");
+        return put_piece(text, b"'break' may only be in a loop, and no loop is open");
     }
     put_word(text, first)?;
     if is(first, b"put") || is(first, b"if") {
-        put_piece(text, b": 'q:' doesn't stand there")
+        put_piece(text, b": 'q:' may not be there")
     } else if is(first, b"thread") {
-        put_piece(text, b": 'q:' stands in a lock alone")
+        put_piece(text, b": 'q:' may only be in a lock")
     } else if is(first, b"lock") || is(first, b"peek_cqe") {
-        put_piece(text, b" doesn't stand here: ")?;
+        put_piece(text, b" may not be here: ")?;
         put_outer(text, parts, is(first, b"lock"))
     } else {
         put_piece(
             text,
-            b": a loop stands in no peek, and 'q:' before 'when', in a lock alone; ",
+            b": a loop may not be in a peek, and 'q:' may only be in a lock, before 'when'; ",
         )?;
         put_outer(text, parts, false)
     }
@@ -213,7 +210,7 @@ pub fn put_case(text: &mut Vec<u8>, parts: &Parts, words: &[&[u8]]) -> Result<()
     };
     put_word(text, first)?;
     if !in_peek {
-        put_piece(text, b" is an arm, which stands directly in a peek: ")?;
+        put_piece(text, b" is an arm, which may only be directly in a peek: ")?;
         put_open(text, parts)
     } else if is(first, b"}") {
         put_piece(text, b" closes the peek without its arm ")?;
@@ -223,7 +220,7 @@ pub fn put_case(text: &mut Vec<u8>, parts: &Parts, words: &[&[u8]]) -> Result<()
     } else {
         put_piece(
             text,
-            b" is no arm: directly in a peek stand 'case', 'other' and 'none' alone",
+            b" is no arm: only 'case', 'other' and 'none' may be directly in a peek",
         )
     }
 }

@@ -1,12 +1,12 @@
 //! The places of a line: ranges of its numbers, and names that aren't declared.
 
 use super::fitting::items_in_front;
-use super::lines::{between, column_of, from, place_of, word_at};
+use super::lines::{column_of, from, word_at};
 use super::near::{nearer, none_near};
 use super::wording::{put_column, put_word};
 use rc_lang::numbers::{is_number, number_of, signed_number_of};
 use rc_read::parts::Parts;
-use rc_read::spots::{begins_number, put_spots};
+use rc_read::spots::{Spot, begins_number, put_spots};
 use rc_read::table::{Part, Range, parts_of};
 use rc_read::words::is;
 use rc_report::text::{put_number, put_piece};
@@ -26,34 +26,37 @@ pub fn put_place(text: &mut Vec<u8>, line: &[u8], place: Place) -> Result<(), Al
     put_column(text, column_of(line, place.at).saturating_add(place.offset))
 }
 
-/// Adds the places of an item.
-fn push_item<'a>(places: &mut Vec<Place<'a>>, item: &'a [u8], at: usize) -> Result<(), AllocError> {
-    let Some(i) = place_of(item, b':') else {
-        return Ok(());
+/// Adds the places of a word, the first ones of these: of a share those of its name and its number, and else one. Answers
+/// the others.
+fn push_word<'a, 'b>(
+    places: &mut Vec<Place<'a>>,
+    spots: &'b [Spot<'a>],
+    word: &[u8],
+    at: usize,
+) -> Result<&'b [Spot<'a>], AllocError> {
+    let [spot, rest @ ..] = spots else {
+        return Ok(spots);
     };
-    let name = between(item, 0, i);
-    let part = if is(name, b"t") {
-        Part::HeldToken
-    } else if is(name, b"c") {
-        Part::Credits
-    } else if is(name, b"q") {
-        Part::Queued
-    } else {
-        places.push(Place {
-            part: Part::Buffer,
-            word: name,
-            at,
-            offset: 0,
-        })?;
-        Part::HeldShares
-    };
+    let before = word.len().saturating_sub(spot.word.len());
+    let is_name = before > 0 && matches!(spot.part, Part::Buffer);
     places.push(Place {
-        part,
-        word: between(item, i.saturating_add(1), item.len()),
+        part: spot.part,
+        word: spot.word,
         at,
-        offset: i.saturating_add(1),
+        offset: if is_name { 0 } else { before },
     })?;
-    Ok(())
+    match rest {
+        [number, others @ ..] if is_name => {
+            places.push(Place {
+                part: number.part,
+                word: number.word,
+                at,
+                offset: word.len().saturating_sub(number.word.len()),
+            })?;
+            Ok(others)
+        }
+        _ => Ok(rest),
+    }
 }
 
 /// The places of a line that has a form of this version.
@@ -67,22 +70,17 @@ pub fn places_of<'a>(
     let Some(row) = put_spots(version, &mut spots, words)? else {
         return Ok(places);
     };
+    let mut rest: &[Spot] = &spots;
     let mut at: usize = 0;
     for part in parts_of(row) {
-        if let Part::Items = *part {
-            let count = items_in_front(version, from(words, at));
-            for i in 0..count {
-                let place = at.saturating_add(i);
-                push_item(&mut places, word_at(words, place), place)?;
+        let count = match part {
+            Part::Items => items_in_front(version, from(words, at)),
+            _ => 1,
+        };
+        for _ in 0..count {
+            if !matches!(part, Part::Fixed(_)) {
+                rest = push_word(&mut places, rest, word_at(words, at), at)?;
             }
-            at = at.saturating_add(count);
-        } else {
-            places.push(Place {
-                part: *part,
-                word: word_at(words, at),
-                at,
-                offset: 0,
-            })?;
             at = at.saturating_add(1);
         }
     }
@@ -115,7 +113,7 @@ fn shares_of(parts: &Parts, name: &[u8]) -> u32 {
     16
 }
 
-fn seen_behind(parts: &Parts, seen: Seen, place: Place) -> Seen {
+fn seen_after(parts: &Parts, seen: Seen, place: Place) -> Seen {
     match place.part {
         Part::Number(Range::Size) => match number_of(1, 1024, place.word) {
             None => seen,
@@ -211,7 +209,7 @@ pub fn put_bad_number(
                 b" is no number from -9223372036854775808 to 9223372036854775807",
             );
         }
-        seen = seen_behind(parts, seen, *place);
+        seen = seen_after(parts, seen, *place);
     }
     Ok(())
 }

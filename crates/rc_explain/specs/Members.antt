@@ -1,0 +1,14 @@
+-- Objects that are made member by member.
+use Rattle.std.specs.Prelude.{ℕ, ◌≡◌, List, String}
+use Rattle.std.specs.declared.alloc.Global.{Global}
+use Rattle.std_collections.specs.BTreeMap.{BTreeMap}
+use Rattle.serde_json.specs.Data.{Data, object, put}
+use Rattle.serde_json.specs.View.{members_view}
+use Rattle.serde_json.specs.declared.value.Value.{Value}
+
+abbrev pub whole : BTreeMap (String Global) Value → Data
+whole members = object (members_view members.entries)
+
+-- A member is added, or has this value now.
+abbrev pub IsPut : List ℕ → Data → BTreeMap (String Global) Value → BTreeMap (String Global) Value → Type 0
+IsPut key value old new = members_view new.entries ≡ put key value (members_view old.entries)
