@@ -16,6 +16,5 @@ pub mod FlatLooks
 pub mod Flat
 pub mod FlatStart
 pub mod Safe
-pub mod Admits
 pub mod Worlds
 pub mod Flights

@@ -327,7 +327,7 @@ module _ (w : World) (none : fault_of w ≡ None) where
         completions = f.2;
         peeked = both.0;
         one = f.3;
-        behind = λ r e after s. subst (λ x. Leaves f.0 f.1 x) s (leaves i r f.0 f.1 f.2 f.3 n);
+        gone = λ r e after s. subst (λ x. Leaves f.0 f.1 x) s (leaves i r f.0 f.1 f.2 f.3 n);
       }
 
   -- ---- the pool

@@ -60,11 +60,11 @@ NoWriteOfPending w = (i k b : ℕ) (op : Op) (r : Request) → IsNext w i (Do op
 abbrev pub NoReadOfFilling : World → Type 0
 NoReadOfFilling w = (i k b : ℕ) (op : Op) (r : Request) → IsNext w i (Do op) → ReadsBuffer op b → IsPending w k r → Fills r b → ⊥
 
--- No two pending requests name one buffer of which one fills it.
+-- If two pending requests name one buffer, neither of them fills it.
 abbrev pub NoKernelClash : World → Type 0
 NoKernelClash w = (j k b : ℕ) (r s : Request) → j ≢ k → IsPending w j r → IsPending w k s → Fills r b → Names s b → ⊥
 
--- No two threads are about to go to one buffer of which one writes it.
+-- If two threads are about to go to one buffer, neither of them writes it.
 abbrev pub NoThreadRace : World → Type 0
 NoThreadRace w = (i j b : ℕ) (x y : Op) → i ≢ j → IsNext w i (Do x) → IsNext w j (Do y) → WritesBuffer x b → WritesBuffer y b ⊎ ReadsBuffer y b → ⊥
 
@@ -156,7 +156,7 @@ pub record ReapsOne (w : World) (i : ℕ) : Type 0 where
   pub completions : w.completions ≡ front ∷ others
   pub peeked : w.controls.peeked ≡ true
   pub one : count_of front.user_data w.completed ≡ 1
-  pub behind : (r : ℤ) (e : Event) (after : World) → thread_step w i r ≡ Some (e, after) → (count_of front.user_data after.completed ≡ 0) × (after.completions ≡ others)
+  pub gone : (r : ℤ) (e : Event) (after : World) → thread_step w i r ≡ Some (e, after) → (count_of front.user_data after.completed ≡ 0) × (after.completions ≡ others)
 
 abbrev pub EachReapsOne : World → Type 0
 EachReapsOne w = (i : ℕ) → IsNext w i (Do CqeSeen) → ReapsOne w i

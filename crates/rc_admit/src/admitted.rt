@@ -1,15 +1,17 @@
 //! Programs that are safe.
 
-ghost use Rattle.std.specs.Prelude.{◌≡◌};
+ghost use Rattle.std.specs.Prelude.{◌≡◌, IfOk};
 ghost use Rattle.rc_world.specs.Runs.{IsSafe};
 ghost use Rattle.rc_admit.specs.Answer.{Admits, AdmitsProgram};
+ghost use Rattle.rc_admit.specs.Judged.{IsJudged};
 
 use crate::fault::AdmitFault;
 use rc_lang::program::Program;
-use rc_read::{ReadFault, read_program};
-use rc_verify::refusal::VerifyFault;
+use rc_read::parts::{Parts, Unread};
+use rc_read::{ReadCause, ReadFault, read_parts};
+use rc_verify::refusal::{Refusal, VerifyFault};
 use rc_verify::verify::verify;
-use std::alloc::Global;
+use std::alloc::{AllocError, Global};
 use std::marker::Model;
 
 /// A program that is safe: no world of any run of it has a fault, whatever the order in which its threads and the
@@ -53,15 +55,53 @@ impl Admitted {
     }
 }
 
+/// What a text is: a program that is safe, one that is refused, or none.
+#[derive(Drop)]
+pub enum Judged {
+    Admitted(Admitted),
+    /// The program, and why it is refused.
+    Refused(Program, Refusal),
+    /// The line that can't be read, from 1, why, and what was read above it; at the text's end all lines were.
+    Unread {
+        line: u32,
+        cause: ReadCause,
+        above: Parts,
+    },
+}
+
+/// Reads a text, bytes in the notation of programs, and judges the program. It is no part of its caller, as it needs room
+/// for labels.
+#[inline(never)]
+pub fn judge(alloc: Global, text: &[u8]) -> Result<Judged, AllocError>
+    ensures { IfOk result (IsJudged text.now) }
+{
+    let program = match read_parts(alloc, text) {
+        Ok(program) => program,
+        Err(
+            Unread {
+                fault: ReadFault::Text { line, cause },
+                parts: above,
+            },
+        ) => return Ok(Judged::Unread { line, cause, above }),
+        Err(_) => return Err(AllocError),
+    };
+    match verify(alloc, &program) {
+        Ok(()) => Ok(Judged::Admitted(Admitted { program })),
+        Err(VerifyFault::Refused(refusal)) => Ok(Judged::Refused(program, refusal)),
+        Err(VerifyFault::OutOfMemory) => Err(AllocError),
+    }
+}
+
 /// Admits the program of a text: bytes in the notation of programs, which the rules have to accept.
 pub fn admit(alloc: Global, text: &[u8]) -> Result<Admitted, AdmitFault>
     ensures { Admits text.now result }
 {
-    match read_program(alloc, text) {
-        Ok(program) => Admitted::from_program(alloc, program),
-        Err(ReadFault::Text { line, cause }) => {
+    match judge(alloc, text) {
+        Ok(Judged::Admitted(admitted)) => Ok(admitted),
+        Ok(Judged::Refused(_, refusal)) => Err(AdmitFault::Refused(refusal)),
+        Ok(Judged::Unread { line, cause, .. }) => {
             Err(AdmitFault::Read(ReadFault::Text { line, cause }))
         }
-        Err(ReadFault::OutOfMemory) => Err(AdmitFault::OutOfMemory),
+        Err(AllocError) => Err(AdmitFault::OutOfMemory),
     }
 }

@@ -1,7 +1,8 @@
 //! Hints on texts that are long, and on one that is short; `examples/explained/hints` has those of each cause.
 
+use rc_admit::admitted::{Judged, judge};
 use rc_explain::hint::put_hint;
-use rc_read::{ReadFault, read_program};
+use rc_report::source::Lines;
 use std::alloc::{AllocError, Global};
 
 const HEAD: &str = "ringcheck 1\nring 8\n";
@@ -31,9 +32,10 @@ fn hint_of(alloc: Global, above: &str, lines: &str, count: u32) -> Result<Vec<u8
     for _ in 0..count {
         text.extend_from_slice(lines.as_bytes())?;
     }
+    let lines = Lines::of(alloc, &text)?;
     let mut hint = Vec::new(alloc);
-    if let Err(ReadFault::Text { line, cause }) = read_program(alloc, &text) {
-        put_hint(&mut hint, alloc, &text, line, cause)?;
+    if let Judged::Unread { line, cause, above } = judge(alloc, &text)? {
+        put_hint(&mut hint, lines.line(line), line, cause, &above)?;
     }
     Ok(hint)
 }

@@ -1,4 +1,3 @@
-pub mod Above
 pub mod Explained
 pub mod Listed
 pub mod Objects

@@ -1,4 +1,3 @@
-pub mod Above
 pub mod Explains
 pub mod Judged
 pub mod Listed

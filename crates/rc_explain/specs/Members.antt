@@ -1,7 +1,7 @@
 -- Objects that are made member by member.
 use Rattle.std.specs.Prelude.{ℕ, ◌≡◌, List, String}
 use Rattle.std.specs.declared.alloc.Global.{Global}
-use Rattle.std_collections.specs.BTreeMap.{BTreeMap}
+use Rattle.std.proofs.Common.{BTreeMap}
 use Rattle.serde_json.specs.Data.{Data, object, put}
 use Rattle.serde_json.specs.View.{members_view}
 use Rattle.serde_json.specs.declared.value.Value.{Value}

@@ -2,12 +2,13 @@
 
 ghost use Rattle.std.specs.Prelude.{◌+◌, ◌<◌, ◌^◌, Some, false, true};
 ghost use Rattle.rc_explain.specs.Explains.{ExplainsAs, PutsExplained, PutsTold};
-ghost use Rattle.rc_explain.specs.Judged.{verdict_of};
+ghost use Rattle.rc_explain.specs.Judged as spec;
 ghost use Rattle.rc_report.specs.Streams.{FailsToWriteOrGrow};
 
 use crate::explanation::explanation;
-use crate::judged::{Judged, judge};
+use crate::judged::verdict_of;
 use crate::object::object_text;
+use rc_admit::admitted::{Judged, judge};
 use rc_report::engine_fault::EngineFault;
 use rc_report::streams::Sink;
 use rc_report::text::put_piece;
@@ -47,7 +48,7 @@ pub fn put_explained(
 {
     let judged = judge(alloc, source)?;
     put_judged(text, alloc, source, &judged, json)?;
-    Ok(judged.verdict())
+    Ok(verdict_of(&judged))
 }
 
 /// Adds the verdict on a text that was judged, with what explains it, as JSON or as text.
@@ -58,7 +59,7 @@ fn put_judged(
     judged: &Judged,
     json: bool,
 ) -> Result<(), AllocError>
-    ensures { PutsTold json (verdict_of judged.now) text.old text.new result }
+    ensures { PutsTold json (spec.verdict_of judged.now) text.old text.new result }
 {
     if json {
         return put_object(text, alloc, source, judged);
@@ -73,7 +74,7 @@ fn put_object(
     source: &[u8],
     judged: &Judged,
 ) -> Result<(), AllocError>
-    ensures { PutsTold true (verdict_of judged.now) text.old text.new result }
+    ensures { PutsTold true (spec.verdict_of judged.now) text.old text.new result }
 {
     let object = object_text(alloc, source, judged)?;
     put_piece(text, &object)?;
@@ -87,9 +88,9 @@ fn put_lines(
     source: &[u8],
     judged: &Judged,
 ) -> Result<(), AllocError>
-    ensures { PutsTold false (verdict_of judged.now) text.old text.new result }
+    ensures { PutsTold false (spec.verdict_of judged.now) text.old text.new result }
 {
-    put_verdict(text, &judged.verdict())?;
+    put_verdict(text, &verdict_of(judged))?;
     let explanation = explanation(alloc, source, judged)?;
     put_piece(text, &explanation)
 }

@@ -5,10 +5,10 @@ ghost use Rattle.std.specs.Prelude.{◌<◌, length};
 use crate::asks::{Need, header_need, line_need};
 use crate::causes::{Advice, advice_on_read, advice_on_rule};
 use crate::hint::put_hint;
-use crate::judged::Judged;
 use crate::listing::put_listing;
 use crate::lost::put_lost;
 use crate::spot::{Spot, spot_of};
+use rc_admit::admitted::Judged;
 use rc_lang::program::Program;
 use rc_report::source::Lines;
 use rc_report::text::{put_counted, put_piece, put_pieces};
@@ -22,16 +22,14 @@ use std::alloc::{AllocError, Global};
 /// be read what is wrong with the line's words, why, and how it is mended.
 pub fn explanation(alloc: Global, source: &[u8], judged: &Judged) -> Result<Vec<u8>, AllocError> {
     let mut text = Vec::new(alloc);
+    let lines = Lines::of(alloc, source)?;
     match judged {
-        Judged::Accepted(program) => {
-            put_threads(&mut text, &Lines::of(alloc, source)?, program)?;
-        }
+        Judged::Admitted(admitted) => put_threads(&mut text, &lines, admitted.program())?,
         Judged::Refused(program, refusal) => {
-            let lines = Lines::of(alloc, source)?;
             put_refused(alloc, &mut text, &lines, program, *refusal)?;
         }
-        Judged::Unreadable { line, cause } => {
-            put_hint(&mut text, alloc, source, *line, *cause)?;
+        Judged::Unread { line, cause, above } => {
+            put_hint(&mut text, lines.line(*line), *line, *cause, above)?;
             put_piece(&mut text, b"\n")?;
             put_advice(&mut text, advice_on_read(*cause))?;
         }

@@ -40,7 +40,8 @@ fn mixes(flag: Option<usize>, stmt: Stmt) -> bool {
 }
 
 /// Where a part was last held, before a place, that isn't held there on one side of the flag: on that side, or on either
-/// above a line that mixes them.
+/// above a line that mixes them. It is no part of its caller, as it needs room for labels.
+#[inline(never)]
 fn last_on(program: &Program, thread: u32, place: usize, missing: Missing) -> Option<usize>
     requires { thread < length program.now.threads }
 {

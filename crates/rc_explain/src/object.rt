@@ -11,12 +11,13 @@ ghost use Rattle.rc_report.specs.declared.verdict.Verdict.TheVariants.{Accepted,
 use crate::asks::{Need, header_need, line_need};
 use crate::causes::{Advice, advice_on_read, advice_on_rule};
 use crate::hint::put_hint;
-use crate::judged::Judged;
 use crate::lost::put_lost;
 use crate::spot::{Spot, spot_of};
 use crate::state_text::put_state;
+use rc_admit::admitted::Judged;
 use rc_lang::program::Program;
 use rc_read::ReadCause;
+use rc_read::parts::Parts;
 use rc_report::source::Lines;
 use rc_report::verdict::Refusal;
 use rc_rules::cause::Cause;
@@ -42,9 +43,11 @@ fn members_of(alloc: Global, source: &[u8], judged: &Judged) -> Result<Members, 
     ensures { IfOk result (λ members. TellsVerdict (verdict_of judged.now) (whole members)) }
 {
     match judged {
-        Judged::Accepted(program) => accepted_members(alloc, program),
+        Judged::Admitted(admitted) => accepted_members(alloc, admitted.program()),
         Judged::Refused(program, refusal) => refused_members(alloc, source, program, *refusal),
-        Judged::Unreadable { line, cause } => unreadable_members(alloc, source, *line, *cause),
+        Judged::Unread { line, cause, above } => {
+            unreadable_members(alloc, source, *line, *cause, above)
+        }
     }
 }
 
@@ -187,12 +190,14 @@ fn unreadable_members(
     source: &[u8],
     line: u32,
     cause: ReadCause,
+    above: &Parts,
 ) -> Result<Members, AllocError>
     ensures { IfOk result (λ members. TellsVerdict (Unreadable line cause) (whole members)) }
 {
     let mut members = Map::new(alloc);
     let mut hint = Vec::new(alloc);
-    put_hint(&mut hint, alloc, source, line, cause)?;
+    let words = Lines::of(alloc, source)?.line(line);
+    put_hint(&mut hint, words, line, cause, above)?;
     put_bytes(alloc, &mut members, "hint", &hint)?;
     put_advice(alloc, &mut members, advice_on_read(cause))?;
     put_line(

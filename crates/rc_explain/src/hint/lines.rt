@@ -1,4 +1,4 @@
-//! Lines of a text and the columns of their words.
+//! Words of a line and their columns.
 
 /// The bytes from one place to another.
 pub fn between(bytes: &[u8], start: usize, end: usize) -> &[u8] {
@@ -24,26 +24,6 @@ pub fn word_at<'a>(words: &[&'a [u8]], place: usize) -> &'a [u8] {
         words[place]
     } else {
         &[]
-    }
-}
-
-/// Where a line with this number, from 1, begins and ends.
-pub fn line_at(text: &[u8], number: u32) -> (usize, usize) {
-    let mut line: u32 = 1;
-    let mut start = 0;
-    for i in 0..text.len() {
-        if text[i] == b'\n' {
-            if line == number {
-                return (start, i);
-            }
-            line = line.saturating_add(1);
-            start = i + 1;
-        }
-    }
-    if line == number {
-        (start, text.len())
-    } else {
-        (text.len(), text.len())
     }
 }
 

@@ -26,37 +26,30 @@ pub fn put_place(text: &mut Vec<u8>, line: &[u8], place: Place) -> Result<(), Al
     put_column(text, column_of(line, place.at).saturating_add(place.offset))
 }
 
-/// Adds the places of a word, the first ones of these: of a share those of its name and its number, and else one. Answers
-/// the others.
-fn push_word<'a, 'b>(
+/// Adds the places of a word, from this spot on: of a share those of its name and its number, and else one. Answers which
+/// spot is the next.
+fn push_word<'a>(
     places: &mut Vec<Place<'a>>,
-    spots: &'b [Spot<'a>],
+    spots: &[Spot<'a>],
+    first: usize,
     word: &[u8],
     at: usize,
-) -> Result<&'b [Spot<'a>], AllocError> {
-    let [spot, rest @ ..] = spots else {
-        return Ok(spots);
-    };
-    let before = word.len().saturating_sub(spot.word.len());
-    let is_name = before > 0 && matches!(spot.part, Part::Buffer);
-    places.push(Place {
-        part: spot.part,
-        word: spot.word,
-        at,
-        offset: if is_name { 0 } else { before },
-    })?;
-    match rest {
-        [number, others @ ..] if is_name => {
-            places.push(Place {
-                part: number.part,
-                word: number.word,
-                at,
-                offset: word.len().saturating_sub(number.word.len()),
-            })?;
-            Ok(others)
+) -> Result<usize, AllocError> {
+    for i in first..spots.len() {
+        let spot = spots[i];
+        let before = word.len().saturating_sub(spot.word.len());
+        let is_name = before > 0 && matches!(spot.part, Part::Buffer);
+        places.push(Place {
+            part: spot.part,
+            word: spot.word,
+            at,
+            offset: if is_name { 0 } else { before },
+        })?;
+        if !is_name {
+            return Ok(i + 1);
         }
-        _ => Ok(rest),
     }
+    Ok(spots.len())
 }
 
 /// The places of a line that has a form of this version.
@@ -70,7 +63,7 @@ pub fn places_of<'a>(
     let Some(row) = put_spots(version, &mut spots, words)? else {
         return Ok(places);
     };
-    let mut rest: &[Spot] = &spots;
+    let mut next = 0;
     let mut at: usize = 0;
     for part in parts_of(row) {
         let count = match part {
@@ -79,7 +72,7 @@ pub fn places_of<'a>(
         };
         for _ in 0..count {
             if !matches!(part, Part::Fixed(_)) {
-                rest = push_word(&mut places, rest, word_at(words, at), at)?;
+                next = push_word(&mut places, &spots, next, word_at(words, at), at)?;
             }
             at = at.saturating_add(1);
         }
