@@ -1,10 +1,8 @@
-//! The tests of the crates that run admitted programs and of those that make texts: of `rc_run`, `rc_report`, `rc_state`,
-//! the hints of `rc_explain`, and `rc_emit`, a module each. They are above those crates, since a crate with tests is proved
+//! The tests of the crates that run admitted programs and of those that make texts: of `rc_run`, `rc_report`, `rc_state`
+//! and the hints of `rc_explain`, a module each. They are above those crates, since a crate with tests is proved
 //! twice. What is printed else of explanations is compared with records by `ci/golden.py`.
 #![tactic(auto)]
 
-#[cfg(test)]
-mod emit;
 #[cfg(test)]
 mod hint;
 #[cfg(test)]

@@ -13,4 +13,4 @@ mod terms;
 mod threads;
 mod variables;
 
-pub use complete::{c_text, put_c};
+pub use complete::put_c;

@@ -2,4 +2,3 @@ pub mod Explained
 pub mod Listed
 pub mod Objects
 pub mod StateText
-pub mod Texts

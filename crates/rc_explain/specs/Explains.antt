@@ -1,7 +1,5 @@
 -- What is answered and written where a verdict is explained.
-use Rattle.std.specs.Prelude.{ℕ, ◌≡◌, ◌⊎◌, Bool, true, false, List, ◌++◌, codes, Option, Some, None, Result, Ok, Err}
-use Rattle.std.specs.Global.{Vec}
-use Rattle.std.specs.Io.KnownBytes.{Appends}
+use Rattle.std.specs.Prelude.{ℕ, ◌≡◌, Bool, true, false, List, ◌++◌, codes, Some, None}
 use Rattle.json.specs.Lex.{tokens}
 use Rattle.json.specs.Print.{print}
 use Rattle.serde_json.specs.Data.{Data, number, string, unsigned}
@@ -10,11 +8,9 @@ use Rattle.serde_json.specs.Written.{IsInOrder}
 use Rattle.rc_read.specs.Answer.{answer_of}
 use Rattle.rc_read.specs.Causes as reading
 use Rattle.rc_rules.specs.Causes as rules_of
-use Rattle.rc_report.specs.declared.engine_fault.EngineFault.{EngineFault}
 use Rattle.rc_report.specs.declared.verdict.Verdict.{Verdict}
 use Rattle.rc_report.specs.declared.verdict.Verdict.TheVariants.{Accepted, Refused, Unreadable}
 use Rattle.rc_report.specs.Checks.{IsVerdict}
-use Rattle.rc_report.specs.Streams.{Began}
 use Rattle.rc_report.specs.Verdicts.{verdict_text}
 
 -- ---- as JSON
@@ -49,21 +45,6 @@ abbrev pub Tells : Bool → Verdict → List ℕ → Type 0
 Tells true verdict text = (json : List ℕ) × IsObjectOf verdict json × (text ≡ json ++ codes "\n")
 Tells false verdict text = (rest : List ℕ) × (text ≡ verdict_text verdict ++ rest)
 
--- Such a text is added. Where memory ran out, nothing is said.
-abbrev pub PutsTold : {X E : Type 0} → Bool → Verdict → Vec ℕ → Vec ℕ → Result X E → Type 0
-PutsTold json verdict old new (Ok x) = (text : List ℕ) × Tells json verdict text × (new.items ≡ old.items ++ text)
-PutsTold json verdict old new (Err e) = Unit {0}
-
--- The verdict on the bytes is answered, and such a text of it is added.
-abbrev pub PutsExplained : {E : Type 0} → List ℕ → Bool → Vec ℕ → Vec ℕ → Result Verdict E → Type 0
-PutsExplained bytes json old new (Ok verdict) =
-    IsVerdict (answer_of bytes) verdict × ((text : List ℕ) × Tells json verdict text × (new.items ≡ old.items ++ text))
-PutsExplained bytes json old new (Err e) = Unit {0}
-
--- The verdict on the bytes is answered, and it is written with what explains it. Or nothing is written, or a beginning of
--- that, where the sink failed or memory ran out. Where the source doesn't tell its bytes nothing is claimed.
-abbrev pub ExplainsAs : Option (List ℕ) → Bool → Option (List ℕ) → Option (List ℕ) → Result Verdict EngineFault → Type 0
-ExplainsAs None json old new r = Unit {0}
-ExplainsAs (Some bytes) json old new (Ok verdict) = IsVerdict (answer_of bytes) verdict × ((text : List ℕ) × Tells json verdict text × Appends old new text)
-ExplainsAs (Some bytes) json old new (Err e) =
-    (new ≡ old) ⊎ ((verdict : Verdict) × IsVerdict (answer_of bytes) verdict × ((text : List ℕ) × Tells json verdict text × Began old new text))
+-- The verdict on the bytes, and a text that explains it.
+abbrev pub Explains : List ℕ → Bool → Verdict → List ℕ → Type 0
+Explains bytes json verdict text = IsVerdict (answer_of bytes) verdict × Tells json verdict text

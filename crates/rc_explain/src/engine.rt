@@ -1,9 +1,10 @@
 //! A text is checked, and its verdict is written with what explains it.
 
-ghost use Rattle.std.specs.Prelude.{◌+◌, ◌<◌, ◌^◌, Some, false, true};
-ghost use Rattle.rc_explain.specs.Explains.{ExplainsAs, PutsExplained, PutsTold};
+ghost use Rattle.std.specs.Prelude.{false, true};
+ghost use Rattle.rc_explain.specs.Explains.{Explains, Tells};
 ghost use Rattle.rc_explain.specs.Judged as spec;
-ghost use Rattle.rc_report.specs.Streams.{FailsToWriteOrGrow};
+ghost use Rattle.rc_report.specs.Streams.{Answers, CanWrite};
+ghost use Rattle.rc_report.specs.Text.{PutsAnswer, PutsSome};
 
 use crate::explanation::explanation;
 use crate::judged::verdict_of;
@@ -19,17 +20,16 @@ use std::alloc::{AllocError, Global};
 /// Writes the verdict on a text with what explains it, as JSON or as text: then the line of the verdict comes first, as
 /// it does without an explanation.
 ///
-/// Answers `Write` where a write failed: then a beginning is written; and `OutOfMemory` where a growth was refused.
-/// Nothing is tried again (`write(2)`).
+/// Answers `Write` where a write failed: then a beginning is written; and `OutOfMemory` where a growth was refused: then
+/// nothing is. Nothing is tried again (`write(2)`).
 pub fn explain_bytes<W: Sink>(
     alloc: Global,
     text: &[u8],
     json: bool,
     writer: &mut W,
 ) -> Result<Verdict, EngineFault>
-    requires { W.failure_count writer.old + 1 < 2 ^ 64 }
-    ensures text { ExplainsAs (Some text.now) json (W.contents writer.old) (W.contents writer.new) result }
-    ensures failures { FailsToWriteOrGrow (W.failure_count writer.old) (W.failure_count writer.new) result }
+    requires { CanWrite (W.state writer.old) }
+    ensures { Answers (Explains text.now json) W.state writer.old writer.new result }
 {
     let mut answer = Vec::new(alloc);
     let verdict = put_explained(&mut answer, alloc, text, json)?;
@@ -44,7 +44,7 @@ pub fn put_explained(
     source: &[u8],
     json: bool,
 ) -> Result<Verdict, AllocError>
-    ensures { PutsExplained source.now json text.old text.new result }
+    ensures { PutsAnswer (Explains source.now json) text.old text.new result }
 {
     let judged = judge(alloc, source)?;
     put_judged(text, alloc, source, &judged, json)?;
@@ -59,7 +59,7 @@ fn put_judged(
     judged: &Judged,
     json: bool,
 ) -> Result<(), AllocError>
-    ensures { PutsTold json (spec.verdict_of judged.now) text.old text.new result }
+    ensures { PutsSome (Tells json (spec.verdict_of judged.now)) text.old text.new result }
 {
     if json {
         return put_object(text, alloc, source, judged);
@@ -74,7 +74,7 @@ fn put_object(
     source: &[u8],
     judged: &Judged,
 ) -> Result<(), AllocError>
-    ensures { PutsTold true (spec.verdict_of judged.now) text.old text.new result }
+    ensures { PutsSome (Tells true (spec.verdict_of judged.now)) text.old text.new result }
 {
     let object = object_text(alloc, source, judged)?;
     put_piece(text, &object)?;
@@ -88,7 +88,7 @@ fn put_lines(
     source: &[u8],
     judged: &Judged,
 ) -> Result<(), AllocError>
-    ensures { PutsTold false (spec.verdict_of judged.now) text.old text.new result }
+    ensures { PutsSome (Tells false (spec.verdict_of judged.now)) text.old text.new result }
 {
     put_verdict(text, &verdict_of(judged))?;
     let explanation = explanation(alloc, source, judged)?;

@@ -1,3 +1,2 @@
-mod EngineReads
+mod Commands
 mod FileAnswers
-mod Names

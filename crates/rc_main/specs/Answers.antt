@@ -1,6 +1,5 @@
--- What the program answers: the exit status of each command, and what it says of its devices.
-use Rattle.std.specs.Prelude.{ℕ, ℤ, ◌≡◌, ◌+◌, ◌⊎◌, Bool, true, false, List, Option, Some, None, Result, Ok, Err, string_bytes}
-use Rattle.std.specs.Io.KnownBytes.{Appends}
+-- What the program answers: of each command the exit status, and what it writes.
+use Rattle.std.specs.Prelude.{ℕ, ℤ, ◌≡◌, ◌≤ℤ◌, pos, negsuc, ◌+◌, ◌⊎◌, Bool, true, false, List, Result, Ok, Err, string_bytes}
 use Rattle.rc_lang.specs.Program.{Program}
 use Rattle.rc_read.specs.Answer.{answer_of}
 use Rattle.rc_world.specs.declared.event.Event.{Event}
@@ -12,81 +11,98 @@ use Rattle.rc_report.specs.declared.step_engine.StepEnd.{StepEnd}
 use Rattle.rc_report.specs.declared.trace.End.{End}
 use Rattle.rc_report.specs.declared.trace.End.TheVariants as end
 use Rattle.rc_report.specs.declared.verdict.Verdict.{Verdict}
-use Rattle.rc_report.specs.Checks.{ChecksAs, GivesVerdict}
-use Rattle.rc_report.specs.Engine.{StepsAs}
+use Rattle.rc_report.specs.Checks.{GivesVerdict, TellsVerdict}
+use Rattle.rc_report.specs.Engine.{EndsBy, stepped_text}
 use Rattle.rc_report.specs.Statuses.{status_of_end, status_of_step, status_of_verdict}
-use Rattle.rc_report.specs.Streams.{CountsReads, Given}
+use Rattle.rc_report.specs.Streams.{CountsReads, Given, OfBytes, Taken, Wrote}
 use Rattle.rc_report.specs.Summaries.{summary_text}
 use Rattle.rc_report.specs.Traces.{trace_text}
 use Rattle.rc_report.specs.Verdicts.{verdict_text}
-use Rattle.rc_explain.specs.Explains.{ExplainsAs}
-use Rattle.rc_state.specs.Engine.{ShowsAs}
+use Rattle.rc_explain.specs.Explains.{Explains}
+use Rattle.rc_state.specs.Engine.{stepped_with_state}
 use Rattle.rc_main.specs.declared.fault.CommandFault.{CommandFault}
 use Rattle.rc_main.specs.declared.fault.CommandFault.TheVariants.{Words, Engine, OtherProgram}
 use Rattle.rc_main.specs.declared.words.Command.{Command}
 use Rattle.rc_main.specs.declared.words.Command.TheVariants.{Check, Explain, Step, State, Run, Emit, Show}
 
--- The status of `check` is that of the verdict on the bytes, which was written.
-abbrev pub AnswersCheck : Option (List ℕ) → Bool → Option (List ℕ) → Option (List ℕ) → ℕ → Type 0
-AnswersCheck bytes json old new status = (verdict : Verdict) × ChecksAs bytes json old new (Ok verdict) × (status ≡ status_of_verdict verdict)
+-- ---- what each command says of the bytes of a text: the status, and the text that is written
 
--- The same where the verdict was written with what explains it.
-abbrev pub AnswersExplain : Option (List ℕ) → Bool → Option (List ℕ) → Option (List ℕ) → ℕ → Type 0
-AnswersExplain bytes json old new status = (verdict : Verdict) × ExplainsAs bytes json old new (Ok verdict) × (status ≡ status_of_verdict verdict)
+-- The status of `check` is that of the verdict on the bytes, which is written. `--explain` writes what explains it too.
+abbrev pub SaysVerdict : (Verdict → List ℕ → Type 0) → ℕ → List ℕ → Type 0
+SaysVerdict told status text = (verdict : Verdict) × told verdict text × (status ≡ status_of_verdict verdict)
 
--- The status of `step` is that of the end to which the program was stepped, and the trace or the verdict was written.
-abbrev pub AnswersStep : Option (List ℕ) → List ℕ → Option (List ℕ) → Option (List ℕ) → ℕ → Type 0
-AnswersStep bytes schedule old new status = (end : StepEnd) × StepsAs bytes schedule old new (Ok end) × (status ≡ status_of_step end)
+-- The status of `step` is that of the end to which the program is stepped, and the trace or the verdict is written; with
+-- `--state` also the world in which the trace ends.
+abbrev pub SaysSteps : (List ℕ → List ℕ → List ℕ) → List ℕ → List ℕ → ℕ → List ℕ → Type 0
+SaysSteps stepped bytes schedule status text =
+    (end : StepEnd) × EndsBy (answer_of bytes) schedule end × (text ≡ stepped bytes schedule) × (status ≡ status_of_step end)
 
--- The same where the world in which the trace ends was written after it.
-abbrev pub AnswersState : Option (List ℕ) → List ℕ → Option (List ℕ) → Option (List ℕ) → ℕ → Type 0
-AnswersState bytes schedule old new status = (end : StepEnd) × ShowsAs bytes schedule old new (Ok end) × (status ≡ status_of_step end)
+-- The disk gives any result that a request may have.
+abbrev pub DiskGives : ℕ → ℤ → Type 0
+DiskGives user_data res = (negsuc 4094 ≤ℤ res) × (res ≤ℤ pos 4096)
 
 -- A run with this report ended so.
-abbrev pub EndsRun : (ℕ → ℤ → Type 0) → Program → ℕ → RunReport → End → Type 0
-EndsRun gives program limit report (end.Fault f) = ⊥
-EndsRun gives program limit report (end.NotEnabled i) = ⊥
-EndsRun gives program limit report end.Ended = Tells gives program limit (Ok report)
-EndsRun gives program limit report end.Stopped = ⊥
-EndsRun gives program limit report end.Limit = Tells gives program limit (Err (fault.Limit report))
-EndsRun gives program limit report end.Memory = Tells gives program limit (Err (fault.OutOfMemory report))
+abbrev pub EndsRun : Program → ℕ → RunReport → End → Type 0
+EndsRun program limit report (end.Fault f) = ⊥
+EndsRun program limit report (end.NotEnabled i) = ⊥
+EndsRun program limit report end.Ended = Tells DiskGives program limit (Ok report)
+EndsRun program limit report end.Stopped = ⊥
+EndsRun program limit report end.Limit = Tells DiskGives program limit (Err (fault.Limit report))
+EndsRun program limit report end.Memory = Tells DiskGives program limit (Err (fault.OutOfMemory report))
 
 -- what is written of a run: a summary, or the trace
 abbrev pub summary_or_trace : Bool → Program → List Event → End → List ℕ
 summary_or_trace true program events end = summary_text program events end
 summary_or_trace false program events end = trace_text program events end
 
--- The program ran, and what happened was written.
-abbrev pub RunsProgram : (ℕ → ℤ → Type 0) → Program → ℕ → Bool → Option (List ℕ) → Option (List ℕ) → ℕ → Type 0
-RunsProgram gives program limit summary old new status =
-    (report : RunReport) × (end : End) × EndsRun gives program limit report end × Appends old new (summary_or_trace summary program report.history.items end) × (status ≡ status_of_end end)
+-- The program ran, and what happened is written.
+abbrev pub SaysRun : Program → ℕ → Bool → ℕ → List ℕ → Type 0
+SaysRun program limit summary status text =
+    (report : RunReport) × (end : End) × EndsRun program limit report end
+    × (text ≡ summary_or_trace summary program report.history.items end) × (status ≡ status_of_end end)
 
--- The verdict that says why a text isn't admitted was written.
-abbrev pub TellsVerdict : List ℕ → Option (List ℕ) → Option (List ℕ) → ℕ → Type 0
-TellsVerdict bytes old new status =
-    (verdict : Verdict) × GivesVerdict (answer_of bytes) (Err verdict) × Appends old new (verdict_text verdict) × (status ≡ status_of_verdict verdict)
+-- An accepted program is answered so; and another text with the verdict that says why it isn't one.
+abbrev pub SaysAdmitted : List ℕ → (Program → ℕ → List ℕ → Type 0) → ℕ → List ℕ → Type 0
+SaysAdmitted bytes says status text =
+    ((program : Program) × GivesVerdict (answer_of bytes) (Ok program) × says program status text)
+    ⊎ ((verdict : Verdict) × GivesVerdict (answer_of bytes) (Err verdict) × (text ≡ verdict_text verdict) × (status ≡ status_of_verdict verdict))
 
--- The status of `run` is that of the end of the run, or of the verdict.
-abbrev pub AnswersRun : (ℕ → ℤ → Type 0) → Option (List ℕ) → ℕ → Bool → Option (List ℕ) → Option (List ℕ) → ℕ → Type 0
-AnswersRun gives None limit summary old new status = Unit {0}
-AnswersRun gives (Some bytes) limit summary old new status =
-    ((program : Program) × (answer_of bytes ≡ Ok program) × RunsProgram gives program limit summary old new status) ⊎ TellsVerdict bytes old new status
+-- What the C of a program is no contract says.
+abbrev pub Says : Command → List ℕ → ℕ → List ℕ → Type 0
+Says (Check json) bytes status text = SaysVerdict (TellsVerdict bytes json) status text
+Says (Explain json) bytes status text = SaysVerdict (Explains bytes json) status text
+Says (Step schedule) bytes status text = SaysSteps stepped_text bytes schedule.now status text
+Says (State schedule) bytes status text = SaysSteps stepped_with_state bytes schedule.now status text
+Says (Run seed limit summary) bytes status text = SaysAdmitted bytes (λ program. SaysRun program limit summary) status text
+Says Emit bytes status text = SaysAdmitted bytes (λ program status text. status ≡ 0) status text
+Says (Show shown) bytes status text = (text ≡ string_bytes shown) × (status ≡ 0)
 
--- The status of `c` is 0 where the program is accepted, and else that of the verdict, which was written. What its C is no
--- contract says.
-abbrev pub AnswersEmit : Option (List ℕ) → Option (List ℕ) → Option (List ℕ) → ℕ → Type 0
-AnswersEmit None old new status = Unit {0}
-AnswersEmit (Some bytes) old new status = ((program : Program) × GivesVerdict (answer_of bytes) (Ok program) × (status ≡ 0)) ⊎ TellsVerdict bytes old new status
+-- ---- what a command leaves
 
--- What a command answers of the bytes of a text, where they are known. Help and the version are shown whatever they are.
-abbrev pub AnswersCommand : (ℕ → ℤ → Type 0) → Command → Option (List ℕ) → Option (List ℕ) → Option (List ℕ) → ℕ → Type 0
-AnswersCommand gives (Check json) bytes old new status = AnswersCheck bytes json old new status
-AnswersCommand gives (Explain json) bytes old new status = AnswersExplain bytes json old new status
-AnswersCommand gives (Step schedule) bytes old new status = AnswersStep bytes schedule.now old new status
-AnswersCommand gives (State schedule) bytes old new status = AnswersState bytes schedule.now old new status
-AnswersCommand gives (Run seed limit summary) bytes old new status = AnswersRun gives bytes limit summary old new status
-AnswersCommand gives Emit bytes old new status = AnswersEmit bytes old new status
-AnswersCommand gives (Show text) bytes old new status = Appends old new (string_bytes text) × (status ≡ 0)
+-- Where there is no status, a failed write is answered, which counts, and only that.
+abbrev pub Fails : Taken → Taken → CommandFault → Type 0
+Fails old new (Words e) = ⊥
+Fails old new (Engine Read) = ⊥
+Fails old new (Engine Write) = new.failures ≡ old.failures + 1
+Fails old new (Engine OutOfMemory) = new.failures ≡ old.failures
+Fails old new OtherProgram = new.failures ≡ old.failures
+
+-- Such a status is answered, and such a text is written whole.
+abbrev pub Does : {S : Type 0} → (ℕ → List ℕ → Type 0) → (S → Taken) → S → S → Result ℕ CommandFault → Type 0
+Does says state old new (Ok status) = (text : List ℕ) × says status text × Wrote (state old) (state new) text
+Does says state old new (Err e) = Fails (state old) (state new) e
+
+-- The same with the bytes of a source. Where they can't be read nothing is written.
+abbrev pub SaysOf : Given → Command → ℕ → List ℕ → Type 0
+SaysOf source command status text = OfBytes source.remaining (λ bytes. Says command bytes status text)
+
+abbrev pub DoesWith : {S : Type 0} → Given → Command → (S → Taken) → S → S → Result ℕ CommandFault → Type 0
+DoesWith source command state old new (Ok status) = Does (SaysOf source command) state old new (Ok status)
+DoesWith source command state old new (Err (Words e)) = ⊥
+DoesWith source command state old new (Err (Engine Read)) = state new ≡ state old
+DoesWith source command state old new (Err (Engine Write)) = Fails (state old) (state new) (Engine Write)
+DoesWith source command state old new (Err (Engine OutOfMemory)) = Fails (state old) (state new) (Engine OutOfMemory)
+DoesWith source command state old new (Err OtherProgram) = Fails (state old) (state new) OtherProgram
 
 -- A failure of the source is answered, or that it has no end, and only these; nothing is read after the end.
 abbrev pub ReadsOnce : Given → Given → Result ℕ CommandFault → Type 0
@@ -97,27 +113,5 @@ ReadsOnce old new (Err OtherProgram) = CountsReads {X = ℕ} old new (Ok 3)
 
 -- The same of each command that reads.
 abbrev pub ReadsAsAsked : Command → Given → Given → Result ℕ CommandFault → Type 0
-ReadsAsAsked (Check json) old new r = ReadsOnce old new r
-ReadsAsAsked (Explain json) old new r = ReadsOnce old new r
-ReadsAsAsked (Step schedule) old new r = ReadsOnce old new r
-ReadsAsAsked (State schedule) old new r = ReadsOnce old new r
-ReadsAsAsked (Run seed limit summary) old new r = ReadsOnce old new r
-ReadsAsAsked Emit old new r = ReadsOnce old new r
 ReadsAsAsked (Show text) old new r = Unit {0}
-
--- A failure of the sink is answered, and only that; there is one at most.
-abbrev pub WritesOnce : ℕ → ℕ → Result ℕ CommandFault → Type 0
-WritesOnce old new (Ok status) = new ≡ old
-WritesOnce old new (Err (Words e)) = ⊥
-WritesOnce old new (Err (Engine Read)) = new ≡ old
-WritesOnce old new (Err (Engine Write)) = new ≡ old + 1
-WritesOnce old new (Err (Engine OutOfMemory)) = new ≡ old
-WritesOnce old new (Err OtherProgram) = new ≡ old
-
--- Of what reads nothing, no failure of a source is answered.
-abbrev pub ReadsNothing : CommandFault → Type 0
-ReadsNothing (Words e) = ⊥
-ReadsNothing (Engine Read) = ⊥
-ReadsNothing (Engine Write) = Unit {0}
-ReadsNothing (Engine OutOfMemory) = Unit {0}
-ReadsNothing OtherProgram = Unit {0}
+ReadsAsAsked command old new r = ReadsOnce old new r

@@ -1,23 +1,27 @@
 //! The whole program, over any reader and writers.
 
-ghost use Rattle.std.specs.Prelude.{◌≡◌, ◌+◌, ◌<◌, ◌≤◌, ◌^◌, IfErr, IfOk, OnOk, Some, string_bytes};
-ghost use Rattle.std.specs.Io.KnownBytes.{Appends};
-ghost use Rattle.rc_report.specs.declared.engine_fault.EngineFault.TheVariants.{Write as FailedWrite};
+ghost use Rattle.std.specs.Prelude.{◌≡◌, ◌+◌, ◌<◌, ◌≤◌, ◌^◌, IfErr, IfOk};
+ghost use Rattle.rc_explain.specs.Explains.{Explains};
 ghost use Rattle.rc_main.specs.declared.fault.CommandFault.TheVariants.{Engine};
-ghost use Rattle.rc_main.specs.Answers.{AnswersCheck, AnswersCommand, AnswersExplain, AnswersState, AnswersStep, ReadsAsAsked, ReadsNothing, WritesOnce};
-ghost use Rattle.rc_main.specs.Files.{AnswersFile};
+ghost use Rattle.rc_main.specs.Answers.{Does, DoesWith, ReadsAsAsked, Says, SaysSteps, SaysVerdict};
+ghost use Rattle.rc_main.specs.Files.{AnswersAs, AsksFile};
+ghost use Rattle.rc_report.specs.Checks.{TellsVerdict};
+ghost use Rattle.rc_report.specs.declared.engine_fault.EngineFault.TheVariants.{Write as FailedWrite};
+ghost use Rattle.rc_report.specs.Engine.{stepped_text};
+ghost use Rattle.rc_report.specs.Streams.{CanRead, CanWrite};
+ghost use Rattle.rc_state.specs.Engine.{stepped_with_state};
 
 use crate::emitting::emit_text;
 use crate::fault::CommandFault;
 use crate::files::{NoTexts, Texts, check_files, tell_unread};
-use crate::output::Output;
+use crate::output::{Output, write_answer};
 use crate::running::run_text;
 use crate::words::{Asked, Command, read_words};
 use rc_device::device::Device;
 use rc_device::disk::Disk;
-use rc_explain::engine::explain_bytes;
+use rc_explain::engine::put_explained;
 use rc_report::buffered::Buffered;
-use rc_report::check_engine::check_bytes;
+use rc_report::check_engine::put_checked;
 use rc_report::engine_fault::EngineFault;
 use rc_report::reading::read_text;
 use rc_report::status::{DEVICE_STATUS, GOOD_STATUS};
@@ -93,7 +97,7 @@ fn answered<'a, R: Threads + Wait + Sync, T: Texts, I: Read + Drop, O: Write + D
     writer: O,
     errors: &mut E,
 ) -> Result<u8, CommandFault>
-    requires { E.failure_count errors.old ≡ 0 }
+    requires { (E.state errors.old).failures ≡ 0 }
     ensures { IfOk result (λ status. status ≤ 3) }
 {
     let asked = read_words(alloc, words)?;
@@ -115,19 +119,14 @@ fn on_input<R: Threads + Wait + Sync, I: Source, S: Sink>(
     source: &mut I,
     sink: &mut S,
 ) -> Result<u8, CommandFault>
-    requires reads { I.read_count source.old + 2097152 < 2 ^ 64 }
-    requires read_failures { I.failure_count source.old + 1 < 2 ^ 64 }
-    requires write_failures { S.failure_count sink.old + 1 < 2 ^ 64 }
-    ensures answer { IfOk result (AnswersCommand ⟦<Disk as Device>⟧.gives command.entry (I.remaining source.old) (S.contents sink.old) (S.contents sink.new)) }
+    requires reads { CanRead 2097152 (I.state source.old) }
+    requires writes { CanWrite (S.state sink.old) }
+    ensures answer { DoesWith (I.state source.old) command.entry S.state sink.old sink.new result }
     ensures bound { IfOk result (λ status. status ≤ 3) }
-    ensures reads { ReadsAsAsked command.entry
-        (record { remaining = I.remaining source.old; reads = I.read_count source.old; ends = I.end_count source.old; failures = I.failure_count source.old })
-        (record { remaining = I.remaining source.new; reads = I.read_count source.new; ends = I.end_count source.new; failures = I.failure_count source.new })
-        result }
-    ensures writes { WritesOnce (S.failure_count sink.old) (S.failure_count sink.new) result }
+    ensures reads { ReadsAsAsked command.entry (I.state source.old) (I.state source.new) result }
 {
     if let Command::Show(text) = command {
-        return shown(text.as_str(), sink);
+        return write_answer(sink, text.as_bytes(), GOOD_STATUS);
     }
     let text = read_text(alloc, source)?;
     performed(rt, alloc, command, text, sink)
@@ -143,10 +142,9 @@ fn on_files<R: Threads + Wait + Sync, T: Texts, S: Sink, E: Sink>(
     sink: &mut S,
     errors: &mut E,
 ) -> Result<u8, CommandFault>
-    requires write_failures { S.failure_count sink.old + 1 < 2 ^ 64 }
-    requires error_failures { E.failure_count errors.old ≤ 1 }
-    ensures bound { IfOk result (λ status. status ≤ 3) }
-    ensures writes { WritesOnce (S.failure_count sink.old) (S.failure_count sink.new) result }
+    requires writes { CanWrite (S.state sink.old) }
+    requires told { (E.state errors.old).failures ≤ 1 }
+    ensures answer { Does (λ status text. status ≤ 3) S.state sink.old sink.new result }
 {
     if let Command::Check { json } = command {
         return check_files(alloc, texts, files, json, sink, errors);
@@ -167,14 +165,10 @@ fn on_file<R: Threads + Wait + Sync, T: Texts, S: Sink, E: Sink>(
     sink: &mut S,
     errors: &mut E,
 ) -> Result<u8, CommandFault>
-    requires write_failures { S.failure_count sink.old + 1 < 2 ^ 64 }
-    requires error_failures { E.failure_count errors.old ≤ 1 }
-    ensures answer { IfOk result (AnswersFile ⟦<Disk as Device>⟧.gives (T.gives texts.now) command.entry name.now
-        (S.contents sink.old) (S.contents sink.new)
-        (record { contents = E.contents errors.old; failures = E.failure_count errors.old })
-        (record { contents = E.contents errors.new; failures = E.failure_count errors.new })) }
+    requires writes { CanWrite (S.state sink.old) }
+    requires told { (E.state errors.old).failures ≤ 1 }
+    ensures answer { AnswersAs (AsksFile (T.gives texts.now) command.entry name.now) S.state sink.old sink.new E.state errors.old errors.new result }
     ensures bound { IfOk result (λ status. status ≤ 3) }
-    ensures writes { WritesOnce (S.failure_count sink.old) (S.failure_count sink.new) result }
 {
     match texts.read(alloc, name) {
         Ok(text) => performed(rt, alloc, command, text, sink),
@@ -188,9 +182,8 @@ fn written_out<O: Write + Drop>(
     sink: &mut Buffered<WriteSink<O>>,
 ) -> Result<u8, CommandFault>
     requires { sink.old.sink.failures + 1 < 2 ^ 64 }
-    ensures status { IfOk result (λ s. s ≡ status) }
-    ensures fault { IfErr result (λ e. e ≡ Engine FailedWrite) }
-    ensures writes { WritesOnce sink.old.sink.failures sink.new.sink.failures result }
+    ensures status { IfOk result (λ s. (s ≡ status) × (sink.new.sink.failures ≡ sink.old.sink.failures)) }
+    ensures fault { IfErr result (λ e. (e ≡ Engine FailedWrite) × (sink.new.sink.failures ≡ sink.old.sink.failures + 1)) }
 {
     match sink.finish() {
         Ok(()) => Ok(status),
@@ -206,11 +199,8 @@ fn performed<R: Threads + Wait + Sync, S: Sink>(
     text: Vec<u8>,
     sink: &mut S,
 ) -> Result<u8, CommandFault>
-    requires { S.failure_count sink.old + 1 < 2 ^ 64 }
-    ensures answer { IfOk result (AnswersCommand ⟦<Disk as Device>⟧.gives command.entry (Some text.items) (S.contents sink.old) (S.contents sink.new)) }
-    ensures bound { IfOk result (λ status. status ≤ 3) }
-    ensures no_read { IfErr result ReadsNothing }
-    ensures writes { WritesOnce (S.failure_count sink.old) (S.failure_count sink.new) result }
+    requires { CanWrite (S.state sink.old) }
+    ensures { Does (Says command.entry text.items) S.state sink.old sink.new result }
 {
     match command {
         Command::Check { json } => checked(alloc, &text, json, sink),
@@ -223,20 +213,8 @@ fn performed<R: Threads + Wait + Sync, S: Sink>(
             summary,
         } => run_text(rt, alloc, &text, seed, limit, summary, sink),
         Command::Emit => emit_text(alloc, &text, sink),
-        Command::Show(text) => shown(text.as_str(), sink),
+        Command::Show(shown) => write_answer(sink, shown.as_bytes(), GOOD_STATUS),
     }
-}
-
-/// Shows a text.
-fn shown<S: Sink>(text: &str, sink: &mut S) -> Result<u8, CommandFault>
-    requires { S.failure_count sink.old + 1 < 2 ^ 64 }
-    ensures status { IfOk result (λ status. status ≡ 0) }
-    ensures text { OnOk result (Appends (S.contents sink.old) (S.contents sink.new) text.now) }
-    ensures no_read { IfErr result ReadsNothing }
-    ensures writes { WritesOnce (S.failure_count sink.old) (S.failure_count sink.new) result }
-{
-    write_piece(sink, text.as_bytes())?;
-    Ok(GOOD_STATUS)
 }
 
 /// Checks a text.
@@ -246,14 +224,12 @@ fn checked<S: Sink>(
     json: bool,
     sink: &mut S,
 ) -> Result<u8, CommandFault>
-    requires { S.failure_count sink.old + 1 < 2 ^ 64 }
-    ensures answer { IfOk result (AnswersCheck (Some text.now) json (S.contents sink.old) (S.contents sink.new)) }
-    ensures bound { IfOk result (λ status. status ≤ 3) }
-    ensures no_read { IfErr result ReadsNothing }
-    ensures writes { WritesOnce (S.failure_count sink.old) (S.failure_count sink.new) result }
+    requires { CanWrite (S.state sink.old) }
+    ensures { Does (SaysVerdict (TellsVerdict text.now json)) S.state sink.old sink.new result }
 {
-    let verdict = check_bytes(alloc, text, json, sink)?;
-    Ok(verdict.status())
+    let mut answer = Vec::new(alloc);
+    let verdict = put_checked(&mut answer, alloc, text, json)?;
+    write_answer(sink, &answer, verdict.status())
 }
 
 /// Checks a text, and explains the verdict.
@@ -263,14 +239,12 @@ fn explained<S: Sink>(
     json: bool,
     sink: &mut S,
 ) -> Result<u8, CommandFault>
-    requires { S.failure_count sink.old + 1 < 2 ^ 64 }
-    ensures answer { IfOk result (AnswersExplain (Some text.now) json (S.contents sink.old) (S.contents sink.new)) }
-    ensures bound { IfOk result (λ status. status ≤ 3) }
-    ensures no_read { IfErr result ReadsNothing }
-    ensures writes { WritesOnce (S.failure_count sink.old) (S.failure_count sink.new) result }
+    requires { CanWrite (S.state sink.old) }
+    ensures { Does (SaysVerdict (Explains text.now json)) S.state sink.old sink.new result }
 {
-    let verdict = explain_bytes(alloc, text, json, sink)?;
-    Ok(verdict.status())
+    let mut answer = Vec::new(alloc);
+    let verdict = put_explained(&mut answer, alloc, text, json)?;
+    write_answer(sink, &answer, verdict.status())
 }
 
 /// Steps the program of a text through a schedule.
@@ -280,11 +254,8 @@ fn stepped<S: Sink>(
     schedule: &str,
     sink: &mut S,
 ) -> Result<u8, CommandFault>
-    requires { S.failure_count sink.old + 1 < 2 ^ 64 }
-    ensures answer { IfOk result (AnswersStep (Some text.items) schedule.now (S.contents sink.old) (S.contents sink.new)) }
-    ensures bound { IfOk result (λ status. status ≤ 3) }
-    ensures no_read { IfErr result ReadsNothing }
-    ensures writes { WritesOnce (S.failure_count sink.old) (S.failure_count sink.new) result }
+    requires { CanWrite (S.state sink.old) }
+    ensures { Does (SaysSteps stepped_text text.items schedule.now) S.state sink.old sink.new result }
 {
     let end = step_bytes(alloc, text, schedule, sink)?;
     Ok(end.status())
@@ -297,11 +268,8 @@ fn shown_at_end<S: Sink>(
     schedule: &str,
     sink: &mut S,
 ) -> Result<u8, CommandFault>
-    requires { S.failure_count sink.old + 1 < 2 ^ 64 }
-    ensures answer { IfOk result (AnswersState (Some text.now) schedule.now (S.contents sink.old) (S.contents sink.new)) }
-    ensures bound { IfOk result (λ status. status ≤ 3) }
-    ensures no_read { IfErr result ReadsNothing }
-    ensures writes { WritesOnce (S.failure_count sink.old) (S.failure_count sink.new) result }
+    requires { CanWrite (S.state sink.old) }
+    ensures { Does (SaysSteps stepped_with_state text.now schedule.now) S.state sink.old sink.new result }
 {
     let end = show_bytes(alloc, text, schedule, sink)?;
     Ok(end.status())

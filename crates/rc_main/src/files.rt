@@ -1,13 +1,14 @@
 //! Texts that are in files.
 
-ghost use Rattle.std.specs.Prelude.{◌≡◌, ◌+◌, ◌<◌, ◌≤◌, ◌^◌, ℕ, IfOk, IfSome, IsErr, List, Result};
+ghost use Rattle.std.specs.Prelude.{◌≡◌, ◌≤◌, ℕ, IfOk, IfSome, IsErr, List, Result};
+ghost use Rattle.rc_main.specs.Answers.{SaysVerdict};
 ghost use Rattle.rc_main.specs.declared.files.Unread.{Unread};
-ghost use Rattle.rc_main.specs.Answers.{WritesOnce};
-ghost use Rattle.rc_main.specs.Files.{AnswersAs, AnswersFiles, IsTold, SaysFile, bytes_of, line_told, verdict_told};
-ghost use Rattle.rc_report.specs.Streams.{FailsToWrite, FailsToWriteOrGrow, WritesNothingOnGrow, Wrote};
-ghost use Rattle.rc_report.specs.Text.{Puts};
+ghost use Rattle.rc_main.specs.Files.{AnswersAs, ChecksFile, IsTold, SaysAll, TellsFile, bytes_of, line_told, verdict_told};
+ghost use Rattle.rc_report.specs.Streams.{CanWrite, Writes};
+ghost use Rattle.rc_report.specs.Text.{Puts, PutsAnswer};
 
 use crate::fault::CommandFault;
+use crate::output::write_answer;
 use rc_report::check_engine::verdict_on;
 use rc_report::engine_fault::EngineFault;
 use rc_report::file_verdict::{put_file_object, put_file_verdict};
@@ -133,14 +134,10 @@ pub fn check_files<T: Texts, S: Sink, E: Sink>(
     sink: &mut S,
     errors: &mut E,
 ) -> Result<u8, CommandFault>
-    requires write_failures { S.failure_count sink.old + 1 < 2 ^ 64 }
-    requires error_failures { E.failure_count errors.old ≤ 1 }
-    ensures answer { IfOk result (AnswersFiles (λ name. SaysFile (T.gives texts.now) json name.now) files.now
-        (S.contents sink.old) (S.contents sink.new)
-        (record { contents = E.contents errors.old; failures = E.failure_count errors.old })
-        (record { contents = E.contents errors.new; failures = E.failure_count errors.new })) }
+    requires writes { CanWrite (S.state sink.old) }
+    requires told { (E.state errors.old).failures ≤ 1 }
+    ensures answer { AnswersAs (SaysAll (λ name. ChecksFile (T.gives texts.now) json name.now) files.now) S.state sink.old sink.new E.state errors.old errors.new result }
     ensures bound { IfOk result (λ status. status ≤ 3) }
-    ensures writes { WritesOnce (S.failure_count sink.old) (S.failure_count sink.new) result }
 {
     let mut status = 0u8;
     for name in files {
@@ -158,48 +155,38 @@ fn check_file<T: Texts, S: Sink, E: Sink>(
     sink: &mut S,
     errors: &mut E,
 ) -> Result<u8, CommandFault>
-    requires write_failures { S.failure_count sink.old + 1 < 2 ^ 64 }
-    requires error_failures { E.failure_count errors.old ≤ 1 }
-    ensures answer { IfOk result (AnswersAs (SaysFile (T.gives texts.now) json name.now)
-        (S.contents sink.old) (S.contents sink.new)
-        (record { contents = E.contents errors.old; failures = E.failure_count errors.old })
-        (record { contents = E.contents errors.new; failures = E.failure_count errors.new })) }
+    requires writes { CanWrite (S.state sink.old) }
+    requires told { (E.state errors.old).failures ≤ 1 }
+    ensures answer { AnswersAs (ChecksFile (T.gives texts.now) json name.now) S.state sink.old sink.new E.state errors.old errors.new result }
     ensures bound { IfOk result (λ status. status ≤ 3) }
-    ensures writes { WritesOnce (S.failure_count sink.old) (S.failure_count sink.new) result }
 {
     let text = match texts.read(alloc, name) {
         Ok(text) => text,
         Err(unread) => return Ok(tell_unread(alloc, name, &unread, errors)),
     };
-    let Ok(verdict) = verdict_on(alloc, &text) else {
-        return Ok(tell_file(alloc, name, MEMORY, errors));
-    };
-    match write_verdict(alloc, name, &verdict, json, sink) {
-        Ok(()) => Ok(verdict.status()),
-        Err(EngineFault::OutOfMemory) => Ok(tell_file(alloc, name, MEMORY, errors)),
-        Err(fault) => Err(CommandFault::Engine(fault)),
+    let mut answer = Vec::new(alloc);
+    match put_file(&mut answer, alloc, name, &text, json) {
+        Ok(verdict) => write_answer(sink, &answer, verdict.status()),
+        Err(AllocError) => Ok(tell_file(alloc, name, MEMORY, errors)),
     }
 }
 
 /// What is told where memory ran out.
 const MEMORY: &str = "out of memory (20)";
 
-/// Writes the verdict on a file's text, as JSON or as text, in one piece.
-fn write_verdict<S: Sink>(
+/// Adds the verdict on the text of a file.
+fn put_file(
+    answer: &mut Vec<u8>,
     alloc: Global,
     name: &str,
-    verdict: &Verdict,
+    text: &[u8],
     json: bool,
-    sink: &mut S,
-) -> Result<(), EngineFault>
-    requires { S.failure_count sink.old + 1 < 2 ^ 64 }
-    ensures text { Wrote (S.contents sink.old) (S.contents sink.new) (verdict_told json name.now verdict.now) result }
-    ensures memory { WritesNothingOnGrow (S.contents sink.old) (S.contents sink.new) result }
-    ensures failures { FailsToWriteOrGrow (S.failure_count sink.old) (S.failure_count sink.new) result }
+) -> Result<Verdict, AllocError>
+    ensures { PutsAnswer (TellsFile name.now json text.now) answer.old answer.new result }
 {
-    let mut text = Vec::new(alloc);
-    put_told(&mut text, alloc, name, verdict, json)?;
-    write_piece(sink, &text)
+    let verdict = verdict_on(alloc, text)?;
+    put_told(answer, alloc, name, &verdict, json)?;
+    Ok(verdict)
 }
 
 /// Adds the verdict on a file's text, as JSON or as text.
@@ -221,12 +208,9 @@ fn put_told(
 
 /// Tells on one line why a file can't be read, and answers the exit status then, which is 3.
 pub fn tell_unread<E: Sink>(alloc: Global, name: &str, unread: &Unread, errors: &mut E) -> u8
-    requires { E.failure_count errors.old ≤ 1 }
+    requires { (E.state errors.old).failures ≤ 1 }
     ensures status { result ≡ 3 }
-    ensures told { (why : List ℕ) × IsTold
-        (record { contents = E.contents errors.old; failures = E.failure_count errors.old })
-        (record { contents = E.contents errors.new; failures = E.failure_count errors.new })
-        (line_told name.now why) }
+    ensures told { (why : List ℕ) × IsTold (E.state errors.old) (E.state errors.new) (line_told name.now why) }
 {
     match words_of(alloc, unread) {
         Ok(why) => tell_file(alloc, name, why.as_str(), errors),
@@ -251,12 +235,9 @@ fn without_number(alloc: Global, told: &str) -> Result<String, AllocError> {
 /// Tells on one line why a file has no answer, and answers the exit status then, which is 3. After a write to `errors`
 /// that failed nothing more is told.
 fn tell_file<E: Sink>(alloc: Global, name: &str, why: &str, errors: &mut E) -> u8
-    requires { E.failure_count errors.old ≤ 1 }
+    requires { (E.state errors.old).failures ≤ 1 }
     ensures status { result ≡ 3 }
-    ensures told { IsTold
-        (record { contents = E.contents errors.old; failures = E.failure_count errors.old })
-        (record { contents = E.contents errors.new; failures = E.failure_count errors.new })
-        (line_told name.now why.now) }
+    ensures told { IsTold (E.state errors.old) (E.state errors.new) (line_told name.now why.now) }
 {
     if errors.failures() == 0 {
         let _ = write_at_once(alloc, name, why, errors);
@@ -271,9 +252,8 @@ fn write_at_once<E: Sink>(
     why: &str,
     errors: &mut E,
 ) -> Result<(), EngineFault>
-    requires { E.failure_count errors.old + 1 < 2 ^ 64 }
-    ensures text { Wrote (E.contents errors.old) (E.contents errors.new) (line_told name.now why.now) result }
-    ensures failures { FailsToWrite (E.failure_count errors.old) (E.failure_count errors.new) result }
+    requires { CanWrite (E.state errors.old) }
+    ensures { Writes E.state errors.old errors.new (line_told name.now why.now) result }
 {
     let mut line = Vec::new(alloc);
     match put_line(&mut line, name, why) {
@@ -293,9 +273,8 @@ fn put_line(line: &mut Vec<u8>, name: &str, why: &str) -> Result<(), AllocError>
 
 /// Writes the line that says why a file has no answer. It takes no memory.
 fn write_line<E: Sink>(name: &str, why: &str, errors: &mut E) -> Result<(), EngineFault>
-    requires { E.failure_count errors.old + 1 < 2 ^ 64 }
-    ensures text { Wrote (E.contents errors.old) (E.contents errors.new) (line_told name.now why.now) result }
-    ensures failures { FailsToWrite (E.failure_count errors.old) (E.failure_count errors.new) result }
+    requires { CanWrite (E.state errors.old) }
+    ensures { Writes E.state errors.old errors.new (line_told name.now why.now) result }
 {
     write_piece(errors, b"ringcheck: ")?;
     write_shown(name, errors)?;

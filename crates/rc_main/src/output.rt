@@ -1,5 +1,12 @@
 //! Standard output.
 
+ghost use Rattle.std.specs.Prelude.{◌≡◌};
+ghost use Rattle.rc_main.specs.Answers.{Does};
+ghost use Rattle.rc_report.specs.Streams.{CanWrite};
+
+use crate::fault::CommandFault;
+use rc_report::streams::Sink;
+use rc_report::writing::write_piece;
 use std::io::{self, ErrorKind, Write};
 
 /// A writer that notes whether nobody reads what it writes any more, as after `head` has ended (`pipe(7)`).
@@ -33,4 +40,13 @@ impl<'a, W: Write> Write for Output<'a, W> {
             }
         }
     }
+}
+
+/// Writes the text of an answer, and answers its status.
+pub fn write_answer<S: Sink>(sink: &mut S, answer: &[u8], status: u8) -> Result<u8, CommandFault>
+    requires { CanWrite (S.state sink.old) }
+    ensures { Does (λ s text. (s ≡ status) × (text ≡ answer.now)) S.state sink.old sink.new result }
+{
+    write_piece(sink, answer)?;
+    Ok(status)
 }

@@ -3,13 +3,6 @@ use Rattle.std.proofs.Common.{◌≡◌, ℕ, ◌+◌, ◌-◌, List, ◌++◌, 
 use Rattle.std.proofs.lemmas.List.{drop-drop, take-append-drop, take_all}
 use Rattle.std.specs.Io.KnownBytes.{Appends, Keeps, append_known}
 
--- after a failed write
-pub keeps_still : (a b c : Option (List ℕ)) (rest : List ℕ) → Keeps a (append_known b rest) → Keeps b c → Keeps a (append_known c rest)
-keeps_still None b c rest p q = tt
-keeps_still (Some xs) None c rest p q = absurd p
-keeps_still (Some xs) (Some ys) None rest p q = q
-keeps_still (Some xs) (Some ys) (Some zs) rest p q = ap (λ us. us ++ rest) q ∙ p
-
 -- after a write of the first n bytes of what is left
 keeps_taken : (a b c : Option (List ℕ)) (first rest : List ℕ) → Keeps a (append_known b (first ++ rest)) → Appends b c first → Keeps a (append_known c rest)
 keeps_taken None b c first rest p q = tt

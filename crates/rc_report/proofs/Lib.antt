@@ -1,9 +1,9 @@
+pub mod Answered
 pub mod Buffers
 pub mod Grows
 pub mod Lines
 pub mod Objects
 pub mod Pieces
-pub mod FileObjects
 pub mod Placed
 pub mod Steps
 pub mod Stretches
@@ -11,5 +11,4 @@ pub mod Tallies
 pub mod Texts
 pub mod TextWords
 pub mod Traces
-pub mod OneVerdict
 pub mod Yielded

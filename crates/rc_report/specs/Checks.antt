@@ -1,6 +1,5 @@
 -- What the engine that checks a text answers and writes.
-use Rattle.std.specs.Prelude.{ℕ, ◌≡◌, Bool, true, false, List, Option, Some, None, Result, Ok, Err}
-use Rattle.std.specs.Io.KnownBytes.{Appends}
+use Rattle.std.specs.Prelude.{ℕ, ◌≡◌, Bool, true, false, List, Result, Ok, Err}
 use Rattle.rc_lang.specs.Program.{Program}
 use Rattle.rc_read.specs.Answer.{answer_of}
 use Rattle.rc_read.specs.Causes.{number_of_cause}
@@ -9,7 +8,7 @@ use Rattle.rc_rules.specs.Labellings.{Accepts, IsRefused}
 use Rattle.rc_report.specs.declared.engine_fault.EngineFault.{EngineFault}
 use Rattle.rc_report.specs.declared.verdict.Verdict.{Verdict}
 use Rattle.rc_report.specs.declared.verdict.Verdict.TheVariants.{Accepted, Refused, Unreadable}
-use Rattle.rc_report.specs.Streams.{Began}
+use Rattle.rc_report.specs.Streams.{Answers, Given, OfSource, Taken}
 use Rattle.rc_report.specs.Verdicts.{verdict_json, verdict_text}
 
 -- The rules say this of a program.
@@ -41,9 +40,10 @@ abbrev pub told : Bool → Verdict → List ℕ
 told true verdict = verdict_json verdict
 told false verdict = verdict_text verdict
 
--- The verdict on the bytes is answered, and it is written. Or a beginning of it is, where the sink failed or memory ran
--- out. Where the source doesn't tell its bytes nothing is claimed.
-abbrev pub ChecksAs : Option (List ℕ) → Bool → Option (List ℕ) → Option (List ℕ) → Result Verdict EngineFault → Type 0
-ChecksAs None json old new r = Unit {0}
-ChecksAs (Some bytes) json old new (Ok verdict) = IsVerdict (answer_of bytes) verdict × Appends old new (told json verdict)
-ChecksAs (Some bytes) json old new (Err e) = (verdict : Verdict) → IsVerdict (answer_of bytes) verdict → Began old new (told json verdict)
+-- The verdict on the bytes, and the text that tells it.
+abbrev pub TellsVerdict : List ℕ → Bool → Verdict → List ℕ → Type 0
+TellsVerdict bytes json verdict text = IsVerdict (answer_of bytes) verdict × (text ≡ told json verdict)
+
+-- The verdict on the bytes of the source is answered and written.
+abbrev pub ChecksAs : {S : Type 0} → Given → Bool → (S → Taken) → S → S → Result Verdict EngineFault → Type 0
+ChecksAs source json state old new r = OfSource source state old new r (λ bytes. Answers (TellsVerdict bytes json) state old new r)

@@ -1,6 +1,5 @@
 -- What a stepped program is answered with.
-use Rattle.std.specs.Prelude.{ℕ, ◌≡◌, List, Option, Some, None, Result, Ok, Err}
-use Rattle.std.specs.Io.KnownBytes.{Appends, Keeps}
+use Rattle.std.specs.Prelude.{ℕ, ◌≡◌, IfOk, List, Result, Ok, Err}
 use Rattle.rc_lang.specs.Program.{Program}
 use Rattle.rc_read.specs.Answer.{answer_of}
 use Rattle.rc_read.specs.Causes.{number_of_cause}
@@ -10,13 +9,12 @@ use Rattle.rc_world.specs.declared.event.Item.{Item}
 use Rattle.rc_world.specs.Schedule.{items_of}
 use Rattle.rc_world.specs.Trace.{AllEnded, AtFault, AtItem, Ending, Stopped as StoppedThere, Trace, trace_of}
 use Rattle.rc_report.specs.declared.engine_fault.EngineFault.{EngineFault}
-use Rattle.rc_report.specs.declared.engine_fault.EngineFault.TheVariants.{Read, Write, OutOfMemory}
 use Rattle.rc_report.specs.declared.step_engine.StepEnd.{StepEnd}
 use Rattle.rc_report.specs.declared.step_engine.StepEnd.TheVariants.{Unreadable, Schedule, Trace as OfTrace}
 use Rattle.rc_report.specs.declared.trace.End.{End}
 use Rattle.rc_report.specs.declared.trace.End.TheVariants.{Fault, NotEnabled, Ended, Stopped}
 use Rattle.rc_report.specs.Printed.{schedule_line}
-use Rattle.rc_report.specs.Streams.{Began}
+use Rattle.rc_report.specs.Streams.{Given, OfSource, Taken, WritesOrGrows}
 use Rattle.rc_report.specs.Traces.{trace_text}
 use Rattle.rc_report.specs.Verdicts.{unreadable_text}
 
@@ -54,19 +52,10 @@ abbrev pub EndsBy : Result Program (ℕ × ℕ) → List ℕ → StepEnd → Typ
 EndsBy (Ok program) schedule end = EndsItems program (items_of program schedule) end
 EndsBy (Err (line, number)) schedule end = (cause : ReadCause) × (end ≡ Unreadable (Text line cause)) × (number_of_cause cause ≡ number)
 
--- The whole of this text is written, and the answer says which; or a beginning of it is, where the sink failed or memory
--- ran out. Where the source doesn't tell its bytes nothing is claimed.
-abbrev pub AnswersSteps : (List ℕ → List ℕ → List ℕ) → Option (List ℕ) → List ℕ → Option (List ℕ) → Option (List ℕ) → Result StepEnd EngineFault → Type 0
-AnswersSteps text None schedule old new r = Unit {0}
-AnswersSteps text (Some bytes) schedule old new (Ok end) = Appends old new (text bytes schedule) × EndsBy (answer_of bytes) schedule end
-AnswersSteps text (Some bytes) schedule old new (Err e) = Began old new (text bytes schedule)
+-- This text is written for the bytes, and the answer says which.
+abbrev pub AnswersSteps : {S : Type 0} → (List ℕ → List ℕ → List ℕ) → List ℕ → List ℕ → (S → Taken) → S → S → Result StepEnd EngineFault → Type 0
+AnswersSteps text bytes schedule state old new r = WritesOrGrows state old new (text bytes schedule) r × IfOk r (EndsBy (answer_of bytes) schedule)
 
-abbrev pub StepsAs : Option (List ℕ) → List ℕ → Option (List ℕ) → Option (List ℕ) → Result StepEnd EngineFault → Type 0
-StepsAs bytes schedule old new r = AnswersSteps stepped_text bytes schedule old new r
-
--- Where the source failed nothing is written.
-abbrev pub WritesNothingOnRead : {X : Type 0} → Option (List ℕ) → Option (List ℕ) → Result X EngineFault → Type 0
-WritesNothingOnRead old new (Ok x) = Unit {0}
-WritesNothingOnRead old new (Err Read) = Keeps old new
-WritesNothingOnRead old new (Err Write) = Unit {0}
-WritesNothingOnRead old new (Err OutOfMemory) = Unit {0}
+-- The program of the source is stepped, and the trace is written.
+abbrev pub StepsAs : {S : Type 0} → Given → List ℕ → (S → Taken) → S → S → Result StepEnd EngineFault → Type 0
+StepsAs source schedule state old new r = OfSource source state old new r (λ bytes. AnswersSteps stepped_text bytes schedule state old new r)

@@ -3,7 +3,7 @@ pub mod Checks
 pub mod Engine
 pub mod Files
 pub mod Made
-pub mod Objects
+pub mod Pieces
 pub mod Printed
 pub mod Shown
 pub mod Source

@@ -5,6 +5,7 @@ use Rattle.std.specs.List.{flat_map}
 use Rattle.rc_lang.specs.Program.{Buffer, Program, Thread}
 use Rattle.rc_world.specs.declared.event.Action.{Action}
 use Rattle.rc_world.specs.declared.event.Action.TheVariants.{VariableSet, Loaded, Stored, Filled, Printed, Locked, Released, EntryOpened, ReadPrepared, WritePrepared, FsyncPrepared, NopPrepared, DataSet, Submitted, Peeked, PeekedNone, Reaped, ItemsPut, Branched, Looped, LoopLeft}
+use Rattle.rc_world.specs.declared.event.Completion.{Completion}
 use Rattle.rc_world.specs.declared.event.Event.{Event}
 use Rattle.rc_world.specs.declared.event.Event.TheVariants.{ByThread, ByKernel}
 use Rattle.rc_world.specs.declared.fault.Fault.{Fault}
@@ -36,6 +37,10 @@ buffer_name program b = name_of_buffer (slice_get program.buffers b)
 abbrev pub valued : List ℕ → List ℕ → List ℕ
 valued word value = joined (word ∷ value ∷ [])
 
+-- the user data and the result of a completion
+abbrev pub completion_text : Completion → List ℕ
+completion_text c = joined (decimal c.user_data ∷ codes " " ∷ signed_decimal c.res ∷ [])
+
 -- the words of a step, after a blank
 abbrev pub action_text : Action → List ℕ
 action_text (VariableSet v) = valued (codes " set ") (signed_decimal v)
@@ -52,7 +57,7 @@ action_text FsyncPrepared = codes " prep_fsync"
 action_text NopPrepared = codes " prep_nop"
 action_text (DataSet u) = valued (codes " set_data64 ") (decimal u)
 action_text (Submitted r) = valued (codes " submit ") (signed_decimal r)
-action_text (Peeked c) = joined (codes " peek_cqe " ∷ decimal c.user_data ∷ codes " " ∷ signed_decimal c.res ∷ [])
+action_text (Peeked c) = valued (codes " peek_cqe ") (completion_text c)
 action_text PeekedNone = codes " peek_cqe none"
 action_text (Reaped u) = valued (codes " cqe_seen ") (decimal u)
 action_text ItemsPut = codes " put"
@@ -61,32 +66,35 @@ action_text (Branched false) = codes " if no"
 action_text Looped = codes " loop"
 action_text LoopLeft = codes " break"
 
--- where a step is: the thread's name and the line
-abbrev pub place_text : List ℕ → ℕ → List ℕ
-place_text name line = joined (name ∷ codes " " ∷ decimal line ∷ [])
-
--- an event: where a thread's step is and its words, or the kernel with the user data and the result
-abbrev pub event_text : Program → Event → List ℕ
-event_text program (ByThread i line a) = place_text (thread_name program i) line ++ action_text a
-event_text program (ByKernel c) = joined (codes "kernel " ∷ decimal c.user_data ∷ codes " " ∷ signed_decimal c.res ∷ [])
+-- an event of a thread: its number, where the step is, and its words
+abbrev pub thread_line : List ℕ → List ℕ → List ℕ → List ℕ → List ℕ
+thread_line number name line words = joined (number ∷ codes " " ∷ name ∷ codes " " ∷ line ∷ words ∷ codes "\n" ∷ [])
 
 -- the n-th event as a line
 abbrev pub event_line : Program → ℕ → Event → List ℕ
-event_line program n e = joined (decimal n ∷ codes " " ∷ []) ++ event_text program e ++ codes "\n"
+event_line program n (ByThread i line a) = thread_line (decimal n) (thread_name program i) (decimal line) (action_text a)
+event_line program n (ByKernel c) = joined (decimal n ∷ codes " kernel " ∷ completion_text c ∷ codes "\n" ∷ [])
 
 -- events as lines, the first of which is the n-th
 abbrev pub event_lines : Program → ℕ → List Event → List ℕ
 event_lines program n [] = []
 event_lines program n (e ∷ es) = event_line program n e ++ event_lines program (n + 1) es
 
+-- a place in a thread, to the line's end
+abbrev pub place_line : List ℕ → List ℕ → List ℕ
+place_line name line = joined (name ∷ codes " line " ∷ line ∷ codes "\n" ∷ [])
+
 -- where a fault is, to the line's end
-abbrev pub party_text : Program → Party → List ℕ
-party_text program (At i line) = joined (thread_name program i ∷ codes " line " ∷ decimal line ∷ codes "\n" ∷ [])
-party_text program InKernel = codes "kernel\n"
+abbrev pub party_line : Program → Party → List ℕ
+party_line program (At i line) = place_line (thread_name program i) (decimal line)
+party_line program InKernel = codes "kernel\n"
 
 -- a fault: its number, its name, and where it is
+abbrev pub named_line : List ℕ → List ℕ → List ℕ → List ℕ
+named_line number name place = joined (codes "fault F" ∷ number ∷ codes " " ∷ name ∷ codes " " ∷ place ∷ [])
+
 abbrev pub fault_line : Program → Fault → List ℕ
-fault_line program f = joined (codes "fault F" ∷ decimal (number_of_fault f.kind) ∷ codes " " ∷ name_of_fault f.kind ∷ codes " " ∷ []) ++ party_text program f.party
+fault_line program f = named_line (decimal (number_of_fault f.kind)) (name_of_fault f.kind) (party_line program f.party)
 
 -- the end line of a trace whose i-th item isn't enabled
 abbrev pub item_line : ℕ → List ℕ

@@ -1,72 +1,109 @@
 -- What reads and writes leave, and what a text that was written in pieces means.
-use Rattle.std.specs.Prelude.{ℕ, ◌≡◌, ◌+◌, ◌<◌, ◌≤◌, ◌==◌, if◌then◌else◌, List, [], ◌++◌, length, ◌⊎◌, Option, Result, Ok, Err}
-use Rattle.std.specs.Io.KnownBytes.{Appends, Consumes, IsAtEnd}
+use Rattle.std.specs.Prelude.{ℕ, ◌≡◌, ◌+◌, ◌<◌, ◌≤◌, ◌^◌, ◌==◌, if◌then◌else◌, List, ◌++◌, length, take, ◌⊎◌, Option, Some, None, Result, Ok, Err}
+use Rattle.std.specs.Io.KnownBytes.{Appends, Consumes, IsAtEnd, Keeps}
 use Rattle.std.specs.Global.{Vec}
 use Rattle.rc_report.specs.declared.engine_fault.EngineFault.{EngineFault}
 use Rattle.rc_report.specs.declared.engine_fault.EngineFault.TheVariants.{Read, Write, OutOfMemory}
 
--- Each failed call counts, and no other.
-abbrev pub failures_after : {X E : Type 0} → Result X E → ℕ → ℕ
-failures_after (Ok x) n = n
-failures_after (Err e) n = n + 1
-
--- Each call that gives nothing counts, and no other.
-abbrev pub ends_after : {E : Type 0} → Result ℕ E → ℕ → ℕ
-ends_after (Ok count) n = if count == 0 then n + 1 else n
-ends_after (Err e) n = n
-
--- A write takes at least one byte of a piece that has any.
-abbrev pub TakesSome : {E : Type 0} → Result ℕ E → List ℕ → Type 0
-TakesSome (Ok n) piece = (n ≤ length piece) × (0 < length piece → 0 < n)
-TakesSome (Err e) piece = Unit {0}
-
--- A beginning of the text was written.
-pub record Began (old new : Option (List ℕ)) (text : List ℕ) : Type 0 where
-  pub done : List ℕ
-  pub rest : List ℕ
-  pub cut : text ≡ done ++ rest
-  pub written : Appends old new done
-
--- The text was written whole, or a beginning of it.
-abbrev pub Wrote : {X : Type 0} → Option (List ℕ) → Option (List ℕ) → List ℕ → Result X EngineFault → Type 0
-Wrote old new text (Ok x) = Appends old new text
-Wrote old new text (Err e) = Began old new text
-
--- Of what only writes and takes no memory, a sink's failure is answered, and only that.
-abbrev pub FailsToWrite : {X : Type 0} → ℕ → ℕ → Result X EngineFault → Type 0
-FailsToWrite old new (Ok x) = new ≡ old
-FailsToWrite old new (Err e) = (e ≡ Write) × (new ≡ old + 1)
-
--- The same where memory may run out.
-abbrev pub FailsToWriteOrGrow : {X : Type 0} → ℕ → ℕ → Result X EngineFault → Type 0
-FailsToWriteOrGrow old new (Ok x) = new ≡ old
-FailsToWriteOrGrow old new (Err Read) = ⊥
-FailsToWriteOrGrow old new (Err Write) = new ≡ old + 1
-FailsToWriteOrGrow old new (Err OutOfMemory) = new ≡ old
-
--- Where memory ran out nothing was written.
-abbrev pub WritesNothingOnGrow : {X : Type 0} → Option (List ℕ) → Option (List ℕ) → Result X EngineFault → Type 0
-WritesNothingOnGrow old new (Ok x) = Unit {0}
-WritesNothingOnGrow old new (Err Read) = Unit {0}
-WritesNothingOnGrow old new (Err Write) = Unit {0}
-WritesNothingOnGrow old new (Err OutOfMemory) = Appends old new []
-
--- The text is what the source gave, up to its end.
-abbrev pub ReadsText : Option (List ℕ) → Option (List ℕ) → Result (Vec ℕ) EngineFault → Type 0
-ReadsText old new (Ok text) = Consumes old new text.items × IsAtEnd new
-ReadsText old new (Err e) = Unit {0}
-
--- Of what only reads, no failure of a sink is answered.
-abbrev pub OnlyFailsToRead : {X : Type 0} → Result X EngineFault → Type 0
-OnlyFailsToRead (Ok x) = Unit {0}
-OnlyFailsToRead (Err e) = ¬ (e ≡ Write)
-
--- A source after so many reads, ends and failures, with the bytes that it will give, where they are known.
+-- A source: the bytes that it will give, where they are known; how many reads there were, how many of them gave nothing (at
+-- the end of the input, or into an empty buffer), and how many failed.
 pub record Given : Type 0 where
   pub remaining : Option (List ℕ)
   pub reads : ℕ
   pub ends : ℕ
   pub failures : ℕ
+
+-- A sink: the bytes that it holds, where they are known, and how many writes failed.
+pub record Taken : Type 0 where
+  pub contents : Option (List ℕ)
+  pub failures : ℕ
+
+-- So many reads more can be counted, and a failure more.
+abbrev pub CanRead : ℕ → Given → Type 0
+CanRead n source = (source.reads + n < 2 ^ 64) × (source.failures + 1 < 2 ^ 64)
+
+-- A failure more can be counted.
+abbrev pub CanWrite : Taken → Type 0
+CanWrite sink = sink.failures + 1 < 2 ^ 64
+
+-- ---- one call
+
+-- A read into a buffer. It gives nothing only at the end of the input or into an empty buffer.
+abbrev pub Reads : {E : Type 0} → Given → Given → Result ℕ E → List ℕ → Type 0
+Reads old new (Ok n) buffer =
+    (n ≤ length buffer) × Consumes old.remaining new.remaining (take n buffer) × (n ≡ 0 → 0 < length buffer → IsAtEnd new.remaining)
+    × (new.reads ≡ old.reads + 1) × (new.ends ≡ (if n == 0 then old.ends + 1 else old.ends)) × (new.failures ≡ old.failures)
+Reads old new (Err e) buffer =
+    Keeps old.remaining new.remaining × (new.reads ≡ old.reads + 1) × (new.ends ≡ old.ends) × (new.failures ≡ old.failures + 1)
+
+-- Nothing more is held, and a call that failed counts.
+abbrev pub Stays : {X E : Type 0} → Taken → Taken → Result X E → Type 0
+Stays old new (Ok x) = Keeps old.contents new.contents × (new.failures ≡ old.failures)
+Stays old new (Err e) = Keeps old.contents new.contents × (new.failures ≡ old.failures + 1)
+
+-- A write of a piece takes some of its bytes, if it has any.
+abbrev pub Takes : {E : Type 0} → Taken → Taken → Result ℕ E → List ℕ → Type 0
+Takes old new (Ok n) piece =
+    (n ≤ length piece) × (0 < length piece → 0 < n) × Appends old.contents new.contents (take n piece) × (new.failures ≡ old.failures)
+Takes old new (Err e) piece = Keeps old.contents new.contents × (new.failures ≡ old.failures + 1)
+
+-- ---- a text that is written
+
+-- The whole text was written, and no write failed.
+abbrev pub Wrote : Taken → Taken → List ℕ → Type 0
+Wrote old new text = Appends old.contents new.contents text × (new.failures ≡ old.failures)
+
+abbrev pub failed_writes : EngineFault → ℕ
+failed_writes Read = 0
+failed_writes Write = 1
+failed_writes OutOfMemory = 0
+
+-- A beginning of the text was written, before this fault.
+pub record Began (old new : Taken) (text : List ℕ) (fault : EngineFault) : Type 0 where
+  pub done : List ℕ
+  pub rest : List ℕ
+  pub cut : text ≡ done ++ rest
+  pub written : Appends old.contents new.contents done
+  pub failures : new.failures ≡ old.failures + failed_writes fault
+
+-- The text was written whole; or a beginning of it, before one of these faults.
+abbrev pub WritesOr : {X : Type 0} → (EngineFault → Type 0) → Taken → Taken → List ℕ → Result X EngineFault → Type 0
+WritesOr faults old new text (Ok x) = Wrote old new text
+WritesOr faults old new text (Err e) = faults e × Began old new text e
+
+-- What only writes answers a write that failed, and no other fault.
+abbrev pub Writes : {S X : Type 0} → (S → Taken) → S → S → List ℕ → Result X EngineFault → Type 0
+Writes state old new text r = WritesOr (λ e. e ≡ Write) (state old) (state new) text r
+
+-- The same where memory may run out too.
+abbrev pub WritesOrGrows : {S X : Type 0} → (S → Taken) → S → S → List ℕ → Result X EngineFault → Type 0
+WritesOrGrows state old new text r = WritesOr (λ e. ¬ (e ≡ Read)) (state old) (state new) text r
+
+-- An answer is made in memory, and then such a text of it is written. Where memory ran out, nothing is.
+abbrev pub Answers : {S X : Type 0} → (X → List ℕ → Type 0) → (S → Taken) → S → S → Result X EngineFault → Type 0
+Answers says state old new (Ok x) = (text : List ℕ) × says x text × Wrote (state old) (state new) text
+Answers says state old new (Err Read) = ⊥
+Answers {X = X} says state old new (Err Write) = (x : X) × (text : List ℕ) × says x text × Began (state old) (state new) text Write
+Answers says state old new (Err OutOfMemory) = state new ≡ state old
+
+-- ---- a text that is read
+
+-- The text is what the source gave, up to its end.
+abbrev pub ReadsText : Given → Given → Result (Vec ℕ) EngineFault → Type 0
+ReadsText old new (Ok text) = Consumes old.remaining new.remaining text.items × IsAtEnd new.remaining
+ReadsText old new (Err e) = ¬ (e ≡ Write)
+
+-- This holds of the bytes of a source; or of some bytes, where those aren't known.
+abbrev pub OfBytes : Option (List ℕ) → (List ℕ → Type 0) → Type 0
+OfBytes None holds = (bytes : List ℕ) × holds bytes
+OfBytes (Some bytes) holds = holds bytes
+
+-- Where the source failed nothing is written; else this holds of its bytes.
+abbrev pub OfSource : {S X : Type 0} → Given → (S → Taken) → S → S → Result X EngineFault → (List ℕ → Type 0) → Type 0
+OfSource source state old new (Ok x) holds = OfBytes source.remaining holds
+OfSource source state old new (Err Read) holds = state new ≡ state old
+OfSource source state old new (Err Write) holds = OfBytes source.remaining holds
+OfSource source state old new (Err OutOfMemory) holds = OfBytes source.remaining holds
 
 -- None of 2,097,152 reads failed or met the end: each gave a byte or more.
 pub record IsWithoutEnd (old new : Given) : Type 0 where
@@ -77,17 +114,14 @@ pub record IsWithoutEnd (old new : Given) : Type 0 where
   pub many : 2097152 ≤ length bytes
   pub given : Consumes old.remaining new.remaining bytes
 
--- A source's failure is answered, or that it has no end, and only these. There are never more reads than 2,097,152, and
--- none after the end of the input: where it was met, it was met once. Memory may run out before it or after it.
-abbrev pub CountsReads : {X : Type 0} → Given → Given → Result X EngineFault → Type 0
-CountsReads old new (Ok x) = (new.failures ≡ old.failures) × (new.ends ≡ old.ends + 1) × (new.reads ≤ old.reads + 2097152)
-CountsReads old new (Err Read) = ((new.failures ≡ old.failures + 1) × (new.ends ≡ old.ends) × (new.reads ≤ old.reads + 2097152)) ⊎ IsWithoutEnd old new
-CountsReads old new (Err Write) = (new.failures ≡ old.failures) × (new.ends ≡ old.ends + 1) × (new.reads ≤ old.reads + 2097152)
-CountsReads old new (Err OutOfMemory) = (new.failures ≡ old.failures) × (new.ends ≤ old.ends + 1) × (new.reads ≤ old.reads + 2097152)
+-- The end of the input was met once, and no read failed.
+abbrev pub MeetsEnd : Given → Given → Type 0
+MeetsEnd old new = (new.failures ≡ old.failures) × (new.ends ≡ old.ends + 1) × (new.reads ≤ old.reads + 2097152)
 
--- A sink's failure is answered, and only that.
-abbrev pub CountsWrites : {X : Type 0} → ℕ → ℕ → Result X EngineFault → Type 0
-CountsWrites failures after (Ok x) = after ≡ failures
-CountsWrites failures after (Err Read) = after ≡ failures
-CountsWrites failures after (Err Write) = after ≡ failures + 1
-CountsWrites failures after (Err OutOfMemory) = after ≡ failures
+-- A source's failure is answered, or that it has no end, and only these. There are never more reads than 2,097,152, and
+-- none after the end of the input. Memory may run out before it or after it.
+abbrev pub CountsReads : {X : Type 0} → Given → Given → Result X EngineFault → Type 0
+CountsReads old new (Ok x) = MeetsEnd old new
+CountsReads old new (Err Read) = ((new.failures ≡ old.failures + 1) × (new.ends ≡ old.ends) × (new.reads ≤ old.reads + 2097152)) ⊎ IsWithoutEnd old new
+CountsReads old new (Err Write) = MeetsEnd old new
+CountsReads old new (Err OutOfMemory) = (new.failures ≡ old.failures) × (new.ends ≤ old.ends + 1) × (new.reads ≤ old.reads + 2097152)

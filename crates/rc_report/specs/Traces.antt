@@ -1,10 +1,7 @@
 -- Traces as text: a line for each event, and how it ends.
-use Rattle.std.specs.Prelude.{ℕ, ◌<◌, List, ◌++◌, length, codes, All}
+use Rattle.std.specs.Prelude.{ℕ, List, ◌++◌, length, codes}
 use Rattle.rc_lang.specs.Program.{Program}
 use Rattle.rc_world.specs.declared.event.Event.{Event}
-use Rattle.rc_world.specs.declared.event.Event.TheVariants.{ByThread, ByKernel}
-use Rattle.rc_world.specs.declared.fault.Party.{Party}
-use Rattle.rc_world.specs.declared.fault.Party.TheVariants.{At, InKernel}
 use Rattle.rc_report.specs.declared.trace.End.{End}
 use Rattle.rc_report.specs.declared.trace.End.TheVariants.{Fault, NotEnabled, Ended, Stopped, Limit, Memory}
 use Rattle.rc_report.specs.Printed.{end_line, event_lines, fault_line, item_line}
@@ -21,23 +18,3 @@ end_text program n Memory = end_line (codes "out of memory") n
 -- The text of a trace.
 abbrev pub trace_text : Program → List Event → End → List ℕ
 trace_text program events end = event_lines program 1 events ++ end_text program (length events) end
-
--- The threads that are named are the program's.
-abbrev pub NamesItsThread : Program → Event → Type 0
-NamesItsThread program (ByThread i line a) = i < length program.threads
-NamesItsThread program (ByKernel c) = Unit {0}
-
-abbrev pub IsItsParty : Program → Party → Type 0
-IsItsParty program (At i line) = i < length program.threads
-IsItsParty program InKernel = Unit {0}
-
-abbrev pub EndsAtItsThread : Program → End → Type 0
-EndsAtItsThread program (Fault f) = IsItsParty program f.party
-EndsAtItsThread program (NotEnabled i) = Unit {0}
-EndsAtItsThread program Ended = Unit {0}
-EndsAtItsThread program Stopped = Unit {0}
-EndsAtItsThread program Limit = Unit {0}
-EndsAtItsThread program Memory = Unit {0}
-
-abbrev pub NamesItsThreads : Program → List Event → End → Type 0
-NamesItsThreads program events end = All (NamesItsThread program) events × EndsAtItsThread program end

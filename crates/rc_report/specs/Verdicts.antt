@@ -1,5 +1,7 @@
 -- Verdicts as text and as JSON.
 use Rattle.std.specs.Prelude.{ℕ, List, [], ◌∷◌, ◌++◌, codes, decimal, Option, Some, None}
+use Rattle.serde_json.specs.Data.{Data, Members, member, no_members, number as json_number, object, string, unsigned}
+use Rattle.serde_json.specs.Written.{compact_text}
 use Rattle.rc_read.specs.Causes as reading
 use Rattle.rc_rules.specs.Causes as rules_of
 use Rattle.rc_report.specs.declared.verdict.Finding.{Finding as CodeFinding}
@@ -30,12 +32,18 @@ finding (Unreadable line cause) = Some (unreadable line (reading.number_of_cause
 -- ---- as text
 
 -- why a line isn't good, to the end of the line: the letter, the number and the name
+abbrev pub cause_line : List ℕ → List ℕ → List ℕ → List ℕ
+cause_line letter number name = joined (letter ∷ number ∷ codes " " ∷ name ∷ codes "\n" ∷ [])
+
 abbrev pub cause_text : Finding → List ℕ
-cause_text f = joined (f.letter ∷ decimal f.number ∷ codes " " ∷ f.name ∷ codes "\n" ∷ [])
+cause_text f = cause_line f.letter (decimal f.number) f.name
+
+abbrev pub finding_line : List ℕ → List ℕ → List ℕ → List ℕ
+finding_line word line cause = joined (word ∷ codes " line " ∷ line ∷ codes " " ∷ cause ∷ [])
 
 abbrev pub finding_text : Option Finding → List ℕ
 finding_text None = codes "accepted\n"
-finding_text (Some f) = joined (f.word ∷ codes " line " ∷ decimal f.line ∷ codes " " ∷ []) ++ cause_text f
+finding_text (Some f) = finding_line f.word (decimal f.line) (cause_text f)
 
 abbrev pub verdict_text : Verdict → List ℕ
 verdict_text verdict = finding_text (finding verdict)
@@ -43,14 +51,18 @@ verdict_text verdict = finding_text (finding verdict)
 abbrev pub unreadable_text : ℕ → ℕ → List ℕ
 unreadable_text line number = finding_text (Some (unreadable line number))
 
--- ---- as JSON
+-- ---- as JSON: one object, its keys in order; of a file its name too
 
--- one object without spaces, its keys in order
-abbrev pub finding_json : Option Finding → List ℕ
-finding_json None = codes "{\"verdict\":\"accepted\"}"
-finding_json (Some f) =
-    joined (codes "{\"cause\":\"" ∷ f.name ∷ codes "\",\"code\":" ∷ decimal f.number ∷ codes ",\"line\":" ∷ decimal f.line ∷ codes ",\"verdict\":\"" ∷ f.word ∷ codes "\"}" ∷ [])
+abbrev pub file_member : Option (List ℕ) → Members → Members
+file_member None rest = rest
+file_member (Some file) rest = member (codes "file") (string file) rest
 
--- and a line feed
+abbrev pub finding_object : Option (List ℕ) → Option Finding → Data
+finding_object file None = object (file_member file (member (codes "verdict") (string (codes "accepted")) no_members))
+finding_object file (Some f) =
+    object (member (codes "cause") (string f.name) (member (codes "code") (json_number (unsigned f.number)) (file_member file
+    (member (codes "line") (json_number (unsigned f.line)) (member (codes "verdict") (string f.word) no_members)))))
+
+-- without spaces, and with a line feed
 abbrev pub verdict_json : Verdict → List ℕ
-verdict_json verdict = finding_json (finding verdict) ++ codes "\n"
+verdict_json verdict = compact_text (finding_object None (finding verdict)) ++ codes "\n"

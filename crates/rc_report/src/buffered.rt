@@ -24,10 +24,9 @@ pub struct Buffered<S> {
 }
 
 impl<S: Sink> Buffered<S> {
-    ghost use Rattle.std.specs.Prelude.{◌≡◌, ◌+◌, ◌<◌, ◌^◌, [], IfOk, OnOk};
-    ghost use Rattle.std.specs.Io.KnownBytes.{Keeps};
-    ghost use Rattle.rc_report.specs.Buffers.{buffered_contents, kept_back};
-    ghost use Rattle.rc_report.specs.Streams.{failures_after};
+    ghost use Rattle.std.specs.Prelude.{◌≡◌, [], IfOk, OnOk};
+    ghost use Rattle.rc_report.specs.Buffers.{buffered, kept_back};
+    ghost use Rattle.rc_report.specs.Streams.{CanWrite, Stays};
 
     /// A buffer of 65,536 bytes before this sink, with nothing kept back.
     pub fn new(alloc: Global, sink: S) -> Result<Buffered<S>, AllocError>
@@ -46,11 +45,10 @@ impl<S: Sink> Buffered<S> {
 
     /// Writes what is kept back, in as many writes as it takes. What the sink under it didn't take stays kept back.
     pub fn write_out(&mut self) -> Result<(), DeviceFailed>
-        requires { S.failure_count self.old.sink + 1 < 2 ^ 64 }
+        requires { CanWrite (S.state self.old.sink) }
         ensures empty { OnOk result (kept_back self.new ≡ []) }
         ensures room { OnOk result (vec_len self.new.bytes ≡ 0) }
-        ensures bytes { Keeps (buffered_contents S.contents self.old) (buffered_contents S.contents self.new) }
-        ensures failures { S.failure_count self.new.sink ≡ failures_after result (S.failure_count self.old.sink) }
+        ensures state { Stays (buffered S.state self.old) (buffered S.state self.new) result }
     {
         while self.written < self.bytes.len() {
             self.written += self.sink.write(&self.bytes[self.written..])?;
@@ -62,11 +60,9 @@ impl<S: Sink> Buffered<S> {
 }
 
 impl<S: Sink> Sink for Buffered<S> {
-    ghost use Rattle.rc_report.specs.Buffers.{buffered_contents};
+    ghost use Rattle.rc_report.specs.Buffers.{buffered};
 
-    ghost contents = { buffered_contents S.contents };
-
-    ghost failure_count = { λ b. S.failure_count b.sink };
+    ghost state = { buffered S.state };
 
     fn write(&mut self, piece: &[u8]) -> Result<usize, DeviceFailed> {
         if piece.len() > ROOM - self.bytes.len() {
@@ -83,17 +79,15 @@ impl<S: Sink> Sink for Buffered<S> {
 }
 
 impl<W: Write> Buffered<WriteSink<W>> {
-    ghost use Rattle.std.specs.Prelude.{◌≡◌, ◌+◌, ◌<◌, ◌^◌, [], OnOk};
-    ghost use Rattle.std.specs.Io.KnownBytes.{Keeps};
-    ghost use Rattle.rc_report.specs.Buffers.{buffered_contents, kept_back};
-    ghost use Rattle.rc_report.specs.Streams.{failures_after};
+    ghost use Rattle.std.specs.Prelude.{◌≡◌, [], OnOk};
+    ghost use Rattle.rc_report.specs.Buffers.{buffered, kept_back, taken_by};
+    ghost use Rattle.rc_report.specs.Streams.{CanWrite, Stays};
 
     /// Writes what is kept back, and has the writer hand on what it keeps itself.
     pub fn finish(&mut self) -> Result<(), DeviceFailed>
-        requires { self.old.sink.failures + 1 < 2 ^ 64 }
+        requires { CanWrite (taken_by W.contents self.old.sink) }
         ensures empty { OnOk result (kept_back self.new ≡ []) }
-        ensures bytes { Keeps (buffered_contents (λ s. W.contents s.writer) self.old) (buffered_contents (λ s. W.contents s.writer) self.new) }
-        ensures failures { self.new.sink.failures ≡ failures_after result self.old.sink.failures }
+        ensures state { Stays (buffered (taken_by W.contents) self.old) (buffered (taken_by W.contents) self.new) result }
     {
         self.write_out()?;
         self.sink.flush()

@@ -1,15 +1,16 @@
 //! A text is checked, and its verdict is written.
 
-ghost use Rattle.std.specs.Prelude.{◌+◌, ◌<◌, ◌^◌, IfOk, Some};
+ghost use Rattle.std.specs.Prelude.{IfOk};
 ghost use Rattle.rc_read.specs.Answer.{answer_of};
-ghost use Rattle.rc_report.specs.Checks.{ChecksAs, IsVerdict, GivesVerdict, told};
-ghost use Rattle.rc_report.specs.Engine.{WritesNothingOnRead};
-ghost use Rattle.rc_report.specs.Streams.{CountsReads, CountsWrites, FailsToWriteOrGrow, Wrote};
+ghost use Rattle.rc_report.specs.Checks.{ChecksAs, GivesVerdict, IsVerdict, TellsVerdict, told};
+ghost use Rattle.rc_report.specs.Streams.{Answers, CanRead, CanWrite, CountsReads};
+ghost use Rattle.rc_report.specs.Text.{Puts, PutsAnswer};
 
 use crate::engine_fault::EngineFault;
 use crate::reading::read_text;
 use crate::streams::{Sink, Source};
-use crate::verdict::{Verdict, verdict_json, verdict_text};
+use crate::verdict::{Verdict, put_verdict, put_verdict_json};
+use crate::writing::write_piece;
 use rc_admit::admitted::{Admitted, admit};
 use rc_admit::fault::AdmitFault;
 use rc_read::ReadFault;
@@ -18,7 +19,7 @@ use std::alloc::{AllocError, Global};
 /// Reads a text, and writes the verdict on it, as JSON or as text.
 ///
 /// Answers `Read` where a read failed or 2,097,152 reads met no end of input, and then nothing is written; `Write` where
-/// a write failed, and `OutOfMemory` where a growth was refused: then a beginning of the verdict is written. Nothing is
+/// a write failed: then a beginning of the verdict is written; and `OutOfMemory` where a growth was refused. Nothing is
 /// tried again (`read(2)`, `write(2)`).
 pub fn check_engine<R: Source, W: Sink>(
     alloc: Global,
@@ -26,35 +27,43 @@ pub fn check_engine<R: Source, W: Sink>(
     json: bool,
     writer: &mut W,
 ) -> Result<Verdict, EngineFault>
-    requires reads { R.read_count reader.old + 2097152 < 2 ^ 64 }
-    requires read_failures { R.failure_count reader.old + 1 < 2 ^ 64 }
-    requires write_failures { W.failure_count writer.old + 1 < 2 ^ 64 }
-    ensures text { ChecksAs (R.remaining reader.old) json (W.contents writer.old) (W.contents writer.new) result }
-    ensures nothing_on_read { WritesNothingOnRead (W.contents writer.old) (W.contents writer.new) result }
-    ensures reads { CountsReads
-        (record { remaining = R.remaining reader.old; reads = R.read_count reader.old; ends = R.end_count reader.old; failures = R.failure_count reader.old })
-        (record { remaining = R.remaining reader.new; reads = R.read_count reader.new; ends = R.end_count reader.new; failures = R.failure_count reader.new })
-        result }
-    ensures writes { CountsWrites (W.failure_count writer.old) (W.failure_count writer.new) result }
+    requires reads { CanRead 2097152 (R.state reader.old) }
+    requires writes { CanWrite (W.state writer.old) }
+    ensures answer { ChecksAs (R.state reader.old) json W.state writer.old writer.new result }
+    ensures reads { CountsReads (R.state reader.old) (R.state reader.new) result }
 {
     let text = read_text(alloc, reader)?;
     check_bytes(alloc, &text, json, writer)
 }
 
-/// Writes the verdict on a text. Answers `Write` where a write failed, and `OutOfMemory` where a growth was refused: then a
-/// beginning of the verdict is written.
+/// Writes the verdict on a text. Answers `Write` where a write failed: then a beginning of the verdict is written; and
+/// `OutOfMemory` where a growth was refused: then nothing is.
 pub fn check_bytes<W: Sink>(
     alloc: Global,
     text: &[u8],
     json: bool,
     writer: &mut W,
 ) -> Result<Verdict, EngineFault>
-    requires { W.failure_count writer.old + 1 < 2 ^ 64 }
-    ensures text { ChecksAs (Some text.now) json (W.contents writer.old) (W.contents writer.new) result }
-    ensures failures { FailsToWriteOrGrow (W.failure_count writer.old) (W.failure_count writer.new) result }
+    requires { CanWrite (W.state writer.old) }
+    ensures { Answers (TellsVerdict text.now json) W.state writer.old writer.new result }
+{
+    let mut answer = Vec::new(alloc);
+    let verdict = put_checked(&mut answer, alloc, text, json)?;
+    write_piece(writer, &answer)?;
+    Ok(verdict)
+}
+
+/// Adds the verdict on a text, as JSON or as text.
+pub fn put_checked(
+    answer: &mut Vec<u8>,
+    alloc: Global,
+    text: &[u8],
+    json: bool,
+) -> Result<Verdict, AllocError>
+    ensures { PutsAnswer (TellsVerdict text.now json) answer.old answer.new result }
 {
     let verdict = verdict_on(alloc, text)?;
-    write_verdict(alloc, &verdict, json, writer)?;
+    put_told(answer, alloc, &verdict, json)?;
     Ok(verdict)
 }
 
@@ -83,20 +92,18 @@ pub fn judged(alloc: Global, text: &[u8]) -> Result<Result<Admitted, Verdict>, A
     }
 }
 
-/// Writes a verdict as JSON or as text.
-fn write_verdict<W: Sink>(
+/// Adds a verdict as JSON or as text.
+fn put_told(
+    answer: &mut Vec<u8>,
     alloc: Global,
     verdict: &Verdict,
     json: bool,
-    writer: &mut W,
-) -> Result<(), EngineFault>
-    requires { W.failure_count writer.old + 1 < 2 ^ 64 }
-    ensures text { Wrote (W.contents writer.old) (W.contents writer.new) (told json verdict.now) result }
-    ensures failures { FailsToWriteOrGrow (W.failure_count writer.old) (W.failure_count writer.new) result }
+) -> Result<(), AllocError>
+    ensures { Puts answer.old answer.new (told json verdict.now) result }
 {
     if json {
-        verdict_json(alloc, verdict, writer)
+        put_verdict_json(answer, alloc, verdict)
     } else {
-        verdict_text(verdict, writer)
+        put_verdict(answer, verdict)
     }
 }

@@ -1,9 +1,10 @@
 //! Verdicts on the texts of files.
 
-ghost use Rattle.std.specs.Prelude.{◌≡◌, IfOk};
+ghost use Rattle.std.specs.Prelude.{◌≡◌, IfOk, Some};
 ghost use Rattle.serde_json.specs.View.{view};
-ghost use Rattle.rc_report.specs.Files.{file_json, file_object, file_text};
+ghost use Rattle.rc_report.specs.Files.{file_json, file_text};
 ghost use Rattle.rc_report.specs.Text.{Puts};
+ghost use Rattle.rc_report.specs.Verdicts.{finding, finding_object};
 
 use crate::shown::put_shown;
 use crate::text::{put_counted, put_piece, put_pieces};
@@ -42,7 +43,7 @@ pub fn put_file_object(
 
 /// A verdict on a file's text as a JSON object.
 fn object_of(alloc: Global, file: &str, verdict: &Verdict) -> Result<Value, AllocError>
-    ensures { IfOk result (λ v. view v ≡ file_object file.now verdict.now) }
+    ensures { IfOk result (λ v. view v ≡ finding_object (Some file.now) (finding verdict.now)) }
 {
     let Some(finding) = verdict.finding() else {
         return json!(in alloc; {"file": file, "verdict": "accepted"});

@@ -1,19 +1,39 @@
 //! The printed forms of events and faults.
 
-ghost use Rattle.std.specs.Prelude.{◌≡◌, ◌+◌, ◌<◌, ◌^◌, [], ◌∷◌, codes, decimal};
-ghost use Rattle.std.specs.Fmt.{signed_decimal};
+ghost use Rattle.std.specs.Prelude.{◌≡◌, [], ◌∷◌};
+ghost use Rattle.std.specs.List.{flat_map};
 ghost use Rattle.rc_lang.specs.Program.{IsProgram};
-ghost use Rattle.rc_world.specs.FaultNames.{name_of_fault, number_of_fault};
-ghost use Rattle.rc_report.specs.Printed.{action_text, buffer_name, end_line, event_line, event_text, fault_line, item_line, joined, party_text, place_text, schedule_line, thread_name, valued};
-ghost use Rattle.rc_report.specs.Streams.{FailsToWrite, Wrote};
+ghost use Rattle.rc_report.specs.Pieces.{line_text, words_text};
+ghost use Rattle.rc_report.specs.Printed.{action_text, buffer_name, completion_text, event_line, joined, thread_line, thread_name};
+ghost use Rattle.rc_report.specs.Streams.{CanWrite, Writes};
 
 use crate::engine_fault::EngineFault;
 use crate::streams::Sink;
-use crate::writing::{write_piece, write_pieces};
+use crate::writing::write_pieces;
 use itoa::Buffer;
 use rc_lang::program::Program;
 use rc_world::event::{Action, Completion, Event};
-use rc_world::fault::{Fault, FaultKind, Party};
+
+/// A line in pieces, one after another.
+#[derive(Drop)]
+pub struct Line<'a> {
+    pub pieces: [&'a [u8]; 9],
+}
+
+/// A line of five pieces at most: the others are empty.
+pub fn short_line<'a>(
+    first: &'a [u8],
+    second: &'a [u8],
+    third: &'a [u8],
+    fourth: &'a [u8],
+    fifth: &'a [u8],
+) -> Line<'a>
+    ensures { line_text result ≡ joined (first.now ∷ second.now ∷ third.now ∷ fourth.now ∷ fifth.now ∷ []) }
+{
+    Line {
+        pieces: [first, second, third, fourth, fifth, b"", b"", b"", b""],
+    }
+}
 
 /// The name of a thread, and nothing where the program has no such thread.
 #[inline]
@@ -37,196 +57,121 @@ pub fn buffer_name(program: &Program, buffer: usize) -> &[u8]
     }
 }
 
-/// Writes a word, with its blanks, and a number.
-fn write_counted<W: Sink>(writer: &mut W, word: &[u8], value: u64) -> Result<(), EngineFault>
-    requires { W.failure_count writer.old + 1 < 2 ^ 64 }
-    ensures text { Wrote (W.contents writer.old) (W.contents writer.new) (valued word.now (decimal value)) result }
-    ensures failures { FailsToWrite (W.failure_count writer.old) (W.failure_count writer.new) result }
-{
-    let mut buffer = Buffer::new();
-    write_pieces(writer, &[word, buffer.format(value).as_bytes()])
+/// The words of a step: a word, with its blanks, and the values after it.
+pub struct Words<'a> {
+    pub word: &'a [u8],
+    pub first: &'a [u8],
+    pub between: &'a [u8],
+    pub second: &'a [u8],
 }
 
-/// Writes a word, with its blanks, and a number that may be below 0.
-fn write_valued<W: Sink>(writer: &mut W, word: &[u8], value: i64) -> Result<(), EngineFault>
-    requires { W.failure_count writer.old + 1 < 2 ^ 64 }
-    ensures text { Wrote (W.contents writer.old) (W.contents writer.new) (valued word.now (signed_decimal value)) result }
-    ensures failures { FailsToWrite (W.failure_count writer.old) (W.failure_count writer.new) result }
+/// A word with one value, or with none.
+fn valued<'a>(word: &'a [u8], value: &'a str) -> Words<'a>
+    ensures { words_text result ≡ joined (word.now ∷ value.now ∷ []) }
 {
-    let mut buffer = Buffer::new();
-    write_pieces(writer, &[word, buffer.format(value).as_bytes()])
+    Words {
+        word,
+        first: value.as_bytes(),
+        between: b"",
+        second: b"",
+    }
 }
 
-/// Writes a word and the values of a completion.
-fn write_completion<W: Sink>(
-    writer: &mut W,
-    word: &[u8],
+/// A word with the values of a completion.
+fn completed<'a>(
+    word: &'a [u8],
     completion: Completion,
-) -> Result<(), EngineFault>
-    requires { W.failure_count writer.old + 1 < 2 ^ 64 }
-    ensures text { Wrote (W.contents writer.old) (W.contents writer.new)
-        (joined (word.now ∷ decimal completion.user_data ∷ codes " " ∷ signed_decimal completion.res ∷ [])) result }
-    ensures failures { FailsToWrite (W.failure_count writer.old) (W.failure_count writer.new) result }
+    first: &'a mut Buffer,
+    second: &'a mut Buffer,
+) -> Words<'a>
+    ensures { words_text result ≡ joined (word.now ∷ completion_text completion ∷ []) }
 {
-    let (mut first, mut second) = (Buffer::new(), Buffer::new());
-    let user_data = first.format(completion.user_data).as_bytes();
-    let res = second.format(completion.res).as_bytes();
-    write_pieces(writer, &[word, user_data, b" ", res])
+    Words {
+        word,
+        first: first.format(completion.user_data).as_bytes(),
+        between: b" ",
+        second: second.format(completion.res).as_bytes(),
+    }
 }
 
-/// Writes the words of a step, after a blank.
-fn write_action<W: Sink>(writer: &mut W, action: Action) -> Result<(), EngineFault>
-    requires { W.failure_count writer.old + 1 < 2 ^ 64 }
-    ensures text { Wrote (W.contents writer.old) (W.contents writer.new) (action_text action) result }
-    ensures failures { FailsToWrite (W.failure_count writer.old) (W.failure_count writer.new) result }
+/// The words of a step, after a blank.
+fn words_of<'a>(action: Action, first: &'a mut Buffer, second: &'a mut Buffer) -> Words<'a>
+    ensures { words_text result ≡ action_text action }
 {
     match action {
-        Action::VariableSet(value) => write_valued(writer, b" set ", value),
-        Action::Loaded(byte) => write_counted(writer, b" load ", u64::from(byte)),
-        Action::Stored(byte) => write_counted(writer, b" store ", u64::from(byte)),
-        Action::Filled(byte) => write_counted(writer, b" fill ", u64::from(byte)),
-        Action::Printed(value) => write_valued(writer, b" print ", value),
-        Action::Locked => write_piece(writer, b" lock"),
-        Action::Released => write_piece(writer, b" release"),
-        Action::EntryOpened => write_piece(writer, b" get_sqe"),
-        Action::ReadPrepared => write_piece(writer, b" prep_read"),
-        Action::WritePrepared => write_piece(writer, b" prep_write"),
-        Action::FsyncPrepared => write_piece(writer, b" prep_fsync"),
-        Action::NopPrepared => write_piece(writer, b" prep_nop"),
-        Action::DataSet(data) => write_counted(writer, b" set_data64 ", data),
-        Action::Submitted(answer) => write_valued(writer, b" submit ", i64::from(answer)),
-        Action::Peeked(completion) => write_completion(writer, b" peek_cqe ", completion),
-        Action::PeekedNone => write_piece(writer, b" peek_cqe none"),
-        Action::Reaped(data) => write_counted(writer, b" cqe_seen ", data),
-        Action::ItemsPut => write_piece(writer, b" put"),
-        Action::Branched(true) => write_piece(writer, b" if yes"),
-        Action::Branched(false) => write_piece(writer, b" if no"),
-        Action::Looped => write_piece(writer, b" loop"),
-        Action::LoopLeft => write_piece(writer, b" break"),
+        Action::VariableSet(value) => valued(b" set ", first.format(value)),
+        Action::Loaded(byte) => valued(b" load ", first.format(byte)),
+        Action::Stored(byte) => valued(b" store ", first.format(byte)),
+        Action::Filled(byte) => valued(b" fill ", first.format(byte)),
+        Action::Printed(value) => valued(b" print ", first.format(value)),
+        Action::Locked => valued(b" lock", ""),
+        Action::Released => valued(b" release", ""),
+        Action::EntryOpened => valued(b" get_sqe", ""),
+        Action::ReadPrepared => valued(b" prep_read", ""),
+        Action::WritePrepared => valued(b" prep_write", ""),
+        Action::FsyncPrepared => valued(b" prep_fsync", ""),
+        Action::NopPrepared => valued(b" prep_nop", ""),
+        Action::DataSet(data) => valued(b" set_data64 ", first.format(data)),
+        Action::Submitted(answer) => valued(b" submit ", first.format(answer)),
+        Action::Peeked(completion) => completed(b" peek_cqe ", completion, first, second),
+        Action::PeekedNone => valued(b" peek_cqe none", ""),
+        Action::Reaped(data) => valued(b" cqe_seen ", first.format(data)),
+        Action::ItemsPut => valued(b" put", ""),
+        Action::Branched(true) => valued(b" if yes", ""),
+        Action::Branched(false) => valued(b" if no", ""),
+        Action::Looped => valued(b" loop", ""),
+        Action::LoopLeft => valued(b" break", ""),
     }
 }
 
-/// Writes where a step is: the thread's name and the line.
-fn write_place<W: Sink>(writer: &mut W, name: &[u8], line: u32) -> Result<(), EngineFault>
-    requires { W.failure_count writer.old + 1 < 2 ^ 64 }
-    ensures text { Wrote (W.contents writer.old) (W.contents writer.new) (place_text name.now line) result }
-    ensures failures { FailsToWrite (W.failure_count writer.old) (W.failure_count writer.new) result }
-{
-    let mut buffer = Buffer::new();
-    write_pieces(writer, &[name, b" ", buffer.format(line).as_bytes()])
-}
-
-/// Writes an event without its number.
-fn write_event<W: Sink>(writer: &mut W, program: &Program, event: Event) -> Result<(), EngineFault>
-    requires { W.failure_count writer.old + 1 < 2 ^ 64 }
-    ensures text { Wrote (W.contents writer.old) (W.contents writer.new) (event_text program.now event) result }
-    ensures failures { FailsToWrite (W.failure_count writer.old) (W.failure_count writer.new) result }
-{
-    match event {
-        Event::ByThread {
-            thread,
-            line,
-            action,
-        } => {
-            write_place(writer, thread_name(program, thread), line)?;
-            write_action(writer, action)
-        }
-        Event::ByKernel(completion) => write_completion(writer, b"kernel ", completion),
-    }
-}
-
-/// Writes the line of the event with this number.
+/// Writes an event as a line, with its number.
 pub fn write_event_line<W: Sink>(
     writer: &mut W,
     program: &Program,
     number: u64,
     event: Event,
 ) -> Result<(), EngineFault>
-    requires { W.failure_count writer.old + 1 < 2 ^ 64 }
-    ensures text { Wrote (W.contents writer.old) (W.contents writer.new) (event_line program.now number event) result }
-    ensures failures { FailsToWrite (W.failure_count writer.old) (W.failure_count writer.new) result }
+    requires { CanWrite (W.state writer.old) }
+    ensures { Writes W.state writer.old writer.new (event_line program.now number event) result }
 {
-    let mut buffer = Buffer::new();
-    write_pieces(writer, &[buffer.format(number).as_bytes(), b" "])?;
-    write_event(writer, program, event)?;
-    write_piece(writer, b"\n")
-}
-
-/// Writes where a fault is, to the line's end.
-fn write_party<W: Sink>(writer: &mut W, program: &Program, party: Party) -> Result<(), EngineFault>
-    requires { W.failure_count writer.old + 1 < 2 ^ 64 }
-    ensures text { Wrote (W.contents writer.old) (W.contents writer.new) (party_text program.now party) result }
-    ensures failures { FailsToWrite (W.failure_count writer.old) (W.failure_count writer.new) result }
-{
-    let mut buffer = Buffer::new();
-    match party {
-        Party::At { thread, line } => {
-            let line = buffer.format(line).as_bytes();
+    let (mut digits, mut at) = (Buffer::new(), Buffer::new());
+    let (mut first, mut second) = (Buffer::new(), Buffer::new());
+    let number = digits.format(number).as_bytes();
+    match event {
+        Event::ByThread {
+            thread,
+            line,
+            action,
+        } => {
             let name = thread_name(program, thread);
-            write_pieces(writer, &[name, b" line ", line, b"\n"])
+            let line = at.format(line).as_bytes();
+            let words = words_of(action, &mut first, &mut second);
+            write_pieces(writer, &thread_pieces(number, name, line, words))
         }
-        Party::InKernel => write_piece(writer, b"kernel\n"),
+        Event::ByKernel(completion) => {
+            let user_data = first.format(completion.user_data).as_bytes();
+            let res = second.format(completion.res).as_bytes();
+            write_pieces(writer, &[number, b" kernel ", user_data, b" ", res, b"\n"])
+        }
     }
 }
 
-/// Writes the number and the name of a fault.
-fn write_kind<W: Sink>(writer: &mut W, kind: FaultKind) -> Result<(), EngineFault>
-    requires { W.failure_count writer.old + 1 < 2 ^ 64 }
-    ensures text { Wrote (W.contents writer.old) (W.contents writer.new)
-        (joined (codes "fault F" ∷ decimal (number_of_fault kind) ∷ codes " " ∷ name_of_fault kind ∷ codes " " ∷ [])) result }
-    ensures failures { FailsToWrite (W.failure_count writer.old) (W.failure_count writer.new) result }
+/// The pieces of the line of a thread's event.
+fn thread_pieces<'a>(
+    number: &'a [u8],
+    name: &'a [u8],
+    line: &'a [u8],
+    words: Words<'a>,
+) -> [&'a [u8]; 10]
+    ensures { flat_map (λ p. p.now) result ≡ thread_line number.now name.now line.now (words_text words.entry) }
 {
-    let mut buffer = Buffer::new();
-    let number = buffer.format(kind.number()).as_bytes();
-    write_pieces(
-        writer,
-        &[b"fault F", number, b" ", kind.name().as_bytes(), b" "],
-    )
-}
-
-/// Writes the end line of a trace that met a fault.
-pub fn write_fault_line<W: Sink>(
-    writer: &mut W,
-    program: &Program,
-    fault: Fault,
-) -> Result<(), EngineFault>
-    requires { W.failure_count writer.old + 1 < 2 ^ 64 }
-    ensures text { Wrote (W.contents writer.old) (W.contents writer.new) (fault_line program.now fault) result }
-    ensures failures { FailsToWrite (W.failure_count writer.old) (W.failure_count writer.new) result }
-{
-    write_kind(writer, fault.kind)?;
-    write_party(writer, program, fault.party)
-}
-
-/// Writes the end line of a trace whose item with this number, from 1, wasn't enabled.
-pub fn write_item_line<W: Sink>(writer: &mut W, item: u64) -> Result<(), EngineFault>
-    requires { W.failure_count writer.old + 1 < 2 ^ 64 }
-    ensures text { Wrote (W.contents writer.old) (W.contents writer.new) (item_line item) result }
-    ensures failures { FailsToWrite (W.failure_count writer.old) (W.failure_count writer.new) result }
-{
-    let mut buffer = Buffer::new();
-    let item = buffer.format(item).as_bytes();
-    write_pieces(writer, &[b"item ", item, b" not enabled\n"])
-}
-
-/// Writes the end line of a trace without a fault, with the number of its events.
-pub fn write_end_line<W: Sink>(writer: &mut W, word: &[u8], count: u64) -> Result<(), EngineFault>
-    requires { W.failure_count writer.old + 1 < 2 ^ 64 }
-    ensures text { Wrote (W.contents writer.old) (W.contents writer.new) (end_line word.now count) result }
-    ensures failures { FailsToWrite (W.failure_count writer.old) (W.failure_count writer.new) result }
-{
-    let mut buffer = Buffer::new();
-    let count = buffer.format(count).as_bytes();
-    write_pieces(writer, &[word, b" after ", count, b" events\n"])
-}
-
-/// Writes that the item of a schedule with this number, from 1, can't be read.
-pub fn write_schedule_line<W: Sink>(writer: &mut W, item: u64) -> Result<(), EngineFault>
-    requires { W.failure_count writer.old + 1 < 2 ^ 64 }
-    ensures text { Wrote (W.contents writer.old) (W.contents writer.new) (schedule_line item) result }
-    ensures failures { FailsToWrite (W.failure_count writer.old) (W.failure_count writer.new) result }
-{
-    let mut buffer = Buffer::new();
-    let item = buffer.format(item).as_bytes();
-    write_pieces(writer, &[b"schedule item ", item, b" unreadable\n"])
+    let Words {
+        word,
+        first,
+        between,
+        second,
+    } = words;
+    [
+        number, b" ", name, b" ", line, word, first, between, second, b"\n",
+    ]
 }

@@ -1,7 +1,6 @@
 //! The text of an engine.
 
-ghost use Rattle.std.specs.Prelude.{◌+◌, ◌<◌, ◌^◌};
-ghost use Rattle.rc_report.specs.Streams.{CountsReads, OnlyFailsToRead, ReadsText};
+ghost use Rattle.rc_report.specs.Streams.{CanRead, CountsReads, ReadsText};
 
 use crate::engine_fault::EngineFault;
 use crate::streams::Source;
@@ -18,14 +17,9 @@ const PIECE: usize = 512;
 /// Answers `Read` where a read failed, or where 2,097,152 reads met no end of input. There are fewer than 2^64 reads
 /// and failures of the source.
 pub fn read_text<R: Source>(alloc: Global, reader: &mut R) -> Result<Vec<u8>, EngineFault>
-    requires reads { R.read_count reader.old + 2097152 < 2 ^ 64 }
-    requires failures { R.failure_count reader.old + 1 < 2 ^ 64 }
-    ensures text { ReadsText (R.remaining reader.old) (R.remaining reader.new) result }
-    ensures counts { CountsReads
-        (record { remaining = R.remaining reader.old; reads = R.read_count reader.old; ends = R.end_count reader.old; failures = R.failure_count reader.old })
-        (record { remaining = R.remaining reader.new; reads = R.read_count reader.new; ends = R.end_count reader.new; failures = R.failure_count reader.new })
-        result }
-    ensures no_write { OnlyFailsToRead result }
+    requires { CanRead 2097152 (R.state reader.old) }
+    ensures text { ReadsText (R.state reader.old) (R.state reader.new) result }
+    ensures counts { CountsReads (R.state reader.old) (R.state reader.new) result }
 {
     let mut text = Vec::new(alloc);
     let mut buffer = [0; PIECE];

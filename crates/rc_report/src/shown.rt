@@ -3,7 +3,7 @@
 ghost use Rattle.std.specs.Prelude.{◌≡◌, ◌+◌, ◌<◌, ◌^◌};
 ghost use Rattle.std.specs.Char.{digit_char};
 ghost use Rattle.rc_report.specs.Shown.{is_from, is_hidden, shown, shown_char};
-ghost use Rattle.rc_report.specs.Streams.{FailsToWrite, Wrote};
+ghost use Rattle.rc_report.specs.Streams.{CanWrite, Writes};
 ghost use Rattle.rc_report.specs.Text.{Puts};
 
 use crate::engine_fault::EngineFault;
@@ -27,9 +27,8 @@ pub fn put_shown(text: &mut Vec<u8>, name: &str) -> Result<(), AllocError>
 /// Writes a text as it is shown, as `put_shown` does. It takes no memory, and answers `Write` where a write failed: then a
 /// beginning of the text is written.
 pub fn write_shown<W: Sink>(text: &str, writer: &mut W) -> Result<(), EngineFault>
-    requires { W.failure_count writer.old + 1 < 2 ^ 64 }
-    ensures text { Wrote (W.contents writer.old) (W.contents writer.new) (shown text.now) result }
-    ensures failures { FailsToWrite (W.failure_count writer.old) (W.failure_count writer.new) result }
+    requires { CanWrite (W.state writer.old) }
+    ensures { Writes W.state writer.old writer.new (shown text.now) result }
 {
     let mut buffer = [0; 6];
     for character in text.chars() {

@@ -1,19 +1,20 @@
 //! A program is stepped through a schedule, and its trace is written.
 
-ghost use Rattle.std.specs.Prelude.{◌≡◌, ◌+◌, ◌<◌, ◌^◌, IfOk};
+ghost use Rattle.std.specs.Prelude.{◌≡◌, IfOk};
 ghost use Rattle.rc_read.specs.Answer.{answer_of};
 ghost use Rattle.rc_world.specs.Trace.{trace_of};
-ghost use Rattle.rc_report.specs.Engine.{EndsBy, StepsAs, WritesNothingOnRead, end_of, stepped_text, text_of_trace};
+ghost use Rattle.rc_report.specs.Engine.{AnswersSteps, StepsAs, end_of, stepped_text, text_of_trace};
 ghost use Rattle.rc_report.specs.Steps.{ReadsSteps, end_of_unread, unread_text};
-ghost use Rattle.rc_report.specs.Streams.{CountsReads, CountsWrites, FailsToWrite, FailsToWriteOrGrow, Wrote};
+ghost use Rattle.rc_report.specs.Streams.{CanRead, CanWrite, CountsReads, Writes, WritesOrGrows};
 
 use crate::engine_fault::EngineFault;
-use crate::printed::write_schedule_line;
 use crate::reading::read_text;
 use crate::stepping::write_run;
 use crate::streams::{Sink, Source};
 use crate::trace::End;
 use crate::verdict::{Verdict, verdict_text};
+use crate::writing::write_pieces;
+use itoa::Buffer;
 use rc_lang::program::Program;
 use rc_read::{ReadCause, ReadFault, read_program};
 use rc_world::event::Item;
@@ -60,16 +61,10 @@ pub fn step_engine<R: Source, W: Sink>(
     schedule: &str,
     writer: &mut W,
 ) -> Result<StepEnd, EngineFault>
-    requires reads { R.read_count reader.old + 2097152 < 2 ^ 64 }
-    requires read_failures { R.failure_count reader.old + 1 < 2 ^ 64 }
-    requires write_failures { W.failure_count writer.old + 1 < 2 ^ 64 }
-    ensures text { StepsAs (R.remaining reader.old) schedule.now (W.contents writer.old) (W.contents writer.new) result }
-    ensures nothing_on_read { WritesNothingOnRead (W.contents writer.old) (W.contents writer.new) result }
-    ensures reads { CountsReads
-        (record { remaining = R.remaining reader.old; reads = R.read_count reader.old; ends = R.end_count reader.old; failures = R.failure_count reader.old })
-        (record { remaining = R.remaining reader.new; reads = R.read_count reader.new; ends = R.end_count reader.new; failures = R.failure_count reader.new })
-        result }
-    ensures writes { CountsWrites (W.failure_count writer.old) (W.failure_count writer.new) result }
+    requires reads { CanRead 2097152 (R.state reader.old) }
+    requires writes { CanWrite (W.state writer.old) }
+    ensures answer { StepsAs (R.state reader.old) schedule.now W.state writer.old writer.new result }
+    ensures reads { CountsReads (R.state reader.old) (R.state reader.new) result }
 {
     let text = read_text(alloc, reader)?;
     step_bytes(alloc, text, schedule, writer)
@@ -97,18 +92,20 @@ pub fn read_steps(
 
 /// Writes the line that says what can't be read, and answers that this text was written.
 pub fn write_unread<W: Sink>(writer: &mut W, unread: Unread) -> Result<StepEnd, EngineFault>
-    requires { W.failure_count writer.old + 1 < 2 ^ 64 }
-    ensures text { Wrote (W.contents writer.old) (W.contents writer.new) (unread_text unread) result }
+    requires { CanWrite (W.state writer.old) }
+    ensures text { Writes W.state writer.old writer.new (unread_text unread) result }
     ensures end { IfOk result (λ end. end ≡ end_of_unread unread) }
-    ensures failures { FailsToWrite (W.failure_count writer.old) (W.failure_count writer.new) result }
 {
+    let mut buffer = Buffer::new();
     match unread {
         Unread::Text { line, cause } => {
-            verdict_text(&Verdict::Unreadable { line, cause }, writer)?;
+            let verdict = Verdict::Unreadable { line, cause };
+            verdict_text(&verdict, writer)?;
             Ok(StepEnd::Unreadable(ReadFault::Text { line, cause }))
         }
         Unread::Schedule(item) => {
-            write_schedule_line(writer, item)?;
+            let number = buffer.format(item).as_bytes();
+            write_pieces(writer, &[b"schedule item ", number, b" unreadable\n"])?;
             Ok(StepEnd::Schedule(item))
         }
     }
@@ -121,10 +118,8 @@ pub fn step_bytes<W: Sink>(
     schedule: &str,
     writer: &mut W,
 ) -> Result<StepEnd, EngineFault>
-    requires { W.failure_count writer.old + 1 < 2 ^ 64 }
-    ensures text { Wrote (W.contents writer.old) (W.contents writer.new) (stepped_text text.items schedule.now) result }
-    ensures end { IfOk result (EndsBy (answer_of text.items) schedule.now) }
-    ensures failures { FailsToWriteOrGrow (W.failure_count writer.old) (W.failure_count writer.new) result }
+    requires { CanWrite (W.state writer.old) }
+    ensures { AnswersSteps stepped_text text.items schedule.now W.state writer.old writer.new result }
 {
     let read = read_steps(alloc, &text, schedule)?;
     drop(text);
@@ -139,11 +134,10 @@ pub fn step_bytes<W: Sink>(
 
 /// Writes the trace of the run that the items name.
 fn write_trace<W: Sink>(alloc: Global, steps: &Steps, writer: &mut W) -> Result<End, EngineFault>
-    requires { W.failure_count writer.old + 1 < 2 ^ 64 }
-    ensures text { Wrote (W.contents writer.old) (W.contents writer.new)
+    requires { CanWrite (W.state writer.old) }
+    ensures text { WritesOrGrows W.state writer.old writer.new
         (text_of_trace steps.now.program (trace_of steps.now.program steps.now.items.items)) result }
     ensures end { IfOk result (λ end. end ≡ end_of (trace_of steps.now.program steps.now.items.items).ending) }
-    ensures failures { FailsToWriteOrGrow (W.failure_count writer.old) (W.failure_count writer.new) result }
 {
     let mut world = World::start(alloc, &steps.program)?;
     write_run(&mut world, &steps.items, writer)

@@ -6,7 +6,7 @@ ghost use Rattle.rc_world.specs.Trace.{all_ended, last_ending, trace_from};
 ghost use Rattle.rc_report.specs.Engine.{end_of, text_of_trace};
 ghost use Rattle.rc_report.specs.Made.{MakesItem, refused_ending};
 ghost use Rattle.rc_report.specs.Printed.{event_lines};
-ghost use Rattle.rc_report.specs.Streams.{FailsToWriteOrGrow, Wrote};
+ghost use Rattle.rc_report.specs.Streams.{CanWrite, WritesOrGrows};
 
 use crate::engine_fault::EngineFault;
 use crate::printed::write_event_line;
@@ -33,13 +33,12 @@ pub fn write_run<W: Sink>(
     items: &[Item],
     writer: &mut W,
 ) -> Result<End, EngineFault>
-    requires room { W.failure_count writer.old + 1 < 2 ^ 64 }
+    requires room { CanWrite (W.state writer.old) }
     requires start { world.old.made ≡ 0 }
-    ensures text { Wrote (W.contents writer.old) (W.contents writer.new)
+    ensures text { WritesOrGrows W.state writer.old writer.new
         (text_of_trace world.old.program (trace_from world.old 1 items.now)) result }
     ensures end { IfOk result (λ end. end ≡ end_of (trace_from world.old 1 items.now).ending) }
     ensures world { IfOk result (λ _. world.new ≡ (trace_from world.old 1 items.now).world) }
-    ensures failures { FailsToWriteOrGrow (W.failure_count writer.old) (W.failure_count writer.new) result }
 {
     let (count, end) = write_events(world, items, writer)?;
     write_end(writer, world.program(), count, end)?;
@@ -53,15 +52,14 @@ fn write_events<W: Sink>(
     items: &[Item],
     writer: &mut W,
 ) -> Result<(u64, End), EngineFault>
-    requires room { W.failure_count writer.old + 1 < 2 ^ 64 }
+    requires room { CanWrite (W.state writer.old) }
     requires start { world.old.made ≡ 0 }
-    ensures text { Wrote (W.contents writer.old) (W.contents writer.new)
+    ensures text { WritesOrGrows W.state writer.old writer.new
         (event_lines world.old.program 1 (trace_from world.old 1 items.now).events) result }
     ensures count { IfOk result (λ r. r.0 ≡ length (trace_from world.old 1 items.now).events) }
     ensures end { IfOk result (λ r. r.1 ≡ end_of (trace_from world.old 1 items.now).ending) }
     ensures world { IfOk result (λ _. world.new ≡ (trace_from world.old 1 items.now).world) }
     ensures program { world.new.program ≡ world.old.program }
-    ensures failures { FailsToWriteOrGrow (W.failure_count writer.old) (W.failure_count writer.new) result }
 {
     let mut count = 0;
     for (index, item) in items.iter().enumerate() {

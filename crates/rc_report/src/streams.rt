@@ -1,8 +1,7 @@
 //! What a text is read from, and what an answer is written to.
 
-ghost use Rattle.std.specs.Prelude.{◌≡◌, ◌+◌, ◌<◌, ◌≤◌, ◌^◌, ℕ, List, Option, IfOk, length};
-ghost use Rattle.std.specs.Io.KnownBytes.{Keeps, ReadConsumes, WriteAppends};
-ghost use Rattle.rc_report.specs.Streams.{ends_after, failures_after, TakesSome};
+ghost use Rattle.std.specs.Prelude.{◌≡◌, ◌≤◌};
+ghost use Rattle.rc_report.specs.Streams.{CanRead, CanWrite, Given, Reads, Taken, Takes};
 
 use std::io::{Read, Write};
 
@@ -12,57 +11,38 @@ pub struct DeviceFailed;
 
 /// What a text is read from.
 pub trait Source {
-    // The bytes that reads will give, where they are known.
-    ghost remaining: { Self → Option (List ℕ) };
-
-    // How many reads there were, failed ones too.
-    ghost read_count: { Self → ℕ };
-
-    // How many reads gave nothing: at the end of the input, or into an empty buffer.
-    ghost end_count: { Self → ℕ };
-
-    // How many reads have failed.
-    ghost failure_count: { Self → ℕ };
+    // What it will give, and how its reads went.
+    ghost state: { Self → Given };
 
     /// Reads some bytes into the front of the buffer, and answers how many: none only at the end of the input or into
     /// an empty buffer. Nothing is tried again (`read(2)`).
     fn read(&mut self, buffer: &mut [u8]) -> Result<usize, DeviceFailed>
-        requires reads { read_count self.old + 1 < 2 ^ 64 }
-        requires failures { failure_count self.old + 1 < 2 ^ 64 }
-        ensures bound { IfOk result (λ n. n ≤ length buffer.new) }
-        ensures bytes { ReadConsumes (remaining self.old) (remaining self.new) result buffer.new }
-        ensures reads { read_count self.new ≡ read_count self.old + 1 }
-        ensures ends { end_count self.new ≡ ends_after result (end_count self.old) }
-        ensures failures { failure_count self.new ≡ failures_after result (failure_count self.old) };
+        requires { CanRead 1 (state self.old) }
+        ensures { Reads (state self.old) (state self.new) result buffer.new };
 
     /// How many reads there were, failed ones too.
     fn reads(&self) -> u64
-        ensures { result ≡ read_count self.now };
+        ensures { result ≡ (state self.now).reads };
 
     /// How many reads have failed.
     fn failures(&self) -> u64
-        ensures { result ≡ failure_count self.now };
+        ensures { result ≡ (state self.now).failures };
 }
 
 /// What an answer is written to.
 pub trait Sink {
-    // The bytes that it holds, where they are known.
-    ghost contents: { Self → Option (List ℕ) };
-
-    // How many writes have failed.
-    ghost failure_count: { Self → ℕ };
+    // What it holds, and how many writes to it failed.
+    ghost state: { Self → Taken };
 
     /// Writes some bytes of the front of the piece, and answers how many: none only of an empty piece. Nothing is
     /// tried again (`write(2)`).
     fn write(&mut self, piece: &[u8]) -> Result<usize, DeviceFailed>
-        requires { failure_count self.old + 1 < 2 ^ 64 }
-        ensures some { TakesSome result piece.now }
-        ensures bytes { WriteAppends (contents self.old) (contents self.new) result piece.now }
-        ensures failures { failure_count self.new ≡ failures_after result (failure_count self.old) };
+        requires { CanWrite (state self.old) }
+        ensures { Takes (state self.old) (state self.new) result piece.now };
 
     /// How many writes have failed.
     fn failures(&self) -> u64
-        ensures { result ≡ failure_count self.now };
+        ensures { result ≡ (state self.now).failures };
 }
 
 /// A source over any reader of the standard library. Each error counts as a failure, an interrupted call among them.
@@ -95,13 +75,7 @@ impl<R: Read> ReadSource<R> {
 }
 
 impl<R: Read> Source for ReadSource<R> {
-    ghost remaining = { λ s. R.remaining s.reader };
-
-    ghost read_count = { λ s. s.reads };
-
-    ghost end_count = { λ s. s.ends };
-
-    ghost failure_count = { λ s. s.failures };
+    ghost state = { λ s. record { remaining = R.remaining s.reader; reads = s.reads; ends = s.ends; failures = s.failures } };
 
     fn read(&mut self, buffer: &mut [u8]) -> Result<usize, DeviceFailed> {
         self.reads += 1;
@@ -138,6 +112,9 @@ pub struct WriteSink<W> {
 }
 
 impl<W: Write> WriteSink<W> {
+    ghost use Rattle.rc_report.specs.Buffers.{taken_by};
+    ghost use Rattle.rc_report.specs.Streams.{CanWrite, Stays};
+
     /// A sink that has met no failure.
     pub fn new(writer: W) -> WriteSink<W>
         ensures { result ≡ record { writer = writer; failures = 0 } }
@@ -150,9 +127,8 @@ impl<W: Write> WriteSink<W> {
 
     /// Has the writer hand on what it keeps back. Nothing is tried again.
     pub fn flush(&mut self) -> Result<(), DeviceFailed>
-        requires { self.old.failures + 1 < 2 ^ 64 }
-        ensures bytes { Keeps (W.contents self.old.writer) (W.contents self.new.writer) }
-        ensures failures { self.new.failures ≡ failures_after result self.old.failures }
+        requires { CanWrite (taken_by W.contents self.old) }
+        ensures { Stays (taken_by W.contents self.old) (taken_by W.contents self.new) result }
     {
         match self.writer.flush() {
             Ok(()) => Ok(()),
@@ -165,9 +141,9 @@ impl<W: Write> WriteSink<W> {
 }
 
 impl<W: Write> Sink for WriteSink<W> {
-    ghost contents = { λ s. W.contents s.writer };
+    ghost use Rattle.rc_report.specs.Buffers.{taken_by};
 
-    ghost failure_count = { λ s. s.failures };
+    ghost state = { taken_by W.contents };
 
     fn write(&mut self, piece: &[u8]) -> Result<usize, DeviceFailed> {
         match self.writer.write(piece) {

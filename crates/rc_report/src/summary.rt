@@ -2,17 +2,12 @@
 
 ghost use Rattle.std.specs.Prelude.{◌≡◌, ◌+◌, ◌<◌, ◌≤◌, ◌^◌, IfOk, OnOk, count_by, insert, length, take};
 ghost use Rattle.std.specs.List.{flat_map};
-ghost use Rattle.rc_report.specs.Streams.{FailsToWriteOrGrow, Wrote};
 ghost use Rattle.rc_report.specs.Summaries.{counted, counts_text, is_completion_of, is_of, kind_name, longer, longest_stretch, next_stretch, others_text, placed, ranked, ranked_with, result_in, result_text, results_text, stretch_line, stretches_after, summary_text, tally, thread_line, threads_text, token_head, token_line, total};
 ghost use Rattle.rc_report.specs.Text.{Puts};
-ghost use Rattle.rc_report.specs.Traces.{NamesItsThreads};
 
-use crate::engine_fault::EngineFault;
 use crate::printed::thread_name;
-use crate::streams::Sink;
 use crate::text::{put_counted, put_piece, put_pieces, put_signed};
-use crate::trace::{End, write_end};
-use crate::writing::write_piece;
+use crate::trace::{End, put_end};
 use indexmap::IndexMap;
 use rc_lang::program::{Program, Token, TokenKind};
 use rc_world::event::Event;
@@ -35,28 +30,20 @@ pub struct Stretches {
     pub last: Stretch,
 }
 
-/// Writes a summary in place of a trace: a line for each thread with how many events it made, one for each token with how
+/// Adds a summary in place of a trace: a line for each thread with how many events it made, one for each token with how
 /// its requests completed (how often, the eight most common results, and how many others there are), the longest stretch
-/// of one thread, and how the trace ended. The threads that are named are the program's.
-///
-/// Answers `Write` where a write failed, and `OutOfMemory` where a growth was refused: then a beginning of the summary is
-/// written.
-pub fn summary_text<W: Sink>(
+/// of one thread, and how the trace ended.
+pub fn put_summary(
+    text: &mut Vec<u8>,
     alloc: Global,
     program: &Program,
     events: &[Event],
     end: End,
-    writer: &mut W,
-) -> Result<(), EngineFault>
-    requires threads { NamesItsThreads program.now events.now end }
-    requires failures { W.failure_count writer.old + 1 < 2 ^ 64 }
-    ensures text { Wrote (W.contents writer.old) (W.contents writer.new) (summary_text program.now events.now end) result }
-    ensures failures { FailsToWriteOrGrow (W.failure_count writer.old) (W.failure_count writer.new) result }
+) -> Result<(), AllocError>
+    ensures { Puts text.old text.new (summary_text program.now events.now end) result }
 {
-    let mut text = Vec::new(alloc);
-    put_counts(&mut text, alloc, program, events)?;
-    write_piece(writer, &text)?;
-    write_end(writer, program, events.len() as u64, end)
+    put_counts(text, alloc, program, events)?;
+    put_end(text, program, events.len() as u64, end)
 }
 
 /// Adds what is counted of a run: the lines of the threads and the tokens, and that of the longest stretch.

@@ -1,15 +1,16 @@
 //! Verdicts on programs, as text and as JSON.
 
-ghost use Rattle.std.specs.Prelude.{◌≡◌, ◌+◌, ◌<◌, ◌^◌, IfOk, option_map};
+ghost use Rattle.std.specs.Prelude.{◌≡◌, IfOk, None, Some, option_map};
 ghost use Rattle.serde_json.specs.View.{view};
-ghost use Rattle.rc_report.specs.Streams.{FailsToWrite, FailsToWriteOrGrow, Wrote};
-ghost use Rattle.rc_report.specs.Objects.{verdict_object};
+ghost use Rattle.rc_report.specs.Streams.{CanWrite, Writes, WritesOrGrows};
+ghost use Rattle.rc_report.specs.Pieces.{line_text};
 ghost use Rattle.rc_report.specs.Text.{Puts};
-ghost use Rattle.rc_report.specs.Verdicts.{cause_text, finding, finding_of, verdict_json, verdict_text};
+ghost use Rattle.rc_report.specs.Verdicts.{cause_line, cause_text, finding, finding_line, finding_object, finding_of, finding_text, verdict_json, verdict_text};
 
 use crate::engine_fault::EngineFault;
+use crate::printed::{Line, short_line};
 use crate::streams::Sink;
-use crate::text::{put_counted, put_piece, put_pieces};
+use crate::text::{put_counted, put_pieces};
 use crate::writing::{write_piece, write_pieces};
 use itoa::Buffer;
 use rc_read::ReadCause;
@@ -67,37 +68,73 @@ impl Verdict {
 /// Writes a verdict as text: `accepted`, `refused line L Vn NAME` or `unreadable line L Pn NAME`, with a line feed. It
 /// takes no memory, and answers `Write` where a write failed: then a beginning of the text is written.
 pub fn verdict_text<W: Sink>(verdict: &Verdict, writer: &mut W) -> Result<(), EngineFault>
-    requires { W.failure_count writer.old + 1 < 2 ^ 64 }
-    ensures text { Wrote (W.contents writer.old) (W.contents writer.new) (verdict_text verdict.now) result }
-    ensures failures { FailsToWrite (W.failure_count writer.old) (W.failure_count writer.new) result }
+    requires { CanWrite (W.state writer.old) }
+    ensures { Writes W.state writer.old writer.new (verdict_text verdict.now) result }
 {
-    let Some(finding) = verdict.finding() else {
-        return write_piece(writer, b"accepted\n");
-    };
     let (mut first, mut second) = (Buffer::new(), Buffer::new());
-    let word = finding.word.as_bytes();
-    let line = first.format(finding.line).as_bytes();
-    let letter = finding.letter.as_bytes();
-    let number = second.format(finding.number).as_bytes();
-    let name = finding.name.as_bytes();
-    write_pieces(
-        writer,
-        &[
-            word, b" line ", line, b" ", letter, number, b" ", name, b"\n",
-        ],
-    )
+    let line = verdict_line(*verdict, &mut first, &mut second);
+    write_pieces(writer, &line.pieces)
 }
 
 /// Adds a verdict as text: `accepted`, `refused line L Vn NAME` or `unreadable line L Pn NAME`, with a line feed.
 pub fn put_verdict(text: &mut Vec<u8>, verdict: &Verdict) -> Result<(), AllocError>
     ensures { Puts text.old text.new (verdict_text verdict.now) result }
 {
-    let Some(finding) = verdict.finding() else {
-        return put_piece(text, b"accepted\n");
-    };
-    put_piece(text, finding.word.as_bytes())?;
-    put_counted(text, b" line ", u64::from(finding.line), b" ")?;
-    put_cause(text, &finding)
+    let (mut first, mut second) = (Buffer::new(), Buffer::new());
+    let line = verdict_line(*verdict, &mut first, &mut second);
+    put_pieces(text, &line.pieces)
+}
+
+/// A verdict as a line.
+pub(crate) fn verdict_line<'a>(
+    verdict: Verdict,
+    first: &'a mut Buffer,
+    second: &'a mut Buffer,
+) -> Line<'a>
+    ensures { line_text result ≡ verdict_text verdict }
+{
+    match verdict.finding() {
+        None => short_line(b"accepted\n", b"", b"", b"", b""),
+        Some(finding) => finding_line(finding, first, second),
+    }
+}
+
+/// What a verdict says of a line, as a line.
+fn finding_line<'a>(finding: Finding, first: &'a mut Buffer, second: &'a mut Buffer) -> Line<'a>
+    ensures { line_text result ≡ finding_text (Some (finding_of finding)) }
+{
+    told_line(
+        finding.word,
+        first.format(finding.line),
+        finding.letter,
+        second.format(finding.number),
+        finding.name,
+    )
+}
+
+/// The same by its parts.
+fn told_line<'a>(
+    word: &'a str,
+    line: &'a str,
+    letter: &'a str,
+    number: &'a str,
+    name: &'a str,
+) -> Line<'a>
+    ensures { line_text result ≡ finding_line word.now line.now (cause_line letter.now number.now name.now) }
+{
+    Line {
+        pieces: [
+            word.as_bytes(),
+            b" line ",
+            line.as_bytes(),
+            b" ",
+            letter.as_bytes(),
+            number.as_bytes(),
+            b" ",
+            name.as_bytes(),
+            b"\n",
+        ],
+    }
 }
 
 /// Adds why a line isn't good, to the end of the line.
@@ -120,17 +157,29 @@ pub fn verdict_json<W: Sink>(
     verdict: &Verdict,
     writer: &mut W,
 ) -> Result<(), EngineFault>
-    requires { W.failure_count writer.old + 1 < 2 ^ 64 }
-    ensures text { Wrote (W.contents writer.old) (W.contents writer.new) (verdict_json verdict.now) result }
-    ensures failures { FailsToWriteOrGrow (W.failure_count writer.old) (W.failure_count writer.new) result }
+    requires { CanWrite (W.state writer.old) }
+    ensures { WritesOrGrows W.state writer.old writer.new (verdict_json verdict.now) result }
 {
-    let text = object_of(alloc, verdict)?.to_string(alloc)?;
-    write_pieces(writer, &[text.as_bytes(), b"\n"])
+    let mut text = Vec::new(alloc);
+    put_verdict_json(&mut text, alloc, verdict)?;
+    write_piece(writer, &text)
+}
+
+/// Adds a verdict as JSON: one object without spaces, its keys in order, and a line feed.
+pub fn put_verdict_json(
+    text: &mut Vec<u8>,
+    alloc: Global,
+    verdict: &Verdict,
+) -> Result<(), AllocError>
+    ensures { Puts text.old text.new (verdict_json verdict.now) result }
+{
+    let object = object_of(alloc, verdict)?.to_string(alloc)?;
+    put_pieces(text, &[object.as_bytes(), b"\n"])
 }
 
 /// A verdict as a JSON object.
 fn object_of(alloc: Global, verdict: &Verdict) -> Result<Value, AllocError>
-    ensures { IfOk result (λ v. view v ≡ verdict_object verdict.now) }
+    ensures { IfOk result (λ v. view v ≡ finding_object None (finding verdict.now)) }
 {
     let Some(finding) = verdict.finding() else {
         return json!(in alloc; {"verdict": "accepted"});

@@ -1,10 +1,8 @@
 -- What a stepped program is answered with where its state is asked for too.
-use Rattle.std.specs.Prelude.{ℕ, List, ◌++◌, Option, Result}
+use Rattle.std.specs.Prelude.{ℕ, List, ◌++◌}
 use Rattle.rc_lang.specs.Program.{Program}
 use Rattle.rc_read.specs.Answer.{answer_of}
-use Rattle.rc_report.specs.declared.engine_fault.EngineFault.{EngineFault}
-use Rattle.rc_report.specs.declared.step_engine.StepEnd.{StepEnd}
-use Rattle.rc_report.specs.Engine.{AnswersSteps, answer_text, text_of_trace}
+use Rattle.rc_report.specs.Engine.{answer_text, text_of_trace}
 use Rattle.rc_state.specs.State.{world_text}
 use Rattle.rc_world.specs.Trace.{Trace}
 
@@ -15,8 +13,3 @@ trace_and_state text program t = text_of_trace program t ++ world_text text t.wo
 -- The text that is written for the bytes of a program and a schedule.
 abbrev pub stepped_with_state : List ℕ → List ℕ → List ℕ
 stepped_with_state bytes schedule = answer_text (trace_and_state bytes) (answer_of bytes) schedule
-
--- The whole text is written, and the answer says which; or a beginning of it is, where the sink failed or memory ran
--- out. Where the source doesn't tell its bytes nothing is claimed.
-abbrev pub ShowsAs : Option (List ℕ) → List ℕ → Option (List ℕ) → Option (List ℕ) → Result StepEnd EngineFault → Type 0
-ShowsAs bytes schedule old new r = AnswersSteps stepped_with_state bytes schedule old new r

@@ -1,9 +1,8 @@
 //! A program is stepped through a schedule, and its trace is written with the world in which it ends.
 
-ghost use Rattle.std.specs.Prelude.{◌≡◌, ◌+◌, ◌<◌, ◌^◌, IfOk};
-ghost use Rattle.rc_read.specs.Answer.{answer_of};
-ghost use Rattle.rc_report.specs.Engine.{EndsBy, end_of};
-ghost use Rattle.rc_report.specs.Streams.{FailsToWriteOrGrow, Wrote};
+ghost use Rattle.std.specs.Prelude.{◌≡◌, IfOk};
+ghost use Rattle.rc_report.specs.Engine.{AnswersSteps, end_of};
+ghost use Rattle.rc_report.specs.Streams.{CanWrite, WritesOrGrows};
 ghost use Rattle.rc_state.specs.Engine.{stepped_with_state, trace_and_state};
 ghost use Rattle.rc_state.specs.State.{world_text};
 ghost use Rattle.rc_world.specs.Trace.{trace_of};
@@ -30,11 +29,8 @@ pub fn show_bytes<W: Sink>(
     schedule: &str,
     writer: &mut W,
 ) -> Result<StepEnd, EngineFault>
-    requires { W.failure_count writer.old + 1 < 2 ^ 64 }
-    ensures text { Wrote (W.contents writer.old) (W.contents writer.new)
-        (stepped_with_state text.now schedule.now) result }
-    ensures end { IfOk result (EndsBy (answer_of text.now) schedule.now) }
-    ensures failures { FailsToWriteOrGrow (W.failure_count writer.old) (W.failure_count writer.new) result }
+    requires { CanWrite (W.state writer.old) }
+    ensures { AnswersSteps stepped_with_state text.now schedule.now W.state writer.old writer.new result }
 {
     let read = read_steps(alloc, text, schedule)?;
     match read {
@@ -53,12 +49,11 @@ fn write_shown<W: Sink>(
     steps: &Steps,
     writer: &mut W,
 ) -> Result<End, EngineFault>
-    requires { W.failure_count writer.old + 1 < 2 ^ 64 }
+    requires { CanWrite (W.state writer.old) }
     ensures text { let run = trace_of steps.now.program steps.now.items.items in
-        Wrote (W.contents writer.old) (W.contents writer.new) (trace_and_state text.now steps.now.program run) result }
+        WritesOrGrows W.state writer.old writer.new (trace_and_state text.now steps.now.program run) result }
     ensures end { let run = trace_of steps.now.program steps.now.items.items in
         IfOk result (λ end. end ≡ end_of run.ending) }
-    ensures failures { FailsToWriteOrGrow (W.failure_count writer.old) (W.failure_count writer.new) result }
 {
     let mut world = World::start(alloc, &steps.program)?;
     let end = write_run(&mut world, &steps.items, writer)?;

@@ -1,8 +1,5 @@
 //! Lines of events and of ends.
 
-ghost use Rattle.std.specs.Prelude.{◌≡◌, length, nat_lt};
-ghost use Rattle.rc_report.specs.Traces.{EndsAtItsThread, NamesItsThread};
-
 use rc_examples::programs::EMPTY_THREAD;
 use rc_lang::program::Program;
 use rc_read::read_program;
@@ -56,15 +53,7 @@ fn one_thread(rt: &impl Abort, alloc: Global) -> Program {
     }
 }
 
-fn has_thread(program: &Program) -> bool
-    ensures { result ≡ nat_lt 0 (length program.now.threads) }
-{
-    !program.threads().is_empty()
-}
-
-fn prints(rt: &impl Abort, alloc: Global, program: &Program, event: Event, line: &str)
-    requires { NamesItsThread program.now event }
-{
+fn prints(rt: &impl Abort, alloc: Global, program: &Program, event: Event, line: &str) {
     let mut sink = WriteSink::new(Vec::new(alloc));
     let written = trace_text(program, &[event], End::Stopped, &mut sink);
     assert!(rt; written.is_ok());
@@ -79,7 +68,6 @@ fn prints(rt: &impl Abort, alloc: Global, program: &Program, event: Event, line:
 fn each_event_has_its_line(rt: HostRuntime) -> Result<(), Fail> {
     let alloc = rt.alloc();
     let program = one_thread(&rt, alloc);
-    assert!(rt; has_thread(&program));
     for (action, words) in STEPS {
         let line = format!(in alloc; "t0 5 {words}")?;
         let event = Event::ByThread {
@@ -103,9 +91,7 @@ fn each_event_has_its_line(rt: HostRuntime) -> Result<(), Fail> {
     Ok(())
 }
 
-fn ends(rt: &impl Abort, alloc: Global, program: &Program, end: End, line: &str)
-    requires { EndsAtItsThread program.now end }
-{
+fn ends(rt: &impl Abort, alloc: Global, program: &Program, end: End, line: &str) {
     let mut sink = WriteSink::new(Vec::new(alloc));
     let written = trace_text(program, &[], end, &mut sink);
     assert!(rt; written.is_ok());
@@ -116,7 +102,6 @@ fn ends(rt: &impl Abort, alloc: Global, program: &Program, end: End, line: &str)
 fn each_end_has_its_line(rt: HostRuntime) {
     let alloc = rt.alloc();
     let program = one_thread(&rt, alloc);
-    assert!(rt; has_thread(&program));
     ends(&rt, alloc, &program, End::Ended, "ended after 0 events\n");
     ends(
         &rt,
@@ -146,7 +131,6 @@ fn each_end_has_its_line(rt: HostRuntime) {
 fn each_fault_ends_a_trace(rt: HostRuntime) {
     let alloc = rt.alloc();
     let program = one_thread(&rt, alloc);
-    assert!(rt; has_thread(&program));
     let overflow = Fault {
         kind: FaultKind::Overflow,
         party: Party::InKernel,

@@ -1,12 +1,19 @@
-use Rattle.rc_explain.proofs.Explained.{explains_begun, explains_written}
+use Rattle.std.proofs.Common.{refl}
+use Rattle.rc_explain.specs.Explains.{Explains}
+use Rattle.rc_report.proofs.Answered.{answers_begun, answers_nothing, answers_written}
 use Rattle.rc_explain.proofs.engine.explain_bytes.Goals as goal
 
-pub returns-in_err-write_piece-clause-text : goal.returns-in_err-write_piece-clause-text
-returns-in_err-write_piece-clause-text g c =
-    let begun = rw c.deref.ensures.value at c.in_err-write_piece.ensures.text in
-    explains_begun c.args.text.now c.args.json c.in_ok-verdict.verdict _ _ _ _ c.from_residual-in_err-write_piece.result c.from_residual-in_err-write_piece.ensures.0 c.new-answer.ensures.items c.in_ok-verdict.ensures begun
+pub returns-in_err-verdict : goal.returns-in_err-verdict
+returns-in_err-verdict g c =
+    answers_nothing (Explains c.args.text.now c.args.json) g.W.Sink.state c.args.writer.now c.args.writer.now c.from_residual.result c.from_residual.ensures.1 refl
 
-pub returns-clause-text : goal.returns-clause-text
-returns-clause-text g c =
-    let written = rw c.deref.ensures.value at c.in_ok-write_piece.ensures.text in
-    explains_written c.args.text.now c.args.json c.in_ok-verdict.verdict _ _ _ _ c.new-answer.ensures.items c.in_ok-verdict.ensures written
+pub returns-in_err-write_piece : goal.returns-in_err-write_piece
+returns-in_err-write_piece g c =
+    answers_begun (Explains c.args.text.now c.args.json) g.W.Sink.state c.args.writer.now c.write_piece.new.writer c.in_ok-verdict.verdict _ _ _
+    c.from_residual-in_err-write_piece.result c.from_residual-in_err-write_piece.ensures.1 c.new-answer.ensures.items c.in_ok-verdict.ensures
+    (rw c.deref.ensures.value at c.in_err-write_piece.ensures)
+
+pub returns : goal.returns
+returns g c =
+    answers_written (Explains c.args.text.now c.args.json) g.W.Sink.state c.args.writer.now c.write_piece.new.writer c.in_ok-verdict.verdict _ _
+    c.new-answer.ensures.items c.in_ok-verdict.ensures (rw c.deref.ensures.value at c.in_ok-write_piece.ensures)

@@ -2,7 +2,7 @@ use Rattle.std.proofs.Common.{codes}
 use Rattle.rc_rules.specs.States.{side_label}
 use Rattle.rc_explain.specs.Listed.{view_page, words_text}
 use Rattle.rc_explain.specs.StateText.{state_text}
-use Rattle.rc_explain.proofs.Texts.{puts_after}
+use Rattle.rc_report.proofs.Texts.{puts_after}
 use Rattle.rc_explain.proofs.listing.put_known.Goals as goal
 
 pub returns : goal.returns

@@ -1,5 +1,5 @@
 use Rattle.std.proofs.Common.{codes, decimal}
-use Rattle.rc_explain.proofs.Texts.{puts_after}
+use Rattle.rc_report.proofs.Texts.{puts_after}
 use Rattle.rc_explain.proofs.listing.put_more.Goals as goal
 
 pub returns : goal.returns

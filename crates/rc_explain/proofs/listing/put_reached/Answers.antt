@@ -1,7 +1,7 @@
 use Rattle.std.proofs.Common.{false, true}
 use Rattle.rc_rules.specs.States.{sides_of}
 use Rattle.rc_explain.specs.Listed.{run_text, side_line, view_page}
-use Rattle.rc_explain.proofs.Texts.{puts_after}
+use Rattle.rc_report.proofs.Texts.{puts_after}
 use Rattle.rc_explain.proofs.listing.put_reached.Goals as goal
 
 pub returns : goal.returns

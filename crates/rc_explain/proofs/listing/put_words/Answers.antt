@@ -1,7 +1,7 @@
 use Rattle.std.proofs.Common.{◌++◌, codes, decimal}
 use Rattle.rc_report.specs.Source.{line_words}
 use Rattle.rc_explain.specs.Listed.{flag_text}
-use Rattle.rc_explain.proofs.Texts.{puts_after}
+use Rattle.rc_report.proofs.Texts.{puts_after}
 use Rattle.rc_explain.proofs.listing.put_words.Goals as goal
 
 pub returns : goal.returns

@@ -1,6 +1,6 @@
 use Rattle.std.proofs.Common.{codes, decimal}
 use Rattle.rc_explain.specs.StateText.{peeked_text, slot_text}
-use Rattle.rc_explain.proofs.Texts.{puts_after}
+use Rattle.rc_report.proofs.Texts.{puts_after}
 use Rattle.rc_explain.proofs.state_text.put_inside.Goals as goal
 
 pub returns : goal.returns

@@ -1,6 +1,6 @@
 use Rattle.std.proofs.Common.{ap, codes}
 use Rattle.rc_explain.specs.StateText.{bag_on, item_text, shares_text, tokens_text}
-use Rattle.rc_explain.proofs.Texts.{puts_after, puts_along}
+use Rattle.rc_report.proofs.Texts.{puts_after, puts_along}
 use Rattle.rc_explain.proofs.state_text.put_items.Goals as goal
 
 pub returns : goal.returns

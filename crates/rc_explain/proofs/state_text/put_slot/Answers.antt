@@ -1,6 +1,6 @@
 use Rattle.std.proofs.Common.{ap, codes, sym}
 use Rattle.rc_explain.specs.StateText as spec
-use Rattle.rc_explain.proofs.Texts.{puts_after, puts_along}
+use Rattle.rc_report.proofs.Texts.{puts_after, puts_along}
 use Rattle.rc_explain.proofs.state_text.put_slot.Goals as goal
 
 pub returns-in_ok-put_piece-in-Prepared : goal.returns-in_ok-put_piece-in-Prepared

@@ -1,7 +1,7 @@
 use Rattle.std.proofs.Common.{◌∙◌, sym}
 use Rattle.rc_explain.specs.StateText.{bag_on, held_text, mode_text}
 use Rattle.rc_explain.proofs.StateText.{state_reached}
-use Rattle.rc_explain.proofs.Texts.{puts_after, puts_along}
+use Rattle.rc_report.proofs.Texts.{puts_after, puts_along}
 use Rattle.rc_explain.proofs.state_text.put_state.Goals as goal
 
 pub returns-in_ok-put_held-in-Some : goal.returns-in_ok-put_held-in-Some

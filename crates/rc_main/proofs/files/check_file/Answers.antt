@@ -1,36 +1,25 @@
 use Rattle.std.proofs.Common.{refl, sym, inl, inr, [], Ok, Err}
-use Rattle.rc_report.specs.Statuses.{status_of_verdict}
-use Rattle.rc_report.proofs.Pieces.{appends_none}
-use Rattle.rc_main.specs.Files.{line_told, memory_words, verdict_told}
-use Rattle.rc_main.proofs.FileAnswers.{told_none}
+use Rattle.rc_report.proofs.Pieces.{wrote_none}
+use Rattle.rc_main.specs.Answers.{SaysVerdict}
+use Rattle.rc_main.specs.Files.{ChecksFile, TellsFile, line_told, memory_words}
+use Rattle.rc_main.proofs.Commands.{does_verdict}
+use Rattle.rc_main.proofs.FileAnswers.{told_nothing}
 use Rattle.rc_main.proofs.files.check_file.Goals as goal
 
 pub returns-in-Err-clause-answer : goal.returns-in-Err-clause-answer
 returns-in-Err-clause-answer g c =
     let told = c.tell_unread.ensures.told in
-    (record { status = 3; text = []; told = line_told c.args.name.now told.0 }, (Err c.in-Err.unread, c.in-Err.ensures, (told.0, refl)), sym c.tell_unread.ensures.status, appends_none _, told.1)
+    (record { status = 3; text = []; told = line_told c.args.name.now told.0 }, (Err c.in-Err.unread, c.in-Err.ensures, (told.0, refl)), sym c.tell_unread.ensures.status, wrote_none _, told.1)
 
-pub returns-in_default-clause-answer : goal.returns-in_default-clause-answer
-returns-in_default-clause-answer g c =
-    (record { status = 3; text = []; told = line_told c.args.name.now memory_words }, (Ok c.in-Ok.text.items, c.in-Ok.ensures, inr refl), sym c.tell_file.ensures.status, appends_none _, c.tell_file.ensures.told)
+pub returns-in-Ok-put_file-clause-answer : goal.returns-in-Ok-put_file-clause-answer
+returns-in-Ok-put_file-clause-answer g c =
+    let told = TellsFile c.args.name.now c.args.json c.in-Ok.text.items in
+    let made = rw c.deref.ensures.value at c.in-Ok-put_file.ensures in
+    told_nothing (SaysVerdict told) (ChecksFile (g.T.Texts.gives c.args.texts.now) c.args.json c.args.name.now) g.S.Sink.state c.args.sink.now c.write_answer.new.sink
+    g.E.Sink.state c.args.errors.now c.write_answer.result c.requires.told (λ status text h. (Ok c.in-Ok.text.items, c.in-Ok.ensures, inl (h, refl)))
+    (does_verdict g.S.Sink.state c.args.sink.now c.write_answer.new.sink told c.in-Ok-put_file.verdict c.new-answer.result.items c.put_file.new.answer.items c.status.result c.write_answer.result
+    c.new-answer.ensures.items c.status.ensures.status made (rw c.deref-in-Ok-put_file.ensures.value at c.write_answer.ensures))
 
-pub returns-in-Ok-write_verdict-clause-answer : goal.returns-in-Ok-write_verdict-clause-answer
-returns-in-Ok-write_verdict-clause-answer g c =
-    let verdict = c.in-Ok-verdict_on.verdict in
-    let is = rw c.deref.ensures.value at c.in-Ok-verdict_on.ensures in (
-      record { status = status_of_verdict verdict; text = verdict_told c.args.json c.args.name.now verdict; told = [] },
-      (Ok c.in-Ok.text.items, c.in-Ok.ensures, inl (verdict, is, refl)),
-      sym c.status.ensures.status,
-      c.in-Ok-write_verdict.ensures.text,
-      told_none _ c.requires.error_failures,
-    )
-
-pub returns-in-Err-OutOfMemory-clause-answer : goal.returns-in-Err-OutOfMemory-clause-answer
-returns-in-Err-OutOfMemory-clause-answer g c =
-    let nothing = rw c.in-Err-OutOfMemory.field-0-is at c.in-Err-OutOfMemory.ensures.memory in (
-      record { status = 3; text = []; told = line_told c.args.name.now memory_words },
-      (Ok c.in-Ok.text.items, c.in-Ok.ensures, inr refl),
-      sym c.tell_file-in-Err-OutOfMemory.ensures.status,
-      nothing,
-      c.tell_file-in-Err-OutOfMemory.ensures.told,
-    )
+pub returns-clause-answer : goal.returns-clause-answer
+returns-clause-answer g c =
+    (record { status = 3; text = []; told = line_told c.args.name.now memory_words }, (Ok c.in-Ok.text.items, c.in-Ok.ensures, inr refl), sym c.tell_file.ensures.status, wrote_none (g.S.Sink.state c.args.sink.now), c.tell_file.ensures.told)

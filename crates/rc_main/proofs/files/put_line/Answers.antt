@@ -1,7 +1,7 @@
 use Rattle.std.proofs.Common.{◌++◌, ap, codes}
 use Rattle.rc_report.specs.Shown.{shown}
 use Rattle.rc_report.specs.Text.{Puts}
-use Rattle.rc_report.proofs.Texts.{puts_along, puts_both}
+use Rattle.rc_report.proofs.Texts.{puts_along, puts_after}
 use Rattle.rc_main.proofs.files.put_line.Goals as goal
 
 pub returns : goal.returns
@@ -14,4 +14,4 @@ returns c =
     let name = shown c.args.name.now in
     let why = codes ": " ++ (c.args.why.now ++ codes "\n") in
     let why_is : Puts d e why r = puts_along d e _ _ r (ap (λ t. codes ": " ++ (t ++ codes "\n")) c.as_bytes.ensures.value) c.put_pieces.ensures in
-    puts_both a b e (codes "ringcheck: ") (name ++ why) r c.in_ok-put_piece.ensures (puts_both b d e name why r c.in_ok-put_shown.ensures why_is)
+    puts_after a b e (codes "ringcheck: ") (name ++ why) r c.in_ok-put_piece.ensures (puts_after b d e name why r c.in_ok-put_shown.ensures why_is)

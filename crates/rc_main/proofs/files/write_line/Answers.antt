@@ -1,16 +1,17 @@
-use Rattle.rc_report.proofs.Pieces.{first_fails, second_fails, wrote_both, wrote_err}
+use Rattle.std.proofs.Common.{refl}
+use Rattle.rc_report.proofs.Pieces.{first_stops, next_stops, writes_both}
 use Rattle.rc_main.proofs.files.write_line.Goals as goal
 
-pub returns-in_err-write_piece-clause-text : goal.returns-in_err-write_piece-clause-text
-returns-in_err-write_piece-clause-text g c = wrote_err _ _ _ c.from_residual.result c.from_residual.ensures.0 (first_fails _ _ _ _ c.in_err-write_piece.ensures.text)
+pub returns-in_err-write_piece : goal.returns-in_err-write_piece
+returns-in_err-write_piece g c = first_stops _ _ _ _ _ _ c.from_residual.result c.from_residual.ensures.1 c.in_err-write_piece.ensures
 
-pub returns-in_err-write_shown-clause-text : goal.returns-in_err-write_shown-clause-text
-returns-in_err-write_shown-clause-text g c =
-    wrote_err _ _ _ c.from_residual-in_err-write_shown.result c.from_residual-in_err-write_shown.ensures.0
-    (second_fails _ _ _ _ _ c.in_ok-write_piece.ensures.text (first_fails _ _ _ _ c.in_err-write_shown.ensures.text))
+pub returns-in_err-write_shown : goal.returns-in_err-write_shown
+returns-in_err-write_shown g c =
+    next_stops _ _ _ _ _ _ _ _ _ c.from_residual-in_err-write_shown.result refl c.in_ok-write_piece.ensures
+    c.from_residual-in_err-write_shown.ensures.1 c.in_err-write_shown.ensures
 
-pub returns-clause-text : goal.returns-clause-text
-returns-clause-text g c =
+pub returns : goal.returns
+returns g c =
     let r = c.write_pieces.result in
-    wrote_both _ _ _ _ _ r c.in_ok-write_piece.ensures.text
-    (wrote_both _ _ _ _ _ r c.in_ok-write_shown.ensures.text (rw c.as_bytes.ensures.value at c.write_pieces.ensures.text))
+    writes_both _ _ _ _ _ _ r c.in_ok-write_piece.ensures
+    (writes_both _ _ _ _ _ _ r c.in_ok-write_shown.ensures (rw c.as_bytes.ensures.value at c.write_pieces.ensures))

@@ -8,7 +8,6 @@ invariant-loop-index g l = record {
   program : l.world.program ≡ l.initial.world.program;
   made : l.world.made ≤ l.index;
   count : l.count ≤ l.index;
-  so_far : IsSoFar l.initial.world.program (g.W.Sink.contents l.initial.writer) (g.W.Sink.contents l.writer)
+  so_far : IsSoFar l.initial.world.program (g.W.Sink.state l.initial.writer) (g.W.Sink.state l.writer)
       (trace_from l.initial.world 1 l.items) (trace_from l.world (l.index + 1) (drop l.index l.items)) l.count;
-  no_failure : g.W.Sink.failure_count l.writer ≡ g.W.Sink.failure_count l.initial.writer;
 }

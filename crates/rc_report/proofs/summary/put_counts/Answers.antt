@@ -1,7 +1,7 @@
 use Rattle.std.proofs.Common.{◌++◌, ap}
 use Rattle.rc_report.specs.Summaries.{longest_stretch, placed, stretch_line, threads_text, token_line}
 use Rattle.rc_report.specs.Text.{Puts}
-use Rattle.rc_report.proofs.Texts.{puts_along, puts_both}
+use Rattle.rc_report.proofs.Texts.{puts_along, puts_after}
 use Rattle.rc_report.proofs.summary.put_counts.Goals as goal
 
 pub returns : goal.returns
@@ -16,4 +16,4 @@ returns c =
     let tokens = placed (token_line events) 0 program.tokens in
     let stretch = stretch_line program (longest_stretch events) in
     let stretch_is : Puts d e stretch r = puts_along d e _ _ r (ap (λ s. stretch_line program s) c.longest_stretch.ensures) c.put_stretch.ensures in
-    puts_both a b e (threads_text program events) (tokens ++ stretch) r c.in_ok-put_threads.ensures (puts_both b d e tokens stretch r c.in_ok-put_tokens.ensures stretch_is)
+    puts_after a b e (threads_text program events) (tokens ++ stretch) r c.in_ok-put_threads.ensures (puts_after b d e tokens stretch r c.in_ok-put_tokens.ensures stretch_is)

@@ -3,7 +3,7 @@ use Rattle.std.proofs.lemmas.Bool.{ne_eqb}
 use Rattle.std.specs.Prelude.{decimal}
 use Rattle.rc_report.specs.Printed.{joined, thread_name}
 use Rattle.rc_report.specs.Text.{Puts}
-use Rattle.rc_report.proofs.Texts.{puts_along, puts_both}
+use Rattle.rc_report.proofs.Texts.{puts_along, puts_after}
 use Rattle.rc_report.proofs.summary.put_stretch.Goals as goal
 
 pub returns : goal.returns
@@ -20,4 +20,4 @@ returns c =
     puts_along a e (head ++ tail) _ r
     (ap (λ t. codes "longest stretch: " ++ t) (append_assoc (decimal n) (codes " events of ") tail)
     ∙ ap (λ b. if b then codes "longest stretch: none\n" else joined (codes "longest stretch: " ∷ decimal n ∷ codes " events of " ∷ name ∷ codes "\n" ∷ [])) (sym (ne_eqb n 0 c.if-stretch-eq0.false)))
-    (puts_both a b e head tail r c.in_ok-put_counted.ensures tail_is)
+    (puts_after a b e head tail r c.in_ok-put_counted.ensures tail_is)

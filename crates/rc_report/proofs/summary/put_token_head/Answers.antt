@@ -2,7 +2,7 @@ use Rattle.std.proofs.Common.{◌≡◌, ◌∙◌, ◌++◌, [], ap, append_ass
 use Rattle.std.specs.Prelude.{decimal}
 use Rattle.rc_report.specs.Summaries.{is_completion_of, kind_name}
 use Rattle.rc_report.specs.Text.{Puts}
-use Rattle.rc_report.proofs.Texts.{puts_along, puts_both}
+use Rattle.rc_report.proofs.Texts.{puts_along, puts_after}
 use Rattle.rc_report.proofs.summary.put_token_head.Goals as goal
 
 pub returns : goal.returns
@@ -19,4 +19,4 @@ returns c =
     let kind_is : d.items ≡ b.items ++ kind = c.in_ok-put_piece.ensures ∙ ap (λ t. b.items ++ t) (c.as_bytes.ensures.value ∙ c.kind_name.ensures) in
     let count_is : Puts d e count r = puts_along d e _ _ r (ap (λ n. codes ": " ++ (decimal n ++ [])) c.completions_of-count.ensures) c.put_counted-2.ensures in
     puts_along a e (head ++ (kind ++ count)) _ r (ap (λ t. codes "completions of " ++ t) (append_assoc (decimal token.user_data) (codes ", ") (kind ++ count)))
-    (puts_both a b e head (kind ++ count) r c.in_ok-put_counted.ensures (puts_both b d e kind count r kind_is count_is))
+    (puts_after a b e head (kind ++ count) r c.in_ok-put_counted.ensures (puts_after b d e kind count r kind_is count_is))

@@ -1,16 +1,14 @@
-use Rattle.std.proofs.Common.{◌∙◌, sym}
+use Rattle.std.proofs.Common.{sym}
 use Rattle.rc_report.proofs.Lines.{event_lines-cut, event_lines-more}
-use Rattle.rc_report.proofs.Pieces.{appends_along, appends_both, began_next, wrote_err}
+use Rattle.rc_report.proofs.Pieces.{next_stops, wrote_along, wrote_both}
 use Rattle.rc_report.proofs.trace.write_events.Goals as goal
 
-pub returns-in_err-write_event_line-clause-text : goal.returns-in_err-write_event_line-clause-text
-returns-in_err-write_event_line-clause-text g c =
-    wrote_err _ _ _ c.from_residual.result c.from_residual.ensures.0
-    (began_next _ _ _ _ _ _ _ (event_lines-cut c.args.program.now c.args.events.now c.loop-index.index _ c.loop-index-test.true) c.loop-index.invariant.written c.in_err-write_event_line.ensures.text)
+pub returns-in_err-write_event_line : goal.returns-in_err-write_event_line
+returns-in_err-write_event_line g c =
+    next_stops _ _ _ _ _ _ _ _ _ c.from_residual.result (event_lines-cut c.args.program.now c.args.events.now c.loop-index.index _ c.loop-index-test.true)
+    c.loop-index.invariant c.from_residual.ensures.1 c.in_err-write_event_line.ensures
 
 pub loop-index-preserved : goal.loop-index-preserved
-loop-index-preserved g c = record {
-  written = appends_along _ _ _ _ (sym (event_lines-more c.args.program.now c.args.events.now c.loop-index.index _ c.loop-index-test.true))
-      (appends_both _ _ _ _ _ c.loop-index.invariant.written c.in_ok-write_event_line.ensures.text);
-  no_failure = c.in_ok-write_event_line.ensures.failures ∙ c.loop-index.invariant.no_failure;
-}
+loop-index-preserved g c =
+    wrote_along _ _ _ _ (sym (event_lines-more c.args.program.now c.args.events.now c.loop-index.index _ c.loop-index-test.true))
+    (wrote_both _ _ _ _ _ c.loop-index.invariant c.in_ok-write_event_line.ensures)

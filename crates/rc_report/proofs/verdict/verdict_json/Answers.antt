@@ -1,15 +1,16 @@
-use Rattle.std.proofs.Common.{◌≡◌, ◌++◌, ◌∙◌, ap, codes, false}
-use Rattle.serde_json.specs.View.{view}
-use Rattle.serde_json.specs.Written.{compact_text, has_float}
-use Rattle.rc_report.specs.Verdicts.{finding, finding_json}
-use Rattle.rc_report.proofs.Objects.{object_has_no_float, text_of_object}
-use Rattle.rc_report.proofs.Pieces.{wrote_along}
+use Rattle.std.proofs.Common.{rules, ◌≡◌, ◌++◌, ◌∙◌, [], ap, refl}
+use Rattle.rc_report.specs.Verdicts.{verdict_json}
+use Rattle.rc_report.proofs.Pieces.{began_none, grows_or_writes, memory_stops, writes_along}
 use Rattle.rc_report.proofs.verdict.verdict_json.Goals as goal
 
-pub returns-clause-text : goal.returns-clause-text
-returns-clause-text g c =
-    let verdict = c.args.verdict.now in
-    let no_float : has_float (view c.in_ok-object_of.field-0) ≡ false = ap (λ d. has_float d) c.in_ok-object_of.ensures ∙ object_has_no_float verdict in
-    let text : c.as_bytes.result.now ≡ finding_json (finding verdict) =
-    c.as_bytes.ensures.value ∙ c.in_ok-text.ensures.text no_float ∙ ap (λ d. compact_text d) c.in_ok-object_of.ensures ∙ text_of_object verdict in
-    wrote_along _ _ _ _ _ (ap (λ t. t ++ codes "\n") text) c.write_pieces.ensures.text
+pub returns-in_err-put_verdict_json : goal.returns-in_err-put_verdict_json
+returns-in_err-put_verdict_json g c = memory_stops _ _ _ c.from_residual.result c.from_residual.ensures.1 (began_none _ _ _ refl)
+
+pub returns : goal.returns
+returns g c =
+    let a = g.W.Sink.state c.args.writer.now in
+    let b = g.W.Sink.state c.write_piece.new.writer in
+    let json = verdict_json c.args.verdict.now in
+    let empty : c.new-text.result.items ≡ [] = search rules in
+    let text : c.deref.result.now ≡ json = c.deref.ensures.value ∙ c.in_ok-put_verdict_json.ensures ∙ ap (λ t. t ++ json) empty in
+    grows_or_writes a b json c.write_piece.result (writes_along _ a b _ json c.write_piece.result text c.write_piece.ensures)

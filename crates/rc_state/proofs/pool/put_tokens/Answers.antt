@@ -1,7 +1,7 @@
 use Rattle.std.proofs.Common.{◌<◌, ◌∙◌, ap, arith, length}
 use Rattle.rc_lang.specs.Program.{Program}
 use Rattle.rc_state.specs.State.{token_in_pool}
-use Rattle.rc_state.proofs.Texts.{puts_next}
+use Rattle.rc_report.proofs.Texts.{puts_next}
 use Rattle.rc_state.proofs.pool.put_tokens.Goals as goal
 
 pub loop-token-preserved : goal.loop-token-preserved

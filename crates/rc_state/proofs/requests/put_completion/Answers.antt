@@ -1,7 +1,7 @@
 use Rattle.std.proofs.Common.{rules, FitsSigned, ap, w32}
 use Rattle.std.proofs.lemmas.Int.{to_z-of_z}
 use Rattle.rc_state.specs.State.{result_text}
-use Rattle.rc_state.proofs.Texts.{puts_after, puts_along}
+use Rattle.rc_report.proofs.Texts.{puts_after, puts_along}
 use Rattle.rc_state.proofs.requests.put_completion.Goals as goal
 
 pub returns : goal.returns

@@ -1,5 +1,5 @@
 use Rattle.rc_state.specs.State.{completion_text}
-use Rattle.rc_state.proofs.Texts.{puts_next}
+use Rattle.rc_report.proofs.Texts.{puts_next}
 use Rattle.rc_state.proofs.requests.put_completions.Goals as goal
 
 pub loop-completion-preserved : goal.loop-completion-preserved

@@ -1,6 +1,6 @@
 use Rattle.std.proofs.Common.{ap, sym}
 use Rattle.rc_state.specs.State.{open_entry_text}
-use Rattle.rc_state.proofs.Texts.{puts_after, puts_along}
+use Rattle.rc_report.proofs.Texts.{puts_after, puts_along}
 use Rattle.rc_state.proofs.requests.put_slot.Goals as goal
 
 pub returns-in_ok-put_kind-in-Prepared : goal.returns-in_ok-put_kind-in-Prepared

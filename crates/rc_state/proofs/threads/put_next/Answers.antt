@@ -1,6 +1,6 @@
 use Rattle.std.proofs.Common.{◌∙◌, ap}
 use Rattle.rc_state.specs.State.{holder_text, thread_next_text}
-use Rattle.rc_state.proofs.Texts.{puts_after, puts_along}
+use Rattle.rc_report.proofs.Texts.{puts_after, puts_along}
 use Rattle.rc_state.proofs.threads.put_next.Goals as goal
 
 pub returns-in_ok-put_line-in-TakenLock : goal.returns-in_ok-put_line-in-TakenLock

@@ -1,0 +1,12 @@
+use Rattle.std.proofs.Common.{refl}
+use Rattle.rc_state.specs.Engine.{stepped_with_state}
+use Rattle.rc_main.specs.Answers.{SaysSteps}
+use Rattle.rc_main.proofs.Commands.{steps_fault}
+use Rattle.rc_main.proofs.command.shown_at_end.Goals as goal
+
+pub returns-in_err-end : goal.returns-in_err-end
+returns-in_err-end g c =
+    steps_fault g.S.Sink.state c.args.sink.now c.show_bytes.new.writer (SaysSteps stepped_with_state c.args.text.now c.args.schedule.now) (stepped_with_state c.args.text.now c.args.schedule.now) _ c.from_residual.result c.from_residual.ensures.1 c.in_err-end.ensures.0
+
+pub returns : goal.returns
+returns g c = (stepped_with_state c.args.text.now c.args.schedule.now, (c.in_ok-end.end, c.in_ok-end.ensures.1, refl, c.status.ensures.status), c.in_ok-end.ensures.0)

@@ -1,0 +1,24 @@
+use Rattle.std.proofs.Common.{◌≡◌, refl, subst}
+use Rattle.std.specs.Prelude.{IsErrAnd}
+use Rattle.rc_report.specs.declared.engine_fault.EngineFault.{EngineFault}
+use Rattle.rc_report.specs.Checks.{TellsVerdict}
+use Rattle.rc_report.specs.Streams.{Answers}
+use Rattle.rc_report.proofs.Answered.{answers_no_read, answers_nothing, source_failed, source_read}
+use Rattle.rc_report.proofs.check_engine.check_engine.Goals as goal
+
+pub returns-in_err-text-clause-answer : goal.returns-in_err-text-clause-answer
+returns-in_err-text-clause-answer g c =
+    let writer = c.args.writer.now in
+    let r = c.from_residual.result in
+    source_failed g.W.Sink.state writer writer (λ bytes. Answers (TellsVerdict bytes c.args.json) g.W.Sink.state writer writer r) (g.R.Source.state c.args.reader.now) _ r
+    c.from_residual.ensures.1 c.in_err-text.ensures.text refl
+    (λ out bytes. answers_nothing (TellsVerdict bytes c.args.json) g.W.Sink.state writer writer r (subst (λ (z : EngineFault). IsErrAnd r (λ y. y ≡ z)) out c.from_residual.ensures.1) refl)
+
+pub returns-clause-answer : goal.returns-clause-answer
+returns-clause-answer g c =
+    let writer = c.args.writer.now in
+    let after = c.check_bytes.new.writer in
+    let r = c.check_bytes.result in
+    let answered = rw c.deref.ensures.value at c.check_bytes.ensures in
+    source_read g.W.Sink.state writer after (λ bytes. Answers (TellsVerdict bytes c.args.json) g.W.Sink.state writer after r) (g.R.Source.state c.args.reader.now) (g.R.Source.state c.read_text.new.reader) c.in_ok-text.text r
+    c.in_ok-text.ensures.text (answers_no_read (TellsVerdict c.in_ok-text.text.items c.args.json) g.W.Sink.state writer after r answered) answered
