@@ -19,7 +19,7 @@ use Rattle.rc_rules.specs.Labels.{Label, Dead, Live, WeakerMode, WeakerThanEach,
 use Rattle.rc_rules.specs.Premises.{Premise}
 use Rattle.rc_rules.specs.Rules.{op_effect, put_effect, goes, case_at, with_peeked, entered, top}
 use Rattle.rc_rules.specs.Sides.{on, brings, turns, write_of, forgets}
-use Rattle.rc_rules.specs.States.{State, label_of, program_of, is_locked, Gives, Becomes, OnBoth, AgreeOnLock, IsStart, IsUnlocked, IsLocked, IsSmall}
+use Rattle.rc_rules.specs.States.{State, label_of, program_of, is_locked, Gives, Becomes, OnBoth, IsStart, IsUnlocked, IsLocked}
 use Rattle.rc_rules.specs.Labellings.{start_of}
 use Rattle.rc_core_tests.specs.RulesExample.{share, share_thread, IsAtMost, IsOfShare}
 use Rattle.rc_core_tests.proofs.Plain.{distinct, none, plain_items}
@@ -134,10 +134,6 @@ locked_lowered = record { dead = tt; lower = go }
     go a b Unlocked Unlocked w v h = absurd h
     go a b Unlocked (Locked j) w v h = absurd v
     go a b (Locked i) n w v h = tt
-
-goes_by : (Q : Label → Type 0) (E : (Part → ℕ) → Mode → Label) → Q Dead → ((a : Part → ℕ) (m : Mode) → Q (Live a m) → Q (E a m)) → (s : Label) → Q s → Q (goes s E)
-goes_by Q E d f Dead h = d
-goes_by Q E d f (Live a m) h = f a m h
 
 -- a property of each label before a line, and what the line makes of it after
 became : (R : Label → Type 0) → IsLowered R → (old new : State) (bs : Bool → List Label) → Becomes old new bs → ((z : Bool) → AreAll R (bs z)) → OnBoth R new
@@ -288,13 +284,6 @@ put_at_few n items (Live a m) h = λ p. omega (arith, h p)
 pub put_few : {X : Type 0} (old new : State) (r : Result X Cause) (ps : List (ℕ × Premise)) (items : Items) (n : ℕ) → Gives old new r ps (λ z. goes (label_of old z) (λ b m. put_effect b m items) ∷ []) → OnBoth (IsAtMost n) old → OnBoth (IsAtMost n) new
 put_few old new r ps items n g h = gave (IsAtMost n) (few_lowered n) old new r ps _ g (λ z. (put_at_few n items (label_of old z) (h z), tt)) h
 
-few_small : (n : ℕ) (s : Label) → n ≤ 10000 → IsAtMost n s → IsSmall s
-few_small n Dead l h = tt
-few_small n (Live a m) l h = λ p. omega (arith, l, h p)
-
-pub small_both : (n : ℕ) (s : State) → n ≤ 10000 → OnBoth (IsAtMost n) s → OnBoth IsSmall s
-small_both n s l h z = few_small n (label_of s z) l (h z)
-
 -- ---- starts
 
 share_few : (p : Part) → bag_of share_thread.items p ≤ 100
@@ -346,12 +335,3 @@ pub one_thread : (xs ys : List ThreadPart) (t : ThreadPart) → ys ≡ [] → xs
 one_thread xs ys t e f g = rw (f, e) (ap (λ x. x ∷ []) g)
 
 -- ---- two states
-
-lock_agree : (s t : Label) → IsLocked s → IsLocked t → AgreeOnLock s t
-lock_agree Dead t h g = tt
-lock_agree (Live a Unlocked) t h g = absurd h
-lock_agree (Live a (Locked i)) Dead h g = tt
-lock_agree (Live a (Locked i)) (Live b n) h g = g
-
-pub locked_agree : (x y : State) → OnBoth IsLocked x → OnBoth IsLocked y → (u v : Bool) → AgreeOnLock (label_of x u) (label_of y v)
-locked_agree x y h g u v = lock_agree (label_of x u) (label_of y v) (h u) (g v)

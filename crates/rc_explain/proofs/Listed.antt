@@ -96,16 +96,6 @@ listed_more page t k run after s old mid new l here w e = record {
       ∙ ap (λ r. old ++ (told page None l.shown ++ next_text page r s)) l.after ∙ ap (λ u. old ++ u) (sym (told-more page None l.shown s));
 }
 
--- no line yet
-pub listed_none : (page : Page) (t : Thread) (old : List ℕ) → IsListed page t 0 None old old
-listed_none page t old = record {
-  shown = [];
-  are = λ k s h. absurd (cc h);
-  many = refl;
-  after = refl;
-  written = sym (append-[] old);
-}
-
 run_told : (page : Page) (t : Thread) (n : ℕ) (run : Option Run) (old mid : List ℕ) (l : IsListed page t n run old mid) → told page None l.shown ++ run_text run ≡ lines_text page None l.shown
 run_told page t n run old mid l = ap (λ r. told page None l.shown ++ run_text r) l.after ∙ sym (lines-told page None l.shown)
 

@@ -1,6 +1,6 @@
 -- Texts of items by their places.
-use Rattle.std.proofs.Common.{◌≡◌, ℕ, ◌+◌, ◌<◌, ◌≤◌, drop, take, List, [], ◌∷◌, ◌++◌, length, refl, sym, ap, ◌∙◌, append_assoc, add-zero, get_or, arith}
-use Rattle.std.proofs.lemmas.List.{drop_more, take-append-drop, length-take-le, take_more}
+use Rattle.std.proofs.Common.{◌≡◌, ℕ, ◌+◌, ◌<◌, ◌≤◌, take, List, [], ◌∷◌, ◌++◌, length, refl, sym, ap, ◌∙◌, append_assoc, add-zero, get_or, arith}
+use Rattle.std.proofs.lemmas.List.{length-take-le, take_more}
 use Rattle.rc_report.specs.Summaries.{placed}
 use Rattle.rc_report.proofs.Pieces.{append-[]}
 
@@ -12,17 +12,6 @@ placed-append f n (x ∷ xs) ys =
     ∙ sym (append_assoc (f n x) (placed f (n + 1) xs) (placed f (n + 1 + length xs) ys))
     ∙ ap (λ m. (f n x ++ placed f (n + 1) xs) ++ placed f m ys) (sym k)
 
--- the texts so far, the next one, and the others
-pub placed-cut : {A : Type 0} (f : ℕ → A → List ℕ) (xs : List A) (i : ℕ) (d : A) → i < length xs →
-    placed f 0 xs ≡ placed f 0 (take i xs) ++ (f i (get_or xs i d) ++ placed f (i + 1) (drop (i + 1) xs))
-placed-cut f xs i d h =
-    let below : i ≤ length xs = omega arith in
-    let long : 0 + length (take i xs) ≡ i = omega (arith, length-take-le i xs below) in
-    let e : drop i xs ≡ get_or xs i d ∷ drop (i + 1) xs = drop_more xs i d h in
-    ap (λ t. placed f 0 t) (sym (take-append-drop i xs)) ∙ placed-append f 0 (take i xs) (drop i xs)
-    ∙ ap (λ m. placed f 0 (take i xs) ++ placed f m (drop i xs)) long
-    ∙ ap (λ t. placed f 0 (take i xs) ++ placed f i t) e
-
 -- one text more
 pub placed-more : {A : Type 0} (f : ℕ → A → List ℕ) (xs : List A) (i : ℕ) (d : A) → i < length xs →
     placed f 0 (take (i + 1) xs) ≡ placed f 0 (take i xs) ++ f i (get_or xs i d)
@@ -32,12 +21,6 @@ placed-more f xs i d h =
     ap (λ t. placed f 0 t) (take_more xs i d h) ∙ placed-append f 0 (take i xs) (get_or xs i d ∷ [])
     ∙ ap (λ t. placed f 0 (take i xs) ++ t) (append-[] (f (0 + length (take i xs)) (get_or xs i d)))
     ∙ ap (λ m. placed f 0 (take i xs) ++ f m (get_or xs i d)) long
-
--- the same of texts that tell the places alone
-pub numbered-cut : {A : Type 0} (f : ℕ → List ℕ) (xs : List A) (i : ℕ) → i < length xs →
-    placed (λ j x. f j) 0 xs ≡ placed (λ j x. f j) 0 (take i xs) ++ (f i ++ placed (λ j x. f j) (i + 1) (drop (i + 1) xs))
-numbered-cut f [] i h = absurd (omega arith)
-numbered-cut f (x ∷ xs) i h = placed-cut (λ j y. f j) (x ∷ xs) i x h
 
 pub numbered-more : {A : Type 0} (f : ℕ → List ℕ) (xs : List A) (i : ℕ) → i < length xs →
     placed (λ j x. f j) 0 (take (i + 1) xs) ≡ placed (λ j x. f j) 0 (take i xs) ++ f i
