@@ -1,43 +1,20 @@
-//! A text is checked, and its verdict is written with what explains it.
+//! A text is checked, and its verdict is told with what explains it.
 
 ghost use Rattle.std.specs.Prelude.{false, true};
 ghost use Rattle.rc_explain.specs.Explains.{Explains, Tells};
 ghost use Rattle.rc_explain.specs.Judged as spec;
-ghost use Rattle.rc_report.specs.Streams.{Answers, CanWrite};
 ghost use Rattle.rc_report.specs.Text.{PutsAnswer, PutsSome};
 
 use crate::explanation::explanation;
 use crate::judged::verdict_of;
 use crate::object::object_text;
 use rc_admit::admitted::{Judged, judge};
-use rc_report::engine_fault::EngineFault;
-use rc_report::streams::Sink;
 use rc_report::text::put_piece;
 use rc_report::verdict::{Verdict, put_verdict};
-use rc_report::writing::write_piece;
 use std::alloc::{AllocError, Global};
 
-/// Writes the verdict on a text with what explains it, as JSON or as text: then the line of the verdict comes first, as
-/// it does without an explanation.
-///
-/// Answers `Write` where a write failed: then a beginning is written; and `OutOfMemory` where a growth was refused: then
-/// nothing is. Nothing is tried again (`write(2)`).
-pub fn explain_bytes<W: Sink>(
-    alloc: Global,
-    text: &[u8],
-    json: bool,
-    writer: &mut W,
-) -> Result<Verdict, EngineFault>
-    requires { CanWrite (W.state writer.old) }
-    ensures { Answers (Explains text.now json) W.state writer.old writer.new result }
-{
-    let mut answer = Vec::new(alloc);
-    let verdict = put_explained(&mut answer, alloc, text, json)?;
-    write_piece(writer, &answer)?;
-    Ok(verdict)
-}
-
-/// Adds the verdict on the text of a program, with what explains it, as JSON or as text.
+/// Adds the verdict on the text of a program, with what explains it, as JSON or as text: then the line of the verdict comes
+/// first, as it does without an explanation. Answers an error only where memory ran out.
 pub fn put_explained(
     text: &mut Vec<u8>,
     alloc: Global,
