@@ -1,0 +1,6 @@
+pub mod Moved
+pub mod Moves
+pub mod Reasons
+pub mod Repeats
+pub mod Spelling
+pub mod Written

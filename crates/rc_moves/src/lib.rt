@@ -1,0 +1,9 @@
+//! Moves: schedules that people can write. A move is an item of a schedule, so many steps of a thread, or its steps up
+//! to a line.
+#![tactic(auto)]
+
+pub mod moves;
+pub mod spelling;
+pub mod steps;
+pub mod told;
+pub mod why;
