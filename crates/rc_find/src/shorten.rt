@@ -1,0 +1,196 @@
+//! A run into a fault is made shorter.
+
+use crate::replay::{Made, replay};
+use rc_lang::program::Program;
+use rc_world::event::Item;
+use rc_world::fault::Fault;
+use std::alloc::{AllocError, Global};
+use std::mem::swap;
+
+/// How often each way to shorten a run is tried again at most.
+const MOST_TURNS: u32 = 8;
+
+/// A run into a fault, while it is made shorter.
+#[derive(Drop)]
+struct Shortening<'a> {
+    alloc: Global,
+    program: &'a Program,
+    fault: Fault,
+    // The shortest run so far.
+    run: Vec<Made>,
+    // The items that are tried, and the run that they make.
+    tried: Vec<Item>,
+    made: Vec<Made>,
+}
+
+/// Items whose run comes to the same fault, in fewer steps where that was found.
+pub fn shorten(
+    alloc: Global,
+    program: &Program,
+    fault: Fault,
+    items: Vec<Item>,
+) -> Result<Vec<Item>, AllocError> {
+    let mut run = Vec::new(alloc);
+    replay(alloc, program, &items, None, &mut run)?;
+    let mut shortening = Shortening {
+        alloc,
+        program,
+        fault,
+        run,
+        tried: items,
+        made: Vec::new(alloc),
+    };
+    shortening.cut()?;
+    shortening.make_plain()?;
+    shortening.draw_together()?;
+    shortening.try_run()?;
+    Ok(shortening.tried)
+}
+
+impl<'a> Shortening<'a> {
+    /// Takes out chunks, and steps of single threads, until nothing more can go.
+    fn cut(&mut self) -> Result<(), AllocError> {
+        for _turn in 0..MOST_TURNS {
+            let before = self.run.len();
+            self.cut_chunks()?;
+            self.cut_threads()?;
+            if self.run.len() == before {
+                break;
+            }
+        }
+        Ok(())
+    }
+
+    /// Takes out chunks, from halves to single steps, the last first.
+    fn cut_chunks(&mut self) -> Result<(), AllocError> {
+        let all = self.run.len();
+        for halvings in 1..usize::BITS {
+            let size = all >> halvings;
+            if size == 0 {
+                break;
+            }
+            for chunk in (0..all.div_ceil(size)).rev() {
+                let start = chunk.saturating_mul(size);
+                self.leave_out(start, start.saturating_add(size), None)?;
+            }
+        }
+        Ok(())
+    }
+
+    /// Takes out steps of one thread, the last first: all from a place on, or a round of a loop.
+    fn cut_threads(&mut self) -> Result<(), AllocError> {
+        for start in (0..self.run.len()).rev() {
+            if let Some(made) = self.run.get(start).copied() {
+                let thread = thread_of(made.item);
+                self.leave_out(start, usize::MAX, thread)?;
+                let end = self.end_of_round(start, made);
+                self.leave_out(start, end, thread)?;
+            }
+        }
+        Ok(())
+    }
+
+    /// The next place at which the thread of this step, which is made at the start, stands at the same line again; the
+    /// start itself where there is none.
+    fn end_of_round(&self, start: usize, first: Made) -> usize {
+        let thread = thread_of(first.item);
+        for (place, later) in self.run.iter().enumerate() {
+            if place > start && later.line == first.line && thread_of(later.item) == thread {
+                return place;
+            }
+        }
+        start
+    }
+
+    /// Tries the run without the steps from one place to the one before another; without those of one thread alone, where
+    /// it is given.
+    fn leave_out(
+        &mut self,
+        start: usize,
+        end: usize,
+        thread: Option<u32>,
+    ) -> Result<(), AllocError> {
+        self.tried.clear();
+        for (place, made) in self.run.iter().enumerate() {
+            let is_within = start <= place && place < end;
+            let is_meant = thread.is_none() || thread_of(made.item) == thread;
+            if !(is_within && is_meant) {
+                self.tried.push(made.item)?;
+            }
+        }
+        if self.tried.len() < self.run.len() {
+            self.keep(None)?;
+        }
+        Ok(())
+    }
+
+    /// Tries items in their plain form.
+    fn make_plain(&mut self) -> Result<(), AllocError> {
+        for place in 0..self.run.len() {
+            self.try_run()?;
+            self.keep(Some(place))?;
+        }
+        Ok(())
+    }
+
+    /// Draws steps of one thread together.
+    fn draw_together(&mut self) -> Result<(), AllocError> {
+        for place in 0..self.run.len() {
+            if let Some((later, item)) = self.next_step(place) {
+                self.draw(place, later, item)?;
+            }
+        }
+        Ok(())
+    }
+
+    /// The next step of the thread that moves at this place: its place, which isn't the next one, and its item.
+    fn next_step(&self, place: usize) -> Option<(usize, Item)> {
+        let thread = thread_of(self.run.get(place)?.item)?;
+        for (later, made) in self.run.iter().enumerate() {
+            if later > place && thread_of(made.item) == Some(thread) {
+                return (later - place > 1).then_some((later, made.item));
+            }
+        }
+        None
+    }
+
+    /// Tries the run with a later item right after a place.
+    fn draw(&mut self, place: usize, later: usize, item: Item) -> Result<(), AllocError> {
+        self.tried.clear();
+        for (index, made) in self.run.iter().enumerate() {
+            if index != later {
+                self.tried.push(made.item)?;
+            }
+            if index == place {
+                self.tried.push(item)?;
+            }
+        }
+        self.keep(None)
+    }
+
+    /// Makes the items of the run those that are tried.
+    fn try_run(&mut self) -> Result<(), AllocError> {
+        self.tried.clear();
+        for made in &self.run {
+            self.tried.push(made.item)?;
+        }
+        Ok(())
+    }
+
+    /// Keeps the run of what is tried, if it comes to the fault and isn't longer.
+    fn keep(&mut self, plain: Option<usize>) -> Result<(), AllocError> {
+        let fault = replay(self.alloc, self.program, &self.tried, plain, &mut self.made)?;
+        if fault == Some(self.fault) && self.made.len() <= self.run.len() {
+            swap(&mut self.run, &mut self.made);
+        }
+        Ok(())
+    }
+}
+
+/// The thread whose step an item names; none where it is the kernel's.
+fn thread_of(item: Item) -> Option<u32> {
+    match item {
+        Item::Thread { thread, .. } => Some(thread),
+        Item::Kernel { .. } => None,
+    }
+}
