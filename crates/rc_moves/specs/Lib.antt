@@ -3,4 +3,5 @@ pub mod Moves
 pub mod Reasons
 pub mod Repeats
 pub mod Spelling
+pub mod Stepping
 pub mod Written

@@ -2,9 +2,13 @@
 use Rattle.std.specs.Prelude.{ℕ, ◌≡◌, List, Result, Ok, Err}
 use Rattle.rc_lang.specs.Program.{Program}
 use Rattle.rc_read.specs.Causes.{number_of_cause}
+use Rattle.rc_read.specs.declared.fault.ReadCause.{ReadCause}
+use Rattle.rc_read.specs.declared.fault.ReadFault.TheVariants as fault
+use Rattle.rc_report.specs.declared.step_engine.StepEnd.{StepEnd}
+use Rattle.rc_report.specs.declared.step_engine.StepEnd.TheVariants.{Unreadable}
 use Rattle.rc_report.specs.declared.step_engine.Unread.{Unread}
 use Rattle.rc_report.specs.declared.step_engine.Unread.TheVariants.{Text, Schedule}
-use Rattle.rc_report.specs.Engine.{items_text}
+use Rattle.rc_report.specs.Engine.{EndsItems, items_text}
 use Rattle.rc_report.specs.Verdicts.{unreadable_text}
 use Rattle.rc_world.specs.declared.event.Item.{Item}
 use Rattle.rc_world.specs.Trace.{Trace}
@@ -45,3 +49,8 @@ moved_items program text = spelled_or program (moves_of program text)
 abbrev pub moved_text : (Program → Trace → List ℕ) → Result Program (ℕ × ℕ) → List ℕ → List ℕ
 moved_text traced (Ok program) moves = items_text traced program (moved_items program moves)
 moved_text traced (Err (line, number)) moves = unreadable_text line number
+
+-- The answer says which text was written.
+abbrev pub EndsMoves : Result Program (ℕ × ℕ) → List ℕ → StepEnd → Type 0
+EndsMoves (Ok program) moves end = EndsItems program (moved_items program moves) end
+EndsMoves (Err (line, number)) moves end = (cause : ReadCause) × (end ≡ Unreadable (fault.Text line cause)) × (number_of_cause cause ≡ number)

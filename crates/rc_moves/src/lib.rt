@@ -4,6 +4,7 @@
 
 pub mod moves;
 pub mod spelling;
+pub mod stepping;
 pub mod steps;
 pub mod told;
 pub mod why;
