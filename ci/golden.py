@@ -1,11 +1,12 @@
 #!/usr/bin/env python3
-"""Compares what a built program prints for the texts of examples/causes, explained and c with their records.
+"""Compares what a built program prints for the texts of examples/causes, explained, gallery and c with their records.
 
 usage: ci/golden.py PROGRAM [--write]
 
 Beside each text NAME.rc stands its record NAME.out. It has blocks: a line `$ WORDS`, what the program prints for these
 words with the text as its input, and a line `status S`. Most have `check --explain`, as lines and as JSON; some have
-`c` or `step --state`. An object stands on several lines there: a comma begins one, but within what is said of a line.
+`c` or `step --state`. Each fault of examples/causes, and each broken.rc of the gallery, has `find` with three seeds. An
+object stands on several lines there: a comma begins one, but within what is said of a line.
 
 Each file NAME.c of examples/c is what `PROGRAM c` prints for NAME.rc there, or for examples/NAME.rc.
 
@@ -27,6 +28,7 @@ from pathlib import Path
 TOP = Path(__file__).resolve().parent.parent
 FOLDERS = [TOP / "examples" / "causes", TOP / "examples" / "explained"]
 HINTS = TOP / "examples" / "explained" / "hints"
+TWINS = "examples/gallery/*/broken"
 C_PROGRAMS = TOP / "examples" / "c"
 
 # What each record has.
@@ -100,13 +102,15 @@ def c_programs(program):
 def records(program):
     """Each record: its file, what stands there, and what should."""
     yield from c_programs(program)
-    for path in sorted(path for folder in FOLDERS for path in folder.glob("*.rc")):
+    texts = sorted(path for folder in FOLDERS for path in folder.glob("*.rc"))
+    for path in [*texts, *sorted(TOP.glob(f"{TWINS}.rc"))]:
         file = path.with_suffix(".out")
         record = text_of(file) if file.is_file() else ""
         yield file, record, record_of(program, path, record)
     record = text_of(HINTS)
     yield HINTS, record, hints_of(program, record)
-    for file in sorted(file for folder in FOLDERS for file in folder.glob("*.out")):
+    found = [file for folder in FOLDERS for file in folder.glob("*.out")]
+    for file in sorted([*found, *TOP.glob(f"{TWINS}.out")]):
         if not file.with_suffix(".rc").is_file():
             yield file, text_of(file), ""
 

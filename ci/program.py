@@ -35,6 +35,7 @@ REFUSED = HEAD + b"r = submit\n}\n"
 UNREADABLE = HEAD + b"x = y z\n}\n"
 ENDLESS = HEAD + b"loop keeps {\nx = 1\n}\n}\n"
 FOREVER = b"ringcheck 1\nring 1\n" + b"".join(b"thread t%d holds {\nloop keeps {\nx = 1\n}\n}\n" % n for n in range(2))
+KEEPS = (TOP / "examples/keeps.rc").read_bytes()
 SENDING = (TOP / "examples/handoff.rc").read_bytes()
 SENDING_IN_C = (TOP / "examples/c/handoff.c").read_text()
 FILES = {
@@ -56,6 +57,7 @@ BESIDE = "'-' stands beside other files (see 'ringcheck --help')"
 EXPLAINS_ONE = "'--explain' takes one file (see 'ringcheck --help')"
 UNKNOWN = "unexpected argument '--no' found (see 'ringcheck --help')"
 NO_LIMIT = "the following required arguments were not provided: --limit <N> (see 'ringcheck --help')"
+NO_WALKS = "invalid value '0' for '--walks <N>': 0 is not in 1..=1000000 (see 'ringcheck --help')"
 NO_COMMAND = "unrecognized subcommand 'verify' (see 'ringcheck --help')"
 NO_OUTPUT = "the output can't be written..."
 NO_INPUT = "the input can't be read..."
@@ -67,6 +69,12 @@ ONE_COUNTED = "thread t0: 1 events\nlongest stretch: 1 events of t0\nended after
 FIVE_COUNTED = "thread t0: 5 events\nlongest stretch: 5 events of t0\nlimit after 5 events\n"
 REFUSAL = "refused line 4 V1 Unlocked\n"
 FAULT = "unreadable line 4 P3 BadLine\n"
+FOUND = "found by walk 1: --moves \n"
+NO_LOCK = "fault F9 NoLock t0 line 4\n"
+FOUND_JSON = '{"cause":"Unlocked","code":1,"line":4,"moves":"","trace":"fault F9 NoLock t0 line 4\\n","verdict":"refused","walk":1}\n'
+KEPT = "refused line 5 V13 LoopEntry\n"
+NOT_FOUND = KEPT + "no fault in 7 walks: the text may say too little, or the walks were too few\n"
+NOT_FOUND_JSON = '{"cause":"LoopEntry","code":13,"line":5,"moves":null,"trace":null,"verdict":"refused","walk":null}\n'
 RUN = ("run", "--seed", "1", "--limit", "5")
 
 # Words, the text on standard input, and what follows: the exit status, standard output, and what standard error tells.
@@ -97,6 +105,16 @@ ROWS = [
     (("step", "--state"), REFUSED, 1, "fault F9 NoLock t0 line 4\n...", ""),
     (("step", "--state"), UNREADABLE, 2, FAULT, ""),
     (("step", "--state", "--schedule", "t0,t0"), GOOD, 3, "1 t0 4 set 1\nitem 2 not enabled\n...", ""),
+    (("find",), GOOD, 0, ACCEPTED, ""),
+    (("find",), REFUSED, 1, REFUSAL + FOUND + NO_LOCK, ""),
+    (("find", "--seed", "9", "--walks", "1"), REFUSED, 1, REFUSAL + FOUND + NO_LOCK, ""),
+    (("find", "--walks", "7"), KEEPS, 1, NOT_FOUND, ""),
+    (("find",), UNREADABLE, 2, FAULT, ""),
+    (("find", "--json"), GOOD, 0, '{"verdict":"accepted"}\n', ""),
+    (("find", "--json"), REFUSED, 1, FOUND_JSON, ""),
+    (("find", "--json", "--walks", "7"), KEEPS, 1, NOT_FOUND_JSON, ""),
+    (("find", "--json"), UNREADABLE, 2, '{"cause":"BadLine","code":3,"line":4,"verdict":"unreadable"}\n', ""),
+    (("find", "--walks", "0"), GOOD, 3, "", NO_WALKS),
     (RUN, GOOD, 0, ONE_EVENT, ""),
     (RUN, REFUSED, 1, REFUSAL, ""),
     (RUN, UNREADABLE, 2, FAULT, ""),

@@ -19,15 +19,17 @@ use Rattle.rc_report.specs.Summaries.{summary_text}
 use Rattle.rc_report.specs.Traces.{trace_text}
 use Rattle.rc_report.specs.Verdicts.{verdict_text}
 use Rattle.rc_explain.specs.Explains.{Explains}
+use Rattle.rc_find.specs.Finds.{Finds}
 use Rattle.rc_state.specs.Engine.{stepped_with_state}
 use Rattle.rc_main.specs.declared.fault.CommandFault.{CommandFault}
 use Rattle.rc_main.specs.declared.fault.CommandFault.TheVariants.{Words, Engine, OtherProgram}
 use Rattle.rc_main.specs.declared.words.Command.{Command}
-use Rattle.rc_main.specs.declared.words.Command.TheVariants.{Check, Explain, Step, State, Run, Emit, Show}
+use Rattle.rc_main.specs.declared.words.Command.TheVariants.{Check, Explain, Step, State, Find, Run, Emit, Show}
 
 -- ---- what each command says of the bytes of a text: the status, and the text that is written
 
--- The status of `check` is that of the verdict on the bytes, which is written. `--explain` writes what explains it too.
+-- The status of `check` is that of the verdict on the bytes, which is written. `--explain` writes what explains it too, and
+-- `find` a run of a refused program into a fault, where it was found.
 abbrev pub SaysVerdict : (Verdict → List ℕ → Type 0) → ℕ → List ℕ → Type 0
 SaysVerdict told status text = (verdict : Verdict) × told verdict text × (status ≡ status_of_verdict verdict)
 
@@ -73,6 +75,7 @@ Says (Check json) bytes status text = SaysVerdict (TellsVerdict bytes json) stat
 Says (Explain json) bytes status text = SaysVerdict (Explains bytes json) status text
 Says (Step schedule) bytes status text = SaysSteps stepped_text bytes schedule.now status text
 Says (State schedule) bytes status text = SaysSteps stepped_with_state bytes schedule.now status text
+Says (Find seed walks json) bytes status text = SaysVerdict (Finds bytes walks json) status text
 Says (Run seed limit summary) bytes status text = SaysAdmitted bytes (λ program. SaysRun program limit summary) status text
 Says Emit bytes status text = SaysAdmitted bytes (λ program status text. status ≡ 0) status text
 Says (Show shown) bytes status text = (text ≡ string_bytes shown) × (status ≡ 0)

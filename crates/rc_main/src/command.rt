@@ -2,6 +2,7 @@
 
 ghost use Rattle.std.specs.Prelude.{◌≡◌, ◌+◌, ◌<◌, ◌≤◌, ◌^◌, IfErr, IfOk};
 ghost use Rattle.rc_explain.specs.Explains.{Explains};
+ghost use Rattle.rc_find.specs.Finds.{Finds};
 ghost use Rattle.rc_main.specs.declared.fault.CommandFault.TheVariants.{Engine};
 ghost use Rattle.rc_main.specs.Answers.{Does, DoesWith, ReadsAsAsked, Says, SaysSteps, SaysVerdict};
 ghost use Rattle.rc_main.specs.Files.{AnswersAs, AsksFile};
@@ -20,6 +21,7 @@ use crate::words::{Asked, Command, read_words};
 use rc_device::device::Device;
 use rc_device::disk::Disk;
 use rc_explain::engine::put_explained;
+use rc_find::find::put_found;
 use rc_report::buffered::Buffered;
 use rc_report::check_engine::put_checked;
 use rc_report::engine_fault::EngineFault;
@@ -207,6 +209,7 @@ fn performed<R: Threads + Wait + Sync, S: Sink>(
         Command::Explain { json } => explained(alloc, &text, json, sink),
         Command::Step { schedule } => stepped(alloc, text, schedule, sink),
         Command::State { schedule } => shown_at_end(alloc, &text, schedule, sink),
+        Command::Find { seed, walks, json } => found(alloc, &text, seed, walks, json, sink),
         Command::Run {
             seed,
             limit,
@@ -244,6 +247,23 @@ fn explained<S: Sink>(
 {
     let mut answer = Vec::new(alloc);
     let verdict = put_explained(&mut answer, alloc, text, json)?;
+    write_answer(sink, &answer, verdict.status())
+}
+
+/// Checks a text, and finds a run of a refused one into a fault.
+fn found<S: Sink>(
+    alloc: Global,
+    text: &[u8],
+    seed: u32,
+    walks: u32,
+    json: bool,
+    sink: &mut S,
+) -> Result<u8, CommandFault>
+    requires { CanWrite (S.state sink.old) }
+    ensures { Does (SaysVerdict (Finds text.now walks json)) S.state sink.old sink.new result }
+{
+    let mut answer = Vec::new(alloc);
+    let verdict = put_found(&mut answer, alloc, text, seed, walks, json)?;
     write_answer(sink, &answer, verdict.status())
 }
 

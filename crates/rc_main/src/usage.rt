@@ -104,6 +104,31 @@ fn described_run<'a>(alloc: Global) -> Result<clap::Command<'a>, AllocError> {
         .arg(described_file(alloc))
 }
 
+/// A number that `find` may be given.
+fn described_choice<'a>(alloc: Global, name: &'a str, default: &'a str) -> Arg<'a> {
+    Arg::new(alloc, name)
+        .long(name)
+        .value_name("N")
+        .default_value(default)
+}
+
+/// The words of `find`.
+fn described_find<'a>(alloc: Global) -> Result<clap::Command<'a>, AllocError> {
+    let json = "Print what is found as one JSON object";
+    let seed = described_choice(alloc, "seed", "1")
+        .value_parser(value_parser!(u32))
+        .help("What the choices are made by, from 0 to 4294967295");
+    let walks = described_choice(alloc, "walks", "20000")
+        .value_parser(value_parser!(u32).range(1..=1000000))
+        .help("How many walks are made at most, from 1 to 1000000");
+    clap::Command::new(alloc, "find")
+        .about("Find a run of a refused program into a fault, and print its moves and its trace")
+        .arg(seed)?
+        .arg(walks)?
+        .arg(described_flag(alloc, "json", json))?
+        .arg(described_file(alloc))
+}
+
 /// The words of `c`.
 fn described_c<'a>(alloc: Global) -> Result<clap::Command<'a>, AllocError> {
     clap::Command::new(alloc, "c")
@@ -121,6 +146,7 @@ pub fn described<'a>(alloc: Global) -> Result<clap::Command<'a>, AllocError> {
         .subcommand_required(true)
         .subcommand(described_check(alloc)?)?
         .subcommand(described_step(alloc)?)?
+        .subcommand(described_find(alloc)?)?
         .subcommand(described_run(alloc)?)?
         .subcommand(described_c(alloc)?)
 }

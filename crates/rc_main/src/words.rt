@@ -17,6 +17,9 @@ const SHORT_WORD: usize = 256;
 /// The most events that threads may be allowed.
 const MOST_EVENTS: u32 = 1_000_000;
 
+/// The most walks that may be made.
+const MOST_WALKS: u32 = 1_000_000;
+
 /// What the program is asked to do.
 #[derive(Drop)]
 pub enum Command<'a> {
@@ -35,6 +38,13 @@ pub enum Command<'a> {
     /// Step the program through this schedule, and show the world in which the trace ends.
     State {
         schedule: &'a str,
+    },
+    /// Find a run of the refused program into a fault: with the choices of this seed, by so many walks at most, from 1. What
+    /// is found is written as JSON or as text.
+    Find {
+        seed: u32,
+        walks: u32,
+        json: bool,
     },
     /// Run the program on threads: with the choices of this seed, and at most so many events of its threads, from 1.
     /// What happened is written as a summary or as a trace.
@@ -192,6 +202,7 @@ fn command_of<'a>(
 {
     match name {
         "check" => Ok(check_of(given)),
+        "find" => find_of(alloc, given),
         "run" => run_of(alloc, given),
         "c" => Ok(Command::Emit),
         _ => Ok(step_of(given)),
@@ -218,6 +229,19 @@ fn step_of<'a>(step: &ArgMatches<'a>) -> Command<'a>
         return Command::State { schedule };
     }
     Command::Step { schedule }
+}
+
+/// The command `find`. That its numbers are there and in their ranges was seen before.
+fn find_of<'a>(alloc: Global, find: &ArgMatches<'a>) -> Result<Command<'a>, WordsFault>
+    ensures { IfOk result HasRanges }
+{
+    let seed = find.get_one::<u32>("seed").unwrap_or(0);
+    let walks = find.get_one::<u32>("walks").unwrap_or(0);
+    let json = find.get_flag("json");
+    if walks < 1 || walks > MOST_WALKS {
+        return Err(WordsFault::Wrong(format!(in alloc; "{walks} is no number of walks")?));
+    }
+    Ok(Command::Find { seed, walks, json })
 }
 
 /// The command `run`. That its numbers are there and in their ranges was seen before.

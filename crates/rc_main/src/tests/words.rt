@@ -12,7 +12,7 @@ use std::env::{Env, FillError};
 const WRONG: &[(&[&str], &str)] = &[
     (
         &[],
-        "ringcheck: 'ringcheck' requires a subcommand but one was not provided [subcommands: check, step, run, c, help] (see 'ringcheck --help')\n",
+        "ringcheck: 'ringcheck' requires a subcommand but one was not provided [subcommands: check, step, find, run, c, help] (see 'ringcheck --help')\n",
     ),
     (
         &["verify"],
@@ -49,6 +49,18 @@ const WRONG: &[(&[&str], &str)] = &[
     (
         &["run", "--seed", "1", "--limit", "1000001"],
         "ringcheck: invalid value '1000001' for '--limit <N>': 1000001 is not in 1..=1000000 (see 'ringcheck --help')\n",
+    ),
+    (
+        &["find", "--walks", "0"],
+        "ringcheck: invalid value '0' for '--walks <N>': 0 is not in 1..=1000000 (see 'ringcheck --help')\n",
+    ),
+    (
+        &["find", "--walks", "1000001"],
+        "ringcheck: invalid value '1000001' for '--walks <N>': 1000001 is not in 1..=1000000 (see 'ringcheck --help')\n",
+    ),
+    (
+        &["find", "--seed", "4294967296"],
+        "ringcheck: invalid value '4294967296' for '--seed <N>': 4294967296 is not in 0..=4294967295 (see 'ringcheck --help')\n",
     ),
     (
         &["run", "--seed", "4294967296", "--limit", "1"],
@@ -107,6 +119,7 @@ Usage: ringcheck <COMMAND>
 Commands:
   check  Check programs, and print the verdict on each
   step   Step a program through a schedule, and print the trace
+  find   Find a run of a refused program into a fault, and print its moves and its trace
   run    Run a program on threads, and print the trace
   c      Print an accepted program as a C program over liburing
   help   Print this message or the help of the given subcommand(s)
