@@ -4,9 +4,10 @@
 usage: ci/gallery.py PROGRAM [--write]
 
 Of each pattern of examples/gallery that are: NAME.c, which is what `PROGRAM c` prints; and in page.md the verdict on
-broken.rc and why, and the last events and the end of the schedule that the file expected has for it. Each text of
-examples/gallery and of examples/causes has a row in the file expected there, and each row is what is printed. The status
-is 1 where something differs. The test runs it on the program that it has built.
+broken.rc and why, and the run into its fault, as the command on the first line of the page's second block prints it: the
+moves where it finds them, the last events and the end. Each text of examples/gallery and of examples/causes has a row in
+the file expected there, and each row is what is printed. The status is 1 where something differs. The test runs it on
+the program that it has built.
 """
 
 import re
@@ -20,6 +21,9 @@ CAUSES = TOP / "examples" / "causes"
 
 # How many lines of a trace a page shows.
 SHOWN = 4
+
+# What stands between the parts of a page's text and its blocks.
+FENCE = "```\n"
 
 
 def printed(program, words, path):
@@ -51,21 +55,23 @@ def why_of(lines):
     return lines[: last + 1]
 
 
-def blocks(program, name):
-    """The two blocks of a pattern's page that say what is printed."""
-    broken = GALLERY / name / "broken.rc"
-    refused = why_of(printed(program, ["check", "--explain"], broken)[0].splitlines())
-    words = next(row[1] for row in rows(GALLERY) if row[0] == f"{name}/broken.rc" and row[1].startswith("step"))
-    trace = printed(program, words.split(" "), broken)[0].splitlines()
-    verdict = [f"ringcheck check --explain < examples/gallery/{name}/broken.rc", *refused]
-    return ["\n".join(lines) for lines in (verdict, trace[-SHOWN:])]
+def run_of(program, command):
+    """A command of a page as the page shows it: the moves that are found, and the last lines of the trace."""
+    _, *words, _, path = command.split(" ")
+    lines = printed(program, words, TOP / path)[0].splitlines()
+    found = [line for line in lines if line.startswith("found by ")]
+    return [command, *found, "..", *lines[-SHOWN:]]
 
 
 def page(program, name, text):
-    """A page with its blocks as they should be. They stand between lines of three backquotes, in their order."""
-    parts = re.split(r"^```$\n", text, flags=re.MULTILINE)
-    parts[1::2] = [block + "\n" for block in blocks(program, name)]
-    return "```\n".join(parts)
+    """A page with its two blocks as they should be. They stand between lines of three backquotes, in their order."""
+    parts = re.split(r"^```\n", text, flags=re.MULTILINE)
+    broken = GALLERY / name / "broken.rc"
+    refused = why_of(printed(program, ["check", "--explain"], broken)[0].splitlines())
+    verdict = [f"ringcheck check --explain < {broken.relative_to(TOP)}", *refused]
+    run = run_of(program, parts[3].splitlines()[0])
+    parts[1::2] = ["".join(f"{line}\n" for line in block) for block in (verdict, run)]
+    return FENCE.join(parts)
 
 
 def main():

@@ -44,6 +44,7 @@ FILES = {
     "unreadable.rc": UNREADABLE,
     "empty.rc": b"",
     "-": GOOD,
+    "moves": b"t0 # its one step\n",
     "a b\n.rc": GOOD,
 }
 
@@ -57,6 +58,7 @@ BESIDE = "'-' stands beside other files (see 'ringcheck --help')"
 EXPLAINS_ONE = "'--explain' takes one file (see 'ringcheck --help')"
 UNKNOWN = "unexpected argument '--no' found (see 'ringcheck --help')"
 NO_LIMIT = "the following required arguments were not provided: --limit <N> (see 'ringcheck --help')"
+ENDED = "item 2, t0, isn't enabled: t0 has ended"
 NO_WALKS = "invalid value '0' for '--walks <N>': 0 is not in 1..=1000000 (see 'ringcheck --help')"
 NO_COMMAND = "unrecognized subcommand 'verify' (see 'ringcheck --help')"
 NO_OUTPUT = "the output can't be written..."
@@ -99,12 +101,20 @@ ROWS = [
     (("step",), GOOD, 0, "stopped after 0 events\n", ""),
     (("step",), REFUSED, 1, "fault F9 NoLock t0 line 4\n", ""),
     (("step", "--schedule", "t0"), UNREADABLE, 2, FAULT, ""),
-    (("step", "--schedule", "t0,t0"), GOOD, 3, "1 t0 4 set 1\nitem 2 not enabled\n", ""),
+    (("step", "--schedule", "t0,t0"), GOOD, 3, "1 t0 4 set 1\nitem 2 not enabled\n", ENDED),
     (("step", "--schedule", "t0,u"), GOOD, 3, "schedule item 2 unreadable\n", ""),
     (("step", "--state", "--schedule", "t0"), GOOD, 0, "1 t0 4 set 1\nended after 1 events\nthread t0: ...", ""),
     (("step", "--state"), REFUSED, 1, "fault F9 NoLock t0 line 4\n...", ""),
     (("step", "--state"), UNREADABLE, 2, FAULT, ""),
-    (("step", "--state", "--schedule", "t0,t0"), GOOD, 3, "1 t0 4 set 1\nitem 2 not enabled\n...", ""),
+    (("step", "--state", "--schedule", "t0,t0"), GOOD, 3, "1 t0 4 set 1\nitem 2 not enabled\n...", ENDED),
+    (("step", "--moves", "t0*1"), GOOD, 0, ONE_EVENT, ""),
+    (("step", "--moves", "t0@4 # none\nt0"), GOOD, 0, ONE_EVENT, ""),
+    (("step", "--state", "--moves", "t0"), GOOD, 0, "1 t0 4 set 1\nended after 1 events\nthread t0: ...", ""),
+    (("step", "--moves", "t0"), UNREADABLE, 2, FAULT, ""),
+    (("step", "--moves", "t0*2"), GOOD, 3, "1 t0 4 set 1\nitem 2 not enabled\n", "item 1, t0*2, isn't enabled: t0 has ended"),
+    (("step", "--moves", "t0,u*2"), GOOD, 3, "schedule item 2 unreadable\n", ""),
+    (("step", "--moves", "@moves"), GOOD, 0, ONE_EVENT, ""),
+    (("step", "--moves", "@missing.rc"), GOOD, 3, "", f"missing.rc: {MISSING}"),
     (("find",), GOOD, 0, ACCEPTED, ""),
     (("find",), REFUSED, 1, REFUSAL + FOUND + NO_LOCK, ""),
     (("find", "--seed", "9", "--walks", "1"), REFUSED, 1, REFUSAL + FOUND + NO_LOCK, ""),

@@ -103,41 +103,45 @@ fn the_first_piece_that_names_no_move_is_told(rt: HostRuntime) -> Result<(), Fai
 /// A program, moves, and what is told of them.
 const TOLD: &[(&str, &str, &str)] = &[
     (NOP, "t0*7", ""),
-    (NOP, "t0*20", "item 1, t0*20, isn't enabled: t0 has ended\n"),
+    (
+        NOP,
+        "t0*20",
+        "ringcheck: item 1, t0*20, isn't enabled: t0 has ended\n",
+    ),
     (
         NOP,
         "t0*2 t0=3",
-        "item 2, t0=3, isn't enabled: line 7 is no submit\n",
+        "ringcheck: item 2, t0=3, isn't enabled: line 7 is no submit\n",
     ),
     (
         NOP,
         "k:8=0 t0",
-        "item 1, k:8=0, isn't enabled: no request 8 is pending\n",
+        "ringcheck: item 1, k:8=0, isn't enabled: no request 8 is pending\n",
     ),
     (
         NOP,
         "t0*5,k:7=0:4",
-        "item 2, k:7=0:4, isn't enabled: request 7 is no read\n",
+        "ringcheck: item 2, k:7=0:4, isn't enabled: request 7 is no read\n",
     ),
     (
         HANDOFF,
         "t0@9,t1@22",
-        "item 2, t1@22, isn't enabled: t0 has the lock\n",
+        "ringcheck: item 2, t1@22, isn't enabled: t0 has the lock\n",
     ),
     (
         HANDOFF,
         "t0@12,t0=2",
-        "item 2, t0=2, isn't enabled: only 1 are queued\n",
+        "ringcheck: item 2, t0=2, isn't enabled: the queue has only 1\n",
     ),
     (
         HANDOFF,
         "t0@13 k:7=17",
-        "item 2, k:7=17, isn't enabled: request 7 moves at most 16 bytes\n",
+        "ringcheck: item 2, k:7=17, isn't enabled: request 7 moves at most 16 bytes\n",
     ),
     (
         HANDOFF,
         "t1@34,t1",
-        "item 1, t1@34, ends after 65536 steps\n",
+        "ringcheck: item 1, t1@34, ends after 65536 steps\n",
     ),
 ];
 
@@ -169,7 +173,7 @@ fn what_cannot_be_made_is_told_of_its_item(rt: HostRuntime) -> Result<(), Fail> 
     let shown = told_of_items(rt.alloc(), HANDOFF, "t0,t1,t1,t1")?;
     assert_eq!(rt;
         shown.as_slice(),
-        "item 3, t1, isn't enabled: t0 has the lock\n".as_bytes()
+        "ringcheck: item 3, t1, isn't enabled: t0 has the lock\n".as_bytes()
     );
     Ok(())
 }

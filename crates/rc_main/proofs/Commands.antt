@@ -20,7 +20,7 @@ use Rattle.rc_report.proofs.Answered.{of_any, of_text}
 use Rattle.rc_main.specs.declared.fault.CommandFault.{CommandFault}
 use Rattle.rc_main.specs.declared.fault.CommandFault.TheVariants.{Words, Engine, OtherProgram}
 use Rattle.rc_main.specs.declared.words.Command.{Command}
-use Rattle.rc_main.specs.declared.words.Command.TheVariants.{Check, Explain, Step, State, Find, Run, Emit, Show}
+use Rattle.rc_main.specs.declared.words.Command.TheVariants.{Check, Explain, Step, State, Moves, Find, Run, Emit, Show}
 use Rattle.rc_main.specs.Answers.{Does, DoesWith, Fails, ReadsAsAsked, ReadsOnce, Says, SaysAdmitted, SaysVerdict}
 
 -- ---- statuses are 3 at most
@@ -48,6 +48,7 @@ within (Check json) bytes s text h = verdict_within h.0 s h.2
 within (Explain json) bytes s text h = verdict_within h.0 s h.2
 within (Step schedule) bytes s text h = step_within h.0 s h.3
 within (State schedule) bytes s text h = step_within h.0 s h.3
+within (Moves moves state) bytes s text h = step_within h.0 s h.3
 within (Find seed walks json) bytes s text h = verdict_within h.0 s h.2
 within (Run seed limit summary) bytes s text h = elim h [
   | inl (program, given, run) ↦ end_within run.1 s run.4
@@ -150,6 +151,7 @@ asked (Check json) old new r h = h
 asked (Explain json) old new r h = h
 asked (Step schedule) old new r h = h
 asked (State schedule) old new r h = h
+asked (Moves moves state) old new r h = h
 asked (Find seed walks json) old new r h = h
 asked (Run seed limit summary) old new r h = h
 asked Emit old new r h = h

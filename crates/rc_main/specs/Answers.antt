@@ -20,11 +20,13 @@ use Rattle.rc_report.specs.Traces.{trace_text}
 use Rattle.rc_report.specs.Verdicts.{verdict_text}
 use Rattle.rc_explain.specs.Explains.{Explains}
 use Rattle.rc_find.specs.Finds.{Finds}
+use Rattle.rc_moves.specs.Moved.{EndsMoves, moved_text}
+use Rattle.rc_moves.specs.Stepping.{traced_by}
 use Rattle.rc_state.specs.Engine.{stepped_with_state}
 use Rattle.rc_main.specs.declared.fault.CommandFault.{CommandFault}
 use Rattle.rc_main.specs.declared.fault.CommandFault.TheVariants.{Words, Engine, OtherProgram}
 use Rattle.rc_main.specs.declared.words.Command.{Command}
-use Rattle.rc_main.specs.declared.words.Command.TheVariants.{Check, Explain, Step, State, Find, Run, Emit, Show}
+use Rattle.rc_main.specs.declared.words.Command.TheVariants.{Check, Explain, Step, State, Moves, Find, Run, Emit, Show}
 
 -- ---- what each command says of the bytes of a text: the status, and the text that is written
 
@@ -38,6 +40,11 @@ SaysVerdict told status text = (verdict : Verdict) × told verdict text × (stat
 abbrev pub SaysSteps : (List ℕ → List ℕ → List ℕ) → List ℕ → List ℕ → ℕ → List ℕ → Type 0
 SaysSteps stepped bytes schedule status text =
     (end : StepEnd) × EndsBy (answer_of bytes) schedule end × (text ≡ stepped bytes schedule) × (status ≡ status_of_step end)
+
+-- The same where moves are given: they are stepped as the schedule that they spell.
+abbrev pub SaysMoves : List ℕ → List ℕ → Bool → ℕ → List ℕ → Type 0
+SaysMoves bytes moves state status text =
+    (end : StepEnd) × EndsMoves (answer_of bytes) moves end × (text ≡ moved_text (traced_by state bytes) (answer_of bytes) moves) × (status ≡ status_of_step end)
 
 -- The disk gives any result that a request may have.
 abbrev pub DiskGives : ℕ → ℤ → Type 0
@@ -76,6 +83,7 @@ Says (Explain json) bytes status text = SaysVerdict (Explains bytes json) status
 Says (Step schedule) bytes status text = SaysSteps stepped_text bytes schedule.now status text
 Says (State schedule) bytes status text = SaysSteps stepped_with_state bytes schedule.now status text
 Says (Find seed walks json) bytes status text = SaysVerdict (Finds bytes walks json) status text
+Says (Moves moves state) bytes status text = SaysMoves bytes moves.items state status text
 Says (Run seed limit summary) bytes status text = SaysAdmitted bytes (λ program. SaysRun program limit summary) status text
 Says Emit bytes status text = SaysAdmitted bytes (λ program status text. status ≡ 0) status text
 Says (Show shown) bytes status text = (text ≡ string_bytes shown) × (status ≡ 0)

@@ -4,13 +4,12 @@ ghost use Rattle.std.specs.Prelude.{◌≡◌, ◌+◌, ◌<◌, ◌≤◌, ◌^
 ghost use Rattle.rc_explain.specs.Explains.{Explains};
 ghost use Rattle.rc_find.specs.Finds.{Finds};
 ghost use Rattle.rc_main.specs.declared.fault.CommandFault.TheVariants.{Engine};
-ghost use Rattle.rc_main.specs.Answers.{Does, DoesWith, ReadsAsAsked, Says, SaysSteps, SaysVerdict};
+ghost use Rattle.rc_main.specs.Answers.{Does, DoesWith, ReadsAsAsked, Says, SaysMoves, SaysSteps, SaysVerdict};
 ghost use Rattle.rc_main.specs.Files.{AnswersAs, AsksFile};
 ghost use Rattle.rc_report.specs.Checks.{TellsVerdict};
 ghost use Rattle.rc_report.specs.declared.engine_fault.EngineFault.TheVariants.{Write as FailedWrite};
-ghost use Rattle.rc_report.specs.Engine.{stepped_text};
+ghost use Rattle.rc_moves.specs.Stepping.{stepped_by};
 ghost use Rattle.rc_report.specs.Streams.{CanRead, CanWrite};
-ghost use Rattle.rc_state.specs.Engine.{stepped_with_state};
 
 use crate::emitting::emit_text;
 use crate::fault::CommandFault;
@@ -22,15 +21,14 @@ use rc_device::device::Device;
 use rc_device::disk::Disk;
 use rc_explain::engine::put_explained;
 use rc_find::find::put_found;
+use rc_moves::stepping::{step_items, step_moves};
 use rc_report::buffered::Buffered;
 use rc_report::check_engine::put_checked;
 use rc_report::engine_fault::EngineFault;
 use rc_report::reading::read_text;
 use rc_report::status::{DEVICE_STATUS, GOOD_STATUS};
-use rc_report::step_engine::step_bytes;
 use rc_report::streams::{DeviceFailed, ReadSource, Sink, Source, WriteSink};
 use rc_report::writing::write_piece;
-use rc_state::state_engine::show_bytes;
 use std::alloc::Global;
 use std::io::{Read, Write};
 use std::sync::Wait;
@@ -104,13 +102,45 @@ fn answered<'a, R: Threads + Wait + Sync, T: Texts, I: Read + Drop, O: Write + D
 {
     let asked = read_words(alloc, words)?;
     let mut sink = Buffered::new(alloc, WriteSink::new(writer))?;
-    let Asked { command, files } = asked;
-    let status = if files.is_empty() {
-        on_input(rt, alloc, command, &mut ReadSource::new(reader), &mut sink)?
-    } else {
-        on_files(rt, texts, alloc, command, &files, &mut sink, errors)?
+    let Asked {
+        command,
+        files,
+        moves,
+    } = asked;
+    let command = match moves {
+        Some(name) => match texts.read(alloc, name) {
+            Ok(moves) => with_moves(command, moves),
+            Err(unread) => return Ok(tell_unread(alloc, name, &unread, errors)),
+        },
+        None => command,
     };
-    written_out(status, &mut sink)
+    let mut notes = Vec::new(alloc);
+    let status = if files.is_empty() {
+        let mut source = ReadSource::new(reader);
+        on_input(rt, alloc, command, &mut source, &mut sink, &mut notes)?
+    } else {
+        on_files(
+            rt, texts, alloc, command, &files, &mut sink, &mut notes, errors,
+        )?
+    };
+    let status = written_out(status, &mut sink)?;
+    tell_notes(&notes, errors);
+    Ok(status)
+}
+
+/// The command with moves that were read from a file.
+fn with_moves(command: Command<'_>, moves: Vec<u8>) -> Command<'_> {
+    match command {
+        Command::Moves { state, .. } => Command::Moves { moves, state },
+        other => other,
+    }
+}
+
+/// Tells what is to be said besides the answer. After a write to `errors` that failed nothing more is told.
+fn tell_notes<E: Sink>(notes: &[u8], errors: &mut E) {
+    if !notes.is_empty() && errors.failures() == 0 {
+        let _ = write_piece(errors, notes);
+    }
 }
 
 /// Does what is asked with the text of a source. Help and the version are shown without reading.
@@ -120,6 +150,7 @@ fn on_input<R: Threads + Wait + Sync, I: Source, S: Sink>(
     command: Command<'_>,
     source: &mut I,
     sink: &mut S,
+    notes: &mut Vec<u8>,
 ) -> Result<u8, CommandFault>
     requires reads { CanRead 2097152 (I.state source.old) }
     requires writes { CanWrite (S.state sink.old) }
@@ -131,7 +162,7 @@ fn on_input<R: Threads + Wait + Sync, I: Source, S: Sink>(
         return write_answer(sink, text.as_bytes(), GOOD_STATUS);
     }
     let text = read_text(alloc, source)?;
-    performed(rt, alloc, command, text, sink)
+    performed(rt, alloc, command, text, sink, notes)
 }
 
 /// Does what is asked with the texts of files: `check` takes several, the others one.
@@ -142,6 +173,7 @@ fn on_files<R: Threads + Wait + Sync, T: Texts, S: Sink, E: Sink>(
     command: Command<'_>,
     files: &[&str],
     sink: &mut S,
+    notes: &mut Vec<u8>,
     errors: &mut E,
 ) -> Result<u8, CommandFault>
     requires writes { CanWrite (S.state sink.old) }
@@ -152,7 +184,7 @@ fn on_files<R: Threads + Wait + Sync, T: Texts, S: Sink, E: Sink>(
         return check_files(alloc, texts, files, json, sink, errors);
     }
     match files.first() {
-        Some(name) => on_file(rt, texts, alloc, command, name, sink, errors),
+        Some(name) => on_file(rt, texts, alloc, command, name, sink, notes, errors),
         None => Ok(GOOD_STATUS),
     }
 }
@@ -165,6 +197,7 @@ fn on_file<R: Threads + Wait + Sync, T: Texts, S: Sink, E: Sink>(
     command: Command<'_>,
     name: &str,
     sink: &mut S,
+    notes: &mut Vec<u8>,
     errors: &mut E,
 ) -> Result<u8, CommandFault>
     requires writes { CanWrite (S.state sink.old) }
@@ -173,7 +206,7 @@ fn on_file<R: Threads + Wait + Sync, T: Texts, S: Sink, E: Sink>(
     ensures bound { IfOk result (λ status. status ≤ 3) }
 {
     match texts.read(alloc, name) {
-        Ok(text) => performed(rt, alloc, command, text, sink),
+        Ok(text) => performed(rt, alloc, command, text, sink, notes),
         Err(unread) => Ok(tell_unread(alloc, name, &unread, errors)),
     }
 }
@@ -193,13 +226,14 @@ fn written_out<O: Write + Drop>(
     }
 }
 
-/// Does what is asked with a text.
+/// Does what is asked with a text. What is to be told besides the answer is added to the notes.
 fn performed<R: Threads + Wait + Sync, S: Sink>(
     rt: &R,
     alloc: Global,
     command: Command<'_>,
     text: Vec<u8>,
     sink: &mut S,
+    notes: &mut Vec<u8>,
 ) -> Result<u8, CommandFault>
     requires { CanWrite (S.state sink.old) }
     ensures { Does (Says command.entry text.items) S.state sink.old sink.new result }
@@ -207,8 +241,9 @@ fn performed<R: Threads + Wait + Sync, S: Sink>(
     match command {
         Command::Check { json } => checked(alloc, &text, json, sink),
         Command::Explain { json } => explained(alloc, &text, json, sink),
-        Command::Step { schedule } => stepped(alloc, text, schedule, sink),
-        Command::State { schedule } => shown_at_end(alloc, &text, schedule, sink),
+        Command::Step { schedule } => stepped(alloc, &text, schedule, false, sink, notes),
+        Command::State { schedule } => stepped(alloc, &text, schedule, true, sink, notes),
+        Command::Moves { moves, state } => moved(alloc, &text, &moves, state, sink, notes),
         Command::Find { seed, walks, json } => found(alloc, &text, seed, walks, json, sink),
         Command::Run {
             seed,
@@ -267,30 +302,34 @@ fn found<S: Sink>(
     write_answer(sink, &answer, verdict.status())
 }
 
-/// Steps the program of a text through a schedule.
+/// Steps the program of a text through a schedule, and shows the world in which the trace ends or not.
 fn stepped<S: Sink>(
-    alloc: Global,
-    text: Vec<u8>,
-    schedule: &str,
-    sink: &mut S,
-) -> Result<u8, CommandFault>
-    requires { CanWrite (S.state sink.old) }
-    ensures { Does (SaysSteps stepped_text text.items schedule.now) S.state sink.old sink.new result }
-{
-    let end = step_bytes(alloc, text, schedule, sink)?;
-    Ok(end.status())
-}
-
-/// Steps the program of a text through a schedule, and shows the world in which the trace ends.
-fn shown_at_end<S: Sink>(
     alloc: Global,
     text: &[u8],
     schedule: &str,
+    state: bool,
     sink: &mut S,
+    notes: &mut Vec<u8>,
 ) -> Result<u8, CommandFault>
     requires { CanWrite (S.state sink.old) }
-    ensures { Does (SaysSteps stepped_with_state text.now schedule.now) S.state sink.old sink.new result }
+    ensures { Does (SaysSteps (stepped_by state) text.now schedule.now) S.state sink.old sink.new result }
 {
-    let end = show_bytes(alloc, text, schedule, sink)?;
+    let end = step_items(alloc, text, schedule, state, notes, sink)?;
+    Ok(end.status())
+}
+
+/// Steps the program of a text through the schedule that moves spell, and shows the world in which the trace ends or not.
+fn moved<S: Sink>(
+    alloc: Global,
+    text: &[u8],
+    moves: &[u8],
+    state: bool,
+    sink: &mut S,
+    notes: &mut Vec<u8>,
+) -> Result<u8, CommandFault>
+    requires { CanWrite (S.state sink.old) }
+    ensures { Does (SaysMoves text.now moves.now state) S.state sink.old sink.new result }
+{
+    let end = step_moves(alloc, text, moves, state, notes, sink)?;
     Ok(end.status())
 }

@@ -61,12 +61,23 @@ fn described_schedule<'a>(alloc: Global) -> Arg<'a> {
         .help("Items joined by commas: NAME, NAME=R, k:U=R or k:U=R:H")
 }
 
+/// The moves of `step`.
+fn described_moves<'a>(alloc: Global) -> Result<Arg<'a>, AllocError> {
+    Arg::new(alloc, "moves")
+        .long("moves")
+        .value_name("MOVES")
+        .action(ArgAction::Set)
+        .help("Items, NAME*N or NAME@L, joined by commas or blanks; @FILE reads them from a file")
+        .conflicts_with("schedule")
+}
+
 /// The words of `step`.
 fn described_step<'a>(alloc: Global) -> Result<clap::Command<'a>, AllocError> {
     let state = "Print the world in which the trace ends, and what may come next";
     clap::Command::new(alloc, "step")
         .about("Step a program through a schedule, and print the trace")
         .arg(described_schedule(alloc))?
+        .arg(described_moves(alloc)?)?
         .arg(described_flag(alloc, "state", state))?
         .arg(described_file(alloc))
 }

@@ -39,6 +39,11 @@ pub enum Command<'a> {
     State {
         schedule: &'a str,
     },
+    /// Step the program through the schedule that these moves spell, and show the world in which the trace ends or not.
+    Moves {
+        moves: Vec<u8>,
+        state: bool,
+    },
     /// Find a run of the refused program into a fault: with the choices of this seed, by so many walks at most, from 1. What
     /// is found is written as JSON or as text.
     Find {
@@ -64,6 +69,8 @@ pub enum Command<'a> {
 pub struct Asked<'a> {
     pub command: Command<'a>,
     pub files: Vec<&'a str>,
+    /// The file that has the moves of `step`, if they are in one.
+    pub moves: Option<&'a str>,
 }
 
 /// Why the words are no command.
@@ -144,6 +151,7 @@ pub fn read_words<'a>(alloc: Global, words: &'a [&'a str]) -> Result<Asked<'a>, 
             ErrorKind::DisplayHelp | ErrorKind::DisplayVersion => Ok(Asked {
                 command: Command::Show(format!(in alloc; "{error}")?),
                 files: Vec::new(alloc),
+                moves: None,
             }),
             ErrorKind::OutOfMemory => Err(WordsFault::OutOfMemory),
             _ => Err(wrong_words(alloc, words)?),
@@ -163,11 +171,20 @@ fn asked_of<'a>(alloc: Global, matches: &ArgMatches<'a>) -> Result<Asked<'a>, Wo
                 let message = "'--explain' takes one file (see 'ringcheck --help')";
                 return Err(WordsFault::Wrong(String::from_str(alloc, message)?));
             }
-            Ok(Asked { command, files })
+            let moves = match name {
+                "step" => moves_file(given),
+                _ => None,
+            };
+            Ok(Asked {
+                command,
+                files,
+                moves,
+            })
         }
         None => Ok(Asked {
             command: Command::Step { schedule: "" },
             files: Vec::new(alloc),
+            moves: None,
         }),
     }
 }
@@ -205,7 +222,7 @@ fn command_of<'a>(
         "find" => find_of(alloc, given),
         "run" => run_of(alloc, given),
         "c" => Ok(Command::Emit),
-        _ => Ok(step_of(given)),
+        _ => Ok(step_of(alloc, given)?),
     }
 }
 
@@ -220,15 +237,25 @@ fn check_of<'a>(check: &ArgMatches<'a>) -> Command<'a>
     Command::Check { json }
 }
 
-/// The command `step`.
-fn step_of<'a>(step: &ArgMatches<'a>) -> Command<'a>
-    ensures { HasRanges result }
+/// The command `step`. Moves that are in a file are read later.
+fn step_of<'a>(alloc: Global, step: &ArgMatches<'a>) -> Result<Command<'a>, AllocError>
+    ensures { IfOk result HasRanges }
 {
-    let schedule = step.get_str("schedule").unwrap_or("");
-    if step.get_flag("state") {
-        return Command::State { schedule };
+    let state = step.get_flag("state");
+    if let Some(moves) = step.get_str("moves") {
+        let moves = moves.as_bytes().to_vec(alloc)?;
+        return Ok(Command::Moves { moves, state });
     }
-    Command::Step { schedule }
+    let schedule = step.get_str("schedule").unwrap_or("");
+    if state {
+        return Ok(Command::State { schedule });
+    }
+    Ok(Command::Step { schedule })
+}
+
+/// The file that has the moves of `step`, if they are in one: `--moves @FILE`.
+fn moves_file<'a>(step: &ArgMatches<'a>) -> Option<&'a str> {
+    step.get_str("moves")?.strip_prefix('@')
 }
 
 /// The command `find`. That its numbers are there and in their ranges was seen before.

@@ -159,7 +159,12 @@ fn put_named(
     place: usize,
     named: Move,
 ) -> Result<(), AllocError> {
-    put_counted(text, b"item ", (place as u64).saturating_add(1), b", ")?;
+    put_counted(
+        text,
+        b"ringcheck: item ",
+        (place as u64).saturating_add(1),
+        b", ",
+    )?;
     put_move(text, program, named)?;
     put_piece(text, b", ")
 }
@@ -172,7 +177,7 @@ fn put_reason(text: &mut Vec<u8>, program: &Program, reason: Reason) -> Result<(
         }
         Reason::Ended(thread) => put_pieces(text, &[thread_name(program, thread), b" has ended"]),
         Reason::NoSubmit(line) => put_counted(text, b"line ", u64::from(line), b" is no submit"),
-        Reason::TooMany(queued) => put_counted(text, b"only ", queued, b" are queued"),
+        Reason::TooMany(queued) => put_counted(text, b"the queue has only ", queued, b""),
         Reason::NoErrno(answer) => {
             put_signed(text, i64::from(answer))?;
             put_piece(text, b" is no errno")
