@@ -19,17 +19,27 @@ pub struct Stepped<'a> {
 
 pub fn step_all(rt: &(impl Abort + Threads + Wait + Sync), alloc: Global, rows: &[Stepped]) {
     for row in rows {
-        let words = ["step", "--schedule", row.schedule];
-        let count = if row.schedule.is_empty() { 1 } else { 3 };
-        let case = Case {
-            words: &words[..count],
-            text: row.text,
-            output: row.trace,
-            errors: "",
-            status: row.status,
-        };
-        run_as(rt, alloc, &[case]);
+        step_told(rt, alloc, *row, "");
     }
+}
+
+/// Steps a text, where this is told on standard error.
+fn step_told<'a>(
+    rt: &(impl Abort + Threads + Wait + Sync),
+    alloc: Global,
+    row: Stepped<'a>,
+    errors: &'a str,
+) {
+    let words = ["step", "--schedule", row.schedule];
+    let count = if row.schedule.is_empty() { 1 } else { 3 };
+    let case = Case {
+        words: &words[..count],
+        text: row.text,
+        output: row.trace,
+        errors,
+        status: row.status,
+    };
+    run_as(rt, alloc, &[case]);
 }
 
 /// Programs with runs to their ends.
@@ -167,20 +177,24 @@ ended after 17 events
     Ok(())
 }
 
-/// Schedules with an item that names no step.
-const NOT_ENABLED: &[Stepped] = &[
-    Stepped {
-        text: examples::SHORT,
-        schedule: "t0,t1",
-        trace: "1 t0 6 lock
+/// Schedules with an item that names no step, and what is told of it.
+const NOT_ENABLED: &[(Stepped, &str)] = &[
+    (
+        Stepped {
+            text: examples::SHORT,
+            schedule: "t0,t1",
+            trace: "1 t0 6 lock
 item 2 not enabled
 ",
-        status: 3,
-    },
-    Stepped {
-        text: examples::HANDOFF,
-        schedule: "t0,t0,t0,t0,t0,t0,k:7=17",
-        trace: "1 t0 7 lock
+            status: 3,
+        },
+        "ringcheck: item 2, t1, isn't enabled: t0 has the lock\n",
+    ),
+    (
+        Stepped {
+            text: examples::HANDOFF,
+            schedule: "t0,t0,t0,t0,t0,t0,k:7=17",
+            trace: "1 t0 7 lock
 2 t0 8 get_sqe
 3 t0 9 prep_read
 4 t0 10 set_data64 7
@@ -188,34 +202,15 @@ item 2 not enabled
 6 t0 12 submit 1
 item 7 not enabled
 ",
-        status: 3,
-    },
-];
-
-#[test]
-fn items_that_name_no_step_end_a_trace(rt: HostRuntime) {
-    step_all(&rt, rt.alloc(), NOT_ENABLED);
-}
-
-/// Submits that take nothing.
-const NOTHING_TAKEN: &[Stepped] = &[
-    Stepped {
-        text: examples::NOP,
-        schedule: "t0,t0,t0,t0,t0=0,t0",
-        trace: "1 t0 5 lock
-2 t0 6 get_sqe
-3 t0 7 prep_nop
-4 t0 8 set_data64 7
-5 t0 9 submit 0
-6 t0 10 peek_cqe none
-stopped after 6 events
-",
-        status: 0,
-    },
-    Stepped {
-        text: examples::NOP,
-        schedule: "t0,t0,t0,t0,t0=0,t0,k:7=0",
-        trace: "1 t0 5 lock
+            status: 3,
+        },
+        "ringcheck: item 7, k:7=17, isn't enabled: request 7 moves at most 16 bytes\n",
+    ),
+    (
+        Stepped {
+            text: examples::NOP,
+            schedule: "t0,t0,t0,t0,t0=0,t0,k:7=0",
+            trace: "1 t0 5 lock
 2 t0 6 get_sqe
 3 t0 7 prep_nop
 4 t0 8 set_data64 7
@@ -223,9 +218,34 @@ stopped after 6 events
 6 t0 10 peek_cqe none
 item 7 not enabled
 ",
-        status: 3,
-    },
+            status: 3,
+        },
+        "ringcheck: item 7, k:7=0, isn't enabled: no request 7 is pending\n",
+    ),
 ];
+
+#[test]
+fn items_that_name_no_step_end_a_trace(rt: HostRuntime) {
+    for row in NOT_ENABLED {
+        let (stepped, told) = *row;
+        step_told(&rt, rt.alloc(), stepped, told);
+    }
+}
+
+/// A submit that takes nothing.
+const NOTHING_TAKEN: &[Stepped] = &[Stepped {
+    text: examples::NOP,
+    schedule: "t0,t0,t0,t0,t0=0,t0",
+    trace: "1 t0 5 lock
+2 t0 6 get_sqe
+3 t0 7 prep_nop
+4 t0 8 set_data64 7
+5 t0 9 submit 0
+6 t0 10 peek_cqe none
+stopped after 6 events
+",
+    status: 0,
+}];
 
 #[test]
 fn a_submit_may_take_nothing(rt: HostRuntime) {
