@@ -38,7 +38,7 @@ impl Choices {
         }
     }
 
-    /// One of so many places, of which there is at least one.
+    /// One of so many places, at least one.
     pub fn place(&mut self, count: usize) -> usize
         requires { 0 < count }
         ensures { result < count }

@@ -90,8 +90,8 @@ impl<'a> Shortening<'a> {
         Ok(())
     }
 
-    /// The next place at which the thread of this step, which is made at the start, stands at the same line again; the
-    /// start itself where there is none.
+    /// The next place at which the thread of this step stands at the same line again. If it never does, the start, which
+    /// is the place of this step.
     fn end_of_round(&self, start: usize, first: Made) -> usize {
         let thread = thread_of(first.item);
         for (place, later) in self.run.iter().enumerate() {

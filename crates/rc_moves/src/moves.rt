@@ -17,7 +17,7 @@ use std::alloc::Global;
 pub enum Move {
     /// An item of a schedule.
     One(Item),
-    /// So many steps of a thread, 1 to 65,536, each of which takes all that is queued where it is a submit.
+    /// So many steps of a thread, 1 to 65,536. A submit among them takes all that is queued.
     Steps { thread: u32, count: u32 },
     /// The steps of a thread until its next line has this number, at most 65,536; none where it has that number.
     Until { thread: u32, line: u32 },

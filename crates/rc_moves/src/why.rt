@@ -14,7 +14,7 @@ use rc_world::world::requests::{is_read, may_complete, most_moved};
 pub enum Reason {
     /// The thread with this number has the lock, which the item's thread takes next.
     LockTaken(u32),
-    /// The thread with this number has ended, or there is none.
+    /// The thread with this number has ended, or the program has no such thread.
     Ended(u32),
     /// The item has an answer, and the next line of its thread, with this number, is no submit.
     NoSubmit(u32),
