@@ -1,6 +1,7 @@
 //! Names, and what is declared.
 
 ghost use Rattle.std.specs.Prelude.{◌≡◌, map, IfOk, OnOk};
+ghost use Rattle.std.specs.Str.{bytes_eq};
 ghost use Rattle.rc_lang.specs.Parts.{view_buffer, view_thread};
 ghost use Rattle.rc_read.specs.Sheets as spec;
 ghost use Rattle.rc_read.specs.View.{view_names};
@@ -10,13 +11,25 @@ use indexmap::IndexSet;
 use rc_lang::program::{Buffer, File, Thread, Token};
 use std::alloc::{AllocError, Global};
 
+// Whether a word is this name. The names of a text often differ in their last byte alone, so that is compared first.
+fn is_name(name: &[u8], word: &[u8]) -> bool
+    ensures { result ≡ bytes_eq name.now word.now }
+{
+    if let (Some(a), Some(b)) = (name.last(), word.last()) {
+        if a != b {
+            return false;
+        }
+    }
+    is(name, word)
+}
+
 /// The number of a buffer, which where it isn't declared is that of the next, and its shares if it is declared.
 pub fn find_buffer(buffers: &[Buffer], word: &[u8]) -> (usize, Option<u32>)
     ensures number { result.0 ≡ spec.buffer_number (map view_buffer buffers.now) word.now }
     ensures shares { result.1 ≡ spec.shares_in (map view_buffer buffers.now) word.now }
 {
     for (i, buffer) in buffers.iter().enumerate() {
-        if is(&buffer.name, word) {
+        if is_name(&buffer.name, word) {
             return (i, Some(buffer.shares));
         }
     }

@@ -65,10 +65,12 @@ impl<S: Sink> Sink for Buffered<S> {
     ghost state = { buffered S.state };
 
     fn write(&mut self, piece: &[u8]) -> Result<usize, DeviceFailed> {
-        if piece.len() > ROOM - self.bytes.len() {
-            self.write_out()?;
+        if piece.len() <= ROOM - self.bytes.len() {
+            self.bytes.extend_from_slice(piece).unwrap();
+            return Ok(piece.len());
         }
-        let count = piece.len().min(ROOM - self.bytes.len());
+        self.write_out()?;
+        let count = piece.len().min(ROOM);
         self.bytes.extend_from_slice(&piece[..count]).unwrap();
         Ok(count)
     }

@@ -1,17 +1,17 @@
 -- A thread whose next statement does no harm has no fault of any kind.
-use Rattle.std.proofs.Common.{◌≡◌, ℕ, ◌+◌, ◌<◌, ◌≤◌, Bool, true, false, ◌&&◌, ◌||◌, not, if◌then◌else◌, drop, length, Option, Some, None, refl, ◌∙◌, subst, inl, inr, arith}
+use Rattle.std.proofs.Common.{◌≡◌, ℕ, ◌+◌, ◌<◌, ◌≤◌, Bool, true, false, ◌&&◌, ◌||◌, not, if◌then◌else◌, drop, length, Option, Some, None, refl, ◌∙◌, subst, inl, inr, slice_get, ap, arith}
 use Rattle.std.proofs.lemmas.Bool.{or_parts, and_left, and_right, cases_lt}
-use Rattle.std.proofs.lemmas.Option.{same_Some}
+use Rattle.std.proofs.lemmas.Option.{same_Some, slice_get_within}
 use Rattle.rc_lang.specs.declared.lines.Line.{Line}
 use Rattle.rc_lang.specs.declared.lines.Stmt.{Stmt}
+use Rattle.rc_lang.specs.Program.{Thread, lines_in}
 use Rattle.rc_world.specs.declared.fault.FaultKind.{FaultKind}
 use Rattle.rc_world.specs.declared.fault.FaultKind.TheVariants.{WriteOfPending, ReadOfFilling, KernelClash, ThreadRace, RingFull, Overflow, AmbiguousData, UnknownReap, NoLock, RawEntry, OutOfBuffer, DoublePut}
-use Rattle.rc_world.specs.Controls.{next_line}
+use Rattle.rc_world.specs.Controls.{Standing, next_at, next_line}
 use Rattle.rc_world.specs.Faults.{Access, access_of, has_fault, is_ambiguous_at, is_double_at, is_full_at, is_holder, is_out_at, is_raw_at, is_ring_call, is_unknown_at, races, reads_filling, writes_pending}
-use Rattle.rc_world.specs.Harm.{IsHarmless, harms_buffer, harms_rings, is_harmful}
+use Rattle.rc_world.specs.Harm.{IsHarmless, harms_buffer, harms_rings, is_harmful, line_of}
 use Rattle.rc_world.specs.Machine.{World}
 use Rattle.rc_world.proofs.Heads.{no_races}
-use Rattle.rc_world.proofs.LawFaultless.{standing_within}
 
 -- ---- one thread
 
@@ -82,5 +82,16 @@ harmless_more w n h here i lt = elim (cases_lt i n) [
   | inr not_before ↦ let q : n ≡ i = omega arith in subst (IsHarmless w) q here
 ]
 
-pub harmless_all : (w : World) (n : ℕ) → length w.controls.threads ≤ n → ((i : ℕ) → i < n → IsHarmless w i) → (i : ℕ) → IsHarmless w i
-harmless_all w n le h i kind l e = let lt : i < length w.controls.threads = standing_within w i l e in h i (omega arith) kind l e
+no_line : (w : World) (i : ℕ) (t : Option Standing) → slice_get w.program.threads i ≡ None → next_at w.program i t ≡ None
+no_line w i None e = refl
+no_line w i (Some t) e = ap (λ thread. slice_get (lines_in thread) t.place) e
+
+declared_within : (w : World) (i : ℕ) (l : Line) → line_of w i ≡ Some l → i < length w.program.threads
+declared_within w i l e = go (slice_get w.program.threads i) refl
+  where
+    go : (t : Option Thread) → slice_get w.program.threads i ≡ t → i < length w.program.threads
+    go None g = let d : next_line w.program w.controls i ≡ None = no_line w i (slice_get w.controls.threads i) g in absurd (cc)
+    go (Some t) g = slice_get_within w.program.threads i t g
+
+pub harmless_all : (w : World) (n : ℕ) → length w.program.threads ≤ n → ((i : ℕ) → i < n → IsHarmless w i) → (i : ℕ) → IsHarmless w i
+harmless_all w n le h i kind l e = let lt : i < length w.program.threads = declared_within w i l e in h i (omega arith) kind l e

@@ -2,7 +2,7 @@
 
 ghost use Rattle.std.specs.Prelude.{◌≡◌, ◌<◌, ◌≤◌, length, map, option_map, pos, replicate, ◌+ℤ◌, ◌-ℤ◌, slice_get, IfOk, IsSome, IsOkAnd};
 ghost use Rattle.rc_lang.specs.declared.lines.Stmt.TheVariants.{Do, If};
-ghost use Rattle.rc_lang.specs.Program.{IsProgram, IsOperand, end_at};
+ghost use Rattle.rc_lang.specs.Program.{IsProgram, IsOperand, Program as SpecProgram, end_at, lines_of};
 ghost use Rattle.rc_world.specs.Changes.{Acts, CallIsSmall, Decides, StandsAt, TestIsSmall, act_at, hop_at, standing_at, with_pool};
 ghost use Rattle.rc_world.specs.Parts.{at_first_line};
 ghost use Rattle.rc_world.specs.Controls as spec;
@@ -166,6 +166,15 @@ impl Controls {
     {
         let place = self.place(thread)?;
         program.line_at(thread as usize, place)
+    }
+
+    /// The line that the thread has next, where these are its lines.
+    pub(crate) fn line_in(&self, lines: &[Line], thread: u32) -> Option<Line>
+        ensures { (program : SpecProgram) → lines.now ≡ lines_of program thread
+            → result ≡ spec.next_line program self.now thread }
+    {
+        let place = self.place(thread)?;
+        lines.get(place).copied()
     }
 
     /// What a store or a fill of a variable writes: the low eight bits of its value.

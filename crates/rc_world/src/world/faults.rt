@@ -4,7 +4,7 @@ ghost use Rattle.std.specs.Prelude.{◌≡◌, ◌+◌, ◌&&◌, ◌<◌, ◌�
 ghost use Rattle.std.specs.Bool.{OnFalse};
 ghost use Rattle.std.specs.List.{list_any};
 ghost use Rattle.rc_lang.specs.declared.lines.Stmt.TheVariants.{Put};
-ghost use Rattle.rc_lang.specs.Program.{lists_of};
+ghost use Rattle.rc_lang.specs.Program.{lines_of, lists_of};
 ghost use Rattle.rc_world.specs.Faults as spec;
 ghost use Rattle.rc_world.specs.Harm as harm;
 ghost use Rattle.rc_world.specs.Harm.{line_of};
@@ -16,7 +16,7 @@ use self::statements::{
 use super::requests::is_read;
 use super::{Pending, World};
 use crate::fault::{Fault, FaultKind, Party};
-use rc_lang::lines::{Op, Stmt};
+use rc_lang::lines::{Line, Op, Stmt};
 use rc_lang::request::{Kind, Request};
 
 mod statements;
@@ -40,23 +40,25 @@ impl<'a> World<'a> {
         self.has_clash || self.overflows() || self.has_harmful_thread()
     }
 
+    // A thread that the program hasn't got has no next statement.
     fn has_harmful_thread(&self) -> bool
         ensures { OnFalse result ((thread : ℕ) → harm.IsHarmless self.now thread) }
     {
-        for thread in 0..self.controls.count() {
-            if self.harms_next(thread) {
+        for (thread, part) in self.program.threads().iter().enumerate() {
+            if self.harms_next(thread as u32, &part.lines) {
                 return true;
             }
         }
         false
     }
 
-    // Whether the next statement of a thread is harmful.
-    fn harms_next(&self, thread: u32) -> bool
-        requires { thread ≤ 16 }
+    // Whether the next statement of a thread, which has these lines, is harmful.
+    fn harms_next(&self, thread: u32, lines: &[Line]) -> bool
+        requires few { thread ≤ 16 }
+        requires lines { lines.now ≡ lines_of self.now.program thread }
         ensures { OnFalse result (harm.IsHarmless self.now thread) }
     {
-        match self.controls.line(self.program, thread) {
+        match self.controls.line_in(lines, thread) {
             Some(line) => self.is_harmful(thread, line.stmt),
             None => false,
         }
