@@ -4,7 +4,7 @@ use Rattle.std.proofs.lemmas.Option.{same_Some, slice_get_within}
 use Rattle.std.proofs.lemmas.Bool.{and_from, and_parts, and_right, eq-eqb, eqb-true, false_from_ne_true, leb-true, lt-leb, ltb-true, not_from_true, not-true, or_cases, or_from}
 use Rattle.std.proofs.lemmas.List.{length-map}
 use Rattle.std.specs.List.{list_any}
-use Rattle.std.specs.Prelude.{nat_eq, nat_le, not, slice_get, ℤ, if◌then◌else◌}
+use Rattle.std.specs.Prelude.{is_some, nat_eq, nat_le, not, slice_get, ℤ, if◌then◌else◌}
 use Rattle.rc_lang.specs.declared.lines.Line.{Line}
 use Rattle.rc_lang.specs.declared.lines.Op.{Op}
 use Rattle.rc_lang.specs.declared.lines.Op.TheVariants.{Load, Store, Fill, GetSqe, PrepRead, PrepWrite, PrepFsync, PrepNop, SetData64, Submit, SubmitAndWait, CqeSeen}
@@ -13,34 +13,31 @@ use Rattle.rc_lang.specs.declared.lines.Stmt.TheVariants.{Do, Put, EndLock, If, 
 use Rattle.rc_lang.specs.declared.lines.Test.TheVariants.{Compare, ReadyZero, SpaceAtLeast, Take}
 use Rattle.rc_lang.specs.declared.request.Request.{Request}
 use Rattle.rc_lang.specs.Program.{IsProgram, IsResolved, Items, Program, Thread, bytes_at, items_at, lines_in, lines_of, lists_of, shares_at, stmt_at, stmt_of}
-use Rattle.rc_rules.specs.declared.mode.Inside.{Inside}
 use Rattle.rc_rules.specs.declared.mode.Mode.{Mode}
-use Rattle.rc_rules.specs.declared.mode.Mode.TheVariants.{Locked}
 use Rattle.rc_rules.specs.declared.mode.Peeked.{Peeked}
 use Rattle.rc_rules.specs.declared.mode.Peeked.TheVariants.{Unseen, Sees, SeesOther}
 use Rattle.rc_rules.specs.declared.mode.Slot.TheVariants.{Closed, Vacant}
+use Rattle.rc_rules.specs.declared.mode.Submitting.{Submitting}
 use Rattle.rc_rules.specs.Premises.{Meets}
 use Rattle.rc_rules.specs.Needs.{line_premises}
-use Rattle.rc_rules.specs.Rules.{is_seen, kind_of, limit, owned, same_slot}
-use Rattle.rc_rules.specs.States.{is_locked}
+use Rattle.rc_rules.specs.Rules.{Locks, both_locks, is_seen, kind_of, limit, locks_of, owned, same_slot}
 use Rattle.rc_rules.proofs.Weaker.{same_slot_is}
 use Rattle.rc_split.specs.Bags.{Part, ShareOf, TokenOf, Credit, bag_of}
 use Rattle.rc_split.specs.Pools.{pooled}
 use Rattle.rc_world.specs.declared.event.Completion.{Completion}
 use Rattle.rc_world.specs.declared.fault.FaultKind.{FaultKind}
 use Rattle.rc_world.specs.declared.fault.FaultKind.TheVariants.{WriteOfPending, ReadOfFilling, KernelClash, ThreadRace, RingFull, Overflow, AmbiguousData, UnknownReap, NoLock, RawEntry, OutOfBuffer, DoublePut}
-use Rattle.rc_world.specs.declared.world.Slot.TheVariants as entries
 use Rattle.rc_world.specs.Controls.{Standing, next_at, next_line}
 use Rattle.rc_world.specs.Faults.{Access, access_at, access_by, access_of, clashes, conflicts, count_of, fault_of, front_is_one, has_data, has_fault, is_closed, is_filling, is_full_at, is_holder, is_in_flight, is_named, is_ambiguous_at, is_double_at, is_out_at, is_prepared, is_raw_at, is_ring_call, is_ring_op, is_unknown_at, is_vacant, names, op_is_out, op_is_raw, overflows, races_from, reads_filling, reads_into, writes_pending}
 use Rattle.rc_world.specs.Machine.{Pending, World, is_read, slot_len, used_entries}
 use Rattle.rc_world.proofs.Lists.{found}
 use Rattle.rc_admit.proofs.Flight.{data_in, front_is}
 use Rattle.rc_admit.proofs.Lists.{sum_to, sum_to_one, sum_to_two, sum_over, sum_over_one, Each-get}
-use Rattle.rc_admit.proofs.Moves.{fits_parts}
+use Rattle.rc_admit.proofs.Moves.{cq_has, sq_has}
 use Rattle.rc_admit.proofs.Ops.{slot_closed, slot_vacant, slot_prepared}
-use Rattle.rc_admit.proofs.Owned.{Stand, EdgeAt, HasEdge, owns, owns_pending, unheld, SlotFits, StartsWith, IsNonempty, FrontFits, Fits, held, HasKind, HasKindPending, Owned, WellOwned}
+use Rattle.rc_admit.proofs.Owned.{Stand, EdgeAt, HasEdge, owns, owns_pending, unheld, SlotFits, StartsWith, IsNonempty, FrontFits, held, HasKind, HasKindPending, Owned, WellOwned}
 use Rattle.rc_admit.proofs.Pool.{room_in_pool}
-use Rattle.rc_admit.proofs.Rule.{InRing, asks_lock, in_ring, inside_of, met, prepared_as}
+use Rattle.rc_admit.proofs.Rule.{asks_lock, called, has_both, held_of, known_sq, met, prepared_as}
 use Rattle.rc_admit.proofs.Shares.{buffer_shared, credits_owned, data_owned, data_pending, fills_all, names_one, no_clash}
 use Rattle.rc_admit.proofs.Steps.{token_owned}
 use Rattle.rc_world.proofs.LawFaultless.{without_fault}
@@ -121,9 +118,12 @@ module _ (w : World) (made : IsProgram w.program) (S : Stand) (edge : HasEdge w.
   kind_at : (k : ℕ) (x : Pending) → slice_get w.pending k ≡ Some x → HasKind P x.request
   kind_at k x e = Each-get (HasKindPending P) k w.pending x e o.pending
 
-  -- what the world has where a label is inside the lock
-  ring_at : (i : ℕ) (s : Inside) → modes i ≡ Locked s → (is_holder w.controls.holder i ≡ true) × (length w.queued + slot_len w.slot ≤ s.queued) × SlotFits w.slot s.slot × FrontFits w.controls.peeked w.completions s.peeked
-  ring_at i s e = fits_parts w (is_holder w.controls.holder i) s (subst (λ m. Fits w (is_holder w.controls.holder i) m) e (o.each i))
+  -- what the world has where a label has a lock
+  sq_at : (i : ℕ) (s : Submitting) → (modes i).sq ≡ Some s → (is_holder w.controls.holder i ≡ true) × (length w.queued + slot_len w.slot ≤ s.queued) × SlotFits w.slot s.slot
+  sq_at i s e = sq_has P S w bags modes i o s e
+
+  cq_at : (i : ℕ) (k : Peeked) → (modes i).cq ≡ Some k → (is_holder w.controls.holder i ≡ true) × FrontFits w.controls.peeked w.completions k
+  cq_at i k e = cq_has P S w bags modes i o k e
 
   -- ---- buffers
 
@@ -208,43 +208,33 @@ module _ (w : World) (made : IsProgram w.program) (S : Stand) (edge : HasEdge w.
 
   -- ---- the ring
 
-  closed_at : (i : ℕ) (s : Inside) → modes i ≡ Locked s → s.slot ≡ Closed → w.slot ≡ entries.Closed
-  closed_at i s e f = slot_closed w.slot (subst (λ x. SlotFits w.slot x) f (ring_at i s e).2)
-
-  vacant_at : (i : ℕ) (s : Inside) → modes i ≡ Locked s → s.slot ≡ Vacant → w.slot ≡ entries.Vacant
-  vacant_at i s e f = slot_vacant w.slot (subst (λ x. SlotFits w.slot x) f (ring_at i s e).2)
-
-  asked : (i : ℕ) (op : Op) → is_ring_op op ≡ true → Meets (line_premises P [] (bags i) (modes i) (Do op)) → InRing P (bags i) (modes i) op
-  asked i op r h = in_ring P (bags i) (modes i) op r h
-
   -- a call that wants no open entry, and one that wants a vacant one
-  wants_closed : (i : ℕ) (op : Op) (x : InRing P (bags i) (modes i) op) → same_slot x.inside.slot Closed ≡ true → not (is_closed w.slot) ≡ false
-  wants_closed i op x h = ap (λ y. not (is_closed y)) (closed_at i x.inside x.is (same_slot_is x.inside.slot Closed h))
+  wants_closed : (i : ℕ) (s : Submitting) → (modes i).sq ≡ Some s → same_slot s.slot Closed ≡ true → not (is_closed w.slot) ≡ false
+  wants_closed i s e h = ap (λ y. not (is_closed y)) (slot_closed w.slot (subst (λ x. SlotFits w.slot x) (same_slot_is s.slot Closed h) (sq_at i s e).2))
 
-  wants_vacant : (i : ℕ) (op : Op) (x : InRing P (bags i) (modes i) op) → same_slot x.inside.slot Vacant ≡ true → not (is_vacant w.slot) ≡ false
-  wants_vacant i op x h = ap (λ y. not (is_vacant y)) (vacant_at i x.inside x.is (same_slot_is x.inside.slot Vacant h))
+  wants_vacant : (i : ℕ) (s : Submitting) → (modes i).sq ≡ Some s → same_slot s.slot Vacant ≡ true → not (is_vacant w.slot) ≡ false
+  wants_vacant i s e h = ap (λ y. not (is_vacant y)) (slot_vacant w.slot (subst (λ x. SlotFits w.slot x) (same_slot_is s.slot Vacant h) (sq_at i s e).2))
 
   is_not_raw : (i : ℕ) (op : Op) → Meets (line_premises P [] (bags i) (modes i) (Do op)) → op_is_raw w.slot op ≡ false
-  is_not_raw i GetSqe h = let x = asked i GetSqe refl h in wants_closed i _ x (x.asked 4)
-  is_not_raw i (PrepRead fd b len off) h = let x = asked i (PrepRead fd b len off) refl h in wants_vacant i _ x (x.asked 5)
-  is_not_raw i (PrepWrite fd b len off k) h = let x = asked i (PrepWrite fd b len off k) refl h in wants_vacant i _ x (x.asked 5)
-  is_not_raw i (PrepFsync fd datasync) h = let x = asked i (PrepFsync fd datasync) refl h in wants_vacant i _ x (x.asked 5)
-  is_not_raw i PrepNop h = let x = asked i PrepNop refl h in wants_vacant i _ x (x.asked 5)
+  is_not_raw i GetSqe h = let x = called (modes i).sq _ h in wants_closed i x.known x.is (x.asked 4)
+  is_not_raw i (PrepRead fd b len off) h = let x = called (modes i).sq _ h in wants_vacant i x.known x.is (x.asked 5)
+  is_not_raw i (PrepWrite fd b len off k) h = let x = called (modes i).sq _ h in wants_vacant i x.known x.is (x.asked 5)
+  is_not_raw i (PrepFsync fd datasync) h = let x = called (modes i).sq _ h in wants_vacant i x.known x.is (x.asked 5)
+  is_not_raw i PrepNop h = let x = called (modes i).sq _ h in wants_vacant i x.known x.is (x.asked 5)
   is_not_raw i (SetData64 u) h =
-      let x = asked i (SetData64 u) refl h in
-      let k = prepared_as (kind_of P u) x.inside.slot (x.asked 6) in
-      let f = slot_prepared w.slot k.0 (subst (λ y. SlotFits w.slot y) k.2 (ring_at i x.inside x.is).2) in
+      let x = called (modes i).sq _ h in
+      let k = prepared_as (kind_of P u) x.known.slot (x.asked 6) in
+      let f = slot_prepared w.slot k.0 (subst (λ y. SlotFits w.slot y) k.2 (sq_at i x.known x.is).2) in
       ap (λ y. not (is_prepared y)) f.1
-  is_not_raw i (Submit y) h = let x = asked i (Submit y) refl h in wants_closed i _ x (x.asked 4)
-  is_not_raw i (SubmitAndWait y n) h = let x = asked i (SubmitAndWait y n) refl h in wants_closed i _ x (x.asked 4)
+  is_not_raw i (Submit y) h = let x = called (modes i).sq _ h in wants_closed i x.known x.is (x.asked 4)
+  is_not_raw i (SubmitAndWait y n) h = let x = called (modes i).sq _ h in wants_closed i x.known x.is (x.asked 4)
   is_not_raw i _ h = refl
 
-  -- what releases the lock
-  released_closed : (i : ℕ) → is_locked (modes i) ≡ true → Meets (line_premises P [] (bags i) (modes i) (EndLock 0)) → not (is_closed w.slot) ≡ false
+  -- what releases the locks
+  released_closed : (i : ℕ) → locks_of (modes i) ≡ both_locks true → Meets (line_premises P [] (bags i) (modes i) (EndLock 0)) → not (is_closed w.slot) ≡ false
   released_closed i l h =
-      let s = inside_of (modes i) l in
-      let m = met 4 (line_premises P [] (bags i) (Locked s.0) (EndLock 0)) (subst (λ n. Meets (line_premises P [] (bags i) n (EndLock 0))) s.1 h) in
-      ap (λ y. not (is_closed y)) (closed_at i s.0 s.1 (same_slot_is s.0.slot Closed m))
+      let s = held_of (modes i).sq (ap (λ (x : Locks). x.sq) l) in
+      wants_closed i s.0 s.1 (subst (λ (x : Submitting). same_slot x.slot Closed ≡ true) (known_sq (modes i) s.0 s.1) h.0)
 
   no_raw_entry : (i : ℕ) (s : Stmt) (vars : List ℤ) (k : ℕ) → EdgeAt P S i (bags i) (modes i) vars k (Some s) → is_raw_at w.slot s ≡ false
   no_raw_entry i (Do op) vars k h = is_not_raw i op h.0
@@ -252,17 +242,32 @@ module _ (w : World) (made : IsProgram w.program) (S : Stand) (edge : HasEdge w.
   no_raw_entry i (Break p true leaves) vars k h = released_closed i (h.0 refl) h.1
   no_raw_entry i _ vars k h = refl
 
-  lock_held : (i : ℕ) → is_locked (modes i) ≡ true → is_holder w.controls.holder i ≡ true
-  lock_held i l = let s = inside_of (modes i) l in (ring_at i s.0 s.1).0
+  has_sq : (i : ℕ) → is_some (modes i).sq ≡ true → is_holder w.controls.holder i ≡ true
+  has_sq i l = let s = held_of (modes i).sq l in (sq_at i s.0 s.1).0
+
+  has_cq : (i : ℕ) → is_some (modes i).cq ≡ true → is_holder w.controls.holder i ≡ true
+  has_cq i l = let k = held_of (modes i).cq l in (cq_at i k.0 k.1).0
+
+  op_locked : (i : ℕ) (op : Op) → Meets (line_premises P [] (bags i) (modes i) (Do op)) → is_ring_op op ≡ true → is_holder w.controls.holder i ≡ true
+  op_locked i GetSqe h r = has_sq i (asks_lock (modes i).sq _ h)
+  op_locked i (PrepRead fd b len off) h r = has_sq i (asks_lock (modes i).sq _ h)
+  op_locked i (PrepWrite fd b len off k) h r = has_sq i (asks_lock (modes i).sq _ h)
+  op_locked i (PrepFsync fd datasync) h r = has_sq i (asks_lock (modes i).sq _ h)
+  op_locked i PrepNop h r = has_sq i (asks_lock (modes i).sq _ h)
+  op_locked i (SetData64 u) h r = has_sq i (asks_lock (modes i).sq _ h)
+  op_locked i (Submit x) h r = has_sq i (asks_lock (modes i).sq _ h)
+  op_locked i (SubmitAndWait x n) h r = has_sq i (asks_lock (modes i).sq _ h)
+  op_locked i CqeSeen h r = has_cq i (asks_lock (modes i).cq _ h)
+  op_locked i _ h r = absurd (cc)
 
   call_locked : (i : ℕ) (s : Stmt) (vars : List ℤ) (k : ℕ) → EdgeAt P S i (bags i) (modes i) vars k (Some s) → is_ring_call s ≡ true → is_holder w.controls.holder i ≡ true
-  call_locked i (Do op) vars k h r = let x = asked i op r h.0 in (ring_at i x.inside x.is).0
-  call_locked i (Peek x) vars k h r = lock_held i (asks_lock (modes i) _ h.0)
-  call_locked i (If ReadyZero) vars k h r = lock_held i (asks_lock (modes i) _ h.0)
-  call_locked i (If (SpaceAtLeast n)) vars k h r = lock_held i (asks_lock (modes i) _ h.0)
-  call_locked i (If (Take n)) vars k h r = lock_held i (asks_lock (modes i) _ h.0)
+  call_locked i (Do op) vars k h r = op_locked i op h.0 r
+  call_locked i (Peek x) vars k h r = has_cq i (asks_lock (modes i).cq _ h.0)
+  call_locked i (If ReadyZero) vars k h r = has_sq i (asks_lock (modes i).sq _ h.0)
+  call_locked i (If (SpaceAtLeast n)) vars k h r = has_sq i (asks_lock (modes i).sq _ h.0)
+  call_locked i (If (Take n)) vars k h r = has_sq i (asks_lock (modes i).sq _ h.0)
   call_locked i (If (Compare x c n)) vars k h r = absurd (cc)
-  call_locked i (Put n) vars k h r = lock_held i (asks_lock (modes i) _ h.0)
+  call_locked i (Put n) vars k h r = has_sq i (asks_lock (modes i).sq _ h.0)
   call_locked i _ vars k h r = absurd (cc)
 
   no_lock_missing : (i : ℕ) (s : Stmt) (vars : List ℤ) (k : ℕ) → EdgeAt P S i (bags i) (modes i) vars k (Some s) → (is_ring_call s && not (is_holder w.controls.holder i)) ≡ false
@@ -277,9 +282,9 @@ module _ (w : World) (made : IsProgram w.program) (S : Stand) (edge : HasEdge w.
 
   no_ring_full : (i : ℕ) (s : Stmt) (vars : List ℤ) (k : ℕ) → EdgeAt P S i (bags i) (modes i) vars k (Some s) → is_full_at w s ≡ false
   no_ring_full i (Do GetSqe) vars k h =
-      let s = asked i GetSqe refl h.0 in
-      let x : length w.queued + slot_len w.slot ≤ s.inside.queued = (ring_at i s.inside s.is).1 in
-      let y : s.inside.queued < P.entries = ltb-true _ _ (s.asked 3) in
+      let s = called (modes i).sq _ h.0 in
+      let x : length w.queued + slot_len w.slot ≤ s.known.queued = (sq_at i s.known s.is).1 in
+      let y : s.known.queued < P.entries = ltb-true _ _ (s.asked 3) in
       lt-leb P.entries (used_entries w) (omega arith)
   no_ring_full i (Do _) vars k h = refl
   no_ring_full i _ vars k h = refl
@@ -305,7 +310,7 @@ module _ (w : World) (made : IsProgram w.program) (S : Stand) (edge : HasEdge w.
       (false_from_ne_true (list_any (has_data u) w.completed) (λ e. let x : 1 ≤ sum_over (owns P (TokenOf u)) w.completed = data_owned P u w.completed e in omega arith))
 
   no_ambiguous_data : (i : ℕ) (s : Stmt) (vars : List ℤ) (k : ℕ) → i < length w.controls.threads → EdgeAt P S i (bags i) (modes i) vars k (Some s) → is_ambiguous_at w s ≡ false
-  no_ambiguous_data i (Do (SetData64 u)) vars k lt h = let s = asked i (SetData64 u) refl h.0 in and_right (is_prepared w.slot) (is_in_flight w u) (no_data_twice i u lt (leb-true 1 _ (s.asked 10)))
+  no_ambiguous_data i (Do (SetData64 u)) vars k lt h = let s = called (modes i).sq _ h.0 in and_right (is_prepared w.slot) (is_in_flight w u) (no_data_twice i u lt (leb-true 1 _ (s.asked 10)))
   no_ambiguous_data i (Do _) vars k lt h = refl
   no_ambiguous_data i _ vars k lt h = refl
 
@@ -339,8 +344,8 @@ module _ (w : World) (made : IsProgram w.program) (S : Stand) (edge : HasEdge w.
 
   no_unknown_reap : (i : ℕ) (s : Stmt) (vars : List ℤ) (k : ℕ) → EdgeAt P S i (bags i) (modes i) vars k (Some s) → is_unknown_at w s ≡ false
   no_unknown_reap i (Do CqeSeen) vars k h =
-      let s = asked i CqeSeen refl h.0 in
-      let f = front_fits s.inside.peeked (s.asked 11) (ring_at i s.inside s.is).3 in
+      let s = called (modes i).cq _ h.0 in
+      let f = front_fits s.known (s.asked 11) (cq_at i s.known s.is).1 in
       not_from_true (w.controls.peeked && front_is_one w w.completions) (and_from w.controls.peeked (front_is_one w w.completions) f.0 (front_one w.completions refl f.1))
   no_unknown_reap i (Do _) vars k h = refl
   no_unknown_reap i _ vars k h = refl
@@ -348,8 +353,8 @@ module _ (w : World) (made : IsProgram w.program) (S : Stand) (edge : HasEdge w.
   op_within : (i : ℕ) (op : Op) → Meets (line_premises P [] (bags i) (modes i) (Do op)) → op_is_out P op ≡ false
   op_within i (Load x b j) h = lt-leb (bytes_at P.buffers b) j (ltb-true _ _ (met 9 (line_premises P [] (bags i) (modes i) (Do (Load x b j))) h))
   op_within i (Store b j x) h = lt-leb (bytes_at P.buffers b) j (ltb-true _ _ (met 9 (line_premises P [] (bags i) (modes i) (Do (Store b j x))) h))
-  op_within i (PrepRead fd b len off) h = let s = asked i (PrepRead fd b len off) refl h in not_from_true (nat_le len (bytes_at P.buffers b)) (s.asked 9)
-  op_within i (PrepWrite fd b len off k) h = let s = asked i (PrepWrite fd b len off k) refl h in not_from_true (nat_le len (bytes_at P.buffers b)) (s.asked 9)
+  op_within i (PrepRead fd b len off) h = let s = called (modes i).sq _ h in not_from_true (nat_le len (bytes_at P.buffers b)) (s.asked 9)
+  op_within i (PrepWrite fd b len off k) h = let s = called (modes i).sq _ h in not_from_true (nat_le len (bytes_at P.buffers b)) (s.asked 9)
   op_within i _ h = refl
 
   no_out_of_buffer : (i : ℕ) (s : Stmt) (vars : List ℤ) (k : ℕ) → EdgeAt P S i (bags i) (modes i) vars k (Some s) → is_out_at P s ≡ false
@@ -361,8 +366,7 @@ module _ (w : World) (made : IsProgram w.program) (S : Stand) (edge : HasEdge w.
   -- What a thread holds isn't in the pool.
   room_for_put : (i : ℕ) (items : Items) → i < length w.controls.threads → Meets (line_premises P (items ∷ []) (bags i) (modes i) (Put 0)) → (p : Part) → pooled P w.controls.pool p + bag_of items p ≤ limit P p
   room_for_put i items lt h p =
-      let s = inside_of (modes i) (asks_lock (modes i) _ h) in
-      let mine : bag_of items p ≤ bags i p = (subst (λ m. Meets (line_premises P (items ∷ []) (bags i) m (Put 0))) s.1 h).0 p in
+      let mine : bag_of items p ≤ bags i p = (has_both (modes i).sq (modes i).cq _ h).asked.0 p in
       let all : bags i p + unheld P w p ≤ limit P p = one_and_flight p i lt in
       omega arith
 

@@ -21,24 +21,21 @@ use Rattle.rc_lang.proofs.Lookups.{blocks_next, in_lock_more, in_lock_pushed, li
 use Rattle.rc_lang.proofs.Rests.{laid_in}
 use Rattle.rc_lang.proofs.Spans.{case_between, nothing_between, other_between}
 use Rattle.rc_rules.specs.declared.mode.Mode.{Mode}
-use Rattle.rc_rules.specs.declared.mode.Mode.TheVariants.{Unlocked, Locked}
 use Rattle.rc_rules.specs.declared.mode.Peeked.{Peeked}
 use Rattle.rc_rules.specs.declared.mode.Peeked.TheVariants.{Unseen, Sees, SeesOther}
-use Rattle.rc_rules.specs.declared.mode.Slot.TheVariants.{Closed}
 use Rattle.rc_rules.specs.Labels.{Label, Dead, Live, Weaker, WeakerThanEach}
 use Rattle.rc_rules.specs.Labellings.{IsGood, IsGoodAt, here, label_at, skipped}
 use Rattle.rc_rules.specs.declared.flag.Write.TheVariants.{Anything}
 use Rattle.rc_rules.specs.Sides.{Sides, brings, forgets, may_skip, on, test_goes, turns, unreached, write_of, write_to}
 use Rattle.rc_rules.specs.Premises.{Meets, Premise}
 use Rattle.rc_rules.specs.Needs.{line_premises}
-use Rattle.rc_rules.specs.Rules.{asks, asks_both, broken, case_at, goes, op_effect, peek_at, premises_of, put_effect, stmt_needs, test_effect, top_mode, under_lock, with_peeked}
-use Rattle.rc_rules.specs.States.{is_locked}
+use Rattle.rc_rules.specs.Rules.{Locks, asks, asks_both, both_locks, broken, case_at, goes, locked, locks_of, op_effect, peek_at, premises_of, put_effect, stmt_needs, test_effect, top_mode, unlocked, with_lock, with_peeked}
 use Rattle.rc_rules.proofs.Rising.{leave_same, op_same, test_same}
-use Rattle.rc_rules.proofs.Weaker.{locked_same, peeked_grows, peeked_locked, weaker_trans}
+use Rattle.rc_rules.proofs.Weaker.{locks_same, peeked_grows, peeked_locks, weaker_trans}
 use Rattle.rc_split.specs.Bags.{Part, TokenOf, bag_of, bag_on, minus}
 use Rattle.rc_world.specs.Controls.{arm_for, none_arm}
 use Rattle.rc_admit.proofs.FlatLooks.{arm_in, arm_is, break_in, get_take, len_take, none_is_at}
-use Rattle.rc_admit.proofs.FlatRules.{IsBelow, behind_break, behind_op, behind_test, below, covered, for_each, top_same, unlocked_of, where_known}
+use Rattle.rc_admit.proofs.FlatRules.{IsBelow, behind_break, behind_op, behind_test, below, covered, for_each, locks_behind, top_same, where_known}
 use Rattle.rc_admit.proofs.Lists.{Each, Each-append}
 use Rattle.rc_admit.proofs.Owned.{EdgeAt, HasEdge, Leads, MayBecome, MayPass, Stand}
 use Rattle.rc_admit.proofs.Rule.{AtLive, asks_lock}
@@ -46,13 +43,13 @@ use Rattle.rc_admit.proofs.Sides.{IsStored, any_turns, brought, loop_turns, meet
 
 -- ---- how a thread stands
 
--- With some variables, a label on their side that is live, in a lock exactly where its place is.
+-- With some variables, a label on their side that is live, with both locks exactly where its place is in a lock.
 pub record Entered (flag : Option ℕ) (lines : List Line) (labels : List Sides) (o : ℕ) : Type 0 where
   pub variables : List ℤ
   pub bag : Part → ℕ
   pub mode : Mode
   pub label : label_at labels o (side_of flag variables) ≡ Live bag mode
-  pub locked : is_locked mode ≡ in_lock (blocks_at lines o)
+  pub locked : locks_of mode ≡ both_locks (in_lock (blocks_at lines o))
 
 -- A loop and a peek were entered with a live label.
 abbrev pub Enters : Option ℕ → List Line → List Sides → Block → Type 0
@@ -64,7 +61,7 @@ Enters flag lines labels _ = Unit {0}
 pub record At (flag : Option ℕ) (lines : List Line) (labels : List Sides) (b : Part → ℕ) (m : Mode) (vars : List ℤ) (k : ℕ) : Type 0 where
   pub label : label_at labels k (side_of flag vars) ≡ Live b m
   pub stored : IsStored flag vars
-  pub locked : is_locked m ≡ in_lock (blocks_at lines k)
+  pub locked : locks_of m ≡ both_locks (in_lock (blocks_at lines k))
   pub openers : Each (Enters flag lines labels) (blocks_at lines k)
 
 -- with the labels of some labelling that obeys the rules
@@ -122,7 +119,7 @@ module _ (P : Program) (wf : IsProgram P) (i : ℕ) (thread : Thread) (labels : 
   skipped_is k j z s t lt e may w = ungate (may_skip flag z (stmt_at (take j lines) k)) t _ (ap (may_skip flag z) (stmt_is k j s lt e) ∙ may) w
 
   -- to a place where these blocks are open
-  pub lead : (b : Part → ℕ) (m : Mode) (new : List ℤ) (k : ℕ) (bs : List Block) → blocks_at lines k ≡ bs → is_locked m ≡ in_lock bs → IsStored flag new → Each (Enters flag lines labels) bs → Weaker (label_at labels k (side_of flag new)) (Live b m) → Leads (Labelled P) i b m new k
+  pub lead : (b : Part → ℕ) (m : Mode) (new : List ℤ) (k : ℕ) (bs : List Block) → blocks_at lines k ≡ bs → locks_of m ≡ both_locks (in_lock bs) → IsStored flag new → Each (Enters flag lines labels) bs → Weaker (label_at labels k (side_of flag new)) (Live b m) → Leads (Labelled P) i b m new k
   lead b m new k bs n l h os w =
       let s = below (label_at labels k (side_of flag new)) b m w in
       record {
@@ -138,7 +135,7 @@ module _ (P : Program) (wf : IsProgram P) (i : ℕ) (thread : Thread) (labels : 
           record {
             label = s.is;
             stored = h;
-            locked = locked_same s.mode m s.weaker ∙ l ∙ ap in_lock (sym n);
+            locked = locks_same s.mode m s.weaker ∙ l ∙ ap (λ x. both_locks (in_lock x)) (sym n);
             openers = subst (λ x. Each In x) (sym n) os;
           },
         );
@@ -157,24 +154,24 @@ module _ (P : Program) (wf : IsProgram P) (i : ℕ) (thread : Thread) (labels : 
     entered = record { variables = vars; bag = b; mode = m; label = a.label; locked = a.locked }
 
     -- to a place that is in the same blocks
-    same : (c : Part → ℕ) (n : Mode) (new : List ℤ) (j : ℕ) → blocks_at lines j ≡ blocks_at lines k → is_locked n ≡ is_locked m → IsStored flag new → Weaker (label_at labels j (side_of flag new)) (Live c n) → Leads (Labelled P) i c n new j
+    same : (c : Part → ℕ) (n : Mode) (new : List ℤ) (j : ℕ) → blocks_at lines j ≡ blocks_at lines k → locks_of n ≡ locks_of m → IsStored flag new → Weaker (label_at labels j (side_of flag new)) (Live c n) → Leads (Labelled P) i c n new j
     same c n new j e l h w = lead c n new j (blocks_at lines k) e (l ∙ a.locked) h a.openers w
 
     -- into blocks that are opened here, none of them a lock
-    into : (c : Part → ℕ) (n : Mode) (new : List ℤ) (j : ℕ) (bs : List Block) → blocks_at lines j ≡ blocks_at lines k ++ bs → in_lock bs ≡ false → IsStored flag new → Each (Enters flag lines labels) bs → is_locked n ≡ is_locked m → Weaker (label_at labels j (side_of flag new)) (Live c n) → Leads (Labelled P) i c n new j
+    into : (c : Part → ℕ) (n : Mode) (new : List ℤ) (j : ℕ) (bs : List Block) → blocks_at lines j ≡ blocks_at lines k ++ bs → in_lock bs ≡ false → IsStored flag new → Each (Enters flag lines labels) bs → locks_of n ≡ locks_of m → Weaker (label_at labels j (side_of flag new)) (Live c n) → Leads (Labelled P) i c n new j
     into c n new j bs e f h os l w =
         let s : in_lock (blocks_at lines k ++ bs) ≡ in_lock (blocks_at lines k) = in_lock_more (blocks_at lines k) bs ∙ ap (λ x. in_lock (blocks_at lines k) || x) f ∙ or-false (in_lock (blocks_at lines k)) in
-        lead c n new j (blocks_at lines k ++ bs) e (l ∙ a.locked ∙ sym s) h (Each-append In (blocks_at lines k) bs a.openers os) w
+        lead c n new j (blocks_at lines k ++ bs) e (l ∙ a.locked ∙ ap both_locks (sym s)) h (Each-append In (blocks_at lines k) bs a.openers os) w
 
     -- out of blocks, with the same variables
-    out : (c : Part → ℕ) (n : Mode) (j : ℕ) (bs cs : List Block) → blocks_at lines k ≡ bs ++ cs → blocks_at lines j ≡ bs → is_locked n ≡ in_lock bs → Weaker (label_at labels j (side_of flag vars)) (Live c n) → Leads (Labelled P) i c n vars j
+    out : (c : Part → ℕ) (n : Mode) (j : ℕ) (bs cs : List Block) → blocks_at lines k ≡ bs ++ cs → blocks_at lines j ≡ bs → locks_of n ≡ both_locks (in_lock bs) → Weaker (label_at labels j (side_of flag vars)) (Live c n) → Leads (Labelled P) i c n vars j
     out c n j bs cs d e l w = lead c n vars j bs e l a.stored (Each-left In bs cs (subst (λ x. Each In x) d a.openers)) w
 
     -- of which none is a lock
-    out_same : (c : Part → ℕ) (n : Mode) (j : ℕ) (bs cs : List Block) → blocks_at lines k ≡ bs ++ cs → blocks_at lines j ≡ bs → in_lock cs ≡ false → is_locked n ≡ is_locked m → Weaker (label_at labels j (side_of flag vars)) (Live c n) → Leads (Labelled P) i c n vars j
+    out_same : (c : Part → ℕ) (n : Mode) (j : ℕ) (bs cs : List Block) → blocks_at lines k ≡ bs ++ cs → blocks_at lines j ≡ bs → in_lock cs ≡ false → locks_of n ≡ locks_of m → Weaker (label_at labels j (side_of flag vars)) (Live c n) → Leads (Labelled P) i c n vars j
     out_same c n j bs cs d e f l w =
         let s : in_lock (blocks_at lines k) ≡ in_lock bs = ap in_lock d ∙ in_lock_more bs cs ∙ ap (λ x. in_lock bs || x) f ∙ or-false (in_lock bs) in
-        out c n j bs cs d e (l ∙ a.locked ∙ s) w
+        out c n j bs cs d e (l ∙ a.locked ∙ ap both_locks s) w
 
     -- the opener of a block that is open here was entered
     opener : (outer : List Block) (o : Block) (inner : List Block) → blocks_at lines k ≡ outer ++ o ∷ inner → Enters flag lines labels o
@@ -220,11 +217,8 @@ module _ (P : Program) (wf : IsProgram P) (i : ℕ) (thread : Thread) (labels : 
 
     lock_edge : stmt_at lines k ≡ Some Lock → EdgeAt P (Labelled P) i b m vars k (Some Lock)
     lock_edge e =
-        let inside : Mode = Locked (record { queued = P.left; slot = Closed; peeked = Unseen }) in
-        let l : true ≡ in_lock (blocks_at lines k ++ InLock k ∷ []) = sym (in_lock_pushed (blocks_at lines k) (InLock k) ∙ or-true (in_lock (blocks_at lines k))) in (
-          unlocked_of m (a.locked ∙ (nested_here lines laid.each k Lock e).0),
-          lead b inside vars (k + 1) (blocks_at lines k ++ InLock k ∷ []) (blocks_next lines k Lock e) l a.stored (Each-append In (blocks_at lines k) (InLock k ∷ []) a.openers (tt, tt)) (comes Lock (λ bag m. Live bag inside) (label_at labels (k + 1) side) e ((good_at k Lock e).after side).0),
-        )
+        let l : true ≡ in_lock (blocks_at lines k ++ InLock k ∷ []) = sym (in_lock_pushed (blocks_at lines k) (InLock k) ∙ or-true (in_lock (blocks_at lines k))) in
+        lead b (locked P) vars (k + 1) (blocks_at lines k ++ InLock k ∷ []) (blocks_next lines k Lock e) (ap both_locks l) a.stored (Each-append In (blocks_at lines k) (InLock k ∷ []) a.openers (tt, tt)) (comes Lock (λ bag m. Live bag (locked P)) (label_at labels (k + 1) side) e ((good_at k Lock e).after side).0)
 
     unlock_edge : (o : ℕ) → stmt_at lines k ≡ Some (EndLock o) → EdgeAt P (Labelled P) i b m vars k (Some (EndLock o))
     unlock_edge o e =
@@ -232,7 +226,7 @@ module _ (P : Program) (wf : IsProgram P) (i : ℕ) (thread : Thread) (labels : 
         let c = closes_lock lines laid.each k o e in
         let l : in_lock (blocks_at lines k) ≡ true = ap in_lock c.within ∙ in_lock_pushed (blocks_at lines o) (InLock o) ∙ or-true (in_lock (blocks_at lines o)) in
         let f : in_lock (blocks_at lines o) ≡ false = (nested_here lines laid.each o Lock c.stands).0 in
-        (a.locked ∙ l, asked (EndLock o) (λ z bag m. line_premises P [] bag m (EndLock 0)) e g.meets, out b Unlocked (k + 1) (blocks_at lines o) (InLock o ∷ []) c.within c.behind (sym f) (comes (EndLock o) (λ bag m. Live bag Unlocked) (label_at labels (k + 1) side) e (g.after side).0))
+        (a.locked ∙ ap both_locks l, asked (EndLock o) (λ z bag m. line_premises P [] bag m (EndLock 0)) e g.meets, out b unlocked (k + 1) (blocks_at lines o) (InLock o ∷ []) c.within c.behind (ap both_locks (sym f)) (comes (EndLock o) (λ bag m. Live bag unlocked) (label_at labels (k + 1) side) e (g.after side).0))
 
     -- a false if
     false_edge : (test : Test) → stmt_at lines k ≡ Some (If test) → MayPass test vars false → Leads (Labelled P) i b m vars (end_at P i k + 1)
@@ -297,7 +291,7 @@ module _ (P : Program) (wf : IsProgram P) (i : ℕ) (thread : Thread) (labels : 
         -- what leads into an arm is no stronger than what is here
         lands : (v : ℤ) (c : ℕ) (f : Peeked) → blocks_at lines (c + 1) ≡ blocks_at lines k ++ InPeek k ∷ InArm k ∷ [] → Weaker (label_at labels (c + 1) (turned x v)) (Live (behind v).bag (with_peeked f (behind v).mode)) → Leads (Labelled P) i b (with_peeked f m) (slice_set vars x v) (c + 1)
         lands v c f n w =
-            into b (with_peeked f m) (slice_set vars x v) (c + 1) (InPeek k ∷ InArm k ∷ []) n refl (stored_set flag vars x v a.stored) (entered, (tt, tt)) (peeked_locked f m) (weaker_trans (label_at labels (c + 1) (turned x v)) (Live (behind v).bag (with_peeked f (behind v).mode)) (Live b (with_peeked f m)) w ((behind v).less, peeked_grows f (behind v).mode m (behind v).weaker))
+            into b (with_peeked f m) (slice_set vars x v) (c + 1) (InPeek k ∷ InArm k ∷ []) n refl (stored_set flag vars x v a.stored) (entered, (tt, tt)) (peeked_locks f m) (weaker_trans (label_at labels (c + 1) (turned x v)) (Live (behind v).bag (with_peeked f (behind v).mode)) (Live b (with_peeked f m)) w ((behind v).less, peeked_grows f (behind v).mode m (behind v).weaker))
 
         to_case : (u : ℕ) (v : ℤ) (c : ℕ) → stmt_at lines c ≡ Some (Case k u) → (1 ≤ b (TokenOf u)) ⊎ Leads (Labelled P) i b (with_peeked (Sees u) m) (slice_set vars x v) (c + 1)
         to_case u v c d =
@@ -326,7 +320,7 @@ module _ (P : Program) (wf : IsProgram P) (i : ℕ) (thread : Thread) (labels : 
     peek_inside : (o x : ℕ) → stmt_at lines o ≡ Some (Peek x) → Entered flag lines labels o → in_lock (blocks_at lines o) ≡ true
     peek_inside o x e h =
         let z : Bool = side_of flag h.variables in
-        sym h.locked ∙ asks_lock h.mode _ (subst (λ s. Meets (asks s (λ bag n. under_lock 1 n (λ i. [])))) (here_is o z (Peek x) e ∙ h.label) (meets_side (λ y. asks (here (take o lines) (take (o + 1) labels) y) (λ bag n. under_lock 1 n (λ i. []))) z (good_at o (Peek x) e).meets))
+        sym (ap (λ (l : Locks). l.cq) h.locked) ∙ asks_lock h.mode.cq _ (subst (λ s. Meets (asks s (λ bag n. with_lock 1 n.cq (λ p. [])))) (here_is o z (Peek x) e ∙ h.label) (meets_side (λ y. asks (here (take o lines) (take (o + 1) labels) y) (λ bag n. with_lock 1 n.cq (λ p. []))) z (good_at o (Peek x) e).meets))
 
     arm_edge : (o : ℕ) → stmt_at lines k ≡ Some (EndArm o) → EdgeAt P (Labelled P) i b m vars k (Some (EndArm o))
     arm_edge o e =
@@ -337,7 +331,7 @@ module _ (P : Program) (wf : IsProgram P) (i : ℕ) (thread : Thread) (labels : 
         let inside : in_lock (blocks_at lines o) ≡ true = peek_inside o c.variable c.stands (opener (blocks_at lines o) (InPeek o) (InArm o ∷ []) c.within) in
         let here_inside : in_lock (blocks_at lines k) ≡ true = ap in_lock c.within ∙ in_lock_more (blocks_at lines o) (InPeek o ∷ InArm o ∷ []) ∙ or_first (in_lock (blocks_at lines o)) false inside in
         let w = arm_in side (take (end_at P i o) lines) (take (end_at P i o + 1) labels) (label_at labels (end_at P i o + 1) side) k o l.0 (get_take (end_at P i o) k lines l.0 lt l.1) l.2 ((good_at (end_at P i o) (EndPeek o) h.stands).after side) in
-        (a.locked ∙ here_inside, out_same b (with_peeked Unseen m) (end_at P i o + 1) (blocks_at lines o) (InPeek o ∷ InArm o ∷ []) c.within h.lands.blocks refl (peeked_locked Unseen m) (subst (λ s. Weaker (label_at labels (end_at P i o + 1) side) (peek_at Unseen s)) (known_at (end_at P i o) (omega arith)) w))
+        (ap (λ (l : Locks). l.cq) (a.locked ∙ ap both_locks here_inside), out_same b (with_peeked Unseen m) (end_at P i o + 1) (blocks_at lines o) (InPeek o ∷ InArm o ∷ []) c.within h.lands.blocks refl (peeked_locks Unseen m) (subst (λ s. Weaker (label_at labels (end_at P i o + 1) side) (peek_at Unseen s)) (known_at (end_at P i o) (omega arith)) w))
 
     loop_edge : (n : ℕ) → stmt_at lines k ≡ Some (Loop n) → EdgeAt P (Labelled P) i b m vars k (Some (Loop n))
     loop_edge n e =
@@ -355,7 +349,7 @@ module _ (P : Program) (wf : IsProgram P) (i : ℕ) (thread : Thread) (labels : 
         let top_of : Label → Label = λ l. goes l (λ bag q. Live (bag_on side items) (top_mode P items q)) in
         let y = brought (λ y. turns (forgets flag) y side) top_of (here (take o lines) (take (o + 1) labels)) (label_at labels (o + 1) side) (side_of flag h.variables) (loop_turns flag h.variables vars) ((good_at o (Loop n) c.stands).after side) in
         let w = subst (λ s. Weaker (label_at labels (o + 1) side) (top_of s)) (here_is o (side_of flag h.variables) (Loop n) c.stands ∙ h.label) y in
-        let s : is_locked h.mode ≡ is_locked m = h.locked ∙ sym (a.locked ∙ ap in_lock c.within ∙ same_lock (blocks_at lines o) (InLoop o n) refl) in
+        let s : locks_of h.mode ≡ locks_of m = h.locked ∙ sym (a.locked ∙ ap both_locks (ap in_lock c.within ∙ same_lock (blocks_at lines o) (InLoop o n) refl)) in
         let v = subst (λ l. Weaker (label_at labels (o + 1) side) (Live (bag_on side items) l)) (top_same P items h.mode m s) w in
         same b m vars (o + 1) (back_leads lines ends laid k o n e).1 refl a.stored (weaker_trans (label_at labels (o + 1) side) (Live (bag_on side items) (top_mode P items m)) (Live b m) v (covered P 14 items side b m (asked (EndLoop o n) (λ z bag l. premises_of P thread.lists z bag l (stmt_needs (EndLoop o n))) e (good_at k (EndLoop o n) e).meets)))
 
@@ -366,10 +360,10 @@ module _ (P : Program) (wf : IsProgram P) (i : ℕ) (thread : Thread) (labels : 
         let lt : k < end_at P i o = laid.linked k (Break o releases leaves) e in
         let l = line_with lines k (Break o releases leaves) e in
         let w = break_in side (take (end_at P i o) lines) (take (end_at P i o + 1) labels) (label_at labels (end_at P i o + 1) side) k o releases leaves l.0 (get_take (end_at P i o) k lines l.0 lt l.1) l.2 ((good_at (end_at P i o) (EndLoop o h.0) h.1.stands).after side) in (
-          λ t. elim (or_cases releases leaves t) [ inl r ↦ a.locked ∙ c.locked r | inr r ↦ a.locked ∙ in_peek_locked (c.peeked ∙ r) ],
+          λ t. elim (or_cases releases leaves t) [ inl r ↦ a.locked ∙ ap both_locks (c.locked r) | inr r ↦ a.locked ∙ ap both_locks (in_peek_locked (c.peeked ∙ r)) ],
           subst Meets (leave_same P thread.lists side b m o releases leaves) (asked (Break o releases leaves) (λ z bag n. premises_of P thread.lists z bag n (stmt_needs (Break o releases leaves))) e (good_at k (Break o releases leaves) e).meets),
           behind_break b m releases (λ d n. Leads (Labelled P) i d n vars (end_at P i o + 1)) (label_at labels (end_at P i o + 1) side) (subst (λ s. Weaker (label_at labels (end_at P i o + 1) side) (broken releases s)) (known_at (end_at P i o) (omega arith)) w)
-              (λ n s v. out b n (end_at P i o + 1) (blocks_at lines o) (InLoop o c.number ∷ c.inner) c.within h.1.lands.blocks (s ∙ ap (λ x. cond releases false x) a.locked ∙ sym c.lock_outside) v),
+              (λ n s v. out b n (end_at P i o + 1) (blocks_at lines o) (InLoop o c.number ∷ c.inner) c.within h.1.lands.blocks (s ∙ ap (λ x. cond releases (both_locks false) x) a.locked ∙ locks_behind releases (in_lock (blocks_at lines k)) ∙ ap both_locks (sym c.lock_outside)) v),
         )
       where
         in_peek_locked : in_peek (blocks_at lines k) ≡ true → in_lock (blocks_at lines k) ≡ true

@@ -4,12 +4,11 @@ use Rattle.std.specs.Prelude.{ℤ, pos, IfSome, replicate, slice_get}
 use Rattle.std.specs.Ordering.{int_eq}
 use Rattle.std.proofs.lemmas.List.{get_or-replicate, length-replicate}
 use Rattle.rc_lang.specs.Program.{IsProgram, Program, Thread, lines_in, lines_of, lists_in}
-use Rattle.rc_rules.specs.declared.mode.Mode.TheVariants.{Unlocked}
 use Rattle.rc_rules.specs.Labels.{Live, Weaker}
 use Rattle.rc_rules.specs.Sides.{on}
 use Rattle.rc_rules.specs.Labellings.{Accepts, IsGood, header_premises, headers_bag, label_at, start_of}
 use Rattle.rc_rules.specs.Premises.{Meets}
-use Rattle.rc_rules.specs.Rules.{limit}
+use Rattle.rc_rules.specs.Rules.{limit, unlocked}
 use Rattle.rc_split.specs.Bags.{Part, ShareOf, TokenOf, Credit, bag_of}
 use Rattle.rc_rules.proofs.Weaker.{same_below}
 use Rattle.rc_admit.proofs.Flat.{Labelled, lead}
@@ -36,7 +35,7 @@ labelled_start P made accepts i t e =
     let good : IsGood P t (lines_of P i) h.0 = subst (λ x. IsGood P t x h.0) (sym (ap lines_in e)) h.1 in
     let it = made.each i t e in
     let stored = flag_stored t.flag (length t.variables) it.flag.variable it.few_variables in
-    lead P made i t h.0 (ap lists_in e) good (bag_of t.items) Unlocked zeros 0 [] refl refl stored tt (subst (λ z. Weaker (label_at h.0 0 z) (Live (bag_of t.items) Unlocked)) (sym (side_zero t.flag stored)) (same_below (label_at h.0 0 true) (on true (start_of t)) (h.1.begins true)))
+    lead P made i t h.0 (ap lists_in e) good (bag_of t.items) unlocked zeros 0 [] refl refl stored tt (subst (λ z. Weaker (label_at h.0 0 z) (Live (bag_of t.items) unlocked)) (sym (side_zero t.flag stored)) (same_below (label_at h.0 0 true) (on true (start_of t)) (h.1.begins true)))
 
 last : {A : Type 0} (x : A) (xs : List A) → (y : A) × (slice_get (x ∷ xs) (length xs) ≡ Some y)
 last x [] = (x, refl)

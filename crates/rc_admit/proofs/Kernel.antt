@@ -5,8 +5,6 @@ use Rattle.rc_lang.specs.declared.lines.Line.{Line}
 use Rattle.rc_lang.specs.declared.request.Request.{Request}
 use Rattle.rc_lang.specs.Program.{IsProgram, Program, lines_of, stmt_of}
 use Rattle.rc_lang.specs.Requests.{may_complete}
-use Rattle.rc_rules.specs.declared.mode.Mode.{Mode}
-use Rattle.rc_rules.specs.declared.mode.Mode.TheVariants.{Unlocked, Locked}
 use Rattle.rc_rules.specs.declared.mode.Peeked.{Peeked}
 use Rattle.rc_rules.specs.declared.mode.Peeked.TheVariants.{Unseen, Sees, SeesOther}
 use Rattle.rc_rules.specs.Rules.{limit}
@@ -18,7 +16,7 @@ use Rattle.rc_world.specs.Machine.{Pending, World, bytes_brought, completes, com
 use Rattle.rc_admit.proofs.Flight.{agree_more, completed_sum}
 use Rattle.rc_admit.proofs.Lists.{sum_to, sum_over, Each-append, Each-without, Each-get}
 use Rattle.rc_admit.proofs.Ops.{Keeps}
-use Rattle.rc_admit.proofs.Owned.{Stand, HasEdge, EdgeAt, owns, owns_pending, unheld, FrontFits, Fits, held, HasKind, HasKindPending, WellOwned}
+use Rattle.rc_admit.proofs.Owned.{Stand, HasEdge, EdgeAt, owns, owns_pending, unheld, FrontFits, held, held_map, HasKind, HasKindPending, WellOwned}
 use Rattle.rc_admit.proofs.Steps.{line_keeps}
 
 -- It holds of the world after a step, where that can be made.
@@ -50,12 +48,6 @@ front_more b (c ∷ cs) ds (Sees u) f = f
 front_more b [] ds SeesOther f = absurd f.1
 front_more b (c ∷ cs) ds SeesOther f = f
 
-fits_more : (w : World) (k : ℕ) (res : ℤ) (r : Request) (bs : List (Option (List ℕ))) (h : Bool) (m : Mode) → Fits w h m → Fits (completes w k res r bs) h m
-fits_more w k res r bs false Unlocked f = tt
-fits_more w k res r bs true Unlocked f = f
-fits_more w k res r bs false (Locked s) f = f
-fits_more w k res r bs true (Locked s) f = (f.0, f.1, front_more w.controls.peeked w.completions (completion_of r res ∷ []) s.peeked f.2)
-
 completes_keeps : (P : Program) (S : Stand) (w : World) (k : ℕ) (res : ℤ) (x : Pending) (bs : List (Option (List ℕ))) → slice_get w.pending k ≡ Some x → WellOwned P S w → WellOwned P S (completes w k res x.request bs)
 completes_keeps P S w k res x bs e h =
     let o = h.2 in
@@ -71,7 +63,8 @@ completes_keeps P S w k res x bs e h =
             let t : sum_to (λ i. held P (h.0 i) (h.1 i) p) (length w.controls.threads) + unheld P w p ≤ limit P p = o.total p in
             omega arith;
         free = o.free;
-        each = λ i. fits_more w k res r bs (is_holder w.controls.holder i) (h.1 i) (o.each i);
+        submits = o.submits;
+        reaps = λ i. held_map (FrontFits w.controls.peeked w.completions) (FrontFits w.controls.peeked (w.completions ++ completion_of r res ∷ [])) (front_more w.controls.peeked w.completions (completion_of r res ∷ [])) (is_holder w.controls.holder i) (h.1 i).cq (o.reaps i);
         queued = o.queued;
         pending = Each-without (HasKindPending P) k w.pending o.pending;
         completed = Each-append (HasKind P) w.completed (r ∷ []) o.completed (Each-get (HasKindPending P) k w.pending x e o.pending, tt);

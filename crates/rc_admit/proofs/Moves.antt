@@ -2,15 +2,21 @@
 use Rattle.std.proofs.Common.{◌≡◌, ℕ, ◌+◌, ◌<◌, ◌≤◌, Bool, true, false, cond, List, length, Option, Some, None, refl, sym, ap, ◌∙◌, subst, inl, inr, arith}
 use Rattle.std.specs.Prelude.{slice_get, slice_set, nat_eq, ℤ}
 use Rattle.std.proofs.Math.ListN.{length-set}
+use Rattle.std.proofs.lemmas.Bool.{eq-eqb}
 use Rattle.std.proofs.lemmas.Option.{slice_get_within}
 use Rattle.rc_world.proofs.Lists.{get_set}
 use Rattle.rc_lang.specs.Program.{Program, lines_of}
-use Rattle.rc_rules.specs.declared.mode.Inside.{Inside}
 use Rattle.rc_rules.specs.declared.mode.Mode.{Mode}
-use Rattle.rc_rules.specs.declared.mode.Mode.TheVariants.{Unlocked, Locked}
-use Rattle.rc_rules.specs.Labels.{WeakerMode}
+use Rattle.rc_rules.specs.declared.mode.Peeked.{Peeked}
+use Rattle.rc_rules.specs.declared.mode.Peeked.TheVariants.{Unseen}
+use Rattle.rc_rules.specs.declared.mode.Slot.TheVariants.{Closed}
+use Rattle.rc_rules.specs.declared.mode.Submitting.{Submitting}
+use Rattle.rc_rules.specs.Labels.{WeakerMode, WeakerPeeked, WeakerSubmitting}
+use Rattle.rc_rules.proofs.Weaker.{sq_weaker}
 use Rattle.rc_rules.specs.Rules.{limit}
 use Rattle.rc_split.specs.Bags.{Part}
+use Rattle.rc_world.specs.declared.event.Completion.{Completion}
+use Rattle.rc_world.specs.declared.world.Slot.{Slot as Entry}
 use Rattle.rc_world.specs.declared.world.Slot.TheVariants as entries
 use Rattle.rc_world.specs.Controls.{Standing, passes_arm, rest_at}
 use Rattle.rc_world.specs.Faults.{is_holder}
@@ -18,7 +24,7 @@ use Rattle.rc_world.specs.Machine.{World, slot_len}
 use Rattle.rc_admit.proofs.Flight.{data_in, data_of}
 use Rattle.rc_split.proofs.PoolBags.{same_or_not}
 use Rattle.rc_admit.proofs.Lists.{sum_to, sum_to_changed, Each}
-use Rattle.rc_admit.proofs.Owned.{Stand, Leads, HasEdge, slot_bag, mode_bag, unheld, SlotFits, FrontFits, Fits, held, HasKind, HasKindPending, Owned, WellOwned, IsUnseen, settle, fits_weaker}
+use Rattle.rc_admit.proofs.Owned.{Stand, Leads, HasEdge, slot_bag, mode_bag, unheld, SlotFits, FrontFits, QueueFits, SqFits, CqFits, held, HasKind, HasKindPending, Owned, WellOwned, IsUnseen, settle, front_weaker, held_made, held_parts, held_weaker, not_held, queue_weaker}
 
 -- The world in which thread i went to this place, with these variables: it comes to rest, and at the end of an arm
 -- nothing is peeked any more.
@@ -49,31 +55,35 @@ holder_one (Some j) i k e ne = elim (same_or_not j k) [
 ]
 
 pub mode_bag_same : (P : Program) (n m : Mode) (p : Part) → WeakerMode n m → mode_bag P n p ≡ mode_bag P m p
-mode_bag_same P Unlocked Unlocked p x = refl
-mode_bag_same P Unlocked (Locked s) p x = absurd x
-mode_bag_same P (Locked s) Unlocked p x = absurd x
-mode_bag_same P (Locked s) (Locked t) p x = ap (λ y. slot_bag P y p) x.slot
+mode_bag_same P n m p x = ap (λ y. slot_bag P y p) (sq_weaker n m x).slot
 
-fits_later : (w : World) (ts : List Standing) (e h : Bool) (m : Mode) → (e ≡ true → IsUnseen m) → Fits w h m → Fits (later w ts e) h m
-fits_later w ts e false Unlocked u f = tt
-fits_later w ts e true Unlocked u f = absurd f
-fits_later w ts e false (Locked s) u f = absurd f
-fits_later w ts false true (Locked s) u f = f
-fits_later w ts true true (Locked s) u f = (f.0, f.1, subst (λ x. FrontFits false w.completions x) (sym (u refl)) tt)
+fits_later : (pe : Bool) (cs : List Completion) (e h : Bool) (o : Option Peeked) → (e ≡ true → IsUnseen o) → CqFits pe cs h o → CqFits (cond e false pe) cs h o
+fits_later pe cs false h o u f = f
+fits_later pe cs true h None u f = absurd (u refl)
+fits_later pe cs true false (Some p) u f = absurd f
+fits_later pe cs true true (Some p) u f = subst (FrontFits false cs) (sym (u refl)) tt
 
-unseen_holder : (w : World) (h : Bool) (m : Mode) → IsUnseen m → Fits w h m → h ≡ true
-unseen_holder w h Unlocked u f = absurd u
-unseen_holder w true (Locked s) u f = refl
-unseen_holder w false (Locked s) u f = absurd f
+unseen_holder : (pe : Bool) (cs : List Completion) (h : Bool) (o : Option Peeked) → IsUnseen o → CqFits pe cs h o → h ≡ true
+unseen_holder pe cs h None u f = absurd u
+unseen_holder pe cs true (Some p) u f = refl
+unseen_holder pe cs false (Some p) u f = absurd f
 
-other_later : (w : World) (ts : List Standing) (e h : Bool) (m : Mode) → (e ≡ true → h ≡ false) → Fits w h m → Fits (later w ts e) h m
-other_later w ts false false Unlocked u f = f
-other_later w ts false true Unlocked u f = f
-other_later w ts false false (Locked s) u f = f
-other_later w ts false true (Locked s) u f = f
-other_later w ts true false Unlocked u f = tt
-other_later w ts true false (Locked s) u f = f
-other_later w ts true true m u f = absurd (let x : true ≡ false = u refl in cc)
+other_later : (pe : Bool) (cs : List Completion) (e h : Bool) (o : Option Peeked) → (e ≡ true → h ≡ false) → CqFits pe cs h o → CqFits (cond e false pe) cs h o
+other_later pe cs false h o u f = f
+other_later pe cs true false None u f = tt
+other_later pe cs true false (Some p) u f = f
+other_later pe cs true true o u f = absurd (let x : true ≡ false = u refl in cc)
+
+-- What all labels say of the submission side of a world with this holder, queue and slot, where thread i's says this.
+pub record SqPart (P : Program) (holder : Option ℕ) (n : ℕ) (slot : Entry) (modes : ℕ → Mode) (i : ℕ) (o : Option Submitting) : Type 0 where
+  pub free : holder ≡ None → (n ≤ P.left) × (slot ≡ entries.Closed)
+  pub mine : SqFits n slot (is_holder holder i) o
+  pub others : (k : ℕ) → (k ≡ i → ⊥) → SqFits n slot (is_holder holder k) (modes k).sq
+
+-- and of the completion side
+pub record CqPart (holder : Option ℕ) (peeked : Bool) (cs : List Completion) (modes : ℕ → Mode) (i : ℕ) (o : Option Peeked) : Type 0 where
+  pub mine : CqFits peeked cs (is_holder holder i) o
+  pub others : (k : ℕ) → (k ≡ i → ⊥) → CqFits peeked cs (is_holder holder k) (modes k).cq
 
 -- A thread's step to a label that fits the world: what it and the requests own together is no more.
 pub record Moved (P : Program) (w w1 : World) (bags : ℕ → Part → ℕ) (modes : ℕ → Mode) (i : ℕ) (b : Part → ℕ) (m : Mode) : Type 0 where
@@ -81,9 +91,8 @@ pub record Moved (P : Program) (w w1 : World) (bags : ℕ → Part → ℕ) (mod
   pub room : length w1.queued + slot_len w1.slot ≤ P.entries
   pub same : w1.controls.threads ≡ w.controls.threads
   pub local : (p : Part) → held P b m p + unheld P w1 p ≤ held P (bags i) (modes i) p + unheld P w p
-  pub free : w1.controls.holder ≡ None → (length w1.queued ≤ P.left) × (w1.slot ≡ entries.Closed)
-  pub mine : Fits w1 (is_holder w1.controls.holder i) m
-  pub others : (k : ℕ) → (k ≡ i → ⊥) → Fits w1 (is_holder w1.controls.holder k) (modes k)
+  pub submits : SqPart P w1.controls.holder (length w1.queued) w1.slot modes i m.sq
+  pub reaps : CqPart w1.controls.holder w1.controls.peeked w1.completions modes i m.cq
   pub queued : Each (HasKind P) w1.queued
   pub pending : Each (HasKindPending P) w1.pending
   pub completed : Each (HasKind P) w1.completed
@@ -99,8 +108,13 @@ module _ (P : Program) (S : Stand) (edge : HasEdge P S) (w w1 : World) (bags : �
       let e : Bool = passes_arm P i left in
       let bags' : ℕ → Part → ℕ = upd bags i s.bag in
       let modes' : ℕ → Mode = upd modes i s.mode in
-      let mine : Fits w1 (is_holder w1.controls.holder i) s.mode = fits_weaker w1 (is_holder w1.controls.holder i) m s.mode s.weaker v.mine in
-      let lock : e ≡ true → is_holder w1.controls.holder i ≡ true = λ x. unseen_holder w1 (is_holder w1.controls.holder i) s.mode (z.unseen x) mine in
+      let h : ℕ → Bool = is_holder w1.controls.holder in
+      let n : ℕ = length w1.queued in
+      let pe : Bool = w1.controls.peeked in
+      let cs : List Completion = w1.completions in
+      let sq : SqFits n w1.slot (h i) s.mode.sq = held_weaker (QueueFits n w1.slot) WeakerSubmitting (queue_weaker n w1.slot) (h i) m.sq s.mode.sq s.weaker.0 v.submits.mine in
+      let cq : CqFits pe cs (h i) s.mode.cq = held_weaker (FrontFits pe cs) WeakerPeeked (front_weaker pe cs) (h i) m.cq s.mode.cq s.weaker.1 v.reaps.mine in
+      let lock : e ≡ true → h i ≡ true = λ x. unseen_holder pe cs (h i) s.mode.cq (z.unseen x) cq in
       let len : length ts ≡ length w.controls.threads = length-set w1.controls.threads i new ∙ ap length v.same in (
         bags',
         modes',
@@ -127,14 +141,16 @@ module _ (P : Program) (S : Stand) (edge : HasEdge P S) (w w1 : World) (bags : �
               let stage : mode_bag P s.mode p ≡ mode_bag P m p = mode_bag_same P s.mode m p s.weaker in
               let local : held P b m p + unheld P w1 p ≤ f i + unheld P w p = v.local p in
               let before : sum_to f (length w.controls.threads) + unheld P w p ≤ limit P p = o.total p in
-              let n : sum_to g (length ts) ≡ sum_to g (length w.controls.threads) = ap (λ x. sum_to g x) len in
+              let same : sum_to g (length ts) ≡ sum_to g (length w.controls.threads) = ap (λ x. sum_to g x) len in
               omega (arith, local);
-          free = v.free;
-          each = λ k. elim (same_or_not k i) [
-            | inl h ↦ subst (λ x. Fits (later w1 ts e) (is_holder w1.controls.holder k) x) (sym (upd_at modes i s.mode k h.0))
-                (subst (λ j. Fits (later w1 ts e) (is_holder w1.controls.holder j) s.mode) (sym h.0) (fits_later w1 ts e (is_holder w1.controls.holder i) s.mode z.unseen mine))
-            | inr h ↦ subst (λ x. Fits (later w1 ts e) (is_holder w1.controls.holder k) x) (sym (upd_off modes i s.mode k h.0))
-                (other_later w1 ts e (is_holder w1.controls.holder k) (modes k) (λ x. holder_one w1.controls.holder i k (lock x) h.0) (v.others k h.0))
+          free = v.submits.free;
+          submits = λ k. elim (same_or_not k i) [
+            | inl x ↦ subst (λ (y : Mode). SqFits n w1.slot (h k) y.sq) (sym (upd_at modes i s.mode k x.0)) (subst (λ j. SqFits n w1.slot (h j) s.mode.sq) (sym x.0) sq)
+            | inr x ↦ subst (λ (y : Mode). SqFits n w1.slot (h k) y.sq) (sym (upd_off modes i s.mode k x.0)) (v.submits.others k x.0)
+          ];
+          reaps = λ k. elim (same_or_not k i) [
+            | inl x ↦ subst (λ (y : Mode). CqFits (cond e false pe) cs (h k) y.cq) (sym (upd_at modes i s.mode k x.0)) (subst (λ j. CqFits (cond e false pe) cs (h j) s.mode.cq) (sym x.0) (fits_later pe cs e (h i) s.mode.cq z.unseen cq))
+            | inr x ↦ subst (λ (y : Mode). CqFits (cond e false pe) cs (h k) y.cq) (sym (upd_off modes i s.mode k x.0)) (other_later pe cs e (h k) (modes k).cq (λ y. holder_one w1.controls.holder i k (lock y) x.0) (v.reaps.others k x.0))
           ];
           queued = v.queued;
           pending = v.pending;
@@ -143,54 +159,81 @@ module _ (P : Program) (S : Stand) (edge : HasEdge P S) (w w1 : World) (bags : �
         },
       )
 
--- the parts of what a label inside the lock says
-pub fits_parts : (w : World) (h : Bool) (s : Inside) → Fits w h (Locked s) → (h ≡ true) × (length w.queued + slot_len w.slot ≤ s.queued) × SlotFits w.slot s.slot × FrontFits w.controls.peeked w.completions s.peeked
-fits_parts w true s f = (refl, f.0, f.1, f.2)
-fits_parts w false s f = absurd f
-
-pub fits_made : (w : World) (h : Bool) (s : Inside) → h ≡ true → length w.queued + slot_len w.slot ≤ s.queued → SlotFits w.slot s.slot → FrontFits w.controls.peeked w.completions s.peeked → Fits w h (Locked s)
-fits_made w true s e a b c = (a, b, c)
-fits_made w false s e a b c = absurd (cc)
-
-pub fits_outside : (w w1 : World) (h : Bool) (m : Mode) → h ≡ false → Fits w h m → Fits w1 h m
-fits_outside w w1 false Unlocked e f = tt
-fits_outside w w1 false (Locked s) e f = f
-fits_outside w w1 true m e f = absurd (cc)
-
 pub not_none : (o : Option ℕ) (i : ℕ) → is_holder o i ≡ true → o ≡ None → ⊥
 not_none None i e n = cc
 not_none (Some j) i e n = cc
 
--- A step of the holder on the ring, to a label inside the lock.
-pub record Rung (P : Program) (w w1 : World) (b0 : Part → ℕ) (s0 : Inside) (b : Part → ℕ) (s : Inside) : Type 0 where
-  pub of : w1.program ≡ P
-  pub room : length w1.queued + slot_len w1.slot ≤ P.entries
-  pub same : w1.controls.threads ≡ w.controls.threads
-  pub lock : w1.controls.holder ≡ w.controls.holder
-  pub local : (p : Part) → (b p + slot_bag P s.slot p) + unheld P w1 p ≤ (b0 p + slot_bag P s0.slot p) + unheld P w p
-  pub bound : length w1.queued + slot_len w1.slot ≤ s.queued
-  pub slot : SlotFits w1.slot s.slot
-  pub front : FrontFits w1.controls.peeked w1.completions s.peeked
-  pub queued : Each (HasKind P) w1.queued
-  pub pending : Each (HasKindPending P) w1.pending
-  pub completed : Each (HasKind P) w1.completed
-  pub agree : data_of w1.completed ≡ data_in w1.completions
+module _ (P : Program) (S : Stand) (w : World) (bags : ℕ → Part → ℕ) (modes : ℕ → Mode) (i : ℕ) (o : Owned P S w bags modes) where
+  abbrev holds : ℕ → Bool
+  holds k = is_holder w.controls.holder k
 
-pub rung_moved : (P : Program) (S : Stand) (w w1 : World) (bags : ℕ → Part → ℕ) (modes : ℕ → Mode) (i : ℕ) (b : Part → ℕ) (s0 s : Inside) → Owned P S w bags modes → modes i ≡ Locked s0 → Rung P w w1 (bags i) s0 b s → Moved P w w1 bags modes i b (Locked s)
-rung_moved P S w w1 bags modes i b s0 s o e v =
-    let f : Fits w (is_holder w.controls.holder i) (Locked s0) = subst (λ m. Fits w (is_holder w.controls.holder i) m) e (o.each i) in
-    let mine0 : is_holder w.controls.holder i ≡ true = (fits_parts w (is_holder w.controls.holder i) s0 f).0 in
-    let mine1 : is_holder w1.controls.holder i ≡ true = ap (λ (x : Option ℕ). is_holder x i) v.lock ∙ mine0 in
-    record {
-      of = v.of;
-      room = v.room;
-      same = v.same;
-      local = λ p. let l : (b p + slot_bag P s.slot p) + unheld P w1 p ≤ (bags i p + slot_bag P s0.slot p) + unheld P w p = v.local p in let x : mode_bag P (modes i) p ≡ slot_bag P s0.slot p = ap (λ m. mode_bag P m p) e in omega arith;
-      free = λ n. absurd (not_none w1.controls.holder i mine1 n);
-      mine = fits_made w1 (is_holder w1.controls.holder i) s mine1 v.bound v.slot v.front;
-      others = λ k ne. fits_outside w w1 (is_holder w1.controls.holder k) (modes k) (holder_one w1.controls.holder i k mine1 ne) (subst (λ (x : Option ℕ). Fits w (is_holder x k) (modes k)) (sym v.lock) (o.each k));
-      queued = v.queued;
-      pending = v.pending;
-      completed = v.completed;
-      agree = v.agree;
-    }
+  -- ---- the submission side
+
+  pub sq_still : SqPart P w.controls.holder (length w.queued) w.slot modes i (modes i).sq
+  sq_still = record { free = o.free; mine = o.submits i; others = λ k ne. o.submits k }
+
+  -- what the world has, from the label
+  pub sq_has : (s : Submitting) → (modes i).sq ≡ Some s → (holds i ≡ true) × (length w.queued + slot_len w.slot ≤ s.queued) × SlotFits w.slot s.slot
+  sq_has s e = let f = held_parts (QueueFits (length w.queued) w.slot) (holds i) s (subst (λ x. SqFits (length w.queued) w.slot (holds i) x) e (o.submits i)) in (f.0, f.1.0, f.1.1)
+
+  -- the holder goes on, with another queue and slot
+  pub sq_step : (n : ℕ) (slot : Entry) (s t : Submitting) → (modes i).sq ≡ Some s → n + slot_len slot ≤ t.queued → SlotFits slot t.slot → SqPart P w.controls.holder n slot modes i (Some t)
+  sq_step n slot s t e bound fit =
+      let h = sq_has s e in
+      record {
+        free = λ x. absurd (not_none w.controls.holder i h.0 x);
+        mine = held_made (QueueFits n slot) (holds i) t h.0 (bound, fit);
+        others = λ k ne. not_held (QueueFits (length w.queued) w.slot) (QueueFits n slot) (holds k) (holds k) (modes k).sq (holder_one w.controls.holder i k h.0 ne) (holder_one w.controls.holder i k h.0 ne) (o.submits k);
+      }
+
+  pub sq_frees : (s : Submitting) → (modes i).sq ≡ Some s → s.queued ≤ P.left → w.slot ≡ entries.Closed → SqPart P None (length w.queued) w.slot modes i None
+  sq_frees s e le closed =
+      let h = sq_has s e in
+      record {
+        free = λ x. (omega (arith, h.1), closed);
+        mine = tt;
+        others = λ k ne. not_held (QueueFits (length w.queued) w.slot) (QueueFits (length w.queued) w.slot) (holds k) false (modes k).sq (holder_one w.controls.holder i k h.0 ne) refl (o.submits k);
+      }
+
+  pub sq_takes : w.controls.holder ≡ None → SqPart P (Some i) (length w.queued) w.slot modes i (Some (record { queued = P.left; slot = Closed }))
+  sq_takes e =
+      let f = o.free e in
+      let z : slot_len w.slot ≡ 0 = ap slot_len f.1 in
+      let mine : is_holder (Some i) i ≡ true = eq-eqb i i refl in
+      record {
+        free = λ x. absurd (cc);
+        mine = held_made (QueueFits (length w.queued) w.slot) (is_holder (Some i) i) (record { queued = P.left; slot = Closed }) mine (omega (arith, f.0), subst (λ s. SlotFits s Closed) (sym f.1) tt);
+        others = λ k ne. not_held (QueueFits (length w.queued) w.slot) (QueueFits (length w.queued) w.slot) (holds k) (is_holder (Some i) k) (modes k).sq (ap (λ (x : Option ℕ). is_holder x k) e) (holder_one (Some i) i k mine ne) (o.submits k);
+      }
+
+  -- ---- the completion side
+
+  pub cq_still : CqPart w.controls.holder w.controls.peeked w.completions modes i (modes i).cq
+  cq_still = record { mine = o.reaps i; others = λ k ne. o.reaps k }
+
+  pub cq_has : (p : Peeked) → (modes i).cq ≡ Some p → (holds i ≡ true) × FrontFits w.controls.peeked w.completions p
+  cq_has p e = held_parts (FrontFits w.controls.peeked w.completions) (holds i) p (subst (λ x. CqFits w.controls.peeked w.completions (holds i) x) e (o.reaps i))
+
+  pub cq_step : (pe : Bool) (cs : List Completion) (p q : Peeked) → (modes i).cq ≡ Some p → FrontFits pe cs q → CqPart w.controls.holder pe cs modes i (Some q)
+  cq_step pe cs p q e fit =
+      let h = cq_has p e in
+      record {
+        mine = held_made (FrontFits pe cs) (holds i) q h.0 fit;
+        others = λ k ne. not_held (FrontFits w.controls.peeked w.completions) (FrontFits pe cs) (holds k) (holds k) (modes k).cq (holder_one w.controls.holder i k h.0 ne) (holder_one w.controls.holder i k h.0 ne) (o.reaps k);
+      }
+
+  pub cq_frees : (pe : Bool) (p : Peeked) → (modes i).cq ≡ Some p → CqPart None pe w.completions modes i None
+  cq_frees pe p e =
+      let h = cq_has p e in
+      record {
+        mine = tt;
+        others = λ k ne. not_held (FrontFits w.controls.peeked w.completions) (FrontFits pe w.completions) (holds k) false (modes k).cq (holder_one w.controls.holder i k h.0 ne) refl (o.reaps k);
+      }
+
+  pub cq_takes : w.controls.holder ≡ None → CqPart (Some i) w.controls.peeked w.completions modes i (Some Unseen)
+  cq_takes e =
+      let mine : is_holder (Some i) i ≡ true = eq-eqb i i refl in
+      record {
+        mine = held_made (FrontFits w.controls.peeked w.completions) (is_holder (Some i) i) Unseen mine tt;
+        others = λ k ne. not_held (FrontFits w.controls.peeked w.completions) (FrontFits w.controls.peeked w.completions) (holds k) (is_holder (Some i) k) (modes k).cq (ap (λ (x : Option ℕ). is_holder x k) e) (holder_one (Some i) i k mine ne) (o.reaps k);
+      }

@@ -1,7 +1,7 @@
 -- Statements without a block keep what is true of each world.
 use Rattle.std.proofs.Common.{◌≡◌, ℕ, ◌+◌, ◌-◌, ◌≤◌, ◌<◌, Bool, true, false, cond, List, [], ◌∷◌, ◌++◌, length, take, drop, map, Option, Some, None, refl, sym, ap, ◌∙◌, subst, inl, inr, arith, length-append, length-drop}
 use Rattle.std.proofs.lemmas.Bool.{leb-true, ltb-true}
-use Rattle.std.specs.Prelude.{slice_get, slice_set, nat_lt, ℤ, if◌then◌else◌}
+use Rattle.std.specs.Prelude.{slice_get, slice_set, unwrap_or, nat_lt, ℤ, if◌then◌else◌}
 use Rattle.rc_lang.specs.declared.lines.Stmt.TheVariants.{Do}
 use Rattle.rc_lang.specs.declared.lines.Op.{Op}
 use Rattle.rc_lang.specs.declared.lines.Op.TheVariants.{Set, Load, Store, Fill, Print, GetSqe, PrepRead, PrepWrite, PrepFsync, PrepNop, SetData64, Submit, SubmitAndWait, CqeSeen}
@@ -9,13 +9,12 @@ use Rattle.rc_lang.specs.declared.program.TokenKind.{TokenKind}
 use Rattle.rc_lang.specs.declared.program.TokenKind.TheVariants as tokens
 use Rattle.rc_lang.specs.declared.request.Request.{Request}
 use Rattle.rc_lang.specs.Program.{Program, shares_at}
-use Rattle.rc_rules.specs.declared.mode.Inside.{Inside}
 use Rattle.rc_rules.specs.declared.mode.Mode.{Mode}
-use Rattle.rc_rules.specs.declared.mode.Mode.TheVariants.{Locked}
 use Rattle.rc_rules.specs.declared.mode.Peeked.{Peeked}
 use Rattle.rc_rules.specs.declared.mode.Peeked.TheVariants.{Unseen, Sees, SeesOther}
 use Rattle.rc_rules.specs.declared.mode.Slot.{Slot}
 use Rattle.rc_rules.specs.declared.mode.Slot.TheVariants.{Closed, Vacant, Prepared}
+use Rattle.rc_rules.specs.declared.mode.Submitting.{Submitting}
 use Rattle.rc_rules.specs.Needs.{line_premises}
 use Rattle.rc_rules.specs.Rules.{is_seen, kind_bag, kind_of, line_bag, op_effect, owned, reaped}
 use Rattle.rc_rules.specs.Premises.{Meets}
@@ -29,14 +28,13 @@ use Rattle.rc_world.specs.declared.event.Completion.{Completion}
 use Rattle.rc_world.specs.declared.world.Slot.{Slot as Entry}
 use Rattle.rc_world.specs.declared.world.Slot.TheVariants as entries
 use Rattle.rc_world.specs.Controls.{Controls, Move, Standing, does, goes_on, loads, low_byte, moved, reaps, variable}
-use Rattle.rc_world.specs.Faults.{is_holder, is_ring_op}
 use Rattle.rc_world.specs.Machine.{Pending, World, bytes_of, byte_of, count_in, fills, fits_buffer, front_of, hands_over, is_take, op_answer, op_in_rings, opens_entry, prepares, queues, reaps_front, slot_len, stores, submits_by, with_bytes, without_data}
 use Rattle.rc_admit.proofs.Flight.{FrontOf, begun, data_in, data_of, front_is, taken_sum}
 use Rattle.rc_split.proofs.PoolBags.{same_or_not}
 use Rattle.rc_admit.proofs.Lists.{sum_over, sum_over-append, Each, Each-append, Each-take, Each-drop, Each-map}
-use Rattle.rc_admit.proofs.Moves.{Moved, moves, put, rung_moved, fits_parts}
-use Rattle.rc_admit.proofs.Owned.{Stand, Leads, MayBecome, HasEdge, slot_bag, owns, owns_pending, FitsKind, SlotFits, StartsWith, IsNonempty, FrontFits, Fits, HasKind, HasKindPending, Owned, WellOwned}
-use Rattle.rc_admit.proofs.Rule.{AtLive, Claim, InRing, in_ring, prepared_as}
+use Rattle.rc_admit.proofs.Moves.{Moved, SqPart, moves, put, cq_has, cq_step, cq_still, sq_has, sq_step, sq_still}
+use Rattle.rc_admit.proofs.Owned.{Stand, Leads, MayBecome, HasEdge, slot_bag, owns, owns_pending, FitsKind, SlotFits, StartsWith, IsNonempty, mode_bag, HasKind, HasKindPending, Owned, WellOwned}
+use Rattle.rc_admit.proofs.Rule.{AtLive, Claim, called, prepared_as, then_known}
 
 pub credit_covered : (b : Part → ℕ) → 1 ≤ b Credit → (p : Part) → credits_bag 1 p ≤ b p
 credit_covered b h (ShareOf c) = omega arith
@@ -83,9 +81,8 @@ quiet P S w bs bags modes i o = record {
   room = o.room;
   same = refl;
   local = λ p. omega arith;
-  free = o.free;
-  mine = o.each i;
-  others = λ k ne. o.each k;
+  submits = sq_still P S w bags modes i o;
+  reaps = cq_still P S w bags modes i o;
   queued = o.queued;
   pending = o.pending;
   completed = o.completed;
@@ -102,9 +99,8 @@ pools P S w pool bags modes i b o local = record {
   room = o.room;
   same = refl;
   local = λ p. let h : b p + pooled P pool p ≤ bags i p + pooled P w.controls.pool p = local p in omega arith;
-  free = o.free;
-  mine = o.each i;
-  others = λ k ne. o.each k;
+  submits = sq_still P S w bags modes i o;
+  reaps = cq_still P S w bags modes i o;
   queued = o.queued;
   pending = o.pending;
   completed = o.completed;
@@ -114,125 +110,127 @@ pools P S w pool bags modes i b o local = record {
 abbrev pub with_slot : World → Entry → World
 with_slot w x = record w { slot = x }
 
-module _ (P : Program) (S : Stand) (w : World) (bags : ℕ → Part → ℕ) (modes : ℕ → Mode) (i : ℕ) (o : Owned P S w bags modes) (s : Inside) (e : modes i ≡ Locked s) where
-  -- what the world has, from the label
-  pub has : (length w.queued + slot_len w.slot ≤ s.queued) × SlotFits w.slot s.slot × FrontFits w.controls.peeked w.completions s.peeked
-  has = let f = fits_parts w (is_holder w.controls.holder i) s (subst (λ m. Fits w (is_holder w.controls.holder i) m) e (o.each i)) in (f.1, f.2, f.3)
+module _ (P : Program) (S : Stand) (w : World) (bags : ℕ → Part → ℕ) (modes : ℕ → Mode) (i : ℕ) (o : Owned P S w bags modes) where
+  -- ---- calls on the submission side
 
-  -- only the slot changes
-  slots : (x : Entry) (b : Part → ℕ) (q : ℕ) (y : Slot) → ((p : Part) → b p + slot_bag P y p ≤ bags i p + slot_bag P s.slot p) → length w.queued + slot_len x ≤ q → length w.queued + slot_len x ≤ P.entries → SlotFits x y → Moved P w (with_slot w x) bags modes i b (Locked (record { queued = q; slot = y; peeked = s.peeked }))
-  slots x b q y local bound room fit = rung_moved P S w (with_slot w x) bags modes i b s (record { queued = q; slot = y; peeked = s.peeked }) o e (record {
-    of = o.of;
-    room = room;
-    same = refl;
-    lock = refl;
-    local = λ p. let h : b p + slot_bag P y p ≤ bags i p + slot_bag P s.slot p = local p in omega arith;
-    bound = bound;
-    slot = fit;
-    front = has.2;
-    queued = o.queued;
-    pending = o.pending;
-    completed = o.completed;
-    agree = o.agree;
-  })
+  module _ (s : Submitting) (e : (modes i).sq ≡ Some s) where
+    -- with other knowledge of it
+    abbrev knowing : Submitting → Mode
+    knowing t = record (modes i) { sq = Some t }
 
-  pub get_sqe : 1 ≤ bags i Credit → s.queued < P.entries → s.slot ≡ Closed → Moved P w (with_slot w entries.Vacant) bags modes i (minus (bags i) (credits_bag 1)) (Locked (record { queued = s.queued + 1; slot = Vacant; peeked = s.peeked }))
-  get_sqe c lt f =
-      let h : length w.queued + slot_len w.slot ≤ s.queued = has.0 in
-      slots entries.Vacant (minus (bags i) (credits_bag 1)) (s.queued + 1) Vacant
-      (λ p. let x : credits_bag 1 p ≤ bags i p = credit_covered (bags i) c p in let y : slot_bag P s.slot p ≡ 0 = ap (λ z. slot_bag P z p) f in omega arith)
-      (omega arith) (omega arith) tt
+    -- what the world has, from the label
+    has : (length w.queued + slot_len w.slot ≤ s.queued) × SlotFits w.slot s.slot
+    has = let h = sq_has P S w bags modes i o s e in (h.1, h.2)
 
-  pub prep : (kind : TokenKind) (r : Request) → FitsKind r kind → ((p : Part) → kind_bag P kind p ≤ bags i p) → s.slot ≡ Vacant → Moved P w (with_slot w (entries.Prepared r)) bags modes i (minus (bags i) (kind_bag P kind)) (Locked (record s { slot = Prepared kind }))
-  prep kind r fit c f =
-      let x : w.slot ≡ entries.Vacant = slot_vacant w.slot (subst (λ y. SlotFits w.slot y) f has.1) in
-      let z : slot_len w.slot ≡ 1 = ap slot_len x in
-      let g : length w.queued + slot_len w.slot ≤ P.entries = o.room in
-      let h : length w.queued + slot_len w.slot ≤ s.queued = has.0 in
-      slots (entries.Prepared r) (minus (bags i) (kind_bag P kind)) s.queued (Prepared kind)
-      (λ p. let x : kind_bag P kind p ≤ bags i p = c p in let y : slot_bag P s.slot p ≡ credits_bag 1 p = ap (λ z. slot_bag P z p) f in omega arith)
-      (omega arith) (omega arith) fit
+    -- what the slot owns
+    owned_by_slot : (p : Part) → mode_bag P (modes i) p ≡ slot_bag P s.slot p
+    owned_by_slot p = ap (λ (x : Option Submitting). slot_bag P (unwrap_or x (record { queued = 0; slot = Closed })).slot p) e
 
-  pub set_data : (u : ℕ) (r : Request) (kind : TokenKind) → w.slot ≡ entries.Prepared r → kind_of P u ≡ Some kind → FitsKind r kind → s.slot ≡ Prepared kind → 1 ≤ bags i (TokenOf u) → Moved P w (record w { slot = entries.Closed; queued = w.queued ++ record r { serial = w.made + 1; user_data = u } ∷ []; made = w.made + 1 }) bags modes i (minus (bags i) (token_bag u)) (Locked (record s { slot = Closed }))
-  set_data u r kind x is fit f c =
-      let new : Request = record r { serial = w.made + 1; user_data = u } in
-      let w1 : World = record w { slot = entries.Closed; queued = w.queued ++ new ∷ []; made = w.made + 1 } in
-      let z : slot_len w.slot ≡ 1 = ap slot_len x in
-      let g : length w.queued + slot_len w.slot ≤ P.entries = o.room in
-      let h : length w.queued + slot_len w.slot ≤ s.queued = has.0 in
-      let l : length (w.queued ++ new ∷ []) ≡ length w.queued + 1 = length-append w.queued (new ∷ []) in
-      rung_moved P S w w1 bags modes i (minus (bags i) (token_bag u)) s (record s { slot = Closed }) o e (record {
-        of = o.of;
-        room = omega arith;
-        same = refl;
-        lock = refl;
-        local = λ p.
-            let x : token_bag u p ≤ bags i p = token_covered (bags i) u c p in
-            let y : slot_bag P s.slot p ≡ kind_bag P kind p + credits_bag 1 p = ap (λ z. slot_bag P z p) f in
-            let k : line_bag P (kind_of P u) p ≡ kind_bag P kind p = ap (λ z. line_bag P z p) is in
-            let a : sum_over (owns P p) (w.queued ++ new ∷ []) ≡ sum_over (owns P p) w.queued + (owned P u p + 0) = sum_over-append (owns P p) w.queued (new ∷ []) in
-            omega arith;
-        bound = omega arith;
-        slot = tt;
-        front = has.2;
-        queued = Each-append (HasKind P) w.queued (new ∷ []) o.queued ((kind, is, kept kind fit), tt);
-        pending = o.pending;
-        completed = o.completed;
-        agree = o.agree;
-      })
-    where
-      kept : (k : TokenKind) → FitsKind r k → FitsKind (record r { serial = w.made + 1; user_data = u }) k
-      kept (tokens.Read b) f = f
-      kept (tokens.Write b n) f = f
-      kept tokens.Fsync f = f
-      kept tokens.Nop f = f
+    -- only the slot changes
+    slots : (x : Entry) (b : Part → ℕ) (q : ℕ) (y : Slot) → ((p : Part) → b p + slot_bag P y p ≤ bags i p + slot_bag P s.slot p) → length w.queued + slot_len x ≤ q → length w.queued + slot_len x ≤ P.entries → SlotFits x y → Moved P w (with_slot w x) bags modes i b (knowing (record { queued = q; slot = y }))
+    slots x b q y local bound room fit = record {
+      of = o.of;
+      room = room;
+      same = refl;
+      local = λ p. let h : b p + slot_bag P y p ≤ bags i p + slot_bag P s.slot p = local p in let g : mode_bag P (modes i) p ≡ slot_bag P s.slot p = owned_by_slot p in omega arith;
+      submits = sq_step P S w bags modes i o (length w.queued) x s (record { queued = q; slot = y }) e bound fit;
+      reaps = cq_still P S w bags modes i o;
+      queued = o.queued;
+      pending = o.pending;
+      completed = o.completed;
+      agree = o.agree;
+    }
 
-  pub submit : (n : ℕ) (ps : List Pending) (bs : List (Option (List ℕ))) → map (λ (x : Pending). x.request) ps ≡ take n w.queued → Moved P w (record w { queued = drop n w.queued; pending = w.pending ++ ps; buffers = bs }) bags modes i (bags i) (Locked s)
-  submit n ps bs are =
-      let h : length w.queued + slot_len w.slot ≤ s.queued = has.0 in
-      let l : length (drop n w.queued) ≡ length w.queued - n = length-drop n w.queued in
-      let g : length w.queued + slot_len w.slot ≤ P.entries = o.room in
-      let w1 : World = record w { queued = drop n w.queued; pending = w.pending ++ ps; buffers = bs } in
-      rung_moved P S w w1 bags modes i (bags i) s s o e (record {
-        of = o.of;
-        room = omega arith;
-        same = refl;
-        lock = refl;
-        local = λ p.
-            let a : sum_over (owns P p) (drop n w.queued) + sum_over (owns_pending P p) (w.pending ++ ps) ≡ sum_over (owns P p) w.queued + sum_over (owns_pending P p) w.pending = taken_sum (owns P p) n w.queued w.pending ps are in
-            omega arith;
-        bound = omega arith;
-        slot = has.1;
-        front = has.2;
-        queued = Each-drop (HasKind P) n w.queued o.queued;
-        pending = Each-append (HasKindPending P) w.pending ps o.pending (Each-map (HasKind P) (λ (x : Pending). x.request) ps (subst (λ xs. Each (HasKind P) xs) (sym are) (Each-take (HasKind P) n w.queued o.queued)));
-        completed = o.completed;
-        agree = o.agree;
-      })
+    pub get_sqe : 1 ≤ bags i Credit → s.queued < P.entries → s.slot ≡ Closed → Moved P w (with_slot w entries.Vacant) bags modes i (minus (bags i) (credits_bag 1)) (knowing (record { queued = s.queued + 1; slot = Vacant }))
+    get_sqe c lt f =
+        let h : length w.queued + slot_len w.slot ≤ s.queued = has.0 in
+        slots entries.Vacant (minus (bags i) (credits_bag 1)) (s.queued + 1) Vacant
+        (λ p. let x : credits_bag 1 p ≤ bags i p = credit_covered (bags i) c p in let y : slot_bag P s.slot p ≡ 0 = ap (λ z. slot_bag P z p) f in omega arith)
+        (omega arith) (omega arith) tt
+
+    pub prep : (kind : TokenKind) (r : Request) → FitsKind r kind → ((p : Part) → kind_bag P kind p ≤ bags i p) → s.slot ≡ Vacant → Moved P w (with_slot w (entries.Prepared r)) bags modes i (minus (bags i) (kind_bag P kind)) (knowing (record s { slot = Prepared kind }))
+    prep kind r fit c f =
+        let x : w.slot ≡ entries.Vacant = slot_vacant w.slot (subst (λ y. SlotFits w.slot y) f has.1) in
+        let z : slot_len w.slot ≡ 1 = ap slot_len x in
+        let g : length w.queued + slot_len w.slot ≤ P.entries = o.room in
+        let h : length w.queued + slot_len w.slot ≤ s.queued = has.0 in
+        slots (entries.Prepared r) (minus (bags i) (kind_bag P kind)) s.queued (Prepared kind)
+        (λ p. let x : kind_bag P kind p ≤ bags i p = c p in let y : slot_bag P s.slot p ≡ credits_bag 1 p = ap (λ z. slot_bag P z p) f in omega arith)
+        (omega arith) (omega arith) fit
+
+    pub set_data : (u : ℕ) (r : Request) (kind : TokenKind) → w.slot ≡ entries.Prepared r → kind_of P u ≡ Some kind → FitsKind r kind → s.slot ≡ Prepared kind → 1 ≤ bags i (TokenOf u) → Moved P w (record w { slot = entries.Closed; queued = w.queued ++ record r { serial = w.made + 1; user_data = u } ∷ []; made = w.made + 1 }) bags modes i (minus (bags i) (token_bag u)) (knowing (record s { slot = Closed }))
+    set_data u r kind x is fit f c =
+        let new : Request = record r { serial = w.made + 1; user_data = u } in
+        let w1 : World = record w { slot = entries.Closed; queued = w.queued ++ new ∷ []; made = w.made + 1 } in
+        let z : slot_len w.slot ≡ 1 = ap slot_len x in
+        let g : length w.queued + slot_len w.slot ≤ P.entries = o.room in
+        let h : length w.queued + slot_len w.slot ≤ s.queued = has.0 in
+        let l : length (w.queued ++ new ∷ []) ≡ length w.queued + 1 = length-append w.queued (new ∷ []) in
+        record {
+          of = o.of;
+          room = omega arith;
+          same = refl;
+          local = λ p.
+              let x : token_bag u p ≤ bags i p = token_covered (bags i) u c p in
+              let y : slot_bag P s.slot p ≡ kind_bag P kind p + credits_bag 1 p = ap (λ z. slot_bag P z p) f in
+              let v : mode_bag P (modes i) p ≡ slot_bag P s.slot p = owned_by_slot p in
+              let k : line_bag P (kind_of P u) p ≡ kind_bag P kind p = ap (λ z. line_bag P z p) is in
+              let a : sum_over (owns P p) (w.queued ++ new ∷ []) ≡ sum_over (owns P p) w.queued + (owned P u p + 0) = sum_over-append (owns P p) w.queued (new ∷ []) in
+              omega arith;
+          submits = sq_step P S w bags modes i o (length (w.queued ++ new ∷ [])) entries.Closed s (record s { slot = Closed }) e (omega arith) tt;
+          reaps = cq_still P S w bags modes i o;
+          queued = Each-append (HasKind P) w.queued (new ∷ []) o.queued ((kind, is, kept kind fit), tt);
+          pending = o.pending;
+          completed = o.completed;
+          agree = o.agree;
+        }
+      where
+        kept : (k : TokenKind) → FitsKind r k → FitsKind (record r { serial = w.made + 1; user_data = u }) k
+        kept (tokens.Read b) f = f
+        kept (tokens.Write b n) f = f
+        kept tokens.Fsync f = f
+        kept tokens.Nop f = f
+
+    pub submit : (n : ℕ) (ps : List Pending) (bs : List (Option (List ℕ))) → map (λ (x : Pending). x.request) ps ≡ take n w.queued → Moved P w (record w { queued = drop n w.queued; pending = w.pending ++ ps; buffers = bs }) bags modes i (bags i) (modes i)
+    submit n ps bs are =
+        let h : length w.queued + slot_len w.slot ≤ s.queued = has.0 in
+        let l : length (drop n w.queued) ≡ length w.queued - n = length-drop n w.queued in
+        let g : length w.queued + slot_len w.slot ≤ P.entries = o.room in
+        record {
+          of = o.of;
+          room = omega arith;
+          same = refl;
+          local = λ p.
+              let a : sum_over (owns P p) (drop n w.queued) + sum_over (owns_pending P p) (w.pending ++ ps) ≡ sum_over (owns P p) w.queued + sum_over (owns_pending P p) w.pending = taken_sum (owns P p) n w.queued w.pending ps are in
+              omega arith;
+          submits = subst (λ x. SqPart P w.controls.holder (length (drop n w.queued)) w.slot modes i x) (sym e) (sq_step P S w bags modes i o (length (drop n w.queued)) w.slot s s e (omega arith) has.1);
+          reaps = cq_still P S w bags modes i o;
+          queued = Each-drop (HasKind P) n w.queued o.queued;
+          pending = Each-append (HasKindPending P) w.pending ps o.pending (Each-map (HasKind P) (λ (x : Pending). x.request) ps (subst (λ xs. Each (HasKind P) xs) (sym are) (Each-take (HasKind P) n w.queued o.queued)));
+          completed = o.completed;
+          agree = o.agree;
+        }
+
+  -- ---- calls on the completion side
 
   -- The front completion and its request go away.
-  pub seen : (b : Part → ℕ) (c : Completion) (cs : List Completion) (f : FrontOf w.completed c cs) → w.completions ≡ c ∷ cs → ((p : Part) → b p ≤ bags i p + owned P f.request.user_data p) → Moved P w (record w { completions = cs; completed = without_data c.user_data w.completed; controls = record w.controls { peeked = false } }) bags modes i b (Locked (record s { peeked = Unseen }))
-  seen b c cs f ec local =
-      let h : length w.queued + slot_len w.slot ≤ s.queued = has.0 in
-      let w1 : World = record w { completions = cs; completed = without_data c.user_data w.completed; controls = record w.controls { peeked = false } } in
-      rung_moved P S w w1 bags modes i b s (record s { peeked = Unseen }) o e (record {
-        of = o.of;
-        room = o.room;
-        same = refl;
-        lock = refl;
-        local = λ p.
-            let x : b p ≤ bags i p + owned P f.request.user_data p = local p in
-            let a : sum_over (owns P p) (without_data c.user_data w.completed) ≡ sum_over (owns P p) f.others = ap (sum_over (owns P p)) f.gone in
-            let d : sum_over (owns P p) w.completed ≡ owned P f.request.user_data p + sum_over (owns P p) f.others = ap (sum_over (owns P p)) f.is in
-            omega (arith, x);
-        bound = h;
-        slot = has.1;
-        front = tt;
-        queued = o.queued;
-        pending = o.pending;
-        completed = subst (λ xs. Each (HasKind P) xs) (sym f.gone) (subst (λ xs. Each (HasKind P) xs) f.is o.completed).1;
-        agree = ap data_of f.gone ∙ f.agree;
-      })
+  pub seen : (k : Peeked) → (modes i).cq ≡ Some k → (b : Part → ℕ) (c : Completion) (cs : List Completion) (f : FrontOf w.completed c cs) → w.completions ≡ c ∷ cs → ((p : Part) → b p ≤ bags i p + owned P f.request.user_data p) → Moved P w (record w { completions = cs; completed = without_data c.user_data w.completed; controls = record w.controls { peeked = false } }) bags modes i b (record (modes i) { cq = Some Unseen })
+  seen k e b c cs f ec local = record {
+    of = o.of;
+    room = o.room;
+    same = refl;
+    local = λ p.
+        let x : b p ≤ bags i p + owned P f.request.user_data p = local p in
+        let a : sum_over (owns P p) (without_data c.user_data w.completed) ≡ sum_over (owns P p) f.others = ap (sum_over (owns P p)) f.gone in
+        let d : sum_over (owns P p) w.completed ≡ owned P f.request.user_data p + sum_over (owns P p) f.others = ap (sum_over (owns P p)) f.is in
+        omega (arith, x);
+    submits = sq_still P S w bags modes i o;
+    reaps = cq_step P S w bags modes i o false cs k Unseen e tt;
+    queued = o.queued;
+    pending = o.pending;
+    completed = subst (λ xs. Each (HasKind P) xs) (sym f.gone) (subst (λ xs. Each (HasKind P) xs) f.is o.completed).1;
+    agree = ap data_of f.gone ∙ f.agree;
+  }
 
 nonempty_head : (cs : List Completion) → IsNonempty cs → (c : Completion) × (ds : List Completion) × (cs ≡ c ∷ ds)
 nonempty_head [] h = absurd h
@@ -276,7 +274,7 @@ module _ (P : Program) (S : Stand) (edge : HasEdge P S) (w : World) (bags : ℕ 
   fill_keeps b byte action (Some bytes) h = quietly _ t.variables h
 
   -- a slot that opens, and one that is filled
-  open_keeps : (s : Inside) (action : Action) (x : Entry) → modes i ≡ Locked s → 1 ≤ bags i Credit → s.queued < P.entries → s.slot ≡ Closed → Leads S i (minus (bags i) (credits_bag 1)) (Locked (record { queued = s.queued + 1; slot = Vacant; peeked = s.peeked })) t.variables (t.place + 1) → Keeps P S w.controls i (opens_entry w x) (Some (goes_on w.controls t action))
+  open_keeps : (s : Submitting) (action : Action) (x : Entry) → (modes i).sq ≡ Some s → 1 ≤ bags i Credit → s.queued < P.entries → s.slot ≡ Closed → Leads S i (minus (bags i) (credits_bag 1)) (record (modes i) { sq = Some (record { queued = s.queued + 1; slot = Vacant }) }) t.variables (t.place + 1) → Keeps P S w.controls i (opens_entry w x) (Some (goes_on w.controls t action))
   open_keeps s action entries.Vacant e c lt f l = tt
   open_keeps s action (entries.Prepared q) e c lt f l = tt
   open_keeps s action entries.Closed e c lt f l = go (nat_lt (length w.queued) w.program.entries)
@@ -285,7 +283,7 @@ module _ (P : Program) (S : Stand) (edge : HasEdge P S) (w : World) (bags : ℕ 
       go true = goes _ t.variables _ _ (get_sqe P S w bags modes i o s e c lt f) l
       go false = tt
 
-  prep_keeps : (s : Inside) (action : Action) (kind : TokenKind) (q : Request) (x : Entry) → modes i ≡ Locked s → FitsKind q kind → ((p : Part) → kind_bag P kind p ≤ bags i p) → s.slot ≡ Vacant → Leads S i (minus (bags i) (kind_bag P kind)) (Locked (record s { slot = Prepared kind })) t.variables (t.place + 1) → Keeps P S w.controls i (prepares w q x) (Some (goes_on w.controls t action))
+  prep_keeps : (s : Submitting) (action : Action) (kind : TokenKind) (q : Request) (x : Entry) → (modes i).sq ≡ Some s → FitsKind q kind → ((p : Part) → kind_bag P kind p ≤ bags i p) → s.slot ≡ Vacant → Leads S i (minus (bags i) (kind_bag P kind)) (record (modes i) { sq = Some (record s { slot = Prepared kind }) }) t.variables (t.place + 1) → Keeps P S w.controls i (prepares w q x) (Some (goes_on w.controls t action))
   prep_keeps s action kind q entries.Closed e k c f l = tt
   prep_keeps s action kind q (entries.Prepared y) e k c f l = tt
   prep_keeps s action kind q entries.Vacant e k c f l = go (fits_buffer w.program q)
@@ -295,53 +293,47 @@ module _ (P : Program) (S : Stand) (edge : HasEdge P S) (w : World) (bags : ℕ 
       go false = tt
 
   -- an entry that is queued
-  queue_keeps : (s : Inside) (action : Action) (u : ℕ) (kind : TokenKind) (x : Entry) → w.slot ≡ x → modes i ≡ Locked s → kind_of P u ≡ Some kind → s.slot ≡ Prepared kind → 1 ≤ bags i (TokenOf u) → Leads S i (minus (bags i) (token_bag u)) (Locked (record s { slot = Closed })) t.variables (t.place + 1) → Keeps P S w.controls i (queues w u x) (Some (goes_on w.controls t action))
+  queue_keeps : (s : Submitting) (action : Action) (u : ℕ) (kind : TokenKind) (x : Entry) → w.slot ≡ x → (modes i).sq ≡ Some s → kind_of P u ≡ Some kind → s.slot ≡ Prepared kind → 1 ≤ bags i (TokenOf u) → Leads S i (minus (bags i) (token_bag u)) (record (modes i) { sq = Some (record s { slot = Closed }) }) t.variables (t.place + 1) → Keeps P S w.controls i (queues w u x) (Some (goes_on w.controls t action))
   queue_keeps s action u kind entries.Closed q e k f c l = tt
   queue_keeps s action u kind entries.Vacant q e k f c l = tt
   queue_keeps s action u kind (entries.Prepared x) q e k f c l =
-      let fit : SlotFits (entries.Prepared x) (Prepared kind) = subst (λ y. SlotFits y (Prepared kind)) q (subst (λ y. SlotFits w.slot y) f (has P S w bags modes i o s e).1) in
+      let fit : SlotFits (entries.Prepared x) (Prepared kind) = subst (λ y. SlotFits y (Prepared kind)) q (subst (λ y. SlotFits w.slot y) f (sq_has P S w bags modes i o s e).2) in
       goes _ t.variables _ _ (set_data P S w bags modes i o s e u x kind q k fit f c) l
 
   -- entries that are submitted
-  submit_keeps : (s : Inside) (x : ℕ) (action : Action) → modes i ≡ Locked s → Leads S i (bags i) (Locked s) (slice_set t.variables x r) (t.place + 1) → Keeps P S w.controls i (submits_by w r) (Some (record { action = action; holder = w.controls.holder; peeked = w.controls.peeked; pool = w.controls.pool; place = t.place + 1; variables = slice_set t.variables x r }))
+  submit_keeps : (s : Submitting) (x : ℕ) (action : Action) → (modes i).sq ≡ Some s → Leads S i (bags i) (modes i) (slice_set t.variables x r) (t.place + 1) → Keeps P S w.controls i (submits_by w r) (Some (record { action = action; holder = w.controls.holder; peeked = w.controls.peeked; pool = w.controls.pool; place = t.place + 1; variables = slice_set t.variables x r }))
   submit_keeps s x action e l = go (is_take w r)
     where
       handed : WellOwned P S (record (hands_over w (count_in r)) { controls = moved P w.controls i (record { action = action; holder = w.controls.holder; peeked = w.controls.peeked; pool = w.controls.pool; place = t.place + 1; variables = slice_set t.variables x r }) })
       handed =
           let n = begun (record w { queued = drop (count_in r) w.queued }) (take (count_in r) w.queued) in
           subst (λ (v : World). WellOwned P S (record v { controls = moved P w.controls i (record { action = action; holder = w.controls.holder; peeked = w.controls.peeked; pool = w.controls.pool; place = t.place + 1; variables = slice_set t.variables x r }) })) (sym n.is)
-          (goes _ (slice_set t.variables x r) (bags i) (Locked s) (submit P S w bags modes i o s e (count_in r) n.pending n.buffers n.are) l)
+          (goes _ (slice_set t.variables x r) (bags i) (modes i) (submit P S w bags modes i o s e (count_in r) n.pending n.buffers n.are) l)
 
       go : (y : Bool) → Keeps P S w.controls i (if y then Some (hands_over w (count_in r)) else None) (Some (record { action = action; holder = w.controls.holder; peeked = w.controls.peeked; pool = w.controls.pool; place = t.place + 1; variables = slice_set t.variables x r }))
       go true = handed
       go false = tt
 
   -- A completion is there, and the state after it has no more than its request gives back.
-  seen_keeps : (s : Inside) (b : Part → ℕ) (d : Completion) (ds : List Completion) → modes i ≡ Locked s → w.completions ≡ d ∷ ds → ((p : Part) → b p ≤ bags i p + owned P d.user_data p) → Leads S i b (Locked (record s { peeked = Unseen })) t.variables (t.place + 1) → Keeps P S w.controls i (reaps_front w w.completions) (reaps w.controls t (front_of w.completions))
-  seen_keeps s b d ds e ec local l =
+  seen_keeps : (k : Peeked) (b : Part → ℕ) (d : Completion) (ds : List Completion) → (modes i).cq ≡ Some k → w.completions ≡ d ∷ ds → ((p : Part) → b p ≤ bags i p + owned P d.user_data p) → Leads S i b (record (modes i) { cq = Some Unseen }) t.variables (t.place + 1) → Keeps P S w.controls i (reaps_front w w.completions) (reaps w.controls t (front_of w.completions))
+  seen_keeps k b d ds e ec local l =
       let f = front_is w.completed d ds (o.agree ∙ ap data_in ec) in
       let le : (p : Part) → b p ≤ bags i p + owned P f.request.user_data p = λ p. subst (λ u. b p ≤ bags i p + owned P u p) (sym f.same) (local p) in
       subst (λ cs. Keeps P S w.controls i (reaps_front w cs) (reaps w.controls t (front_of cs))) (sym ec)
-      (goes _ t.variables b (Locked (record s { peeked = Unseen })) (seen P S w bags modes i o s e b d ds f ec le) l)
+      (goes _ t.variables b (record (modes i) { cq = Some Unseen }) (seen P S w bags modes i o k e b d ds f ec le) l)
 
-  reap_keeps : (s : Inside) (x : Peeked) → s.peeked ≡ x → modes i ≡ Locked s → is_seen x ≡ true → Leads S i (plus (bags i) (reaped P x)) (Locked (record s { peeked = Unseen })) t.variables (t.place + 1) → Keeps P S w.controls i (reaps_front w w.completions) (reaps w.controls t (front_of w.completions))
-  reap_keeps s Unseen q e h l = absurd (cc)
-  reap_keeps s (Sees u) q e h l =
-      let f = subst (λ y. FrontFits w.controls.peeked w.completions y) q (has P S w bags modes i o s e).2 in
-      let a = starts_head u w.completions f.1 in
-      seen_keeps s (plus (bags i) (owned P u)) a.0 a.1 e a.2 (λ p. subst (λ v. bags i p + owned P u p ≤ bags i p + owned P v p) (sym a.3) (omega arith)) l
-  reap_keeps s SeesOther q e h l =
-      let f = subst (λ y. FrontFits w.controls.peeked w.completions y) q (has P S w bags modes i o s e).2 in
-      let a = nonempty_head w.completions f.1 in
-      seen_keeps s (plus (bags i) (credits_bag 1)) a.0 a.1 e a.2 (λ p. omega arith) l
+  reap_keeps : (k : Peeked) → (modes i).cq ≡ Some k → is_seen k ≡ true → Leads S i (plus (bags i) (reaped P k)) (record (modes i) { cq = Some Unseen }) t.variables (t.place + 1) → Keeps P S w.controls i (reaps_front w w.completions) (reaps w.controls t (front_of w.completions))
+  reap_keeps Unseen e h l = absurd (cc)
+  reap_keeps (Sees u) e h l =
+      let a = starts_head u w.completions (cq_has P S w bags modes i o (Sees u) e).1.1 in
+      seen_keeps (Sees u) (plus (bags i) (owned P u)) a.0 a.1 e a.2 (λ p. subst (λ v. bags i p + owned P u p ≤ bags i p + owned P v p) (sym a.3) (omega arith)) l
+  reap_keeps SeesOther e h l =
+      let a = nonempty_head w.completions (cq_has P S w bags modes i o SeesOther e).1.1 in
+      seen_keeps SeesOther (plus (bags i) (credits_bag 1)) a.0 a.1 e a.2 (λ p. omega arith) l
 
   -- what the rule of a statement says after it
   abbrev Behind : Op → Claim
   Behind op b m = (new : List ℤ) → MayBecome op t.variables new → Leads S i b m new (t.place + 1)
-
-  -- of one that calls the ring, inside the lock
-  ring : (op : Op) → is_ring_op op ≡ true → Meets (line_premises P [] (bags i) (modes i) (Do op)) × AtLive (op_effect P (bags i) (modes i) op) (Behind op) → (x : InRing P (bags i) (modes i) op) × AtLive (op_effect P (bags i) (Locked x.inside) op) (Behind op)
-  ring op r h = let x = in_ring P (bags i) (modes i) op r h.0 in (x, subst (λ m. AtLive (op_effect P (bags i) m op) (Behind op)) x.is h.1)
 
   pub op_keeps : (op : Op) → Meets (line_premises P [] (bags i) (modes i) (Do op)) × AtLive (op_effect P (bags i) (modes i) op) (λ b m. (new : List ℤ) → MayBecome op t.variables new → Leads S i b m new (t.place + 1)) → Keeps P S w.controls i (op_in_rings w t r op) (does w.controls t op (op_answer w r op))
   op_keeps (Set x n) h = quietly w.buffers _ (h.1 _ refl)
@@ -350,26 +342,25 @@ module _ (P : Program) (S : Stand) (edge : HasEdge P S) (w : World) (bags : ℕ 
   op_keeps (Fill b x) h = fill_keeps b (low_byte (variable t x)) _ (bytes_of w b) (h.1 t.variables refl)
   op_keeps (Print x) h = quietly w.buffers t.variables (h.1 t.variables refl)
   op_keeps GetSqe h =
-      let s = ring GetSqe refl h in
-      let x = s.0.inside in
-      open_keeps x _ w.slot s.0.is (leb-true 1 _ (s.0.asked 2)) (ltb-true _ _ (s.0.asked 3)) (same_slot_is x.slot Closed (s.0.asked 4)) (s.1 t.variables refl)
+      let x = called (modes i).sq _ h.0 in
+      open_keeps x.known _ w.slot x.is (leb-true 1 _ (x.asked 2)) (ltb-true _ _ (x.asked 3)) (same_slot_is x.known.slot Closed (x.asked 4)) (then_known (modes i).sq _ (Behind GetSqe) x.known x.is h.1 t.variables refl)
   op_keeps (PrepRead fd b len off) h =
-      let s = ring (PrepRead fd b len off) refl h in
-      prep_keeps s.0.inside _ (tokens.Read b) _ w.slot s.0.is (refl, refl) (shares_covered (bags i) b (shares_at P.buffers b) (leb-true _ _ (s.0.asked 7))) (same_slot_is s.0.inside.slot Vacant (s.0.asked 5)) (s.1 t.variables refl)
+      let x = called (modes i).sq _ h.0 in
+      prep_keeps x.known _ (tokens.Read b) _ w.slot x.is (refl, refl) (shares_covered (bags i) b (shares_at P.buffers b) (leb-true _ _ (x.asked 7))) (same_slot_is x.known.slot Vacant (x.asked 5)) (then_known (modes i).sq _ (Behind (PrepRead fd b len off)) x.known x.is h.1 t.variables refl)
   op_keeps (PrepWrite fd b len off k) h =
-      let s = ring (PrepWrite fd b len off k) refl h in
-      prep_keeps s.0.inside _ (tokens.Write b k) _ w.slot s.0.is (refl, refl) (shares_covered (bags i) b k (leb-true _ _ (s.0.asked 8))) (same_slot_is s.0.inside.slot Vacant (s.0.asked 5)) (s.1 t.variables refl)
+      let x = called (modes i).sq _ h.0 in
+      prep_keeps x.known _ (tokens.Write b k) _ w.slot x.is (refl, refl) (shares_covered (bags i) b k (leb-true _ _ (x.asked 8))) (same_slot_is x.known.slot Vacant (x.asked 5)) (then_known (modes i).sq _ (Behind (PrepWrite fd b len off k)) x.known x.is h.1 t.variables refl)
   op_keeps (PrepFsync fd datasync) h =
-      let s = ring (PrepFsync fd datasync) refl h in
-      prep_keeps s.0.inside _ tokens.Fsync _ w.slot s.0.is refl (λ p. omega arith) (same_slot_is s.0.inside.slot Vacant (s.0.asked 5)) (same_bag (bags i) (Locked (record s.0.inside { slot = Prepared tokens.Fsync })) t.variables (minus (bags i) (kind_bag P tokens.Fsync)) (λ p. omega arith) (s.1 t.variables refl))
+      let x = called (modes i).sq _ h.0 in
+      prep_keeps x.known _ tokens.Fsync _ w.slot x.is refl (λ p. omega arith) (same_slot_is x.known.slot Vacant (x.asked 5)) (same_bag (bags i) (record (modes i) { sq = Some (record x.known { slot = Prepared tokens.Fsync }) }) t.variables (minus (bags i) (kind_bag P tokens.Fsync)) (λ p. omega arith) (then_known (modes i).sq _ (Behind (PrepFsync fd datasync)) x.known x.is h.1 t.variables refl))
   op_keeps PrepNop h =
-      let s = ring PrepNop refl h in
-      prep_keeps s.0.inside _ tokens.Nop _ w.slot s.0.is refl (λ p. omega arith) (same_slot_is s.0.inside.slot Vacant (s.0.asked 5)) (same_bag (bags i) (Locked (record s.0.inside { slot = Prepared tokens.Nop })) t.variables (minus (bags i) (kind_bag P tokens.Nop)) (λ p. omega arith) (s.1 t.variables refl))
+      let x = called (modes i).sq _ h.0 in
+      prep_keeps x.known _ tokens.Nop _ w.slot x.is refl (λ p. omega arith) (same_slot_is x.known.slot Vacant (x.asked 5)) (same_bag (bags i) (record (modes i) { sq = Some (record x.known { slot = Prepared tokens.Nop }) }) t.variables (minus (bags i) (kind_bag P tokens.Nop)) (λ p. omega arith) (then_known (modes i).sq _ (Behind PrepNop) x.known x.is h.1 t.variables refl))
   op_keeps (SetData64 u) h =
-      let s = ring (SetData64 u) refl h in
-      let k = prepared_as (kind_of P u) s.0.inside.slot (s.0.asked 6) in
-      queue_keeps s.0.inside _ u k.0 w.slot refl s.0.is k.1 k.2 (leb-true 1 _ (s.0.asked 10)) (s.1 t.variables refl)
-  op_keeps (Submit x) h = let s = ring (Submit x) refl h in submit_keeps s.0.inside x _ s.0.is (s.1 _ (_, refl))
-  op_keeps (SubmitAndWait x n) h = let s = ring (SubmitAndWait x n) refl h in submit_keeps s.0.inside x _ s.0.is (s.1 _ (_, refl))
-  op_keeps CqeSeen h = let s = ring CqeSeen refl h in reap_keeps s.0.inside s.0.inside.peeked refl s.0.is (s.0.asked 11) (s.1 t.variables refl)
+      let x = called (modes i).sq _ h.0 in
+      let k = prepared_as (kind_of P u) x.known.slot (x.asked 6) in
+      queue_keeps x.known _ u k.0 w.slot refl x.is k.1 k.2 (leb-true 1 _ (x.asked 10)) (then_known (modes i).sq _ (Behind (SetData64 u)) x.known x.is h.1 t.variables refl)
+  op_keeps (Submit x) h = let s = called (modes i).sq _ h.0 in submit_keeps s.known x _ s.is (h.1 _ (_, refl))
+  op_keeps (SubmitAndWait x n) h = let s = called (modes i).sq _ h.0 in submit_keeps s.known x _ s.is (h.1 _ (_, refl))
+  op_keeps CqeSeen h = let x = called (modes i).cq _ h.0 in reap_keeps x.known x.is (x.asked 11) (then_known (modes i).cq _ (Behind CqeSeen) x.known x.is h.1 t.variables refl)
   op_keeps _ h = quietly w.buffers _ (h.1 _ (_, refl))

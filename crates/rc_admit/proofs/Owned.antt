@@ -1,6 +1,6 @@
 -- What is true of each world of an accepted program, over any claim of how a thread may stand.
 use Rattle.std.proofs.Common.{◌≡◌, ℕ, zero, suc, ◌+◌, ◌≤◌, Bool, true, false, ◌||◌, List, [], ◌∷◌, length, Option, Some, None, refl, sym, ◌∙◌, subst, ◌⊎◌, inl, inr, arith}
-use Rattle.std.specs.Prelude.{replicate, slice_get, slice_set, slice_index_or, ℤ, pos}
+use Rattle.std.specs.Prelude.{is_some, option_map, replicate, slice_get, slice_set, slice_index_or, ℤ, pos}
 use Rattle.rc_lang.specs.Comparisons.{compares}
 use Rattle.rc_lang.specs.declared.lines.Op.{Op}
 use Rattle.rc_lang.specs.declared.lines.Op.TheVariants.{Set, Assign, Add, Subtract, Load, Submit, SubmitAndWait}
@@ -14,17 +14,16 @@ use Rattle.rc_lang.specs.declared.request.Kind.TheVariants.{Nop, Fsync, Read, Wr
 use Rattle.rc_lang.specs.declared.request.Request.{Request}
 use Rattle.rc_lang.specs.Program.{Program, Thread, end_at, items_at, lines_of, lists_of, stmt_at}
 use Rattle.rc_rules.specs.declared.mode.Mode.{Mode}
-use Rattle.rc_rules.specs.declared.mode.Mode.TheVariants.{Unlocked, Locked}
 use Rattle.rc_rules.specs.declared.mode.Peeked.{Peeked}
 use Rattle.rc_rules.specs.declared.mode.Peeked.TheVariants.{Unseen, Sees, SeesOther}
 use Rattle.rc_rules.specs.declared.mode.Slot.{Slot}
 use Rattle.rc_rules.specs.declared.mode.Slot.TheVariants.{Closed, Vacant, Prepared}
-use Rattle.rc_rules.specs.Labels.{Live, WeakerMode}
+use Rattle.rc_rules.specs.declared.mode.Submitting.{Submitting}
+use Rattle.rc_rules.specs.Labels.{Live, UnderLock, WeakerMode, WeakerPeeked, WeakerSubmitting}
 use Rattle.rc_rules.specs.Premises.{Meets}
-use Rattle.rc_rules.proofs.Weaker.{mode_trans}
+use Rattle.rc_rules.proofs.Weaker.{mode_refl, mode_trans}
 use Rattle.rc_rules.specs.Needs.{line_premises}
-use Rattle.rc_rules.specs.Rules.{broken, kind_bag, kind_of, limit, op_effect, owned, test_effect, with_peeked}
-use Rattle.rc_rules.specs.States.{is_locked}
+use Rattle.rc_rules.specs.Rules.{both_locks, broken, kind_bag, kind_of, limit, locked, locks_of, op_effect, owned, sq_of, test_effect, unlocked, with_peeked}
 use Rattle.rc_split.specs.Bags.{Part, TokenOf, bag_of, credits_bag, minus}
 use Rattle.rc_split.specs.Pools.{pooled}
 use Rattle.rc_world.specs.declared.event.Completion.{Completion}
@@ -74,8 +73,8 @@ MayPass (Take k) vars b = Unit {0}
 abbrev pub EdgeAt : Program → Stand → ℕ → (Part → ℕ) → Mode → List ℤ → ℕ → Option Stmt → Type 0
 EdgeAt P S i b m vars k (Some (Do op)) = Meets (line_premises P [] b m (Do op)) × AtLive (op_effect P b m op) (λ c n. (new : List ℤ) → MayBecome op vars new → Leads S i c n new (k + 1))
 EdgeAt P S i b m vars k (Some (Put n)) = Meets (line_premises P (lists_of P i) b m (Put n)) × Leads S i (minus b (bag_of (items_at (lists_of P i) n))) m vars (k + 1)
-EdgeAt P S i b m vars k (Some Lock) = (m ≡ Unlocked) × Leads S i b (Locked (record { queued = P.left; slot = Closed; peeked = Unseen })) vars (k + 1)
-EdgeAt P S i b m vars k (Some (EndLock o)) = (is_locked m ≡ true) × Meets (line_premises P [] b m (EndLock 0)) × Leads S i b Unlocked vars (k + 1)
+EdgeAt P S i b m vars k (Some Lock) = Leads S i b (locked P) vars (k + 1)
+EdgeAt P S i b m vars k (Some (EndLock o)) = (locks_of m ≡ both_locks true) × Meets (line_premises P [] b m (EndLock 0)) × Leads S i b unlocked vars (k + 1)
 EdgeAt P S i b m vars k (Some (If test)) = Meets (line_premises P [] b m (If test))
     × AtLive (test_effect P (lists_of P i) b m test) (λ c n. MayPass test vars true → Leads S i c n vars (k + 1))
     × (MayPass test vars false → Leads S i b m vars (end_at P i k + 1))
@@ -84,10 +83,10 @@ EdgeAt P S i b m vars k (Some (EndIf o)) = Leads S i b m vars (k + 1)
 EdgeAt P S i b m vars k (Some (Peek x)) = Meets (line_premises P [] b m (Peek 0))
     × ((u : ℕ) (v : ℤ) → (1 ≤ b (TokenOf u)) ⊎ (Leads S i b (with_peeked (Sees u) m) (slice_set vars x v) (arm_for P i k u + 1) ⊎ Leads S i b (with_peeked SeesOther m) (slice_set vars x v) (arm_for P i k u + 1)))
     × ((v : ℤ) → Leads S i b (with_peeked Unseen m) (slice_set vars x v) (none_arm P i k + 1))
-EdgeAt P S i b m vars k (Some (EndArm o)) = (is_locked m ≡ true) × Leads S i b (with_peeked Unseen m) vars (end_at P i o + 1)
+EdgeAt P S i b m vars k (Some (EndArm o)) = (is_some m.cq ≡ true) × Leads S i b (with_peeked Unseen m) vars (end_at P i o + 1)
 EdgeAt P S i b m vars k (Some (Loop n)) = Leads S i b m vars (k + 1)
 EdgeAt P S i b m vars k (Some (EndLoop o n)) = Leads S i b m vars (o + 1)
-EdgeAt P S i b m vars k (Some (Break o releases leaves)) = ((releases || leaves) ≡ true → is_locked m ≡ true) × Meets (line_premises P [] b m (Break 0 releases false))
+EdgeAt P S i b m vars k (Some (Break o releases leaves)) = ((releases || leaves) ≡ true → locks_of m ≡ both_locks true) × Meets (line_premises P [] b m (Break 0 releases false))
     × AtLive (broken releases (Live b m)) (λ c n. Leads S i c n vars (end_at P i o + 1))
 EdgeAt P S i b m vars k _ = Unit {0}
 
@@ -99,7 +98,7 @@ HasEdge P S = (i : ℕ) (b : Part → ℕ) (m : Mode) (vars : List ℤ) (k : ℕ
 
 -- The thread may be so as it begins.
 abbrev pub HasStart : Program → Stand → Type 0
-HasStart P S = (i : ℕ) (t : Thread) → slice_get P.threads i ≡ Some t → Leads S i (bag_of t.items) Unlocked (replicate 64 (pos 0)) 0
+HasStart P S = (i : ℕ) (t : Thread) → slice_get P.threads i ≡ Some t → Leads S i (bag_of t.items) unlocked (replicate 64 (pos 0)) 0
 
 -- ---- what is owned
 
@@ -110,8 +109,7 @@ slot_bag P Vacant p = credits_bag 1 p
 slot_bag P (Prepared kind) p = kind_bag P kind p + credits_bag 1 p
 
 abbrev pub mode_bag : Program → Mode → Part → ℕ
-mode_bag P Unlocked p = 0
-mode_bag P (Locked s) p = slot_bag P s.slot p
+mode_bag P m p = slot_bag P (sq_of m).slot p
 
 -- what a request in flight owns
 abbrev pub owns : Program → Part → Request → ℕ
@@ -150,12 +148,22 @@ FrontFits b cs Unseen = Unit {0}
 FrontFits b cs (Sees u) = (b ≡ true) × StartsWith u cs
 FrontFits b cs SeesOther = (b ≡ true) × IsNonempty cs
 
--- What a thread's label says of the ring; the second argument is whether the thread holds the lock.
-abbrev pub Fits : World → Bool → Mode → Type 0
-Fits w false Unlocked = Unit {0}
-Fits w true (Locked s) = (length w.queued + slot_len w.slot ≤ s.queued) × SlotFits w.slot s.slot × FrontFits w.controls.peeked w.completions s.peeked
-Fits w false (Locked s) = ⊥
-Fits w true Unlocked = ⊥
+-- A label has a lock exactly where its thread holds it, and this is so of what it knows under it.
+abbrev pub IfHeld : {A : Type 0} → (A → Type 0) → Bool → Option A → Type 0
+IfHeld F false None = Unit {0}
+IfHeld F true (Some s) = F s
+IfHeld F false (Some s) = ⊥
+IfHeld F true None = ⊥
+
+abbrev pub QueueFits : ℕ → Entry → Submitting → Type 0
+QueueFits n slot s = (n + slot_len slot ≤ s.queued) × SlotFits slot s.slot
+
+-- what each side of a thread's label says of the ring; the Bool is whether it holds the lock, n how many are queued
+abbrev pub SqFits : (n : ℕ) → Entry → Bool → Option Submitting → Type 0
+SqFits n slot h o = IfHeld (QueueFits n slot) h o
+
+abbrev pub CqFits : (peeked : Bool) → List Completion → Bool → Option Peeked → Type 0
+CqFits peeked cs h o = IfHeld (FrontFits peeked cs) h o
 
 abbrev pub held : Program → (Part → ℕ) → Mode → Part → ℕ
 held P b m p = b p + mode_bag P m p
@@ -173,7 +181,8 @@ pub record Owned (P : Program) (S : ℕ → (Part → ℕ) → Mode → List ℤ
   pub stands : (i : ℕ) (t : Standing) → slice_get w.controls.threads i ≡ Some t → S i (bags i) (modes i) t.variables t.place
   pub total : (p : Part) → sum_to (λ i. held P (bags i) (modes i) p) (length w.controls.threads) + unheld P w p ≤ limit P p
   pub free : w.controls.holder ≡ None → (length w.queued ≤ P.left) × (w.slot ≡ entries.Closed)
-  pub each : (i : ℕ) → Fits w (is_holder w.controls.holder i) (modes i)
+  pub submits : (i : ℕ) → SqFits (length w.queued) w.slot (is_holder w.controls.holder i) (modes i).sq
+  pub reaps : (i : ℕ) → CqFits w.controls.peeked w.completions (is_holder w.controls.holder i) (modes i).cq
   pub queued : Each (HasKind P) w.queued
   pub pending : Each (HasKindPending P) w.pending
   pub completed : Each (HasKind P) w.completed
@@ -184,43 +193,71 @@ WellOwned P S w = (bags : ℕ → Part → ℕ) × (modes : ℕ → Mode) × Own
 
 -- ---- weaker modes
 
-abbrev pub IsUnseen : Mode → Type 0
-IsUnseen Unlocked = ⊥
-IsUnseen (Locked s) = s.peeked ≡ Unseen
+abbrev pub IsUnseen : Option Peeked → Type 0
+IsUnseen None = ⊥
+IsUnseen (Some p) = p ≡ Unseen
 
-unseen_in : (m : Mode) → is_locked m ≡ true → IsUnseen (with_peeked Unseen m)
-unseen_in Unlocked e = absurd (cc)
-unseen_in (Locked s) e = refl
+unseen_in : (o : Option Peeked) → is_some o ≡ true → IsUnseen (option_map (λ _. Unseen) o)
+unseen_in None e = absurd (cc)
+unseen_in (Some p) e = refl
+
+pub front_below : (o : Option Peeked) → UnderLock WeakerPeeked (option_map (λ _. Unseen) o) o
+front_below None = tt
+front_below (Some p) = inr refl
 
 unseen_below : (m : Mode) → WeakerMode (with_peeked Unseen m) m
-unseen_below Unlocked = tt
-unseen_below (Locked s) = record { queued = omega arith; slot = refl; peeked = inr refl }
+unseen_below m = ((mode_refl m).0, front_below m.cq)
 
-unseen_weaker : (n m : Mode) → WeakerMode n m → IsUnseen m → IsUnseen n
-unseen_weaker Unlocked Unlocked w u = u
-unseen_weaker Unlocked (Locked s) w u = absurd w
-unseen_weaker (Locked s) Unlocked w u = absurd w
-unseen_weaker (Locked s) (Locked t) w u = elim w.peeked [ inl e ↦ e ∙ u | inr e ↦ e ]
+unseen_weaker : (o p : Option Peeked) → UnderLock WeakerPeeked o p → IsUnseen p → IsUnseen o
+unseen_weaker None None w u = u
+unseen_weaker None (Some q) w u = absurd w
+unseen_weaker (Some p) None w u = absurd w
+unseen_weaker (Some p) (Some q) w u = elim w [ inl e ↦ e ∙ u | inr e ↦ e ]
 
-front_weaker : (b : Bool) (cs : List Completion) (x y : Peeked) → (y ≡ x) ⊎ (y ≡ Unseen) → FrontFits b cs x → FrontFits b cs y
+-- ---- what fits under a lock
+
+module _ {A : Type 0} (F : A → Type 0) where
+  pub held_parts : (h : Bool) (s : A) → IfHeld F h (Some s) → (h ≡ true) × F s
+  held_parts true s f = (refl, f)
+  held_parts false s f = absurd f
+
+  pub held_made : (h : Bool) (s : A) → h ≡ true → F s → IfHeld F h (Some s)
+  held_made true s e f = f
+  held_made false s e f = absurd (cc)
+
+  -- who doesn't hold the lock says nothing of its side
+  pub not_held : (G : A → Type 0) (h k : Bool) (o : Option A) → h ≡ false → k ≡ false → IfHeld F h o → IfHeld G k o
+  not_held G false false None e f g = tt
+  not_held G false false (Some s) e f g = g
+  not_held G true k o e f g = absurd (cc)
+  not_held G false true o e f g = absurd (cc)
+
+  pub held_map : (G : A → Type 0) → ((s : A) → F s → G s) → (h : Bool) (o : Option A) → IfHeld F h o → IfHeld G h o
+  held_map G g false None f = tt
+  held_map G g false (Some s) f = f
+  held_map G g true None f = f
+  held_map G g true (Some s) f = g s f
+
+  -- a label that says less fits too
+  pub held_weaker : (W : A → A → Type 0) → ((s t : A) → W t s → F s → F t) → (h : Bool) (o p : Option A) → UnderLock W p o → IfHeld F h o → IfHeld F h p
+  held_weaker W g h None None w f = f
+  held_weaker W g h None (Some t) w f = absurd w
+  held_weaker W g h (Some s) None w f = absurd w
+  held_weaker W g false (Some s) (Some t) w f = f
+  held_weaker W g true (Some s) (Some t) w f = g s t w f
+
+pub front_weaker : (b : Bool) (cs : List Completion) (x y : Peeked) → WeakerPeeked y x → FrontFits b cs x → FrontFits b cs y
 front_weaker b cs x y e f = elim e [ inl d ↦ subst (λ z. FrontFits b cs z) (sym d) f | inr d ↦ subst (λ z. FrontFits b cs z) (sym d) tt ]
 
--- A weaker label fits too.
-pub fits_weaker : (w : World) (h : Bool) (m n : Mode) → WeakerMode n m → Fits w h m → Fits w h n
-fits_weaker w false Unlocked Unlocked x f = tt
-fits_weaker w true Unlocked n x f = absurd f
-fits_weaker w false Unlocked (Locked s) x f = x
-fits_weaker w false (Locked s) n x f = absurd f
-fits_weaker w true (Locked s) Unlocked x f = absurd x
-fits_weaker w true (Locked s) (Locked t) x f =
-    (omega (arith, x.queued, f.0), subst (λ y. SlotFits w.slot y) (sym x.slot) f.1, front_weaker w.controls.peeked w.completions s.peeked t.peeked x.peeked f.2)
+pub queue_weaker : (n : ℕ) (slot : Entry) (s t : Submitting) → WeakerSubmitting t s → QueueFits n slot s → QueueFits n slot t
+queue_weaker n slot s t w f = (omega (arith, w.queued, f.0), subst (λ x. SlotFits slot x) (sym w.slot) f.1)
 
 -- ---- lines that are no event
 
 -- Where a step leads once the lines that are no event are passed; after the end of an arm nothing is peeked.
 pub record Settled (S : ℕ → (Part → ℕ) → Mode → List ℤ → ℕ → Type 0) (i : ℕ) (b : Part → ℕ) (m : Mode) (vars : List ℤ) (place : ℕ) (ends : Bool) : Type 0 where
   pub leads : Leads S i b m vars place
-  pub unseen : ends ≡ true → IsUnseen leads.mode
+  pub unseen : ends ≡ true → IsUnseen leads.mode.cq
 
 module _ (P : Program) (S : Stand) (i : ℕ) (vars : List ℤ) (n k : ℕ) (b : Part → ℕ) (m : Mode) (l : Leads S i b m vars k) (rest : (j : ℕ) (c : Part → ℕ) (o : Mode) → Leads S i c o vars j → Settled S i c o vars (settled P i n j) (ends_arm P i n j)) where
   stays : (e : Bool) → e ≡ false → Settled S i b m vars k e
@@ -240,7 +277,7 @@ module _ (P : Program) (S : Stand) (i : ℕ) (vars : List ℤ) (n k : ℕ) (b : 
       let w : WeakerMode s.leads.mode l.mode = mode_trans s.leads.mode past l.mode s.leads.weaker (unseen_below l.mode) in
       record {
         leads = record { bag = s.leads.bag; mode = s.leads.mode; less = λ p. omega (arith, s.leads.less p, l.less p); weaker = mode_trans s.leads.mode l.mode m w l.weaker; stands = s.leads.stands };
-        unseen = λ e. unseen_weaker s.leads.mode past s.leads.weaker (unseen_in l.mode h.0);
+        unseen = λ e. unseen_weaker s.leads.mode.cq past.cq s.leads.weaker.1 (unseen_in l.mode.cq h.0);
       }
   settle_at _ h = stays false refl
 

@@ -1,23 +1,16 @@
 -- What the rules say of a live state, premise by premise, and of the state after a line.
-use Rattle.std.proofs.Common.{◌≡◌, ℕ, true, false, cond, nat_eq, List, [], ◌∷◌, Option, Some, None, refl}
-use Rattle.rc_lang.specs.declared.lines.Stmt.TheVariants.{Do}
-use Rattle.rc_lang.specs.declared.lines.Op.{Op}
-use Rattle.rc_lang.specs.declared.lines.Op.TheVariants.{Set, Assign, Add, Subtract, Load, Store, Fill, Print}
+use Rattle.std.proofs.Common.{◌≡◌, ℕ, true, false, cond, nat_eq, List, [], ◌∷◌, Option, Some, None, refl, ap, subst}
+use Rattle.std.specs.Prelude.{is_some, unwrap_or}
 use Rattle.rc_lang.specs.declared.program.TokenKind.{TokenKind}
-use Rattle.rc_lang.specs.Program.{Program}
-use Rattle.rc_rules.specs.declared.mode.Inside.{Inside}
 use Rattle.rc_rules.specs.declared.mode.Mode.{Mode}
-use Rattle.rc_rules.specs.declared.mode.Mode.TheVariants.{Unlocked, Locked}
 use Rattle.rc_rules.specs.declared.mode.Slot.{Slot}
-use Rattle.rc_rules.specs.declared.mode.Slot.TheVariants.{Prepared}
+use Rattle.rc_rules.specs.declared.mode.Slot.TheVariants.{Closed, Prepared}
+use Rattle.rc_rules.specs.declared.mode.Submitting.{Submitting}
 use Rattle.rc_rules.specs.Labels.{Label, Dead, Live}
 use Rattle.rc_rules.specs.Premises.{Premise, Is, IsMet, Meets}
-use Rattle.rc_rules.specs.Needs.{line_premises}
-use Rattle.rc_rules.specs.Rules.{is_prepared_as, under_lock}
-use Rattle.rc_rules.specs.States.{is_locked}
+use Rattle.rc_rules.specs.Rules.{if_locked, is_prepared_as, sq_of, with_lock}
 use Rattle.rc_rules.proofs.Weaker.{same_slot_is}
 use Rattle.rc_split.specs.Bags.{Part}
-use Rattle.rc_world.specs.Faults.{is_ring_op}
 
 -- A claim of a live state; of a dead one nothing is claimed.
 abbrev pub Claim : Type 1
@@ -37,36 +30,42 @@ pub met : (v : ℕ) (ps : List (ℕ × Premise)) → Meets ps → IsMet (numbere
 met v [] h = refl
 met v (p ∷ ps) h = elim (nat_eq p.0 v) as (λ b. IsMet (cond b p.1 (numbered v ps))) [ true ↦ h.0 | false ↦ met v ps h.1 ]
 
--- ---- in the lock
+-- ---- under a lock
 
-pub inside_of : (m : Mode) → is_locked m ≡ true → (s : Inside) × (m ≡ Locked s)
-inside_of Unlocked e = absurd (cc)
-inside_of (Locked s) e = (s, refl)
+pub held_of : {A : Type 0} (o : Option A) → is_some o ≡ true → (s : A) × (o ≡ Some s)
+held_of None e = absurd (cc)
+held_of (Some s) e = (s, refl)
 
-pub asks_lock : (m : Mode) (F : Inside → List (ℕ × Premise)) → Meets (under_lock 1 m F) → is_locked m ≡ true
-asks_lock Unlocked F h = absurd (let e : false ≡ true = h.0 in cc)
-asks_lock (Locked s) F h = refl
+pub asks_lock : {A : Type 0} (o : Option A) (F : A → List (ℕ × Premise)) → Meets (with_lock 1 o F) → is_some o ≡ true
+asks_lock None F h = absurd (let e : false ≡ true = h.0 in cc)
+asks_lock (Some s) F h = refl
 
--- A statement that calls the ring is in the lock.
-pub record InRing (P : Program) (b : Part → ℕ) (m : Mode) (op : Op) : Type 0 where
-  pub inside : Inside
-  pub is : m ≡ Locked inside
-  pub asked : (v : ℕ) → IsMet (numbered v (line_premises P [] b (Locked inside) (Do op)))
+-- What asks for both locks holds them, and has what is asked then.
+pub record HasBoth {A B : Type 0} (o : Option A) (p : Option B) (ps : List (ℕ × Premise)) : Type 0 where
+  pub first : is_some o ≡ true
+  pub second : is_some p ≡ true
+  pub asked : Meets ps
 
-pub in_ring : (P : Program) (b : Part → ℕ) (m : Mode) (op : Op) → is_ring_op op ≡ true → Meets (line_premises P [] b m (Do op)) → InRing P b m op
-in_ring P b (Locked s) op r h = record { inside = s; is = refl; asked = λ v. met v (line_premises P [] b (Locked s) (Do op)) h }
-in_ring P b Unlocked op r h = absurd (go op r h)
-  where
-    go : (op : Op) → is_ring_op op ≡ true → Meets (line_premises P [] b Unlocked (Do op)) → ⊥
-    go (Set x n) r h = cc
-    go (Assign x y) r h = cc
-    go (Add x y z) r h = cc
-    go (Subtract x y z) r h = cc
-    go (Load x c i) r h = cc
-    go (Store c i x) r h = cc
-    go (Fill c x) r h = cc
-    go (Print x) r h = cc
-    go _ r h = let e : false ≡ true = h.0 in cc
+pub has_both : {A B : Type 0} (o : Option A) (p : Option B) (ps : List (ℕ × Premise)) → Meets (with_lock 1 o (λ x. with_lock 1 p (λ y. ps))) → HasBoth o p ps
+has_both None p ps h = absurd (let e : false ≡ true = h.0 in cc)
+has_both (Some x) None ps h = absurd (let e : false ≡ true = h.0 in cc)
+has_both (Some x) (Some y) ps h = record { first = refl; second = refl; asked = h }
+
+-- A call on one side of the ring has its lock.
+pub record Called {A : Type 0} (o : Option A) (F : A → List (ℕ × Premise)) : Type 0 where
+  pub known : A
+  pub is : o ≡ Some known
+  pub asked : (v : ℕ) → IsMet (numbered v (F known))
+
+pub called : {A : Type 0} (o : Option A) (F : A → List (ℕ × Premise)) → Meets (with_lock 1 o F) → Called o F
+called None F h = absurd (let e : false ≡ true = h.0 in cc)
+called (Some s) F h = record { known = s; is = refl; asked = λ v. met v (F s) h }
+
+pub then_known : {A : Type 0} (o : Option A) (F : A → Label) (K : Claim) (s : A) → o ≡ Some s → AtLive (if_locked o F) K → AtLive (F s) K
+then_known o F K s e h = subst (λ x. AtLive (if_locked x F) K) e h
+
+pub known_sq : (m : Mode) (s : Submitting) → m.sq ≡ Some s → sq_of m ≡ s
+known_sq m s e = ap (λ (o : Option Submitting). unwrap_or o (record { queued = 0; slot = Closed })) e
 
 pub prepared_as : (x : Option TokenKind) (slot : Slot) → is_prepared_as x slot ≡ true → (kind : TokenKind) × (x ≡ Some kind) × (slot ≡ Prepared kind)
 prepared_as None slot e = absurd (cc)

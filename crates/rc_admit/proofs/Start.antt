@@ -1,12 +1,11 @@
 -- The start world has what is true of each world.
-use Rattle.std.proofs.Common.{◌≡◌, ℕ, zero, suc, ◌+◌, ◌≤◌, List, [], ◌∷◌, length, map, Option, Some, None, refl, sym, subst, arith}
+use Rattle.std.proofs.Common.{◌≡◌, ℕ, zero, suc, ◌+◌, ◌≤◌, List, [], ◌∷◌, length, map, Option, Some, None, refl, sym, ap, ◌∙◌, subst, arith}
 use Rattle.std.specs.Prelude.{replicate, slice_get, ℤ, pos}
 use Rattle.rc_lang.specs.Program.{Program, Thread}
 use Rattle.rc_rules.specs.declared.mode.Mode.{Mode}
-use Rattle.rc_rules.specs.declared.mode.Mode.TheVariants.{Unlocked, Locked}
-use Rattle.rc_rules.specs.Labels.{WeakerMode}
+use Rattle.rc_rules.specs.Labels.{UnderLock, WeakerMode, WeakerPeeked, WeakerSubmitting}
 use Rattle.rc_rules.specs.Labellings.{headers_bag}
-use Rattle.rc_rules.specs.Rules.{limit}
+use Rattle.rc_rules.specs.Rules.{limit, unlocked}
 use Rattle.rc_split.specs.Bags.{Part, bag_of}
 use Rattle.rc_split.specs.Pools.{empty_pool, pooled}
 use Rattle.rc_world.specs.Controls.{Standing}
@@ -15,9 +14,12 @@ use Rattle.rc_admit.proofs.Lists.{sum_to}
 use Rattle.rc_admit.proofs.Owned.{Stand, HasStart, WellOwned}
 use Rattle.rc_admit.proofs.Pool.{none_pooled}
 
-unlocked_below : (m : Mode) → WeakerMode m Unlocked → m ≡ Unlocked
-unlocked_below Unlocked w = refl
-unlocked_below (Locked s) w = absurd w
+none_below : {A : Type 0} (F : A → A → Type 0) (o : Option A) → UnderLock F o None → o ≡ None
+none_below F None w = refl
+none_below F (Some s) w = absurd w
+
+unlocked_below : (m : Mode) → WeakerMode m unlocked → m ≡ unlocked
+unlocked_below m w = ap (λ x. record m { sq = x }) (none_below WeakerSubmitting m.sq w.0) ∙ ap (λ x. record unlocked { cq = x }) (none_below WeakerPeeked m.cq w.1)
 
 abbrev zeros : List ℤ
 zeros = replicate 64 (pos 0)
@@ -67,7 +69,7 @@ module _ (P : Program) (S : Stand) (start : HasStart P S) where
   first_most i None e p = omega arith
   first_most i (Some t) e p = (start i t e).less p
 
-  first_stands : (i : ℕ) (x : Option Thread) (e : slice_get P.threads i ≡ x) (t : Thread) → x ≡ Some t → S i (first_bag i x e) Unlocked zeros 0
+  first_stands : (i : ℕ) (x : Option Thread) (e : slice_get P.threads i ≡ x) (t : Thread) → x ≡ Some t → S i (first_bag i x e) unlocked zeros 0
   unfolding first_bag
   first_stands i None e t h = absurd (cc)
   first_stands i (Some u) e t h = let l = start i u e in subst (λ m. S i l.bag m zeros 0) (unlocked_below l.mode l.weaker) l.stands
@@ -75,13 +77,13 @@ module _ (P : Program) (S : Stand) (start : HasStart P S) where
   pub start_has : ((p : Part) → headers_bag P.threads p ≤ limit P p) → WellOwned P S (start_world P)
   start_has within = (
     λ i. first_bag i (slice_get P.threads i) refl,
-    λ i. Unlocked,
+    λ i. unlocked,
     record {
       of = refl;
       room = omega arith;
       stands = λ i th e.
           let f = first_at P.threads i th e in
-          subst (λ (t : Standing). S i (first_bag i (slice_get P.threads i) refl) Unlocked t.variables t.place) (sym f.2) (first_stands i (slice_get P.threads i) refl f.0 f.1);
+          subst (λ (t : Standing). S i (first_bag i (slice_get P.threads i) refl) unlocked t.variables t.place) (sym f.2) (first_stands i (slice_get P.threads i) refl f.0 f.1);
       total = λ p.
           let f : ℕ → ℕ = λ i. first_bag i (slice_get P.threads i) refl p + 0 in
           let g : ℕ → ℕ = λ i. bag_in (slice_get P.threads i) p in
@@ -92,7 +94,8 @@ module _ (P : Program) (S : Stand) (start : HasStart P S) where
           let none : pooled P empty_pool p ≡ 0 = none_pooled P p in
           omega (arith, x, y, none);
       free = λ n. (omega arith, refl);
-      each = λ i. tt;
+      submits = λ i. tt;
+      reaps = λ i. tt;
       queued = tt;
       pending = tt;
       completed = tt;

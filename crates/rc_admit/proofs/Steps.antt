@@ -1,6 +1,6 @@
 -- Each step of a thread keeps what is true of each world.
 use Rattle.std.proofs.Common.{◌≡◌, ℕ, ◌+◌, ◌-◌, ◌≤◌, Bool, true, false, ◌||◌, cond, List, [], ◌∷◌, length, Option, Some, None, refl, sym, ap, ◌∙◌, subst, ◌⊎◌, inl, inr, arith}
-use Rattle.std.specs.Prelude.{slice_set, slice_get, slice_index_or, nat_eq, not, min, ℤ, pos, int_le, if◌then◌else◌}
+use Rattle.std.specs.Prelude.{is_some, option_map, slice_set, slice_get, unwrap_or, slice_index_or, nat_eq, nat_le, not, min, ℤ, pos, int_le, if◌then◌else◌}
 use Rattle.std.specs.Ordering.{int_eq}
 use Rattle.std.proofs.lemmas.Option.{slice_get_within}
 use Rattle.std.proofs.lemmas.Bool.{and_from, false_from_ne_true, leb-true, eq-eqb}
@@ -12,17 +12,15 @@ use Rattle.rc_lang.specs.declared.lines.Stmt.TheVariants.{Do, Put, Lock, EndLock
 use Rattle.rc_lang.specs.declared.lines.Test.{Test}
 use Rattle.rc_lang.specs.declared.lines.Test.TheVariants.{Compare, ReadyZero, SpaceAtLeast, Take}
 use Rattle.rc_lang.specs.Program.{IsItems, IsProgram, Items, Program, end_at, items_at, lists_of}
-use Rattle.rc_rules.specs.declared.mode.Inside.{Inside}
 use Rattle.rc_rules.specs.declared.mode.Mode.{Mode}
-use Rattle.rc_rules.specs.declared.mode.Mode.TheVariants.{Unlocked, Locked}
 use Rattle.rc_rules.specs.declared.mode.Peeked.{Peeked}
 use Rattle.rc_rules.specs.declared.mode.Peeked.TheVariants.{Unseen, Sees, SeesOther}
 use Rattle.rc_rules.specs.declared.mode.Slot.TheVariants.{Closed}
+use Rattle.rc_rules.specs.declared.mode.Submitting.{Submitting}
 use Rattle.rc_rules.specs.Labels.{Label, Dead, Live}
 use Rattle.rc_rules.specs.Premises.{Meets}
 use Rattle.rc_rules.specs.Needs.{line_premises}
-use Rattle.rc_rules.specs.Rules.{broken, can_take, has_room, limit, names_peeked, names_peeked_in, owned, take_effect, test_effect, test_mode, with_peeked}
-use Rattle.rc_rules.specs.States.{is_locked}
+use Rattle.rc_rules.specs.Rules.{Locks, at_most, both_locks, broken, can_take, has_room, limit, locked, locks_of, names_peeked, owned, peeked_of, same_slot, take_effect, test_effect, test_mode, unlocked, with_peeked}
 use Rattle.rc_rules.proofs.Weaker.{same_slot_is}
 use Rattle.rc_split.specs.Bags.{Part, TokenOf, bag_of, minus, plus, token_bag}
 use Rattle.rc_split.specs.Pools.{includes, overfills, pooled, with_items, without_items}
@@ -33,20 +31,14 @@ use Rattle.rc_world.specs.declared.event.Action.TheVariants.{ItemsPut}
 use Rattle.rc_world.specs.declared.event.Completion.{Completion}
 use Rattle.rc_world.specs.declared.world.Slot.TheVariants as entries
 use Rattle.rc_world.specs.Controls.{Standing, acts, arm_for, branches, breaks, decides, goes_on, locks, none_arm, peeks, plainly, puts_items, tries_to_take}
-use Rattle.rc_world.specs.Faults.{is_holder}
 use Rattle.rc_world.specs.Machine.{World, front_of, in_rings, slot_len, stmt_answer, test_answer, used_entries}
 use Rattle.rc_admit.proofs.Flight.{data_in, front_is}
 use Rattle.rc_admit.proofs.Lists.{sum_to, sum_over, sum_to_one}
-use Rattle.rc_admit.proofs.Moves.{Moved, moves, put, rung_moved, fits_parts, fits_made, holder_one, with_lock}
-use Rattle.rc_admit.proofs.Ops.{Keeps, slot_closed, op_keeps, pools, quiet, has, starts_head}
-use Rattle.rc_admit.proofs.Owned.{Stand, Leads, MayPass, EdgeAt, HasEdge, slot_bag, owns, unheld, SlotFits, StartsWith, IsNonempty, FrontFits, Fits, held, Owned, WellOwned}
+use Rattle.rc_admit.proofs.Moves.{CqPart, Moved, SqPart, moves, put, with_lock, cq_frees, cq_has, cq_step, cq_takes, sq_frees, sq_has, sq_step, sq_still, sq_takes, cq_still}
+use Rattle.rc_admit.proofs.Ops.{Keeps, slot_closed, op_keeps, pools, quiet, starts_head}
+use Rattle.rc_admit.proofs.Owned.{Stand, Leads, MayPass, EdgeAt, HasEdge, slot_bag, mode_bag, owns, unheld, SlotFits, StartsWith, IsNonempty, FrontFits, held, Owned, WellOwned}
 use Rattle.rc_admit.proofs.Pool.{items_of, room_for, token_there}
-use Rattle.rc_admit.proofs.Rule.{AtLive, Claim, asks_lock, inside_of, met}
-
-pub outside_any : (w w1 : World) (h : Bool) (m : Mode) → h ≡ false → Fits w h m → Fits w1 false m
-outside_any w w1 false Unlocked e f = tt
-outside_any w w1 false (Locked s) e f = f
-outside_any w w1 true m e f = absurd (cc)
+use Rattle.rc_admit.proofs.Rule.{AtLive, Claim, asks_lock, has_both, held_of, known_sq}
 
 -- A request owns its token.
 pub token_owned : (P : Program) (u : ℕ) → 1 ≤ owned P u (TokenOf u)
@@ -58,61 +50,72 @@ as_passed Dead K a = tt
 as_passed (Live b m) K a = a tt
 
 module _ (P : Program) (S : Stand) (w : World) (bags : ℕ → Part → ℕ) (modes : ℕ → Mode) (i : ℕ) (o : Owned P S w bags modes) where
-  -- The thread's label knows less of the ring than before, in the same world but for what is peeked.
-  knows : (pe : Bool) (s t : Inside) → modes i ≡ Locked s → t.slot ≡ s.slot → length w.queued + slot_len w.slot ≤ t.queued → FrontFits pe w.completions t.peeked → Moved P w (with_lock w w.controls.holder pe) bags modes i (bags i) (Locked t)
-  knows pe s t e f bound front = rung_moved P S w (with_lock w w.controls.holder pe) bags modes i (bags i) s t o e (record {
+  -- The label says that fewer are queued, as they are.
+  few_queued : (n : ℕ) (s : Submitting) → (modes i).sq ≡ Some s → length w.queued + slot_len w.slot ≤ n → Moved P w w bags modes i (bags i) (at_most n (modes i))
+  few_queued n s e few =
+      let h = sq_has P S w bags modes i o s e in
+      let less : Submitting → Submitting = λ (x : Submitting). record x { queued = min x.queued n } in
+      record {
+        of = o.of;
+        room = o.room;
+        same = refl;
+        local = λ p.
+            let x : mode_bag P (at_most n (modes i)) p ≡ slot_bag P s.slot p = ap (λ (y : Option Submitting). slot_bag P (unwrap_or (option_map less y) (record { queued = 0; slot = Closed })).slot p) e in
+            let y : mode_bag P (modes i) p ≡ slot_bag P s.slot p = ap (λ (y : Option Submitting). slot_bag P (unwrap_or y (record { queued = 0; slot = Closed })).slot p) e in
+            omega arith;
+        submits = subst (λ x. SqPart P w.controls.holder (length w.queued) w.slot modes i x) (sym (ap (option_map less) e)) (sq_step P S w bags modes i o (length w.queued) w.slot s (less s) e (omega (arith, h.1)) h.2);
+        reaps = cq_still P S w bags modes i o;
+        queued = o.queued;
+        pending = o.pending;
+        completed = o.completed;
+        agree = o.agree;
+      }
+
+  -- The label says something else of the front, in the same world but for what is peeked.
+  sees : (pe : Bool) (k x : Peeked) → (modes i).cq ≡ Some k → FrontFits pe w.completions x → Moved P w (with_lock w w.controls.holder pe) bags modes i (bags i) (with_peeked x (modes i))
+  sees pe k x e fit = record {
     of = o.of;
     room = o.room;
     same = refl;
-    lock = refl;
-    local = λ p. let x : slot_bag P t.slot p ≡ slot_bag P s.slot p = ap (λ s. slot_bag P s p) f in omega arith;
-    bound = bound;
-    slot = subst (λ x. SlotFits w.slot x) (sym f) (has P S w bags modes i o s e).1;
-    front = front;
+    local = λ p. omega arith;
+    submits = sq_still P S w bags modes i o;
+    reaps = subst (λ c. CqPart w.controls.holder pe w.completions modes i c) (sym (ap (option_map (λ _. x)) e)) (cq_step P S w bags modes i o pe w.completions k x e fit);
     queued = o.queued;
     pending = o.pending;
     completed = o.completed;
     agree = o.agree;
-  })
+  }
 
-  frees : (pe : Bool) (s : Inside) → modes i ≡ Locked s → s.slot ≡ Closed → s.queued ≤ P.left → Moved P w (with_lock w None pe) bags modes i (bags i) Unlocked
-  frees pe s e f le =
-      let h = has P S w bags modes i o s e in
-      let x : w.slot ≡ entries.Closed = slot_closed w.slot (subst (λ x. SlotFits w.slot x) f h.1) in
-      let fit : Fits w (is_holder w.controls.holder i) (Locked s) = subst (λ m. Fits w (is_holder w.controls.holder i) m) e (o.each i) in
-      let mine : is_holder w.controls.holder i ≡ true = (fits_parts w (is_holder w.controls.holder i) s fit).0 in
+  frees : (pe : Bool) (s : Submitting) (k : Peeked) → (modes i).sq ≡ Some s → (modes i).cq ≡ Some k → s.slot ≡ Closed → s.queued ≤ P.left → Moved P w (with_lock w None pe) bags modes i (bags i) unlocked
+  frees pe s k e c f le =
+      let h = sq_has P S w bags modes i o s e in
+      let x : w.slot ≡ entries.Closed = slot_closed w.slot (subst (λ x. SlotFits w.slot x) f h.2) in
       record {
         of = o.of;
         room = o.room;
         same = refl;
         local = λ p. omega arith;
-        free = λ n. (omega (arith, h.0), x);
-        mine = tt;
-        others = λ k ne. outside_any w (with_lock w None pe) (is_holder w.controls.holder k) (modes k) (holder_one w.controls.holder i k mine ne) (o.each k);
+        submits = sq_frees P S w bags modes i o s e le x;
+        reaps = cq_frees P S w bags modes i o pe k c;
         queued = o.queued;
         pending = o.pending;
         completed = o.completed;
         agree = o.agree;
       }
 
-  takes_lock : modes i ≡ Unlocked → w.controls.holder ≡ None → Moved P w (with_lock w (Some i) w.controls.peeked) bags modes i (bags i) (Locked (record { queued = P.left; slot = Closed; peeked = Unseen }))
-  takes_lock e n =
-      let f = o.free n in
-      let z : slot_len w.slot ≡ 0 = ap slot_len f.1 in
-      let w1 : World = with_lock w (Some i) w.controls.peeked in
-      record {
-        of = o.of;
-        room = o.room;
-        same = refl;
-        local = λ p. omega arith;
-        free = λ x. absurd (cc);
-        mine = fits_made w1 (is_holder (Some i) i) (record { queued = P.left; slot = Closed; peeked = Unseen }) (eq-eqb i i refl) (omega (arith, f.0)) (subst (λ s. SlotFits s Closed) (sym f.1) tt) tt;
-        others = λ k ne. subst (λ b. Fits w1 b (modes k)) (sym (holder_one (Some i) i k (eq-eqb i i refl) ne)) (outside_any w w1 (is_holder w.controls.holder k) (modes k) (ap (λ (x : Option ℕ). is_holder x k) n) (o.each k));
-        queued = o.queued;
-        pending = o.pending;
-        completed = o.completed;
-        agree = o.agree;
-      }
+  takes : w.controls.holder ≡ None → Moved P w (with_lock w (Some i) w.controls.peeked) bags modes i (bags i) (locked P)
+  takes n = record {
+    of = o.of;
+    room = o.room;
+    same = refl;
+    local = λ p. omega arith;
+    submits = sq_takes P S w bags modes i o n;
+    reaps = cq_takes P S w bags modes i o n;
+    queued = o.queued;
+    pending = o.pending;
+    completed = o.completed;
+    agree = o.agree;
+  }
 
 -- A token that is held or in the pool and a completed request under it would be two of one.
 twice : (P : Program) (S : Stand) (w : World) (bags : ℕ → Part → ℕ) (modes : ℕ → Mode) (i : ℕ) (t : Standing) (d : Completion) (ds : List Completion) → Owned P S w bags modes → slice_get w.controls.threads i ≡ Some t → w.completions ≡ d ∷ ds → 1 ≤ bags i (TokenOf d.user_data) + pooled P w.controls.pool (TokenOf d.user_data) → ⊥
@@ -132,9 +135,9 @@ module _ (P : Program) (made : IsProgram P) (S : Stand) (edge : HasEdge P S) (w 
   still : Moved P w w bags modes i (bags i) (modes i)
   still = quiet P S w w.buffers bags modes i o
 
-  lock_keeps : (h : Option ℕ) → w.controls.holder ≡ h → modes i ≡ Unlocked → Leads S i (bags i) (Locked (record { queued = P.left; slot = Closed; peeked = Unseen })) t.variables (t.place + 1) → Keeps P S w.controls i (Some w) (locks w.controls i t Plain h)
-  lock_keeps (Some j) e m l = tt
-  lock_keeps None e m l = goes _ _ _ _ _ (takes_lock P S w bags modes i o m e) l
+  lock_keeps : (h : Option ℕ) → w.controls.holder ≡ h → Leads S i (bags i) (locked P) t.variables (t.place + 1) → Keeps P S w.controls i (Some w) (locks w.controls i t Plain h)
+  lock_keeps (Some j) e l = tt
+  lock_keeps None e l = goes _ _ _ _ _ (takes P S w bags modes i o e) l
 
   -- a step to one of two branches
   abbrev branched : Bool → World
@@ -143,21 +146,19 @@ module _ (P : Program) (made : IsProgram P) (S : Stand) (edge : HasEdge P S) (w 
   ready_keeps : (holds : Bool) → int_eq (pos (used_entries w)) (pos 0) ≡ holds → Meets (line_premises P [] (bags i) (modes i) (If ReadyZero)) → Leads S i (bags i) (test_mode P ReadyZero (modes i)) t.variables (t.place + 1) → Leads S i (bags i) (modes i) t.variables (end_at P i t.place + 1) → WellOwned P S (branched holds)
   ready_keeps false e q a b = goes _ _ _ _ _ still b
   ready_keeps true e q a b =
-      let s = inside_of (modes i) (asks_lock (modes i) _ q) in
-      let h = has P S w bags modes i o s.0 s.1 in
+      let s = held_of (modes i).sq (asks_lock (modes i).sq _ q) in
       let z : pos (used_entries w) ≡ pos 0 = (Decides-int_eq (pos (used_entries w)) (pos 0)).0 e in
       let q : length w.queued + slot_len w.slot ≡ 0 = cc in
-      goes _ _ _ _ _ (knows P S w bags modes i o w.controls.peeked s.0 (record s.0 { queued = 0 }) s.1 refl (omega arith) h.2) (subst (λ m. Leads S i (bags i) (test_mode P ReadyZero m) t.variables (t.place + 1)) s.1 a)
+      goes _ _ _ _ _ (few_queued P S w bags modes i o 0 s.0 s.1 (omega arith)) a
 
   space_keeps : (n : ℕ) (holds : Bool) → int_le (pos n) (pos (w.program.entries - used_entries w)) ≡ holds → Meets (line_premises P [] (bags i) (modes i) (If (SpaceAtLeast n))) → Leads S i (bags i) (test_mode P (SpaceAtLeast n) (modes i)) t.variables (t.place + 1) → Leads S i (bags i) (modes i) t.variables (end_at P i t.place + 1) → WellOwned P S (branched holds)
   space_keeps n false e q a b = goes _ _ _ _ _ still b
   space_keeps n true e q a b =
-      let s = inside_of (modes i) (asks_lock (modes i) _ q) in
-      let h = has P S w bags modes i o s.0 s.1 in
+      let s = held_of (modes i).sq (asks_lock (modes i).sq _ q) in
       let same : w.program.entries ≡ P.entries = ap (λ (Q : Program). Q.entries) o.of in
       let room : length w.queued + slot_len w.slot ≤ P.entries = o.room in
       let q : n ≤ w.program.entries - (length w.queued + slot_len w.slot) = leb-true n (w.program.entries - used_entries w) e in
-      goes _ _ _ _ _ (knows P S w bags modes i o w.controls.peeked s.0 (record s.0 { queued = min s.0.queued (P.entries - n) }) s.1 refl (omega (arith, h.0)) h.2) (subst (λ m. Leads S i (bags i) (test_mode P (SpaceAtLeast n) m) t.variables (t.place + 1)) s.1 a)
+      goes _ _ _ _ _ (few_queued P S w bags modes i o (P.entries - n) s.0 s.1 (omega arith)) a
 
   compare_keeps : (holds : Bool) → (holds ≡ true → Leads S i (bags i) (modes i) t.variables (t.place + 1)) → (holds ≡ false → Leads S i (bags i) (modes i) t.variables (end_at P i t.place + 1)) → WellOwned P S (branched holds)
   compare_keeps true a b = goes _ _ _ _ _ still (a refl)
@@ -170,7 +171,7 @@ module _ (P : Program) (made : IsProgram P) (S : Stand) (edge : HasEdge P S) (w 
   put_keeps items q l = go (overfills P w.controls.pool items)
     where
       covered : (p : Part) → bag_of items p ≤ bags i p
-      covered p = let s = inside_of (modes i) (asks_lock (modes i) _ q) in (subst (λ m. Meets (line_premises P (items ∷ []) (bags i) m (Put 0))) s.1 q).0 p
+      covered p = (has_both (modes i).sq (modes i).cq _ q).asked.0 p
 
       go : (y : Bool) → Keeps P S w.controls i (Some w) (if y then None else plainly (record (goes_on w.controls t ItemsPut) { pool = with_items P w.controls.pool items }) Plain)
       go true = tt
@@ -186,21 +187,17 @@ module _ (P : Program) (made : IsProgram P) (S : Stand) (edge : HasEdge P S) (w 
         omega (arith, x, y, there p)
 
     -- the token of the peeked completion
-    not_peeked : (m : Mode) → modes i ≡ m → names_peeked_in items.tokens m ≡ false
-    not_peeked Unlocked e = refl
-    not_peeked (Locked s) e = front s.peeked refl
-      where
-        front : (x : Peeked) → s.peeked ≡ x → names_peeked items.tokens x ≡ false
-        front Unseen q = refl
-        front SeesOther q = refl
-        front (Sees u) q = false_from_ne_true (list_any (λ v. nat_eq v u) items.tokens) (λ h.
-            let f = subst (λ y. FrontFits w.controls.peeked w.completions y) q (has P S w bags modes i o s e).2 in
-            let a = starts_head u w.completions f.1 in
-            let one : 1 ≤ pooled P w.controls.pool (TokenOf u) = omega (arith, there (TokenOf u), token_there items.tokens u h) in
-            twice P S w bags modes i t a.0 a.1 o get a.2 (subst (λ v. 1 ≤ bags i (TokenOf v) + pooled P w.controls.pool (TokenOf v)) (sym a.3) (omega (arith, one))))
+    not_peeked : (c : Option Peeked) → (modes i).cq ≡ c → names_peeked items.tokens (unwrap_or c Unseen) ≡ false
+    not_peeked None e = refl
+    not_peeked (Some Unseen) e = refl
+    not_peeked (Some SeesOther) e = refl
+    not_peeked (Some (Sees u)) e = false_from_ne_true (list_any (λ v. nat_eq v u) items.tokens) (λ h.
+        let a = starts_head u w.completions (cq_has P S w bags modes i o (Sees u) e).1.1 in
+        let one : 1 ≤ pooled P w.controls.pool (TokenOf u) = omega (arith, there (TokenOf u), token_there items.tokens u h) in
+        twice P S w bags modes i t a.0 a.1 o get a.2 (subst (λ v. 1 ≤ bags i (TokenOf v) + pooled P w.controls.pool (TokenOf v)) (sym a.3) (omega (arith, one))))
 
     may_be_taken : can_take P (bags i) (modes i) items ≡ true
-    may_be_taken = and_from (has_room P (bags i) items) (not (names_peeked_in items.tokens (modes i))) (room_for P items (bags i) few) (ap not (not_peeked (modes i) refl))
+    may_be_taken = and_from (has_room P (bags i) items) (not (names_peeked items.tokens (peeked_of (modes i)))) (room_for P items (bags i) few) (ap not (not_peeked (modes i).cq refl))
 
   -- items that leave it, or nothing
   take_keeps : (items : Items) → IsItems P items → AtLive (take_effect P (bags i) (modes i) items) (λ c n. Leads S i c n t.variables (t.place + 1)) → Leads S i (bags i) (modes i) t.variables (end_at P i t.place + 1) → Keeps P S w.controls i (Some w) (Some (tries_to_take P w.controls i t items))
@@ -220,10 +217,10 @@ module _ (P : Program) (made : IsProgram P) (S : Stand) (edge : HasEdge P S) (w 
   if_keeps (Take k) q a b = let items : Items = items_at (lists_of P i) k in take_keeps items (items_of P made i k) (as_passed (take_effect P (bags i) (modes i) items) (λ c n. Leads S i c n t.variables (t.place + 1)) a) (b tt)
 
   -- an arm of a peek
-  arm_keeps : (pe : Bool) (s : Inside) (x : Peeked) (k : ℕ) (vars : List ℤ) → modes i ≡ Locked s → FrontFits pe w.completions x → Leads S i (bags i) (with_peeked x (modes i)) vars k → WellOwned P S (put P (with_lock w w.controls.holder pe) i k vars)
-  arm_keeps pe s x k vars e f l = goes _ _ _ _ _ (knows P S w bags modes i o pe s (record s { peeked = x }) e refl (has P S w bags modes i o s e).0 f) (subst (λ m. Leads S i (bags i) (with_peeked x m) vars k) e l)
+  arm_keeps : (pe : Bool) (s x : Peeked) (k : ℕ) (vars : List ℤ) → (modes i).cq ≡ Some s → FrontFits pe w.completions x → Leads S i (bags i) (with_peeked x (modes i)) vars k → WellOwned P S (put P (with_lock w w.controls.holder pe) i k vars)
+  arm_keeps pe s x k vars e f l = goes _ _ _ _ _ (sees P S w bags modes i o pe s x e f) l
 
-  peek_keeps : (cs : List Completion) (s : Inside) (x : ℕ) → w.completions ≡ cs → modes i ≡ Locked s
+  peek_keeps : (cs : List Completion) (s : Peeked) (x : ℕ) → w.completions ≡ cs → (modes i).cq ≡ Some s
       → ((u : ℕ) (v : ℤ) → (1 ≤ bags i (TokenOf u)) ⊎ (Leads S i (bags i) (with_peeked (Sees u) (modes i)) (slice_set t.variables x v) (arm_for P i t.place u + 1) ⊎ Leads S i (bags i) (with_peeked SeesOther (modes i)) (slice_set t.variables x v) (arm_for P i t.place u + 1)))
       → ((v : ℤ) → Leads S i (bags i) (with_peeked Unseen (modes i)) (slice_set t.variables x v) (none_arm P i t.place + 1)) → Keeps P S w.controls i (Some w) (peeks P w.controls i t x (front_of cs))
   peek_keeps [] s x ec e g h = arm_keeps w.controls.peeked s Unseen _ _ e tt (h _)
@@ -235,29 +232,36 @@ module _ (P : Program) (made : IsProgram P) (S : Stand) (edge : HasEdge P S) (w 
     ]
   ]
 
-  release_keeps : (pe : Bool) (k : ℕ) → is_locked (modes i) ≡ true → Meets (line_premises P [] (bags i) (modes i) (EndLock 0)) → Leads S i (bags i) Unlocked t.variables k → WellOwned P S (put P (with_lock w None pe) i k t.variables)
+  release_keeps : (pe : Bool) (k : ℕ) → locks_of (modes i) ≡ both_locks true → Meets (line_premises P [] (bags i) (modes i) (EndLock 0)) → Leads S i (bags i) unlocked t.variables k → WellOwned P S (put P (with_lock w None pe) i k t.variables)
   release_keeps pe k l h a =
-      let s = inside_of (modes i) l in
-      let m = λ (v : ℕ). met v (line_premises P [] (bags i) (Locked s.0) (EndLock 0)) (subst (λ n. Meets (line_premises P [] (bags i) n (EndLock 0))) s.1 h) in
-      goes _ _ _ _ _ (frees P S w bags modes i o pe s.0 s.1 (same_slot_is s.0.slot Closed (m 4)) (leb-true _ _ (m 12))) a
+      let s = held_of (modes i).sq (ap (λ (x : Locks). x.sq) l) in
+      let c = held_of (modes i).cq (ap (λ (x : Locks). x.cq) l) in
+      let known = known_sq (modes i) s.0 s.1 in
+      let closed : same_slot s.0.slot Closed ≡ true = subst (λ (x : Submitting). same_slot x.slot Closed ≡ true) known h.0 in
+      let left : nat_le s.0.queued P.left ≡ true = subst (λ (x : Submitting). nat_le x.queued P.left ≡ true) known h.1.0 in
+      goes _ _ _ _ _ (frees P S w bags modes i o pe s.0 c.0 s.1 c.1 (same_slot_is s.0.slot Closed closed) (leb-true _ _ left)) a
 
-  break_keeps : (releases leaves : Bool) (p : ℕ) → ((releases || leaves) ≡ true → is_locked (modes i) ≡ true) → Meets (line_premises P [] (bags i) (modes i) (Break 0 releases false)) → AtLive (broken releases (Live (bags i) (modes i))) (λ b n. Leads S i b n t.variables (end_at P i p + 1)) → Keeps P S w.controls i (Some w) (Some (breaks P w.controls i t p releases leaves))
+  break_keeps : (releases leaves : Bool) (p : ℕ) → ((releases || leaves) ≡ true → locks_of (modes i) ≡ both_locks true) → Meets (line_premises P [] (bags i) (modes i) (Break 0 releases false)) → AtLive (broken releases (Live (bags i) (modes i))) (λ b n. Leads S i b n t.variables (end_at P i p + 1)) → Keeps P S w.controls i (Some w) (Some (breaks P w.controls i t p releases leaves))
   break_keeps true leaves p l h a = release_keeps (if leaves then false else w.controls.peeked) (end_at P i p + 1) (l refl) h a
-  break_keeps false leaves p l h a = go (modes i) refl leaves l
+  break_keeps false leaves p l h a = go (modes i).cq refl leaves l
     where
-      go : (m : Mode) → modes i ≡ m → (leaves : Bool) → (leaves ≡ true → is_locked (modes i) ≡ true) → Keeps P S w.controls i (Some w) (Some (breaks P w.controls i t p false leaves))
-      go Unlocked e false l = goes w _ t.variables (bags i) (modes i) still (subst (λ m. Leads S i (bags i) m t.variables (end_at P i p + 1)) (sym e) (subst (λ m. Leads S i (bags i) (with_peeked Unseen m) t.variables (end_at P i p + 1)) e a))
-      go Unlocked e true l = absurd (let f = l refl in let g : is_locked (modes i) ≡ false = ap is_locked e in cc)
-      go (Locked s) e v l = arm_keeps (if v then false else w.controls.peeked) s Unseen _ _ e tt a
+      -- without the lock of the completion side the label stays
+      as_it_was : (modes i).cq ≡ None → with_peeked Unseen (modes i) ≡ modes i
+      as_it_was e = ap (λ c. record (modes i) { cq = option_map (λ _. Unseen) c }) e ∙ sym (ap (λ c. record (modes i) { cq = c }) e)
+
+      go : (c : Option Peeked) → (modes i).cq ≡ c → (leaves : Bool) → (leaves ≡ true → locks_of (modes i) ≡ both_locks true) → Keeps P S w.controls i (Some w) (Some (breaks P w.controls i t p false leaves))
+      go None e false l = goes w _ t.variables (bags i) (modes i) still (subst (λ m. Leads S i (bags i) m t.variables (end_at P i p + 1)) (as_it_was e) a)
+      go None e true l = absurd (let f : is_some (modes i).cq ≡ true = ap (λ (x : Locks). x.cq) (l refl) in let g : is_some (modes i).cq ≡ false = ap is_some e in cc)
+      go (Some s) e v l = arm_keeps (if v then false else w.controls.peeked) s Unseen _ _ e tt a
 
   pub line_keeps : (s : Stmt) → EdgeAt P S i (bags i) (modes i) t.variables t.place (Some s) → Keeps P S w.controls i (in_rings w t r s) (acts P w.controls i t s (stmt_answer w r s))
   line_keeps (EndLock p) h = release_keeps w.controls.peeked (t.place + 1) h.0 h.1 h.2
   line_keeps (EndLoop p k) h = goes _ _ _ _ _ still h
   line_keeps (Put k) h = put_keeps (items_at (lists_of P i) k) h.0 h.1
   line_keeps (Do op) h = op_keeps P S edge w bags modes i t r o get op h
-  line_keeps Lock h = lock_keeps w.controls.holder refl h.0 h.1
+  line_keeps Lock h = lock_keeps w.controls.holder refl h
   line_keeps (If test) h = if_keeps test h.0 h.1 h.2
-  line_keeps (Peek x) h = let s = inside_of (modes i) (asks_lock (modes i) _ h.0) in peek_keeps w.completions s.0 x refl s.1 h.1 h.2
+  line_keeps (Peek x) h = let s = held_of (modes i).cq (asks_lock (modes i).cq _ h.0) in peek_keeps w.completions s.0 x refl s.1 h.1 h.2
   line_keeps (Loop k) h = goes _ _ _ _ _ still h
   line_keeps (Break p releases leaves) h = break_keeps releases leaves p h.0 h.1 h.2
   line_keeps _ h = tt

@@ -13,17 +13,17 @@ use Rattle.rc_lang.specs.Program.{Items, More, IsItems, IsList, no_more}
 use Rattle.rc_split.specs.Bags.{Part, ShareOf, TokenOf, Credit, bag_of, IsWithin}
 use Rattle.rc_rules.specs.declared.cause.Cause.{Cause}
 use Rattle.rc_rules.specs.declared.mode.Mode.{Mode}
-use Rattle.rc_rules.specs.declared.mode.Mode.TheVariants.{Unlocked, Locked}
 use Rattle.rc_rules.specs.declared.mode.Peeked.TheVariants.{Sees}
 use Rattle.rc_rules.specs.Labels.{Label, Dead, Live, WeakerMode, WeakerThanEach, IsStrongest, IsSame}
 use Rattle.rc_rules.specs.Premises.{Premise}
-use Rattle.rc_rules.specs.Rules.{op_effect, put_effect, goes, case_at, with_peeked, entered, top}
+use Rattle.rc_rules.specs.Rules.{locks_of, op_effect, put_effect, goes, case_at, with_peeked, entered, top}
 use Rattle.rc_rules.specs.Sides.{on, brings, turns, write_of, forgets}
-use Rattle.rc_rules.specs.States.{State, label_of, program_of, is_locked, Gives, Becomes, OnBoth, IsStart, IsUnlocked, IsLocked}
+use Rattle.rc_rules.specs.States.{State, label_of, program_of, Gives, Becomes, OnBoth, IsStart, IsUnlocked, IsLocked}
 use Rattle.rc_rules.specs.Labellings.{start_of}
 use Rattle.rc_core_tests.specs.RulesExample.{share, share_thread, IsAtMost, IsOfShare}
 use Rattle.rc_core_tests.proofs.Plain.{distinct, none, plain_items}
 use Rattle.rc_rules.proofs.Lines.{effect_by}
+use Rattle.rc_rules.proofs.Weaker.{locks_same}
 use Rattle.rc_rules.proofs.Headers.{few_of, count_once}
 use Rattle.rc_verify.proofs.Fit.{AreAll, gate_keeps, kept_few}
 use Rattle.std.specs.List.{IsDistinct}
@@ -128,12 +128,7 @@ few_lowered : (n : ℕ) → IsLowered (IsAtMost n)
 few_lowered n = record { dead = tt; lower = λ a b m k w v h p. omega (arith, w p, h p) }
 
 locked_lowered : IsLowered IsLocked
-locked_lowered = record { dead = tt; lower = go }
-  where
-    go : (a b : Part → ℕ) (m n : Mode) → IsWithin a b → WeakerMode m n → IsLocked (Live b n) → IsLocked (Live a m)
-    go a b Unlocked Unlocked w v h = absurd h
-    go a b Unlocked (Locked j) w v h = absurd v
-    go a b (Locked i) n w v h = tt
+locked_lowered = record { dead = tt; lower = λ a b m n w v h. locks_same m n v ∙ h }
 
 -- a property of each label before a line, and what the line makes of it after
 became : (R : Label → Type 0) → IsLowered R → (old new : State) (bs : Bool → List Label) → Becomes old new bs → ((z : Bool) → AreAll R (bs z)) → OnBoth R new
@@ -161,12 +156,7 @@ op_few P n op (Live a m) h l = effect_by P a m op h (IsAtMost (n + 18)) tt (λ b
 
 op_locked : (P : Program) (op : Op) (s : Label) → IsProgram P → IsLocked s → IsLocked (goes s (λ b m. op_effect P b m op))
 op_locked P op Dead h l = tt
-op_locked P op (Live a Unlocked) h l = absurd l
-op_locked P op (Live a (Locked i)) h l = effect_by P a (Locked i) op h IsLocked tt go
-  where
-    go : (b : Part → ℕ) (n : Mode) → is_locked n ≡ true → ((p : Part) → b p ≤ a p + 18) → IsLocked (Live b n)
-    go b Unlocked e le = absurd (cc)
-    go b (Locked j) e le = tt
+op_locked P op (Live a m) h l = effect_by P a m op h IsLocked tt (λ b n e le. e ∙ l)
 
 -- ---- calls
 
@@ -199,7 +189,7 @@ lock_few old new r ps n g h = gave (IsAtMost n) (few_lowered n) old new r ps _ g
 
 entered_locked : (P : Program) (s : Label) → IsLocked (entered P s)
 entered_locked P Dead = tt
-entered_locked P (Live a m) = tt
+entered_locked P (Live a m) = refl
 
 pub lock_locked : {X : Type 0} (old new : State) (r : Result X Cause) → Gives old new r [] (λ z. entered (program_of old) (label_of old z) ∷ []) → OnBoth IsLocked new
 lock_locked old new (Ok x) g = became IsLocked locked_lowered old new _ g.1 (λ z. (entered_locked (program_of old) (label_of old z), tt))
@@ -298,13 +288,11 @@ same_few (Live a m) (Live b k) n e h = λ p. omega (arith, e.0 p, h p)
 
 same_unlocked : (s t : Label) → IsSame s t → IsUnlocked t → IsUnlocked s
 same_unlocked Dead t e h = tt
-same_unlocked (Live a Unlocked) t e h = tt
-same_unlocked (Live a (Locked i)) Dead e h = absurd e
-same_unlocked (Live a (Locked i)) (Live b Unlocked) e h = absurd (cc (e.1))
-same_unlocked (Live a (Locked i)) (Live b (Locked j)) e h = absurd h
+same_unlocked (Live a m) Dead e h = absurd e
+same_unlocked (Live a m) (Live b n) e h = ap locks_of e.1 ∙ h
 
 start_sides : (z : Bool) → IsAtMost 100 (on z (start_of share_thread)) × IsUnlocked (on z (start_of share_thread))
-start_sides true = (share_few, tt)
+start_sides true = (share_few, refl)
 start_sides false = (tt, tt)
 
 starts : (P : Program) (s : State) → P ≡ share → IsStart P 0 s → (z : Bool) → IsSame (label_of s z) (on z (start_of share_thread))

@@ -183,10 +183,15 @@ fn expect(rt: &impl Abort, state: &State, expected: Expected) {
     } = expected;
     expect_held(rt, state.on(true), held(shares, token, credits));
     match state.on(true).mode() {
-        Some(Mode::Locked(inside)) => {
-            assert_eq!(rt; inside.queued, 1);
-            assert!(rt; same_slot(inside.slot, expected.slot));
-            assert!(rt; inside.peeked == expected.peeked);
+        Some(
+            Mode {
+                sq: Some(sq),
+                cq: Some(peeked),
+            },
+        ) => {
+            assert_eq!(rt; sq.queued, 1);
+            assert!(rt; same_slot(sq.slot, expected.slot));
+            assert!(rt; peeked == expected.peeked);
         }
         _ => panic!(rt; "the state isn't locked"),
     }

@@ -1,18 +1,18 @@
 -- What is known on a side of a line, in words.
 use Rattle.std.specs.List.{flat_map}
-use Rattle.std.specs.Prelude.{ℕ, cond, nat_eq, List, [], ◌∷◌, ◌++◌, codes, decimal}
+use Rattle.std.specs.Prelude.{ℕ, ◌||◌, cond, nat_eq, List, [], ◌∷◌, ◌++◌, Option, Some, None, is_some, codes, decimal}
 use Rattle.rc_lang.specs.declared.program.Token.{Token}
 use Rattle.rc_lang.specs.declared.program.TokenKind.{TokenKind}
 use Rattle.rc_lang.specs.declared.program.TokenKind.TheVariants.{Read, Write, Fsync, Nop}
 use Rattle.rc_lang.specs.Program.{Buffer, Program}
-use Rattle.rc_rules.specs.declared.mode.Inside.{Inside}
 use Rattle.rc_rules.specs.declared.mode.Mode.{Mode}
-use Rattle.rc_rules.specs.declared.mode.Mode.TheVariants.{Unlocked, Locked}
 use Rattle.rc_rules.specs.declared.mode.Peeked.{Peeked}
 use Rattle.rc_rules.specs.declared.mode.Peeked.TheVariants.{Unseen, Sees, SeesOther}
 use Rattle.rc_rules.specs.declared.mode.Slot.{Slot}
 use Rattle.rc_rules.specs.declared.mode.Slot.TheVariants.{Closed, Vacant, Prepared}
+use Rattle.rc_rules.specs.declared.mode.Submitting.{Submitting}
 use Rattle.rc_rules.specs.Labels.{Label, Dead, Live}
+use Rattle.rc_rules.specs.Rules.{peeked_of}
 use Rattle.rc_rules.specs.States.{Side, held_at, side_label}
 use Rattle.rc_split.specs.Bags.{Part, ShareOf, TokenOf, Credit}
 use Rattle.rc_report.specs.Printed.{buffer_name}
@@ -69,12 +69,19 @@ peeked_text Unseen = []
 peeked_text (Sees u) = codes ", peeked " ++ decimal u
 peeked_text SeesOther = codes ", peeked other"
 
-abbrev pub inside_text : Program → Inside → List ℕ
-inside_text program i = codes "; locked, q:" ++ (decimal i.queued ++ (slot_text program i.slot ++ peeked_text i.peeked))
+abbrev pub submitting_text : Program → Submitting → List ℕ
+submitting_text program s = codes ", q:" ++ (decimal s.queued ++ slot_text program s.slot)
+
+-- what is known of the submission side, while its lock is held
+abbrev pub sq_text : Program → Option Submitting → List ℕ
+sq_text program None = []
+sq_text program (Some s) = submitting_text program s
+
+abbrev pub lock_text : Mode → List ℕ
+lock_text m = cond (is_some m.sq || is_some m.cq) (codes "; locked") (codes "; unlocked")
 
 abbrev pub mode_text : Program → Mode → List ℕ
-mode_text program Unlocked = codes "; unlocked"
-mode_text program (Locked i) = inside_text program i
+mode_text program m = lock_text m ++ (sq_text program m.sq ++ peeked_text (peeked_of m))
 
 -- a label, and nothing where nothing reaches
 abbrev pub state_text : Program → Label → List ℕ

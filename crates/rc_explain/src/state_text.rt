@@ -10,7 +10,7 @@ ghost use Rattle.rc_rules.specs.States.{side_label};
 use rc_lang::program::{Buffer, Program, Token, TokenKind};
 use rc_report::printed::buffer_name;
 use rc_report::text::{put_number, put_piece, put_pieces};
-use rc_rules::mode::{Inside, Mode, Peeked, Slot};
+use rc_rules::mode::{Mode, Peeked, Slot, Submitting, peeked_of};
 use rc_rules::side::Side;
 use std::alloc::AllocError;
 
@@ -134,24 +134,43 @@ fn put_peeked(text: &mut Vec<u8>, peeked: Peeked) -> Result<(), AllocError>
     }
 }
 
-/// Adds what is known of the ring in the lock.
-fn put_inside(text: &mut Vec<u8>, program: &Program, inside: Inside) -> Result<(), AllocError>
-    ensures { Puts text.old text.new (spec.inside_text program.now inside) result }
+/// Adds what is known of the submission side.
+fn put_submitting(text: &mut Vec<u8>, program: &Program, sq: Submitting) -> Result<(), AllocError>
+    ensures { Puts text.old text.new (spec.submitting_text program.now sq) result }
 {
-    put_piece(text, b"; locked, q:")?;
-    put_number(text, u64::from(inside.queued))?;
-    put_slot(text, program, inside.slot)?;
-    put_peeked(text, inside.peeked)
+    put_piece(text, b", q:")?;
+    put_number(text, u64::from(sq.queued))?;
+    put_slot(text, program, sq.slot)
+}
+
+/// Adds what is known of the submission side, while its lock is held.
+fn put_sq(text: &mut Vec<u8>, program: &Program, sq: Option<Submitting>) -> Result<(), AllocError>
+    ensures { Puts text.old text.new (spec.sq_text program.now sq) result }
+{
+    match sq {
+        Some(sq) => put_submitting(text, program, sq),
+        None => Ok(()),
+    }
+}
+
+/// Adds whether a lock is held.
+fn put_lock(text: &mut Vec<u8>, mode: Mode) -> Result<(), AllocError>
+    ensures { Puts text.old text.new (spec.lock_text mode) result }
+{
+    if mode.sq.is_some() || mode.cq.is_some() {
+        put_piece(text, b"; locked")
+    } else {
+        put_piece(text, b"; unlocked")
+    }
 }
 
 /// Adds what is known of the ring.
 fn put_mode(text: &mut Vec<u8>, program: &Program, mode: Mode) -> Result<(), AllocError>
     ensures { Puts text.old text.new (spec.mode_text program.now mode) result }
 {
-    match mode {
-        Mode::Unlocked => put_piece(text, b"; unlocked"),
-        Mode::Locked(inside) => put_inside(text, program, inside),
-    }
+    put_lock(text, mode)?;
+    put_sq(text, program, mode.sq)?;
+    put_peeked(text, peeked_of(mode))
 }
 
 /// Adds what is known on a side, and nothing where nothing reaches it.

@@ -1,5 +1,6 @@
--- Sides of one state: unless one is dead, both have the lock with their slots at one stage, or both don't.
-use Rattle.std.proofs.Common.{◌≡◌, ℕ, ◌⊎◌, inl, inr, Bool, true, false, cond, nat_lt, ◌&&◌, [], ◌∷◌, Option, Some, None, refl, sym, ap, subst, ◌∙◌}
+-- Sides of one state: unless one is dead, both have the same locks, and their slots are at one stage.
+use Rattle.std.proofs.Common.{◌≡◌, ℕ, ◌-◌, ◌⊎◌, inl, inr, Bool, true, false, cond, nat_lt, ◌&&◌, [], ◌∷◌, Option, Some, None, refl, sym, ap, subst, ◌∙◌}
+use Rattle.std.specs.Prelude.{is_some}
 use Rattle.std.proofs.lemmas.Bool.{and_from, eq-eqb}
 use Rattle.rc_lang.specs.declared.lines.Op.{Op}
 use Rattle.rc_lang.specs.declared.lines.Op.TheVariants as ops
@@ -11,56 +12,31 @@ use Rattle.rc_lang.specs.declared.program.TokenKind.TheVariants.{Read, Write, Fs
 use Rattle.rc_lang.specs.Parts.{view_items}
 use Rattle.rc_lang.specs.Program.{Program, Items}
 use Rattle.rc_split.specs.Bags.{Part, TokenOf, bag_of, plus}
-use Rattle.rc_rules.specs.declared.mode.Inside.{Inside}
 use Rattle.rc_rules.specs.declared.mode.Mode.{Mode}
-use Rattle.rc_rules.specs.declared.mode.Mode.TheVariants.{Unlocked, Locked}
 use Rattle.rc_rules.specs.declared.mode.Peeked.{Peeked}
 use Rattle.rc_rules.specs.declared.mode.Peeked.TheVariants.{Unseen, Sees, SeesOther}
 use Rattle.rc_rules.specs.declared.mode.Slot.{Slot}
 use Rattle.rc_rules.specs.declared.mode.Slot.TheVariants.{Closed, Vacant, Prepared}
+use Rattle.rc_rules.specs.declared.mode.Submitting.{Submitting}
 use Rattle.rc_rules.specs.declared.rule.Rule.{Rule}
 use Rattle.rc_rules.specs.declared.rule.Rule.TheVariants.{Do, Put, Lock, Release, If, Take, Case, Other, Nothing}
-use Rattle.rc_rules.specs.Labels.{Label, Dead, Live, Weaker, WeakerMode, IsStrongest, IsSame}
+use Rattle.rc_rules.specs.Labels.{Label, Dead, Live, UnderLock, Weaker, WeakerMode, WeakerPeeked, WeakerSubmitting, IsStrongest, IsSame}
 use Rattle.rc_rules.specs.OneRule.{rule_effect}
-use Rattle.rc_rules.specs.Rules.{same_kind, same_slot, if_locked, op_effect, goes, test_mode, with_peeked, case_at, can_take, take_effect, agree_modes, agree, agree_all}
-use Rattle.rc_rules.specs.States.{State, label_of, label_in, mode_in, mode_or, mode_of, is_live, AgreeOnLock, IsState}
+use Rattle.rc_rules.specs.Rules.{Locks, same_kind, same_slot, if_locked, op_effect, goes, at_most, test_mode, with_peeked, case_at, can_take, take_effect, agree_sq, agree, agree_all}
+use Rattle.rc_rules.specs.States.{State, label_of, label_in, mode_in, mode_or, mode_of, is_live, AgreeOnLocks, IsState}
 use Rattle.rc_split.specs.Holdings.{Holding}
-use Rattle.rc_rules.proofs.Weaker.{same_slot_is}
+use Rattle.rc_rules.proofs.Weaker.{lock_held, lock_map, lock_maps, lock_refl, lock_sym, lock_trans, locks_equal, map_held, same_slot_is}
+
+abbrev SameStage : Submitting → Submitting → Type 0
+SameStage s t = s.slot ≡ t.slot
 
 abbrev pub AlikeModes : Mode → Mode → Type 0
-AlikeModes Unlocked Unlocked = Unit {0}
-AlikeModes Unlocked (Locked j) = ⊥
-AlikeModes (Locked i) Unlocked = ⊥
-AlikeModes (Locked i) (Locked j) = same_slot i.slot j.slot ≡ true
+AlikeModes m n = UnderLock SameStage m.sq n.sq × (is_some m.cq ≡ is_some n.cq)
 
 abbrev pub Alike : Label → Label → Type 0
 Alike Dead t = Unit {0}
 Alike (Live a m) Dead = Unit {0}
 Alike (Live a m) (Live b n) = AlikeModes m n
-
-pub alike : (s t : Label) → AgreeOnLock s t → agree s t ≡ true → Alike s t
-alike Dead t l e = tt
-alike (Live a m) Dead l e = tt
-alike (Live a Unlocked) (Live b Unlocked) l e = tt
-alike (Live a Unlocked) (Live b (Locked j)) l e = absurd l
-alike (Live a (Locked i)) (Live b Unlocked) l e = absurd l
-alike (Live a (Locked i)) (Live b (Locked j)) l e = e
-
-pub alike_lock : (s t : Label) → Alike s t → AgreeOnLock s t
-alike_lock Dead t l = tt
-alike_lock (Live a Unlocked) Dead l = tt
-alike_lock (Live a (Locked i)) Dead l = tt
-alike_lock (Live a Unlocked) (Live b Unlocked) l = tt
-alike_lock (Live a Unlocked) (Live b (Locked j)) l = absurd l
-alike_lock (Live a (Locked i)) (Live b Unlocked) l = absurd l
-alike_lock (Live a (Locked i)) (Live b (Locked j)) l = tt
-
-pub alike_slot : (s t : Label) → Alike s t → agree s t ≡ true
-alike_slot Dead t l = refl
-alike_slot (Live a m) Dead l = refl
-alike_slot (Live a Unlocked) (Live b n) l = refl
-alike_slot (Live a (Locked i)) (Live b Unlocked) l = refl
-alike_slot (Live a (Locked i)) (Live b (Locked j)) l = l
 
 kind_refl : (k : TokenKind) → same_kind k k ≡ true
 kind_refl (Read b) = eq-eqb b b refl
@@ -73,6 +49,33 @@ slot_refl Closed = refl
 slot_refl Vacant = refl
 slot_refl (Prepared k) = kind_refl k
 
+stages : (o p : Option Submitting) → is_some p ≡ is_some o → agree_sq o p ≡ true → UnderLock SameStage o p
+stages None None l e = tt
+stages None (Some t) l e = absurd (cc)
+stages (Some s) None l e = absurd (cc)
+stages (Some s) (Some t) l e = same_slot_is s.slot t.slot e
+
+pub alike : (s t : Label) → AgreeOnLocks s t → agree s t ≡ true → Alike s t
+alike Dead t l e = tt
+alike (Live a m) Dead l e = tt
+alike (Live a m) (Live b n) l e = (stages m.sq n.sq (ap (λ (x : Locks). x.sq) l) e, sym (ap (λ (x : Locks). x.cq) l))
+
+pub alike_lock : (s t : Label) → Alike s t → AgreeOnLocks s t
+alike_lock Dead t l = tt
+alike_lock (Live a m) Dead l = tt
+alike_lock (Live a m) (Live b n) l = locks_equal n m (sym (lock_held SameStage m.sq n.sq l.0)) (sym l.1)
+
+agree_alike : (o p : Option Submitting) → UnderLock SameStage o p → agree_sq o p ≡ true
+agree_alike None None l = refl
+agree_alike None (Some t) l = refl
+agree_alike (Some s) None l = refl
+agree_alike (Some s) (Some t) l = subst (λ x. same_slot s.slot x ≡ true) l (slot_refl s.slot)
+
+pub alike_slot : (s t : Label) → Alike s t → agree s t ≡ true
+alike_slot Dead t l = refl
+alike_slot (Live a m) Dead l = refl
+alike_slot (Live a m) (Live b n) l = agree_alike m.sq n.sq l.0
+
 slot_sym : (s t : Slot) → same_slot s t ≡ same_slot t s
 slot_sym s t = go (same_slot s t) (same_slot t s) refl refl
   where
@@ -83,18 +86,20 @@ slot_sym s t = go (same_slot s t) (same_slot t s) refl refl
     go false true e f = absurd (let h : same_slot s t ≡ true = subst (λ u. same_slot u t ≡ true) (same_slot_is t s f) (slot_refl t) in cc (e, h))
 
 modes_refl : (m : Mode) → AlikeModes m m
-modes_refl Unlocked = tt
-modes_refl (Locked i) = slot_refl i.slot
+modes_refl m = (lock_refl SameStage (λ s. refl) m.sq, refl)
 
 pub alike_refl : (s : Label) → Alike s s
 alike_refl Dead = tt
 alike_refl (Live a m) = modes_refl m
 
+stage_sym : (s t : Submitting) → SameStage s t → SameStage t s
+stage_sym s t e = sym e
+
+stage_trans : (s t u : Submitting) → SameStage s t → SameStage t u → SameStage s u
+stage_trans s t u e f = e ∙ f
+
 modes_sym : (m n : Mode) → AlikeModes m n → AlikeModes n m
-modes_sym Unlocked Unlocked l = tt
-modes_sym Unlocked (Locked j) l = absurd l
-modes_sym (Locked i) Unlocked l = absurd l
-modes_sym (Locked i) (Locked j) l = sym (slot_sym i.slot j.slot) ∙ l
+modes_sym m n l = (lock_sym SameStage stage_sym m.sq n.sq l.0, sym l.1)
 
 pub alike_sym : (s t : Label) → Alike s t → Alike t s
 alike_sym Dead Dead l = tt
@@ -111,38 +116,38 @@ same_alike (Live a m) (Live b n) (Live c k) (Live d o) e f l = subst (λ x. Alik
 
 -- ---- one rule of both
 
-lock_alike : (F G : Inside → Label) (m n : Mode) → AlikeModes m n → ((i j : Inside) → same_slot i.slot j.slot ≡ true → Alike (F i) (G j)) → Alike (if_locked m F) (if_locked n G)
-lock_alike F G Unlocked n l h = tt
-lock_alike F G (Locked i) Unlocked l h = absurd l
-lock_alike F G (Locked i) (Locked j) l h = h i j l
+lock_alike : {A : Type 0} (F G : A → Label) (o p : Option A) → is_some o ≡ is_some p → ((s t : A) → Alike (F s) (G t)) → Alike (if_locked o F) (if_locked p G)
+lock_alike F G None p l h = tt
+lock_alike F G (Some s) None l h = absurd (cc)
+lock_alike F G (Some s) (Some t) l h = h s t
 
 effect_alike : (P : Program) (a b : Part → ℕ) (m n : Mode) (op : Op) → AlikeModes m n → Alike (op_effect P a m op) (op_effect P b n op)
-effect_alike P a b m n ops.GetSqe l = lock_alike _ _ m n l (λ i j e. refl)
-effect_alike P a b m n (ops.PrepRead fd c len off) l = lock_alike _ _ m n l (λ i j e. slot_refl (Prepared (Read c)))
-effect_alike P a b m n (ops.PrepWrite fd c len off k) l = lock_alike _ _ m n l (λ i j e. slot_refl (Prepared (Write c k)))
-effect_alike P a b m n (ops.PrepFsync fd d) l = lock_alike _ _ m n l (λ i j e. refl)
-effect_alike P a b m n ops.PrepNop l = lock_alike _ _ m n l (λ i j e. refl)
-effect_alike P a b m n (ops.SetData64 u) l = lock_alike _ _ m n l (λ i j e. refl)
-effect_alike P a b m n ops.CqeSeen l = lock_alike _ _ m n l (λ i j e. e)
-effect_alike P a b m n _ l = l
+effect_alike P a b m n op l = go op
+  where
+    sq : is_some m.sq ≡ is_some n.sq
+    sq = lock_held SameStage m.sq n.sq l.0
+
+    go : (op : Op) → Alike (op_effect P a m op) (op_effect P b n op)
+    go ops.GetSqe = lock_alike _ _ m.sq n.sq sq (λ s t. (refl, l.1))
+    go (ops.PrepRead fd c len off) = lock_alike _ _ m.sq n.sq sq (λ s t. (refl, l.1))
+    go (ops.PrepWrite fd c len off k) = lock_alike _ _ m.sq n.sq sq (λ s t. (refl, l.1))
+    go (ops.PrepFsync fd d) = lock_alike _ _ m.sq n.sq sq (λ s t. (refl, l.1))
+    go ops.PrepNop = lock_alike _ _ m.sq n.sq sq (λ s t. (refl, l.1))
+    go (ops.SetData64 u) = lock_alike _ _ m.sq n.sq sq (λ s t. (refl, l.1))
+    go ops.CqeSeen = lock_alike _ _ m.cq n.cq l.1 (λ p q. (l.0, refl))
+    go _ = l
+
+most_alike : (k : ℕ) (m n : Mode) → AlikeModes m n → AlikeModes (at_most k m) (at_most k n)
+most_alike k m n l = (lock_maps SameStage SameStage _ (λ s t e. e) m.sq n.sq l.0, l.1)
 
 test_alike : (P : Program) (test : Test) (m n : Mode) → AlikeModes m n → AlikeModes (test_mode P test m) (test_mode P test n)
 test_alike P (Compare x c k) m n l = l
-test_alike P ReadyZero Unlocked Unlocked l = tt
-test_alike P ReadyZero (Locked i) (Locked j) l = l
-test_alike P (SpaceAtLeast k) Unlocked Unlocked l = tt
-test_alike P (SpaceAtLeast k) (Locked i) (Locked j) l = l
-test_alike P ReadyZero Unlocked (Locked j) l = absurd l
-test_alike P ReadyZero (Locked i) Unlocked l = absurd l
-test_alike P (SpaceAtLeast k) Unlocked (Locked j) l = absurd l
-test_alike P (SpaceAtLeast k) (Locked i) Unlocked l = absurd l
+test_alike P ReadyZero m n l = most_alike 0 m n l
+test_alike P (SpaceAtLeast k) m n l = most_alike (P.entries - k) m n l
 test_alike P (tests.Take k) m n l = l
 
 with_alike : (p q : Peeked) (m n : Mode) → AlikeModes m n → AlikeModes (with_peeked p m) (with_peeked q n)
-with_alike p q Unlocked Unlocked l = tt
-with_alike p q (Locked i) (Locked j) l = l
-with_alike p q Unlocked (Locked j) l = absurd l
-with_alike p q (Locked i) Unlocked l = absurd l
+with_alike p q m n l = (l.0, map_held (λ _. p) m.cq ∙ l.1 ∙ sym (map_held (λ _. q) n.cq))
 
 case_alike : (u : ℕ) (a b : Part → ℕ) (m n : Mode) → AlikeModes m n → Alike (case_at u (Live a m)) (case_at u (Live b n))
 case_alike u a b m n l = go (nat_lt 0 (a (TokenOf u))) (nat_lt 0 (b (TokenOf u)))
@@ -163,8 +168,8 @@ take_alike P items a b m n l = go (can_take P a m items) (can_take P b n items)
 rule_alike : (P : Program) (rule : Rule) (a b : Part → ℕ) (m n : Mode) → AlikeModes m n → Alike (rule_effect P rule a m) (rule_effect P rule b n)
 rule_alike P (Do op) a b m n l = effect_alike P a b m n op l
 rule_alike P (Put items) a b m n l = l
-rule_alike P Lock a b m n l = refl
-rule_alike P Release a b m n l = tt
+rule_alike P Lock a b m n l = (refl, refl)
+rule_alike P Release a b m n l = (tt, refl)
 rule_alike P (If test) a b m n l = test_alike P test m n l
 rule_alike P (Take items) a b m n l = take_alike P (view_items items.now) a b m n l
 rule_alike P (Case u) a b m n l = case_alike u a b m n l
@@ -182,16 +187,13 @@ goes_alike P rule (Live a m) (Live b n) l = rule_alike P rule a b m n l
 
 -- ---- sides that join
 
+lower_sq : (o p q r : Option Submitting) → UnderLock WeakerSubmitting o q → UnderLock WeakerSubmitting p r → UnderLock SameStage q r → UnderLock SameStage o p
+lower_sq o p q r v w e =
+    let stage : (s t : Option Submitting) → UnderLock WeakerSubmitting s t → UnderLock SameStage s t = lock_map WeakerSubmitting SameStage (λ x y u. u.slot) in
+    lock_trans SameStage stage_trans o q p (stage o q v) (lock_trans SameStage stage_trans q r p e (lock_sym SameStage stage_sym p r (stage p r w)))
+
 lower_modes : (m n k l : Mode) → WeakerMode m k → WeakerMode n l → AlikeModes k l → AlikeModes m n
-lower_modes Unlocked Unlocked k l v w e = tt
-lower_modes (Locked i) (Locked j) (Locked x) (Locked y) v w e = subst (λ s. same_slot s j.slot ≡ true) (sym v.slot) (subst (λ s. same_slot x.slot s ≡ true) (sym w.slot) e)
-lower_modes Unlocked (Locked j) Unlocked (Locked y) v w e = absurd e
-lower_modes (Locked i) Unlocked (Locked x) Unlocked v w e = absurd e
-lower_modes Unlocked (Locked j) (Locked x) l v w e = absurd v
-lower_modes Unlocked (Locked j) Unlocked Unlocked v w e = absurd w
-lower_modes (Locked i) n Unlocked l v w e = absurd v
-lower_modes (Locked i) Unlocked (Locked x) (Locked y) v w e = absurd w
-lower_modes (Locked i) (Locked j) (Locked x) Unlocked v w e = absurd w
+lower_modes m n k l v w e = (lower_sq m.sq n.sq k.sq l.sq v.0 w.0 e.0, lock_held WeakerPeeked m.cq k.cq v.1 ∙ e.1 ∙ sym (lock_held WeakerPeeked n.cq l.cq w.1))
 
 -- what is weaker than live labels that are alike is alike
 lower : (s t u v : Label) → is_live u ≡ true → is_live v ≡ true → Weaker s u → Weaker t v → Alike u v → Alike s t
@@ -230,39 +232,34 @@ joins_alike s t a b c d h g ab ad cb cd = go (comes_from s a c h) (comes_from t 
 
 -- ---- V15 of two states: one mode of each tells
 
-agree_left : (m n k : Mode) → AlikeModes m n → agree_modes m k ≡ agree_modes n k
-agree_left Unlocked Unlocked k l = refl
-agree_left Unlocked (Locked j) k l = absurd l
-agree_left (Locked i) Unlocked k l = absurd l
-agree_left (Locked i) (Locked j) Unlocked l = refl
-agree_left (Locked i) (Locked j) (Locked k) l = ap (λ s. same_slot s k.slot) (same_slot_is i.slot j.slot l)
+agree_left : (o p q : Option Submitting) → UnderLock SameStage o p → agree_sq o q ≡ agree_sq p q
+agree_left None None q l = refl
+agree_left None (Some t) q l = absurd l
+agree_left (Some s) None q l = absurd l
+agree_left (Some s) (Some t) None l = refl
+agree_left (Some s) (Some t) (Some u) l = ap (λ x. same_slot x u.slot) l
 
-modes_swap : (m n : Mode) → agree_modes m n ≡ agree_modes n m
-modes_swap Unlocked Unlocked = refl
-modes_swap Unlocked (Locked j) = refl
-modes_swap (Locked i) Unlocked = refl
-modes_swap (Locked i) (Locked j) = slot_sym i.slot j.slot
+sq_swap : (o p : Option Submitting) → agree_sq o p ≡ agree_sq p o
+sq_swap None None = refl
+sq_swap None (Some t) = refl
+sq_swap (Some s) None = refl
+sq_swap (Some s) (Some t) = slot_sym s.slot t.slot
 
-agree_right : (m n k : Mode) → AlikeModes m n → agree_modes k m ≡ agree_modes k n
-agree_right m n k l = modes_swap k m ∙ agree_left m n k l ∙ modes_swap n k
-
-agree_alike : (m n : Mode) → AlikeModes m n → agree_modes m n ≡ true
-agree_alike Unlocked n l = refl
-agree_alike (Locked i) Unlocked l = refl
-agree_alike (Locked i) (Locked j) l = l
+agree_right : (o p q : Option Submitting) → UnderLock SameStage o p → agree_sq q o ≡ agree_sq q p
+agree_right o p q l = sq_swap q o ∙ agree_left o p q l ∙ sq_swap p q
 
 pub agree_swap : (s t : Label) → agree s t ≡ true → agree t s ≡ true
 agree_swap Dead Dead e = refl
 agree_swap Dead (Live b n) e = refl
 agree_swap (Live a m) Dead e = refl
-agree_swap (Live a m) (Live b n) e = modes_swap n m ∙ e
+agree_swap (Live a m) (Live b n) e = sq_swap n.sq m.sq ∙ e
 
 abbrev pub mode_on : Label → Option Mode
 mode_on Dead = None
 mode_on (Live a m) = Some m
 
 abbrev pub agree_some : Option Mode → Option Mode → Bool
-agree_some (Some m) (Some n) = agree_modes m n
+agree_some (Some m) (Some n) = agree_sq m.sq n.sq
 agree_some (Some m) None = true
 agree_some None n = true
 
@@ -290,19 +287,19 @@ pub all_agree : (a b c d : Label) → Alike a b → Alike c d → agree_all (a �
 all_agree Dead Dead Dead Dead l k = refl
 all_agree Dead Dead (Live c o) Dead l k = refl
 all_agree Dead Dead Dead (Live d p) l k = refl
-all_agree Dead Dead (Live c o) (Live d p) l k = rw (agree_alike o p k) refl
+all_agree Dead Dead (Live c o) (Live d p) l k = rw (agree_alike o.sq p.sq k.0) refl
 all_agree (Live a m) Dead Dead Dead l k = refl
 all_agree Dead (Live b n) Dead Dead l k = refl
-all_agree (Live a m) (Live b n) Dead Dead l k = rw (agree_alike m n l) refl
-all_agree (Live a m) Dead (Live c o) Dead l k = one (agree_modes m o)
-all_agree (Live a m) Dead Dead (Live d p) l k = one (agree_modes m p)
-all_agree Dead (Live b n) (Live c o) Dead l k = rw (modes_swap o n) (one (agree_modes n o))
-all_agree Dead (Live b n) Dead (Live d p) l k = one (agree_modes n p)
-all_agree (Live a m) Dead (Live c o) (Live d p) l k = rw (agree_alike o p k, ← agree_right o p m k) (three (agree_modes m o))
-all_agree Dead (Live b n) (Live c o) (Live d p) l k = rw (agree_alike o p k, ← agree_right o p n k, modes_swap o n) (two (agree_modes n o))
-all_agree (Live a m) (Live b n) (Live c o) Dead l k = rw (agree_alike m n l, modes_swap o n, ← agree_left m n o l) (two (agree_modes m o))
-all_agree (Live a m) (Live b n) Dead (Live d p) l k = rw (agree_alike m n l, ← agree_left m n p l) (thrice (agree_modes m p))
-all_agree (Live a m) (Live b n) (Live c o) (Live d p) l k = rw (agree_alike m n l, agree_alike o p k, modes_swap o n, ← agree_left m n o l, ← agree_left m n p l, ← agree_right o p m k) (four (agree_modes m o))
+all_agree (Live a m) (Live b n) Dead Dead l k = rw (agree_alike m.sq n.sq l.0) refl
+all_agree (Live a m) Dead (Live c o) Dead l k = one (agree_sq m.sq o.sq)
+all_agree (Live a m) Dead Dead (Live d p) l k = one (agree_sq m.sq p.sq)
+all_agree Dead (Live b n) (Live c o) Dead l k = rw (sq_swap o.sq n.sq) (one (agree_sq n.sq o.sq))
+all_agree Dead (Live b n) Dead (Live d p) l k = one (agree_sq n.sq p.sq)
+all_agree (Live a m) Dead (Live c o) (Live d p) l k = rw (agree_alike o.sq p.sq k.0, ← agree_right o.sq p.sq m.sq k.0) (three (agree_sq m.sq o.sq))
+all_agree Dead (Live b n) (Live c o) (Live d p) l k = rw (agree_alike o.sq p.sq k.0, ← agree_right o.sq p.sq n.sq k.0, sq_swap o.sq n.sq) (two (agree_sq n.sq o.sq))
+all_agree (Live a m) (Live b n) (Live c o) Dead l k = rw (agree_alike m.sq n.sq l.0, sq_swap o.sq n.sq, ← agree_left m.sq n.sq o.sq l.0) (two (agree_sq m.sq o.sq))
+all_agree (Live a m) (Live b n) Dead (Live d p) l k = rw (agree_alike m.sq n.sq l.0, ← agree_left m.sq n.sq p.sq l.0) (thrice (agree_sq m.sq p.sq))
+all_agree (Live a m) (Live b n) (Live c o) (Live d p) l k = rw (agree_alike m.sq n.sq l.0, agree_alike o.sq p.sq k.0, sq_swap o.sq n.sq, ← agree_left m.sq n.sq o.sq l.0, ← agree_left m.sq n.sq p.sq l.0, ← agree_right o.sq p.sq m.sq k.0) (four (agree_sq m.sq o.sq))
 
 mode_same : (o : Option (Holding × Mode)) → mode_on (label_in o) ≡ mode_in o
 mode_same None = refl
@@ -320,7 +317,7 @@ all_join x y h g =
     let d = mode_same y.other.live in
     rw (← a, ← b, ← c, ← d) e
 
-pub some_join : (x y : State) (o p : Option Mode) (m n : Mode) → IsState x → IsState y → o ≡ mode_of x → p ≡ mode_of y → o ≡ Some m → p ≡ Some n → Joined x y ≡ agree_modes m n
+pub some_join : (x y : State) (o p : Option Mode) (m n : Mode) → IsState x → IsState y → o ≡ mode_of x → p ≡ mode_of y → o ≡ Some m → p ≡ Some n → Joined x y ≡ agree_sq m.sq n.sq
 some_join x y o p m n h g e f i j = all_join x y h g ∙ ap (λ q. agree_some q (mode_of y)) (sym e ∙ i) ∙ ap (agree_some (Some m)) (sym f ∙ j)
 
 pub left_join : (x y : State) (o : Option Mode) → IsState x → IsState y → o ≡ mode_of x → o ≡ None → Joined x y ≡ true

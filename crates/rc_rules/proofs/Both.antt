@@ -20,7 +20,7 @@ use Rattle.rc_rules.specs.Premises.{Premise, Meets, FailsFirst, Tests}
 use Rattle.rc_rules.specs.Needs.{line_premises}
 use Rattle.rc_rules.specs.Rules.{asks, asks_both, goes, op_effect}
 use Rattle.rc_rules.specs.Sides.{gate, brings, turns}
-use Rattle.rc_rules.specs.States.{Side, State, side_label, label_of, program_of, is_live, IsState, GivesSide, Gives, Becomes, OnBoth, AgreeOnLock}
+use Rattle.rc_rules.specs.States.{Side, State, side_label, label_of, program_of, is_live, IsState, GivesSide, Gives, Becomes, OnBoth, AgreeOnLocks}
 use Rattle.rc_rules.proofs.Alike.{Alike, Joined, alike, alike_lock, alike_slot, alike_sym, same_alike, goes_alike, joins_alike, agree_swap}
 use Rattle.rc_rules.proofs.Weaker.{strongest, strongest_left, weaker_trans, meets_append, meets_left, meets_right, fails_left, not_both}
 
@@ -169,10 +169,10 @@ pair f a b = record { flag = f; zero = a; other = b }
 pub same_pair : (f : Option ℕ) (a b s t : Side) → s ≡ a → t ≡ b → pair f a b ≡ pair f s t
 same_pair f a b s t e q = ap (λ x. pair f x b) (sym e) ∙ ap (pair f s) (sym q)
 
-pub locks : (x y : State) (f g : Option ℕ) (a b c d : Side) → record { flag = f; zero = a; other = b } ≡ x → record { flag = g; zero = c; other = d } ≡ y → ((u v : Bool) → AgreeOnLock (label_of x u) (label_of y v)) → (u v : Bool) → AgreeOnLock (label_of (record { flag = f; zero = a; other = b }) u) (label_of (record { flag = g; zero = c; other = d }) v)
-locks x y f g a b c d e q h = subst (λ (s : State). (u v : Bool) → AgreeOnLock (label_of s u) (label_of (record { flag = g; zero = c; other = d }) v)) (sym e) (subst (λ (t : State). (u v : Bool) → AgreeOnLock (label_of x u) (label_of t v)) (sym q) h)
+pub locks : (x y : State) (f g : Option ℕ) (a b c d : Side) → record { flag = f; zero = a; other = b } ≡ x → record { flag = g; zero = c; other = d } ≡ y → ((u v : Bool) → AgreeOnLocks (label_of x u) (label_of y v)) → (u v : Bool) → AgreeOnLocks (label_of (record { flag = f; zero = a; other = b }) u) (label_of (record { flag = g; zero = c; other = d }) v)
+locks x y f g a b c d e q h = subst (λ (s : State). (u v : Bool) → AgreeOnLocks (label_of s u) (label_of (record { flag = g; zero = c; other = d }) v)) (sym e) (subst (λ (t : State). (u v : Bool) → AgreeOnLocks (label_of x u) (label_of t v)) (sym q) h)
 
-pub met_kept : (x y : State) (f g : Option ℕ) (a b c d s t : Side) → record { flag = f; zero = a; other = b } ≡ x → record { flag = g; zero = c; other = d } ≡ y → IsState (record { flag = f; zero = a; other = b }) → IsState (record { flag = g; zero = c; other = d }) → ((u v : Bool) → AgreeOnLock (label_of x u) (label_of y v)) → Joined x y ≡ true → IsStrongest (side_label s) (side_label a ∷ side_label c ∷ []) → IsStrongest (side_label t) (side_label b ∷ side_label d ∷ []) → s.program ≡ a.program → t.program ≡ b.program → IsState (record { flag = f; zero = s; other = t })
+pub met_kept : (x y : State) (f g : Option ℕ) (a b c d s t : Side) → record { flag = f; zero = a; other = b } ≡ x → record { flag = g; zero = c; other = d } ≡ y → IsState (record { flag = f; zero = a; other = b }) → IsState (record { flag = g; zero = c; other = d }) → ((u v : Bool) → AgreeOnLocks (label_of x u) (label_of y v)) → Joined x y ≡ true → IsStrongest (side_label s) (side_label a ∷ side_label c ∷ []) → IsStrongest (side_label t) (side_label b ∷ side_label d ∷ []) → s.program ≡ a.program → t.program ≡ b.program → IsState (record { flag = f; zero = s; other = t })
 met_kept x y f g a b c d s t e q h k l j m n p r =
     let l' = locks x y f g a b c d e q l in
     let j' : Joined (record { flag = f; zero = a; other = b }) (record { flag = g; zero = c; other = d }) ≡ true = subst (λ (v : State). Joined v (record { flag = g; zero = c; other = d }) ≡ true) (sym e) (subst (λ (w : State). Joined x w ≡ true) (sym q) j) in

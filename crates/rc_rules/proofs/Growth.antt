@@ -1,5 +1,5 @@
 -- Stronger states are asked for less and give stronger states.
-use Rattle.std.proofs.Common.{◌≡◌, ℕ, suc, ◌+◌, ◌<◌, ◌≤◌, ◌⊎◌, inl, inr, Bool, true, false, cond, nat_eq, nat_lt, nat_le, List, [], ◌∷◌, ◌++◌, length, drop, refl, sym, ap, subst, arith}
+use Rattle.std.proofs.Common.{◌≡◌, ℕ, suc, ◌+◌, ◌<◌, ◌≤◌, ◌⊎◌, inl, inr, Bool, true, false, cond, nat_eq, nat_lt, nat_le, List, [], ◌∷◌, ◌++◌, length, drop, Option, Some, None, refl, sym, ap, subst, arith}
 use Rattle.std.proofs.lemmas.Bool.{and_from, and_parts, leb-true, le-leb, ltb-true}
 use Rattle.rc_lang.specs.declared.lines.Line.{Line}
 use Rattle.rc_lang.specs.declared.lines.Op.{Op}
@@ -10,22 +10,21 @@ use Rattle.rc_lang.specs.declared.lines.Test.{Test}
 use Rattle.rc_lang.specs.declared.lines.Test.TheVariants.{Compare, ReadyZero, SpaceAtLeast, Take}
 use Rattle.rc_lang.specs.Program.{Program, Thread, Items, items_at, stmt_at}
 use Rattle.rc_split.specs.Bags.{Part, ShareOf, TokenOf, Credit, bag_of, bag_on, plus, IsWithin}
-use Rattle.rc_rules.specs.declared.mode.Inside.{Inside}
 use Rattle.rc_rules.specs.declared.mode.Mode.{Mode}
-use Rattle.rc_rules.specs.declared.mode.Mode.TheVariants.{Unlocked, Locked}
 use Rattle.rc_rules.specs.declared.mode.Peeked.{Peeked}
 use Rattle.rc_rules.specs.declared.mode.Peeked.TheVariants.{Unseen, Sees, SeesOther}
 use Rattle.rc_rules.specs.declared.mode.Slot.{Slot}
 use Rattle.rc_rules.specs.declared.mode.Slot.TheVariants.{Closed, Vacant}
-use Rattle.rc_rules.specs.Labels.{Label, Dead, Live, Weaker, WeakerMode, WeakerInside}
+use Rattle.rc_rules.specs.declared.mode.Submitting.{Submitting}
+use Rattle.rc_rules.specs.Labels.{Label, Dead, Live, UnderLock, Weaker, WeakerMode, WeakerPeeked, WeakerSubmitting}
 use Rattle.rc_rules.specs.Premises.{Premise, Is, Covers, IsMet, Meets, MeetsBelow}
-use Rattle.rc_rules.specs.Rules.{kind_of, same_slot, has_kind, is_prepared_as, is_seen, under_lock, premises_of, op_needs, test_needs, leave_needs, if_locked, op_effect, reaped, ring_of, asks, asks_both, joins_both, goes, entered, released, put_effect, can_take, take_effect, test_effect, with_peeked, peek_at, case_at, agree_modes, agree, agree_each, agree_all, queue_on, keeps_queue, top_mode, top, broken}
+use Rattle.rc_rules.specs.Rules.{kind_of, same_slot, has_kind, is_prepared_as, is_seen, sq_of, with_lock, premises_of, op_needs, test_needs, leave_needs, if_locked, op_effect, reaped, asks, asks_both, joins_both, goes, locked, unlocked, entered, released, put_effect, can_take, take_effect, test_effect, with_slot, at_most, with_peeked, peek_at, case_at, agree_sq, agree, agree_each, agree_all, queue_on, keeps_queue, top_sq, top_mode, top, broken}
 use Rattle.rc_rules.specs.Labellings.{label_at, here, skipped, arm_end, arm_ends, break_end, break_ends, befores, premises}
 use Rattle.rc_rules.specs.Laws.{EachWeaker, IsStronger, GrowsAt}
 use Rattle.rc_rules.specs.declared.flag.Write.TheVariants.{Anything}
 use Rattle.rc_rules.specs.Sides.{Sides, gate, brings, turns, write_to, write_of, forgets, test_goes, may_skip}
 use Rattle.rc_rules.proofs.Room.{still_can}
-use Rattle.rc_rules.proofs.Weaker.{mode_refl, peeked_grows, label_drop, meets_append, meets_left, meets_right, below_append, below_left, below_right}
+use Rattle.rc_rules.proofs.Weaker.{lock_maps, mode_refl, peeked_grows, sq_weaker, label_drop, meets_append, meets_left, meets_right, below_append, below_left, below_right}
 
 -- ---- lists of premises
 
@@ -90,54 +89,54 @@ fewer a b k h e = let x : b < k = ltb-true b k e in le-leb (suc a) k (omega arit
 below : (a b k : ℕ) → a ≤ b → nat_le b k ≡ true → nat_le a k ≡ true
 below a b k h e = let x : b ≤ k = leb-true b k e in le-leb a k (omega arith)
 
-slot_of : (i j : Inside) (x : Slot) → WeakerInside i j → same_slot i.slot x ≡ true → same_slot j.slot x ≡ true
-slot_of i j x v e = subst (λ y. same_slot y x ≡ true) v.slot e
+slot_of : (s t : Submitting) (x : Slot) → WeakerSubmitting s t → same_slot s.slot x ≡ true → same_slot t.slot x ≡ true
+slot_of s t x v e = subst (λ y. same_slot y x ≡ true) v.slot e
 
-seen : (p q : Peeked) → (p ≡ q) ⊎ (p ≡ Unseen) → is_seen p ≡ true → is_seen q ≡ true
+seen : (p q : Peeked) → WeakerPeeked p q → is_seen p ≡ true → is_seen q ≡ true
 seen p q d e = elim d [ inl h ↦ subst (λ y. is_seen y ≡ true) h e | inr h ↦ absurd (let x : is_seen p ≡ false = ap is_seen h in cc) ]
 
--- what is asked of the lock first, and what is left in it
-locked_less : (F G : Inside → List (ℕ × Premise)) (m n : Mode) → ((i j : Inside) → WeakerInside i j → Less (F i) (G j)) → WeakerMode m n → Less (under_lock 1 m F) (under_lock 1 n G)
-locked_less F G Unlocked Unlocked h v = (refl, λ e. e, tt)
-locked_less F G (Locked i) (Locked j) h v = h i j v
-locked_less F G Unlocked (Locked j) h v = absurd v
-locked_less F G (Locked i) Unlocked h v = absurd v
+-- what is asked of a lock first, and what is left under it
+locked_less : {A : Type 0} (W : A → A → Type 0) (F G : A → List (ℕ × Premise)) (o p : Option A) → ((s t : A) → W s t → Less (F s) (G t)) → UnderLock W o p → Less (with_lock 1 o F) (with_lock 1 p G)
+locked_less W F G None None h v = (refl, λ e. e, tt)
+locked_less W F G (Some s) (Some t) h v = h s t v
+locked_less W F G None (Some t) h v = absurd v
+locked_less W F G (Some s) None h v = absurd v
 
-locked_grows : (A : Inside → List (ℕ × Premise)) (F G : Inside → Label) (m n : Mode) → Meets (under_lock 1 m A) → ((i j : Inside) → Meets (A i) → WeakerInside i j → Weaker (F i) (G j)) → WeakerMode m n → Weaker (if_locked m F) (if_locked n G)
-locked_grows A F G Unlocked Unlocked h g v = tt
-locked_grows A F G (Locked i) (Locked j) h g v = g i j h v
-locked_grows A F G Unlocked (Locked j) h g v = absurd v
-locked_grows A F G (Locked i) Unlocked h g v = absurd v
+locked_grows : {A : Type 0} (W : A → A → Type 0) (K : A → List (ℕ × Premise)) (F G : A → Label) (o p : Option A) → Meets (with_lock 1 o K) → ((s t : A) → Meets (K s) → W s t → Weaker (F s) (G t)) → UnderLock W o p → Weaker (if_locked o F) (if_locked p G)
+locked_grows W K F G None None h g v = tt
+locked_grows W K F G (Some s) (Some t) h g v = g s t h v
+locked_grows W K F G None (Some t) h g v = absurd v
+locked_grows W K F G (Some s) None h g v = absurd v
 
 asks_less : (P : Program) (lists : List Items) (z : Bool) (op : Op) → AsksLess (λ b m. premises_of P lists z b m (op_needs op))
 asks_less P lists z (ops.Load x d i) b c m n w v = (refl, more 1 (b (ShareOf d)) (c (ShareOf d)) (w (ShareOf d)), (refl, λ h. h, tt))
 asks_less P lists z (ops.Store d i x) b c m n w v = (refl, more _ (b (ShareOf d)) (c (ShareOf d)) (w (ShareOf d)), (refl, λ h. h, tt))
 asks_less P lists z (ops.Fill d x) b c m n w v = (refl, more _ (b (ShareOf d)) (c (ShareOf d)) (w (ShareOf d)), tt)
-asks_less P lists z ops.GetSqe b c m n w v = locked_less _ _ m n (λ i j v. (refl, more 1 (b Credit) (c Credit) (w Credit), (refl, fewer j.queued i.queued P.entries v.queued, (refl, slot_of i j Closed v, tt)))) v
-asks_less P lists z (ops.PrepRead f d l o) b c m n w v = locked_less _ _ m n (λ i j v. (refl, slot_of i j Vacant v, (refl, more _ (b (ShareOf d)) (c (ShareOf d)) (w (ShareOf d)), (refl, λ h. h, tt)))) v
-asks_less P lists z (ops.PrepWrite f d l o k) b c m n w v = locked_less _ _ m n (λ i j v. (refl, slot_of i j Vacant v, (refl, more k (b (ShareOf d)) (c (ShareOf d)) (w (ShareOf d)), (refl, λ h. h, tt)))) v
-asks_less P lists z (ops.PrepFsync f d) b c m n w v = locked_less _ _ m n (λ i j v. (refl, slot_of i j Vacant v, tt)) v
-asks_less P lists z ops.PrepNop b c m n w v = locked_less _ _ m n (λ i j v. (refl, slot_of i j Vacant v, tt)) v
-asks_less P lists z (ops.SetData64 u) b c m n w v = locked_less _ _ m n (λ i j v. (refl, subst (λ y. has_kind y ≡ true) v.slot, (refl, subst (λ y. is_prepared_as (kind_of P u) y ≡ true) v.slot, (refl, more 1 (b (TokenOf u)) (c (TokenOf u)) (w (TokenOf u)), tt)))) v
-asks_less P lists z (ops.Submit x) b c m n w v = locked_less _ _ m n (λ i j v. (refl, slot_of i j Closed v, tt)) v
-asks_less P lists z (ops.SubmitAndWait x k) b c m n w v = locked_less _ _ m n (λ i j v. (refl, slot_of i j Closed v, tt)) v
-asks_less P lists z ops.CqeSeen b c m n w v = locked_less _ _ m n (λ i j v. (refl, seen i.peeked j.peeked v.peeked, tt)) v
+asks_less P lists z ops.GetSqe b c m n w v = locked_less WeakerSubmitting _ _ m.sq n.sq (λ i j v. (refl, more 1 (b Credit) (c Credit) (w Credit), (refl, fewer j.queued i.queued P.entries v.queued, (refl, slot_of i j Closed v, tt)))) v.0
+asks_less P lists z (ops.PrepRead f d l o) b c m n w v = locked_less WeakerSubmitting _ _ m.sq n.sq (λ i j v. (refl, slot_of i j Vacant v, (refl, more _ (b (ShareOf d)) (c (ShareOf d)) (w (ShareOf d)), (refl, λ h. h, tt)))) v.0
+asks_less P lists z (ops.PrepWrite f d l o k) b c m n w v = locked_less WeakerSubmitting _ _ m.sq n.sq (λ i j v. (refl, slot_of i j Vacant v, (refl, more k (b (ShareOf d)) (c (ShareOf d)) (w (ShareOf d)), (refl, λ h. h, tt)))) v.0
+asks_less P lists z (ops.PrepFsync f d) b c m n w v = locked_less WeakerSubmitting _ _ m.sq n.sq (λ i j v. (refl, slot_of i j Vacant v, tt)) v.0
+asks_less P lists z ops.PrepNop b c m n w v = locked_less WeakerSubmitting _ _ m.sq n.sq (λ i j v. (refl, slot_of i j Vacant v, tt)) v.0
+asks_less P lists z (ops.SetData64 u) b c m n w v = locked_less WeakerSubmitting _ _ m.sq n.sq (λ i j v. (refl, subst (λ y. has_kind y ≡ true) v.slot, (refl, subst (λ y. is_prepared_as (kind_of P u) y ≡ true) v.slot, (refl, more 1 (b (TokenOf u)) (c (TokenOf u)) (w (TokenOf u)), tt)))) v.0
+asks_less P lists z (ops.Submit x) b c m n w v = locked_less WeakerSubmitting _ _ m.sq n.sq (λ i j v. (refl, slot_of i j Closed v, tt)) v.0
+asks_less P lists z (ops.SubmitAndWait x k) b c m n w v = locked_less WeakerSubmitting _ _ m.sq n.sq (λ i j v. (refl, slot_of i j Closed v, tt)) v.0
+asks_less P lists z ops.CqeSeen b c m n w v = locked_less WeakerPeeked _ _ m.cq n.cq (λ p q x. (refl, seen p q x, tt)) v.1
 asks_less P lists z _ b c m n w v = tt
 
-unchanged : (b c : Part → ℕ) (i j : Inside) (s : Slot) → IsWithin b c → WeakerInside i j → Weaker (Live b (Locked (record i { slot = s }))) (Live c (Locked (record j { slot = s })))
-unchanged b c i j s w v = (w, record { queued = v.queued; slot = refl; peeked = v.peeked })
+unchanged : (b c : Part → ℕ) (m n : Mode) (s t : Submitting) (x : Slot) → IsWithin b c → WeakerMode m n → WeakerSubmitting s t → Weaker (Live b (with_slot x s m)) (Live c (with_slot x t n))
+unchanged b c m n s t x w v u = (w, (record { queued = u.queued; slot = refl }, v.1))
 
-reaps_more : (P : Program) (p q : Peeked) → (p ≡ q) ⊎ (p ≡ Unseen) → is_seen p ≡ true → (x : Part) → reaped P p x ≤ reaped P q x
+reaps_more : (P : Program) (p q : Peeked) → WeakerPeeked p q → is_seen p ≡ true → (x : Part) → reaped P p x ≤ reaped P q x
 reaps_more P p q d e x = elim d [ inl h ↦ subst (λ y. reaped P p x ≤ reaped P y x) h (omega arith) | inr h ↦ absurd (let g : is_seen p ≡ false = ap is_seen h in cc) ]
 
 grows : (P : Program) (lists : List Items) (z : Bool) (op : Op) → Grows (λ b m. premises_of P lists z b m (op_needs op)) (λ b m. op_effect P b m op)
-grows P lists z ops.GetSqe b c m n w v h = locked_grows _ _ _ m n h (λ i j a v. (λ p. omega (arith, w p), record { queued = omega (arith, v.queued); slot = refl; peeked = v.peeked })) v
-grows P lists z (ops.PrepRead f d l o) b c m n w v h = locked_grows _ _ _ m n h (λ i j a v. unchanged _ _ i j _ (λ p. omega (arith, w p)) v) v
-grows P lists z (ops.PrepWrite f d l o k) b c m n w v h = locked_grows _ _ _ m n h (λ i j a v. unchanged _ _ i j _ (λ p. omega (arith, w p)) v) v
-grows P lists z (ops.PrepFsync f d) b c m n w v h = locked_grows _ _ _ m n h (λ i j a v. unchanged b c i j _ w v) v
-grows P lists z ops.PrepNop b c m n w v h = locked_grows _ _ _ m n h (λ i j a v. unchanged b c i j _ w v) v
-grows P lists z (ops.SetData64 u) b c m n w v h = locked_grows _ _ _ m n h (λ i j a v. unchanged _ _ i j _ (λ p. omega (arith, w p)) v) v
-grows P lists z ops.CqeSeen b c m n w v h = locked_grows _ _ _ m n h (λ i j a v. (λ p. omega (arith, w p, reaps_more P i.peeked j.peeked v.peeked a.0 p), record { queued = v.queued; slot = v.slot; peeked = inl refl })) v
+grows P lists z ops.GetSqe b c m n w v h = locked_grows WeakerSubmitting _ _ _ m.sq n.sq h (λ s t a u. (λ p. omega (arith, w p), (record { queued = omega (arith, u.queued); slot = refl }, v.1))) v.0
+grows P lists z (ops.PrepRead f d l o) b c m n w v h = locked_grows WeakerSubmitting _ _ _ m.sq n.sq h (λ s t a u. unchanged _ _ m n s t _ (λ p. omega (arith, w p)) v u) v.0
+grows P lists z (ops.PrepWrite f d l o k) b c m n w v h = locked_grows WeakerSubmitting _ _ _ m.sq n.sq h (λ s t a u. unchanged _ _ m n s t _ (λ p. omega (arith, w p)) v u) v.0
+grows P lists z (ops.PrepFsync f d) b c m n w v h = locked_grows WeakerSubmitting _ _ _ m.sq n.sq h (λ s t a u. unchanged b c m n s t _ w v u) v.0
+grows P lists z ops.PrepNop b c m n w v h = locked_grows WeakerSubmitting _ _ _ m.sq n.sq h (λ s t a u. unchanged b c m n s t _ w v u) v.0
+grows P lists z (ops.SetData64 u) b c m n w v h = locked_grows WeakerSubmitting _ _ _ m.sq n.sq h (λ s t a x. unchanged _ _ m n s t _ (λ p. omega (arith, w p)) v x) v.0
+grows P lists z ops.CqeSeen b c m n w v h = locked_grows WeakerPeeked _ _ _ m.cq n.cq h (λ p q a u. (λ x. omega (arith, w x, reaps_more P p q u a.0 x), (v.0, inl refl))) v.1
 grows P lists z _ b c m n w v h = (w, v)
 
 -- ---- blocks
@@ -150,18 +149,23 @@ no_asks (Live b m) = tt
 plain_grow : (E : (Part → ℕ) → Mode → Label) → Grows (λ b m. []) E → (s t : Label) → Weaker s t → Weaker (goes s E) (goes t E)
 plain_grow E g s t w = goes_grow (λ b m. []) E g s t w (no_asks s)
 
-peek_less : AsksLess (λ b m. under_lock 1 m (λ i. []))
-peek_less b c m n w v = locked_less _ _ m n (λ i j v. tt) v
+sq_less : AsksLess (λ b m. with_lock 1 m.sq (λ s. []))
+sq_less b c m n w v = locked_less WeakerSubmitting _ _ m.sq n.sq (λ s t u. tt) v.0
+
+peek_less : AsksLess (λ b m. with_lock 1 m.cq (λ p. []))
+peek_less b c m n w v = locked_less WeakerPeeked _ _ m.cq n.cq (λ p q u. tt) v.1
 
 test_less : (P : Program) (lists : List Items) (z : Bool) (test : Test) → AsksLess (λ b m. premises_of P lists z b m (test_needs test))
 test_less P lists z (Compare x k n) b d m o w v = tt
-test_less P lists z _ b d m o w v = peek_less b d m o w v
+test_less P lists z ReadyZero b d m o w v = sq_less b d m o w v
+test_less P lists z (SpaceAtLeast n) b d m o w v = sq_less b d m o w v
+test_less P lists z (Take k) b d m o w v = locked_less WeakerSubmitting _ _ m.sq o.sq (λ s t u. peek_less b d m o w v) v.0
 
 abbrev put_asks : Items → (Part → ℕ) → Mode → List (ℕ × Premise)
-put_asks items b m = under_lock 1 m (λ i. (19, Covers b (bag_of items)) ∷ [])
+put_asks items b m = with_lock 1 m.sq (λ s. with_lock 1 m.cq (λ p. (19, Covers b (bag_of items)) ∷ []))
 
 put_less : (items : Items) → AsksLess (λ b m. put_asks items b m)
-put_less items b c m n w v = locked_less _ _ m n (λ i j v. (refl, λ h p. omega (arith, h p, w p), tt)) v
+put_less items b c m n w v = locked_less WeakerSubmitting _ _ m.sq n.sq (λ s t u. locked_less WeakerPeeked _ _ m.cq n.cq (λ p q x. (refl, λ h y. omega (arith, h y, w y), tt)) v.1) v.0
 
 put_grows : (items : Items) → Grows (λ b m. put_asks items b m) (λ b m. put_effect b m items)
 put_grows items b c m n w v h = (λ p. omega (arith, w p), v)
@@ -175,39 +179,27 @@ take_grows P items b c m n w v = go (can_take P b m items) (can_take P c n items
     go true true e f = (λ p. omega (arith, w p), v)
     go false true e f = absurd (let g : can_take P b m items ≡ true = still_can P items b c m n w v f in cc (e, g))
 
+most_grows : (k : ℕ) (m n : Mode) → WeakerMode m n → WeakerMode (at_most k m) (at_most k n)
+most_grows k m n v = (lock_maps WeakerSubmitting WeakerSubmitting _ (λ s t u. record { queued = omega (arith, u.queued); slot = u.slot }) m.sq n.sq v.0, v.1)
+
 test_grows : (P : Program) (lists : List Items) (test : Test) → Grows (λ b m. []) (λ b m. test_effect P lists b m test)
 test_grows P lists (Compare x k n) b d m o w v h = (w, v)
-test_grows P lists ReadyZero b d Unlocked Unlocked w v h = (w, tt)
-test_grows P lists ReadyZero b d (Locked i) (Locked j) w v h = (w, record { queued = omega arith; slot = v.slot; peeked = v.peeked })
-test_grows P lists (SpaceAtLeast n) b d Unlocked Unlocked w v h = (w, tt)
-test_grows P lists (SpaceAtLeast n) b d (Locked i) (Locked j) w v h = (w, record { queued = omega (arith, v.queued); slot = v.slot; peeked = v.peeked })
-test_grows P lists ReadyZero b d Unlocked (Locked j) w v h = absurd v
-test_grows P lists ReadyZero b d (Locked i) Unlocked w v h = absurd v
-test_grows P lists (SpaceAtLeast n) b d Unlocked (Locked j) w v h = absurd v
-test_grows P lists (SpaceAtLeast n) b d (Locked i) Unlocked w v h = absurd v
+test_grows P lists ReadyZero b d m o w v h = (w, most_grows _ m o v)
+test_grows P lists (SpaceAtLeast n) b d m o w v h = (w, most_grows _ m o v)
 test_grows P lists (Take k) b d m o w v h = take_grows P (items_at lists k) b d m o w v
 
-closed_less : (m n : Mode) → WeakerMode m n → same_slot (ring_of m).slot Closed ≡ true → same_slot (ring_of n).slot Closed ≡ true
-closed_less Unlocked Unlocked v h = refl
-closed_less (Locked i) (Locked j) v h = slot_of i j Closed v h
-closed_less Unlocked (Locked j) v h = absurd v
-closed_less (Locked i) Unlocked v h = absurd v
+closed_less : (m n : Mode) → WeakerMode m n → same_slot (sq_of m).slot Closed ≡ true → same_slot (sq_of n).slot Closed ≡ true
+closed_less m n v h = slot_of (sq_of m) (sq_of n) Closed (sq_weaker m n v) h
 
-left_less : (P : Program) (m n : Mode) → WeakerMode m n → nat_le (ring_of m).queued P.left ≡ true → nat_le (ring_of n).queued P.left ≡ true
-left_less P Unlocked Unlocked v h = h
-left_less P (Locked i) (Locked j) v h = below j.queued i.queued P.left v.queued h
-left_less P Unlocked (Locked j) v h = absurd v
-left_less P (Locked i) Unlocked v h = absurd v
+left_less : (P : Program) (m n : Mode) → WeakerMode m n → nat_le (sq_of m).queued P.left ≡ true → nat_le (sq_of n).queued P.left ≡ true
+left_less P m n v h = below (sq_of n).queued (sq_of m).queued P.left (sq_weaker m n v).queued h
 
 leave_less : (P : Program) (lists : List Items) (z : Bool) (r : Bool) → AsksLess (λ b m. premises_of P lists z b m (leave_needs r))
 leave_less P lists z true b c m n w v = (refl, closed_less m n v, (refl, left_less P m n v, tt))
 leave_less P lists z false b c m n w v = (refl, closed_less m n v, tt)
 
 queue_grows : (P : Program) (items : Items) (m n : Mode) → WeakerMode m n → keeps_queue (queue_on P items) m ≡ true → keeps_queue (queue_on P items) n ≡ true
-queue_grows P items Unlocked Unlocked v h = refl
-queue_grows P items (Locked i) (Locked j) v h = let g = and_parts _ _ h in and_from _ _ (slot_of i j Closed v g.0) (below j.queued i.queued (queue_on P items) v.queued g.1)
-queue_grows P items Unlocked (Locked j) v h = absurd v
-queue_grows P items (Locked i) Unlocked v h = absurd v
+queue_grows P items m n v h = let g = and_parts _ _ h in and_from _ _ (closed_less m n v g.0) (below (sq_of n).queued (sq_of m).queued (queue_on P items) (sq_weaker m n v).queued g.1)
 
 abbrev loop_asks : Program → ℕ → Items → Bool → (Part → ℕ) → Mode → List (ℕ × Premise)
 loop_asks P k items z b m = (k, Is (keeps_queue (queue_on P items) m)) ∷ (k, Covers b (bag_on z items)) ∷ []
@@ -218,22 +210,16 @@ loop_less P k items z b c m n w v = (refl, queue_grows P items m n v, (refl, λ 
 top_grows : (P : Program) (items : Items) (z : Bool) (s t : Label) → Weaker s t → Weaker (top P items z s) (top P items z t)
 top_grows P items z s Dead w = tt
 top_grows P items z Dead (Live c n) w = absurd w
-top_grows P items z (Live b m) (Live c n) w = (λ p. omega arith, modes m n w.1)
-  where
-    modes : (m n : Mode) → WeakerMode m n → WeakerMode (top_mode P items m) (top_mode P items n)
-    modes Unlocked Unlocked v = tt
-    modes (Locked i) (Locked j) v = mode_refl (top_mode P items (Locked j))
-    modes Unlocked (Locked j) v = absurd v
-    modes (Locked i) Unlocked v = absurd v
+top_grows P items z (Live b m) (Live c n) w = (λ p. omega arith, (lock_maps WeakerSubmitting WeakerSubmitting (λ _. top_sq P items) (λ s t u. record { queued = omega arith; slot = refl }) m.sq n.sq w.1.0, lock_maps WeakerPeeked WeakerPeeked (λ _. Unseen) (λ p q u. inl refl) m.cq n.cq w.1.1))
 
 peek_grows : (p : Peeked) (s t : Label) → Weaker s t → Weaker (peek_at p s) (peek_at p t)
 peek_grows p = plain_grow (λ b m. Live b (with_peeked p m)) (λ b c m n w v h. (w, peeked_grows p m n v))
 
 released_grows : (s t : Label) → Weaker s t → Weaker (released s) (released t)
-released_grows = plain_grow (λ b m. Live b Unlocked) (λ b c m n w v h. (w, tt))
+released_grows = plain_grow (λ b m. Live b unlocked) (λ b c m n w v h. (w, mode_refl unlocked))
 
 entered_grows : (P : Program) (s t : Label) → Weaker s t → Weaker (entered P s) (entered P t)
-entered_grows P = plain_grow (λ b m. Live b (Locked (record { queued = P.left; slot = Closed; peeked = Unseen }))) (λ b c m n w v h. (w, mode_refl (Locked (record { queued = P.left; slot = Closed; peeked = Unseen }))))
+entered_grows P = plain_grow (λ b m. Live b (locked P)) (λ b c m n w v h. (w, mode_refl (locked P)))
 
 broken_grows : (r : Bool) (s t : Label) → Weaker s t → Weaker (broken r s) (broken r t)
 broken_grows true s t w = released_grows s t w
@@ -252,21 +238,21 @@ case_grows u (Live b m) (Live c n) w = go (nat_lt 0 (b (TokenOf u))) (nat_lt 0 (
         let g : nat_lt 0 (c (TokenOf u)) ≡ true = le-leb 1 (c (TokenOf u)) (omega (arith, d, w.0 (TokenOf u))) in
         absurd (cc (f, g))
 
-pub modes_agree : (m n m' n' : Mode) → WeakerMode m m' → WeakerMode n n' → agree_modes m n ≡ true → agree_modes m' n' ≡ true
-modes_agree Unlocked n Unlocked n' v w e = refl
-modes_agree (Locked i) Unlocked (Locked i') Unlocked v w e = refl
-modes_agree (Locked i) (Locked j) (Locked i') (Locked j') v w e = subst (λ x. same_slot x j'.slot ≡ true) v.slot (subst (λ y. same_slot i.slot y ≡ true) w.slot e)
-modes_agree Unlocked n (Locked i') n' v w e = absurd v
-modes_agree (Locked i) n Unlocked n' v w e = absurd v
-modes_agree (Locked i) Unlocked (Locked i') (Locked j') v w e = absurd w
-modes_agree (Locked i) (Locked j) (Locked i') Unlocked v w e = absurd w
+pub sq_agree : (o p q r : Option Submitting) → UnderLock WeakerSubmitting o q → UnderLock WeakerSubmitting p r → agree_sq o p ≡ true → agree_sq q r ≡ true
+sq_agree None p None r v w e = refl
+sq_agree (Some s) None (Some x) None v w e = refl
+sq_agree (Some s) (Some t) (Some x) (Some y) v w e = subst (λ u. same_slot u y.slot ≡ true) v.slot (subst (λ u. same_slot s.slot u ≡ true) w.slot e)
+sq_agree None p (Some x) r v w e = absurd v
+sq_agree (Some s) p None r v w e = absurd v
+sq_agree (Some s) None (Some x) (Some y) v w e = absurd w
+sq_agree (Some s) (Some t) (Some x) None v w e = absurd w
 
 pub agree_grows : (s t s' t' : Label) → Weaker s s' → Weaker t t' → agree s t ≡ true → agree s' t' ≡ true
 agree_grows s t Dead t' w v e = refl
 agree_grows s t (Live a m) Dead w v e = refl
 agree_grows Dead t (Live a m) (Live b n) w v e = absurd w
 agree_grows (Live c k) Dead (Live a m) (Live b n) w v e = absurd v
-agree_grows (Live c k) (Live d l) (Live a m) (Live b n) w v e = modes_agree k l m n w.1 v.1 e
+agree_grows (Live c k) (Live d l) (Live a m) (Live b n) w v e = sq_agree k.sq l.sq m.sq n.sq w.1.0 v.1.0 e
 
 -- ---- lists of labels
 
@@ -354,7 +340,7 @@ module _ (P : Program) (thread : Thread) (lines : List Line) (known more : List 
   premises_grow (EndLock o) = both_grow (λ z b m. premises_of P thread.lists z b m (leave_needs true)) (λ z. leave_less P thread.lists z true)
   premises_grow (If test) = both_grow (λ z b m. premises_of P thread.lists z b m (test_needs test)) (λ z. test_less P thread.lists z test)
   premises_grow (EndIf o) = joins_less (λ z. here lines known z ∷ skipped thread lines known o z ∷ []) (λ z. here lines more z ∷ skipped thread lines more o z ∷ []) (ends_grow o)
-  premises_grow (Peek x) = both_grow (λ z b m. under_lock 1 m (λ i. [])) (λ z. peek_less)
+  premises_grow (Peek x) = both_grow (λ z b m. with_lock 1 m.cq (λ p. [])) (λ z. peek_less)
   premises_grow (EndPeek o) = joins_less (λ z. arm_ends lines known o z) (λ z. arm_ends lines more o z) (λ z. arms_grow lines known more o z g)
   premises_grow (Loop k) = both_grow (λ z b m. loop_asks P 13 (items_at thread.lists k) z b m) (loop_less P 13 (items_at thread.lists k))
   premises_grow (EndLoop o k) = both_grow (λ z b m. loop_asks P 14 (items_at thread.lists k) z b m) (loop_less P 14 (items_at thread.lists k))

@@ -10,14 +10,13 @@ use Rattle.rc_lang.specs.declared.program.TokenKind.TheVariants.{Read, Write, Fs
 use Rattle.rc_lang.specs.Program.{Program, IsProgram, IsTokenKind, token_place}
 use Rattle.rc_split.specs.Bags.{Part, ShareOf, TokenOf, Credit, token_bag, credits_bag}
 use Rattle.rc_split.proofs.Named.{few_shares}
-use Rattle.rc_rules.specs.declared.mode.Inside.{Inside}
 use Rattle.rc_rules.specs.declared.mode.Mode.{Mode}
-use Rattle.rc_rules.specs.declared.mode.Mode.TheVariants.{Unlocked, Locked}
 use Rattle.rc_rules.specs.declared.mode.Peeked.{Peeked}
 use Rattle.rc_rules.specs.declared.mode.Peeked.TheVariants.{Unseen, Sees, SeesOther}
 use Rattle.rc_rules.specs.Labels.{Label, Dead, Live}
-use Rattle.rc_rules.specs.Rules.{kind_in, kind_at, kind_of, kind_bag, line_bag, reaped, if_locked, op_effect}
-use Rattle.rc_rules.specs.States.{IsLine, is_locked}
+use Rattle.rc_rules.specs.Rules.{kind_in, kind_at, kind_of, kind_bag, line_bag, reaped, if_locked, locks_of, op_effect}
+use Rattle.rc_rules.specs.States.{IsLine}
+use Rattle.rc_rules.proofs.Weaker.{cq_given, sq_given}
 
 is_line : (P : Program) (o : Option Token) (k : ℕ) → IsProgram P → slice_get P.tokens k ≡ o → IsLine P (kind_in o)
 is_line P None k h e = tt
@@ -82,18 +81,18 @@ reaped_few P Unseen p h = omega arith
 reaped_few P (Sees u) p h = omega (arith, line_few P (kind_of P u) p h (line_of P u h), one_at_most u p, one_credit p)
 reaped_few P SeesOther p h = omega (arith, one_credit p)
 
-by_lock : (m : Mode) (F : Inside → Label) (Q : Label → Type 0) → Q Dead → ((i : Inside) → m ≡ Locked i → Q (F i)) → Q (if_locked m F)
-by_lock Unlocked F Q d f = d
-by_lock (Locked i) F Q d f = f i refl
+by_lock : {A : Type 0} (o : Option A) (F : A → Label) (Q : Label → Type 0) → Q Dead → ((s : A) → o ≡ Some s → Q (F s)) → Q (if_locked o F)
+by_lock None F Q d f = d
+by_lock (Some s) F Q d f = f s refl
 
--- What is true of a dead state, and of each with the lock held or not as before and at most 18 of a part more, is true
--- after a statement.
-pub effect_by : (P : Program) (a : Part → ℕ) (m : Mode) (op : Op) → IsProgram P → (Q : Label → Type 0) → Q Dead → ((b : Part → ℕ) (n : Mode) → is_locked n ≡ is_locked m → ((p : Part) → b p ≤ a p + 18) → Q (Live b n)) → Q (op_effect P a m op)
-effect_by P a m ops.GetSqe h Q d f = by_lock m _ Q d (λ i e. f _ _ (sym (ap is_locked e)) (λ p. omega arith))
-effect_by P a m (ops.PrepRead fd b len off) h Q d f = by_lock m _ Q d (λ i e. f _ _ (sym (ap is_locked e)) (λ p. omega arith))
-effect_by P a m (ops.PrepWrite fd b len off k) h Q d f = by_lock m _ Q d (λ i e. f _ _ (sym (ap is_locked e)) (λ p. omega arith))
-effect_by P a m (ops.PrepFsync fd datasync) h Q d f = by_lock m _ Q d (λ i e. f _ _ (sym (ap is_locked e)) (λ p. omega arith))
-effect_by P a m ops.PrepNop h Q d f = by_lock m _ Q d (λ i e. f _ _ (sym (ap is_locked e)) (λ p. omega arith))
-effect_by P a m (ops.SetData64 u) h Q d f = by_lock m _ Q d (λ i e. f _ _ (sym (ap is_locked e)) (λ p. omega arith))
-effect_by P a m ops.CqeSeen h Q d f = by_lock m _ Q d (λ i e. f _ _ (sym (ap is_locked e)) (λ p. omega (arith, reaped_few P i.peeked p h)))
+-- What is true of a dead state, and of each with the same locks as before and at most 18 of a part more, is true after a
+-- statement.
+pub effect_by : (P : Program) (a : Part → ℕ) (m : Mode) (op : Op) → IsProgram P → (Q : Label → Type 0) → Q Dead → ((b : Part → ℕ) (n : Mode) → locks_of n ≡ locks_of m → ((p : Part) → b p ≤ a p + 18) → Q (Live b n)) → Q (op_effect P a m op)
+effect_by P a m ops.GetSqe h Q d f = by_lock m.sq _ Q d (λ s e. f _ _ (sq_given m s e) (λ p. omega arith))
+effect_by P a m (ops.PrepRead fd b len off) h Q d f = by_lock m.sq _ Q d (λ s e. f _ _ (sq_given m s e) (λ p. omega arith))
+effect_by P a m (ops.PrepWrite fd b len off k) h Q d f = by_lock m.sq _ Q d (λ s e. f _ _ (sq_given m s e) (λ p. omega arith))
+effect_by P a m (ops.PrepFsync fd datasync) h Q d f = by_lock m.sq _ Q d (λ s e. f _ _ (sq_given m s e) (λ p. omega arith))
+effect_by P a m ops.PrepNop h Q d f = by_lock m.sq _ Q d (λ s e. f _ _ (sq_given m s e) (λ p. omega arith))
+effect_by P a m (ops.SetData64 u) h Q d f = by_lock m.sq _ Q d (λ s e. f _ _ (sq_given m s e) (λ p. omega arith))
+effect_by P a m ops.CqeSeen h Q d f = by_lock m.cq _ Q d (λ x e. f _ _ (cq_given m x e) (λ p. omega (arith, reaped_few P x p h)))
 effect_by P a m _ h Q d f = f a m refl (λ p. omega arith)

@@ -1,5 +1,6 @@
 -- One rule's effect on a state.
 use Rattle.std.proofs.Common.{◌≡◌, ℕ, ◌≤◌, Bool, true, false, cond, nat_lt, Option, Some, None, Ok, refl, sym, subst, ◌∙◌, arith}
+use Rattle.std.specs.Prelude.{option_map, unwrap_or}
 use Rattle.std.proofs.lemmas.Bool.{ltb-false}
 use Rattle.rc_lang.specs.declared.lines.Op.{Op}
 use Rattle.rc_lang.specs.declared.lines.Op.TheVariants as ops
@@ -11,9 +12,7 @@ use Rattle.rc_lang.specs.Parts.{view_items}
 use Rattle.rc_lang.specs.Program.{Program, Items, DeclaresToken}
 use Rattle.rc_split.specs.Bags.{Part, TokenOf, credits_bag, token_bag, bag_of, minus, plus}
 use Rattle.rc_split.specs.Holdings.{Holding, bag}
-use Rattle.rc_rules.specs.declared.mode.Inside.{Inside}
 use Rattle.rc_rules.specs.declared.mode.Mode.{Mode}
-use Rattle.rc_rules.specs.declared.mode.Mode.TheVariants.{Unlocked, Locked}
 use Rattle.rc_rules.specs.declared.mode.Peeked.{Peeked}
 use Rattle.rc_rules.specs.declared.mode.Peeked.TheVariants.{Unseen, Sees, SeesOther}
 use Rattle.rc_rules.specs.declared.rule.Rule.{Rule}
@@ -21,7 +20,7 @@ use Rattle.rc_rules.specs.declared.rule.Rule.TheVariants.{Do, Put, Lock, Release
 use Rattle.rc_rules.specs.Labels.{Label, Dead, Live, IsSame}
 use Rattle.rc_rules.specs.OneRule.{rule_premises, rule_effect, MayFollow}
 use Rattle.rc_rules.specs.Premises.{Meets}
-use Rattle.rc_rules.specs.Rules.{kind_bag, if_locked, op_effect, asks, goes, test_mode, with_peeked, case_at, can_take, take_effect}
+use Rattle.rc_rules.specs.Rules.{kind_bag, if_locked, op_effect, peeked_of, asks, goes, test_mode, with_peeked, case_at, can_take, take_effect}
 use Rattle.rc_rules.proofs.Room.{taken_free}
 use Rattle.rc_rules.specs.States.{Side, side_of, side_label, label_in, live_of, IsFree, IsFreeIn, IsFreeFor, GivesSide}
 
@@ -32,18 +31,18 @@ fewer_free P a b Unseen l f = tt
 fewer_free P a b (Sees u) l f = (f.0, omega (arith, l u, f.1))
 fewer_free P a b SeesOther l f = tt
 
-free_in : (P : Program) (a : Part → ℕ) (m : Mode) (F : Inside → Label) → IsFreeIn P a m → ((i : Inside) → IsFreeFor P a i.peeked → IsFree P (F i)) → IsFree P (if_locked m F)
-free_in P a Unlocked F f h = tt
-free_in P a (Locked i) F f h = h i f
+free_in : {A : Type 0} (P : Program) (o : Option A) (F : A → Label) → ((s : A) → IsFree P (F s)) → IsFree P (if_locked o F)
+free_in P None F h = tt
+free_in P (Some s) F h = h s
 
 pub effect_free : (P : Program) (a : Part → ℕ) (m : Mode) (op : Op) → IsFreeIn P a m → IsFree P (op_effect P a m op)
-effect_free P a m ops.GetSqe f = free_in P a m _ f (λ i f. fewer_free P a (minus a (credits_bag 1)) i.peeked (λ u. omega arith) f)
-effect_free P a m (ops.PrepRead fd b len off) f = free_in P a m _ f (λ i f. fewer_free P a (minus a (kind_bag P (Read b))) i.peeked (λ u. omega arith) f)
-effect_free P a m (ops.PrepWrite fd b len off k) f = free_in P a m _ f (λ i f. fewer_free P a (minus a (kind_bag P (Write b k))) i.peeked (λ u. omega arith) f)
-effect_free P a m (ops.PrepFsync fd d) f = free_in P a m _ f (λ i f. f)
-effect_free P a m ops.PrepNop f = free_in P a m _ f (λ i f. f)
-effect_free P a m (ops.SetData64 u) f = free_in P a m _ f (λ i f. fewer_free P a (minus a (token_bag u)) i.peeked (λ v. omega arith) f)
-effect_free P a m ops.CqeSeen f = free_in P a m _ f (λ i f. tt)
+effect_free P a m ops.GetSqe f = free_in P m.sq _ (λ s. fewer_free P a (minus a (credits_bag 1)) (peeked_of m) (λ u. omega arith) f)
+effect_free P a m (ops.PrepRead fd b len off) f = free_in P m.sq _ (λ s. fewer_free P a (minus a (kind_bag P (Read b))) (peeked_of m) (λ u. omega arith) f)
+effect_free P a m (ops.PrepWrite fd b len off k) f = free_in P m.sq _ (λ s. fewer_free P a (minus a (kind_bag P (Write b k))) (peeked_of m) (λ u. omega arith) f)
+effect_free P a m (ops.PrepFsync fd d) f = free_in P m.sq _ (λ s. f)
+effect_free P a m ops.PrepNop f = free_in P m.sq _ (λ s. f)
+effect_free P a m (ops.SetData64 u) f = free_in P m.sq _ (λ s. fewer_free P a (minus a (token_bag u)) (peeked_of m) (λ v. omega arith) f)
+effect_free P a m ops.CqeSeen f = free_in P m.cq _ (λ p. tt)
 effect_free P a m _ f = f
 
 same_free : (P : Program) (a b : Part → ℕ) (pk : Peeked) → ((p : Part) → a p ≡ b p) → IsFreeFor P b pk → IsFreeFor P a pk
@@ -52,11 +51,7 @@ same_free P a b (Sees u) e f = (f.0, e (TokenOf u) ∙ f.1)
 same_free P a b SeesOther e f = tt
 
 same_free_in : (P : Program) (a b : Part → ℕ) (m n : Mode) → ((p : Part) → a p ≡ b p) → m ≡ n → IsFreeIn P b n → IsFreeIn P a m
-same_free_in P a b Unlocked n e q f = tt
-same_free_in P a b (Locked i) Unlocked e q f = absurd (cc)
-same_free_in P a b (Locked i) (Locked j) e q f =
-    let h : i ≡ j = cc in
-    same_free P a b i.peeked e (subst (λ (k : Inside). IsFreeFor P b k.peeked) (sym h) f)
+same_free_in P a b m n e q f = same_free P a b (peeked_of m) e (subst (IsFreeIn P b) (sym q) f)
 
 label_free : (P : Program) (h : Holding) (o : Option Mode) (t : Label) → h.program ≡ P → IsSame (label_in (live_of h o)) t → IsFree P t → IsFree h.program (label_in (live_of h o))
 label_free P h None t q e f = tt
@@ -65,16 +60,17 @@ label_free P h (Some m) (Live b n) q e f = subst (λ R. IsFreeIn R (bag h) m) (s
 
 -- ---- one rule
 
+front_free : (P : Program) (a : Part → ℕ) (pk : Peeked) (o : Option Peeked) → IsFreeFor P a pk → IsFreeFor P a (unwrap_or (option_map (λ _. pk) o) Unseen)
+front_free P a pk None f = tt
+front_free P a pk (Some q) f = f
+
 with_free : (P : Program) (a : Part → ℕ) (pk : Peeked) (m : Mode) → IsFreeFor P a pk → IsFreeIn P a (with_peeked pk m)
-with_free P a pk Unlocked f = tt
-with_free P a pk (Locked i) f = f
+with_free P a pk m f = front_free P a pk m.cq f
 
 test_free : (P : Program) (a : Part → ℕ) (test : Test) (m : Mode) → IsFreeIn P a m → IsFreeIn P a (test_mode P test m)
 test_free P a (Compare x c n) m f = f
-test_free P a ReadyZero Unlocked f = tt
-test_free P a ReadyZero (Locked i) f = f
-test_free P a (SpaceAtLeast n) Unlocked f = tt
-test_free P a (SpaceAtLeast n) (Locked i) f = f
+test_free P a ReadyZero m f = f
+test_free P a (SpaceAtLeast n) m f = f
 test_free P a (tests.Take k) m f = f
 
 case_free : (P : Program) (a : Part → ℕ) (u : ℕ) (m : Mode) → DeclaresToken P u → IsFree P (case_at u (Live a m))
@@ -85,8 +81,7 @@ case_free P a u m d = go (nat_lt 0 (a (TokenOf u))) refl
     go false e = with_free P a (Sees u) m (d, let l : a (TokenOf u) ≤ 0 = ltb-false 0 (a (TokenOf u)) e in omega (arith, l))
 
 put_free : (P : Program) (a b : Part → ℕ) (m : Mode) → IsFreeIn P a m → IsFreeIn P (minus a b) m
-put_free P a b Unlocked f = tt
-put_free P a b (Locked i) f = fewer_free P a (minus a b) i.peeked (λ u. omega arith) f
+put_free P a b m f = fewer_free P a (minus a b) (peeked_of m) (λ u. omega arith) f
 
 take_free : (P : Program) (a : Part → ℕ) (m : Mode) (items : Items) → IsFreeIn P a m → IsFree P (take_effect P a m items)
 take_free P a m items f = go (can_take P a m items) refl

@@ -1,4 +1,4 @@
--- The numbers of a line's needs rise.
+-- The numbers of a line's needs never fall.
 use Rattle.std.proofs.Common.{◌≡◌, ℕ, ◌<◌, Bool, true, false, List, [], ◌∷◌, ◌++◌, refl, ap, ◌∙◌, arith}
 use Rattle.rc_lang.specs.declared.lines.Op.{Op}
 use Rattle.rc_lang.specs.declared.lines.Op.TheVariants as ops
@@ -6,41 +6,42 @@ use Rattle.rc_lang.specs.declared.lines.Stmt.{Stmt}
 use Rattle.rc_lang.specs.declared.lines.Stmt.TheVariants as stmts
 use Rattle.rc_lang.specs.declared.lines.Stmt.TheVariants.{Do, Put, EndLock, If, EndIf, Peek, EndPeek, EndLoop, Break}
 use Rattle.rc_lang.specs.declared.lines.Test.{Test}
-use Rattle.rc_lang.specs.declared.lines.Test.TheVariants.{Compare}
+use Rattle.rc_lang.specs.declared.lines.Test.TheVariants.{Compare, Take}
 use Rattle.rc_lang.specs.Program.{Program, Items}
 use Rattle.rc_split.specs.Bags.{Part}
 use Rattle.rc_rules.specs.declared.mode.Mode.{Mode}
 use Rattle.rc_rules.specs.Labels.{Label, Dead, Live}
-use Rattle.rc_rules.specs.Needs.{AreRising, line_premises}
+use Rattle.rc_rules.specs.Needs.{AreOrdered, line_premises}
 use Rattle.rc_rules.specs.Premises.{Premise}
 use Rattle.rc_rules.specs.Rules.{asked, asks, asks_both, premises_of, stmt_needs}
 
-pub rising : (s : Stmt) → AreRising 0 (stmt_needs s)
-rising (Do (ops.Load x b i)) = (omega arith, (omega arith, tt))
-rising (Do (ops.Store b i x)) = (omega arith, (omega arith, tt))
-rising (Do (ops.Fill b x)) = (omega arith, tt)
-rising (Do ops.GetSqe) = (omega arith, (omega arith, (omega arith, (omega arith, tt))))
-rising (Do (ops.PrepRead fd b len off)) = (omega arith, (omega arith, (omega arith, (omega arith, tt))))
-rising (Do (ops.PrepWrite fd b len off k)) = (omega arith, (omega arith, (omega arith, (omega arith, tt))))
-rising (Do (ops.PrepFsync fd datasync)) = (omega arith, (omega arith, tt))
-rising (Do ops.PrepNop) = (omega arith, (omega arith, tt))
-rising (Do (ops.SetData64 u)) = (omega arith, (omega arith, (omega arith, (omega arith, tt))))
-rising (Do (ops.Submit x)) = (omega arith, (omega arith, tt))
-rising (Do (ops.SubmitAndWait x n)) = (omega arith, (omega arith, tt))
-rising (Do ops.CqeSeen) = (omega arith, (omega arith, tt))
-rising (Do _) = tt
-rising (Put k) = (omega arith, (omega arith, tt))
-rising (EndLock o) = (omega arith, (omega arith, tt))
-rising (If (Compare x c n)) = tt
-rising (If _) = (omega arith, tt)
-rising (EndIf o) = (omega arith, tt)
-rising (Peek x) = (omega arith, tt)
-rising (EndPeek o) = (omega arith, tt)
-rising (stmts.Loop k) = (omega arith, tt)
-rising (EndLoop o k) = (omega arith, tt)
-rising (Break o true leaves) = (omega arith, (omega arith, tt))
-rising (Break o false leaves) = (omega arith, tt)
-rising _ = tt
+pub ordered : (s : Stmt) → AreOrdered 0 (stmt_needs s)
+ordered (Do (ops.Load x b i)) = (omega arith, (omega arith, tt))
+ordered (Do (ops.Store b i x)) = (omega arith, (omega arith, tt))
+ordered (Do (ops.Fill b x)) = (omega arith, tt)
+ordered (Do ops.GetSqe) = (omega arith, (omega arith, (omega arith, (omega arith, tt))))
+ordered (Do (ops.PrepRead fd b len off)) = (omega arith, (omega arith, (omega arith, (omega arith, tt))))
+ordered (Do (ops.PrepWrite fd b len off k)) = (omega arith, (omega arith, (omega arith, (omega arith, tt))))
+ordered (Do (ops.PrepFsync fd datasync)) = (omega arith, (omega arith, tt))
+ordered (Do ops.PrepNop) = (omega arith, (omega arith, tt))
+ordered (Do (ops.SetData64 u)) = (omega arith, (omega arith, (omega arith, (omega arith, tt))))
+ordered (Do (ops.Submit x)) = (omega arith, (omega arith, tt))
+ordered (Do (ops.SubmitAndWait x n)) = (omega arith, (omega arith, tt))
+ordered (Do ops.CqeSeen) = (omega arith, (omega arith, tt))
+ordered (Do _) = tt
+ordered (Put k) = (omega arith, (omega arith, (omega arith, tt)))
+ordered (EndLock o) = (omega arith, (omega arith, tt))
+ordered (If (Compare x c n)) = tt
+ordered (If (Take k)) = (omega arith, (omega arith, tt))
+ordered (If _) = (omega arith, tt)
+ordered (EndIf o) = (omega arith, tt)
+ordered (Peek x) = (omega arith, tt)
+ordered (EndPeek o) = (omega arith, tt)
+ordered (stmts.Loop k) = (omega arith, tt)
+ordered (EndLoop o k) = (omega arith, tt)
+ordered (Break o true leaves) = (omega arith, (omega arith, tt))
+ordered (Break o false leaves) = (omega arith, tt)
+ordered _ = tt
 
 -- ---- lines that name no list, and need the same on both sides
 

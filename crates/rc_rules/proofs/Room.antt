@@ -10,12 +10,12 @@ use Rattle.rc_split.proofs.Named.{all_at, few_shares, no_share, share_at, share_
 use Rattle.rc_split.proofs.PoolBags.{one_token, tokens_in}
 use Rattle.rc_split.proofs.Tokens.{token_most}
 use Rattle.rc_rules.specs.declared.mode.Mode.{Mode}
-use Rattle.rc_rules.specs.declared.mode.Mode.TheVariants.{Unlocked, Locked}
 use Rattle.rc_rules.specs.declared.mode.Peeked.{Peeked}
 use Rattle.rc_rules.specs.declared.mode.Peeked.TheVariants.{Unseen, Sees, SeesOther}
-use Rattle.rc_rules.specs.Labels.{WeakerMode}
-use Rattle.rc_rules.specs.Rules.{limit, is_within_limit, has_room, names_peeked, names_peeked_in, can_take}
+use Rattle.rc_rules.specs.Labels.{WeakerMode, WeakerPeeked}
+use Rattle.rc_rules.specs.Rules.{limit, is_within_limit, has_room, names_peeked, peeked_of, can_take}
 use Rattle.rc_rules.specs.States.{IsFreeIn, IsFreeFor}
+use Rattle.rc_rules.proofs.Weaker.{peeked_weaker}
 
 -- ---- tests of all of a list
 
@@ -93,14 +93,14 @@ module _ (P : Program) (held : Part → ℕ) (items : Items) (of : IsItems P ite
 
   -- So counts are as small with them as without, or as there are.
   pub with_few : IsProgram P → (m : Mode) → can_take P held m items ≡ true → (n : ℕ) → 2048 ≤ n → (p : Part) → held p ≤ n → held p + bag_of items p ≤ n
-  with_few made m e n l p s = elim (room (and_parts (has_room P held items) (not (names_peeked_in items.tokens m)) e).0 p) [
+  with_few made m e n l p s = elim (room (and_parts (has_room P held items) (not (names_peeked items.tokens (peeked_of m))) e).0 p) [
     | inl x ↦ omega (arith, x, s)
     | inr x ↦ omega (arith, x, l, limit_few P p made)
   ]
 
 -- No token is held twice.
 pub with_once : (h : Holding) (items : Items) (m : Mode) → IsItems h.program items → can_take h.program (bag h) m items ≡ true → (u : ℕ) → bag h (TokenOf u) + bag_of items (TokenOf u) ≤ 1
-with_once h items m of e u = elim (room h.program (bag h) items of (and_parts (has_room h.program (bag h) items) (not (names_peeked_in items.tokens m)) e).0 (TokenOf u)) [
+with_once h items m of e u = elim (room h.program (bag h) items of (and_parts (has_room h.program (bag h) items) (not (names_peeked items.tokens (peeked_of m))) e).0 (TokenOf u)) [
   | inl x ↦ let o : bag h (TokenOf u) ≤ 1 = token_most h.marks _ in omega (arith, x, o)
   | inr x ↦ x
 ]
@@ -131,19 +131,13 @@ free_with P a SeesOther items e f = tt
 
 -- What is peeked isn't held after a take either.
 pub taken_free : (P : Program) (a : Part → ℕ) (m : Mode) (items : Items) → can_take P a m items ≡ true → IsFreeIn P a m → IsFreeIn P (plus a (bag_of items)) m
-taken_free P a Unlocked items e f = tt
-taken_free P a (Locked i) items e f = free_with P a i.peeked items (not_true _ (and_parts (has_room P a items) (not (names_peeked items.tokens i.peeked)) e).1) f
+taken_free P a m items e f = free_with P a (peeked_of m) items (not_true _ (and_parts (has_room P a items) (not (names_peeked items.tokens (peeked_of m))) e).1) f
 
 -- ---- who holds less
 
-fewer_named : (tokens : List ℕ) (p q : Peeked) → (p ≡ q) ⊎ (p ≡ Unseen) → names_peeked tokens q ≡ false → names_peeked tokens p ≡ false
+fewer_named : (tokens : List ℕ) (p q : Peeked) → WeakerPeeked p q → names_peeked tokens q ≡ false → names_peeked tokens p ≡ false
 fewer_named tokens p q (inl e) f = ap (names_peeked tokens) e ∙ f
 fewer_named tokens p q (inr e) f = ap (names_peeked tokens) e
-
-fewer_named_in : (tokens : List ℕ) (m n : Mode) → WeakerMode m n → names_peeked_in tokens n ≡ false → names_peeked_in tokens m ≡ false
-fewer_named_in tokens Unlocked n v f = refl
-fewer_named_in tokens (Locked i) Unlocked v f = absurd v
-fewer_named_in tokens (Locked i) (Locked j) v f = fewer_named tokens i.peeked j.peeked v.peeked f
 
 still_fits : (P : Program) (items : Items) (b c : Part → ℕ) → IsWithin b c → (p : Part) → is_within_limit P c items p ≡ true → is_within_limit P b items p ≡ true
 still_fits P items b c w p e = let l : c p + bag_of items p ≤ limit P p = leb-true _ _ e in le-leb _ _ (omega (arith, l, w p))
@@ -163,5 +157,5 @@ still_room P items b c w e =
 -- Who holds and sees less can take what one who holds more can.
 pub still_can : (P : Program) (items : Items) (b c : Part → ℕ) (m n : Mode) → IsWithin b c → WeakerMode m n → can_take P c n items ≡ true → can_take P b m items ≡ true
 still_can P items b c m n w v e =
-    let h = and_parts (has_room P c items) (not (names_peeked_in items.tokens n)) e in
-    and_from _ _ (still_room P items b c w h.0) (not_false _ (fewer_named_in items.tokens m n v (not_true _ h.1)))
+    let h = and_parts (has_room P c items) (not (names_peeked items.tokens (peeked_of n))) e in
+    and_from _ _ (still_room P items b c w h.0) (not_false _ (fewer_named items.tokens (peeked_of m) (peeked_of n) (peeked_weaker m n v) (not_true _ h.1)))

@@ -1,61 +1,132 @@
 -- Labels that say less than others or the same, and what tests of slots tell.
-use Rattle.std.proofs.Common.{◌≡◌, ℕ, ◌+◌, ◌⊎◌, inl, inr, Bool, true, ◌≤◌, Result, Ok, Err, List, [], ◌∷◌, ◌++◌, drop, nat_eq, suc, refl, ap, subst, ◌∙◌, arith}
+use Rattle.std.proofs.Common.{◌≡◌, ℕ, ◌+◌, ◌⊎◌, inl, inr, Bool, true, ◌≤◌, Option, Some, None, Result, Ok, Err, List, [], ◌∷◌, ◌++◌, drop, nat_eq, suc, refl, sym, ap, subst, ◌∙◌, arith}
+use Rattle.std.specs.Prelude.{is_some, option_map, unwrap_or}
 use Rattle.std.proofs.lemmas.Bool.{and_parts, eqb-true}
 use Rattle.rc_lang.specs.declared.lines.Test.{Test}
 use Rattle.rc_lang.specs.declared.lines.Test.TheVariants.{Compare, ReadyZero, SpaceAtLeast, Take}
 use Rattle.rc_lang.specs.declared.program.TokenKind.{TokenKind}
 use Rattle.rc_lang.specs.declared.program.TokenKind.TheVariants.{Read, Write, Fsync, Nop}
-use Rattle.rc_lang.specs.Program.{Program}
+use Rattle.rc_lang.specs.Program.{Program, Items}
 use Rattle.rc_rules.specs.declared.mode.Mode.{Mode}
-use Rattle.rc_rules.specs.declared.mode.Mode.TheVariants.{Unlocked, Locked}
 use Rattle.rc_rules.specs.declared.mode.Peeked.{Peeked}
 use Rattle.rc_rules.specs.declared.mode.Peeked.TheVariants.{Unseen}
 use Rattle.rc_rules.specs.declared.mode.Slot.{Slot}
 use Rattle.rc_rules.specs.declared.mode.Slot.TheVariants.{Closed, Vacant, Prepared}
-use Rattle.rc_rules.specs.Labels.{Label, Dead, Live, Weaker, WeakerMode, WeakerThanEach, IsStrongest, IsSame}
+use Rattle.rc_rules.specs.declared.mode.Submitting.{Submitting}
+use Rattle.rc_rules.specs.Labels.{Label, Dead, Live, UnderLock, Weaker, WeakerMode, WeakerPeeked, WeakerSubmitting, WeakerThanEach, IsStrongest, IsSame}
 use Rattle.rc_rules.specs.Labellings.{label_at}
 use Rattle.rc_rules.specs.Sides.{Sides}
 use Rattle.rc_rules.specs.declared.cause.Cause.{Cause}
 use Rattle.rc_rules.specs.Causes.{premise_number}
 use Rattle.rc_rules.specs.Premises.{Premise, Meets, MeetsBelow, FailsFirst, Tests}
-use Rattle.rc_rules.specs.Rules.{same_kind, same_slot, test_mode, with_peeked}
-use Rattle.rc_rules.specs.States.{is_locked}
+use Rattle.rc_rules.specs.Rules.{Locks, locks_of, peeked_of, same_kind, same_slot, sq_of, at_most, test_mode, top_mode, with_peeked}
+
+-- ---- under a lock
+
+module _ {A : Type 0} (F : A → A → Type 0) where
+  pub lock_refl : ((s : A) → F s s) → (o : Option A) → UnderLock F o o
+  lock_refl h None = tt
+  lock_refl h (Some s) = h s
+
+  pub lock_sym : ((s t : A) → F s t → F t s) → (o p : Option A) → UnderLock F o p → UnderLock F p o
+  lock_sym h None None v = tt
+  lock_sym h None (Some t) v = v
+  lock_sym h (Some s) None v = v
+  lock_sym h (Some s) (Some t) v = h s t v
+
+  pub lock_trans : ((s t u : A) → F s t → F t u → F s u) → (o p q : Option A) → UnderLock F o p → UnderLock F p q → UnderLock F o q
+  lock_trans h None None q v w = w
+  lock_trans h None (Some t) q v w = absurd v
+  lock_trans h (Some s) None q v w = absurd v
+  lock_trans h (Some s) (Some t) None v w = absurd w
+  lock_trans h (Some s) (Some t) (Some u) v w = h s t u v w
+
+  pub lock_held : (o p : Option A) → UnderLock F o p → is_some o ≡ is_some p
+  lock_held None None v = refl
+  lock_held None (Some t) v = absurd v
+  lock_held (Some s) None v = absurd v
+  lock_held (Some s) (Some t) v = refl
+
+  -- what is known without the lock too
+  pub lock_known : (d : A) → F d d → (o p : Option A) → UnderLock F o p → F (unwrap_or o d) (unwrap_or p d)
+  lock_known d h None None v = h
+  lock_known d h None (Some t) v = absurd v
+  lock_known d h (Some s) None v = absurd v
+  lock_known d h (Some s) (Some t) v = v
+
+  pub lock_map : (G : A → A → Type 0) → ((s t : A) → F s t → G s t) → (o p : Option A) → UnderLock F o p → UnderLock G o p
+  lock_map G h None None v = tt
+  lock_map G h None (Some t) v = v
+  lock_map G h (Some s) None v = v
+  lock_map G h (Some s) (Some t) v = h s t v
+
+  pub lock_maps : (G : A → A → Type 0) (f : A → A) → ((s t : A) → F s t → G (f s) (f t)) → (o p : Option A) → UnderLock F o p → UnderLock G (option_map f o) (option_map f p)
+  lock_maps G f h None None v = tt
+  lock_maps G f h None (Some t) v = v
+  lock_maps G f h (Some s) None v = v
+  lock_maps G f h (Some s) (Some t) v = h s t v
 
 -- ---- modes
 
-pub mode_refl : (m : Mode) → WeakerMode m m
-mode_refl Unlocked = tt
-mode_refl (Locked i) = record { queued = omega arith; slot = refl; peeked = inl refl }
+submitting_refl : (s : Submitting) → WeakerSubmitting s s
+submitting_refl s = record { queued = omega arith; slot = refl }
 
-peeked_trans : (p q r : Peeked) → (p ≡ q) ⊎ (p ≡ Unseen) → (q ≡ r) ⊎ (q ≡ Unseen) → (p ≡ r) ⊎ (p ≡ Unseen)
+pub mode_refl : (m : Mode) → WeakerMode m m
+mode_refl m = (lock_refl WeakerSubmitting submitting_refl m.sq, lock_refl WeakerPeeked (λ p. inl refl) m.cq)
+
+submitting_trans : (s t u : Submitting) → WeakerSubmitting s t → WeakerSubmitting t u → WeakerSubmitting s u
+submitting_trans s t u v w = record { queued = omega (arith, v.queued, w.queued); slot = v.slot ∙ w.slot }
+
+peeked_trans : (p q r : Peeked) → WeakerPeeked p q → WeakerPeeked q r → WeakerPeeked p r
 peeked_trans p q r (inr e) f = inr e
 peeked_trans p q r (inl e) (inl f) = inl (e ∙ f)
 peeked_trans p q r (inl e) (inr f) = inr (e ∙ f)
 
 pub mode_trans : (m n o : Mode) → WeakerMode m n → WeakerMode n o → WeakerMode m o
-mode_trans Unlocked Unlocked o v w = w
-mode_trans Unlocked (Locked j) o v w = absurd v
-mode_trans (Locked i) Unlocked o v w = absurd v
-mode_trans (Locked i) (Locked j) Unlocked v w = absurd w
-mode_trans (Locked i) (Locked j) (Locked k) v w = record { queued = omega (arith, v.queued, w.queued); slot = v.slot ∙ w.slot; peeked = peeked_trans i.peeked j.peeked k.peeked v.peeked w.peeked }
+mode_trans m n o v w = (lock_trans WeakerSubmitting submitting_trans m.sq n.sq o.sq v.0 w.0, lock_trans WeakerPeeked peeked_trans m.cq n.cq o.cq v.1 w.1)
 
-pub locked_same : (m n : Mode) → WeakerMode m n → is_locked m ≡ is_locked n
-locked_same Unlocked Unlocked w = refl
-locked_same Unlocked (Locked j) w = absurd w
-locked_same (Locked i) Unlocked w = absurd w
-locked_same (Locked i) (Locked j) w = refl
+pub sq_weaker : (m n : Mode) → WeakerMode m n → WeakerSubmitting (sq_of m) (sq_of n)
+sq_weaker m n v = lock_known WeakerSubmitting (record { queued = 0; slot = Closed }) (submitting_refl _) m.sq n.sq v.0
 
-pub peeked_locked : (p : Peeked) (m : Mode) → is_locked (with_peeked p m) ≡ is_locked m
-peeked_locked p Unlocked = refl
-peeked_locked p (Locked i) = refl
+pub peeked_weaker : (m n : Mode) → WeakerMode m n → WeakerPeeked (peeked_of m) (peeked_of n)
+peeked_weaker m n v = lock_known WeakerPeeked Unseen (inl refl) m.cq n.cq v.1
 
-pub test_locked : (P : Program) (test : Test) (m : Mode) → is_locked (test_mode P test m) ≡ is_locked m
-test_locked P (Compare x c n) m = refl
-test_locked P ReadyZero Unlocked = refl
-test_locked P ReadyZero (Locked i) = refl
-test_locked P (SpaceAtLeast n) Unlocked = refl
-test_locked P (SpaceAtLeast n) (Locked i) = refl
-test_locked P (Take k) m = refl
+-- ---- locks
+
+-- which of the two
+abbrev pub these : Bool → Bool → Locks
+these a b = record { sq = a; cq = b }
+
+pub locks_equal : (m n : Mode) → is_some m.sq ≡ is_some n.sq → is_some m.cq ≡ is_some n.cq → locks_of m ≡ locks_of n
+locks_equal m n e f = ap (λ a. these a (is_some m.cq)) e ∙ ap (these (is_some n.sq)) f
+
+pub sq_given : (m : Mode) (s : Submitting) → m.sq ≡ Some s → these true (is_some m.cq) ≡ locks_of m
+sq_given m s e = ap (λ a. these a (is_some m.cq)) (sym (ap is_some e))
+
+pub cq_given : (m : Mode) (p : Peeked) → m.cq ≡ Some p → these (is_some m.sq) true ≡ locks_of m
+cq_given m p e = ap (these (is_some m.sq)) (sym (ap is_some e))
+
+pub locks_same : (m n : Mode) → WeakerMode m n → locks_of m ≡ locks_of n
+locks_same m n w = locks_equal m n (lock_held WeakerSubmitting m.sq n.sq w.0) (lock_held WeakerPeeked m.cq n.cq w.1)
+
+pub map_held : {A : Type 0} (f : A → A) (o : Option A) → is_some (option_map f o) ≡ is_some o
+map_held f None = refl
+map_held f (Some s) = refl
+
+pub peeked_locks : (p : Peeked) (m : Mode) → locks_of (with_peeked p m) ≡ locks_of m
+peeked_locks p m = locks_equal (with_peeked p m) m refl (map_held (λ _. p) m.cq)
+
+most_locks : (n : ℕ) (m : Mode) → locks_of (at_most n m) ≡ locks_of m
+most_locks n m = locks_equal (at_most n m) m (map_held _ m.sq) refl
+
+pub test_locks : (P : Program) (test : Test) (m : Mode) → locks_of (test_mode P test m) ≡ locks_of m
+test_locks P (Compare x c n) m = refl
+test_locks P ReadyZero m = most_locks _ m
+test_locks P (SpaceAtLeast n) m = most_locks _ m
+test_locks P (Take k) m = refl
+
+pub top_locks : (P : Program) (items : Items) (m : Mode) → locks_of (top_mode P items m) ≡ locks_of m
+top_locks P items m = locks_equal (top_mode P items m) m (map_held _ m.sq) (map_held _ m.cq)
 
 -- ---- labels
 
@@ -107,10 +178,7 @@ pub only_itself : (s : Label) → IsStrongest s (s ∷ [])
 only_itself s = record { weaker = (weaker_refl s, tt); strongest = λ t w. w.0 }
 
 pub peeked_grows : (p : Peeked) (m n : Mode) → WeakerMode m n → WeakerMode (with_peeked p m) (with_peeked p n)
-peeked_grows p Unlocked Unlocked v = tt
-peeked_grows p (Locked i) (Locked j) v = record { queued = v.queued; slot = v.slot; peeked = inl refl }
-peeked_grows p Unlocked (Locked j) v = absurd v
-peeked_grows p (Locked i) Unlocked v = absurd v
+peeked_grows p m n v = (v.0, lock_maps WeakerPeeked WeakerPeeked (λ _. p) (λ s t w. inl refl) m.cq n.cq v.1)
 
 pub label_drop : (labels : List Sides) (k : ℕ) (z : Bool) → label_at (drop 1 labels) k z ≡ label_at labels (suc k) z
 label_drop [] k z = refl

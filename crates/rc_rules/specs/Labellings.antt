@@ -6,7 +6,6 @@ use Rattle.rc_lang.specs.declared.lines.Stmt.{Stmt}
 use Rattle.rc_lang.specs.declared.lines.Stmt.TheVariants.{Do, Put, Lock, EndLock, If, Else, EndIf, Peek, Case, Other, Nothing, EndArm, EndPeek, Loop, EndLoop, Break}
 use Rattle.rc_lang.specs.Program.{Program, Thread, items_at, stmt_at}
 use Rattle.rc_rules.specs.declared.cause.Cause.TheVariants.{OverShares, TokenTwice, OverCredits}
-use Rattle.rc_rules.specs.declared.mode.Mode.TheVariants.{Unlocked}
 use Rattle.rc_rules.specs.declared.mode.Peeked.TheVariants.{Unseen, SeesOther}
 use Rattle.rc_rules.specs.declared.flag.Write.TheVariants.{Anything}
 use Rattle.rc_split.specs.Bags.{Part, ShareOf, TokenOf, Credit, bag_of}
@@ -14,7 +13,7 @@ use Rattle.rc_rules.specs.Causes.{premise_number}
 use Rattle.rc_rules.specs.Labels.{Label, Dead, Live, WeakerThanEach, IsSame}
 use Rattle.rc_rules.specs.Sides.{Sides, on, unreached, gate, brings, turns, write_to, write_of, forgets, test_goes, may_skip}
 use Rattle.rc_rules.specs.Premises.{Premise, Covers, Meets, MeetsBelow}
-use Rattle.rc_rules.specs.Rules.{limit, op_effect, put_effect, asked, goes, entered, released, test_effect, peek_at, case_at, joins_both, top, broken}
+use Rattle.rc_rules.specs.Rules.{limit, op_effect, put_effect, asked, goes, entered, released, test_effect, peek_at, case_at, joins_both, top, broken, unlocked}
 
 -- ---- the labels that a line sees
 
@@ -84,9 +83,9 @@ premises P thread lines known stmt = asked P thread.lists (here lines known) stm
 
 -- ---- labellings
 
--- A thread begins with its items, without the lock; its variables are 0, and so is its flag.
+-- A thread begins with its items, without a lock; its variables are 0, and so is its flag.
 abbrev pub start_of : Thread → Sides
-start_of thread = record { zero = Live (bag_of thread.items) Unlocked; other = Dead }
+start_of thread = record { zero = Live (bag_of thread.items) unlocked; other = Dead }
 
 -- The labelling obeys the rule of the line at j: the labels up to it meet the premises, and on each side the label
 -- after it is weaker than each that leads there.

@@ -1,27 +1,34 @@
 -- What is known at a point of a thread, and when one label says less than another.
-use Rattle.std.specs.Prelude.{ℕ, ◌≡◌, ◌≤◌, ◌⊎◌, List, [], ◌∷◌}
-use Rattle.rc_rules.specs.declared.mode.Inside.{Inside}
+use Rattle.std.specs.Prelude.{ℕ, ◌≡◌, ◌≤◌, ◌⊎◌, List, [], ◌∷◌, Option, Some, None}
 use Rattle.rc_rules.specs.declared.mode.Mode.{Mode}
-use Rattle.rc_rules.specs.declared.mode.Mode.TheVariants.{Unlocked, Locked}
+use Rattle.rc_rules.specs.declared.mode.Peeked.{Peeked}
 use Rattle.rc_rules.specs.declared.mode.Peeked.TheVariants.{Unseen}
+use Rattle.rc_rules.specs.declared.mode.Submitting.{Submitting}
 use Rattle.rc_split.specs.Bags.{Part, IsWithin, IsSameBag}
 
--- Nothing reaches a dead point. At a live one the thread holds a bag, and the lock or not.
+-- Nothing reaches a dead point. At a live one the thread holds a bag, and each lock or not.
 pub data Label : Type 0 where
   Dead : Label
   Live : (bag : Part → ℕ) → Mode → Label
 
--- At most so many entries are queued, the slot is at this stage, and what is peeked is known or not.
-pub record WeakerInside (s t : Inside) : Type 0 where
+-- A lock is held in both, and this is so of what is known under it; or it is held in neither.
+abbrev pub UnderLock : {A : Type 0} → (A → A → Type 0) → Option A → Option A → Type 0
+UnderLock F None None = Unit {0}
+UnderLock F None (Some t) = ⊥
+UnderLock F (Some s) None = ⊥
+UnderLock F (Some s) (Some t) = F s t
+
+-- At most so many entries are queued, and the slot is at this stage.
+pub record WeakerSubmitting (s t : Submitting) : Type 0 where
   pub queued : t.queued ≤ s.queued
   pub slot : s.slot ≡ t.slot
-  pub peeked : (s.peeked ≡ t.peeked) ⊎ (s.peeked ≡ Unseen)
+
+-- What is peeked is known or not.
+abbrev pub WeakerPeeked : Peeked → Peeked → Type 0
+WeakerPeeked s t = (s ≡ t) ⊎ (s ≡ Unseen)
 
 abbrev pub WeakerMode : Mode → Mode → Type 0
-WeakerMode Unlocked Unlocked = Unit {0}
-WeakerMode Unlocked (Locked t) = ⊥
-WeakerMode (Locked s) Unlocked = ⊥
-WeakerMode (Locked s) (Locked t) = WeakerInside s t
+WeakerMode m n = UnderLock WeakerSubmitting m.sq n.sq × UnderLock WeakerPeeked m.cq n.cq
 
 -- The first label says no more than the second. Dead is the strongest.
 abbrev pub Weaker : Label → Label → Type 0

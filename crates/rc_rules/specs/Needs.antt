@@ -1,5 +1,5 @@
 -- Needs: when one is met, and how the code keeps them.
-use Rattle.std.specs.Prelude.{ℕ, ◌<◌, Bool, true, List, [], ◌∷◌, Option, Some, None, Result}
+use Rattle.std.specs.Prelude.{ℕ, ◌≤◌, Bool, true, List, [], ◌∷◌, Option, Some, None, Result}
 use Rattle.rc_lang.specs.declared.lines.Stmt.{Stmt}
 use Rattle.rc_lang.specs.Program.{Program, Items}
 use Rattle.rc_split.specs.Bags.{Part}
@@ -31,10 +31,10 @@ listed [] = []
 listed (None ∷ rest) = []
 listed (Some need ∷ rest) = need ∷ listed rest
 
--- The numbers of the causes rise from above this one.
-abbrev pub AreRising : ℕ → List (Cause × Asks) → Type 0
-AreRising v [] = Unit {0}
-AreRising v (need ∷ rest) = (v < premise_number need.0) × AreRising (premise_number need.0) rest
+-- The numbers of the causes are this one at least, and none is below the one before it.
+abbrev pub AreOrdered : ℕ → List (Cause × Asks) → Type 0
+AreOrdered v [] = Unit {0}
+AreOrdered v (need ∷ rest) = (v ≤ premise_number need.0) × AreOrdered (premise_number need.0) rest
 
 -- Ok: the needs are met. A cause: the first whose need isn't.
 abbrev pub Checks : {X : Type 0} → Holding → List Items → Bool → Mode → List (Cause × Asks) → Result X Cause → Type 0

@@ -1,5 +1,5 @@
 -- The rule of each line: what it asks of the state before it, and the state after it.
-use Rattle.std.specs.Prelude.{ℕ, ◌+◌, ◌-◌, Bool, true, false, cond, min, List, [], ◌∷◌, ◌++◌, Option, Some, None, nat_eq, nat_lt, nat_le, not, ◌&&◌, slice_get}
+use Rattle.std.specs.Prelude.{ℕ, ◌+◌, ◌-◌, Bool, true, false, cond, min, List, [], ◌∷◌, ◌++◌, Option, Some, None, is_some, option_map, unwrap_or, nat_eq, nat_lt, nat_le, not, ◌&&◌, slice_get}
 use Rattle.std.specs.List.{list_all, list_any}
 use Rattle.rc_lang.specs.declared.lines.Op.{Op}
 use Rattle.rc_lang.specs.declared.lines.Op.TheVariants as ops
@@ -16,13 +16,12 @@ use Rattle.rc_rules.specs.declared.needs.Asks.{Asks}
 use Rattle.rc_rules.specs.declared.needs.Asks.TheVariants as needs
 use Rattle.rc_rules.specs.declared.cause.Cause.{Cause}
 use Rattle.rc_rules.specs.declared.cause.Cause.TheVariants as causes
-use Rattle.rc_rules.specs.declared.mode.Inside.{Inside}
 use Rattle.rc_rules.specs.declared.mode.Mode.{Mode}
-use Rattle.rc_rules.specs.declared.mode.Mode.TheVariants.{Unlocked, Locked}
 use Rattle.rc_rules.specs.declared.mode.Peeked.{Peeked}
 use Rattle.rc_rules.specs.declared.mode.Peeked.TheVariants.{Unseen, Sees, SeesOther}
 use Rattle.rc_rules.specs.declared.mode.Slot.{Slot}
 use Rattle.rc_rules.specs.declared.mode.Slot.TheVariants.{Closed, Vacant, Prepared}
+use Rattle.rc_rules.specs.declared.mode.Submitting.{Submitting}
 use Rattle.rc_split.specs.Bags.{Part, ShareOf, TokenOf, Credit, shares_bag, token_bag, credits_bag, bag_of, bag_on, nothing, plus, minus}
 use Rattle.rc_split.specs.declared.part.Part.TheVariants as parts
 use Rattle.rc_split.specs.Holdings.{covers_part}
@@ -106,44 +105,43 @@ queue_or (Some k) n = k
 abbrev pub queue_on : Program → Items → ℕ
 queue_on P items = queue_or items.queue P.entries
 
+-- what is known of the submission side: without its lock no slot is open, and nothing is queued
+abbrev pub sq_of : Mode → Submitting
+sq_of m = unwrap_or m.sq (record { queued = 0; slot = Closed })
+
+-- and of the front completion: without the lock of its side it isn't peeked
+abbrev pub peeked_of : Mode → Peeked
+peeked_of m = unwrap_or m.cq Unseen
+
 -- no slot is open, and no more entries are queued than this
 abbrev pub keeps_queue : ℕ → Mode → Bool
-keeps_queue n Unlocked = true
-keeps_queue n (Locked i) = same_slot i.slot Closed && nat_le i.queued n
-
-abbrev pub is_locked : Mode → Bool
-is_locked Unlocked = false
-is_locked (Locked i) = true
-
--- Without the lock the premise of this number fails, and nothing else is asked.
-abbrev pub under_lock : ℕ → Mode → (Inside → List (ℕ × Premise)) → List (ℕ × Premise)
-under_lock v Unlocked F = (v, Is false) ∷ []
-under_lock v (Locked i) F = F i
+keeps_queue n m = same_slot (sq_of m).slot Closed && nat_le (sq_of m).queued n
 
 -- ---- needs
 
--- what is known of the ring: without the lock no slot is open, and nothing is queued or peeked
-abbrev pub ring_of : Mode → Inside
-ring_of Unlocked = record { queued = 0; slot = Closed; peeked = Unseen }
-ring_of (Locked i) = i
+-- Without a lock the premise of this number fails, and nothing else is asked.
+abbrev pub with_lock : {A : Type 0} → ℕ → Option A → (A → List (ℕ × Premise)) → List (ℕ × Premise)
+with_lock v None F = (v, Is false) ∷ []
+with_lock v (Some s) F = F s
 
 -- the premise of a need, in a thread with these lists of items, on a side of the flag, where so much is held and so much
 -- is known of the ring
 abbrev pub meant : Program → List Items → Bool → (Part → ℕ) → Mode → Asks → Premise
-meant P lists z bag m needs.Lock = Is (is_locked m)
+meant P lists z bag m needs.SqLock = Is (is_some m.sq)
+meant P lists z bag m needs.CqLock = Is (is_some m.cq)
 meant P lists z bag m (needs.Part part) = Is (covers_part bag part)
 meant P lists z bag m (needs.Whole b) = Is (is_whole P bag b)
 meant P lists z bag m (needs.Items k) = Covers bag (bag_of (items_at lists k))
 meant P lists z bag m (needs.Loop k) = Covers bag (bag_on z (items_at lists k))
-meant P lists z bag m needs.Room = Is (nat_lt (ring_of m).queued P.entries)
-meant P lists z bag m needs.Closed = Is (same_slot (ring_of m).slot Closed)
-meant P lists z bag m needs.Vacant = Is (same_slot (ring_of m).slot Vacant)
-meant P lists z bag m needs.Prepared = Is (has_kind (ring_of m).slot)
-meant P lists z bag m (needs.Line u) = Is (is_prepared_as (kind_of P u) (ring_of m).slot)
+meant P lists z bag m needs.Room = Is (nat_lt (sq_of m).queued P.entries)
+meant P lists z bag m needs.Closed = Is (same_slot (sq_of m).slot Closed)
+meant P lists z bag m needs.Vacant = Is (same_slot (sq_of m).slot Vacant)
+meant P lists z bag m needs.Prepared = Is (has_kind (sq_of m).slot)
+meant P lists z bag m (needs.Line u) = Is (is_prepared_as (kind_of P u) (sq_of m).slot)
 meant P lists z bag m (needs.Place b i) = Is (nat_lt i (bytes_at P.buffers b))
 meant P lists z bag m (needs.Length b n) = Is (nat_le n (bytes_at P.buffers b))
-meant P lists z bag m needs.Peeked = Is (is_seen (ring_of m).peeked)
-meant P lists z bag m needs.Left = Is (nat_le (ring_of m).queued P.left)
+meant P lists z bag m needs.Peeked = Is (is_seen (peeked_of m))
+meant P lists z bag m needs.Left = Is (nat_le (sq_of m).queued P.left)
 meant P lists z bag m needs.Agreeing = Is true
 
 -- A loop has a second premise under the same number.
@@ -153,7 +151,8 @@ meant_besides P lists m _ = Is true
 
 -- the premises of a need, with its number, and those after it
 abbrev pub then_asked : Program → List Items → Bool → (Part → ℕ) → Mode → ℕ → Asks → (Mode → List (ℕ × Premise)) → List (ℕ × Premise)
-then_asked P lists z bag m v needs.Lock rest = under_lock v m (λ i. rest (Locked i))
+then_asked P lists z bag m v needs.SqLock rest = with_lock v m.sq (λ s. rest (record m { sq = Some s }))
+then_asked P lists z bag m v needs.CqLock rest = with_lock v m.cq (λ p. rest (record m { cq = Some p }))
 then_asked P lists z bag m v (needs.Loop k) rest = (v, meant_besides P lists m (needs.Loop k)) ∷ (v, meant P lists z bag m (needs.Loop k)) ∷ rest m
 then_asked P lists z bag m v asks rest = (v, meant P lists z bag m asks) ∷ rest m
 
@@ -163,41 +162,47 @@ premises_of P lists z bag m (need ∷ rest) = then_asked P lists z bag m (premis
 
 -- ---- what each line needs, in the order of the numbers of the causes
 
-abbrev pub lock : Cause × Asks
-lock = (causes.Unlocked, needs.Lock)
+-- Calls on the submission side need its lock, those on the completion side its, and those on the pool both.
+abbrev pub sq_lock : Cause × Asks
+sq_lock = (causes.Unlocked, needs.SqLock)
+
+abbrev pub cq_lock : Cause × Asks
+cq_lock = (causes.Unlocked, needs.CqLock)
 
 -- statements without a block; the others need nothing
 abbrev pub op_needs : Op → List (Cause × Asks)
 op_needs (ops.Load x b i) = (causes.NoShare, needs.Part (parts.Shares b 1)) ∷ (causes.OutOfBuffer, needs.Place b i) ∷ []
 op_needs (ops.Store b i x) = (causes.NotWhole, needs.Whole b) ∷ (causes.OutOfBuffer, needs.Place b i) ∷ []
 op_needs (ops.Fill b x) = (causes.NotWhole, needs.Whole b) ∷ []
-op_needs ops.GetSqe = lock ∷ (causes.NoCredit, needs.Part (parts.Credits 1)) ∷ (causes.QueueFull, needs.Room) ∷ (causes.SlotOpen, needs.Closed) ∷ []
-op_needs (ops.PrepRead fd b len off) = lock ∷ (causes.NoSlot, needs.Vacant) ∷ (causes.NotWhole, needs.Whole b) ∷ (causes.OutOfBuffer, needs.Length b len) ∷ []
-op_needs (ops.PrepWrite fd b len off k) = lock ∷ (causes.NoSlot, needs.Vacant) ∷ (causes.NoShare, needs.Part (parts.Shares b k)) ∷ (causes.OutOfBuffer, needs.Length b len) ∷ []
-op_needs (ops.PrepFsync fd datasync) = lock ∷ (causes.NoSlot, needs.Vacant) ∷ []
-op_needs ops.PrepNop = lock ∷ (causes.NoSlot, needs.Vacant) ∷ []
-op_needs (ops.SetData64 u) = lock ∷ (causes.NoSlot, needs.Prepared) ∷ (causes.WrongKind, needs.Line u) ∷ (causes.NoToken, needs.Part (parts.Token u)) ∷ []
-op_needs (ops.Submit x) = lock ∷ (causes.SlotOpen, needs.Closed) ∷ []
-op_needs (ops.SubmitAndWait x n) = lock ∷ (causes.SlotOpen, needs.Closed) ∷ []
-op_needs ops.CqeSeen = lock ∷ (causes.NoEntry, needs.Peeked) ∷ []
+op_needs ops.GetSqe = sq_lock ∷ (causes.NoCredit, needs.Part (parts.Credits 1)) ∷ (causes.QueueFull, needs.Room) ∷ (causes.SlotOpen, needs.Closed) ∷ []
+op_needs (ops.PrepRead fd b len off) = sq_lock ∷ (causes.NoSlot, needs.Vacant) ∷ (causes.NotWhole, needs.Whole b) ∷ (causes.OutOfBuffer, needs.Length b len) ∷ []
+op_needs (ops.PrepWrite fd b len off k) = sq_lock ∷ (causes.NoSlot, needs.Vacant) ∷ (causes.NoShare, needs.Part (parts.Shares b k)) ∷ (causes.OutOfBuffer, needs.Length b len) ∷ []
+op_needs (ops.PrepFsync fd datasync) = sq_lock ∷ (causes.NoSlot, needs.Vacant) ∷ []
+op_needs ops.PrepNop = sq_lock ∷ (causes.NoSlot, needs.Vacant) ∷ []
+op_needs (ops.SetData64 u) = sq_lock ∷ (causes.NoSlot, needs.Prepared) ∷ (causes.WrongKind, needs.Line u) ∷ (causes.NoToken, needs.Part (parts.Token u)) ∷ []
+op_needs (ops.Submit x) = sq_lock ∷ (causes.SlotOpen, needs.Closed) ∷ []
+op_needs (ops.SubmitAndWait x n) = sq_lock ∷ (causes.SlotOpen, needs.Closed) ∷ []
+op_needs ops.CqeSeen = cq_lock ∷ (causes.NoEntry, needs.Peeked) ∷ []
 op_needs _ = []
 
 abbrev pub test_needs : Test → List (Cause × Asks)
 test_needs (Compare x c n) = []
-test_needs _ = lock ∷ []
+test_needs ReadyZero = sq_lock ∷ []
+test_needs (SpaceAtLeast n) = sq_lock ∷ []
+test_needs (Take k) = sq_lock ∷ cq_lock ∷ []
 
--- where the lock is released (true), and where a loop is left with it or without one
+-- where the locks are released (true), and where a loop is left with them or without
 abbrev pub leave_needs : Bool → List (Cause × Asks)
 leave_needs true = (causes.SlotOpen, needs.Closed) ∷ (causes.QueueLeft, needs.Left) ∷ []
 leave_needs false = (causes.SlotOpen, needs.Closed) ∷ []
 
 abbrev pub stmt_needs : Stmt → List (Cause × Asks)
 stmt_needs (stmts.Do op) = op_needs op
-stmt_needs (stmts.Put k) = lock ∷ (causes.NotHeld, needs.Items k) ∷ []
+stmt_needs (stmts.Put k) = sq_lock ∷ cq_lock ∷ (causes.NotHeld, needs.Items k) ∷ []
 stmt_needs (stmts.EndLock o) = leave_needs true
 stmt_needs (stmts.If test) = test_needs test
 stmt_needs (stmts.EndIf o) = (causes.JoinMismatch, needs.Agreeing) ∷ []
-stmt_needs (stmts.Peek x) = lock ∷ []
+stmt_needs (stmts.Peek x) = cq_lock ∷ []
 stmt_needs (stmts.EndPeek o) = (causes.JoinMismatch, needs.Agreeing) ∷ []
 stmt_needs (stmts.Loop k) = (causes.LoopEntry, needs.Loop k) ∷ []
 stmt_needs (stmts.EndLoop o k) = (causes.LoopBody, needs.Loop k) ∷ []
@@ -206,10 +211,13 @@ stmt_needs _ = []
 
 -- ---- the state after a statement without a block; most leave it
 
--- no premise of a call on the ring is met without the lock
-abbrev pub if_locked : Mode → (Inside → Label) → Label
-if_locked Unlocked F = Dead
-if_locked (Locked i) F = F i
+-- no premise of a call on the ring is met without its lock
+abbrev pub if_locked : {A : Type 0} → Option A → (A → Label) → Label
+if_locked None F = Dead
+if_locked (Some s) F = F s
+
+abbrev pub with_slot : Slot → Submitting → Mode → Mode
+with_slot slot s m = record m { sq = Some (record s { slot = slot }) }
 
 -- a reaped request gives back what it owned, as far as it is known which one it was
 abbrev pub reaped : Program → Peeked → Part → ℕ
@@ -218,13 +226,13 @@ reaped P (Sees u) p = owned P u p
 reaped P SeesOther p = credits_bag 1 p
 
 abbrev pub op_effect : Program → (Part → ℕ) → Mode → Op → Label
-op_effect P bag m ops.GetSqe = if_locked m (λ i. Live (minus bag (credits_bag 1)) (Locked (record { queued = i.queued + 1; slot = Vacant; peeked = i.peeked })))
-op_effect P bag m (ops.PrepRead fd b len off) = if_locked m (λ i. Live (minus bag (kind_bag P (Read b))) (Locked (record i { slot = Prepared (Read b) })))
-op_effect P bag m (ops.PrepWrite fd b len off k) = if_locked m (λ i. Live (minus bag (kind_bag P (Write b k))) (Locked (record i { slot = Prepared (Write b k) })))
-op_effect P bag m (ops.PrepFsync fd datasync) = if_locked m (λ i. Live bag (Locked (record i { slot = Prepared Fsync })))
-op_effect P bag m ops.PrepNop = if_locked m (λ i. Live bag (Locked (record i { slot = Prepared Nop })))
-op_effect P bag m (ops.SetData64 u) = if_locked m (λ i. Live (minus bag (token_bag u)) (Locked (record i { slot = Closed })))
-op_effect P bag m ops.CqeSeen = if_locked m (λ i. Live (plus bag (reaped P i.peeked)) (Locked (record i { peeked = Unseen })))
+op_effect P bag m ops.GetSqe = if_locked m.sq (λ s. Live (minus bag (credits_bag 1)) (record m { sq = Some (record { queued = s.queued + 1; slot = Vacant }) }))
+op_effect P bag m (ops.PrepRead fd b len off) = if_locked m.sq (λ s. Live (minus bag (kind_bag P (Read b))) (with_slot (Prepared (Read b)) s m))
+op_effect P bag m (ops.PrepWrite fd b len off k) = if_locked m.sq (λ s. Live (minus bag (kind_bag P (Write b k))) (with_slot (Prepared (Write b k)) s m))
+op_effect P bag m (ops.PrepFsync fd datasync) = if_locked m.sq (λ s. Live bag (with_slot (Prepared Fsync) s m))
+op_effect P bag m ops.PrepNop = if_locked m.sq (λ s. Live bag (with_slot (Prepared Nop) s m))
+op_effect P bag m (ops.SetData64 u) = if_locked m.sq (λ s. Live (minus bag (token_bag u)) (with_slot Closed s m))
+op_effect P bag m ops.CqeSeen = if_locked m.cq (λ p. Live (plus bag (reaped P p)) (record m { cq = Some Unseen }))
 op_effect P bag m _ = Live bag m
 
 -- ---- states
@@ -248,11 +256,29 @@ goes (Live bag m) F = F bag m
 
 -- ---- locks
 
+-- which of the two are held
+pub record Locks : Type 0 where
+  pub sq : Bool
+  pub cq : Bool
+
+abbrev pub locks_of : Mode → Locks
+locks_of m = record { sq = is_some m.sq; cq = is_some m.cq }
+
+-- both, or neither
+abbrev pub both_locks : Bool → Locks
+both_locks b = record { sq = b; cq = b }
+
+abbrev pub unlocked : Mode
+unlocked = record { sq = None; cq = None }
+
+abbrev pub locked : Program → Mode
+locked P = record { sq = Some (record { queued = P.left; slot = Closed }); cq = Some Unseen }
+
 abbrev pub entered : Program → Label → Label
-entered P s = goes s (λ bag m. Live bag (Locked (record { queued = P.left; slot = Closed; peeked = Unseen })))
+entered P s = goes s (λ bag m. Live bag (locked P))
 
 abbrev pub released : Label → Label
-released s = goes s (λ bag m. Live bag Unlocked)
+released s = goes s (λ bag m. Live bag unlocked)
 
 -- ---- the pool
 
@@ -275,13 +301,9 @@ names_peeked tokens Unseen = false
 names_peeked tokens (Sees u) = list_any (λ v. nat_eq v u) tokens
 names_peeked tokens SeesOther = false
 
-abbrev pub names_peeked_in : List ℕ → Mode → Bool
-names_peeked_in tokens Unlocked = false
-names_peeked_in tokens (Locked i) = names_peeked tokens i.peeked
-
 -- The pool may have the items: neither the thread nor the request that is peeked has them, as far as they are known to.
 abbrev pub can_take : Program → (Part → ℕ) → Mode → Items → Bool
-can_take P bag m items = has_room P bag items && not (names_peeked_in items.tokens m)
+can_take P bag m items = has_room P bag items && not (names_peeked items.tokens (peeked_of m))
 
 -- Where the pool can't have them, nothing reaches the branch that takes them.
 abbrev pub take_effect : Program → (Part → ℕ) → Mode → Items → Label
@@ -289,13 +311,15 @@ take_effect P bag m items = cond (can_take P bag m items) (Live (plus bag (bag_o
 
 -- ---- tests
 
+-- where at most so many entries are queued
+abbrev pub at_most : ℕ → Mode → Mode
+at_most n m = record m { sq = option_map (λ (s : Submitting). record s { queued = min s.queued n }) m.sq }
+
 -- what is known in the first branch
 abbrev pub test_mode : Program → Test → Mode → Mode
 test_mode P (Compare x c n) m = m
-test_mode P ReadyZero Unlocked = Unlocked
-test_mode P ReadyZero (Locked i) = Locked (record i { queued = 0 })
-test_mode P (SpaceAtLeast n) Unlocked = Unlocked
-test_mode P (SpaceAtLeast n) (Locked i) = Locked (record i { queued = min i.queued (P.entries - n) })
+test_mode P ReadyZero m = at_most 0 m
+test_mode P (SpaceAtLeast n) m = at_most (P.entries - n) m
 test_mode P (Take k) m = m
 
 -- the first branch, in a thread with these lists of items
@@ -306,8 +330,7 @@ test_effect P lists bag m test = Live bag (test_mode P test m)
 -- ---- peeks
 
 abbrev pub with_peeked : Peeked → Mode → Mode
-with_peeked peeked Unlocked = Unlocked
-with_peeked peeked (Locked i) = Locked (record i { peeked = peeked })
+with_peeked peeked m = record m { cq = option_map (λ _. peeked) m.cq }
 
 abbrev pub peek_at : Peeked → Label → Label
 peek_at peeked s = goes s (λ bag m. Live bag (with_peeked peeked m))
@@ -317,12 +340,12 @@ abbrev pub case_at : ℕ → Label → Label
 case_at u s = goes s (λ bag m. cond (nat_lt 0 (bag (TokenOf u))) Dead (Live bag (with_peeked (Sees u) m)))
 
 -- Ends that are alive have their slots at one stage.
-abbrev pub agree_modes : Mode → Mode → Bool
-agree_modes (Locked i) (Locked j) = same_slot i.slot j.slot
-agree_modes _ _ = true
+abbrev pub agree_sq : Option Submitting → Option Submitting → Bool
+agree_sq (Some s) (Some t) = same_slot s.slot t.slot
+agree_sq _ _ = true
 
 abbrev pub agree : Label → Label → Bool
-agree (Live a m) (Live b n) = agree_modes m n
+agree (Live a m) (Live b n) = agree_sq m.sq n.sq
 agree _ _ = true
 
 abbrev pub agree_each : Label → List Label → Bool
@@ -339,10 +362,12 @@ joins_both ends = (premise_number causes.JoinMismatch, Is (agree_all (ends true 
 
 -- ---- loops
 
--- after the top exactly the items are held
+-- After the top exactly the items are held, and the same locks.
+abbrev pub top_sq : Program → Items → Submitting
+top_sq P items = record { queued = queue_on P items; slot = Closed }
+
 abbrev pub top_mode : Program → Items → Mode → Mode
-top_mode P items Unlocked = Unlocked
-top_mode P items (Locked i) = Locked (record { queued = queue_on P items; slot = Closed; peeked = Unseen })
+top_mode P items m = record { sq = option_map (λ _. top_sq P items) m.sq; cq = option_map (λ _. Unseen) m.cq }
 
 abbrev pub top : Program → Items → Bool → Label → Label
 top P items z s = goes s (λ bag m. Live (bag_on z items) (top_mode P items m))

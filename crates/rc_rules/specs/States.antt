@@ -1,19 +1,17 @@
 -- What the calls of `State` do.
-use Rattle.std.specs.Prelude.{ℕ, ◌≡◌, ◌≤◌, ◌+◌, ◌-◌, ◌^◌, Bool, true, false, List, [], ◌∷◌, Option, Some, None, Result, Ok, Err, cond, max, min, nat_eq, nat_le, slice_get, ◌||◌}
+use Rattle.std.specs.Prelude.{ℕ, ◌≡◌, ◌≤◌, ◌+◌, ◌-◌, ◌^◌, Bool, true, false, List, [], ◌∷◌, Option, Some, None, Result, Ok, Err, cond, max, nat_eq, nat_le, slice_get, ◌||◌}
 use Rattle.rc_lang.specs.declared.lines.Op.{Op}
 use Rattle.rc_lang.specs.declared.lines.Stmt.{Stmt}
 use Rattle.rc_lang.specs.declared.lines.Stmt.TheVariants.{Do, If, Loop, Put}
 use Rattle.rc_lang.specs.declared.lines.Test.{Test}
-use Rattle.rc_lang.specs.declared.lines.Test.TheVariants.{ReadyZero, SpaceAtLeast}
 use Rattle.rc_lang.specs.declared.program.TokenKind.{TokenKind}
 use Rattle.rc_lang.specs.declared.program.Share.{Share}
 use Rattle.rc_lang.specs.Program.{Program, Thread, Items, DeclaresToken, IsTokenKind, shares_at}
 use Rattle.rc_rules.specs.declared.cause.Cause.{Cause}
-use Rattle.rc_rules.specs.declared.mode.Inside.{Inside}
 use Rattle.rc_rules.specs.declared.mode.Mode.{Mode}
-use Rattle.rc_rules.specs.declared.mode.Mode.TheVariants.{Unlocked, Locked}
 use Rattle.rc_rules.specs.declared.mode.Peeked.{Peeked}
 use Rattle.rc_rules.specs.declared.mode.Peeked.TheVariants.{Unseen, Sees, SeesOther}
+use Rattle.rc_rules.specs.declared.mode.Submitting.{Submitting}
 use Rattle.rc_split.specs.Bags.{Part, ShareOf, TokenOf}
 use Rattle.rc_split.specs.Holdings.{Holding, bag}
 use Rattle.rc_rules.specs.declared.needs.Asks.{Asks}
@@ -21,13 +19,12 @@ use Rattle.rc_rules.specs.Causes.{premise_number}
 use Rattle.rc_rules.specs.Labellings.{start_of}
 use Rattle.rc_rules.specs.Labels.{Label, Dead, Live, IsStrongest, IsSame}
 use Rattle.rc_rules.specs.Needs.{IsMetOn, line_premises}
-use Rattle.rc_rules.specs.Rules.{agree, asked, asks, asks_both, goes, op_effect, premises_of, put_effect, stmt_needs, test_effect, top}
-pub use Rattle.rc_rules.specs.Rules.{is_locked}
+use Rattle.rc_rules.specs.Rules.{Locks, agree, asked, asks, asks_both, both_locks, goes, locks_of, op_effect, peeked_of, premises_of, put_effect, stmt_needs, test_effect, top}
 use Rattle.rc_rules.specs.declared.flag.Write.{Write}
 use Rattle.rc_rules.specs.Sides.{Sides, brings, forgets, gate, on, turns, write_of}
 use Rattle.rc_rules.specs.Premises.{Premise, Meets, FailsFirst}
 
--- One side of a state: the program, and what is held and whether the lock is, unless nothing reaches the point.
+-- One side of a state: the program, and what is held and which locks are, unless nothing reaches the point.
 pub record Side : Type 0 where
   pub program : Program
   pub live : Option (Holding × Mode)
@@ -94,8 +91,7 @@ IsFreeFor P bag (Sees u) = DeclaresToken P u × (bag (TokenOf u) ≡ 0)
 IsFreeFor P bag SeesOther = Unit {0}
 
 abbrev pub IsFreeIn : Program → (Part → ℕ) → Mode → Type 0
-IsFreeIn P bag Unlocked = Unit {0}
-IsFreeIn P bag (Locked i) = IsFreeFor P bag i.peeked
+IsFreeIn P bag m = IsFreeFor P bag (peeked_of m)
 
 abbrev pub IsFree : Program → Label → Type 0
 IsFree P Dead = Unit {0}
@@ -107,15 +103,17 @@ abbrev pub is_live : Label → Bool
 is_live Dead = false
 is_live (Live bag m) = true
 
+-- Unless the label is dead, exactly these locks are held.
+abbrev pub HasLocks : Locks → Label → Type 0
+HasLocks locks Dead = Unit {0}
+HasLocks locks (Live bag m) = locks_of m ≡ locks
+
+-- so both, and neither
 abbrev pub IsLocked : Label → Type 0
-IsLocked Dead = Unit {0}
-IsLocked (Live bag Unlocked) = ⊥
-IsLocked (Live bag (Locked i)) = Unit {0}
+IsLocked s = HasLocks (both_locks true) s
 
 abbrev pub IsUnlocked : Label → Type 0
-IsUnlocked Dead = Unit {0}
-IsUnlocked (Live bag Unlocked) = Unit {0}
-IsUnlocked (Live bag (Locked i)) = ⊥
+IsUnlocked s = HasLocks (both_locks false) s
 
 -- whether something reaches one of the sides
 abbrev pub is_reached : State → Bool
@@ -133,12 +131,10 @@ mode_of s = mode_or (mode_in s.zero.live) (mode_in s.other.live)
 abbrev pub OnBoth : (Label → Type 0) → State → Type 0
 OnBoth F s = (z : Bool) → F (label_of s z)
 
--- Unless one is dead, both are locked, or both are not.
-abbrev pub AgreeOnLock : Label → Label → Type 0
-AgreeOnLock Dead t = Unit {0}
-AgreeOnLock (Live a m) Dead = Unit {0}
-AgreeOnLock (Live a Unlocked) (Live b n) = IsUnlocked (Live b n)
-AgreeOnLock (Live a (Locked i)) (Live b n) = IsLocked (Live b n)
+-- Unless one is dead, both have the same locks.
+abbrev pub AgreeOnLocks : Label → Label → Type 0
+AgreeOnLocks Dead t = Unit {0}
+AgreeOnLocks (Live a m) t = HasLocks (locks_of m) t
 
 -- No count is above 2^19.
 abbrev pub IsSmall : Label → Type 0
@@ -214,9 +210,6 @@ MeetsOp h m op = Meets (line_premises h.program [] (bag h) m (Do op))
 abbrev pub DoesOp : Holding → Holding → Mode → Mode → Op → Type 0
 DoesOp old new m n op = IsSame (Live (bag new) n) (op_effect old.program (bag old) m op) × (new.program ≡ old.program)
 
-abbrev pub DoesInside : Holding → Holding → Inside → Inside → Op → Type 0
-DoesInside old new i j op = DoesOp old new (Locked i) (Locked j) op
-
 -- A rule of one side changes a holding, and the mode or nothing comes after it.
 abbrev pub Leaves : Holding → Holding → Option Mode → Label → Type 0
 Leaves old new m effect = IsSame (label_in (live_of new m)) effect × (new.program ≡ old.program)
@@ -230,12 +223,6 @@ Follows old new (Err cause) premises effect = FailsFirst (premise_number cause) 
 abbrev pub IsLine : Program → Option TokenKind → Type 0
 IsLine P None = Unit {0}
 IsLine P (Some kind) = IsTokenKind P kind
-
--- how many entries are queued in the first branch of a test
-abbrev pub queued_behind : Program → Test → ℕ → ℕ
-queued_behind P ReadyZero n = 0
-queued_behind P (SpaceAtLeast k) n = min n (P.entries - k)
-queued_behind P _ n = n
 
 -- With the share, and with the token, no more is held than there is.
 abbrev pub share_fits : Holding → Share → Bool
@@ -252,14 +239,20 @@ same_peeked (Sees u) (Sees v) = nat_eq u v
 same_peeked SeesOther SeesOther = true
 same_peeked _ _ = false
 
--- what is known of both modes, where their slots are at one stage
-abbrev pub both_inside : Inside → Inside → Inside
-both_inside i j = record { queued = max i.queued j.queued; slot = i.slot; peeked = cond (same_peeked i.peeked j.peeked) i.peeked Unseen }
+-- what is known under a lock in both modes, where both have it
+abbrev pub of_both : {A : Type 0} → (A → A → A) → Option A → Option A → Option A
+of_both F (Some s) (Some t) = Some (F s t)
+of_both F _ _ = None
+
+-- so of the submission side, where the slots are at one stage, and of the completion side
+abbrev pub both_submitting : Submitting → Submitting → Submitting
+both_submitting s t = record { queued = max s.queued t.queued; slot = s.slot }
+
+abbrev pub both_peeked : Peeked → Peeked → Peeked
+both_peeked s t = cond (same_peeked s t) s Unseen
 
 abbrev pub both : Mode → Mode → Mode
-both (Locked i) (Locked j) = Locked (both_inside i j)
-both Unlocked n = Unlocked
-both (Locked i) Unlocked = Locked i
+both m n = record { sq = of_both both_submitting m.sq n.sq; cq = of_both both_peeked m.cq n.cq }
 
 -- ---- a thread's first state
 
@@ -273,8 +266,8 @@ IsStart P i s = (program_of s ≡ P) × ((thread : Thread) → slice_get P.threa
 
 -- ---- what is kept
 
--- The sides are of one program. Where both are live, both are locked or both are not, and their slots are at one stage.
+-- The sides are of one program. Where both are live, they have the same locks, and their slots are at one stage.
 pub record IsState (s : State) : Type 0 where
   pub program : s.other.program ≡ s.zero.program
-  pub lock : AgreeOnLock (side_label s.zero) (side_label s.other)
+  pub lock : AgreeOnLocks (side_label s.zero) (side_label s.other)
   pub slot : agree (side_label s.zero) (side_label s.other) ≡ true

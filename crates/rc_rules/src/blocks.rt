@@ -1,13 +1,13 @@
 //! What is known of the ring in blocks, and where they join.
 
-ghost use Rattle.std.specs.Prelude.{◌≡◌, ◌∷◌, []};
+ghost use Rattle.std.specs.Prelude.{◌≡◌, ◌∷◌, [], option_map};
 ghost use Rattle.rc_lang.specs.Parts.{view_items};
 ghost use Rattle.rc_rules.specs.Premises.{Tests, Is};
 ghost use Rattle.rc_rules.specs.Rules as rules;
 ghost use Rattle.rc_rules.specs.States as states;
 
 use crate::cause::Cause;
-use crate::mode::{Inside, Mode, Peeked, Slot, same_slot};
+use crate::mode::{Mode, Peeked, Slot, Submitting, same_slot, sq_of};
 use rc_lang::lines::Test;
 use rc_lang::program::{Items, Program};
 
@@ -15,22 +15,26 @@ use rc_lang::program::{Items, Program};
 pub fn behind_test(program: &Program, test: Test, mode: Mode) -> Mode
     ensures { result ≡ rules.test_mode program.now test mode }
 {
-    match mode {
-        Mode::Unlocked => mode,
-        Mode::Locked(inside) => Mode::Locked(Inside {
-            queued: queued_behind(program, test, inside.queued),
-            ..inside
-        }),
+    match test {
+        Test::ReadyZero => at_most(0, mode),
+        Test::SpaceAtLeast(n) => at_most(program.entries().saturating_sub(n), mode),
+        _ => mode,
     }
 }
 
-fn queued_behind(program: &Program, test: Test, queued: u32) -> u32
-    ensures { result ≡ states.queued_behind program.now test queued }
+/// What is known where at most so many entries are queued.
+fn at_most(most: u32, mode: Mode) -> Mode
+    ensures { result ≡ rules.at_most most mode }
 {
-    match test {
-        Test::ReadyZero => 0,
-        Test::SpaceAtLeast(n) => queued.min(program.entries().saturating_sub(n)),
-        _ => queued,
+    Mode {
+        sq: match mode.sq {
+            Some(sq) => Some(Submitting {
+                queued: sq.queued.min(most),
+                ..sq
+            }),
+            None => None,
+        },
+        ..mode
     }
 }
 
@@ -38,9 +42,18 @@ fn queued_behind(program: &Program, test: Test, queued: u32) -> u32
 pub fn in_arm(peeked: Peeked, mode: Mode) -> Mode
     ensures { result ≡ rules.with_peeked peeked mode }
 {
-    match mode {
-        Mode::Unlocked => mode,
-        Mode::Locked(inside) => Mode::Locked(Inside { peeked, ..inside }),
+    Mode {
+        cq: seen_as(peeked, mode.cq),
+        ..mode
+    }
+}
+
+fn seen_as(peeked: Peeked, cq: Option<Peeked>) -> Option<Peeked>
+    ensures { result ≡ option_map (λ _. peeked) cq }
+{
+    match cq {
+        Some(_) => Some(peeked),
+        None => None,
     }
 }
 
@@ -55,23 +68,23 @@ pub fn queue_on(program: &Program, items: &Items) -> u32
 pub fn keeps_queue(most: u32, mode: Mode) -> bool
     ensures { result ≡ rules.keeps_queue most mode }
 {
-    match mode {
-        Mode::Unlocked => true,
-        Mode::Locked(inside) => same_slot(inside.slot, Slot::Closed) && inside.queued <= most,
-    }
+    let sq = sq_of(mode);
+    same_slot(sq.slot, Slot::Closed) && sq.queued <= most
 }
 
 /// What is known at the top of a loop.
 pub fn top_mode(program: &Program, items: &Items, mode: Mode) -> Mode
     ensures { result ≡ rules.top_mode program.now (view_items items.now) mode }
 {
-    match mode {
-        Mode::Unlocked => Mode::Unlocked,
-        Mode::Locked(_) => Mode::Locked(Inside {
-            queued: queue_on(program, items),
-            slot: Slot::Closed,
-            peeked: Peeked::Unseen,
-        }),
+    Mode {
+        sq: match mode.sq {
+            Some(_) => Some(Submitting {
+                queued: queue_on(program, items),
+                slot: Slot::Closed,
+            }),
+            None => None,
+        },
+        cq: seen_as(Peeked::Unseen, mode.cq),
     }
 }
 
@@ -82,12 +95,12 @@ pub fn same_peeked(a: Peeked, b: Peeked) -> bool
     a == b
 }
 
-/// Whether both can join: where both have the lock, their slots are at one stage.
+/// Whether both can join: where both have the lock of the submission side, their slots are at one stage.
 pub fn may_join(a: Mode, b: Mode) -> Result<(), Cause>
-    ensures { Tests result ((15, Is (rules.agree_modes a b)) ∷ []) }
+    ensures { Tests result ((15, Is (rules.agree_sq a.sq b.sq)) ∷ []) }
 {
-    match (a, b) {
-        (Mode::Locked(a), Mode::Locked(b)) => {
+    match (a.sq, b.sq) {
+        (Some(a), Some(b)) => {
             if !same_slot(a.slot, b.slot) {
                 return Err(Cause::JoinMismatch);
             }
@@ -101,15 +114,27 @@ pub fn may_join(a: Mode, b: Mode) -> Result<(), Cause>
 pub fn both(a: Mode, b: Mode) -> Mode
     ensures { result ≡ states.both a b }
 {
-    match (a, b) {
-        (Mode::Locked(a), Mode::Locked(b)) => {
-            let same = same_peeked(a.peeked, b.peeked);
-            Mode::Locked(Inside {
-                queued: a.queued.max(b.queued),
-                slot: a.slot,
-                peeked: if same { a.peeked } else { Peeked::Unseen },
-            })
-        }
-        _ => a,
+    Mode {
+        sq: both_sq(a.sq, b.sq),
+        cq: both_cq(a.cq, b.cq),
     }
+}
+
+fn both_sq(a: Option<Submitting>, b: Option<Submitting>) -> Option<Submitting>
+    ensures { result ≡ states.of_both states.both_submitting a b }
+{
+    let a = a?;
+    let b = b?;
+    Some(Submitting {
+        queued: a.queued.max(b.queued),
+        slot: a.slot,
+    })
+}
+
+fn both_cq(a: Option<Peeked>, b: Option<Peeked>) -> Option<Peeked>
+    ensures { result ≡ states.of_both states.both_peeked a b }
+{
+    let a = a?;
+    let b = b?;
+    Some(if same_peeked(a, b) { a } else { Peeked::Unseen })
 }

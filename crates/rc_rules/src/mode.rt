@@ -27,34 +27,45 @@ pub enum Peeked {
     SeesOther,
 }
 
-/// What is known of the ring while the lock is held.
+/// What is known of the submission side of the ring while its lock is held.
 #[derive(Clone, Copy)]
-pub struct Inside {
+pub struct Submitting {
     /// How many entries are queued at most, the open slot among them; 0 to the entries of the submission ring.
     pub queued: u32,
     pub slot: Slot,
-    pub peeked: Peeked,
 }
 
-/// Whether the thread holds the lock.
+/// Which locks the thread holds, and what is known of the ring under each.
 #[derive(Clone, Copy)]
-pub enum Mode {
-    Unlocked,
-    Locked(Inside),
+pub struct Mode {
+    /// The submission side, while its lock is held.
+    pub sq: Option<Submitting>,
+    /// The completion side, while its lock is held.
+    pub cq: Option<Peeked>,
 }
 
-/// What is known of the ring. Without the lock no slot is open, and nothing is queued or peeked.
-pub fn ring_of(mode: Mode) -> Inside
-    ensures { result ≡ spec.ring_of mode }
+/// No lock is held.
+pub fn unlocked() -> Mode
+    ensures { result ≡ spec.unlocked }
 {
-    match mode {
-        Mode::Locked(inside) => inside,
-        Mode::Unlocked => Inside {
-            queued: 0,
-            slot: Slot::Closed,
-            peeked: Peeked::Unseen,
-        },
-    }
+    Mode { sq: None, cq: None }
+}
+
+/// What is known of the submission side. Without its lock no slot is open, and nothing is queued.
+pub fn sq_of(mode: Mode) -> Submitting
+    ensures { result ≡ spec.sq_of mode }
+{
+    mode.sq.unwrap_or(Submitting {
+        queued: 0,
+        slot: Slot::Closed,
+    })
+}
+
+/// What is known of the front completion. Without the lock of its side it isn't peeked.
+pub fn peeked_of(mode: Mode) -> Peeked
+    ensures { result ≡ spec.peeked_of mode }
+{
+    mode.cq.unwrap_or(Peeked::Unseen)
 }
 
 /// The same stage, with the same kind of request.

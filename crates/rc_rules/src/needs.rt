@@ -10,7 +10,7 @@ ghost use Rattle.rc_split.specs.Holdings.{bag};
 
 use crate::blocks::{keeps_queue, queue_on};
 use crate::cause::Cause;
-use crate::mode::{Mode, Slot, has_kind, is_prepared_as, is_seen, ring_of, same_slot};
+use crate::mode::{Mode, Slot, has_kind, is_prepared_as, is_seen, peeked_of, same_slot, sq_of};
 use rc_lang::lines::{Op, Stmt, Test};
 use rc_lang::program::{Items, Program, TokenKind};
 use rc_split::holding::Holding;
@@ -19,8 +19,10 @@ use rc_split::part::Part;
 /// What a line needs: what a premise of it is about.
 #[derive(Clone, Copy)]
 pub enum Asks {
-    /// The lock.
-    Lock,
+    /// The lock of the submission side.
+    SqLock,
+    /// The lock of the completion side.
+    CqLock,
     /// A part of what is held.
     Part(Part),
     /// All shares of the buffer with this number.
@@ -66,7 +68,9 @@ pub type Need = (Cause, Asks);
 /// What a line needs, in the order of the numbers of the causes. Nothing comes after a None.
 pub type Needs = [Option<Need>; 4];
 
-const LOCK: Need = (Cause::Unlocked, Asks::Lock);
+const SQ_LOCK: Need = (Cause::Unlocked, Asks::SqLock);
+
+const CQ_LOCK: Need = (Cause::Unlocked, Asks::CqLock);
 
 const CLOSED: Need = (Cause::SlotOpen, Asks::Closed);
 
@@ -84,6 +88,12 @@ fn two(a: Need, b: Need) -> Needs
     [Some(a), Some(b), None, None]
 }
 
+fn three(a: Need, b: Need, c: Need) -> Needs
+    ensures { listed result ≡ a ∷ b ∷ c ∷ [] }
+{
+    [Some(a), Some(b), Some(c), None]
+}
+
 /// What a statement without a block needs.
 fn op_needs(op: Op) -> Needs
     ensures { listed result ≡ rules.op_needs op }
@@ -99,39 +109,39 @@ fn op_needs(op: Op) -> Needs
         ),
         Op::Fill(buffer, _) => one((Cause::NotWhole, Asks::Whole(buffer))),
         Op::GetSqe => [
-            Some(LOCK),
+            Some(SQ_LOCK),
             Some((Cause::NoCredit, Asks::Part(Part::Credits(1)))),
             Some((Cause::QueueFull, Asks::Room)),
             Some(CLOSED),
         ],
         Op::PrepRead(_, buffer, len, _) => [
-            Some(LOCK),
+            Some(SQ_LOCK),
             Some(VACANT),
             Some((Cause::NotWhole, Asks::Whole(buffer))),
             Some((Cause::OutOfBuffer, Asks::Length(buffer, len))),
         ],
         Op::PrepWrite(_, buffer, len, _, count) => [
-            Some(LOCK),
+            Some(SQ_LOCK),
             Some(VACANT),
             Some((Cause::NoShare, Asks::Part(Part::Shares(buffer, count)))),
             Some((Cause::OutOfBuffer, Asks::Length(buffer, len))),
         ],
-        Op::PrepFsync(_, _) => two(LOCK, VACANT),
-        Op::PrepNop => two(LOCK, VACANT),
+        Op::PrepFsync(_, _) => two(SQ_LOCK, VACANT),
+        Op::PrepNop => two(SQ_LOCK, VACANT),
         Op::SetData64(user_data) => [
-            Some(LOCK),
+            Some(SQ_LOCK),
             Some((Cause::NoSlot, Asks::Prepared)),
             Some((Cause::WrongKind, Asks::Line(user_data))),
             Some((Cause::NoToken, Asks::Part(Part::Token(user_data)))),
         ],
-        Op::Submit(_) => two(LOCK, CLOSED),
-        Op::SubmitAndWait(_, _) => two(LOCK, CLOSED),
-        Op::CqeSeen => two(LOCK, (Cause::NoEntry, Asks::Peeked)),
+        Op::Submit(_) => two(SQ_LOCK, CLOSED),
+        Op::SubmitAndWait(_, _) => two(SQ_LOCK, CLOSED),
+        Op::CqeSeen => two(CQ_LOCK, (Cause::NoEntry, Asks::Peeked)),
         _ => [None; 4],
     }
 }
 
-/// What is needed where the lock is released, or where a loop is left with it or without one.
+/// What is needed where the locks are released, or where a loop is left with them or without.
 fn leave_needs(releases: bool) -> Needs
     ensures { listed result ≡ rules.leave_needs releases }
 {
@@ -147,7 +157,9 @@ fn test_needs(test: Test) -> Needs
 {
     match test {
         Test::Compare(_, _, _) => [None; 4],
-        _ => one(LOCK),
+        Test::ReadyZero => one(SQ_LOCK),
+        Test::SpaceAtLeast(_) => one(SQ_LOCK),
+        Test::Take(_) => two(SQ_LOCK, CQ_LOCK),
     }
 }
 
@@ -157,11 +169,11 @@ pub fn needs_of(stmt: Stmt) -> Needs
 {
     match stmt {
         Stmt::Do(op) => op_needs(op),
-        Stmt::Put(k) => two(LOCK, (Cause::NotHeld, Asks::Items(k))),
+        Stmt::Put(k) => three(SQ_LOCK, CQ_LOCK, (Cause::NotHeld, Asks::Items(k))),
         Stmt::EndLock(_) => leave_needs(true),
         Stmt::If(test) => test_needs(test),
         Stmt::EndIf(_) => one((Cause::JoinMismatch, Asks::Agreeing)),
-        Stmt::Peek(_) => one(LOCK),
+        Stmt::Peek(_) => one(CQ_LOCK),
         Stmt::EndPeek(_) => one((Cause::JoinMismatch, Asks::Agreeing)),
         Stmt::Loop(k) => one((Cause::LoopEntry, Asks::Loop(k))),
         Stmt::EndLoop(_, k) => one((Cause::LoopBody, Asks::Loop(k))),
@@ -183,7 +195,7 @@ pub fn checked(
     all_met(holding, lists, zero, mode, &needs_of(stmt))
 }
 
-/// The numbers of the causes rise, so that the first need that isn't met has the least.
+/// The numbers of the causes never fall, so that the first need that isn't met has the least.
 fn all_met(
     holding: &Holding,
     lists: &[Items],
@@ -191,7 +203,7 @@ fn all_met(
     mode: Mode,
     needs: &[Option<Need>],
 ) -> Result<(), Cause>
-    requires { (v : ℕ) × spec.AreRising v (listed needs.now) }
+    requires { (v : ℕ) × spec.AreOrdered v (listed needs.now) }
     ensures { spec.Checks holding.now (map view_items lists.now) zero mode (listed needs.now) result }
 {
     let [first, rest @ ..] = needs else {
@@ -212,9 +224,10 @@ pub fn is_met(holding: &Holding, lists: &[Items], zero: bool, mode: Mode, asks: 
     ensures { IsTrue result ↔ spec.IsMetBy holding.now (map view_items lists.now) zero mode asks }
 {
     let program = holding.program();
-    let ring = ring_of(mode);
+    let sq = sq_of(mode);
     match asks {
-        Asks::Lock => is_locked(mode),
+        Asks::SqLock => mode.sq.is_some(),
+        Asks::CqLock => mode.cq.is_some(),
         Asks::Part(part) => holding.holds(part),
         Asks::Whole(buffer) => is_whole(holding, buffer),
         Asks::Items(list) => match lists.get(list) {
@@ -227,25 +240,16 @@ pub fn is_met(holding: &Holding, lists: &[Items], zero: bool, mode: Mode, asks: 
             }
             None => keeps_queue(program.entries(), mode),
         },
-        Asks::Room => ring.queued < program.entries(),
-        Asks::Closed => same_slot(ring.slot, Slot::Closed),
-        Asks::Vacant => same_slot(ring.slot, Slot::Vacant),
-        Asks::Prepared => has_kind(ring.slot),
-        Asks::Line(user_data) => is_prepared_as(kind_of(program, user_data), ring.slot),
+        Asks::Room => sq.queued < program.entries(),
+        Asks::Closed => same_slot(sq.slot, Slot::Closed),
+        Asks::Vacant => same_slot(sq.slot, Slot::Vacant),
+        Asks::Prepared => has_kind(sq.slot),
+        Asks::Line(user_data) => is_prepared_as(kind_of(program, user_data), sq.slot),
         Asks::Place(buffer, place) => place < program.bytes_at(buffer),
         Asks::Length(buffer, len) => len <= program.bytes_at(buffer),
-        Asks::Peeked => is_seen(ring.peeked),
-        Asks::Left => ring.queued <= program.left(),
+        Asks::Peeked => is_seen(peeked_of(mode)),
+        Asks::Left => sq.queued <= program.left(),
         Asks::Agreeing => true,
-    }
-}
-
-fn is_locked(mode: Mode) -> bool
-    ensures { result ≡ rules.is_locked mode }
-{
-    match mode {
-        Mode::Locked(_) => true,
-        Mode::Unlocked => false,
     }
 }
 

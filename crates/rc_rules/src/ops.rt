@@ -1,18 +1,16 @@
 //! The rules of statements without a block, on a holding and a mode.
 
-ghost use Rattle.std.specs.Prelude.{◌≡◌, ◌≤◌, ◌^◌, true};
+ghost use Rattle.std.specs.Prelude.{◌≡◌, ◌≤◌, ◌<◌, ◌+◌, ◌^◌, Some, true};
 ghost use Rattle.rc_lang.specs.Program.{IsProgram, IsTokenKind};
 ghost use Rattle.rc_rules.specs.OneRule.{only_computes};
 ghost use Rattle.rc_rules.specs.Rules as rules;
 ghost use Rattle.rc_rules.specs.States as states;
 ghost use Rattle.rc_split.specs.Bags as bags;
 ghost use Rattle.rc_split.specs.Holdings.{Gains, Loses, bag};
-ghost use Rattle.rc_rules.specs.declared.mode.Mode.TheVariants as modes;
 ghost use Rattle.rc_rules.specs.declared.mode.Peeked.TheVariants as peeks;
 ghost use Rattle.rc_rules.specs.declared.mode.Slot.TheVariants as slots;
-ghost use Rattle.rc_lang.specs.declared.lines.Op.TheVariants as ops;
 
-use crate::mode::{Inside, Mode, Peeked, Slot};
+use crate::mode::{Mode, Peeked, Slot, Submitting, peeked_of, sq_of};
 use crate::needs::kind_of;
 use rc_lang::lines::Op;
 use rc_lang::program::TokenKind;
@@ -33,58 +31,63 @@ pub fn only_computes(op: &Op) -> bool
     }
 }
 
-/// What is known after a statement whose premises hold. Without the lock nothing changes.
+/// What is known after a statement whose premises hold.
 pub fn after(holding: &mut Holding, mode: Mode, op: &Op) -> Mode
     requires met { states.MeetsOp holding.old mode op.now }
     requires small { (p : bags.Part) → bag holding.old p ≤ 2 ^ 19 }
     requires free { states.IsFreeIn holding.old.program (bag holding.old) mode }
     ensures { states.DoesOp holding.old holding.new mode result op.now }
 {
-    match mode {
-        Mode::Locked(inside) => Mode::Locked(after_inside(holding, inside, op)),
-        Mode::Unlocked => mode,
-    }
-}
-
-fn after_inside(holding: &mut Holding, inside: Inside, op: &Op) -> Inside
-    requires met { states.MeetsOp holding.old (modes.Locked inside) op.now }
-    requires small { (p : bags.Part) → bag holding.old p ≤ 2 ^ 19 }
-    requires free { states.IsFreeFor holding.old.program (bag holding.old) inside.peeked }
-    ensures { states.DoesInside holding.old holding.new inside result op.now }
-{
     match *op {
-        Op::GetSqe => opened(holding, inside),
-        Op::PrepRead(_, buffer, _, _) => prepared(holding, inside, TokenKind::Read(buffer)),
+        Op::GetSqe => opened(holding, mode),
+        Op::PrepRead(_, buffer, _, _) => prepared(holding, mode, TokenKind::Read(buffer)),
         Op::PrepWrite(_, buffer, _, _, count) => {
-            prepared(holding, inside, TokenKind::Write(buffer, count))
+            prepared(holding, mode, TokenKind::Write(buffer, count))
         }
-        Op::PrepFsync(_, _) => prepared(holding, inside, TokenKind::Fsync),
-        Op::PrepNop => prepared(holding, inside, TokenKind::Nop),
-        Op::SetData64(user_data) => queued(holding, inside, user_data),
-        Op::CqeSeen => seen(holding, inside),
-        _ => inside,
+        Op::PrepFsync(_, _) => prepared(holding, mode, TokenKind::Fsync),
+        Op::PrepNop => prepared(holding, mode, TokenKind::Nop),
+        Op::SetData64(user_data) => queued(holding, mode, user_data),
+        Op::CqeSeen => seen(holding, mode),
+        _ => mode,
     }
 }
 
 /// `io_uring_get_sqe(3)`: a credit goes to the open slot, which counts as a queued entry.
-fn opened(holding: &mut Holding, inside: Inside) -> Inside
-    requires met { states.MeetsOp holding.old (modes.Locked inside) ops.GetSqe }
-    ensures { states.DoesInside holding.old holding.new inside result ops.GetSqe }
+fn opened(holding: &mut Holding, mode: Mode) -> Mode
+    requires held { 1 ≤ bag holding.old bags.Credit }
+    requires room { (rules.sq_of mode).queued < holding.old.program.entries }
+    ensures ring { result ≡ record mode { sq = Some (record { queued = (rules.sq_of mode).queued + 1; slot = slots.Vacant }) } }
+    ensures lost { Loses holding.old holding.new (bags.credits_bag 1) }
 {
     // The queue has room below this number, so that the sum fits.
     let _ = holding.program().entries();
     let _ = holding.take(Part::Credits(1));
-    Inside {
-        queued: inside.queued + 1,
-        slot: Slot::Vacant,
-        ..inside
+    Mode {
+        sq: Some(Submitting {
+            queued: sq_of(mode).queued + 1,
+            slot: Slot::Vacant,
+        }),
+        ..mode
+    }
+}
+
+/// With the slot at another stage.
+fn with_slot(slot: Slot, mode: Mode) -> Mode
+    ensures { result ≡ rules.with_slot slot (rules.sq_of mode) mode }
+{
+    Mode {
+        sq: Some(Submitting {
+            slot,
+            ..sq_of(mode)
+        }),
+        ..mode
     }
 }
 
 /// A prep (`io_uring_prep_read(3)`): the shares that its request takes go to the open slot.
-fn prepared(holding: &mut Holding, inside: Inside, kind: TokenKind) -> Inside
+fn prepared(holding: &mut Holding, mode: Mode, kind: TokenKind) -> Mode
     requires held { bags.IsWithin (rules.kind_bag holding.old.program kind) (bag holding.old) }
-    ensures slot { result ≡ record inside { slot = slots.Prepared kind } }
+    ensures slot { result ≡ rules.with_slot (slots.Prepared kind) (rules.sq_of mode) mode }
     ensures lost { Loses holding.old holding.new (rules.kind_bag holding.old.program kind) }
 {
     match kind {
@@ -98,36 +101,30 @@ fn prepared(holding: &mut Holding, inside: Inside, kind: TokenKind) -> Inside
         TokenKind::Fsync => {}
         TokenKind::Nop => {}
     }
-    Inside {
-        slot: Slot::Prepared(kind),
-        ..inside
-    }
+    with_slot(Slot::Prepared(kind), mode)
 }
 
 /// `io_uring_sqe_set_data64(3)`: the token goes to the request, which is queued.
-fn queued(holding: &mut Holding, inside: Inside, user_data: u64) -> Inside
+fn queued(holding: &mut Holding, mode: Mode, user_data: u64) -> Mode
     requires held { 1 ≤ bag holding.old (bags.TokenOf user_data) }
-    ensures slot { result ≡ record inside { slot = slots.Closed } }
+    ensures slot { result ≡ rules.with_slot slots.Closed (rules.sq_of mode) mode }
     ensures lost { Loses holding.old holding.new (bags.token_bag user_data) }
 {
     let _ = holding.take(Part::Token(user_data));
-    Inside {
-        slot: Slot::Closed,
-        ..inside
-    }
+    with_slot(Slot::Closed, mode)
 }
 
 /// `io_uring_cqe_seen(3)`: what the reaped request owned comes back, as far as it is known which one it was.
-fn seen(holding: &mut Holding, inside: Inside) -> Inside
+fn seen(holding: &mut Holding, mode: Mode) -> Mode
     requires small { (p : bags.Part) → bag holding.old p ≤ 2 ^ 19 }
-    requires free { states.IsFreeFor holding.old.program (bag holding.old) inside.peeked }
-    ensures ring { result ≡ record inside { peeked = peeks.Unseen } }
-    ensures gained { Gains holding.old holding.new (rules.reaped holding.old.program inside.peeked) }
+    requires free { states.IsFreeIn holding.old.program (bag holding.old) mode }
+    ensures ring { result ≡ record mode { cq = Some peeks.Unseen } }
+    ensures gained { Gains holding.old holding.new (rules.reaped holding.old.program (rules.peeked_of mode)) }
 {
-    reap(holding, inside.peeked);
-    Inside {
-        peeked: Peeked::Unseen,
-        ..inside
+    reap(holding, peeked_of(mode));
+    Mode {
+        cq: Some(Peeked::Unseen),
+        ..mode
     }
 }
 

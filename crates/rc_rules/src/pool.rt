@@ -9,7 +9,7 @@ ghost use Rattle.rc_rules.specs.States as states;
 ghost use Rattle.rc_split.specs.Bags as bags;
 ghost use Rattle.rc_split.specs.Holdings.{bag};
 
-use crate::mode::{Mode, Peeked};
+use crate::mode::{Mode, Peeked, peeked_of};
 use rc_lang::program::{Items, Share};
 use rc_split::holding::Holding;
 use rc_split::part::Part;
@@ -36,7 +36,7 @@ fn can_take(holding: &Holding, mode: Mode, items: &Items) -> bool
 {
     // Any of a program's readers says that it was made, and so how many of each part there are at most.
     let _ = holding.program();
-    has_room(holding, items) && !names_peeked_in(&items.tokens, mode)
+    has_room(holding, items) && !names_peeked(&items.tokens, peeked_of(mode))
 }
 
 /// Whether with the items no more is held of each part than there is.
@@ -91,15 +91,6 @@ fn credits_fit(holding: &Holding, credits: u32) -> bool
     }
     let most = entries - credits;
     !holding.holds(Part::Credits(most + 1))
-}
-
-fn names_peeked_in(tokens: &[u64], mode: Mode) -> bool
-    ensures { result ≡ rules.names_peeked_in tokens.now mode }
-{
-    match mode {
-        Mode::Unlocked => false,
-        Mode::Locked(inside) => names_peeked(tokens, inside.peeked),
-    }
 }
 
 fn names_peeked(tokens: &[u64], peeked: Peeked) -> bool

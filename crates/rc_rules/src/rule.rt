@@ -5,17 +5,17 @@ ghost use Rattle.rc_lang.specs.Parts.{view_items};
 ghost use Rattle.rc_rules.specs.Labels.{Live};
 ghost use Rattle.rc_rules.specs.OneRule as rules;
 ghost use Rattle.rc_rules.specs.Premises.{Meets};
-ghost use Rattle.rc_rules.specs.Rules.{case_at};
+ghost use Rattle.rc_rules.specs.Rules.{case_at, locked};
 ghost use Rattle.rc_rules.specs.States as states;
 ghost use Rattle.rc_split.specs.Holdings.{bag};
 
 use crate::blocks::{behind_test, in_arm};
 use crate::cause::Cause;
-use crate::mode::{Inside, Mode, Peeked, Slot};
+use crate::mode::{Mode, Peeked, Slot, Submitting, unlocked};
 use crate::needs::checked;
 use crate::{ops, pool};
 use rc_lang::lines::{Op, Stmt, Test};
-use rc_lang::program::Items;
+use rc_lang::program::{Items, Program};
 use rc_split::holding::Holding;
 use rc_split::part::Part;
 use std::slice;
@@ -91,17 +91,26 @@ fn after(holding: &mut Holding, mode: Mode, rule: Rule) -> Option<Mode>
             holding.lose(items);
             Some(mode)
         }
-        Rule::Lock => Some(Mode::Locked(Inside {
-            queued: holding.program().left(),
-            slot: Slot::Closed,
-            peeked: Peeked::Unseen,
-        })),
-        Rule::Release => Some(Mode::Unlocked),
+        Rule::Lock => Some(locked(holding.program())),
+        Rule::Release => Some(unlocked()),
         Rule::If(test) => Some(behind_test(holding.program(), test, mode)),
         Rule::Take(items) => pool::take(holding, mode, items),
         Rule::Case(user_data) => in_case(holding, mode, user_data),
         Rule::Other => Some(in_arm(Peeked::SeesOther, mode)),
         Rule::Nothing => Some(in_arm(Peeked::Unseen, mode)),
+    }
+}
+
+/// Behind `lock {` both locks are held, and as many entries may be queued as may be left.
+fn locked(program: &Program) -> Mode
+    ensures { result ≡ locked program.now }
+{
+    Mode {
+        sq: Some(Submitting {
+            queued: program.left(),
+            slot: Slot::Closed,
+        }),
+        cq: Some(Peeked::Unseen),
     }
 }
 

@@ -9,13 +9,12 @@ ghost use Rattle.rc_rules.specs.Premises.{Tests};
 ghost use Rattle.rc_rules.specs.Readers.{has_part};
 ghost use Rattle.rc_rules.specs.Rules as rules;
 ghost use Rattle.rc_rules.specs.States as spec;
-ghost use Rattle.rc_rules.specs.declared.mode.Mode.TheVariants as modes;
 ghost use Rattle.rc_rules.specs.declared.mode.Peeked.TheVariants as peeks;
 ghost use Rattle.rc_split.specs.Bags.{Credit, ShareOf, TokenOf, bag_on, bag_of};
 
-use crate::blocks;
+use crate::blocks::{self, in_arm};
 use crate::cause::Cause;
-use crate::mode::{Mode, Peeked};
+use crate::mode::{Mode, Peeked, unlocked};
 use crate::needs::{Asks, checked, is_met};
 use crate::rule::{Rule, follow};
 use rc_lang::lines::Stmt;
@@ -24,7 +23,7 @@ use rc_split::holding::Holding;
 use rc_split::part::Part;
 use std::marker::Model;
 
-/// What a thread holds, whether it has the lock, and then how many entries are queued at most, how far the open slot is
+/// What a thread holds, which locks it has, and by those how many entries are queued at most, how far the open slot is
 /// and what is peeked. Or the side is dead: nothing reaches it. What a dead side's rows say means nothing.
 #[derive(Drop)]
 pub struct Side<'a> {
@@ -53,17 +52,17 @@ impl<'a> Side<'a> {
         }
     }
 
-    /// A thread begins with these items, without the lock.
+    /// A thread begins with these items, without a lock.
     pub fn first(program: &'a Program, items: &Items) -> Side<'a>
         requires { IsItems program.now (view_items items.now) }
-        ensures label { IsSame (spec.side_label result) (Live (bag_of (view_items items.now)) modes.Unlocked) }
+        ensures label { IsSame (spec.side_label result) (Live (bag_of (view_items items.now)) rules.unlocked) }
         ensures of { result.program ≡ program.now }
     {
         let mut holding = Holding::nothing(program);
         holding.hold(items);
         Side {
             holding,
-            mode: Some(Mode::Unlocked),
+            mode: Some(unlocked()),
         }
     }
 
@@ -205,8 +204,8 @@ impl<'a> Side<'a> {
         ensures label { IsSame (spec.side_label self.new) (rules.peek_at peeks.Unseen (spec.side_label self.old)) }
         ensures of { self.new.program ≡ self.old.program }
     {
-        if let Some(Mode::Locked(inside)) = &mut self.mode {
-            inside.peeked = Peeked::Unseen;
+        if let Some(mode) = self.mode {
+            self.mode = Some(in_arm(Peeked::Unseen, mode));
         }
     }
 
@@ -231,11 +230,11 @@ impl<'a> Side<'a> {
         }
     }
 
-    /// What holds where this side and another join, both of one program. Unless one is dead, both are locked with their
-    /// slots at one stage, or both are not.
+    /// What holds where this side and another join, both of one program. Unless one is dead, both have the same locks,
+    /// and their slots are at one stage.
     pub fn meet(&mut self, other: &Side<'a>)
         requires of { other.now.program ≡ self.old.program }
-        requires lock { spec.AgreeOnLock (spec.side_label self.old) (spec.side_label other.now) }
+        requires lock { spec.AgreeOnLocks (spec.side_label self.old) (spec.side_label other.now) }
         requires slot { rules.agree (spec.side_label self.old) (spec.side_label other.now) ≡ true }
         ensures strongest { IsStrongest (spec.side_label self.new) (spec.side_label self.old ∷ spec.side_label other.now ∷ []) }
         ensures of { self.new.program ≡ self.old.program }

@@ -28,7 +28,7 @@ use rc_lang::program::{Items, Program};
 use std::alloc::{AllocError, Global};
 use std::marker::Model;
 
-/// What a thread holds at a point, whether it has the lock, and then how many entries are queued at most, how far the
+/// What a thread holds at a point, which locks it has, and by those how many entries are queued at most, how far the
 /// open slot is and what is peeked: while its flag is 0, and while it isn't. Or a side is dead: nothing reaches the
 /// point with such a flag. Without a flag the second side is dead.
 #[derive(Drop)]
@@ -72,7 +72,7 @@ fn header(program: &Program, thread: u32) -> &Items
 }
 
 impl<'a> State<'a> {
-    /// The state of a thread's header: its items, without the lock. This takes no memory and always answers Ok.
+    /// The state of a thread's header: its items, without a lock. This takes no memory and always answers Ok.
     pub fn start(_alloc: Global, program: &'a Program, thread: u32) -> Result<State<'a>, AllocError>
         requires { thread < length program.now.threads }
         ensures { IsOkAnd result (λ s. spec.IsStart program.now thread s) }
@@ -172,7 +172,7 @@ impl<'a> State<'a> {
         self.zero.is_live() || self.other.is_live()
     }
 
-    /// What is known of the ring on a side that something reaches. On both it is known alike whether the lock is held
+    /// What is known of the ring on a side that something reaches. On both it is known alike which locks are held
     /// and at which stage the slot is.
     fn mode(&self) -> Option<Mode>
         ensures value { result ≡ spec.mode_of self.now }
@@ -277,7 +277,7 @@ impl<'a> State<'a> {
         }
     }
 
-    /// `lock {`: as many entries may be queued as may be left. The state is dead, or unlocked.
+    /// `lock {`: both locks are held, and as many entries may be queued as may be left. The state is dead, or has none.
     pub fn enter_lock(&mut self) -> Result<(), Cause>
         requires { spec.OnBoth spec.IsUnlocked self.old }
         ensures { spec.Gives self.old self.new result [] (λ z. rules.entered (spec.program_of self.old) (spec.label_of self.old z) ∷ []) }
@@ -285,7 +285,7 @@ impl<'a> State<'a> {
         self.follow(Rule::Lock)
     }
 
-    /// The closing brace of a lock. The state is dead, or locked.
+    /// The closing brace of a lock. The state is dead, or has both locks.
     pub fn release(&mut self) -> Result<(), Cause>
         requires { spec.OnBoth spec.IsLocked self.old }
         ensures { spec.GoesOver self.old self.new result [] (stmts.EndLock 0) rules.released }
@@ -318,7 +318,7 @@ impl<'a> State<'a> {
         self.follow(Rule::Other)
     }
 
-    /// After an arm, and after a break that keeps the lock, nothing is peeked.
+    /// After an arm, and after a break that keeps the locks, nothing is peeked.
     pub fn forget_peeked(&mut self)
         ensures { spec.BecomesEach self.old self.new (rules.peek_at peeks.Unseen) }
     {
@@ -358,10 +358,10 @@ impl<'a> State<'a> {
     }
 
     /// The state where this one and another join, both of one program and one thread: side by side, where the slots of
-    /// all sides that something reaches are at one stage. All of those are locked, or none is.
+    /// all sides that something reaches are at one stage. All of those have the same locks.
     pub fn meet(&mut self, other: &State<'a>) -> Result<(), Cause>
         requires of { spec.IsOfSame other.now self.old }
-        requires alike { (y z : Bool) → spec.AgreeOnLock (spec.label_of self.old y) (spec.label_of other.now z) }
+        requires alike { (y z : Bool) → spec.AgreeOnLocks (spec.label_of self.old y) (spec.label_of other.now z) }
         ensures { spec.Gives self.old self.new result (rules.joins_both (λ z. spec.label_of self.old z ∷ spec.label_of other.now z ∷ [])) (λ z. spec.label_of self.old z ∷ spec.label_of other.now z ∷ []) }
     {
         self.may_meet(other)?;

@@ -1,30 +1,38 @@
 -- Ends that agree on the slot, of both sides, and one more of each.
-use Rattle.std.proofs.Common.{◌≡◌, Bool, true, false, List, [], ◌∷◌, ◌++◌, refl, sym, subst, ◌∙◌}
+use Rattle.std.proofs.Common.{◌≡◌, Bool, true, false, List, [], ◌∷◌, ◌++◌, Option, Some, None, refl, sym, subst, ◌∙◌}
+use Rattle.std.specs.Prelude.{unwrap_or}
 use Rattle.std.proofs.lemmas.Bool.{and_from, and_parts}
-use Rattle.rc_rules.specs.declared.mode.Mode.TheVariants.{Unlocked, Locked}
 use Rattle.rc_rules.specs.declared.mode.Slot.{Slot}
 use Rattle.rc_rules.specs.declared.mode.Slot.TheVariants.{Closed}
-use Rattle.rc_rules.specs.Labels.{Label, Dead, Live, Weaker, WeakerThanEach, IsStrongest}
-use Rattle.rc_rules.specs.Rules.{agree, agree_all, agree_each, same_slot}
+use Rattle.rc_rules.specs.declared.mode.Submitting.{Submitting}
+use Rattle.rc_rules.specs.Labels.{Label, Dead, Live, UnderLock, Weaker, WeakerSubmitting, WeakerThanEach, IsStrongest}
+use Rattle.rc_rules.specs.Rules.{agree, agree_all, agree_each, agree_sq, same_slot}
 use Rattle.rc_rules.proofs.Alike.{slot_refl}
 use Rattle.rc_rules.proofs.Weaker.{same_slot_is}
 use Rattle.rc_verify.specs.Walk.{IsClosed}
 use Rattle.rc_verify.proofs.Fit.{AreAll, kept_by}
 
 -- In a lock the slot is at this stage.
+abbrev HasSlot : Slot → Option Submitting → Type 0
+HasSlot k None = Unit {0}
+HasSlot k (Some s) = s.slot ≡ k
+
 abbrev pub IsAtSlot : Slot → Label → Type 0
 IsAtSlot k Dead = Unit {0}
-IsAtSlot k (Live a Unlocked) = Unit {0}
-IsAtSlot k (Live a (Locked i)) = i.slot ≡ k
+IsAtSlot k (Live a m) = HasSlot k m.sq
 
 -- ---- ends agree exactly where their slots are at one stage
+
+own_slots : (k : Slot) (o p : Option Submitting) → HasSlot k o → HasSlot k p → agree_sq o p ≡ true
+own_slots k None None h g = refl
+own_slots k None (Some t) h g = refl
+own_slots k (Some s) None h g = refl
+own_slots k (Some s) (Some t) h g = subst (λ x. same_slot s.slot x ≡ true) (h ∙ sym g) (slot_refl s.slot)
 
 at_own : (k : Slot) (s t : Label) → IsAtSlot k s → IsAtSlot k t → agree s t ≡ true
 at_own k Dead t h g = refl
 at_own k (Live b m) Dead h g = refl
-at_own k (Live b Unlocked) (Live c n) h g = refl
-at_own k (Live b (Locked i)) (Live c Unlocked) h g = refl
-at_own k (Live b (Locked i)) (Live c (Locked j)) h g = subst (λ x. same_slot i.slot x ≡ true) (h ∙ sym g) (slot_refl i.slot)
+at_own k (Live b m) (Live c n) h g = own_slots k m.sq n.sq h g
 
 at_each : (k : Slot) (s : Label) (ts : List Label) → IsAtSlot k s → AreAll (IsAtSlot k) ts → agree_each s ts ≡ true
 at_each k s [] h g = refl
@@ -42,16 +50,26 @@ with_first : (a : Label) (i : Slot) (ts : List Label) → ((t : Label) → agree
 with_first a i [] f e = tt
 with_first a i (t ∷ ts) f e = let h = and_parts (agree a t) (agree_each a ts) e in (f t h.0, with_first a i ts f h.1)
 
+with_slot : (s : Submitting) (o p : Option Submitting) → o ≡ Some s → agree_sq o p ≡ true → HasSlot s.slot p
+with_slot s o None q e = tt
+with_slot s o (Some t) q e = let h : agree_sq (Some s) (Some t) ≡ true = subst (λ x. agree_sq x (Some t) ≡ true) q e in sym (same_slot_is s.slot t.slot h)
+
+-- the first of the ends, and the others
+one_more : (a : Label) (ts : List Label) → agree_each a ts ≡ true → AtOne ts → AtOne (a ∷ ts)
+one_more Dead ts e r = (r.0, (tt, r.1))
+one_more (Live a m) ts e r = go m.sq refl
+  where
+    go : (o : Option Submitting) → m.sq ≡ o → AtOne (Live a m ∷ ts)
+    go None q = (r.0, (subst (HasSlot r.0) (sym q) tt, r.1))
+    go (Some s) q = (s.slot, (subst (HasSlot s.slot) (sym q) refl, with_first (Live a m) s.slot ts same e))
+      where
+        same : (t : Label) → agree (Live a m) t ≡ true → IsAtSlot s.slot t
+        same Dead e = tt
+        same (Live b n) e = with_slot s m.sq n.sq q e
+
 pub one_slot : (ts : List Label) → agree_all ts ≡ true → AtOne ts
 one_slot [] e = (Closed, tt)
-one_slot (Dead ∷ ts) e = let r = one_slot ts (and_parts (agree_each Dead ts) (agree_all ts) e).1 in (r.0, (tt, r.1))
-one_slot (Live a Unlocked ∷ ts) e = let r = one_slot ts (and_parts (agree_each (Live a Unlocked) ts) (agree_all ts) e).1 in (r.0, (tt, r.1))
-one_slot (Live a (Locked i) ∷ ts) e = (i.slot, (refl, with_first (Live a (Locked i)) i.slot ts same (and_parts (agree_each (Live a (Locked i)) ts) (agree_all ts) e).0))
-  where
-    same : (t : Label) → agree (Live a (Locked i)) t ≡ true → IsAtSlot i.slot t
-    same Dead e = tt
-    same (Live b Unlocked) e = tt
-    same (Live b (Locked j)) e = sym (same_slot_is i.slot j.slot e)
+one_slot (t ∷ ts) e = let h = and_parts (agree_each t ts) (agree_all ts) e in one_more t ts h.0 (one_slot ts h.1)
 
 -- ---- lists of ends
 
@@ -69,19 +87,26 @@ all_both k (x ∷ xs) ys h g = (h.0, all_both k xs ys h.1 g)
 
 -- ---- a meet is at the slot of its ends
 
+slot_down : (k : Slot) (o p : Option Submitting) → UnderLock WeakerSubmitting o p → HasSlot k o → HasSlot k p
+slot_down k None None w h = tt
+slot_down k None (Some t) w h = absurd w
+slot_down k (Some s) None w h = tt
+slot_down k (Some s) (Some t) w h = sym w.slot ∙ h
+
+slot_up : (k : Slot) (o p : Option Submitting) → UnderLock WeakerSubmitting o p → HasSlot k p → HasSlot k o
+slot_up k None p w h = tt
+slot_up k (Some s) None w h = absurd w
+slot_up k (Some s) (Some t) w h = w.slot ∙ h
+
 down : (k : Slot) (s t : Label) → Weaker s t → IsAtSlot k s → IsAtSlot k t
 down k s Dead w h = tt
 down k Dead (Live b n) w h = absurd w
-down k (Live a m) (Live b Unlocked) w h = tt
-down k (Live a Unlocked) (Live b (Locked j)) w h = absurd w.1
-down k (Live a (Locked i)) (Live b (Locked j)) w h = sym w.1.slot ∙ h
+down k (Live a m) (Live b n) w h = slot_down k m.sq n.sq w.1.0 h
 
 up : (k : Slot) (s t : Label) → Weaker s t → (t ≡ Dead → ⊥) → IsAtSlot k t → IsAtSlot k s
 up k s Dead w d h = absurd (d refl)
 up k Dead (Live b n) w d h = tt
-up k (Live a Unlocked) (Live b n) w d h = tt
-up k (Live a (Locked i)) (Live b Unlocked) w d h = absurd w.1
-up k (Live a (Locked i)) (Live b (Locked j)) w d h = w.1.slot ∙ h
+up k (Live a m) (Live b n) w d h = slot_up k m.sq n.sq w.1.0 h
 
 all_down : (k : Slot) (s : Label) (ts : List Label) → WeakerThanEach s ts → IsAtSlot k s → AreAll (IsAtSlot k) ts
 all_down k s [] w h = tt
@@ -133,10 +158,13 @@ never_all x y xs ys g = go (agree_all ((xs ++ x ∷ []) ++ (ys ++ y ∷ []))) re
 
 -- ---- no slot is open
 
+slot_closed : (o : Option Submitting) → same_slot (unwrap_or o (record { queued = 0; slot = Closed })).slot Closed ≡ true → HasSlot Closed o
+slot_closed None h = tt
+slot_closed (Some s) h = same_slot_is s.slot Closed h
+
 closed_at : (s : Label) → IsClosed s → IsAtSlot Closed s
 closed_at Dead h = tt
-closed_at (Live a Unlocked) h = tt
-closed_at (Live a (Locked i)) h = same_slot_is i.slot Closed h
+closed_at (Live a m) h = slot_closed m.sq h
 
 pub closed_agree : (ts : List Label) → AreAll IsClosed ts → agree_all ts ≡ true
 closed_agree ts h = at_one Closed ts (all_closed ts h)

@@ -1,5 +1,5 @@
 -- Ifs, and the ends of their branches.
-use Rattle.std.proofs.Common.{◌≡◌, ℕ, zero, suc, ◌+◌, ◌<◌, ◌≤◌, ◌⊎◌, Bool, true, false, List, [], ◌∷◌, ◌++◌, length, length-append, take, Option, Some, Result, Ok, Err, refl, sym, ap, subst, ◌∙◌, inl, inr, arith, slice_index_or}
+use Rattle.std.proofs.Common.{◌≡◌, ℕ, zero, suc, ◌+◌, ◌<◌, ◌≤◌, ◌⊎◌, Bool, true, false, List, [], ◌∷◌, ◌++◌, length, length-append, take, Option, Some, None, Result, Ok, Err, refl, sym, ap, subst, ◌∙◌, inl, inr, arith, slice_index_or}
 use Rattle.std.specs.Prelude.{IsSome, OnErr, OnOk, ℤ}
 use Rattle.std.proofs.lemmas.Option.{get_or_from_slice_get, slice_get-get_or}
 use Rattle.std.proofs.Math.ListN.{get_or-append}
@@ -17,18 +17,17 @@ use Rattle.rc_lang.proofs.Along.{same_lock}
 use Rattle.rc_lang.proofs.Closing.{closes_if, turns as turns_at}
 use Rattle.rc_lang.proofs.Lookups.{blocks_next}
 use Rattle.rc_rules.specs.declared.cause.Cause.{Cause}
-use Rattle.rc_rules.specs.declared.mode.Inside.{Inside}
 use Rattle.rc_rules.specs.declared.mode.Mode.{Mode}
-use Rattle.rc_rules.specs.declared.mode.Mode.TheVariants.{Unlocked, Locked}
 use Rattle.rc_rules.specs.declared.mode.Peeked.{Peeked}
+use Rattle.rc_rules.specs.declared.mode.Submitting.{Submitting}
 use Rattle.rc_rules.specs.declared.mode.Peeked.TheVariants.{Unseen}
-use Rattle.rc_rules.specs.Labels.{Label, Dead, Live, Weaker, WeakerInside, WeakerMode, IsStrongest}
+use Rattle.rc_rules.specs.Labels.{Label, Dead, Live, UnderLock, Weaker, WeakerMode, WeakerPeeked, WeakerSubmitting, IsStrongest}
 use Rattle.rc_rules.specs.Labellings.{here, label_at, skipped}
 use Rattle.rc_rules.specs.Premises.{Meets, Premise}
 use Rattle.rc_rules.specs.Needs.{line_premises}
 use Rattle.rc_rules.specs.Rules.{asks, asks_both, goes, joins_both, take_effect, test_effect}
 use Rattle.rc_rules.specs.Sides.{Sides, gate, may_skip, on, test_goes, unreached}
-use Rattle.rc_rules.specs.States.{asked_alike, State, AgreeOnLock, Becomes, Gives, IsOfSame, label_of, program_of, sides_of}
+use Rattle.rc_rules.specs.States.{asked_alike, State, AgreeOnLocks, Becomes, Gives, IsOfSame, label_of, program_of, sides_of}
 use Rattle.rc_verify.specs.declared.walk.Walk.{Walk}
 use Rattle.rc_verify.specs.Arms.{two}
 use Rattle.rc_verify.specs.Branches.{KeepsOther, MayTest}
@@ -48,23 +47,24 @@ on_ok A (Err c) y h e = absurd (cc)
 
 -- ---- labels that each say as much as the other
 
-same_peeked : (p q : Peeked) → (p ≡ q) ⊎ (p ≡ Unseen) → (q ≡ p) ⊎ (q ≡ Unseen) → p ≡ q
+same_peeked : (p q : Peeked) → WeakerPeeked p q → WeakerPeeked q p → p ≡ q
 same_peeked p q (inl e) g = e
 same_peeked p q (inr e) (inl f) = sym f
 same_peeked p q (inr e) (inr f) = e ∙ sym f
 
-same_inside : (i j : Inside) → WeakerInside i j → WeakerInside j i → i ≡ j
-same_inside i j v w =
-    let n : i.queued ≡ j.queued = omega (arith, v.queued, w.queued) in
-    ap (λ x. record { queued = x; slot = i.slot; peeked = i.peeked }) n
-    ∙ ap (λ x. record { queued = j.queued; slot = x; peeked = i.peeked }) v.slot
-    ∙ ap (λ x. record { queued = j.queued; slot = j.slot; peeked = x }) (same_peeked i.peeked j.peeked v.peeked w.peeked)
+same_submitting : (s t : Submitting) → WeakerSubmitting s t → WeakerSubmitting t s → s ≡ t
+same_submitting s t v w =
+    let n : s.queued ≡ t.queued = omega (arith, v.queued, w.queued) in
+    ap (λ x. record { queued = x; slot = s.slot }) n ∙ ap (λ x. record { queued = t.queued; slot = x }) v.slot
+
+same_under : {A : Type 0} (F : A → A → Type 0) → ((s t : A) → F s t → F t s → s ≡ t) → (o p : Option A) → UnderLock F o p → UnderLock F p o → o ≡ p
+same_under F h None None v w = refl
+same_under F h None (Some t) v w = absurd v
+same_under F h (Some s) None v w = absurd v
+same_under F h (Some s) (Some t) v w = ap Some (h s t v w)
 
 same_mode : (m n : Mode) → WeakerMode m n → WeakerMode n m → m ≡ n
-same_mode Unlocked Unlocked v w = refl
-same_mode Unlocked (Locked j) v w = absurd v
-same_mode (Locked i) Unlocked v w = absurd v
-same_mode (Locked i) (Locked j) v w = ap Locked (same_inside i j v w)
+same_mode m n v w = ap (λ x. record m { sq = x }) (same_under WeakerSubmitting same_submitting m.sq n.sq v.0 w.0) ∙ ap (λ x. record n { cq = x }) (same_under WeakerPeeked same_peeked m.cq n.cq v.1 w.1)
 
 same_label : (s t : Label) → Weaker s t → Weaker t s → s ≡ t
 same_label Dead Dead v w = refl
@@ -279,7 +279,7 @@ module _ (P : Program) (t : Thread) (j : ℕ) (w : Walk) (r : Reaches P t j w) w
   pub end_of : (o : ℕ) (s : State) → stmt_at t.lines j ≡ Some (EndIf o) → last_of w.branches ≡ Some s → IsOfSame s w.state
   end_of o s e q = same_of P t s w.state (branch_last o s e q).of r.at.here.of
 
-  pub end_alike : (o : ℕ) (s : State) → stmt_at t.lines j ≡ Some (EndIf o) → last_of w.branches ≡ Some s → (y z : Bool) → AgreeOnLock (label_of w.state y) (label_of s z)
+  pub end_alike : (o : ℕ) (s : State) → stmt_at t.lines j ≡ Some (EndIf o) → last_of w.branches ≡ Some s → (y z : Bool) → AgreeOnLocks (label_of w.state y) (label_of s z)
   end_alike o s e q y z = fits_alike (in_lock (blocks_at t.lines j)) (most_at j) (most_at j) (label_of w.state y) (label_of s z) (fits_here P t j w r (EndIf o) e y) (fits_last o s z e q)
 
   -- the labels of both branches, with one read at the line at o

@@ -16,11 +16,11 @@ use Rattle.rc_rules.specs.Labellings.{arm_ends}
 use Rattle.rc_rules.specs.Premises.{FailsFirst}
 use Rattle.rc_rules.specs.Rules.{agree_all, joins_both, peek_at}
 use Rattle.rc_rules.specs.Sides.{Sides}
-use Rattle.rc_rules.specs.States.{State, AgreeOnLock, IsLocked, IsOfSame, OnBoth, label_of, sides_of}
+use Rattle.rc_rules.specs.States.{State, AgreeOnLocks, IsOfSame, OnBoth, label_of, sides_of}
 use Rattle.rc_verify.specs.Arms.{ClosesPeek, EndsArm, EndsArmIn, JoinsOn, two}
 use Rattle.rc_verify.specs.declared.arms.Arms.{Arms}
 use Rattle.rc_verify.specs.declared.walk.Walk.{Walk}
-use Rattle.rc_verify.specs.Walk.{AreKept, Fits, IsMeet, IsPeeked, IsSaved, PassesLine, Reaches, branch_place, listed, loop_place, most_at, peek_place, places}
+use Rattle.rc_verify.specs.Walk.{AreKept, Fits, HasCq, IsMeet, IsPeeked, IsSaved, PassesLine, Reaches, branch_place, listed, loop_place, most_at, peek_place, places}
 use Rattle.rc_verify.proofs.Agreeing.{all_agree, never_all, not_all}
 use Rattle.rc_verify.proofs.Arming.{Armed, armed, peek_alone, some_armed}
 use Rattle.rc_verify.proofs.Ends.{own_arm, strongest_more}
@@ -78,10 +78,10 @@ module _ (P : Program) (t : Thread) (j : ℕ) (w : Walk) (r : Reaches P t j w) w
   end_fits : (o : ℕ) → stmt_at t.lines j ≡ Some (EndArm o) → (z : Bool) → Fits (in_lock (blocks_at t.lines o)) (most_at j) (peek_at Unseen (label_of w.state z))
   end_fits o e z = peek_fits Unseen (in_lock (blocks_at t.lines o)) (most_at j) (label_of w.state z) (subst (λ b. Fits b (most_at j) (label_of w.state z)) (arm_lock o (closes_arm t.lines r.thread.nested.each j o e)) (fits_here P t j w r (EndArm o) e z))
 
-  pub arm_alike : (o : ℕ) → stmt_at t.lines j ≡ Some (EndArm o) → IfSome w.peek (λ a. a.agree ≡ true → (y z : Bool) → AgreeOnLock (label_of a.ends y) (peek_at Unseen (label_of w.state z)))
+  pub arm_alike : (o : ℕ) → stmt_at t.lines j ≡ Some (EndArm o) → IfSome w.peek (λ a. a.agree ≡ true → (y z : Bool) → AgreeOnLocks (label_of a.ends y) (peek_at Unseen (label_of w.state z)))
   arm_alike o e =
       let a = ending o (closes_arm t.lines r.thread.nested.each j o e) in
-      subst (λ (x : Option Arms). IfSome x (λ a. a.agree ≡ true → (y z : Bool) → AgreeOnLock (label_of a.ends y) (peek_at Unseen (label_of w.state z)))) (sym a.is)
+      subst (λ (x : Option Arms). IfSome x (λ a. a.agree ≡ true → (y z : Bool) → AgreeOnLocks (label_of a.ends y) (peek_at Unseen (label_of w.state z)))) (sym a.is)
       (λ q y z. fits_alike (in_lock (blocks_at t.lines o)) (most_at j) (most_at j) (label_of a.arms.ends y) (peek_at Unseen (label_of w.state z)) ((a.holds.ends q).fits y) (end_fits o e z))
 
   ended : (o : ℕ) (a a' : Arms) (new : Sides) → stmt_at t.lines j ≡ Some (EndArm o) → IsPeeked P t j r.labels o a → EndsArm a a' w.state → IsPeeked P t (j + 1) (r.labels ++ new ∷ []) o a'
@@ -93,7 +93,7 @@ module _ (P : Program) (t : Thread) (j : ℕ) (w : Walk) (r : Reaches P t j w) w
       let q : (z : Bool) → arm_ends (take (j + 1) t.lines) labels o z ≡ xs z ++ y z ∷ [] = λ z. arms_next P t j w r (EndArm o) e new o z ∙ ap (λ ys. xs z ++ ys) (own_arm o (label_of w.state z)) in
       record {
         before = subst (λ (s : State). IsSaved P t labels (o + 1) s) (sym g.before) (saved_on P t r.labels new (o + 1) a.before h.before);
-        locked = subst (λ (s : State). OnBoth IsLocked s) (sym g.before) h.locked;
+        locked = subst (λ (s : State). OnBoth HasCq s) (sym g.before) h.locked;
         of = of_same P t a'.ends a.ends h.of g.of;
         agree =
             ap (λ zs. agree_all (zs ++ arm_ends (take (j + 1) t.lines) labels o false)) (q true) ∙ ap (λ zs. agree_all ((xs true ++ y true ∷ []) ++ zs)) (q false)

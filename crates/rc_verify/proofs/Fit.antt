@@ -7,24 +7,23 @@ use Rattle.rc_lang.specs.declared.lines.Test.TheVariants.{Compare, ReadyZero, Sp
 use Rattle.rc_lang.specs.Program.{Program, Items, Thread, IsProgram, IsItems, IsList, besides, items_at}
 use Rattle.rc_split.specs.Bags.{Part, TokenOf, bag_of, bag_on, plus}
 use Rattle.rc_rules.specs.declared.mode.Mode.{Mode}
-use Rattle.rc_rules.specs.declared.mode.Mode.TheVariants.{Unlocked, Locked}
 use Rattle.rc_rules.specs.declared.mode.Peeked.{Peeked}
 use Rattle.rc_rules.specs.declared.mode.Peeked.TheVariants.{Unseen, Sees}
 use Rattle.rc_rules.specs.declared.mode.Slot.TheVariants.{Closed}
-use Rattle.rc_rules.specs.Labels.{Label, Dead, Live, Weaker, WeakerThanEach, IsStrongest, IsSame}
+use Rattle.rc_rules.specs.Labels.{Label, Dead, Live, Weaker, WeakerPeeked, WeakerThanEach, IsStrongest, IsSame}
 use Rattle.rc_rules.specs.Labellings.{start_of}
 use Rattle.rc_rules.specs.Sides.{brings, gate, on}
 use Rattle.rc_rules.specs.Needs.{line_premises}
-use Rattle.rc_rules.specs.Rules.{same_slot, op_effect, put_effect, can_take, has_room, names_peeked_in, take_effect, goes, entered, released, test_effect, with_peeked, peek_at, case_at, top, broken, asks}
+use Rattle.rc_rules.specs.Rules.{same_slot, op_effect, put_effect, can_take, has_room, locks_of, names_peeked, peeked_of, take_effect, goes, entered, released, test_effect, with_peeked, peek_at, case_at, top, broken, asks}
 use Rattle.rc_rules.specs.Premises.{Meets}
-use Rattle.rc_rules.specs.States.{is_locked, IsLocked, IsUnlocked, AgreeOnLock, IsSmall}
+use Rattle.rc_rules.specs.States.{IsLocked, IsUnlocked, AgreeOnLocks, IsSmall}
 use Rattle.rc_rules.proofs.Headers.{few}
-use Rattle.rc_rules.proofs.Weaker.{locked_same, peeked_locked, test_locked}
+use Rattle.rc_rules.proofs.Weaker.{lock_held, locks_same, peeked_locks, sq_weaker, test_locks, top_locks}
 use Rattle.rc_rules.proofs.Lines.{effect_by}
 use Rattle.rc_rules.proofs.Room.{limit_few, room}
 use Rattle.std.proofs.lemmas.Bool.{and_parts}
 use Rattle.rc_verify.specs.Branches.{MayTest}
-use Rattle.rc_verify.specs.Walk.{Fits, IsClosed}
+use Rattle.rc_verify.specs.Walk.{Fits, HasCq, IsClosed}
 
 -- ---- the strongest label is like those that lead to it
 
@@ -48,7 +47,7 @@ module _ (Q : Label → Type 0) (dead : Q Dead) (keeps : (s t : Label) → Weake
 weaker_fits : (b : Bool) (n : ℕ) (s t : Label) → Weaker s t → (t ≡ Dead → ⊥) → Fits b n t → Fits b n s
 weaker_fits b n s Dead w d h = absurd (d refl)
 weaker_fits b n Dead (Live c k) w d h = tt
-weaker_fits b n (Live a m) (Live c k) w d h = (locked_same m k w.1 ∙ h.0, λ p. omega (arith, w.0 p, h.1 p))
+weaker_fits b n (Live a m) (Live c k) w d h = (locks_same m k w.1 ∙ h.0, λ p. omega (arith, w.0 p, h.1 p))
 
 pub strongest_fits : (b : Bool) (n : ℕ) (s : Label) (ts : List Label) → AreAll (Fits b n) ts → IsStrongest s ts → Fits b n s
 strongest_fits b n = kept_by (Fits b n) tt (weaker_fits b n)
@@ -56,9 +55,7 @@ strongest_fits b n = kept_by (Fits b n) tt (weaker_fits b n)
 weaker_closed : (s t : Label) → Weaker s t → (t ≡ Dead → ⊥) → IsClosed t → IsClosed s
 weaker_closed s Dead w d h = absurd (d refl)
 weaker_closed Dead (Live c k) w d h = tt
-weaker_closed (Live a Unlocked) (Live c k) w d h = refl
-weaker_closed (Live a (Locked i)) (Live c Unlocked) w d h = absurd w.1
-weaker_closed (Live a (Locked i)) (Live c (Locked k)) w d h = subst (λ x. same_slot x Closed ≡ true) (sym w.1.slot) h
+weaker_closed (Live a m) (Live c k) w d h = subst (λ x. same_slot x Closed ≡ true) (sym (sq_weaker m k w.1).slot) h
 
 pub strongest_closed : (s : Label) (ts : List Label) → AreAll IsClosed ts → IsStrongest s ts → IsClosed s
 strongest_closed = kept_by IsClosed tt weaker_closed
@@ -71,21 +68,16 @@ fits_more b n k (Live a m) l h = (h.0, λ p. omega (arith, l, h.1 p))
 
 pub fits_locked : (n : ℕ) (s : Label) → Fits true n s → IsLocked s
 fits_locked n Dead h = tt
-fits_locked n (Live a Unlocked) h = absurd (cc (h.0))
-fits_locked n (Live a (Locked i)) h = tt
+fits_locked n (Live a m) h = h.0
 
 pub fits_unlocked : (n : ℕ) (s : Label) → Fits false n s → IsUnlocked s
 fits_unlocked n Dead h = tt
-fits_unlocked n (Live a Unlocked) h = tt
-fits_unlocked n (Live a (Locked i)) h = absurd (cc (h.0))
+fits_unlocked n (Live a m) h = h.0
 
-pub fits_alike : (b : Bool) (n k : ℕ) (s t : Label) → Fits b n s → Fits b k t → AgreeOnLock s t
+pub fits_alike : (b : Bool) (n k : ℕ) (s t : Label) → Fits b n s → Fits b k t → AgreeOnLocks s t
 fits_alike b n k Dead t h g = tt
 fits_alike b n k (Live a m) Dead h g = tt
-fits_alike b n k (Live a Unlocked) (Live c Unlocked) h g = tt
-fits_alike b n k (Live a Unlocked) (Live c (Locked j)) h g = absurd (cc (h.0, g.0))
-fits_alike b n k (Live a (Locked i)) (Live c Unlocked) h g = absurd (cc (h.0, g.0))
-fits_alike b n k (Live a (Locked i)) (Live c (Locked j)) h g = tt
+fits_alike b n k (Live a m) (Live c o) h g = g.0 ∙ sym h.0
 
 pub fits_small : (b : Bool) (n : ℕ) (s : Label) → n ≤ 2 ^ 19 → Fits b n s → IsSmall s
 fits_small b n Dead l h = tt
@@ -116,7 +108,7 @@ take_fits P items b n a m made of l f = go (can_take P a m items) refl
     go false e = tt
     go true e = (
       f.0,
-      λ p. elim (room P a items of (and_parts (has_room P a items) (not (names_peeked_in items.tokens m)) e).0 p) [
+      λ p. elim (room P a items of (and_parts (has_room P a items) (not (names_peeked items.tokens (peeked_of m))) e).0 p) [
         | inl none ↦ omega (arith, f.1 p, none)
         | inr within ↦ omega (arith, within, limit_few P p made, l)
       ],
@@ -124,14 +116,14 @@ take_fits P items b n a m made of l f = go (can_take P a m items) refl
 
 pub test_fits : (P : Program) (lists : List Items) (test : Test) (b : Bool) (n : ℕ) (s : Label) → IsProgram P → MayTest P lists test → 4096 ≤ n → Fits b n s → Fits b n (goes s (λ bag m. test_effect P lists bag m test))
 test_fits P lists test b n Dead made may l f = tt
-test_fits P lists (Compare x c v) b n (Live a m) made may l f = (test_locked P (Compare x c v) m ∙ f.0, f.1)
-test_fits P lists ReadyZero b n (Live a m) made may l f = (test_locked P ReadyZero m ∙ f.0, f.1)
-test_fits P lists (SpaceAtLeast v) b n (Live a m) made may l f = (test_locked P (SpaceAtLeast v) m ∙ f.0, f.1)
+test_fits P lists (Compare x c v) b n (Live a m) made may l f = (test_locks P (Compare x c v) m ∙ f.0, f.1)
+test_fits P lists ReadyZero b n (Live a m) made may l f = (test_locks P ReadyZero m ∙ f.0, f.1)
+test_fits P lists (SpaceAtLeast v) b n (Live a m) made may l f = (test_locks P (SpaceAtLeast v) m ∙ f.0, f.1)
 test_fits P lists (Take k) b n (Live a m) made may l f = take_fits P (items_at lists k) b n a m made may.1 l f
 
 pub peek_fits : (pk : Peeked) (b : Bool) (n : ℕ) (s : Label) → Fits b n s → Fits b n (peek_at pk s)
 peek_fits pk b n Dead f = tt
-peek_fits pk b n (Live a m) f = (peeked_locked pk m ∙ f.0, f.1)
+peek_fits pk b n (Live a m) f = (peeked_locks pk m ∙ f.0, f.1)
 
 pub case_fits : (u : ℕ) (b : Bool) (n : ℕ) (s : Label) → Fits b n s → Fits b n (case_at u s)
 case_fits u b n Dead f = tt
@@ -147,8 +139,7 @@ kept_few P items false p h = omega (arith, few P items p h.first, few P (besides
 
 pub top_fits : (P : Program) (items : Items) (z b : Bool) (n k : ℕ) (s : Label) → IsList P items → 4096 ≤ k → Fits b n s → Fits b k (top P items z s)
 top_fits P items z b n k Dead h l f = tt
-top_fits P items z b n k (Live a Unlocked) h l f = (f.0, λ p. omega (arith, l, kept_few P items z p h))
-top_fits P items z b n k (Live a (Locked i)) h l f = (f.0, λ p. omega (arith, l, kept_few P items z p h))
+top_fits P items z b n k (Live a m) h l f = (top_locks P items m ∙ f.0, λ p. omega (arith, l, kept_few P items z p h))
 
 pub broken_fits : (releases b c : Bool) (n : ℕ) (s : Label) → c ≡ cond releases false b → Fits b n s → Fits c n (broken releases s)
 broken_fits true b c n s e f = subst (λ x. Fits x n (released s)) (sym e) (released_fits b n s f)
@@ -160,14 +151,13 @@ pub broken_closed : (P : Program) (releases : Bool) (s : Label) → Meets (asks 
 broken_closed P true Dead h = tt
 broken_closed P true (Live a m) h = refl
 broken_closed P false Dead h = tt
-broken_closed P false (Live a Unlocked) h = refl
-broken_closed P false (Live a (Locked i)) h = h.0
+broken_closed P false (Live a m) h = h.0
 
 -- ---- the start
 
 start_fits_zero : (P : Program) (t : Thread) (s : Label) → IsItems P t.items → IsSame s (start_of t).zero → Fits false 4096 s
 start_fits_zero P t Dead h e = tt
-start_fits_zero P t (Live a m) h e = (ap is_locked e.1, λ p. omega (arith, e.0 p, few P t.items p h))
+start_fits_zero P t (Live a m) h e = (ap locks_of e.1, λ p. omega (arith, e.0 p, few P t.items p h))
 
 pub start_fits : (P : Program) (t : Thread) (z : Bool) (s : Label) → IsItems P t.items → IsSame s (on z (start_of t)) → Fits false 4096 s
 start_fits P t true s h e = start_fits_zero P t s h e
@@ -189,13 +179,11 @@ brings_keep Q d may F before f = (gate_keeps Q d (may true) (F (before true)) (f
 pub brings_fit : (may : Bool → Bool) (F : Label → Label) (before : Bool → Label) (b : Bool) (n : ℕ) → ((y : Bool) → Fits b n (F (before y))) → AreAll (Fits b n) (brings may F before)
 brings_fit may F before b n = brings_keep (Fits b n) tt may F before
 
-weaker_locked : (s t : Label) → Weaker s t → (t ≡ Dead → ⊥) → IsLocked t → IsLocked s
-weaker_locked s Dead w d h = absurd (d refl)
-weaker_locked Dead (Live b n) w d h = tt
-weaker_locked (Live a m) (Live b Unlocked) w d h = absurd h
-weaker_locked (Live a Unlocked) (Live b (Locked j)) w d h = absurd w.1
-weaker_locked (Live a (Locked i)) (Live b (Locked j)) w d h = tt
+weaker_cq : (s t : Label) → Weaker s t → (t ≡ Dead → ⊥) → HasCq t → HasCq s
+weaker_cq s Dead w d h = absurd (d refl)
+weaker_cq Dead (Live b n) w d h = tt
+weaker_cq (Live a m) (Live b n) w d h = lock_held WeakerPeeked m.cq n.cq w.1.1 ∙ h
 
--- What both sides bring is locked where they are.
-pub brought_locked : (may : Bool → Bool) (F : Label → Label) (before : Bool → Label) (s : Label) → ((y : Bool) → IsLocked (F (before y))) → IsStrongest s (brings may F before) → IsLocked s
-brought_locked may F before s f b = kept_by IsLocked tt weaker_locked s (brings may F before) (brings_keep IsLocked tt may F before f) b
+-- What both sides bring has the lock where they have.
+pub brought_cq : (may : Bool → Bool) (F : Label → Label) (before : Bool → Label) (s : Label) → ((y : Bool) → HasCq (F (before y))) → IsStrongest s (brings may F before) → HasCq s
+brought_cq may F before s f b = kept_by HasCq tt weaker_cq s (brings may F before) (brings_keep HasCq tt may F before f) b

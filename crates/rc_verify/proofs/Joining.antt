@@ -3,14 +3,13 @@ use Rattle.std.proofs.Common.{◌≡◌, ℕ, ◌<◌, Bool, true, false, ◌&&�
 use Rattle.std.specs.Result.{is_ok}
 use Rattle.rc_lang.specs.declared.lines.Stmt.TheVariants.{Break}
 use Rattle.rc_rules.specs.declared.cause.Cause.{Cause}
-use Rattle.rc_rules.specs.declared.mode.Mode.TheVariants.{Unlocked, Locked}
 use Rattle.rc_rules.specs.Causes.{premise_number}
 use Rattle.rc_rules.specs.Labels.{Label, Dead, Live, Weaker, IsStrongest}
 use Rattle.rc_rules.specs.Premises.{Premise, Is, Meets, FailsFirst}
 use Rattle.rc_rules.specs.Rules.{agree, agree_all, joins_both}
-use Rattle.rc_rules.specs.States.{asked_alike, State, Becomes, IsOfSame, label_of, program_of, AgreeOnLock, Gives}
+use Rattle.rc_rules.specs.States.{asked_alike, State, Becomes, IsOfSame, label_of, program_of, AgreeOnLocks, Gives}
 use Rattle.rc_rules.proofs.Growth.{agree_grows}
-use Rattle.rc_rules.proofs.Weaker.{meets_left, meets_right, not_both, weaker_refl}
+use Rattle.rc_rules.proofs.Weaker.{locks_same, meets_left, meets_right, not_both, weaker_refl}
 use Rattle.rc_verify.specs.declared.arms.Arms.{Arms}
 use Rattle.rc_verify.specs.Arms.{Joins, JoinsOn, two}
 use Rattle.rc_verify.specs.Stack.{last_of, rest_of}
@@ -24,16 +23,11 @@ below s t h = h.weaker.0
 pub above : (s t : Label) → IsStrongest s (t ∷ []) → Weaker t s
 above s t h = h.strongest t (weaker_refl t, tt)
 
-pub alike_same : (a e t : Label) → Weaker e t → Weaker t e → AgreeOnLock a t → AgreeOnLock a e
+pub alike_same : (a e t : Label) → Weaker e t → Weaker t e → AgreeOnLocks a t → AgreeOnLocks a e
 alike_same Dead e t v w h = tt
 alike_same (Live a m) Dead t v w h = tt
 alike_same (Live a m) (Live b n) Dead v w h = absurd w
-alike_same (Live a Unlocked) (Live b Unlocked) (Live c k) v w h = tt
-alike_same (Live a Unlocked) (Live b (Locked i)) (Live c Unlocked) v w h = absurd v.1
-alike_same (Live a Unlocked) (Live b (Locked i)) (Live c (Locked k)) v w h = absurd h
-alike_same (Live a (Locked x)) (Live b (Locked i)) (Live c k) v w h = tt
-alike_same (Live a (Locked x)) (Live b Unlocked) (Live c Unlocked) v w h = absurd h
-alike_same (Live a (Locked x)) (Live b Unlocked) (Live c (Locked k)) v w h = absurd v.1
+alike_same (Live a m) (Live b n) (Live c k) v w h = locks_same n k v.1 ∙ h
 
 -- ---- both sides of a state
 

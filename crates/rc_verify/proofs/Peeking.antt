@@ -1,5 +1,6 @@
 -- Peeks and their arms.
 use Rattle.std.proofs.Common.{◌≡◌, ℕ, suc, ◌+◌, ◌<◌, Bool, true, false, cond, nat_eq, List, [], ◌∷◌, ◌++◌, drop, take, Option, Some, None, Result, Ok, Err, refl, sym, ap, subst, ◌∙◌, arith, slice_get}
+use Rattle.std.specs.Prelude.{is_some}
 use Rattle.std.specs.Option.{option_eq}
 use Rattle.std.proofs.lemmas.Bool.{eq-eqb, eqb-true, or_parts}
 use Rattle.rc_lang.specs.declared.lines.Block.{Block}
@@ -13,21 +14,21 @@ use Rattle.rc_lang.proofs.Closing.{closes_arm}
 use Rattle.rc_lang.proofs.Lookups.{blocks_next, get_new, nested_here}
 use Rattle.rc_rules.specs.declared.cause.Cause.{Cause}
 use Rattle.rc_rules.specs.declared.flag.Write.TheVariants.{Anything, Untouched}
-use Rattle.rc_rules.specs.declared.mode.Mode.TheVariants.{Unlocked, Locked}
+use Rattle.rc_rules.specs.declared.mode.Peeked.{Peeked}
 use Rattle.rc_rules.specs.declared.mode.Peeked.TheVariants.{Unseen}
 use Rattle.rc_rules.specs.Causes.{premise_number}
 use Rattle.rc_rules.specs.Labels.{Label, Dead, Live, Weaker, IsStrongest}
 use Rattle.rc_rules.specs.Labellings.{arm_end, arm_ends, label_at}
 use Rattle.rc_rules.specs.Premises.{FailsFirst, Meets, Premise}
 use Rattle.rc_rules.specs.Needs.{line_premises}
-use Rattle.rc_rules.specs.Rules.{agree_all, asks, asks_both, peek_at, under_lock}
+use Rattle.rc_rules.specs.Rules.{agree_all, asks, asks_both, peek_at, with_lock}
 use Rattle.rc_rules.specs.Sides.{Sides, brings, on, turns, write_to}
-use Rattle.rc_rules.specs.States.{asked_alike, State, Becomes, IsLocked, OnBoth, label_of, sides_of}
+use Rattle.rc_rules.specs.States.{asked_alike, State, Becomes, OnBoth, label_of, sides_of}
 use Rattle.rc_verify.specs.Arms.{IsOpened, OpensPeek}
 use Rattle.rc_verify.specs.declared.arms.Arms.{Arms}
 use Rattle.rc_verify.specs.declared.walk.Walk.{Walk}
-use Rattle.rc_verify.specs.Walk.{AreKept, Fits, IsOf, IsPeeked, IsSaved, PassesLine, Reaches, branch_place, listed, loop_place, most_at, peek_place, places}
-use Rattle.rc_verify.proofs.Fit.{brings_fit, brought_locked, fits_more, strongest_fits}
+use Rattle.rc_verify.specs.Walk.{AreKept, Fits, HasCq, IsOf, IsPeeked, IsSaved, PassesLine, Reaches, branch_place, listed, loop_place, most_at, peek_place, places}
+use Rattle.rc_verify.proofs.Fit.{brings_fit, brought_cq, fits_more, strongest_fits}
 use Rattle.rc_verify.proofs.Joining.{each_meets}
 use Rattle.rc_verify.proofs.Keeping.{nothing_more, places_pushed}
 use Rattle.rc_verify.proofs.Plainly.{branches_same, fits_behind, loops_same, opens_none}
@@ -60,21 +61,27 @@ no_peeks (b ∷ bs) e = let h = or_parts (is_peek b) (in_peek bs) e in ap (λ os
 
 -- what a side is asked
 abbrev side_asks : Label → List (ℕ × Premise)
-side_asks s = asks s (λ bag m. under_lock 1 m (λ i. []))
+side_asks s = asks s (λ bag m. with_lock 1 m.cq (λ p. []))
 
-met_locked : (s : Label) → Meets (side_asks s) → IsLocked s
-met_locked Dead h = tt
-met_locked (Live b Unlocked) h = absurd (cc (h.0))
-met_locked (Live b (Locked i)) h = tt
+met_cq : (s : Label) → Meets (side_asks s) → HasCq s
+met_cq Dead h = tt
+met_cq (Live b m) h = held m.cq h
+  where
+    held : (o : Option Peeked) → Meets (with_lock 1 o (λ p. [])) → is_some o ≡ true
+    held None h = h.0
+    held (Some p) h = refl
 
-locked_asks : (s : Label) → IsLocked s → side_asks s ≡ []
-locked_asks Dead h = refl
-locked_asks (Live b Unlocked) h = absurd h
-locked_asks (Live b (Locked i)) h = refl
+cq_asks : (s : Label) → HasCq s → side_asks s ≡ []
+cq_asks Dead h = refl
+cq_asks (Live b m) h = none m.cq h
+  where
+    none : (o : Option Peeked) → is_some o ≡ true → with_lock 1 o (λ p. []) ≡ []
+    none None h = absurd (cc)
+    none (Some p) h = refl
 
 -- Nothing is asked where both sides have the lock.
-pub none_asked : (s : Bool → Label) → ((z : Bool) → IsLocked (s z)) → side_asks (s true) ++ side_asks (s false) ≡ []
-none_asked s h = ap (λ ps. ps ++ side_asks (s false)) (locked_asks (s true) (h true)) ∙ locked_asks (s false) (h false)
+pub none_asked : (s : Bool → Label) → ((z : Bool) → HasCq (s z)) → side_asks (s true) ++ side_asks (s false) ≡ []
+none_asked s h = ap (λ ps. ps ++ side_asks (s false)) (cq_asks (s true) (h true)) ∙ cq_asks (s false) (h false)
 
 pub dead_strongest : (s : Label) → s ≡ Dead → IsStrongest s []
 dead_strongest s e = record { weaker = tt; strongest = λ t w. subst (λ z. Weaker t z) (sym e) tt }
@@ -108,13 +115,13 @@ module _ (P : Program) (t : Thread) (j : ℕ) (w : Walk) (r : Reaches P t j w) w
           let lt : j < k = c.before in
           omega (arith, lt, h.1)
 
-  opened : (x : ℕ) (new : State) (a : Arms) → stmt_at t.lines j ≡ Some (Peek x) → IsOf P t new → OnBoth IsLocked new → IsOpened new a → IsPeeked P t (j + 1) (r.labels ++ sides_of new ∷ []) j a
+  opened : (x : ℕ) (new : State) (a : Arms) → stmt_at t.lines j ≡ Some (Peek x) → IsOf P t new → OnBoth HasCq new → IsOpened new a → IsPeeked P t (j + 1) (r.labels ++ sides_of new ∷ []) j a
   opened x new a e p l h =
       let labels = r.labels ++ sides_of new ∷ [] in
       let none : (z : Bool) → arm_ends (take (j + 1) t.lines) labels j z ≡ [] = λ z. none_so_far x (sides_of new) z e in
       record {
         before = subst (λ (s : State). IsSaved P t labels (j + 1) s) (sym h.before) (record { of = p; at = ap (λ i. slice_get labels i) (sym r.at.size) ∙ get_new r.labels (sides_of new) [] });
-        locked = subst (λ (s : State). OnBoth IsLocked s) (sym h.before) l;
+        locked = subst (λ (s : State). OnBoth HasCq s) (sym h.before) l;
         of = of_same P t a.ends new p h.of;
         agree = ap (λ xs. agree_all (xs ++ arm_ends (take (j + 1) t.lines) labels j false)) (none true) ∙ ap agree_all (none false) ∙ sym h.agree;
         ends = λ q. record {
@@ -141,7 +148,7 @@ module _ (P : Program) (t : Thread) (j : ℕ) (w : Walk) (r : Reaches P t j w) w
       let f : (z : Bool) → Fits (in_lock bs) (most_at j + 18) (label_of w.state z) = λ z. fits_more (in_lock bs) (most_at j) (most_at j + 18) (label_of w.state z) (omega arith) (fits_here P t j w r (Peek v) e z) in
       let f' : (z : Bool) → Fits (in_lock bs) (most_at j + 18) (label_of new z) = λ z. strongest_fits (in_lock bs) (most_at j + 18) (label_of new z) _ (brings_fit (may z) (λ s. s) (label_of w.state) (in_lock bs) (most_at j + 18) f) (g.1.each z) in
       let m = each_meets (label_of w.state) side_asks g.0 in
-      let l : OnBoth IsLocked new = λ z. brought_locked (may z) (λ s. s) (label_of w.state) (label_of new z) (λ y. met_locked (label_of w.state y) (m y)) (g.1.each z) in
+      let l : OnBoth HasCq new = λ z. brought_cq (may z) (λ s. s) (label_of w.state) (label_of new z) (λ y. met_cq (label_of w.state y) (m y)) (g.1.each z) in
       let p : places peek_place (blocks_at t.lines (j + 1)) ≡ j ∷ [] = ap (places peek_place) n ∙ places_pushed peek_place bs (InPeek j) ∙ ap (λ os. os ++ j ∷ []) (no_peeks bs (nested_here t.lines r.thread.nested.each j (Peek v) e)) in
       let one : AreKept (IsPeeked P t (j + 1) (r.labels ++ sides_of new ∷ [])) (j ∷ []) (g.2.0 ∷ []) = (opened v new g.2.0 e gave.2 l g.2.2, tt) in
       onward P t j w r (Peek v) e w' gave.0 gave.1 gave.2

@@ -18,7 +18,7 @@ use Rattle.rc_rules.specs.Premises.{Premise}
 use Rattle.rc_rules.specs.Needs.{line_premises}
 use Rattle.rc_rules.specs.Rules.{asks_both, entered, goes, op_effect, put_effect, released}
 use Rattle.rc_rules.specs.Sides.{Sides, brings, on, turns, write_of}
-use Rattle.rc_rules.specs.States.{asked_alike, State, AgreeOnLock, Gives, IsLocked, IsSmall, IsUnlocked, OnBoth, label_of, program_of, sides_of}
+use Rattle.rc_rules.specs.States.{asked_alike, State, AgreeOnLocks, Gives, IsLocked, IsSmall, IsUnlocked, OnBoth, label_of, program_of, sides_of}
 use Rattle.rc_rules.proofs.Rising.{op_asked}
 use Rattle.rc_verify.specs.declared.walk.Walk.{Walk}
 use Rattle.rc_verify.specs.Walk.{AreKept, Fits, IsBranch, IsLoop, IsOf, IsPeeked, Keeps, OnKept, PassesLine, Reaches, branch_place, listed, loop_place, most_at, peek_place, places}
@@ -102,8 +102,8 @@ module _ (P : Program) (t : Thread) (j : ℕ) (w : Walk) (r : Reaches P t j w) w
       (record { arms = λ o x. refl; breaks = λ o x. refl })
       (subst (λ (is : Items). Gives w.state new x (asked_alike w.state (is ∷ []) (Put 0)) (λ z. goes (label_of w.state z) (λ bag m. put_effect bag m is) ∷ [])) q g)
 
-  -- Both sides are locked, or both are not.
-  pub sides_here : (s : Stmt) → stmt_at t.lines j ≡ Some s → AgreeOnLock (label_of w.state true) (label_of w.state false)
+  -- Both sides have the same locks.
+  pub sides_here : (s : Stmt) → stmt_at t.lines j ≡ Some s → AgreeOnLocks (label_of w.state true) (label_of w.state false)
   sides_here s e = fits_alike (in_lock (blocks_at t.lines j)) (most_at j) (most_at j) (label_of w.state true) (label_of w.state false) (fits_here P t j w r s e true) (fits_here P t j w r s e false)
 
   pub unlocked_here : stmt_at t.lines j ≡ Some Lock → OnBoth IsUnlocked w.state

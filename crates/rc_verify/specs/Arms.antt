@@ -9,7 +9,7 @@ use Rattle.rc_rules.specs.Labels.{Label, Dead, IsStrongest}
 use Rattle.rc_rules.specs.Premises.{Premise, Meets, FailsFirst}
 use Rattle.rc_rules.specs.Rules.{joins_both, peek_at}
 use Rattle.rc_rules.specs.Sides.{brings, turns, write_to}
-use Rattle.rc_rules.specs.States.{State, AgreeOnLock, Becomes, Gives, IsOfSame, asked_alike, label_of}
+use Rattle.rc_rules.specs.States.{State, AgreeOnLocks, Becomes, Gives, IsOfSame, asked_alike, label_of}
 use Rattle.rc_verify.specs.declared.arms.Arms.{Arms}
 
 -- No arm has ended, and what is known before them is this state.
@@ -41,9 +41,9 @@ two s t z = s z ∷ t z ∷ []
 abbrev pub EntersArm : {X : Type 0} → Arms → (Label → Label) → State → Result X Cause → Type 0
 EntersArm a arm new result = Gives a.before new result (peek_asks a.before) (λ z. arm (label_of a.before z) ∷ [])
 
--- Unless a side is dead, the state and this end are locked, or both are not.
+-- Unless a side is dead, the state and this end have the same locks.
 abbrev pub AreAlike : State → (Bool → Label) → Type 0
-AreAlike s end = (y z : Bool) → AgreeOnLock (label_of s y) (end z)
+AreAlike s end = (y z : Bool) → AgreeOnLocks (label_of s y) (end z)
 
 -- the labels of an arm's end
 abbrev pub arm_end : State → Bool → Label

@@ -1,46 +1,45 @@
 -- What is kept along the lines of a thread: the state where they have come to, what goes past each open branch, what
 -- is known before a peek's arms and where they join, and of each open loop what is known where its breaks join.
-use Rattle.std.specs.Prelude.{ℕ, ◌≡◌, ◌+◌, ◌*◌, ◌<◌, ◌≤◌, Bool, true, false, List, [], ◌∷◌, ◌++◌, length, take, Option, Some, None, Result, Ok, Err, slice_get}
+use Rattle.std.specs.Prelude.{ℕ, ◌≡◌, ◌+◌, ◌*◌, ◌<◌, ◌≤◌, Bool, true, false, List, [], ◌∷◌, ◌++◌, length, take, Option, Some, None, is_some, Result, Ok, Err, slice_get}
 use Rattle.rc_lang.specs.declared.lines.Block.{Block}
 use Rattle.rc_lang.specs.declared.lines.Block.TheVariants.{InIf, InElse, InPeek, InLoop}
 use Rattle.rc_lang.specs.declared.lines.Line.{Line}
 use Rattle.rc_lang.specs.Nesting.{blocks_at, in_lock}
 use Rattle.rc_lang.specs.Program.{Program, Thread, IsProgram, IsThread}
 use Rattle.rc_rules.specs.declared.cause.Cause.{Cause}
-use Rattle.rc_rules.specs.declared.mode.Mode.{Mode}
-use Rattle.rc_rules.specs.declared.mode.Mode.TheVariants.{Unlocked, Locked}
 use Rattle.rc_rules.specs.declared.mode.Slot.TheVariants.{Closed}
 use Rattle.rc_split.specs.Bags.{Part}
 use Rattle.rc_rules.specs.Causes.{premise_number}
 use Rattle.rc_rules.specs.Labels.{Label, Dead, Live, IsStrongest}
 use Rattle.rc_rules.specs.Labellings.{arm_ends, break_ends, skipped, IsRefusedAt}
 use Rattle.rc_rules.specs.Sides.{Sides, on}
-use Rattle.rc_rules.specs.Rules.{same_slot, agree_all}
-use Rattle.rc_rules.specs.States.{State, label_of, program_of, sides_of, is_locked, IsLocked}
+use Rattle.rc_rules.specs.Rules.{same_slot, agree_all, both_locks, locks_of, sq_of}
+use Rattle.rc_rules.specs.States.{State, label_of, program_of, sides_of}
 use Rattle.rc_verify.specs.declared.walk.Walk.{Walk}
 use Rattle.rc_verify.specs.declared.arms.Arms.{Arms}
 use Rattle.rc_verify.specs.Strongest.{AreStrongest}
 
 -- ---- labels at a place
 
--- Where it is live, the lock is held or not, as that is said, and no count is above n.
+-- Where it is live, both locks are held or neither, as that is said, and no count is above n.
 abbrev pub Fits : Bool → ℕ → Label → Type 0
 Fits lock n Dead = Unit {0}
-Fits lock n (Live bag m) = (is_locked m ≡ lock) × ((p : Part) → bag p ≤ n)
+Fits lock n (Live bag m) = (locks_of m ≡ both_locks lock) × ((p : Part) → bag p ≤ n)
 
 -- how many of each part are held at most after j lines: a loop keeps 4,096 of one at most, and a request that is reaped
 -- gives back 18 in all at most
 abbrev pub most_at : ℕ → ℕ
 most_at j = 4096 + 18 * j
 
--- No slot is open.
-abbrev pub has_no_slot : Mode → Bool
-has_no_slot Unlocked = true
-has_no_slot (Locked i) = same_slot i.slot Closed
-
+-- Where it is live, no slot is open.
 abbrev pub IsClosed : Label → Type 0
 IsClosed Dead = Unit {0}
-IsClosed (Live bag m) = has_no_slot m ≡ true
+IsClosed (Live bag m) = same_slot (sq_of m).slot Closed ≡ true
+
+-- Where it is live, the lock of the completion side is held.
+abbrev pub HasCq : Label → Type 0
+HasCq Dead = Unit {0}
+HasCq (Live bag m) = is_some m.cq ≡ true
 
 -- ---- what is kept of the blocks that are open
 
@@ -102,7 +101,7 @@ pub record IsMeet (P : Program) (t : Thread) (lock : Bool) (n : ℕ) (ends : Boo
 -- Of the peek at o the state before its arms is kept, whether the arms so far agree on the slot, and then their meet.
 pub record IsPeeked (P : Program) (t : Thread) (j : ℕ) (labels : List Sides) (o : ℕ) (a : Arms) : Type 0 where
   pub before : IsSaved P t labels (o + 1) a.before
-  pub locked : (z : Bool) → IsLocked (label_of a.before z)
+  pub locked : (z : Bool) → HasCq (label_of a.before z)
   pub of : IsOf P t a.ends
   pub agree : agree_all (arm_ends (take j t.lines) labels o true ++ arm_ends (take j t.lines) labels o false) ≡ a.agree
   pub ends : a.agree ≡ true → IsMeet P t (in_lock (blocks_at t.lines o)) (most_at j) (arm_ends (take j t.lines) labels o) a.ends

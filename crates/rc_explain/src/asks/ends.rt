@@ -6,7 +6,7 @@ use super::side_asks::put_slot;
 use rc_lang::lines::{Line, Stmt, Test};
 use rc_lang::program::Program;
 use rc_report::text::{put_number, put_piece};
-use rc_rules::mode::{Mode, Slot};
+use rc_rules::mode::Slot;
 use rc_rules::state::State;
 use rc_verify::labels::Labels;
 use std::alloc::AllocError;
@@ -33,10 +33,8 @@ fn stage(state: &State, stmt: Stmt) -> Option<Slot> {
         Some(mode) => Some(mode),
         None => end.on(false).mode(),
     };
-    match mode? {
-        Mode::Locked(inside) => Some(inside.slot),
-        Mode::Unlocked => None,
-    }
+    let sq = mode?.sq?;
+    Some(sq.slot)
 }
 
 /// Adds an end, and its stage.

@@ -5,15 +5,15 @@ use crate::state_text::put_kind;
 use rc_lang::program::Program;
 use rc_report::printed::buffer_name;
 use rc_report::text::{put_number, put_piece, put_pieces};
-use rc_rules::mode::{Inside, Mode, Slot, ring_of};
+use rc_rules::mode::{Slot, Submitting, sq_of, unlocked};
 use rc_rules::needs::{Asks, kind_of};
 use rc_rules::side::Side;
 use rc_split::part::Part;
 use std::alloc::AllocError;
 
-/// What is known of the ring on a side.
-fn ring_on(side: &Side) -> Inside {
-    ring_of(side.mode().unwrap_or(Mode::Unlocked))
+/// What is known of the submission side of the ring on a side.
+fn sq_on(side: &Side) -> Submitting {
+    sq_of(side.mode().unwrap_or(unlocked()))
 }
 
 /// The part that is asked for and isn't there, if it is one.
@@ -57,7 +57,7 @@ pub fn put_slot(text: &mut Vec<u8>, program: &Program, slot: Slot) -> Result<(),
 /// Adds which stage is asked for, and that of the slot.
 fn put_slot_asked(text: &mut Vec<u8>, side: &Side, asked: &[u8]) -> Result<(), AllocError> {
     put_pieces(text, &[b"asks for ", asked, b"; "])?;
-    put_slot(text, side.program(), ring_on(side).slot)
+    put_slot(text, side.program(), sq_on(side).slot)
 }
 
 /// Adds what the line of a token says, and how the entry is.
@@ -69,7 +69,7 @@ fn put_line(text: &mut Vec<u8>, side: &Side, user_data: u64) -> Result<(), Alloc
         put_kind(text, side.program(), kind)?;
     }
     put_piece(text, b"; ")?;
-    put_slot(text, side.program(), ring_on(side).slot)
+    put_slot(text, side.program(), sq_on(side).slot)
 }
 
 /// Adds a part that is asked for, and how many of it are held.
@@ -134,13 +134,13 @@ fn put_loop(
         put_piece(text, b"the loop keeps")?;
         return put_missing(text, side, said(side.program(), thread, list, zero));
     }
-    if ring_on(side).slot != Slot::Closed {
+    if sq_on(side).slot != Slot::Closed {
         return put_slot_asked(text, side, b"no open entry");
     }
     put_piece(text, b"the loop keeps q:")?;
     put_number(text, u64::from(queue_on(side.program(), thread, list)))?;
     put_piece(text, b"; q is ")?;
-    put_number(text, u64::from(ring_on(side).queued))
+    put_number(text, u64::from(sq_on(side).queued))
 }
 
 /// Adds what is asked for of a side, and what is there.
@@ -153,7 +153,8 @@ pub fn put_side(
 ) -> Result<(), AllocError> {
     let program = side.program();
     match asks {
-        Asks::Lock => put_piece(text, b"asks for the lock; it isn't held"),
+        Asks::SqLock => put_piece(text, b"asks for the lock; it isn't held"),
+        Asks::CqLock => put_piece(text, b"asks for the lock; it isn't held"),
         Asks::Part(part) => put_part_asked(text, side, part),
         Asks::Whole(buffer) => put_whole(text, side, buffer),
         Asks::Items(list) => {
@@ -197,7 +198,7 @@ pub fn put_side(
 
 fn put_room(text: &mut Vec<u8>, side: &Side) -> Result<(), AllocError> {
     put_piece(text, b"asks for room in the queue; q is ")?;
-    put_number(text, u64::from(ring_on(side).queued))?;
+    put_number(text, u64::from(sq_on(side).queued))?;
     put_piece(text, b" of ")?;
     put_number(text, u64::from(side.program().entries()))?;
     put_piece(text, b" entries")
@@ -207,7 +208,7 @@ fn put_left(text: &mut Vec<u8>, side: &Side) -> Result<(), AllocError> {
     put_piece(text, b"asks for at most ")?;
     put_number(text, u64::from(side.program().left()))?;
     put_piece(text, b" queued (left); q is ")?;
-    put_number(text, u64::from(ring_on(side).queued))
+    put_number(text, u64::from(sq_on(side).queued))
 }
 
 /// Adds how many bytes are asked for, between two words, and how many there are.

@@ -57,15 +57,15 @@ impl<'a> State<'a> {
         Ok(())
     }
 
-    /// Whether a `break` may be here, which may release the lock.
+    /// Whether a `break` may be here, which may release both locks.
     pub fn may_break(&self, releases: bool) -> Result<(), Cause>
         ensures { Tests result (spec.asked_alike self.now [] (stmts.Break 0 releases false)) }
     {
         self.checked(&[], Stmt::Break(0, releases, false))
     }
 
-    /// `break`, which may release the lock. The state is dead after it. What goes to the loop's end is made of the
-    /// state before. Unless the state is dead, it is locked where the lock is released.
+    /// `break`, which may release both locks. The state is dead after it. What goes to the loop's end is made of the
+    /// state before. Unless the state is dead, it has both where they are released.
     pub fn break_out(&mut self, releases: bool) -> Result<(), Cause>
         requires { releases ≡ true → spec.OnBoth spec.IsLocked self.old }
         ensures { spec.Ends self.old self.new result [] (stmts.Break 0 releases false) }
