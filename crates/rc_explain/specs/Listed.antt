@@ -6,7 +6,7 @@ use Rattle.rc_lang.specs.Program.{Program, Thread}
 use Rattle.rc_rules.specs.declared.cause.Cause.{Cause}
 use Rattle.rc_rules.specs.Labels.{Label}
 use Rattle.rc_rules.specs.Sides.{Sides}
-use Rattle.rc_rules.specs.States.{State, is_live, sides_of}
+use Rattle.rc_rules.specs.States.{Side, State, is_live, side_label, sides_of}
 use Rattle.rc_verify.specs.Labels.{IsStrongestAt, IsRefusedFor}
 use Rattle.rc_report.specs.Source.{line_words}
 use Rattle.rc_explain.specs.declared.listing.Page.{Page as PageOf}
@@ -77,6 +77,19 @@ next_text page run s = cond (is_shown s) (reached_text page run s) []
 
 abbrev pub run_after : Option Run → Shown → Option Run
 run_after run s = cond (is_shown s) None (Some (run_to run s.number))
+
+-- the same of a page, a side and a state as the program has them
+abbrev pub known_on : PageOf → ℕ → Side → Bool → List ℕ
+known_on page number side zero = known_text (view_page page) number (side_label side) zero
+
+abbrev pub line_on : PageOf → ℕ → Side → Bool → List ℕ
+line_on page number side zero = side_line (view_page page) number (side_label side) zero
+
+abbrev pub reached_at : PageOf → Option Run → ℕ → State → List ℕ
+reached_at page run number state = reached_text (view_page page) run (shown number state)
+
+abbrev pub next_at : PageOf → Option Run → ℕ → State → List ℕ
+next_at page run number state = next_text (view_page page) run (shown number state)
 
 -- the lines after a run: it is told before the next line that something reaches, or at the end
 abbrev pub lines_text : Page → Option Run → List Shown → List ℕ

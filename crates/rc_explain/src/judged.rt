@@ -1,10 +1,7 @@
 //! The verdict on a text that was judged.
 
-ghost use Rattle.std.specs.Prelude.{◌≡◌, ℕ, List};
-ghost use Rattle.rc_admit.specs.Judged.{IsJudged};
+ghost use Rattle.std.specs.Prelude.{◌≡◌};
 ghost use Rattle.rc_explain.specs.Judged as spec;
-ghost use Rattle.rc_read.specs.Answer.{answer_of};
-ghost use Rattle.rc_report.specs.Checks.{IsVerdict};
 
 use rc_admit::admitted::Judged;
 use rc_report::verdict::Verdict;
@@ -12,7 +9,7 @@ use rc_report::verdict::Verdict;
 /// The verdict on a text that was judged.
 pub fn verdict_of(judged: &Judged) -> Verdict
     ensures value { result ≡ spec.verdict_of judged.now }
-    ensures verdict { (text : List ℕ) → IsJudged text judged.now → IsVerdict (answer_of text) result }
+    ensures verdict { spec.IsVerdictOn judged.now result }
 {
     match judged {
         Judged::Admitted(_) => Verdict::Accepted,

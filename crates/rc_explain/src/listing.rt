@@ -5,7 +5,6 @@ ghost use Rattle.rc_explain.specs.Listed as spec;
 ghost use Rattle.rc_explain.specs.Listed.{Lists, view_page};
 ghost use Rattle.rc_lang.specs.Parts.{view_thread};
 ghost use Rattle.rc_report.specs.Text.{Puts};
-ghost use Rattle.rc_rules.specs.States.{side_label};
 
 use crate::state_text::put_state;
 use rc_lang::lines::Line;
@@ -107,7 +106,7 @@ fn put_known(
     side: &Side,
     zero: bool,
 ) -> Result<(), AllocError>
-    ensures { Puts text.old text.new (spec.known_text (view_page page.now) number (side_label side.now) zero) result }
+    ensures { Puts text.old text.new (spec.known_on page.now number side.now zero) result }
 {
     put_words(text, page, number, zero)?;
     put_state(text, page.program, side)?;
@@ -122,7 +121,7 @@ fn put_side(
     side: &Side,
     zero: bool,
 ) -> Result<(), AllocError>
-    ensures { Puts text.old text.new (spec.side_line (view_page page.now) number (side_label side.now) zero) result }
+    ensures { Puts text.old text.new (spec.line_on page.now number side.now zero) result }
 {
     if side.is_live() {
         return put_known(text, page, number, side, zero);
@@ -138,7 +137,7 @@ fn put_reached(
     state: &State,
     run: Option<Run>,
 ) -> Result<(), AllocError>
-    ensures { Puts text.old text.new (spec.reached_text (view_page page.now) run (spec.shown number state.now)) result }
+    ensures { Puts text.old text.new (spec.reached_at page.now run number state.now) result }
 {
     put_run(text, run)?;
     put_side(text, page, number, state.on(true), true)?;
@@ -153,7 +152,7 @@ fn put_line(
     state: &State,
     run: Option<Run>,
 ) -> Result<Option<Run>, AllocError>
-    ensures text { Puts text.old text.new (spec.next_text (view_page page.now) run (spec.shown number state.now)) result }
+    ensures text { Puts text.old text.new (spec.next_at page.now run number state.now) result }
     ensures run { IfOk result (λ after. after ≡ spec.run_after run (spec.shown number state.now)) }
 {
     if state.on(true).is_live() || state.on(false).is_live() {

@@ -16,3 +16,7 @@ buffered taken b = record (taken b.sink) { contents = append_known (taken b.sink
 -- what a sink over a writer has taken
 abbrev pub taken_by : {W : Type 0} → (W → Option (List ℕ)) → WriteSink W → Taken
 taken_by contents sink = record { contents = contents sink.writer; failures = sink.failures }
+
+-- the same of a buffered sink over a writer
+abbrev pub held : {W : Type 0} → (W → Option (List ℕ)) → Buffered (WriteSink W) → Taken
+held contents b = buffered (taken_by contents) b

@@ -1,11 +1,19 @@
 -- The words of a line of a text, as they are printed.
-use Rattle.std.specs.Prelude.{ℕ, zero, suc, List, [], ◌∷◌, ◌++◌, codes, slice_index_or}
-use Rattle.rc_read.specs.Words.{text_lines, words_of}
+use Rattle.std.specs.Prelude.{ℕ, zero, suc, ◌≡◌, ◌<◌, Bool, List, [], ◌∷◌, ◌++◌, codes, length, slice_index_or}
+use Rattle.rc_read.specs.Words.{is_blank, text_lines, words_of}
 
 -- The line with this number, from 1. Where there is no such line, it is empty.
 abbrev pub line_numbered : List (List ℕ) → ℕ → List ℕ
 line_numbered lines zero = []
 line_numbered lines (suc n) = slice_index_or lines n []
+
+-- whether a line begins with a blank
+abbrev pub begins_blank : List ℕ → Bool
+begins_blank line = is_blank (slice_index_or line 0 35)
+
+-- The first word of a line, and a shorter part that has its other words.
+abbrev pub Begins : List ℕ → List ℕ → List ℕ → Type 0
+Begins line word after = (words_of line ≡ word ∷ words_of after) × (length after < length line)
 
 -- each word after a blank
 abbrev pub behind_blanks : List (List ℕ) → List ℕ

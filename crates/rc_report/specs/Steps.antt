@@ -4,12 +4,14 @@ use Rattle.rc_lang.specs.Program.{Program}
 use Rattle.rc_read.specs.Causes.{number_of_cause}
 use Rattle.rc_read.specs.declared.fault.ReadFault.TheVariants as fault
 use Rattle.rc_world.specs.Schedule.{items_of}
+use Rattle.rc_world.specs.Trace.{Trace, trace_of}
 use Rattle.rc_report.specs.declared.step_engine.StepEnd.{StepEnd}
 use Rattle.rc_report.specs.declared.step_engine.StepEnd.TheVariants as end
 use Rattle.rc_report.specs.declared.step_engine.Steps.{Steps}
 use Rattle.rc_report.specs.declared.step_engine.Unread.{Unread}
 use Rattle.rc_report.specs.declared.step_engine.Unread.TheVariants.{Text, Schedule}
 use Rattle.rc_report.specs.declared.verdict.Verdict.TheVariants.{Unreadable}
+use Rattle.rc_report.specs.Engine.{text_of_trace}
 use Rattle.rc_report.specs.Printed.{schedule_line}
 use Rattle.rc_report.specs.Verdicts.{verdict_text}
 
@@ -24,6 +26,13 @@ IsUnread (Err (line, number)) schedule (Schedule i) = ⊥
 abbrev pub ReadsSteps : Result Program (ℕ × ℕ) → List ℕ → Result Steps Unread → Type 0
 ReadsSteps answer schedule (Ok steps) = (answer ≡ Ok steps.program) × (items_of steps.program schedule ≡ Ok steps.items.items)
 ReadsSteps answer schedule (Err unread) = IsUnread answer schedule unread
+
+-- the trace of a program through its items, and its text
+abbrev pub traced : Steps → Trace
+traced steps = trace_of steps.program steps.items.items
+
+abbrev pub steps_text : Steps → List ℕ
+steps_text steps = text_of_trace steps.program (traced steps)
 
 -- the line that says what can't be read
 abbrev pub unread_text : Unread → List ℕ

@@ -82,14 +82,14 @@ impl<S: Sink> Sink for Buffered<S> {
 
 impl<W: Write> Buffered<WriteSink<W>> {
     ghost use Rattle.std.specs.Prelude.{◌≡◌, [], OnOk};
-    ghost use Rattle.rc_report.specs.Buffers.{buffered, kept_back, taken_by};
+    ghost use Rattle.rc_report.specs.Buffers.{held, kept_back, taken_by};
     ghost use Rattle.rc_report.specs.Streams.{CanWrite, Stays};
 
     /// Writes what is kept back, and has the writer hand on what it keeps itself.
     pub fn finish(&mut self) -> Result<(), DeviceFailed>
         requires { CanWrite (taken_by W.contents self.old.sink) }
         ensures empty { OnOk result (kept_back self.new ≡ []) }
-        ensures state { Stays (buffered (taken_by W.contents) self.old) (buffered (taken_by W.contents) self.new) result }
+        ensures state { Stays (held W.contents self.old) (held W.contents self.new) result }
     {
         self.write_out()?;
         self.sink.flush()

@@ -3,7 +3,7 @@
 ghost use Rattle.std.specs.Prelude.{◌≡◌, ◌<◌, ◌≤◌, ◌++◌, [], ◌∷◌, IfOk, MatchOption, length, slice_index_or, take, drop, false};
 ghost use Rattle.rc_read.specs.Words.{text_lines, word_if_any, words_of};
 ghost use Rattle.rc_read.specs.Words as words;
-ghost use Rattle.rc_report.specs.Source.{behind_blanks, line_numbered, line_words};
+ghost use Rattle.rc_report.specs.Source.{Begins, begins_blank, behind_blanks, line_numbered, line_words};
 ghost use Rattle.rc_report.specs.Text.{Puts};
 
 use crate::text::{put_piece, put_pieces};
@@ -100,8 +100,7 @@ fn first_line(text: &[u8]) -> (&[u8], &[u8])
 
 /// The first word of a part of a line, and what comes after it.
 pub fn first_word(line: &[u8]) -> Option<(&[u8], &[u8])>
-    ensures { MatchOption result (words_of line.now ≡ [])
-        (λ r. (words_of line.now ≡ r.0.now ∷ words_of r.1.now) × (length r.1.now < length line.now)) }
+    ensures { MatchOption result (words_of line.now ≡ []) (λ r. Begins line.now r.0.now r.1.now) }
 {
     let rest = &line[blanks_in_front(line)..];
     let end = letters_in_front(rest);
@@ -115,7 +114,7 @@ pub fn first_word(line: &[u8]) -> Option<(&[u8], &[u8])>
 fn blanks_in_front(line: &[u8]) -> usize
     ensures within { result ≤ length line.now }
     ensures words { words_of line.now ≡ words_of (drop result line.now) }
-    ensures then { words.is_blank (slice_index_or (drop result line.now) 0 35) ≡ false }
+    ensures then { begins_blank (drop result line.now) ≡ false }
 {
     for count in 0..line.len() {
         if !is_blank(line[count]) {
@@ -129,7 +128,7 @@ fn blanks_in_front(line: &[u8]) -> usize
 fn letters_in_front(line: &[u8]) -> usize
     ensures within { result ≤ length line.now }
     ensures words { words_of line.now ≡ word_if_any (take result line.now) ++ words_of (drop result line.now) }
-    ensures none { result ≡ 0 → words.is_blank (slice_index_or line.now 0 35) ≡ false → words_of line.now ≡ [] }
+    ensures none { result ≡ 0 → begins_blank line.now ≡ false → words_of line.now ≡ [] }
 {
     for count in 0..line.len() {
         if line[count] == b'#' || is_blank(line[count]) {

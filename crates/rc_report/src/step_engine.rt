@@ -2,9 +2,8 @@
 
 ghost use Rattle.std.specs.Prelude.{◌≡◌, IfOk};
 ghost use Rattle.rc_read.specs.Answer.{answer_of};
-ghost use Rattle.rc_world.specs.Trace.{trace_of};
-ghost use Rattle.rc_report.specs.Engine.{AnswersSteps, StepsAs, end_of, stepped_text, text_of_trace};
-ghost use Rattle.rc_report.specs.Steps.{ReadsSteps, end_of_unread, unread_text};
+ghost use Rattle.rc_report.specs.Engine.{AnswersSteps, StepsAs, end_of, stepped_text};
+ghost use Rattle.rc_report.specs.Steps.{ReadsSteps, end_of_unread, steps_text, traced, unread_text};
 ghost use Rattle.rc_report.specs.Streams.{CanRead, CanWrite, CountsReads, Writes, WritesOrGrows};
 
 use crate::engine_fault::EngineFault;
@@ -63,7 +62,8 @@ pub fn step_engine<R: Source, W: Sink>(
 ) -> Result<StepEnd, EngineFault>
     requires reads { CanRead 2097152 (R.state reader.old) }
     requires writes { CanWrite (W.state writer.old) }
-    ensures answer { StepsAs (R.state reader.old) schedule.now W.state writer.old writer.new result }
+    ensures answer { StepsAs (R.state reader.old) schedule.now
+        W.state writer.old writer.new result }
     ensures reads { CountsReads (R.state reader.old) (R.state reader.new) result }
 {
     let text = read_text(alloc, reader)?;
@@ -119,7 +119,8 @@ pub fn step_bytes<W: Sink>(
     writer: &mut W,
 ) -> Result<StepEnd, EngineFault>
     requires { CanWrite (W.state writer.old) }
-    ensures { AnswersSteps stepped_text text.items schedule.now W.state writer.old writer.new result }
+    ensures { AnswersSteps stepped_text text.items schedule.now
+        W.state writer.old writer.new result }
 {
     let read = read_steps(alloc, &text, schedule)?;
     drop(text);
@@ -135,9 +136,8 @@ pub fn step_bytes<W: Sink>(
 /// Writes the trace of the run that the items name.
 fn write_trace<W: Sink>(alloc: Global, steps: &Steps, writer: &mut W) -> Result<End, EngineFault>
     requires { CanWrite (W.state writer.old) }
-    ensures text { WritesOrGrows W.state writer.old writer.new
-        (text_of_trace steps.now.program (trace_of steps.now.program steps.now.items.items)) result }
-    ensures end { IfOk result (λ end. end ≡ end_of (trace_of steps.now.program steps.now.items.items).ending) }
+    ensures text { WritesOrGrows W.state writer.old writer.new (steps_text steps.now) result }
+    ensures end { IfOk result (λ end. end ≡ end_of (traced steps.now).ending) }
 {
     let mut world = World::start(alloc, &steps.program)?;
     write_run(&mut world, &steps.items, writer)

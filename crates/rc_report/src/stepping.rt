@@ -3,9 +3,8 @@
 ghost use Rattle.std.specs.Prelude.{◌≡◌, ◌+◌, ◌<◌, ◌≤◌, ◌^◌, length, IfOk};
 ghost use Rattle.rc_world.specs.Faults.{fault_of};
 ghost use Rattle.rc_world.specs.Trace.{all_ended, last_ending, trace_from};
-ghost use Rattle.rc_report.specs.Engine.{end_of, text_of_trace};
-ghost use Rattle.rc_report.specs.Made.{MakesItem, refused_ending};
-ghost use Rattle.rc_report.specs.Printed.{event_lines};
+ghost use Rattle.rc_report.specs.Engine.{end_of};
+ghost use Rattle.rc_report.specs.Made.{MakesItem, lines_from, refused_ending, text_from};
 ghost use Rattle.rc_report.specs.Streams.{CanWrite, WritesOrGrows};
 
 use crate::engine_fault::EngineFault;
@@ -36,7 +35,7 @@ pub fn write_run<W: Sink>(
     requires room { CanWrite (W.state writer.old) }
     requires start { world.old.made ≡ 0 }
     ensures text { WritesOrGrows W.state writer.old writer.new
-        (text_of_trace world.old.program (trace_from world.old 1 items.now)) result }
+        (text_from world.old items.now) result }
     ensures end { IfOk result (λ end. end ≡ end_of (trace_from world.old 1 items.now).ending) }
     ensures world { IfOk result (λ _. world.new ≡ (trace_from world.old 1 items.now).world) }
 {
@@ -55,7 +54,7 @@ fn write_events<W: Sink>(
     requires room { CanWrite (W.state writer.old) }
     requires start { world.old.made ≡ 0 }
     ensures text { WritesOrGrows W.state writer.old writer.new
-        (event_lines world.old.program 1 (trace_from world.old 1 items.now).events) result }
+        (lines_from world.old items.now) result }
     ensures count { IfOk result (λ r. r.0 ≡ length (trace_from world.old 1 items.now).events) }
     ensures end { IfOk result (λ r. r.1 ≡ end_of (trace_from world.old 1 items.now).ending) }
     ensures world { IfOk result (λ _. world.new ≡ (trace_from world.old 1 items.now).world) }

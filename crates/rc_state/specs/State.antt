@@ -46,6 +46,9 @@ thread_next_text text w i TakenLock =
     ++ (line_with_words text (next_line w.program w.controls i) ++ holder_text w.program w.controls.holder)
 thread_next_text text w i Ended = codes "ended"
 
+abbrev pub next_text : List ℕ → World → ℕ → List ℕ
+next_text text w i = thread_next_text text w i (next_of w.program w.controls i)
+
 -- the names of a thread's variables
 abbrev pub variables_in : Option Thread → List (List ℕ)
 variables_in None = []
@@ -73,7 +76,7 @@ variables_text w i = each (length (variables_in (slice_get w.program.threads i))
 abbrev pub thread_text : List ℕ → World → ℕ → List ℕ
 thread_text text w i =
     joined (codes "thread " ∷ thread_name w.program i ∷ codes ": " ∷ [])
-    ++ (thread_next_text text w i (next_of w.program w.controls i)
+    ++ (next_text text w i
     ++ (codes "\n  variables:" ++ (variables_text w i ++ codes "\n")))
 
 abbrev pub threads_text : List ℕ → World → List ℕ
@@ -178,13 +181,17 @@ abbrev pub choice_if_any : Program → Option Choice → List ℕ
 choice_if_any program None = []
 choice_if_any program (Some choice) = choice_text program choice
 
+abbrev pub thread_choice_text : World → ℕ → List ℕ
+thread_choice_text w i = choice_if_any w.program (thread_choice w i)
+
+abbrev pub pending_choice_text : World → ℕ → List ℕ
+pending_choice_text w k = choice_if_any w.program (pending_choice w k)
+
 abbrev pub thread_choices_text : World → List ℕ
-thread_choices_text w =
-    each (length w.program.threads) (λ i. choice_if_any w.program (thread_choice w i))
+thread_choices_text w = each (length w.program.threads) (thread_choice_text w)
 
 abbrev pub completion_choices_text : World → List ℕ
-completion_choices_text w =
-    each (length w.pending) (λ k. choice_if_any w.program (pending_choice w k))
+completion_choices_text w = each (length w.pending) (pending_choice_text w)
 
 -- What is enabled, faults aside: in a world with a fault these are listed too, but nothing is stepped.
 abbrev pub choices_text : World → List ℕ

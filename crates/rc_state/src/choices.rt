@@ -1,7 +1,6 @@
 //! What may be done next, as it is listed for a schedule.
 
 ghost use Rattle.rc_report.specs.Text.{Puts};
-ghost use Rattle.rc_state.specs.Choices.{pending_choice, thread_choice};
 ghost use Rattle.rc_state.specs.State as spec;
 
 use rc_lang::lines::{Op, Stmt};
@@ -34,8 +33,7 @@ fn put_thread_choices(text: &mut Vec<u8>, world: &World<'_>) -> Result<(), Alloc
 
 /// Adds the item of a thread that has a step, at a submit with what it may take.
 fn put_thread_choice(text: &mut Vec<u8>, world: &World<'_>, thread: u32) -> Result<(), AllocError>
-    ensures { Puts text.old text.new
-        (spec.choice_if_any world.now.program (thread_choice world.now thread)) result }
+    ensures { Puts text.old text.new (spec.thread_choice_text world.now thread) result }
 {
     let Next::Ready(line) = world.next(thread) else {
         return Ok(());
@@ -64,8 +62,7 @@ fn put_completion_choice(
     world: &World<'_>,
     place: usize,
 ) -> Result<(), AllocError>
-    ensures { Puts text.old text.new
-        (spec.choice_if_any world.now.program (pending_choice world.now place)) result }
+    ensures { Puts text.old text.new (spec.pending_choice_text world.now place) result }
 {
     let Some(request) = world.pending(place) else {
         return Ok(());

@@ -1,11 +1,11 @@
 //! A program is stepped through a schedule, and its trace is written with the world in which it ends.
 
 ghost use Rattle.std.specs.Prelude.{◌≡◌, IfOk};
-ghost use Rattle.rc_report.specs.Engine.{AnswersSteps, end_of};
+ghost use Rattle.rc_report.specs.Engine.{end_of};
+ghost use Rattle.rc_report.specs.Steps.{traced};
 ghost use Rattle.rc_report.specs.Streams.{CanWrite, WritesOrGrows};
-ghost use Rattle.rc_state.specs.Engine.{stepped_with_state, trace_and_state};
+ghost use Rattle.rc_state.specs.Engine.{AnswersState, shown_text};
 ghost use Rattle.rc_state.specs.State.{world_text};
-ghost use Rattle.rc_world.specs.Trace.{trace_of};
 
 use crate::state::put_state;
 use rc_report::engine_fault::EngineFault;
@@ -30,7 +30,7 @@ pub fn show_bytes<W: Sink>(
     writer: &mut W,
 ) -> Result<StepEnd, EngineFault>
     requires { CanWrite (W.state writer.old) }
-    ensures { AnswersSteps stepped_with_state text.now schedule.now W.state writer.old writer.new result }
+    ensures { AnswersState text.now schedule.now W.state writer.old writer.new result }
 {
     let read = read_steps(alloc, text, schedule)?;
     match read {
@@ -50,10 +50,9 @@ fn write_shown<W: Sink>(
     writer: &mut W,
 ) -> Result<End, EngineFault>
     requires { CanWrite (W.state writer.old) }
-    ensures text { let run = trace_of steps.now.program steps.now.items.items in
-        WritesOrGrows W.state writer.old writer.new (trace_and_state text.now steps.now.program run) result }
-    ensures end { let run = trace_of steps.now.program steps.now.items.items in
-        IfOk result (λ end. end ≡ end_of run.ending) }
+    ensures text { WritesOrGrows W.state writer.old writer.new
+        (shown_text text.now steps.now) result }
+    ensures end { IfOk result (λ end. end ≡ end_of (traced steps.now).ending) }
 {
     let mut world = World::start(alloc, &steps.program)?;
     let end = write_run(&mut world, &steps.items, writer)?;

@@ -4,7 +4,6 @@ ghost use Rattle.std.specs.Prelude.{◌≡◌, Some, length, slice_get};
 ghost use Rattle.rc_lang.specs.Parts.{view_thread};
 ghost use Rattle.rc_report.specs.Text.{Puts};
 ghost use Rattle.rc_state.specs.State as spec;
-ghost use Rattle.rc_world.specs.Items.{next_of};
 
 use rc_lang::lines::Line;
 use rc_lang::program::{Program, Thread};
@@ -53,8 +52,7 @@ fn put_next(
     world: &World<'_>,
     thread: u32,
 ) -> Result<(), AllocError>
-    ensures { let next = next_of world.now.program world.now.controls thread in
-        Puts text.old text.new (spec.thread_next_text lines.now world.now thread next) result }
+    ensures { Puts text.old text.new (spec.next_text lines.now world.now thread) result }
 {
     match world.next(thread) {
         Next::Ready(line) => put_line(text, lines, Some(line)),
