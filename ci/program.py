@@ -71,9 +71,9 @@ ONE_COUNTED = "thread t0: 1 events\nlongest stretch: 1 events of t0\nended after
 FIVE_COUNTED = "thread t0: 5 events\nlongest stretch: 5 events of t0\nlimit after 5 events\n"
 REFUSAL = "refused line 4 V1 Unlocked\n"
 FAULT = "unreadable line 4 P3 BadLine\n"
-FOUND = "found by walk 1: --moves \n"
+FOUND = "found by walk 1: --moves ,\n"
 NO_LOCK = "fault F9 NoLock t0 line 4\n"
-FOUND_JSON = '{"cause":"Unlocked","code":1,"line":4,"moves":"","trace":"fault F9 NoLock t0 line 4\\n","verdict":"refused","walk":1}\n'
+FOUND_JSON = '{"cause":"Unlocked","code":1,"line":4,"moves":",","trace":"fault F9 NoLock t0 line 4\\n","verdict":"refused","walk":1}\n'
 KEPT = "refused line 5 V13 LoopEntry\n"
 NOT_FOUND = KEPT + "no fault in 7 walks: the text may say too little, or the walks were too few\n"
 NOT_FOUND_JSON = '{"cause":"LoopEntry","code":13,"line":5,"moves":null,"trace":null,"verdict":"refused","walk":null}\n'
@@ -113,6 +113,7 @@ ROWS = [
     (("step", "--moves", "t0"), UNREADABLE, 2, FAULT, ""),
     (("step", "--moves", "t0*2"), GOOD, 3, "1 t0 4 set 1\nitem 2 not enabled\n", "item 1, t0*2, isn't enabled: t0 has ended"),
     (("step", "--moves", "t0,u*2"), GOOD, 3, "schedule item 2 unreadable\n", ""),
+    (("step", "--moves", ","), REFUSED, 1, NO_LOCK, ""),
     (("step", "--moves", "@moves"), GOOD, 0, ONE_EVENT, ""),
     (("step", "--moves", "@missing.rc"), GOOD, 3, "", f"missing.rc: {MISSING}"),
     (("find",), GOOD, 0, ACCEPTED, ""),
