@@ -3,7 +3,7 @@ use Rattle.std.proofs.Common.{◌≡◌, ℕ, ◌+◌, ◌<◌, ◌≤◌, take,
 use Rattle.std.specs.Global.{Vec}
 use Rattle.rc_lang.specs.Program.{Program}
 use Rattle.rc_report.proofs.Placed.{placed-more}
-use Rattle.rc_report.specs.Summaries.{placed}
+use Rattle.rc_report.specs.Printed.{placed}
 use Rattle.rc_report.specs.Text.{Puts}
 use Rattle.rc_rules.specs.declared.mode.Mode.{Mode}
 use Rattle.rc_rules.specs.States.{held_at, label_in, mode_in}

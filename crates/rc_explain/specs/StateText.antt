@@ -15,8 +15,7 @@ use Rattle.rc_rules.specs.Labels.{Label, Dead, Live}
 use Rattle.rc_rules.specs.Rules.{peeked_of}
 use Rattle.rc_rules.specs.States.{Side, held_at, side_label}
 use Rattle.rc_split.specs.Bags.{Part, ShareOf, TokenOf, Credit}
-use Rattle.rc_report.specs.Printed.{buffer_name}
-use Rattle.rc_report.specs.Summaries.{placed}
+use Rattle.rc_report.specs.Printed.{buffer_name, placed}
 
 -- how many of each part are held on a side
 abbrev pub bag_on : Side → (Part → ℕ)

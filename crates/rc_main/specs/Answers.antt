@@ -60,15 +60,15 @@ EndsRun program limit report end.Limit = Tells DiskGives program limit (Err (fau
 EndsRun program limit report end.Memory = Tells DiskGives program limit (Err (fault.OutOfMemory report))
 
 -- what is written of a run: a summary, or the trace
-abbrev pub summary_or_trace : Bool → Program → List Event → End → List ℕ
-summary_or_trace true program events end = summary_text program events end
-summary_or_trace false program events end = trace_text program events end
+abbrev pub summary_or_trace : Bool → List ℕ → Program → List Event → End → List ℕ
+summary_or_trace true bytes program events end = summary_text bytes program events end
+summary_or_trace false bytes program events end = trace_text program events end
 
--- The program ran, and what happened is written.
-abbrev pub SaysRun : Program → ℕ → Bool → ℕ → List ℕ → Type 0
-SaysRun program limit summary status text =
+-- The program of these bytes ran, and what happened is written.
+abbrev pub SaysRun : List ℕ → Program → ℕ → Bool → ℕ → List ℕ → Type 0
+SaysRun bytes program limit summary status text =
     (report : RunReport) × (end : End) × EndsRun program limit report end
-    × (text ≡ summary_or_trace summary program report.history.items end) × (status ≡ status_of_end end)
+    × (text ≡ summary_or_trace summary bytes program report.history.items end) × (status ≡ status_of_end end)
 
 -- An accepted program is answered so; and another text with the verdict that says why it isn't one.
 abbrev pub SaysAdmitted : List ℕ → (Program → ℕ → List ℕ → Type 0) → ℕ → List ℕ → Type 0
@@ -84,7 +84,8 @@ Says (Step schedule) bytes status text = SaysSteps stepped_text bytes schedule.n
 Says (State schedule) bytes status text = SaysSteps stepped_with_state bytes schedule.now status text
 Says (Find seed walks json) bytes status text = SaysVerdict (Finds bytes walks json) status text
 Says (Moves moves state) bytes status text = SaysMoves bytes moves.items state status text
-Says (Run seed limit summary) bytes status text = SaysAdmitted bytes (λ program. SaysRun program limit summary) status text
+Says (Run seed limit summary) bytes status text =
+    SaysAdmitted bytes (λ program. SaysRun bytes program limit summary) status text
 Says Emit bytes status text = SaysAdmitted bytes (λ program status text. status ≡ 0) status text
 Says (Show shown) bytes status text = (text ≡ string_bytes shown) × (status ≡ 0)
 

@@ -14,6 +14,7 @@ use rc_admit::admitted::Admitted;
 use rc_device::chooser::Seeded;
 use rc_device::disk::Disk;
 use rc_report::check_engine::judged;
+use rc_report::source::Lines;
 use rc_report::streams::Sink;
 use rc_report::summary::put_summary;
 use rc_report::trace::{End, trace_text};
@@ -37,10 +38,11 @@ pub fn run_text<R: Threads + Wait + Sync, S: Sink>(
     sink: &mut S,
 ) -> Result<u8, CommandFault>
     requires { CanWrite (S.state sink.old) }
-    ensures { Does (SaysAdmitted text.now (λ program. SaysRun program limit summary)) S.state sink.old sink.new result }
+    ensures { Does (SaysAdmitted text.now (λ program. SaysRun text.now program limit summary))
+        S.state sink.old sink.new result }
 {
     match judged(alloc, text)? {
-        Ok(admitted) => run_admitted(rt, alloc, admitted, seed, limit, summary, sink),
+        Ok(admitted) => run_admitted(rt, alloc, text, admitted, seed, limit, summary, sink),
         Err(verdict) => tell_verdict(alloc, verdict, sink),
     }
 }
@@ -59,10 +61,11 @@ pub fn tell_verdict<S: Sink>(
     write_answer(sink, &answer, verdict.status())
 }
 
-/// Runs an admitted program, and writes the trace or the summary.
+/// Runs the admitted program of a text, and writes the trace or the summary.
 fn run_admitted<R: Threads + Wait + Sync, S: Sink>(
     rt: &R,
     alloc: Global,
+    text: &[u8],
     admitted: Admitted,
     seed: u32,
     limit: u32,
@@ -70,7 +73,7 @@ fn run_admitted<R: Threads + Wait + Sync, S: Sink>(
     sink: &mut S,
 ) -> Result<u8, CommandFault>
     requires { CanWrite (S.state sink.old) }
-    ensures { Does (SaysRun admitted limit summary) S.state sink.old sink.new result }
+    ensures { Does (SaysRun text.now admitted limit summary) S.state sink.old sink.new result }
 {
     let disk = Disk::new(alloc, admitted.program())?;
     let admitted = Arc::new(alloc, admitted).map_err(|_| AllocError)?;
@@ -78,7 +81,9 @@ fn run_admitted<R: Threads + Wait + Sync, S: Sink>(
     let (report, end) = played(rt, alloc, theirs, disk, seed, limit)?;
     if summary {
         let mut answer = Vec::new(alloc);
-        put_summary(&mut answer, alloc, admitted.program(), &report.history, end)?;
+        let lines = Lines::of(alloc, text)?;
+        let program = admitted.program();
+        put_summary(&mut answer, alloc, &lines, program, &report.history, end)?;
         return write_answer(sink, &answer, end.status());
     }
     trace_text(admitted.program(), &report.history, end, sink)?;

@@ -1,5 +1,6 @@
 pub mod Answered
 pub mod Buffers
+pub mod Covered
 pub mod Grows
 pub mod Lines
 pub mod Objects

@@ -1,7 +1,7 @@
 -- Texts of items by their places.
 use Rattle.std.proofs.Common.{◌≡◌, ℕ, ◌+◌, ◌<◌, ◌≤◌, take, List, [], ◌∷◌, ◌++◌, length, refl, sym, ap, ◌∙◌, append_assoc, add-zero, get_or, arith}
 use Rattle.std.proofs.lemmas.List.{length-take-le, take_more}
-use Rattle.rc_report.specs.Summaries.{placed}
+use Rattle.rc_report.specs.Printed.{placed}
 use Rattle.rc_report.proofs.Pieces.{append-[]}
 
 pub placed-append : {A : Type 0} (f : ℕ → A → List ℕ) (n : ℕ) (xs ys : List A) → placed f n (xs ++ ys) ≡ placed f n xs ++ placed f (n + length xs) ys

@@ -1,5 +1,6 @@
 pub mod Buffers
 pub mod Checks
+pub mod Coverage
 pub mod Engine
 pub mod Files
 pub mod Made

@@ -1,5 +1,5 @@
 -- The words of a line of a text, as they are printed.
-use Rattle.std.specs.Prelude.{ℕ, zero, suc, ◌≡◌, ◌<◌, Bool, List, [], ◌∷◌, ◌++◌, codes, length, slice_index_or}
+use Rattle.std.specs.Prelude.{ℕ, zero, suc, ◌≡◌, ◌-◌, ◌<◌, Bool, List, [], ◌∷◌, ◌++◌, codes, length, slice_index_or, take}
 use Rattle.rc_read.specs.Words.{is_blank, text_lines, words_of}
 
 -- The line with this number, from 1. Where there is no such line, it is empty.
@@ -28,3 +28,7 @@ spaced (word ∷ words) = word ++ behind_blanks words
 -- The words of the text's line with this number, without its comment, with one blank between two.
 abbrev pub line_words : List ℕ → ℕ → List ℕ
 line_words text number = spaced (words_of (line_numbered (text_lines text) number))
+
+-- Those of a line that opens a block, without the brace at their end and the blank before it.
+abbrev pub opening_words : List ℕ → ℕ → List ℕ
+opening_words text number = take (length (line_words text number) - 2) (line_words text number)

@@ -13,13 +13,9 @@ use Rattle.rc_world.specs.declared.event.Event.TheVariants.{ByThread, ByKernel}
 use Rattle.rc_report.specs.declared.summary.Stretch.{Stretch}
 use Rattle.rc_report.specs.declared.summary.Stretches.{Stretches}
 use Rattle.rc_report.specs.declared.trace.End.{End}
-use Rattle.rc_report.specs.Printed.{joined, thread_name}
+use Rattle.rc_report.specs.Coverage.{coverage_text}
+use Rattle.rc_report.specs.Printed.{joined, placed, thread_name}
 use Rattle.rc_report.specs.Traces.{end_text}
-
--- the texts of items by their places, the first of which is at place i
-abbrev pub placed : {A : Type 0} → (ℕ → A → List ℕ) → ℕ → List A → List ℕ
-placed text i [] = []
-placed text i (x ∷ xs) = text i x ++ placed text (i + 1) xs
 
 -- ---- the events of each thread
 
@@ -122,9 +118,12 @@ stretch_line program s =
 abbrev pub threads_text : Program → List Event → List ℕ
 threads_text program events = placed (λ i thread. thread_line program events i) 0 program.threads
 
--- what is counted of a run
-abbrev pub counts_text : Program → List Event → List ℕ
-counts_text program events = threads_text program events ++ (placed (token_line events) 0 program.tokens ++ stretch_line program (longest_stretch events))
+-- what is counted of a run of the program of a text
+abbrev pub counts_text : List ℕ → Program → List Event → List ℕ
+counts_text source program events =
+    threads_text program events
+    ++ (placed (token_line events) 0 program.tokens
+    ++ (stretch_line program (longest_stretch events) ++ coverage_text source program events))
 
-abbrev pub summary_text : Program → List Event → End → List ℕ
-summary_text program events end = counts_text program events ++ end_text program (length events) end
+abbrev pub summary_text : List ℕ → Program → List Event → End → List ℕ
+summary_text source program events end = counts_text source program events ++ end_text program (length events) end

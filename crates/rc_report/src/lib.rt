@@ -6,6 +6,7 @@
 
 pub mod buffered;
 pub mod check_engine;
+mod coverage;
 pub mod engine_fault;
 pub mod file_verdict;
 pub mod printed;

@@ -3,7 +3,7 @@
 ghost use Rattle.std.specs.Prelude.{◌≡◌, ◌<◌, ◌≤◌, ◌++◌, [], ◌∷◌, IfOk, MatchOption, length, slice_index_or, take, drop, false};
 ghost use Rattle.rc_read.specs.Words.{text_lines, word_if_any, words_of};
 ghost use Rattle.rc_read.specs.Words as words;
-ghost use Rattle.rc_report.specs.Source.{Begins, begins_blank, behind_blanks, line_numbered, line_words};
+ghost use Rattle.rc_report.specs.Source.{Begins, begins_blank, behind_blanks, line_numbered, line_words, opening_words};
 ghost use Rattle.rc_report.specs.Text.{Puts};
 
 use crate::text::{put_piece, put_pieces};
@@ -70,6 +70,16 @@ pub fn put_line_words(text: &mut Vec<u8>, lines: &Lines<'_>, number: u32) -> Res
         }
         None => Ok(()),
     }
+}
+
+/// The words of the line with this number, from 1, that opens a block, without the brace at their end.
+pub fn opening_words(alloc: Global, lines: &Lines<'_>, number: u32) -> Result<Vec<u8>, AllocError>
+    ensures { IfOk result (λ words. words.items ≡ opening_words lines.now number) }
+{
+    let mut words = Vec::new(alloc);
+    put_line_words(&mut words, lines, number)?;
+    words.truncate(words.len().saturating_sub(2));
+    Ok(words)
 }
 
 /// Adds the words of a part of a line, each after a blank.

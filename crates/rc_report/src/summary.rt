@@ -2,10 +2,13 @@
 
 ghost use Rattle.std.specs.Prelude.{◌≡◌, ◌+◌, ◌<◌, ◌≤◌, ◌^◌, IfOk, OnOk, count_by, insert, length, take};
 ghost use Rattle.std.specs.List.{flat_map};
-ghost use Rattle.rc_report.specs.Summaries.{counted, counts_text, is_completion_of, is_of, kind_name, longer, longest_stretch, next_stretch, others_text, placed, ranked, ranked_with, result_in, result_text, results_text, stretch_line, stretches_after, summary_text, tally, thread_line, threads_text, token_head, token_line, total};
+ghost use Rattle.rc_report.specs.Printed.{placed};
+ghost use Rattle.rc_report.specs.Summaries.{counted, counts_text, is_completion_of, is_of, kind_name, longer, longest_stretch, next_stretch, others_text, ranked, ranked_with, result_in, result_text, results_text, stretch_line, stretches_after, summary_text, tally, thread_line, threads_text, token_head, token_line, total};
 ghost use Rattle.rc_report.specs.Text.{Puts};
 
+use crate::coverage::put_coverage;
 use crate::printed::thread_name;
+use crate::source::Lines;
 use crate::text::{put_counted, put_piece, put_pieces, put_signed};
 use crate::trace::{End, put_end};
 use indexmap::IndexMap;
@@ -32,32 +35,37 @@ pub struct Stretches {
 
 /// Adds a summary in place of a trace: a line for each thread with how many events it made, one for each token with how
 /// its requests completed (how often, the eight most common results, and how many others there are), the longest stretch
-/// of one thread, and how the trace ended.
+/// of one thread, a line for each `if` and `peek_cqe` with how often each way was taken, the lines that never ran, and
+/// how the trace ended.
 pub fn put_summary(
     text: &mut Vec<u8>,
     alloc: Global,
+    source: &Lines<'_>,
     program: &Program,
     events: &[Event],
     end: End,
 ) -> Result<(), AllocError>
-    ensures { Puts text.old text.new (summary_text program.now events.now end) result }
+    ensures { Puts text.old text.new (summary_text source.now program.now events.now end) result }
 {
-    put_counts(text, alloc, program, events)?;
+    put_counts(text, alloc, source, program, events)?;
     put_end(text, program, events.len() as u64, end)
 }
 
-/// Adds what is counted of a run: the lines of the threads and the tokens, and that of the longest stretch.
+/// Adds what is counted of a run: the lines of the threads and the tokens, that of the longest stretch, and the
+/// coverage.
 fn put_counts(
     text: &mut Vec<u8>,
     alloc: Global,
+    source: &Lines<'_>,
     program: &Program,
     events: &[Event],
 ) -> Result<(), AllocError>
-    ensures { Puts text.old text.new (counts_text program.now events.now) result }
+    ensures { Puts text.old text.new (counts_text source.now program.now events.now) result }
 {
     put_threads(text, program, events)?;
     put_tokens(text, alloc, program, events)?;
-    put_stretch(text, program, longest_stretch(events))
+    put_stretch(text, program, longest_stretch(events))?;
+    put_coverage(text, alloc, source, program, events)
 }
 
 /// Adds a line for each thread.

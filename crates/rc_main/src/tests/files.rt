@@ -211,7 +211,7 @@ enabled: t0
             "good.ring",
         ],
         0,
-        "thread t0: 0 events\nlongest stretch: none\nended after 0 events\n",
+        "thread t0: 0 events\nlongest stretch: none\nlines that never ran: none\nended after 0 events\n",
         "",
     ),
     (&["c", "early.ring"], 1, "refused line 18 V8 NoShare\n", ""),

@@ -86,6 +86,42 @@ x = x + 1
 }
 ";
 
+/// A thread that takes one way of each `if` and of its peek, and one without a line.
+pub const BRANCHES: &str = "ringcheck 1
+ring 1
+token 7 nop
+thread t0 holds {
+x = 3
+if x == 3 {
+print x
+} else {
+if x < 3 {
+x = 0
+}
+print x
+}
+# Not so.
+if x < 3 { # no
+x = 1
+print r
+}
+lock {
+peek_cqe r {
+case 7 {
+cqe_seen
+}
+other {
+}
+none {
+print r
+}
+}
+}
+}
+thread t1 holds {
+}
+";
+
 /// A token that is put twice.
 pub const DOUBLE: &str = "ringcheck 3
 ring 1

@@ -1,7 +1,7 @@
 use Rattle.std.proofs.Common.{◌++◌, ◌∙◌, ap, arith, sym}
 use Rattle.std.proofs.lemmas.List.{take_all}
 use Rattle.rc_lang.specs.Parts.{view_buffer}
-use Rattle.rc_report.specs.Summaries.{placed}
+use Rattle.rc_report.specs.Printed.{placed}
 use Rattle.rc_explain.specs.StateText.{bag_on, share_text}
 use Rattle.rc_explain.proofs.StateText.{placed-map, placed-next}
 use Rattle.rc_explain.proofs.state_text.put_shares.Goals as goal

@@ -1,6 +1,6 @@
 use Rattle.std.proofs.Common.{◌≡◌, ◌++◌, take}
 use Rattle.rc_lang.specs.Parts.{view_buffer}
-use Rattle.rc_report.specs.Summaries.{placed}
+use Rattle.rc_report.specs.Printed.{placed}
 use Rattle.rc_explain.specs.StateText.{bag_on, share_text}
 use Rattle.rc_explain.proofs.state_text.put_shares.Given as goal
 

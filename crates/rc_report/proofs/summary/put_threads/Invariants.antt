@@ -1,5 +1,6 @@
 use Rattle.std.proofs.Common.{◌≡◌, ◌++◌, take}
-use Rattle.rc_report.specs.Summaries.{placed, thread_line}
+use Rattle.rc_report.specs.Printed.{placed}
+use Rattle.rc_report.specs.Summaries.{thread_line}
 use Rattle.rc_report.proofs.summary.put_threads.Given as goal
 
 abbrev pub invariant-loop-thread : goal.invariant-loop-thread

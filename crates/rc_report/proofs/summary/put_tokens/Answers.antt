@@ -1,5 +1,6 @@
 use Rattle.std.proofs.Common.{◌∙◌, ◌++◌, ◌+◌, ap, sym, take}
-use Rattle.rc_report.specs.Summaries.{placed, token_line}
+use Rattle.rc_report.specs.Printed.{placed}
+use Rattle.rc_report.specs.Summaries.{token_line}
 use Rattle.rc_report.proofs.Placed.{placed-more}
 use Rattle.rc_report.proofs.Texts.{grown}
 use Rattle.rc_report.proofs.summary.put_tokens.Goals as goal

@@ -1,5 +1,6 @@
 use Rattle.std.proofs.Common.{◌≡◌, ◌++◌, take}
-use Rattle.rc_report.specs.Summaries.{placed, token_line}
+use Rattle.rc_report.specs.Printed.{placed}
+use Rattle.rc_report.specs.Summaries.{token_line}
 use Rattle.rc_report.proofs.summary.put_tokens.Given as goal
 
 abbrev pub invariant-loop-index : goal.invariant-loop-index

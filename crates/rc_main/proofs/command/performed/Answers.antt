@@ -1,0 +1,9 @@
+use Rattle.std.proofs.Common.{sym, subst}
+use Rattle.rc_main.specs.declared.words.Command.{Command}
+use Rattle.rc_main.specs.Answers.{Does, Says}
+use Rattle.rc_main.proofs.command.performed.Goals as goal
+
+pub returns-in-Run : goal.returns-in-Run
+returns-in-Run g c =
+    subst (λ (command : Command). Does (Says command c.args.text.items) g.S.Sink.state c.args.sink.now c.run_text.new.sink c.run_text.result) (sym c.in-Run.is)
+    (rw c.deref-in-Run.ensures.value at c.run_text.ensures)
