@@ -7,6 +7,7 @@ use crate::causes::{Advice, advice_on_read, advice_on_rule};
 use crate::hint::put_hint;
 use crate::listing::put_listing;
 use crate::lost::put_lost;
+use crate::notes::notes_on;
 use crate::spot::{Spot, spot_of};
 use rc_admit::admitted::Judged;
 use rc_lang::program::Program;
@@ -17,14 +18,17 @@ use rc_rules::cause::Cause;
 use rc_verify::labels::Labels;
 use std::alloc::{AllocError, Global};
 
-/// What is printed after the verdict on a text: of an accepted one what is known before each line; of a refused one what
-/// the line asks for, why, how it is mended, and what is known before each line of its thread up to it; of one that can't
-/// be read what is wrong with the line's words, why, and how it is mended.
+/// What is printed after the verdict on a text: of an accepted one the notes and what is known before each line; of a
+/// refused one what the line asks for, why, how it is mended, the notes, and what is known before each line of its
+/// thread up to it; of one that can't be read what is wrong with the line's words, why, and how it is mended.
 pub fn explanation(alloc: Global, source: &[u8], judged: &Judged) -> Result<Vec<u8>, AllocError> {
     let mut text = Vec::new(alloc);
     let lines = Lines::of(alloc, source)?;
     match judged {
-        Judged::Admitted(admitted) => put_threads(&mut text, &lines, admitted.program())?,
+        Judged::Admitted(admitted) => {
+            put_notes(alloc, &mut text, &lines, admitted.program())?;
+            put_threads(&mut text, &lines, admitted.program())?;
+        }
         Judged::Refused(program, refusal) => {
             put_refused(alloc, &mut text, &lines, program, *refusal)?;
         }
@@ -35,6 +39,19 @@ pub fn explanation(alloc: Global, source: &[u8], judged: &Judged) -> Result<Vec<
         }
     }
     Ok(text)
+}
+
+/// Adds the notes on a program.
+fn put_notes(
+    alloc: Global,
+    text: &mut Vec<u8>,
+    lines: &Lines,
+    program: &Program,
+) -> Result<(), AllocError> {
+    for note in notes_on(alloc, lines, program)? {
+        put_pieces(text, &[b"note: ", &note, b"\n"])?;
+    }
+    Ok(())
 }
 
 /// Adds the lines of all threads. It is no part of its caller, as it needs room for labels.
@@ -70,6 +87,7 @@ fn put_refused(
         }
     }
     put_advice(text, advice_on_rule(cause))?;
+    put_notes(alloc, text, lines, program)?;
     put_piece(text, &listing)
 }
 

@@ -10,6 +10,7 @@ pub mod hint;
 mod judged;
 pub mod listing;
 mod lost;
+mod notes;
 mod object;
 mod parts;
 mod spot;

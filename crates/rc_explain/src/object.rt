@@ -12,6 +12,7 @@ use crate::asks::{Need, header_need, line_need};
 use crate::causes::{Advice, advice_on_read, advice_on_rule};
 use crate::hint::put_hint;
 use crate::lost::put_lost;
+use crate::notes::notes_on;
 use crate::spot::{Spot, spot_of};
 use crate::state_text::put_state;
 use rc_admit::admitted::Judged;
@@ -43,7 +44,7 @@ fn members_of(alloc: Global, source: &[u8], judged: &Judged) -> Result<Members, 
     ensures { IfOk result (λ members. TellsVerdict (verdict_of judged.now) (whole members)) }
 {
     match judged {
-        Judged::Admitted(admitted) => accepted_members(alloc, admitted.program()),
+        Judged::Admitted(admitted) => accepted_members(alloc, source, admitted.program()),
         Judged::Refused(program, refusal) => refused_members(alloc, source, program, *refusal),
         Judged::Unread { line, cause, above } => {
             unreadable_members(alloc, source, *line, *cause, above)
@@ -88,14 +89,26 @@ fn put_line(
 }
 
 /// What is said of an accepted program.
-fn accepted_members(alloc: Global, program: &Program) -> Result<Members, AllocError>
+fn accepted_members(alloc: Global, source: &[u8], program: &Program) -> Result<Members, AllocError>
     ensures { IfOk result (λ members. TellsVerdict Accepted (whole members)) }
 {
+    let notes = notes_of(alloc, source, program)?;
     let threads = threads_of(alloc, program)?;
     let mut members = Map::new(alloc);
+    put(alloc, &mut members, "notes", Value::Array(notes))?;
     put(alloc, &mut members, "threads", Value::Array(threads))?;
     put_text(alloc, &mut members, "verdict", "accepted")?;
     Ok(members)
+}
+
+/// The notes on a program.
+fn notes_of(alloc: Global, source: &[u8], program: &Program) -> Result<Vec<Value>, AllocError> {
+    let mut notes = Vec::new(alloc);
+    let lines = Lines::of(alloc, source)?;
+    for note in notes_on(alloc, &lines, program)? {
+        notes.push(Value::String(string_of(alloc, &note)?))?;
+    }
+    Ok(notes)
 }
 
 /// The threads of a program, each with its lines. It is no part of its caller, as it needs room for labels.
@@ -127,6 +140,8 @@ fn refused_members(
     if let Some(spot) = spot_of(program, line) {
         put_spot(alloc, &mut members, source, program, spot, cause)?;
     }
+    let notes = notes_of(alloc, source, program)?;
+    put(alloc, &mut members, "notes", Value::Array(notes))?;
     put_advice(alloc, &mut members, advice_on_rule(cause))?;
     put_line(
         alloc,

@@ -161,7 +161,7 @@ enabled: t0
     (
         &["check", "--explain", "--json", "good.ring"],
         0,
-        "{\"threads\":[{\"lines\":[],\"name\":\"t0\"}],\"verdict\":\"accepted\"}\n",
+        "{\"notes\":[],\"threads\":[{\"lines\":[],\"name\":\"t0\"}],\"verdict\":\"accepted\"}\n",
         "",
     ),
     (
