@@ -26,7 +26,7 @@ pub struct Buffered<S> {
 impl<S: Sink> Buffered<S> {
     ghost use Rattle.std.specs.Prelude.{◌≡◌, [], IfOk, OnOk};
     ghost use Rattle.rc_report.specs.Buffers.{buffered, kept_back};
-    ghost use Rattle.rc_report.specs.Streams.{CanWrite, Stays};
+    ghost use Rattle.rc_report.specs.Streams.{CanWrite, Stays, Takes};
 
     /// A buffer of 65,536 bytes before this sink, with nothing kept back.
     pub fn new(alloc: Global, sink: S) -> Result<Buffered<S>, AllocError>
@@ -57,6 +57,19 @@ impl<S: Sink> Buffered<S> {
         self.written = 0;
         Ok(())
     }
+
+    /// Writes what is kept back, and keeps back what it has room for of this piece. It is no part of its caller, so that
+    /// a small piece is kept back where it is made.
+    #[inline(never)]
+    fn write_over(&mut self, piece: &[u8]) -> Result<usize, DeviceFailed>
+        requires { CanWrite (buffered S.state self.old) }
+        ensures { Takes (buffered S.state self.old) (buffered S.state self.new) result piece.now }
+    {
+        self.write_out()?;
+        let count = piece.len().min(ROOM);
+        self.bytes.extend_from_slice(&piece[..count]).unwrap();
+        Ok(count)
+    }
 }
 
 impl<S: Sink> Sink for Buffered<S> {
@@ -65,14 +78,11 @@ impl<S: Sink> Sink for Buffered<S> {
     ghost state = { buffered S.state };
 
     fn write(&mut self, piece: &[u8]) -> Result<usize, DeviceFailed> {
-        if piece.len() <= ROOM - self.bytes.len() {
-            self.bytes.extend_from_slice(piece).unwrap();
-            return Ok(piece.len());
+        if piece.len() > ROOM - self.bytes.len() {
+            return self.write_over(piece);
         }
-        self.write_out()?;
-        let count = piece.len().min(ROOM);
-        self.bytes.extend_from_slice(&piece[..count]).unwrap();
-        Ok(count)
+        self.bytes.extend_from_slice(piece).unwrap();
+        Ok(piece.len())
     }
 
     fn failures(&self) -> u64 {
