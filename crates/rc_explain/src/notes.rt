@@ -33,7 +33,7 @@ pub fn notes_on(
     Ok(notes)
 }
 
-/// What a statement takes of which too few are put, if it takes such a part: the first one.
+/// The first part that a statement takes although no lines put enough of it, if there is one.
 fn shortage_at(program: &Program, thread: &Thread, stmt: Stmt) -> Option<Shortage> {
     let Stmt::If(Test::Take(list)) = stmt else {
         return None;

@@ -95,7 +95,7 @@ fn each_event_is_counted(rt: HostRuntime) {
     }
 }
 
-/// The arm of a request that is reaped once is counted once, whoever ran when.
+/// A request that is reaped once has its arm counted once, in whatever order the threads ran.
 #[test]
 fn an_arm_is_counted(rt: HostRuntime) {
     let mut writer = Vec::new(rt.alloc());
