@@ -104,6 +104,7 @@ ROWS = [
     (("step", "--schedule", "t0"), UNREADABLE, 2, FAULT, ""),
     (("step", "--schedule", "t0,t0"), GOOD, 3, "1 t0 4 set 1\nitem 2 not enabled\n", ENDED),
     (("step", "--schedule", "t0,u"), GOOD, 3, "schedule item 2 unreadable\n", ""),
+    (("step", "--schedule", "t0*2"), GOOD, 3, "schedule item 1 unreadable\n", "item 1, t0*2, is a move: it needs '--moves' in place of '--schedule'"),
     (("step", "--state", "--schedule", "t0"), GOOD, 0, "1 t0 4 set 1\nended after 1 events\nthread t0: ...", ""),
     (("step", "--state"), REFUSED, 1, "fault F9 NoLock t0 line 4\n...", ""),
     (("step", "--state"), UNREADABLE, 2, FAULT, ""),

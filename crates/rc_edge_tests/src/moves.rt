@@ -2,7 +2,7 @@
 
 use rc_examples::programs::{HANDOFF, NOP};
 use rc_moves::steps::{Moved, read_moved};
-use rc_moves::told::{put_item, put_move, put_of_items, put_of_moves};
+use rc_moves::told::{put_item, put_move, put_of_items, put_of_moves, put_of_unread};
 use rc_report::step_engine::Unread;
 use rc_report::stepping::write_run;
 use rc_report::streams::WriteSink;
@@ -189,4 +189,32 @@ fn told_of_items(alloc: Global, text: &str, moves: &str) -> Result<Vec<u8>, Allo
         }
     }
     Ok(shown)
+}
+
+/// A schedule, the number of its item that can't be read, and what is told of that.
+const UNREAD: &[(&str, u64, &str)] = &[
+    (
+        "t0*7",
+        1,
+        "ringcheck: item 1, t0*7, is a move: it needs '--moves' in place of '--schedule'\n",
+    ),
+    (
+        "t0,k:7=0,t1@9,t0*2",
+        3,
+        "ringcheck: item 3, t1@9, is a move: it needs '--moves' in place of '--schedule'\n",
+    ),
+    ("t0,u", 2, ""),
+    ("t0*7,u", 2, ""),
+    ("t0*\u{1b}", 1, ""),
+];
+
+#[test]
+fn moves_in_a_schedule_are_told(rt: HostRuntime) -> Result<(), Fail> {
+    for row in UNREAD {
+        let (schedule, number, told) = *row;
+        let mut notes = Vec::new(rt.alloc());
+        put_of_unread(&mut notes, schedule, Unread::Schedule(number))?;
+        assert_eq!(rt; notes.as_slice(), told.as_bytes());
+    }
+    Ok(())
 }

@@ -11,7 +11,7 @@ use Rattle.rc_rules.specs.declared.cause.Cause.{Cause}
 use Rattle.rc_rules.specs.States.{State, sides_of}
 use Rattle.rc_verify.specs.Labels.{IsStrongestAt, IsRefusedFor, Labels}
 use Rattle.rc_explain.specs.declared.listing.Run.{Run}
-use Rattle.rc_explain.specs.Listed.{Page, Shown, AreShown, IsShown, EndsAt, ListsLines, Lists, has_flag, or_no_lines, next_text, run_after, run_text, lines_text}
+use Rattle.rc_explain.specs.Listed.{Page, Shown, AreShown, IsShown, EndsAt, ListsLines, Lists, has_flag, or_no_lines, next_text, run_after, run_text, lines_text, shown}
 
 -- what is told before the end, and the run that is left then
 abbrev pub told : Page → Option Run → List Shown → List ℕ
@@ -65,7 +65,7 @@ are_more P t xs s are here = λ k z h. elim (got_more xs s k z h) [
 ]
 
 -- The line at a place is shown with the labels that are there.
-pub shown_at : (P : Program) (t : Thread) (v : Labels) (k : ℕ) (lines : List Line) (d : Line) (s : State) → lines ≡ t.lines → k < length lines → v.program ≡ P → v.thread ≡ t → v.place ≡ k → s ≡ v.state → IsStrongestAt v.program v.thread v.place (sides_of v.state) → IsShown P t k (record { number = (get_or lines k d).number; sides = sides_of s })
+pub shown_at : (P : Program) (t : Thread) (v : Labels) (k : ℕ) (lines : List Line) (d : Line) (s : State) → lines ≡ t.lines → k < length lines → v.program ≡ P → v.thread ≡ t → v.place ≡ k → s ≡ v.state → IsStrongestAt v.program v.thread v.place (sides_of v.state) → IsShown P t k (shown (get_or lines k d) s)
 shown_at P t v k lines d s same lt p u q e h =
     let of_program : IsStrongestAt P v.thread v.place (sides_of v.state) = subst (λ (x : Program). IsStrongestAt x v.thread v.place (sides_of v.state)) p h in
     let of_thread : IsStrongestAt P t v.place (sides_of v.state) = subst (λ (x : Thread). IsStrongestAt P x v.place (sides_of v.state)) u of_program in
@@ -74,6 +74,7 @@ shown_at P t v k lines d s same lt p u q e h =
       line = get_or lines k d;
       there = subst (λ (ls : List Line). slice_get ls k ≡ Some (get_or lines k d)) same (slice_get-get_or lines k d lt);
       number = refl;
+      arm = refl;
       strongest = subst (λ (x : State). IsStrongestAt P t k (sides_of x)) (sym e) of_place;
     }
 

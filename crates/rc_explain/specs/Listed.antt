@@ -2,6 +2,8 @@
 use Rattle.std.specs.Prelude.{ℕ, ◌≡◌, ◌+◌, ◌⊎◌, Bool, true, false, cond, ◌||◌, nat_eq, List, [], ◌∷◌, ◌++◌, length, codes, decimal, Option, Some, None, Result, Ok, Err, slice_get}
 use Rattle.std.specs.Global.{Vec}
 use Rattle.rc_lang.specs.declared.lines.Line.{Line}
+use Rattle.rc_lang.specs.declared.lines.Stmt.{Stmt}
+use Rattle.rc_lang.specs.declared.lines.Stmt.TheVariants.{Case, Other, Nothing}
 use Rattle.rc_lang.specs.Program.{Program, Thread}
 use Rattle.rc_rules.specs.declared.cause.Cause.{Cause}
 use Rattle.rc_rules.specs.Labels.{Label}
@@ -22,13 +24,21 @@ pub record Page : Type 0 where
 abbrev pub view_page : PageOf → Page
 view_page p = record { source = p.lines.now; program = p.program.now; flagged = p.flagged }
 
--- A line, by its number, and what is known before it on both sides of the thread's flag.
+-- whether a line begins an arm of a peek: what is known in the arm comes from the peek, and not from the line above
+abbrev pub begins_arm : Stmt → Bool
+begins_arm (Case at u) = true
+begins_arm (Other at) = true
+begins_arm (Nothing at) = true
+begins_arm _ = false
+
+-- A line, by its number, whether it begins an arm, and what is known before it on both sides of the thread's flag.
 pub record Shown : Type 0 where
   pub number : ℕ
+  pub arm : Bool
   pub sides : Sides
 
-abbrev pub shown : ℕ → State → Shown
-shown number state = record { number = number; sides = sides_of state }
+abbrev pub shown : Line → State → Shown
+shown line state = record { number = line.number; arm = begins_arm line.stmt; sides = sides_of state }
 
 -- which side it is, in a thread with a flag: that of a flag that is 0 (true), or isn't
 abbrev pub flag_text : Bool → Bool → List ℕ
@@ -60,23 +70,35 @@ one_text n = codes "  line " ++ (decimal n ++ codes ": nothing reaches this\n")
 abbrev pub more_text : ℕ → ℕ → List ℕ
 more_text first last = codes "  lines " ++ (decimal first ++ (codes " to " ++ (decimal last ++ codes ": nothing reaches these\n")))
 
+abbrev pub span_text : ℕ → ℕ → List ℕ
+span_text first last = cond (nat_eq first last) (one_text first) (more_text first last)
+
 abbrev pub run_text : Option Run → List ℕ
 run_text None = []
-run_text (Some run) = cond (nat_eq run.first run.last) (one_text run.first) (more_text run.first run.last)
+run_text (Some run) = span_text run.first run.last
 
-abbrev pub run_to : Option Run → ℕ → Run
-run_to None n = record { first = n; last = n }
-run_to (Some run) n = record { first = run.first; last = n }
+-- the same without a line at its end that begins an arm: what is reached next is in that arm
+abbrev pub up_to_text : ℕ → Option ℕ → List ℕ
+up_to_text first None = []
+up_to_text first (Some last) = span_text first last
+
+abbrev pub sure_text : Option Run → List ℕ
+sure_text None = []
+sure_text (Some run) = up_to_text run.first run.sure
+
+abbrev pub run_to : Option Run → ℕ → Bool → Run
+run_to None n arm = record { first = n; last = n; sure = cond arm None (Some n) }
+run_to (Some run) n arm = record { first = run.first; last = n; sure = cond arm run.sure (Some n) }
 
 -- what a line says after such a run, and the run after the line
 abbrev pub reached_text : Page → Option Run → Shown → List ℕ
-reached_text page run s = run_text run ++ shown_text page s
+reached_text page run s = sure_text run ++ shown_text page s
 
 abbrev pub next_text : Page → Option Run → Shown → List ℕ
 next_text page run s = cond (is_shown s) (reached_text page run s) []
 
 abbrev pub run_after : Option Run → Shown → Option Run
-run_after run s = cond (is_shown s) None (Some (run_to run s.number))
+run_after run s = cond (is_shown s) None (Some (run_to run s.number s.arm))
 
 -- the same of a page, a side and a state as the program has them
 abbrev pub known_on : PageOf → ℕ → Side → Bool → List ℕ
@@ -85,11 +107,11 @@ known_on page number side zero = known_text (view_page page) number (side_label 
 abbrev pub line_on : PageOf → ℕ → Side → Bool → List ℕ
 line_on page number side zero = side_line (view_page page) number (side_label side) zero
 
-abbrev pub reached_at : PageOf → Option Run → ℕ → State → List ℕ
-reached_at page run number state = reached_text (view_page page) run (shown number state)
+abbrev pub reached_at : PageOf → Option Run → Line → State → List ℕ
+reached_at page run line state = reached_text (view_page page) run (shown line state)
 
-abbrev pub next_at : PageOf → Option Run → ℕ → State → List ℕ
-next_at page run number state = next_text (view_page page) run (shown number state)
+abbrev pub next_at : PageOf → Option Run → Line → State → List ℕ
+next_at page run line state = next_text (view_page page) run (shown line state)
 
 -- the lines after a run: it is told before the next line that something reaches, or at the end
 abbrev pub lines_text : Page → Option Run → List Shown → List ℕ
@@ -117,6 +139,7 @@ pub record IsShown (P : Program) (t : Thread) (k : ℕ) (s : Shown) : Type 0 whe
   pub line : Line
   pub there : slice_get t.lines k ≡ Some line
   pub number : s.number ≡ line.number
+  pub arm : s.arm ≡ begins_arm line.stmt
   pub strongest : IsStrongestAt P t k s.sides
 
 -- These are the thread's first lines.

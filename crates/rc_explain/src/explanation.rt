@@ -7,6 +7,7 @@ use crate::causes::{Advice, advice_on_read, advice_on_rule};
 use crate::hint::put_hint;
 use crate::listing::put_listing;
 use crate::lost::put_lost;
+use crate::mends::mend_of;
 use crate::notes::notes_on;
 use crate::spot::{Spot, spot_of};
 use rc_admit::admitted::Judged;
@@ -35,7 +36,7 @@ pub fn explanation(alloc: Global, source: &[u8], judged: &Judged) -> Result<Vec<
         Judged::Unread { line, cause, above } => {
             put_hint(&mut text, lines.line(*line), *line, *cause, above)?;
             put_piece(&mut text, b"\n")?;
-            put_advice(&mut text, advice_on_read(*cause))?;
+            put_advice(&mut text, advice_on_read(*cause), b"")?;
         }
     }
     Ok(text)
@@ -78,6 +79,7 @@ fn put_refused(
 ) -> Result<(), AllocError> {
     let Refusal { line, cause } = refusal;
     let mut listing = Vec::new(alloc);
+    let mut mend = Vec::new(alloc);
     if let Some(spot) = spot_of(program, line) {
         let need = put_spot(alloc, &mut listing, lines, program, spot, cause)?;
         put_pieces(text, &[&need.asks, b"\n"])?;
@@ -85,8 +87,9 @@ fn put_refused(
             put_lost(text, lines, program, spot.thread, place, missing)?;
             put_piece(text, b"\n")?;
         }
+        mend = mend_of(alloc, program, spot, cause, need.missing)?;
     }
-    put_advice(text, advice_on_rule(cause))?;
+    put_advice(text, advice_on_rule(cause), &mend)?;
     put_notes(alloc, text, lines, program)?;
     put_piece(text, &listing)
 }
@@ -114,15 +117,14 @@ fn put_spot(
     line_need(alloc, &mut labels, spot.thread, cause)
 }
 
-/// Adds why something is a mistake, how it is mended, and where more is said of it.
-fn put_advice(text: &mut Vec<u8>, advice: Advice) -> Result<(), AllocError> {
-    let (why, mend) = (advice.why.as_bytes(), advice.mend.as_bytes());
-    let letter = advice.letter.as_bytes();
-    put_pieces(text, &[b"why: ", why, b"\nmend: ", mend, b"\nsee "])?;
-    put_counted(
-        text,
-        letter,
-        u64::from(advice.number),
-        b" in docs/causes.md\n",
-    )
+/// Adds why something is a mistake, how it is mended, in these words if there are any, and where more is said of it.
+fn put_advice(text: &mut Vec<u8>, advice: Advice, mend: &[u8]) -> Result<(), AllocError> {
+    put_pieces(text, &[b"why: ", advice.why.as_bytes(), b"\nmend: "])?;
+    if mend.is_empty() {
+        put_piece(text, advice.mend.as_bytes())?;
+    } else {
+        put_piece(text, mend)?;
+    }
+    put_pieces(text, &[b"\nsee ", advice.letter.as_bytes()])?;
+    put_counted(text, b"", u64::from(advice.number), b" in docs/causes.md\n")
 }

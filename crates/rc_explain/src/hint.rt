@@ -7,6 +7,7 @@ mod lines;
 mod near;
 mod others;
 mod places;
+mod slips;
 mod wording;
 
 use doubles::put_double_name;
@@ -33,7 +34,7 @@ pub fn put_hint(
     let places = places_of(alloc, above.head.version, &words)?;
     match cause {
         ReadCause::NotAscii => put_strange(text, line),
-        ReadCause::BadHead => put_head(text, above),
+        ReadCause::BadHead => put_head(text, above, &words),
         ReadCause::BadLine => put_form(alloc, text, above, line, &words),
         ReadCause::BadNumber => put_bad_number(text, above, line, &places),
         ReadCause::UnknownName => put_unknown_name(alloc, text, above, line, &places),

@@ -10,6 +10,7 @@ pub mod hint;
 mod judged;
 pub mod listing;
 mod lost;
+mod mends;
 mod notes;
 mod object;
 mod parts;

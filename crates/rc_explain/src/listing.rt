@@ -7,7 +7,7 @@ ghost use Rattle.rc_lang.specs.Parts.{view_thread};
 ghost use Rattle.rc_report.specs.Text.{Puts};
 
 use crate::state_text::put_state;
-use rc_lang::lines::Line;
+use rc_lang::lines::{Line, Stmt};
 use rc_lang::program::{Program, Thread};
 use rc_report::source::{Lines, put_line_words};
 use rc_report::text::{put_number, put_piece, put_pieces};
@@ -24,24 +24,39 @@ pub struct Page<'a> {
     flagged: bool,
 }
 
-/// Lines that nothing reaches, one after another: the numbers of the first and the last.
+/// Lines that nothing reaches, one after another: the numbers of the first and the last, and of the last that doesn't
+/// begin an arm.
 #[derive(Clone, Copy)]
 pub struct Run {
     pub first: u32,
     pub last: u32,
+    pub sure: Option<u32>,
+}
+
+/// Whether a line begins an arm of a peek.
+fn begins_arm(stmt: Stmt) -> bool
+    ensures { result ≡ spec.begins_arm stmt }
+{
+    match stmt {
+        Stmt::Case(_, _) => true,
+        Stmt::Other(_) => true,
+        Stmt::Nothing(_) => true,
+        _ => false,
+    }
 }
 
 /// A run with one more line.
-fn longer(run: Option<Run>, number: u32) -> Run
-    ensures { result ≡ spec.run_to run number }
+fn longer(run: Option<Run>, number: u32, arm: bool) -> Run
+    ensures { result ≡ spec.run_to run number arm }
 {
-    let first = match run {
-        Some(run) => run.first,
-        None => number,
+    let (first, sure) = match run {
+        Some(run) => (run.first, run.sure),
+        None => (number, None),
     };
     Run {
         first,
         last: number,
+        sure: if arm { sure } else { Some(number) },
     }
 }
 
@@ -65,13 +80,35 @@ fn put_more(text: &mut Vec<u8>, first: u32, last: u32) -> Result<(), AllocError>
     put_piece(text, b": nothing reaches these\n")
 }
 
+/// Adds that nothing reaches the lines from one to another.
+fn put_span(text: &mut Vec<u8>, first: u32, last: u32) -> Result<(), AllocError>
+    ensures { Puts text.old text.new (spec.span_text first last) result }
+{
+    if first == last {
+        return put_one(text, first);
+    }
+    put_more(text, first, last)
+}
+
 /// Adds a run, if there is one.
 fn put_run(text: &mut Vec<u8>, run: Option<Run>) -> Result<(), AllocError>
     ensures { Puts text.old text.new (spec.run_text run) result }
 {
     match run {
-        Some(Run { first, last }) if first == last => put_one(text, first),
-        Some(Run { first, last }) => put_more(text, first, last),
+        Some(run) => put_span(text, run.first, run.last),
+        None => Ok(()),
+    }
+}
+
+/// Adds a run, if there is one, without a line at its end that begins an arm.
+fn put_sure(text: &mut Vec<u8>, run: Option<Run>) -> Result<(), AllocError>
+    ensures { Puts text.old text.new (spec.sure_text run) result }
+{
+    let Some(run) = run else {
+        return Ok(());
+    };
+    match run.sure {
+        Some(last) => put_span(text, run.first, last),
         None => Ok(()),
     }
 }
@@ -133,33 +170,33 @@ fn put_side(
 fn put_reached(
     text: &mut Vec<u8>,
     page: &Page,
-    number: u32,
+    line: Line,
     state: &State,
     run: Option<Run>,
 ) -> Result<(), AllocError>
-    ensures { Puts text.old text.new (spec.reached_at page.now run number state.now) result }
+    ensures { Puts text.old text.new (spec.reached_at page.now run line state.now) result }
 {
-    put_run(text, run)?;
-    put_side(text, page, number, state.on(true), true)?;
-    put_side(text, page, number, state.on(false), false)
+    put_sure(text, run)?;
+    put_side(text, page, line.number, state.on(true), true)?;
+    put_side(text, page, line.number, state.on(false), false)
 }
 
 /// Adds a line where something reaches it; answers the lines up to it that nothing reaches and that aren't told yet.
 fn put_line(
     text: &mut Vec<u8>,
     page: &Page,
-    number: u32,
+    line: Line,
     state: &State,
     run: Option<Run>,
 ) -> Result<Option<Run>, AllocError>
-    ensures text { Puts text.old text.new (spec.next_at page.now run number state.now) result }
-    ensures run { IfOk result (λ after. after ≡ spec.run_after run (spec.shown number state.now)) }
+    ensures text { Puts text.old text.new (spec.next_at page.now run line state.now) result }
+    ensures run { IfOk result (λ after. after ≡ spec.run_after run (spec.shown line state.now)) }
 {
     if state.on(true).is_live() || state.on(false).is_live() {
-        put_reached(text, page, number, state, run)?;
+        put_reached(text, page, line, state, run)?;
         return Ok(None);
     }
-    Ok(Some(longer(run, number)))
+    Ok(Some(longer(run, line.number, begins_arm(line.stmt))))
 }
 
 /// Adds the lines of a thread, from its first on.
@@ -177,7 +214,7 @@ fn put_lines(
 {
     let mut run = None;
     for line in lines {
-        run = put_line(text, page, line.number, labels.state(), run)?;
+        run = put_line(text, page, *line, labels.state(), run)?;
         match labels.next() {
             Ok(true) => {}
             Ok(false) => return put_run(text, run),

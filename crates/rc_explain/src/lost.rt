@@ -1,77 +1,28 @@
-//! Where a part that a refused line asks for was last held, and how it went.
+//! How a part that a refused line asks for was lost, on the ways that lead to the line.
 
 ghost use Rattle.std.specs.Prelude.{◌<◌, length};
 
+pub mod ways;
+
 use crate::asks::Missing;
-use crate::parts::put_part;
+use crate::parts::{put_part, shares_of};
 use rc_lang::lines::{Op, Stmt};
-use rc_lang::program::Program;
+use rc_lang::program::{Items, Program};
 use rc_report::source::{Lines, put_line_words};
-use rc_report::text::{put_counted, put_pieces};
-use rc_verify::held::last_held;
-use rc_verify::labels::Labels;
+use rc_report::text::{put_counted, put_number, put_piece, put_pieces};
+use rc_split::part::Part;
 use std::alloc::AllocError;
+use ways::{Loss, Point, loss_of};
 
-/// Where a part was last held before a place. It is no part of its caller, as it needs room for labels.
-#[inline(never)]
-fn place_of(program: &Program, thread: u32, place: usize, missing: Missing) -> Option<usize>
-    requires { thread < length program.now.threads }
-{
-    if missing.on_other {
-        return last_on(program, thread, place, missing);
-    }
-    last_held(program, thread, place, missing.part)
+/// A thread of a program, by the lines of its text.
+#[derive(Clone, Copy)]
+struct Page<'a> {
+    lines: &'a Lines<'a>,
+    program: &'a Program,
+    thread: usize,
 }
 
-/// The variable that a line writes, if it writes one.
-fn written(stmt: Stmt) -> Option<usize> {
-    match stmt {
-        Stmt::Peek(x) => Some(x),
-        Stmt::Do(Op::Set(x, _) | Op::Assign(x, _) | Op::Load(x, _, _)) => Some(x),
-        Stmt::Do(Op::Add(x, _, _) | Op::Subtract(x, _, _)) => Some(x),
-        Stmt::Do(Op::Submit(x) | Op::SubmitAndWait(x, _)) => Some(x),
-        _ => None,
-    }
-}
-
-/// Whether either side of the flag may come to either at a line: at the top of a loop, and where the flag is written.
-fn mixes(flag: Option<usize>, stmt: Stmt) -> bool {
-    matches!(stmt, Stmt::Loop(_)) || (flag.is_some() && written(stmt) == flag)
-}
-
-/// Where a part was last held, before a place, that isn't held there on one side of the flag: on that side, or on either
-/// above a line that mixes them. It is no part of its caller, as it needs room for labels.
-#[inline(never)]
-fn last_on(program: &Program, thread: u32, place: usize, missing: Missing) -> Option<usize>
-    requires { thread < length program.now.threads }
-{
-    let Missing { part, zero, .. } = missing;
-    let mut labels = Labels::new(program, thread);
-    let (mut last, mut other) = (None, None);
-    for (at, line) in labels.thread().lines.iter().enumerate() {
-        let state = labels.state();
-        if at >= place {
-            break;
-        }
-        if state.on(zero).holds(part) {
-            last = Some(at);
-        }
-        if state.on(!zero).holds(part) {
-            other = Some(at);
-        }
-        if mixes(state.flag(), line.stmt) {
-            last = last.max(other);
-            other = last;
-        }
-        if !matches!(labels.next(), Ok(true)) {
-            break;
-        }
-    }
-    last
-}
-
-/// Adds where a part that the refused line at a place misses was last held, and how it went: one line, without a line
-/// feed.
+/// Adds how a part was lost that the refused line at a place misses: one line, without a line feed.
 pub fn put_lost(
     text: &mut Vec<u8>,
     lines: &Lines,
@@ -82,70 +33,170 @@ pub fn put_lost(
 ) -> Result<(), AllocError>
     requires { thread < length program.now.threads }
 {
-    let side: &[u8] = match (missing.on_other, missing.zero) {
+    let alloc = *text.allocator();
+    let loss = loss_of(alloc, program, thread, place, missing)?;
+    let page = Page {
+        lines,
+        program,
+        thread: thread as usize,
+    };
+    put_loss(text, page, missing, loss)
+}
+
+/// Adds how a part is lost.
+fn put_loss(
+    text: &mut Vec<u8>,
+    page: Page,
+    missing: Missing,
+    loss: Loss,
+) -> Result<(), AllocError> {
+    match loss {
+        Loss::Peeked(part) => {
+            put_part(text, page.program, part)?;
+            put_piece(text, b" is the peeked request's until cqe_seen")
+        }
+        Loss::At(Point { place, zero }, tells) => {
+            put_part(text, page.program, missing.part)?;
+            put_piece(text, b" is held before ")?;
+            put_line(text, page, place)?;
+            put_pieces(
+                text,
+                &[b", and not after it", flag_text(tells, zero), b": "],
+            )?;
+            put_how(text, page, place)
+        }
+        Loss::Ends(lacking, tells, holding) => {
+            put_part(text, page.program, missing.part)?;
+            put_pieces(text, &[b" isn't held", flag_text(tells, lacking.zero)])?;
+            put_end(text, page, lacking.place)?;
+            put_piece(text, b"; it is")?;
+            put_end(text, page, holding)
+        }
+        Loss::Never => {
+            let flag = flag_text(missing.on_other, missing.zero);
+            put_part(text, page.program, missing.part)?;
+            put_pieces(text, &[b" isn't held", flag, b" on any way to this line"])?;
+            put_header(text, page, missing.part)
+        }
+    }
+}
+
+/// With which flag, where that tells.
+fn flag_text(tells: bool, zero: bool) -> &'static [u8] {
+    match (tells, zero) {
         (false, _) => b"",
         (true, true) => b" with flag 0",
         (true, false) => b" with flag not 0",
-    };
-    put_part(text, program, missing.part)?;
-    let Some(at) = place_of(program, thread, place, missing) else {
-        return put_pieces(
-            text,
-            &[b" isn't held", side, b" before any line above this one"],
-        );
-    };
-    let Some(line) = program.line_at(thread as usize, at) else {
+    }
+}
+
+/// Adds the number and the words of the line at a place.
+fn put_line(text: &mut Vec<u8>, page: Page, place: usize) -> Result<(), AllocError> {
+    let Some(line) = page.program.line_at(page.thread, place) else {
         return Ok(());
     };
-    put_counted(
-        text,
-        b" is held before line ",
-        u64::from(line.number),
-        b", ",
-    )?;
-    put_line_words(text, lines, line.number)?;
-    let end = program.end_at(thread as usize, opening(line.stmt, at));
-    let how = how(line.stmt, place <= end);
-    put_pieces(text, &[b", and not after it", side, b": ", how])
+    put_counted(text, b"line ", u64::from(line.number), b", ")?;
+    put_line_words(text, page.lines, line.number)
 }
 
-/// The place whose end tells whether a line below is in the block that this line leaves: that of an else, the peek
-/// of an arm, and the loop of a break.
-fn opening(stmt: Stmt, place: usize) -> usize {
-    match stmt {
-        Stmt::EndArm(peek) => peek,
-        Stmt::Break(opening, _, _) => opening,
-        _ => place,
+/// The statement at a place. After the last line it is as a lock.
+fn stmt_at(page: Page, place: usize) -> Stmt {
+    match page.program.line_at(page.thread, place) {
+        Some(line) => line.stmt,
+        None => Stmt::Lock,
     }
 }
 
-/// How a part goes that is held before a line and not before the next one of the text; by whether the line that misses
-/// it is in the same block.
-fn how(stmt: Stmt, inside: bool) -> &'static [u8] {
-    match stmt {
-        Stmt::Do(op) => how_by(op),
-        Stmt::Put(_) => b"put into the pool",
-        Stmt::Loop(_) => b"the loop doesn't keep it",
-        Stmt::EndLoop(_, _) => b"the loop's breaks don't bring it",
-        Stmt::EndIf(_) => b"another branch ends without it",
-        Stmt::Else(_) if inside => b"the else begins without it",
-        Stmt::Else(_) => b"another branch ends without it",
-        Stmt::EndArm(_) if inside => b"another arm of the peek begins without it",
-        Stmt::EndArm(_) => b"another arm of the peek ends without it",
-        Stmt::Break(_, _, _) if inside => b"the break takes it out of the loop",
-        Stmt::Break(_, _, _) => b"another break of the loop doesn't bring it",
-        Stmt::If(_) => b"it isn't held with the flag of this branch",
-        Stmt::Peek(_) => b"the flag is written, and it isn't held with each flag",
-        _ => b"nothing that has it comes there",
+/// Adds which of the ends that the line at a place joins it is, by where its branch or its arm begins.
+fn put_end(text: &mut Vec<u8>, page: Page, end: usize) -> Result<(), AllocError> {
+    let (what, place): (&[u8], usize) = match stmt_at(page, end) {
+        Stmt::Break(_, _, _) => return put_break(text, page, end),
+        Stmt::EndArm(_) => (b" at the end of the arm of ", arm_of(page, end)),
+        Stmt::Else(test) => (b" at the end of the branch of ", test),
+        Stmt::EndIf(opening) => (b" at the end of the branch of ", opening),
+        _ => (b" where the test fails of ", end),
+    };
+    put_piece(text, what)?;
+    put_line(text, page, place)
+}
+
+/// Adds which break it is.
+fn put_break(text: &mut Vec<u8>, page: Page, place: usize) -> Result<(), AllocError> {
+    match page.program.line_at(page.thread, place) {
+        Some(line) => put_counted(text, b" at the break of line ", u64::from(line.number), b""),
+        None => Ok(()),
     }
 }
 
-fn how_by(op: Op) -> &'static [u8] {
-    match op {
-        Op::GetSqe => b"given to the open entry",
-        Op::PrepRead(_, _, _, _) => b"given to the open entry",
-        Op::PrepWrite(_, _, _, _, _) => b"given to the open entry",
-        Op::SetData64(_) => b"given to the request",
-        _ => b"the flag is written, and it isn't held with each flag",
+/// The place of the line that begins the arm that ends at a place.
+fn arm_of(page: Page, end: usize) -> usize {
+    let mut arm = end;
+    for place in 0..end {
+        match stmt_at(page, place) {
+            Stmt::Case(_, _) | Stmt::Other(_) | Stmt::Nothing(_) => arm = place,
+            _ => {}
+        }
     }
+    arm
+}
+
+/// Adds how a part goes that is held before the line at a place and not after it.
+fn put_how(text: &mut Vec<u8>, page: Page, place: usize) -> Result<(), AllocError> {
+    match stmt_at(page, place) {
+        Stmt::Do(Op::GetSqe | Op::PrepRead(_, _, _, _) | Op::PrepWrite(_, _, _, _, _)) => {
+            put_piece(text, b"given to the open entry")?;
+            match request_of(page.program, page.thread, place) {
+                Some(user_data) => put_counted(text, b", then to request ", user_data, b""),
+                None => Ok(()),
+            }
+        }
+        Stmt::Do(Op::SetData64(_)) => put_piece(text, b"given to the request"),
+        Stmt::Put(_) => put_piece(text, b"put into the pool"),
+        Stmt::Loop(_) => put_piece(text, b"the loop doesn't keep it"),
+        Stmt::If(_) => put_piece(text, b"it isn't held with the flag of this branch"),
+        _ => put_piece(
+            text,
+            b"the flag is written, and it isn't held with each flag",
+        ),
+    }
+}
+
+/// The request that the entry becomes that is open after the line at a place.
+pub fn request_of(program: &Program, thread: usize, place: usize) -> Option<u64> {
+    let thread = program.threads().get(thread)?;
+    for (at, line) in thread.lines.iter().enumerate() {
+        match line.stmt {
+            Stmt::Do(Op::SetData64(user_data)) if at > place => return Some(user_data),
+            Stmt::Do(Op::GetSqe) if at > place => return None,
+            _ => {}
+        }
+    }
+    None
+}
+
+/// How many of a part, without credits, items say.
+fn count_in(items: &Items, part: Part) -> u32 {
+    match part {
+        Part::Shares(buffer, _) => shares_of(&items.shares, buffer),
+        Part::Token(user_data) => u32::from(items.tokens.contains(&user_data)),
+        Part::Credits(_) => 0,
+    }
+}
+
+/// Adds which other thread begins with some of a part, if one does.
+fn put_header(text: &mut Vec<u8>, page: Page, part: Part) -> Result<(), AllocError> {
+    for (number, thread) in page.program.threads().iter().enumerate() {
+        let count = count_in(&thread.items, part);
+        if number != page.thread && count > 0 {
+            let held = match part {
+                Part::Shares(buffer, _) => Part::Shares(buffer, count),
+                _ => part,
+            };
+            put_pieces(text, &[b"; thread ", &thread.name, b", line "])?;
+            put_number(text, u64::from(thread.line))?;
+            put_piece(text, b", begins with ")?;
+            return put_part(text, page.program, held);
+        }
+    }
+    Ok(())
 }

@@ -12,6 +12,7 @@ use crate::asks::{Need, header_need, line_need};
 use crate::causes::{Advice, advice_on_read, advice_on_rule};
 use crate::hint::put_hint;
 use crate::lost::put_lost;
+use crate::mends::mend_of;
 use crate::notes::notes_on;
 use crate::spot::{Spot, spot_of};
 use crate::state_text::put_state;
@@ -137,12 +138,12 @@ fn refused_members(
 {
     let Refusal { line, cause } = refusal;
     let mut members = Map::new(alloc);
+    put_advice(alloc, &mut members, advice_on_rule(cause))?;
     if let Some(spot) = spot_of(program, line) {
         put_spot(alloc, &mut members, source, program, spot, cause)?;
     }
     let notes = notes_of(alloc, source, program)?;
     put(alloc, &mut members, "notes", Value::Array(notes))?;
-    put_advice(alloc, &mut members, advice_on_rule(cause))?;
     put_line(
         alloc,
         &mut members,
@@ -154,7 +155,8 @@ fn refused_members(
     Ok(members)
 }
 
-/// Adds what a refused line asks for, where a part that is missing was last held, and the lines of its thread up to it.
+/// Adds what a refused line asks for, how a part that is missing was lost, how that is mended, if the program shows it,
+/// and the lines of its thread up to it.
 fn put_spot(
     alloc: Global,
     members: &mut Members,
@@ -173,6 +175,10 @@ fn put_spot(
         let lines = Lines::of(alloc, source)?;
         put_lost(&mut lost, &lines, program, spot.thread, place, missing)?;
         put_bytes(alloc, members, "lost", &lost)?;
+    }
+    let mend = mend_of(alloc, program, spot, cause, need.missing)?;
+    if !mend.is_empty() {
+        put_bytes(alloc, members, "mend", &mend)?;
     }
     let name = &program.threads()[spot.thread as usize].name;
     put_bytes(alloc, members, "thread", name)?;

@@ -9,7 +9,7 @@ ghost use Rattle.rc_world.specs.Machine.{start_world};
 ghost use Rattle.rc_world.specs.Trace.{trace_of};
 
 use crate::steps::read_moved;
-use crate::told::{put_of_items, put_of_moves};
+use crate::told::{put_of_items, put_of_moves, put_of_unread};
 use rc_report::engine_fault::EngineFault;
 use rc_report::source::Lines;
 use rc_report::step_engine::{StepEnd, Steps, read_steps, write_unread};
@@ -22,7 +22,8 @@ use rc_world::world::World;
 use std::alloc::{AllocError, Global};
 
 /// Steps the program of a text through a schedule. The trace is written, and with `state` the world in which it ends; why
-/// an item isn't enabled is added to the notes. An unreadable text or schedule is answered with one line of its own.
+/// an item isn't enabled is added to the notes, and whether one that can't be read is a move. An unreadable text or
+/// schedule is answered with one line of its own.
 ///
 /// Answers `Write` where a write failed, and `OutOfMemory` where memory ran out: then a beginning of the answer is
 /// written. Nothing is tried again (`write(2)`).
@@ -45,7 +46,10 @@ pub fn step_items<W: Sink>(
             put_of_items(notes, &world, &steps.items, end)?;
             Ok(StepEnd::Trace(end))
         }
-        Err(unread) => write_unread(writer, unread),
+        Err(unread) => {
+            put_of_unread(notes, schedule, unread)?;
+            write_unread(writer, unread)
+        }
     }
 }
 

@@ -9,6 +9,7 @@ use crate::steps::Moved;
 use crate::why::{Reason, reason_of};
 use rc_lang::program::Program;
 use rc_report::printed::thread_name;
+use rc_report::step_engine::Unread;
 use rc_report::text::{put_counted, put_number, put_piece, put_pieces, put_signed};
 use rc_report::trace::End;
 use rc_world::event::Item;
@@ -111,6 +112,32 @@ pub fn put_of_moves(
         Some(place) => put_refused(text, world, moved, place),
         None => Ok(()),
     }
+}
+
+/// Adds what is told of a schedule that can't be read: a line for the item, where it is written as a move.
+pub fn put_of_unread(text: &mut Vec<u8>, schedule: &str, unread: Unread) -> Result<(), AllocError> {
+    let Unread::Schedule(number) = unread else {
+        return Ok(());
+    };
+    let mut at: u64 = 0;
+    for piece in schedule.as_bytes().split(|b| *b == b',') {
+        at = at.saturating_add(1);
+        if at == number && is_move(piece) {
+            put_counted(text, b"ringcheck: item ", number, b", ")?;
+            put_piece(text, piece)?;
+            return put_piece(
+                text,
+                b", is a move: it needs '--moves' in place of '--schedule'\n",
+            );
+        }
+    }
+    Ok(())
+}
+
+// Whether a piece of a schedule is written as so many steps of a thread, or as its steps up to a line.
+fn is_move(piece: &[u8]) -> bool {
+    let is_printed = piece.iter().all(|b| *b > 32 && *b < 127);
+    is_printed && piece.iter().any(|b| *b == b'*' || *b == b'@')
 }
 
 // The place of the item that isn't enabled, if a trace ends at one.

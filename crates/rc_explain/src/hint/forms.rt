@@ -3,6 +3,8 @@
 use super::fitting::{forms_of, is_reserved, longest, may_be, reach_of};
 use super::lines::{column_of, place_of, word_at};
 use super::near::{Nearest, nearer, none_near};
+use super::places::thing_of;
+use super::slips::put_slip;
 use super::wording::{put_column, put_word};
 use rc_read::fixed::text_of;
 use rc_read::parts::Parts;
@@ -40,7 +42,7 @@ fn choice_of(next: Option<Part>) -> Choice {
         Part::Operand => named(b"a variable or a number"),
         Part::Comparison => named(b"a comparison"),
         Part::Items => named(b"items"),
-        _ => named(b"a number"),
+        _ => named(thing_of(part)),
     }
 }
 
@@ -241,6 +243,9 @@ pub fn put_form(
         if !may_be(version, parts.region, row) {
             return put_stand(text, line, first, stand_of(row));
         }
+    }
+    if put_slip(text, parts, line, words)? {
+        return Ok(());
     }
     let forms = forms_of(alloc, version, parts.region)?;
     let most = longest(version, &forms, words);

@@ -25,9 +25,17 @@ pub fn put_strange(text: &mut Vec<u8>, line: &[u8]) -> Result<(), AllocError> {
     Ok(())
 }
 
-/// Adds the hint for a text that doesn't begin with a head.
-pub fn put_head(text: &mut Vec<u8>, parts: &Parts) -> Result<(), AllocError> {
+/// Adds the hint for a text that doesn't begin with a head. Only the end of a text has no word.
+pub fn put_head(text: &mut Vec<u8>, parts: &Parts, words: &[&[u8]]) -> Result<(), AllocError> {
     match parts.region {
+        Region::Start if words.is_empty() => put_piece(
+            text,
+            b"no line has a word: begin the text with 'ringcheck 1', and then 'ring 8'",
+        ),
+        _ if words.is_empty() => put_piece(
+            text,
+            b"only one line has words: the second begins with 'ring', as 'ring 8'",
+        ),
         Region::Start => put_piece(
             text,
             b"the first line with words is 'ringcheck 1', 'ringcheck 2' or 'ringcheck 3'",

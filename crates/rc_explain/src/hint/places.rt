@@ -8,8 +8,8 @@ use rc_lang::numbers::{is_number, number_of, signed_number_of};
 use rc_read::parts::Parts;
 use rc_read::spots::{Spot, begins_number, put_spots};
 use rc_read::table::{Part, Range, parts_of};
-use rc_read::words::is;
-use rc_report::text::{put_number, put_piece};
+use rc_read::words::{is, is_name};
+use rc_report::text::{put_number, put_piece, put_pieces};
 use std::alloc::{AllocError, Global};
 
 /// A word in its place: in which word of the line it is, and from which byte of that on.
@@ -148,6 +148,35 @@ fn range_of(parts: &Parts, seen: Seen, part: Part) -> Option<(u64, u64)> {
     }
 }
 
+/// What a number is in a place of this range.
+fn thing_in(range: Range) -> &'static [u8] {
+    match range {
+        Range::Size | Range::CompletionSize | Range::Rounded => b"a number of entries",
+        Range::Entries => b"a number of entries",
+        Range::Shares | Range::Within(1, 16) => b"a number of shares",
+        Range::Within(0, 4095) => b"a place in the buffer",
+        Range::Within(0, 4096) => b"a length",
+        Range::Within(0, 1048576) => b"an offset",
+        Range::Within(1, 4096) | Range::Within(0, 65536) => b"a number of bytes",
+        Range::Within(0, 2048) => b"a number of completions",
+        Range::Within(0, 1) => b"a flag",
+        _ => b"a number",
+    }
+}
+
+/// What a number in a place is.
+pub fn thing_of(part: Part) -> &'static [u8] {
+    match part {
+        Part::Number(range) => thing_in(range),
+        Part::File | Part::NewFile => b"a file's number",
+        Part::Token | Part::NewToken | Part::HeldToken => b"user data",
+        Part::HeldShares => b"a number of shares",
+        Part::Credits => b"a number of credits",
+        Part::Queued => b"a number of entries",
+        _ => b"a number",
+    }
+}
+
 /// Whether the place is a signed number's and the word isn't a signed number.
 fn lacks_sign(place: Place) -> bool {
     let is_signed = match place.part {
@@ -165,16 +194,33 @@ fn put_range(
     low: u64,
     high: u64,
 ) -> Result<(), AllocError> {
+    let thing = thing_of(place.part);
     put_place(text, line, place)?;
     put_word(text, place.word)?;
     if is_number(place.word) {
-        put_piece(text, b" is out of the range ")?;
+        put_pieces(text, &[b" is out of the range of ", thing, b", "])?;
     } else {
-        put_piece(text, b" is no number; the range is ")?;
+        put_pieces(text, &[b" is no number; ", thing, b" is "])?;
     }
     put_number(text, low)?;
     put_piece(text, b" to ")?;
     put_number(text, high)
+}
+
+/// Adds that a word is no signed number: also a variable, with which no test compares.
+fn put_unsigned(text: &mut Vec<u8>, line: &[u8], place: Place) -> Result<(), AllocError> {
+    put_place(text, line, place)?;
+    put_word(text, place.word)?;
+    if is_name(place.word) {
+        return put_piece(
+            text,
+            b" is a variable, and a test compares with a number: test a difference, as 'd = x - y' and 'if d == 0 {'",
+        );
+    }
+    put_piece(
+        text,
+        b" is no number from -9223372036854775808 to 9223372036854775807",
+    )
 }
 
 /// Adds the hint for a word that is no number or is out of its range.
@@ -195,12 +241,7 @@ pub fn put_bad_number(
             }
         }
         if lacks_sign(*place) {
-            put_place(text, line, *place)?;
-            put_word(text, place.word)?;
-            return put_piece(
-                text,
-                b" is no number from -9223372036854775808 to 9223372036854775807",
-            );
+            return put_unsigned(text, line, *place);
         }
         seen = seen_after(parts, seen, *place);
     }

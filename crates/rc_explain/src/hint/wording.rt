@@ -3,9 +3,8 @@
 use rc_report::text::{put_number, put_piece};
 use std::alloc::AllocError;
 
-/// Adds a word in quotes, cut at 40 bytes, with `?` for what isn't printable.
-pub fn put_word(text: &mut Vec<u8>, word: &[u8]) -> Result<(), AllocError> {
-    text.push(b'\'')?;
+/// Adds a word, cut at 40 bytes, with `?` for what isn't printable.
+pub fn put_plain(text: &mut Vec<u8>, word: &[u8]) -> Result<(), AllocError> {
     for (i, b) in word.iter().enumerate() {
         if i == 40 {
             put_piece(text, b"..")?;
@@ -14,8 +13,14 @@ pub fn put_word(text: &mut Vec<u8>, word: &[u8]) -> Result<(), AllocError> {
             text.push(if *b < 32 || *b > 126 { b'?' } else { *b })?;
         }
     }
-    text.push(b'\'')?;
     Ok(())
+}
+
+/// Adds a word in quotes, cut at 40 bytes, with `?` for what isn't printable.
+pub fn put_word(text: &mut Vec<u8>, word: &[u8]) -> Result<(), AllocError> {
+    put_piece(text, b"'")?;
+    put_plain(text, word)?;
+    put_piece(text, b"'")
 }
 
 /// Adds `column C: `.

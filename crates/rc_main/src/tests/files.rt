@@ -37,9 +37,9 @@ impl Texts for Folder {
 /// What explains the verdict on `early.ring`.
 const EXPLAINED: &str = "refused line 18 V8 NoShare
 asks for 1 share of a; held: 0
-a:1 is held before line 9, prep_read 3 a 16 0, and not after it: given to the open entry
+a:1 is held before line 9, prep_read 3 a 16 0, and not after it: given to the open entry, then to request 7
 why: Without a share of the buffer another thread or the kernel may be writing it at this moment.
-mend: Reap the request that has the share before this line, or let the thread begin with one.
+mend: Reap request 7 first, since `cqe_seen` in its own `case` gives a:1 back.
 see V8 in docs/causes.md
 thread t0
   line 7, lock {: holds a:1 t:7 c:1; unlocked

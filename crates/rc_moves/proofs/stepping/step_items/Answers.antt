@@ -19,8 +19,8 @@ returns-in_err-world-in-Ok g c =
     let text = stepped_by c.args.state c.args.text.now c.args.schedule.now in
     stopped (g.W.Sink.state c.args.writer.now) (g.W.Sink.state c.args.writer.now) text c.from_residual-in_err-world-in-Ok.result (EndsBy (answer_of c.args.text.now) c.args.schedule.now) c.from_residual-in_err-world-in-Ok.ensures.1 (began_none _ text OutOfMemory refl)
 
-pub returns-in-Err : goal.returns-in-Err
-returns-in-Err g c =
+pub returns-in_ok-put_of_unread-in-Err : goal.returns-in_ok-put_of_unread-in-Err
+returns-in_ok-put_of_unread-in-Err g c =
     let text = c.args.text.now in
     let schedule = c.args.schedule.now in
     let unread : ReadsSteps (answer_of text) schedule (Err c.in-Err.unread) =

@@ -1,0 +1,329 @@
+//! The ways that lead to a line, followed back to where a part is lost on one of them.
+
+ghost use Rattle.std.specs.Prelude.{◌<◌, length};
+
+use crate::asks::Missing;
+use rc_lang::lines::{Op, Stmt, Test};
+use rc_lang::program::{Program, Thread, TokenKind};
+use rc_rules::mode::{Peeked, peeked_of, unlocked};
+use rc_rules::needs::kind_of;
+use rc_rules::side::Side;
+use rc_split::part::Part;
+use rc_verify::labels::Labels;
+use std::alloc::{AllocError, Global};
+
+/// What is known of a part on a side of a place: nothing reaches it, or the part isn't held there, or it is.
+#[derive(Clone, Copy, PartialEq)]
+enum Known {
+    Dead,
+    Lacks,
+    Holds,
+}
+
+/// What is known of a part before a line while the flag is 0, and while it isn't.
+#[derive(Clone, Copy)]
+struct Both {
+    zero: Known,
+    other: Known,
+}
+
+/// A place, on a side of the flag: that of a flag that is 0, or the other.
+#[derive(Clone, Copy)]
+pub struct Point {
+    pub place: usize,
+    pub zero: bool,
+}
+
+/// How a part is lost that a line misses.
+#[derive(Clone, Copy)]
+pub enum Loss {
+    /// It belongs to the peeked request, this much of it.
+    Peeked(Part),
+    /// It is held before the line at this place, and not after it on this side; whether it is on the other side.
+    At(Point, bool),
+    /// Of the ends that join above the line this one doesn't have it on this side; whether it does on the other side;
+    /// and an end that has it.
+    Ends(Point, bool, usize),
+    /// It isn't held on any way to the line.
+    Never,
+}
+
+/// What is known of a part before each line of a thread up to the one that misses it.
+#[derive(Drop)]
+struct Ways<'a> {
+    thread: &'a Thread,
+    known: Vec<Both>,
+    owned: Option<Part>,
+}
+
+/// What the peeked request has of a part, if it has some.
+fn owned_of(program: &Program, peeked: Peeked, part: Part) -> Option<Part> {
+    let kind = match peeked {
+        Peeked::Unseen => return None,
+        Peeked::SeesOther => None,
+        Peeked::Sees(user_data) => kind_of(program, user_data),
+    };
+    match (part, kind) {
+        (Part::Credits(_), _) => Some(Part::Credits(1)),
+        (Part::Token(token), _) if peeked == Peeked::Sees(token) => Some(part),
+        (Part::Shares(buffer, _), Some(TokenKind::Read(read))) if read == buffer => {
+            Some(Part::Shares(buffer, program.shares_at(buffer)))
+        }
+        (Part::Shares(buffer, _), Some(TokenKind::Write(written, count))) if written == buffer => {
+            Some(Part::Shares(buffer, count))
+        }
+        _ => None,
+    }
+}
+
+/// What the peeked request has of a part, where the part is held together with that.
+fn peeked_part(side: &Side, part: Part) -> Option<Part> {
+    let peeked = peeked_of(side.mode().unwrap_or(unlocked()));
+    let owned = owned_of(side.program(), peeked, part)?;
+    let is_met = match (part, owned) {
+        (Part::Shares(buffer, count), Part::Shares(_, more)) => {
+            side.shares(buffer).saturating_add(more) >= count
+        }
+        (Part::Credits(count), _) => side.credits().saturating_add(1) >= count,
+        _ => true,
+    };
+    is_met.then_some(owned)
+}
+
+fn known_on(side: &Side, part: Part) -> Known {
+    if !side.is_live() {
+        Known::Dead
+    } else if side.holds(part) {
+        Known::Holds
+    } else {
+        Known::Lacks
+    }
+}
+
+/// Walks up to the place of the line that misses a part. It is no part of its caller, as it needs room for labels.
+#[inline(never)]
+fn walked<'a>(
+    alloc: Global,
+    program: &'a Program,
+    thread: u32,
+    place: usize,
+    missing: Missing,
+) -> Result<Ways<'a>, AllocError>
+    requires { thread < length program.now.threads }
+{
+    let Missing { part, zero, .. } = missing;
+    let mut known = Vec::new(alloc);
+    let mut labels = Labels::new(program, thread);
+    for _ in 0..=place {
+        let state = labels.state();
+        known.push(Both {
+            zero: known_on(state.on(true), part),
+            other: known_on(state.on(false), part),
+        })?;
+        if known.len() > place || !matches!(labels.next(), Ok(true)) {
+            break;
+        }
+    }
+    Ok(Ways {
+        thread: labels.thread(),
+        known,
+        owned: peeked_part(labels.state().on(zero), part),
+    })
+}
+
+/// The variable that a line writes, if it writes one.
+fn written(stmt: Stmt) -> Option<usize> {
+    match stmt {
+        Stmt::Peek(x) => Some(x),
+        Stmt::Do(Op::Set(x, _) | Op::Assign(x, _) | Op::Load(x, _, _)) => Some(x),
+        Stmt::Do(Op::Add(x, _, _) | Op::Subtract(x, _, _)) => Some(x),
+        Stmt::Do(Op::Submit(x) | Op::SubmitAndWait(x, _)) => Some(x),
+        _ => None,
+    }
+}
+
+/// Whether either side of the flag may come to either at a line: at the top of a loop, and where the flag is written.
+fn mixes(flag: Option<usize>, stmt: Stmt) -> bool {
+    matches!(stmt, Stmt::Loop(_)) || (flag.is_some() && written(stmt) == flag)
+}
+
+/// Whether a side of the flag goes to the first branch of a test, or where it fails.
+fn goes_to(flag: Option<usize>, stmt: Stmt, zero: bool, first: bool) -> bool {
+    let Stmt::If(Test::Compare(variable, comparison, n)) = stmt else {
+        return true;
+    };
+    if flag != Some(variable) {
+        return true;
+    }
+    let holds = comparison.compares(0, n);
+    if zero {
+        return holds == first;
+    }
+    // Of another number only a test against 0 tells what it says.
+    let tells = n == 0 && comparison.compares(1, 0) == comparison.compares(-1, 0);
+    !tells || holds != first
+}
+
+/// The place before which a line takes up what is known: that of the test of an else, and of the peek of an arm.
+fn source_of(stmt: Stmt, place: usize) -> usize {
+    match stmt {
+        Stmt::Else(test) => test,
+        Stmt::Case(peek, _) | Stmt::Other(peek) | Stmt::Nothing(peek) => peek,
+        _ => place,
+    }
+}
+
+/// Whether what is known before the line at a place goes to the end of a block that the line at another closes.
+fn is_end(closing: Stmt, last: usize, stmt: Stmt, place: usize) -> bool {
+    match (closing, stmt) {
+        (Stmt::EndIf(opening), _) => place == opening || place == last,
+        (Stmt::EndPeek(peek), Stmt::EndArm(arm)) => arm == peek,
+        (Stmt::EndLoop(start, _), Stmt::Break(left, _, _)) => left == start,
+        _ => false,
+    }
+}
+
+/// Where a block begins whose ends a line joins, and None where it joins none.
+fn joined(ways: &Ways, closing: Stmt) -> Option<usize> {
+    match closing {
+        Stmt::EndIf(opening) => match ways.stmt(opening) {
+            Stmt::Else(test) => Some(test),
+            _ => Some(opening),
+        },
+        Stmt::EndPeek(peek) => Some(peek),
+        Stmt::EndLoop(start, _) => Some(start),
+        _ => None,
+    }
+}
+
+impl Ways<'_> {
+    /// The statement at a place. After the last line it is as a lock, which changes no part.
+    fn stmt(&self, place: usize) -> Stmt {
+        match self.thread.lines.get(place) {
+            Some(line) => line.stmt,
+            None => Stmt::Lock,
+        }
+    }
+
+    fn at(&self, place: usize, zero: bool) -> Known {
+        match self.known.get(place) {
+            Some(both) if zero => both.zero,
+            Some(both) => both.other,
+            None => Known::Dead,
+        }
+    }
+
+    /// The first of the ends that a line joins of which this is known on a side.
+    fn end_of(&self, closing: Stmt, last: usize, zero: bool, wanted: Known) -> Option<usize> {
+        for place in 0..=last {
+            let stmt = self.stmt(place);
+            let goes = goes_to(self.thread.flag, stmt, zero, false);
+            if is_end(closing, last, stmt, place) && goes && self.at(place, zero) == wanted {
+                return Some(place);
+            }
+        }
+        None
+    }
+
+    /// The side on which what is known before the line at a place comes to a side after it, where either may come there:
+    /// the same one, or the other where nothing reaches that one. Where the flag is written both come, so it is the one
+    /// on which the part isn't held.
+    fn side_before(&self, place: usize, zero: bool) -> bool {
+        let is_loop = matches!(self.stmt(place), Stmt::Loop(_));
+        if is_loop && self.at(place, zero) != Known::Dead {
+            return zero;
+        }
+        if is_loop {
+            return !zero;
+        }
+        self.at(place, true) == Known::Lacks
+    }
+
+    /// Whether the part is held on some side before the line at a place which writes the flag, or tests it so that no
+    /// more than one side comes to a point.
+    fn is_on_other(&self, place: usize, point: Point) -> bool {
+        let (stmt, flag) = (self.stmt(place), self.thread.flag);
+        let splits = self.at(point.place, !point.zero) == Known::Dead
+            && goes_to(flag, stmt, true, true) != goes_to(flag, stmt, true, false);
+        let writes = flag.is_some() && written(stmt) == flag;
+        let holds = self.at(place, true) == Known::Holds || self.at(place, false) == Known::Holds;
+        holds && (writes || splits)
+    }
+
+    /// Goes back over a line that joins no ends: to where the part isn't held either, or to its loss.
+    fn back(&self, point: Point, last: usize) -> Result<Point, Loss> {
+        let place = source_of(self.stmt(last), last);
+        let zero = if mixes(self.thread.flag, self.stmt(place)) {
+            self.side_before(place, point.zero)
+        } else {
+            point.zero
+        };
+        if self.at(place, zero) == Known::Holds || self.is_on_other(place, point) {
+            let tells = self.at(point.place, !point.zero) == Known::Holds;
+            return Err(Loss::At(
+                Point {
+                    place,
+                    zero: point.zero,
+                },
+                tells,
+            ));
+        }
+        Ok(Point { place, zero })
+    }
+
+    /// How the part is lost on the way that leads to a point at which it isn't held.
+    fn loss(&self, missing: Point) -> Loss {
+        let mut point = missing;
+        let (mut found, mut opening) = (Loss::Never, 0);
+        for _ in 0..=missing.place {
+            if matches!(found, Loss::Ends(_, _, _)) && point.place <= opening {
+                break;
+            }
+            let Some(last) = point.place.checked_sub(1) else {
+                break;
+            };
+            let closing = self.stmt(last);
+            if let Some(start) = joined(self, closing) {
+                let zero = point.zero;
+                let Some(lacking) = self.end_of(closing, last, zero, Known::Lacks) else {
+                    break;
+                };
+                point = Point {
+                    place: lacking,
+                    zero,
+                };
+                if let Some(holding) = self.end_of(closing, last, zero, Known::Holds) {
+                    let tells = self.at(lacking, !zero) == Known::Holds;
+                    found = Loss::Ends(point, tells, holding);
+                    opening = start;
+                }
+                continue;
+            }
+            match self.back(point, last) {
+                Ok(earlier) => point = earlier,
+                Err(loss) => return loss,
+            }
+        }
+        found
+    }
+}
+
+/// How a part is lost that the line at a place misses.
+pub fn loss_of(
+    alloc: Global,
+    program: &Program,
+    thread: u32,
+    place: usize,
+    missing: Missing,
+) -> Result<Loss, AllocError>
+    requires { thread < length program.now.threads }
+{
+    let ways = walked(alloc, program, thread, place, missing)?;
+    if let Some(owned) = ways.owned {
+        return Ok(Loss::Peeked(owned));
+    }
+    Ok(ways.loss(Point {
+        place,
+        zero: missing.zero,
+    }))
+}
