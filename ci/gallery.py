@@ -50,7 +50,7 @@ def wrong_rows(program, folder):
 
 
 def why_of(lines):
-    """An explanation up to where it says where more stands: without the lines of the thread."""
+    """An explanation up to where it says where more stands: without the notes."""
     last = next((at for at, line in enumerate(lines) if line.startswith("see ")), len(lines))
     return lines[: last + 1]
 

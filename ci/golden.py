@@ -5,7 +5,7 @@ usage: ci/golden.py PROGRAM [--write]
 
 Beside each text NAME.rc stands its record NAME.out. It has blocks: a line `$ WORDS`, what the program prints for these
 words with the text as its input, and a line `status S`. Most have `check --explain`, as lines and as JSON; some have
-`c` or `step --state`. Each fault of examples/causes, and each broken.rc of the gallery, has `find` with three seeds. An
+`--listing` too, `c` or `step --state`. Each fault of examples/causes, and each broken.rc of the gallery, has `find` with three seeds. An
 object stands on several lines there: a comma begins one, but within what is said of a line.
 
 Each file NAME.c of examples/c is what `PROGRAM c` prints for NAME.rc there, or for examples/NAME.rc.

@@ -55,7 +55,7 @@ NO_FOLDER = "Not a directory"
 FORBIDDEN = "Permission denied"
 MEMORY = "out of memory (20)"
 BESIDE = "'-' stands beside other files (see 'ringcheck --help')"
-EXPLAINS_ONE = "'--explain' takes one file (see 'ringcheck --help')"
+NO_EXPLAIN = "the following required arguments were not provided: --explain (see 'ringcheck --help')"
 UNKNOWN = "unexpected argument '--no' found (see 'ringcheck --help')"
 NO_LIMIT = "the following required arguments were not provided: --limit <N> (see 'ringcheck --help')"
 ENDED = "item 2, t0, isn't enabled: t0 has ended"
@@ -91,13 +91,16 @@ ROWS = [
     (("check", "--json"), GOOD, 0, '{"verdict":"accepted"}\n', ""),
     (("check", "--json"), REFUSED, 1, '{"cause":"Unlocked","code":1,"line":4,"verdict":"refused"}\n', ""),
     (("check", "--json"), UNREADABLE, 2, '{"cause":"BadLine","code":3,"line":4,"verdict":"unreadable"}\n', ""),
-    (("check", "--explain"), GOOD, 0, "accepted\nthread t0\n...", ""),
+    (("check", "--explain"), GOOD, 0, ACCEPTED, ""),
     (("check", "--explain"), REFUSED, 1, REFUSAL + "...", ""),
     (("check", "--explain"), UNREADABLE, 2, FAULT + "...", ""),
+    (("check", "--explain", "--listing"), GOOD, 0, "accepted\nthread t0\n  line 4, x = 1: ...", ""),
+    (("check", "--explain", "--listing"), REFUSED, 1, REFUSAL + "...", ""),
+    (("check", "--explain", "--listing"), UNREADABLE, 2, FAULT + "...", ""),
+    (("check", "--listing"), GOOD, 3, "", NO_EXPLAIN),
     (("check", "--explain", "--json"), GOOD, 0, "{...", ""),
     (("check", "--explain", "--json"), REFUSED, 1, "{...", ""),
     (("check", "--explain", "--json"), UNREADABLE, 2, "{...", ""),
-    (("check", "--explain", "good.rc", "refused.rc"), b"", 3, "", EXPLAINS_ONE),
     (("step", "--schedule", "t0"), GOOD, 0, ONE_EVENT, ""),
     (("step",), GOOD, 0, "stopped after 0 events\n", ""),
     (("step",), REFUSED, 1, "fault F9 NoLock t0 line 4\n", ""),
@@ -157,8 +160,12 @@ ROWS = [
     (("check", "refused.rc", "good.rc"), b"", 1, "refused.rc:4: refused V1 Unlocked\ngood.rc: accepted\n", ""),
     (("check", "--json", "good.rc"), b"", 0, '{"file":"good.rc","verdict":"accepted"}\n', ""),
     (("check", "--json", "folder"), b"", 3, "", f"folder: {FOLDER}"),
-    (("check", "--explain", "refused.rc"), GOOD, 1, REFUSAL + "...", ""),
+    (("check", "--explain", "refused.rc"), GOOD, 1, "refused.rc:4: refused V1 Unlocked\n...", ""),
     (("check", "--explain", "missing.rc"), GOOD, 3, "", f"missing.rc: {MISSING}"),
+    (("check", "--explain", "good.rc", "a b\n.rc"), b"", 0, "good.rc: accepted\na b\\u000a.rc: accepted\n", ""),
+    (("check", "--explain", "good.rc", "missing.rc"), b"", 3, "good.rc: accepted\n", f"missing.rc: {MISSING}"),
+    (("check", "--explain", "--json", "good.rc"), b"", 0, '{"file":"good.rc","notes":[],...', ""),
+    (("check", "--explain", "--json", "refused.rc", "good.rc"), b"", 1, '{"asks":"asks for the lock; it isn\'t held","cause":"Unlocked",...', ""),
     (("step", "--schedule", "t0", "good.rc"), b"", 0, ONE_EVENT, ""),
     (("step", "refused.rc"), b"", 1, "fault F9 NoLock t0 line 4\n", ""),
     (("step", "missing.rc"), GOOD, 3, "", f"missing.rc: {MISSING}"),
@@ -320,6 +327,7 @@ def hold_large(bench):
             bench.row(("step", given), text, status & 2, step, "", note)
             bench.row(("run", "--seed", "1", "--limit", "9000", given), text, status, run, "", note)
         bench.row(("check", "--explain"), text, status, verdict + "...", "", note)
+        bench.row(("check", "--explain", "--listing"), text, status, verdict + "...", "", note)
         bench.row(("c",), text, status, verdict if status else "...", "", note)
     text = large(b"x = 1") + b"#"
     bench.row(("check",), text, 2, "unreadable line 4097 P8 TooLarge\n", "", " of 4,097 lines")

@@ -1,5 +1,5 @@
 -- What is answered and written where a verdict is explained.
-use Rattle.std.specs.Prelude.{ℕ, ◌≡◌, Bool, true, false, List, ◌++◌, codes, Some, None}
+use Rattle.std.specs.Prelude.{ℕ, ◌≡◌, List, ◌++◌, codes, Option, Some, None}
 use Rattle.json.specs.Lex.{tokens}
 use Rattle.json.specs.Print.{print}
 use Rattle.serde_json.specs.Data.{Data, number, string, unsigned}
@@ -11,7 +11,11 @@ use Rattle.rc_rules.specs.Causes as rules_of
 use Rattle.rc_report.specs.declared.verdict.Verdict.{Verdict}
 use Rattle.rc_report.specs.declared.verdict.Verdict.TheVariants.{Accepted, Refused, Unreadable}
 use Rattle.rc_report.specs.Checks.{IsVerdict}
+use Rattle.rc_report.specs.Files.{file_text}
+use Rattle.rc_report.specs.Shown.{shown}
 use Rattle.rc_report.specs.Verdicts.{verdict_text}
+use Rattle.rc_explain.specs.declared.engine.Form.{Form}
+use Rattle.rc_explain.specs.declared.engine.Form.TheVariants.{Words, Listing, Json}
 
 -- ---- as JSON
 
@@ -34,17 +38,37 @@ TellsVerdict Accepted whole =
 TellsVerdict (Refused r) whole = TellsLine (codes "refused") (rules_of.name_of r.cause) (rules_of.premise_number r.cause) r.line whole
 TellsVerdict (Unreadable line cause) whole = TellsLine (codes "unreadable") (reading.name_of_cause cause) (reading.number_of_cause cause) line whole
 
+-- the file's name, if the text is that of a file
+abbrev pub TellsFile : Option (List ℕ) → Data → Type 0
+TellsFile None whole = Unit {0}
+TellsFile (Some file) whole = HasMember (codes "file") (string file) whole
+
 -- The text of such an object: without spaces, each member once and in the order of the keys.
-abbrev pub IsObjectOf : Verdict → List ℕ → Type 0
-IsObjectOf verdict json = (whole : Data) × TellsVerdict verdict whole × IsInOrder json whole × (json ≡ print (tokens json))
+abbrev pub IsObjectOf : Option (List ℕ) → Verdict → List ℕ → Type 0
+IsObjectOf file verdict json =
+    (whole : Data) × TellsVerdict verdict whole × TellsFile file whole × IsInOrder json whole × (json ≡ print (tokens json))
 
--- ---- in both forms
+-- The same as it is shown, and a line feed: `\u` and four hex digits stand for the same character in JSON.
+abbrev pub IsObjectText : Option (List ℕ) → Verdict → List ℕ → Type 0
+IsObjectText file verdict text = (json : List ℕ) × IsObjectOf file verdict json × (text ≡ shown json ++ codes "\n")
 
--- As JSON it is such an object and a line feed, and else a text that begins with the verdict's line.
-abbrev pub Tells : Bool → Verdict → List ℕ → Type 0
-Tells true verdict text = (json : List ℕ) × IsObjectOf verdict json × (text ≡ json ++ codes "\n")
-Tells false verdict text = (rest : List ℕ) × (text ≡ verdict_text verdict ++ rest)
+-- ---- in words
 
--- The verdict on the bytes, and a text that explains it.
-abbrev pub Explains : List ℕ → Bool → Verdict → List ℕ → Type 0
-Explains bytes json verdict text = IsVerdict (answer_of bytes) verdict × Tells json verdict text
+-- the line of the verdict, as it is without an explanation
+abbrev pub first_line : Option (List ℕ) → Verdict → List ℕ
+first_line None verdict = verdict_text verdict
+first_line (Some file) verdict = file_text file verdict
+
+abbrev pub BeginsWith : List ℕ → List ℕ → Type 0
+BeginsWith line text = (rest : List ℕ) × (text ≡ line ++ rest)
+
+-- ---- in each form
+
+abbrev pub Tells : Option (List ℕ) → Form → Verdict → List ℕ → Type 0
+Tells file Words verdict text = BeginsWith (first_line file verdict) text
+Tells file Listing verdict text = BeginsWith (first_line file verdict) text
+Tells file Json verdict text = IsObjectText file verdict text
+
+-- The verdict on the bytes, which are those of a file if one is named, and a text that explains it.
+abbrev pub Explains : List ℕ → Option (List ℕ) → Form → Verdict → List ℕ → Type 0
+Explains bytes file form verdict text = IsVerdict (answer_of bytes) verdict × Tells file form verdict text

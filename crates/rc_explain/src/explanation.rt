@@ -19,19 +19,28 @@ use rc_rules::cause::Cause;
 use rc_verify::labels::Labels;
 use std::alloc::{AllocError, Global};
 
-/// What is printed after the verdict on a text: of an accepted one the notes and what is known before each line; of a
-/// refused one what the line asks for, why, how it is mended, the notes, and what is known before each line of its
-/// thread up to it; of one that can't be read what is wrong with the line's words, why, and how it is mended.
-pub fn explanation(alloc: Global, source: &[u8], judged: &Judged) -> Result<Vec<u8>, AllocError> {
+/// What is printed after the verdict on a text: of an accepted one the notes; of a refused one what the line asks for, why,
+/// how it is mended, and the notes; of one that can't be read what is wrong with the line's words, why, and how it is
+/// mended. With the listing comes what is known before each line: of an accepted text all, of a refused one those of the
+/// thread up to the refused one.
+pub fn explanation(
+    alloc: Global,
+    source: &[u8],
+    judged: &Judged,
+    is_listed: bool,
+) -> Result<Vec<u8>, AllocError> {
     let mut text = Vec::new(alloc);
     let lines = Lines::of(alloc, source)?;
     match judged {
         Judged::Admitted(admitted) => {
             put_notes(alloc, &mut text, &lines, admitted.program())?;
-            put_threads(&mut text, &lines, admitted.program())?;
+            put_threads(&mut text, &lines, admitted.program(), is_listed)?;
         }
         Judged::Refused(program, refusal) => {
-            put_refused(alloc, &mut text, &lines, program, *refusal)?;
+            let listing = put_refused(alloc, &mut text, &lines, program, *refusal)?;
+            if is_listed {
+                put_piece(&mut text, &listing)?;
+            }
         }
         Judged::Unread { line, cause, above } => {
             put_hint(&mut text, lines.line(*line), *line, *cause, above)?;
@@ -55,12 +64,21 @@ fn put_notes(
     Ok(())
 }
 
-/// Adds the lines of all threads. It is no part of its caller, as it needs room for labels.
+/// Adds the lines of all threads, if they are to be listed, or that there is no thread. It is no part of its caller, as it
+/// needs room for labels.
 #[inline(never)]
-fn put_threads(text: &mut Vec<u8>, lines: &Lines, program: &Program) -> Result<(), AllocError> {
+fn put_threads(
+    text: &mut Vec<u8>,
+    lines: &Lines,
+    program: &Program,
+    is_listed: bool,
+) -> Result<(), AllocError> {
     let count = program.threads().len() as u32;
     if count == 0 {
         return put_piece(text, b"no thread: nothing was checked\n");
+    }
+    if !is_listed {
+        return Ok(());
     }
     let mut labels = Labels::new(program, 0);
     for thread in 0..count {
@@ -69,14 +87,14 @@ fn put_threads(text: &mut Vec<u8>, lines: &Lines, program: &Program) -> Result<(
     Ok(())
 }
 
-/// Adds what a refused line asks for, why it is refused and how that is mended, and the lines up to it.
+/// Adds what a refused line asks for, why it is refused and how that is mended, and the notes; answers the lines up to it.
 fn put_refused(
     alloc: Global,
     text: &mut Vec<u8>,
     lines: &Lines,
     program: &Program,
     refusal: Refusal,
-) -> Result<(), AllocError> {
+) -> Result<Vec<u8>, AllocError> {
     let Refusal { line, cause } = refusal;
     let mut listing = Vec::new(alloc);
     let mut mend = Vec::new(alloc);
@@ -91,7 +109,7 @@ fn put_refused(
     }
     put_advice(text, advice_on_rule(cause), &mend)?;
     put_notes(alloc, text, lines, program)?;
-    put_piece(text, &listing)
+    Ok(listing)
 }
 
 /// Adds the lines of a thread up to the refused one, or that this is its header; answers what is asked for there. It is no

@@ -1,11 +1,11 @@
 //! A verdict and what explains it, as JSON.
 
-ghost use Rattle.std.specs.Prelude.{◌≡◌, ◌<◌, IfOk, OnOk, length};
+ghost use Rattle.std.specs.Prelude.{◌≡◌, ◌<◌, IfOk, OnOk, length, option_copied as named, string_bytes};
 ghost use Rattle.serde_json.specs.Data.{string};
 ghost use Rattle.serde_json.specs.View.{view};
 ghost use Rattle.rc_explain.specs.Judged.{verdict_of};
 ghost use Rattle.rc_explain.specs.Explains.{IsObjectOf, TellsLine, TellsVerdict};
-ghost use Rattle.rc_explain.specs.Members.{IsPut, whole};
+ghost use Rattle.rc_explain.specs.Members.{IsNamed, IsPut, whole};
 ghost use Rattle.rc_report.specs.declared.verdict.Verdict.TheVariants.{Accepted, Refused, Unreadable};
 
 use crate::asks::{Need, header_need, line_need};
@@ -31,13 +31,31 @@ use std::alloc::{AllocError, Global};
 
 type Members = Map<String, Value>;
 
-/// What is said of a text that was judged: one object without spaces, its keys in order.
-pub fn object_text(alloc: Global, source: &[u8], judged: &Judged) -> Result<Vec<u8>, AllocError>
-    ensures { IfOk result (λ json. IsObjectOf (verdict_of judged.now) json.items) }
+/// What is said of a text that was judged, and the name of its file if it is that of a file: one object without spaces, its
+/// keys in order.
+pub fn object_text(
+    alloc: Global,
+    file: Option<&str>,
+    source: &[u8],
+    judged: &Judged,
+) -> Result<String, AllocError>
+    ensures { IfOk result (λ json.
+        IsObjectOf (named file.entry) (verdict_of judged.now) (string_bytes json)) }
 {
-    let members = members_of(alloc, source, judged)?;
-    let object = Value::Object(members).to_vec(alloc)?;
+    let mut members = members_of(alloc, source, judged)?;
+    put_file(alloc, &mut members, file)?;
+    let object = Value::Object(members).to_string(alloc)?;
     Ok(object)
+}
+
+/// Adds the name of a file, if there is one.
+fn put_file(alloc: Global, members: &mut Members, file: Option<&str>) -> Result<(), AllocError>
+    ensures { OnOk result (IsNamed (named file.entry) members.old members.new) }
+{
+    match file {
+        Some(name) => put_text(alloc, members, "file", name),
+        None => Ok(()),
+    }
 }
 
 /// The members of what is said of a text.

@@ -45,7 +45,7 @@ step_within (Trace end) s e = end_within end s e
 
 pub within : (command : Command) (bytes : List ℕ) (s : ℕ) (text : List ℕ) → Says command bytes s text → s ≤ 3
 within (Check json) bytes s text h = verdict_within h.0 s h.2
-within (Explain json) bytes s text h = verdict_within h.0 s h.2
+within (Explain form) bytes s text h = verdict_within h.0 s h.2
 within (Step schedule) bytes s text h = step_within h.0 s h.3
 within (State schedule) bytes s text h = step_within h.0 s h.3
 within (Moves moves state) bytes s text h = step_within h.0 s h.3
@@ -148,7 +148,7 @@ module _ {S : Type 0} (state : S → Taken) (old new : S) (source : Given) where
 
 asked : (command : Command) (old new : Given) (r : Result ℕ CommandFault) → ReadsOnce old new r → ReadsAsAsked command old new r
 asked (Check json) old new r h = h
-asked (Explain json) old new r h = h
+asked (Explain form) old new r h = h
 asked (Step schedule) old new r h = h
 asked (State schedule) old new r h = h
 asked (Moves moves state) old new r h = h

@@ -1,5 +1,5 @@
 -- What the program answers: of each command the exit status, and what it writes.
-use Rattle.std.specs.Prelude.{ℕ, ℤ, ◌≡◌, ◌≤ℤ◌, pos, negsuc, ◌+◌, ◌⊎◌, Bool, true, false, List, Result, Ok, Err, string_bytes}
+use Rattle.std.specs.Prelude.{ℕ, ℤ, ◌≡◌, ◌≤ℤ◌, pos, negsuc, ◌+◌, ◌⊎◌, Bool, true, false, List, None, Result, Ok, Err, string_bytes}
 use Rattle.rc_lang.specs.Program.{Program}
 use Rattle.rc_read.specs.Answer.{answer_of}
 use Rattle.rc_world.specs.declared.event.Event.{Event}
@@ -79,7 +79,7 @@ SaysAdmitted bytes says status text =
 -- What the C of a program is no contract says.
 abbrev pub Says : Command → List ℕ → ℕ → List ℕ → Type 0
 Says (Check json) bytes status text = SaysVerdict (TellsVerdict bytes json) status text
-Says (Explain json) bytes status text = SaysVerdict (Explains bytes json) status text
+Says (Explain form) bytes status text = SaysVerdict (Explains bytes None form) status text
 Says (Step schedule) bytes status text = SaysSteps stepped_text bytes schedule.now status text
 Says (State schedule) bytes status text = SaysSteps stepped_with_state bytes schedule.now status text
 Says (Find seed walks json) bytes status text = SaysVerdict (Finds bytes walks json) status text

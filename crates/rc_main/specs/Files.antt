@@ -1,6 +1,6 @@
 -- What the program answers of files.
 use Rattle.std.specs.Global.{Vec}
-use Rattle.std.specs.Prelude.{ℕ, ◌≡◌, ◌≤◌, max, Bool, true, false, List, [], ◌∷◌, ◌++◌, map, codes, ◌⊎◌, Result, Ok, Err}
+use Rattle.std.specs.Prelude.{ℕ, ◌≡◌, ◌≤◌, max, Bool, true, false, List, [], ◌∷◌, ◌++◌, map, codes, ◌⊎◌, Some, Result, Ok, Err}
 use Rattle.std.specs.Io.KnownBytes.{Appends}
 use Rattle.std.specs.List.{flat_map}
 use Rattle.rc_report.specs.declared.verdict.Verdict.{Verdict}
@@ -9,7 +9,10 @@ use Rattle.rc_report.specs.Checks.{IsVerdict}
 use Rattle.rc_report.specs.Files.{file_json, file_text}
 use Rattle.rc_report.specs.Shown.{shown}
 use Rattle.rc_report.specs.Streams.{Taken, Wrote}
+use Rattle.rc_explain.specs.Explains.{Explains}
 use Rattle.rc_main.specs.declared.fault.CommandFault.{CommandFault}
+use Rattle.rc_main.specs.declared.files.Telling.{Telling}
+use Rattle.rc_main.specs.declared.files.Telling.TheVariants.{Alone, Explained}
 use Rattle.rc_main.specs.declared.files.Unread.{Unread}
 use Rattle.rc_main.specs.declared.words.Command.{Command}
 use Rattle.rc_main.specs.Answers.{Fails, Says, SaysVerdict}
@@ -51,12 +54,17 @@ abbrev pub memory_words : List ℕ
 memory_words = codes "out of memory (20)"
 
 -- the verdict on a text with this name
-abbrev pub TellsFile : List ℕ → Bool → List ℕ → Verdict → List ℕ → Type 0
-TellsFile name json bytes verdict text = IsVerdict (answer_of bytes) verdict × (text ≡ verdict_told json name verdict)
+abbrev pub TellsAlone : List ℕ → Bool → List ℕ → Verdict → List ℕ → Type 0
+TellsAlone name json bytes verdict text = IsVerdict (answer_of bytes) verdict × (text ≡ verdict_told json name verdict)
+
+-- the same, alone or with what explains it
+abbrev pub TellsFile : List ℕ → Telling → List ℕ → Verdict → List ℕ → Type 0
+TellsFile name (Alone json) bytes verdict text = TellsAlone name json bytes verdict text
+TellsFile name (Explained form) bytes verdict text = Explains bytes (Some name) form verdict text
 
 -- `check` writes the verdict on each file; or memory ran out.
-abbrev pub ChecksFile : (List ℕ → Result (List ℕ) Unread → Type 0) → Bool → List ℕ → Said → Type 0
-ChecksFile gives json name = SaysFile gives (λ bytes said. (SaysVerdict (TellsFile name json bytes) said.status said.text × (said.told ≡ [])) ⊎ IsToldWhy name memory_words said) name
+abbrev pub ChecksFile : (List ℕ → Result (List ℕ) Unread → Type 0) → Telling → List ℕ → Said → Type 0
+ChecksFile gives telling name = SaysFile gives (λ bytes said. (SaysVerdict (TellsFile name telling bytes) said.status said.text × (said.told ≡ [])) ⊎ IsToldWhy name memory_words said) name
 
 -- Another command answers what it says of the bytes of one file.
 abbrev pub AsksFile : (List ℕ → Result (List ℕ) Unread → Type 0) → Command → List ℕ → Said → Type 0

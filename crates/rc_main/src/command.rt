@@ -1,6 +1,6 @@
 //! The whole program, over any reader and writers.
 
-ghost use Rattle.std.specs.Prelude.{◌≡◌, ◌+◌, ◌<◌, ◌≤◌, ◌^◌, IfErr, IfOk};
+ghost use Rattle.std.specs.Prelude.{◌≡◌, ◌+◌, ◌<◌, ◌≤◌, ◌^◌, IfErr, IfOk, None};
 ghost use Rattle.rc_explain.specs.Explains.{Explains};
 ghost use Rattle.rc_find.specs.Finds.{Finds};
 ghost use Rattle.rc_main.specs.declared.fault.CommandFault.TheVariants.{Engine};
@@ -13,13 +13,13 @@ ghost use Rattle.rc_report.specs.Streams.{CanRead, CanWrite};
 
 use crate::emitting::emit_text;
 use crate::fault::CommandFault;
-use crate::files::{NoTexts, Texts, check_files, tell_unread};
+use crate::files::{NoTexts, Telling, Texts, check_files, tell_unread};
 use crate::output::{Output, write_answer};
 use crate::running::run_text;
 use crate::words::{Asked, Command, read_words};
 use rc_device::device::Device;
 use rc_device::disk::Disk;
-use rc_explain::engine::put_explained;
+use rc_explain::engine::{Form, put_explained};
 use rc_find::find::put_found;
 use rc_moves::stepping::{step_items, step_moves};
 use rc_report::buffered::Buffered;
@@ -181,7 +181,12 @@ fn on_files<R: Threads + Wait + Sync, T: Texts, S: Sink, E: Sink>(
     ensures answer { Does (λ status text. status ≤ 3) S.state sink.old sink.new result }
 {
     if let Command::Check { json } = command {
-        return check_files(alloc, texts, files, json, sink, errors);
+        let telling = Telling::Alone { json };
+        return check_files(alloc, texts, files, telling, sink, errors);
+    }
+    if let Command::Explain { form } = command {
+        let telling = Telling::Explained { form };
+        return check_files(alloc, texts, files, telling, sink, errors);
     }
     match files.first() {
         Some(name) => on_file(rt, texts, alloc, command, name, sink, notes, errors),
@@ -240,7 +245,7 @@ fn performed<R: Threads + Wait + Sync, S: Sink>(
 {
     match command {
         Command::Check { json } => checked(alloc, &text, json, sink),
-        Command::Explain { json } => explained(alloc, &text, json, sink),
+        Command::Explain { form } => explained(alloc, &text, form, sink),
         Command::Step { schedule } => stepped(alloc, &text, schedule, false, sink, notes),
         Command::State { schedule } => stepped(alloc, &text, schedule, true, sink, notes),
         Command::Moves { moves, state } => moved(alloc, &text, &moves, state, sink, notes),
@@ -274,14 +279,14 @@ fn checked<S: Sink>(
 fn explained<S: Sink>(
     alloc: Global,
     text: &[u8],
-    json: bool,
+    form: Form,
     sink: &mut S,
 ) -> Result<u8, CommandFault>
     requires { CanWrite (S.state sink.old) }
-    ensures { Does (SaysVerdict (Explains text.now json)) S.state sink.old sink.new result }
+    ensures { Does (SaysVerdict (Explains text.now None form)) S.state sink.old sink.new result }
 {
     let mut answer = Vec::new(alloc);
-    let verdict = put_explained(&mut answer, alloc, text, json)?;
+    let verdict = put_explained(&mut answer, alloc, None, text, form)?;
     write_answer(sink, &answer, verdict.status())
 }
 

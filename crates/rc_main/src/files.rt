@@ -3,12 +3,14 @@
 ghost use Rattle.std.specs.Prelude.{◌≡◌, ◌≤◌, ℕ, IfOk, IfSome, IsErr, List, Result};
 ghost use Rattle.rc_main.specs.Answers.{SaysVerdict};
 ghost use Rattle.rc_main.specs.declared.files.Unread.{Unread};
-ghost use Rattle.rc_main.specs.Files.{AnswersAs, ChecksFile, IsTold, SaysAll, TellsFile, bytes_of, line_told, verdict_told};
+ghost use Rattle.rc_main.specs.Files.{AnswersAs, ChecksFile, IsTold, SaysAll, TellsAlone, TellsFile};
+ghost use Rattle.rc_main.specs.Files.{bytes_of, line_told, verdict_told};
 ghost use Rattle.rc_report.specs.Streams.{CanWrite, Writes};
 ghost use Rattle.rc_report.specs.Text.{Puts, PutsAnswer};
 
 use crate::fault::CommandFault;
 use crate::output::write_answer;
+use rc_explain::engine::{Form, put_explained};
 use rc_report::check_engine::verdict_on;
 use rc_report::engine_fault::EngineFault;
 use rc_report::file_verdict::{put_file_object, put_file_verdict};
@@ -124,24 +126,33 @@ pub fn read_opened<R: Read + Drop>(alloc: Global, reader: R) -> Result<Vec<u8>, 
     }
 }
 
+/// How the verdict on each file is told.
+#[derive(Clone, Copy)]
+pub enum Telling {
+    /// Alone, as JSON or as text.
+    Alone { json: bool },
+    /// With what explains it, in this form.
+    Explained { form: Form },
+}
+
 /// Checks files one after another, and answers the greatest status. A file that can't be read, or for which memory ran
 /// out, is told on a line of `errors`, and those after it are still checked.
 pub fn check_files<T: Texts, S: Sink, E: Sink>(
     alloc: Global,
     texts: &T,
     files: &[&str],
-    json: bool,
+    telling: Telling,
     sink: &mut S,
     errors: &mut E,
 ) -> Result<u8, CommandFault>
     requires writes { CanWrite (S.state sink.old) }
     requires told { (E.state errors.old).failures ≤ 1 }
-    ensures answer { AnswersAs (SaysAll (λ name. ChecksFile (T.gives texts.now) json name.now) files.now) S.state sink.old sink.new E.state errors.old errors.new result }
+    ensures answer { AnswersAs (SaysAll (λ name. ChecksFile (T.gives texts.now) telling name.now) files.now) S.state sink.old sink.new E.state errors.old errors.new result }
     ensures bound { IfOk result (λ status. status ≤ 3) }
 {
     let mut status = 0u8;
     for name in files {
-        status = status.max(check_file(alloc, texts, name, json, sink, errors)?);
+        status = status.max(check_file(alloc, texts, name, telling, sink, errors)?);
     }
     Ok(status)
 }
@@ -151,13 +162,13 @@ fn check_file<T: Texts, S: Sink, E: Sink>(
     alloc: Global,
     texts: &T,
     name: &str,
-    json: bool,
+    telling: Telling,
     sink: &mut S,
     errors: &mut E,
 ) -> Result<u8, CommandFault>
     requires writes { CanWrite (S.state sink.old) }
     requires told { (E.state errors.old).failures ≤ 1 }
-    ensures answer { AnswersAs (ChecksFile (T.gives texts.now) json name.now) S.state sink.old sink.new E.state errors.old errors.new result }
+    ensures answer { AnswersAs (ChecksFile (T.gives texts.now) telling name.now) S.state sink.old sink.new E.state errors.old errors.new result }
     ensures bound { IfOk result (λ status. status ≤ 3) }
 {
     let text = match texts.read(alloc, name) {
@@ -165,7 +176,7 @@ fn check_file<T: Texts, S: Sink, E: Sink>(
         Err(unread) => return Ok(tell_unread(alloc, name, &unread, errors)),
     };
     let mut answer = Vec::new(alloc);
-    match put_file(&mut answer, alloc, name, &text, json) {
+    match put_file(&mut answer, alloc, name, &text, telling) {
         Ok(verdict) => write_answer(sink, &answer, verdict.status()),
         Err(AllocError) => Ok(tell_file(alloc, name, MEMORY, errors)),
     }
@@ -174,15 +185,31 @@ fn check_file<T: Texts, S: Sink, E: Sink>(
 /// What is told where memory ran out.
 const MEMORY: &str = "out of memory (20)";
 
-/// Adds the verdict on the text of a file.
+/// Adds the verdict on the text of a file, alone or with what explains it.
 fn put_file(
+    answer: &mut Vec<u8>,
+    alloc: Global,
+    name: &str,
+    text: &[u8],
+    telling: Telling,
+) -> Result<Verdict, AllocError>
+    ensures { PutsAnswer (TellsFile name.now telling text.now) answer.old answer.new result }
+{
+    match telling {
+        Telling::Alone { json } => put_alone(answer, alloc, name, text, json),
+        Telling::Explained { form } => put_explained(answer, alloc, Some(name), text, form),
+    }
+}
+
+/// Adds the verdict on the text of a file.
+fn put_alone(
     answer: &mut Vec<u8>,
     alloc: Global,
     name: &str,
     text: &[u8],
     json: bool,
 ) -> Result<Verdict, AllocError>
-    ensures { PutsAnswer (TellsFile name.now json text.now) answer.old answer.new result }
+    ensures { PutsAnswer (TellsAlone name.now json text.now) answer.old answer.new result }
 {
     let verdict = verdict_on(alloc, text)?;
     put_told(answer, alloc, name, &verdict, json)?;

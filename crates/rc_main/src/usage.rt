@@ -30,16 +30,22 @@ fn described_files<'a>(alloc: Global) -> Arg<'a> {
         .help("Files to check, with one verdict a line; without any, or with -, standard input")
 }
 
+/// The listing of `check --explain`.
+fn described_listing<'a>(alloc: Global) -> Result<Arg<'a>, AllocError> {
+    let listing = "With --explain, print also what is known before each line";
+    described_flag(alloc, "listing", listing).requires_arg("explain")
+}
+
 /// The words of `check`.
 fn described_check<'a>(alloc: Global) -> Result<clap::Command<'a>, AllocError> {
     let json = "Print the verdict as one JSON object";
-    let explain =
-        "Print why after the verdict, and what is known before each line; of one file at most";
+    let explain = "Print after the verdict why, and what to write";
     clap::Command::new(alloc, "check")
         .about("Check programs, and print the verdict on each")
         .after_help(CHECK_HELP)
         .arg(described_flag(alloc, "json", json))?
         .arg(described_flag(alloc, "explain", explain))?
+        .arg(described_listing(alloc)?)?
         .arg(described_files(alloc))
 }
 

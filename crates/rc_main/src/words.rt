@@ -6,6 +6,7 @@ ghost use Rattle.rc_main.specs.Words.{HasRanges};
 use crate::usage::described;
 use clap::ArgMatches;
 use clap::error::ErrorKind;
+use rc_explain::engine::Form;
 use rc_report::shown::{hex_digit, put_shown};
 use std::alloc::{AllocError, AllocFailed, Global};
 use std::env::{Env, FillError};
@@ -27,9 +28,9 @@ pub enum Command<'a> {
     Check {
         json: bool,
     },
-    /// Check the program, and explain the verdict, as JSON or as text.
+    /// Check the program, and explain the verdict in this form.
     Explain {
-        json: bool,
+        form: Form,
     },
     /// Step the program through this schedule.
     Step {
@@ -167,10 +168,6 @@ fn asked_of<'a>(alloc: Global, matches: &ArgMatches<'a>) -> Result<Asked<'a>, Wo
         Some((name, given)) => {
             let files = files_of(alloc, given)?;
             let command = command_of(alloc, name, given)?;
-            if files.len() > 1 && matches!(command, Command::Explain { .. }) {
-                let message = "'--explain' takes one file (see 'ringcheck --help')";
-                return Err(WordsFault::Wrong(String::from_str(alloc, message)?));
-            }
             let moves = match name {
                 "step" => moves_file(given),
                 _ => None,
@@ -231,10 +228,15 @@ fn check_of<'a>(check: &ArgMatches<'a>) -> Command<'a>
     ensures { HasRanges result }
 {
     let json = check.get_flag("json");
-    if check.get_flag("explain") {
-        return Command::Explain { json };
+    if !check.get_flag("explain") {
+        return Command::Check { json };
     }
-    Command::Check { json }
+    let form = match (json, check.get_flag("listing")) {
+        (true, _) => Form::Json,
+        (false, true) => Form::Listing,
+        (false, false) => Form::Words,
+    };
+    Command::Explain { form }
 }
 
 /// The command `step`. Moves that are in a file are read later.

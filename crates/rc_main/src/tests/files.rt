@@ -34,8 +34,26 @@ impl Texts for Folder {
     }
 }
 
-/// What explains the verdict on `early.ring`.
-const EXPLAINED: &str = "refused line 18 V8 NoShare
+/// What explains the verdicts on `good.ring`, `early.ring` and `empty.ring`.
+const EXPLAINED: &str = "good.ring: accepted
+early.ring:18: refused V8 NoShare
+asks for 1 share of a; held: 0
+a:1 is held before line 9, prep_read 3 a 16 0, and not after it: given to the open entry, then to request 7
+why: Without a share of the buffer another thread or the kernel may be writing it at this moment.
+mend: Reap request 7 first, since `cqe_seen` in its own `case` gives a:1 back.
+see V8 in docs/causes.md
+empty.ring:1: unreadable P2 BadHead
+no line has a word: begin the text with 'ringcheck 1', and then 'ring 8'
+why: The first line says in which version of the notation the rest is written, and the second how large the rings are.
+mend: Begin the text with `ringcheck 1`, or the version that it needs, and then `ring N`.
+see P2 in docs/causes.md
+";
+
+/// The same of `good.ring` and `early.ring`, with what is known before each line.
+const LISTED: &str = "good.ring: accepted
+thread t0
+  no lines
+early.ring:18: refused V8 NoShare
 asks for 1 share of a; held: 0
 a:1 is held before line 9, prep_read 3 a 16 0, and not after it: given to the open entry, then to request 7
 why: Without a share of the buffer another thread or the kernel may be writing it at this moment.
@@ -157,18 +175,45 @@ enabled: t0
 ",
         "",
     ),
-    (&["check", "--explain", "early.ring"], 1, EXPLAINED, ""),
     (
-        &["check", "--explain", "--json", "good.ring"],
-        0,
-        "{\"notes\":[],\"threads\":[{\"lines\":[],\"name\":\"t0\"}],\"verdict\":\"accepted\"}\n",
+        &[
+            "check",
+            "--explain",
+            "good.ring",
+            "none.ring",
+            "early.ring",
+            "empty.ring",
+        ],
+        3,
+        EXPLAINED,
+        "ringcheck: none.ring: No such file or directory\n",
+    ),
+    (
+        &["check", "--explain", "--listing", "good.ring", "early.ring"],
+        1,
+        LISTED,
         "",
     ),
     (
-        &["check", "--explain", "good.ring", "early.ring"],
-        3,
+        &["check", "--explain", "--json", "good.ring", "a\n.ring"],
+        0,
+        "{\"file\":\"good.ring\",\"notes\":[],\"threads\":[{\"lines\":[],\"name\":\"t0\"}],\"verdict\":\"accepted\"}
+{\"file\":\"a\\n.ring\",\"notes\":[],\"threads\":[{\"lines\":[],\"name\":\"t0\"}],\"verdict\":\"accepted\"}
+",
         "",
-        "ringcheck: '--explain' takes one file (see 'ringcheck --help')\n",
+    ),
+    (
+        &[
+            "check",
+            "--explain",
+            "--json",
+            "--listing",
+            "\u{7f}\u{9b}\u{202e}.ring",
+        ],
+        0,
+        "{\"file\":\"\\u007f\\u009b\\u202e.ring\",\"notes\":[],\"threads\":[{\"lines\":[],\"name\":\"t0\"}],\"verdict\":\"accepted\"}
+",
+        "",
     ),
     (
         &["step", "empty.ring"],

@@ -27,6 +27,10 @@ const WRONG: &[(&[&str], &str)] = &[
         "ringcheck: unexpected argument '--\\u0007' found (see 'ringcheck --help')\n",
     ),
     (
+        &["check", "--listing"],
+        "ringcheck: the following required arguments were not provided: --explain (see 'ringcheck --help')\n",
+    ),
+    (
         &["step", "--schedule"],
         "ringcheck: a value is required for '--schedule <ITEMS>' but none was supplied (see 'ringcheck --help')\n",
     ),
@@ -91,7 +95,8 @@ Arguments:
 
 Options:
       --json     Print the verdict as one JSON object
-      --explain  Print why after the verdict, and what is known before each line; of one file at most
+      --explain  Print after the verdict why, and what to write
+      --listing  With --explain, print also what is known before each line
   -h, --help     Print help
 
 Exit status: 0 accepted, 1 refused, 2 unreadable, 3 no answer; of several files the greatest.

@@ -13,9 +13,9 @@ returns-in-Err-clause-answer g c =
 
 pub returns-in-Ok-put_file-clause-answer : goal.returns-in-Ok-put_file-clause-answer
 returns-in-Ok-put_file-clause-answer g c =
-    let told = TellsFile c.args.name.now c.args.json c.in-Ok.text.items in
+    let told = TellsFile c.args.name.now c.args.telling c.in-Ok.text.items in
     let made = rw c.deref.ensures.value at c.in-Ok-put_file.ensures in
-    told_nothing (SaysVerdict told) (ChecksFile (g.T.Texts.gives c.args.texts.now) c.args.json c.args.name.now) g.S.Sink.state c.args.sink.now c.write_answer.new.sink
+    told_nothing (SaysVerdict told) (ChecksFile (g.T.Texts.gives c.args.texts.now) c.args.telling c.args.name.now) g.S.Sink.state c.args.sink.now c.write_answer.new.sink
     g.E.Sink.state c.args.errors.now c.write_answer.result c.requires.told (λ status text h. (Ok c.in-Ok.text.items, c.in-Ok.ensures, inl (h, refl)))
     (does_verdict g.S.Sink.state c.args.sink.now c.write_answer.new.sink told c.in-Ok-put_file.verdict c.new-answer.result.items c.put_file.new.answer.items c.status.result c.write_answer.result
     c.new-answer.ensures.items c.status.ensures.status made (rw c.deref-in-Ok-put_file.ensures.value at c.write_answer.ensures))
