@@ -33,6 +33,7 @@ HEAD = b"ringcheck 1\nring 1\nthread t0 holds {\n"
 GOOD = HEAD + b"x = 1\n}\n"
 REFUSED = HEAD + b"r = submit\n}\n"
 UNREADABLE = HEAD + b"x = y z\n}\n"
+KEEPING = b"ringcheck 1\nring 1\nthread t0 holds c:2 {\n\tloop  keeps {  # all of it\n}\n}"
 ENDLESS = HEAD + b"loop keeps {\nx = 1\n}\n}\n"
 FOREVER = b"ringcheck 1\nring 1\n" + b"".join(b"thread t%d holds {\nloop keeps {\nx = 1\n}\n}\n" % n for n in range(2))
 KEEPS = (TOP / "examples/keeps.rc").read_bytes()
@@ -56,6 +57,7 @@ FORBIDDEN = "Permission denied"
 MEMORY = "out of memory (20)"
 BESIDE = "'-' stands beside other files (see 'ringcheck --help')"
 NO_EXPLAIN = "the following required arguments were not provided: --explain (see 'ringcheck --help')"
+ONE_FILE = "unexpected argument 'good.rc' found (see 'ringcheck --help')"
 UNKNOWN = "unexpected argument '--no' found (see 'ringcheck --help')"
 NO_LIMIT = "the following required arguments were not provided: --limit <N> (see 'ringcheck --help')"
 ENDED = "item 2, t0, isn't enabled: t0 has ended"
@@ -65,6 +67,7 @@ NO_OUTPUT = "the output can't be written..."
 NO_INPUT = "the input can't be read..."
 
 ACCEPTED = "accepted\n"
+FILLED = KEEPING.decode().replace("keeps {", "keeps c:2 {")
 ONE_EVENT = "1 t0 4 set 1\nended after 1 events\n"
 FIVE_EVENTS = "1 t0 4 loop\n2 t0 5 set 1\n3 t0 4 loop\n4 t0 5 set 1\n5 t0 4 loop\nlimit after 5 events\n"
 NONE_IDLE = "lines that never ran: none\n"
@@ -101,6 +104,11 @@ ROWS = [
     (("check", "--explain", "--json"), GOOD, 0, "{...", ""),
     (("check", "--explain", "--json"), REFUSED, 1, "{...", ""),
     (("check", "--explain", "--json"), UNREADABLE, 2, "{...", ""),
+    (("keeps",), KEEPING, 0, FILLED, ""),
+    (("keeps",), REFUSED, 0, REFUSED.decode(), ""),
+    (("keeps",), UNREADABLE, 2, FAULT, ""),
+    (("keeps",), b"", 2, "unreadable line 1 P2 BadHead\n", ""),
+    (("keeps", "--no"), GOOD, 3, "", UNKNOWN),
     (("step", "--schedule", "t0"), GOOD, 0, ONE_EVENT, ""),
     (("step",), GOOD, 0, "stopped after 0 events\n", ""),
     (("step",), REFUSED, 1, "fault F9 NoLock t0 line 4\n", ""),
@@ -166,6 +174,9 @@ ROWS = [
     (("check", "--explain", "good.rc", "missing.rc"), b"", 3, "good.rc: accepted\n", f"missing.rc: {MISSING}"),
     (("check", "--explain", "--json", "good.rc"), b"", 0, '{"file":"good.rc","notes":[],...', ""),
     (("check", "--explain", "--json", "refused.rc", "good.rc"), b"", 1, '{"asks":"asks for the lock; it isn\'t held","cause":"Unlocked",...', ""),
+    (("keeps", "good.rc"), UNREADABLE, 0, GOOD.decode(), ""),
+    (("keeps", "missing.rc"), GOOD, 3, "", f"missing.rc: {MISSING}"),
+    (("keeps", "good.rc", "good.rc"), b"", 3, "", ONE_FILE),
     (("step", "--schedule", "t0", "good.rc"), b"", 0, ONE_EVENT, ""),
     (("step", "refused.rc"), b"", 1, "fault F9 NoLock t0 line 4\n", ""),
     (("step", "missing.rc"), GOOD, 3, "", f"missing.rc: {MISSING}"),
@@ -177,6 +188,7 @@ ROWS = [
     (("c", "missing.rc"), GOOD, 3, "", f"missing.rc: {MISSING}"),
     # `-` alone is standard input; a file of that name is named otherwise.
     (("check", "-"), REFUSED, 1, REFUSAL, ""),
+    (("keeps", "-"), GOOD, 0, GOOD.decode(), ""),
     (("step", "-"), REFUSED, 1, "fault F9 NoLock t0 line 4\n", ""),
     ((*RUN, "-"), GOOD, 0, ONE_EVENT, ""),
     (("c", "-"), SENDING, 0, SENDING_IN_C, ""),
@@ -186,6 +198,7 @@ ROWS = [
     # Lines that end with a carriage return and a line feed.
     (("check",), GOOD.replace(b"\n", b"\r\n"), 0, ACCEPTED, ""),
     (("check",), REFUSED.replace(b"\n", b"\r\n"), 1, REFUSAL, ""),
+    (("keeps",), KEEPING.replace(b"\n", b"\r\n"), 0, FILLED.replace("\n", "\r\n"), ""),
     (("step", "--schedule", "t0"), GOOD.replace(b"\n", b"\r\n"), 0, ONE_EVENT, ""),
 ]
 
@@ -201,6 +214,7 @@ STREAMS = [
     ("exec >/dev/full", ("check",), GOOD, 3, NO_OUTPUT),
     ("exec >/dev/full", ("check", "good.rc", "refused.rc"), b"", 3, NO_OUTPUT),
     ("exec >/dev/full", ("check", "--explain"), REFUSED, 3, NO_OUTPUT),
+    ("exec >/dev/full", ("keeps",), GOOD, 3, NO_OUTPUT),
     ("exec >/dev/full", ("step",), REFUSED, 3, NO_OUTPUT),
     ("exec >/dev/full", RUN, GOOD, 3, NO_OUTPUT),
     ("exec >/dev/full", ("c",), SENDING, 3, NO_OUTPUT),
@@ -393,8 +407,9 @@ def hold_threads(bench, how):
 
 
 def left_out():
-    """Commands and statuses of which there is no row."""
-    wanted = {(name, status) for name in ("check", "step", "run", "c") for status in range(4)}
+    """Commands and statuses of which there is no row. `keeps` says of no text that it is refused."""
+    names = ("check", "keeps", "step", "find", "run", "c")
+    wanted = {(name, status) for name in names for status in range(4)} - {("keeps", 1)}
     return wanted - {(words[0], status) for words, _, status, *_ in ROWS}
 
 

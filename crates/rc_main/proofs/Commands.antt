@@ -12,6 +12,7 @@ use Rattle.rc_report.specs.declared.verdict.Verdict.{Verdict}
 use Rattle.rc_report.specs.declared.verdict.Verdict.TheVariants.{Accepted, Refused, Unreadable as NoProgram}
 use Rattle.rc_lang.specs.Program.{Program}
 use Rattle.rc_read.specs.Answer.{answer_of}
+use Rattle.rc_keeps.specs.Keeps.{GivesKept}
 use Rattle.rc_report.specs.Checks.{GivesVerdict}
 use Rattle.rc_report.specs.Verdicts.{verdict_text}
 use Rattle.rc_report.specs.Statuses.{status_of_end, status_of_step, status_of_verdict}
@@ -20,8 +21,8 @@ use Rattle.rc_report.proofs.Answered.{of_any, of_text}
 use Rattle.rc_main.specs.declared.fault.CommandFault.{CommandFault}
 use Rattle.rc_main.specs.declared.fault.CommandFault.TheVariants.{Words, Engine, OtherProgram}
 use Rattle.rc_main.specs.declared.words.Command.{Command}
-use Rattle.rc_main.specs.declared.words.Command.TheVariants.{Check, Explain, Step, State, Moves, Find, Run, Emit, Show}
-use Rattle.rc_main.specs.Answers.{Does, DoesWith, Fails, ReadsAsAsked, ReadsOnce, Says, SaysAdmitted, SaysVerdict}
+use Rattle.rc_main.specs.declared.words.Command.TheVariants.{Check, Explain, Keeps, Step, State, Moves, Find, Run, Emit, Show}
+use Rattle.rc_main.specs.Answers.{Does, DoesWith, Fails, ReadsAsAsked, ReadsOnce, Says, SaysAdmitted, SaysKept, SaysVerdict}
 
 -- ---- statuses are 3 at most
 
@@ -46,6 +47,10 @@ step_within (Trace end) s e = end_within end s e
 pub within : (command : Command) (bytes : List ℕ) (s : ℕ) (text : List ℕ) → Says command bytes s text → s ≤ 3
 within (Check json) bytes s text h = verdict_within h.0 s h.2
 within (Explain form) bytes s text h = verdict_within h.0 s h.2
+within Keeps bytes s text h = elim h [
+  | inl (kept, given, is, status) ↦ omega (arith, status)
+  | inr (verdict, given, is, status) ↦ verdict_within verdict s status
+]
 within (Step schedule) bytes s text h = step_within h.0 s h.3
 within (State schedule) bytes s text h = step_within h.0 s h.3
 within (Moves moves state) bytes s text h = step_within h.0 s h.3
@@ -112,6 +117,14 @@ module _ {S : Type 0} (state : S → Taken) (old new : S) where
       Does (λ status text. (text ≡ verdict_text v) × (status ≡ status_of_verdict v)) state old new r → Does (SaysAdmitted bytes of) state old new r
   does_refused bytes of v r given h = does_as (λ status text. (text ≡ verdict_text v) × (status ≡ status_of_verdict v)) (SaysAdmitted bytes of) r (λ s text said. inr (v, given, said.0, said.1)) h
 
+  -- What is kept in a text is answered, or the verdict on one that can't be read.
+  pub does_kept : (bytes : List ℕ) (kept : Vec ℕ) (r : Result ℕ CommandFault) → GivesKept bytes (Ok kept) → Does (λ s text. (s ≡ 0) × (text ≡ kept.items)) state old new r → Does (SaysKept bytes) state old new r
+  does_kept bytes kept r given h = does_as (λ s text. (s ≡ 0) × (text ≡ kept.items)) (SaysKept bytes) r (λ s text said. inl (kept, given, said.1, said.0)) h
+
+  pub does_unread : (bytes : List ℕ) (v : Verdict) (r : Result ℕ CommandFault) → GivesKept bytes (Err v) →
+      Does (λ status text. (text ≡ verdict_text v) × (status ≡ status_of_verdict v)) state old new r → Does (SaysKept bytes) state old new r
+  does_unread bytes v r given h = does_as (λ status text. (text ≡ verdict_text v) × (status ≡ status_of_verdict v)) (SaysKept bytes) r (λ s text said. inr (v, given, said.0, said.1)) h
+
 -- ---- what is read
 
 module _ {S : Type 0} (state : S → Taken) (old new : S) (source : Given) where
@@ -149,6 +162,7 @@ module _ {S : Type 0} (state : S → Taken) (old new : S) (source : Given) where
 asked : (command : Command) (old new : Given) (r : Result ℕ CommandFault) → ReadsOnce old new r → ReadsAsAsked command old new r
 asked (Check json) old new r h = h
 asked (Explain form) old new r h = h
+asked Keeps old new r h = h
 asked (Step schedule) old new r h = h
 asked (State schedule) old new r h = h
 asked (Moves moves state) old new r h = h

@@ -1,4 +1,5 @@
 -- What the program answers: of each command the exit status, and what it writes.
+use Rattle.std.specs.Global.{Vec}
 use Rattle.std.specs.Prelude.{ℕ, ℤ, ◌≡◌, ◌≤ℤ◌, pos, negsuc, ◌+◌, ◌⊎◌, Bool, true, false, List, None, Result, Ok, Err, string_bytes}
 use Rattle.rc_lang.specs.Program.{Program}
 use Rattle.rc_read.specs.Answer.{answer_of}
@@ -20,13 +21,14 @@ use Rattle.rc_report.specs.Traces.{trace_text}
 use Rattle.rc_report.specs.Verdicts.{verdict_text}
 use Rattle.rc_explain.specs.Explains.{Explains}
 use Rattle.rc_find.specs.Finds.{Finds}
+use Rattle.rc_keeps.specs.Keeps.{GivesKept}
 use Rattle.rc_moves.specs.Moved.{EndsMoves, moved_text}
 use Rattle.rc_moves.specs.Stepping.{traced_by}
 use Rattle.rc_state.specs.Engine.{stepped_with_state}
 use Rattle.rc_main.specs.declared.fault.CommandFault.{CommandFault}
 use Rattle.rc_main.specs.declared.fault.CommandFault.TheVariants.{Words, Engine, OtherProgram}
 use Rattle.rc_main.specs.declared.words.Command.{Command}
-use Rattle.rc_main.specs.declared.words.Command.TheVariants.{Check, Explain, Step, State, Moves, Find, Run, Emit, Show}
+use Rattle.rc_main.specs.declared.words.Command.TheVariants.{Check, Explain, Keeps, Step, State, Moves, Find, Run, Emit, Show}
 
 -- ---- what each command says of the bytes of a text: the status, and the text that is written
 
@@ -76,10 +78,18 @@ SaysAdmitted bytes says status text =
     ((program : Program) × GivesVerdict (answer_of bytes) (Ok program) × says program status text)
     ⊎ ((verdict : Verdict) × GivesVerdict (answer_of bytes) (Err verdict) × (text ≡ verdict_text verdict) × (status ≡ status_of_verdict verdict))
 
+-- A text that can be read is answered with what is kept in it, and another with its verdict.
+abbrev pub SaysKept : List ℕ → ℕ → List ℕ → Type 0
+SaysKept bytes status text =
+    ((kept : Vec ℕ) × GivesKept bytes (Ok kept) × (text ≡ kept.items) × (status ≡ 0))
+    ⊎ ((verdict : Verdict) × GivesKept bytes (Err verdict)
+    × (text ≡ verdict_text verdict) × (status ≡ status_of_verdict verdict))
+
 -- What the C of a program is no contract says.
 abbrev pub Says : Command → List ℕ → ℕ → List ℕ → Type 0
 Says (Check json) bytes status text = SaysVerdict (TellsVerdict bytes json) status text
 Says (Explain form) bytes status text = SaysVerdict (Explains bytes None form) status text
+Says Keeps bytes status text = SaysKept bytes status text
 Says (Step schedule) bytes status text = SaysSteps stepped_text bytes schedule.now status text
 Says (State schedule) bytes status text = SaysSteps stepped_with_state bytes schedule.now status text
 Says (Find seed walks json) bytes status text = SaysVerdict (Finds bytes walks json) status text

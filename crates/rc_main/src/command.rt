@@ -14,6 +14,7 @@ ghost use Rattle.rc_report.specs.Streams.{CanRead, CanWrite};
 use crate::emitting::emit_text;
 use crate::fault::CommandFault;
 use crate::files::{NoTexts, Telling, Texts, check_files, tell_unread};
+use crate::keeping::keep_text;
 use crate::output::{Output, write_answer};
 use crate::running::run_text;
 use crate::words::{Asked, Command, read_words};
@@ -246,6 +247,7 @@ fn performed<R: Threads + Wait + Sync, S: Sink>(
     match command {
         Command::Check { json } => checked(alloc, &text, json, sink),
         Command::Explain { form } => explained(alloc, &text, form, sink),
+        Command::Keeps => keep_text(alloc, &text, sink),
         Command::Step { schedule } => stepped(alloc, &text, schedule, false, sink, notes),
         Command::State { schedule } => stepped(alloc, &text, schedule, true, sink, notes),
         Command::Moves { moves, state } => moved(alloc, &text, &moves, state, sink, notes),

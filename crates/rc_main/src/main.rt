@@ -5,6 +5,7 @@ pub mod command;
 pub mod emitting;
 pub mod fault;
 pub mod files;
+pub mod keeping;
 mod output;
 pub mod running;
 #[cfg(test)]

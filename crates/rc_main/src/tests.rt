@@ -5,6 +5,7 @@ mod devices;
 mod emitting;
 mod files;
 mod flags;
+mod keeping;
 mod limits;
 mod long;
 mod pool;

@@ -57,6 +57,13 @@ fn described_file<'a>(alloc: Global) -> Arg<'a> {
         .help("A file with the program; without any, or with -, standard input")
 }
 
+/// The words of `keeps`.
+fn described_keeps<'a>(alloc: Global) -> Result<clap::Command<'a>, AllocError> {
+    clap::Command::new(alloc, "keeps")
+        .about("Print a text with the items of its loops as large as the loops can keep them")
+        .arg(described_file(alloc))
+}
+
 /// The schedule of `step`.
 fn described_schedule<'a>(alloc: Global) -> Arg<'a> {
     Arg::new(alloc, "schedule")
@@ -162,6 +169,7 @@ pub fn described<'a>(alloc: Global) -> Result<clap::Command<'a>, AllocError> {
         .no_binary_name(true)
         .subcommand_required(true)
         .subcommand(described_check(alloc)?)?
+        .subcommand(described_keeps(alloc)?)?
         .subcommand(described_step(alloc)?)?
         .subcommand(described_find(alloc)?)?
         .subcommand(described_run(alloc)?)?

@@ -32,6 +32,8 @@ pub enum Command<'a> {
     Explain {
         form: Form,
     },
+    /// Print the text with the items of its loops as large as they can be.
+    Keeps,
     /// Step the program through this schedule.
     Step {
         schedule: &'a str,
@@ -217,6 +219,7 @@ fn command_of<'a>(
     match name {
         "check" => Ok(check_of(given)),
         "find" => find_of(alloc, given),
+        "keeps" => Ok(Command::Keeps),
         "run" => run_of(alloc, given),
         "c" => Ok(Command::Emit),
         _ => Ok(step_of(alloc, given)?),

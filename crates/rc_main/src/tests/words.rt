@@ -12,7 +12,7 @@ use std::env::{Env, FillError};
 const WRONG: &[(&[&str], &str)] = &[
     (
         &[],
-        "ringcheck: 'ringcheck' requires a subcommand but one was not provided [subcommands: check, step, find, run, c, help] (see 'ringcheck --help')\n",
+        "ringcheck: 'ringcheck' requires a subcommand but one was not provided [subcommands: check, keeps, step, find, run, c, help] (see 'ringcheck --help')\n",
     ),
     (
         &["verify"],
@@ -123,6 +123,7 @@ Usage: ringcheck <COMMAND>
 
 Commands:
   check  Check programs, and print the verdict on each
+  keeps  Print a text with the items of its loops as large as the loops can keep them
   step   Step a program through a schedule, and print the trace
   find   Find a run of a refused program into a fault, and print its moves and its trace
   run    Run a program on threads, and print the trace
