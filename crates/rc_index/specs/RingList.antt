@@ -28,6 +28,10 @@ pub record RingList : Type 0 where
   -- the place that the next item gets
   pub next : ℕ
 
+-- the ring list of n entries with no item, and the place that the first one gets
+abbrev pub empty_list : ℕ → ℕ → RingList
+empty_list n next = record { entries = n; places = []; next = next }
+
 -- the ring list of n entries at two counters: the places of head, head+1, .., tail-1
 abbrev pub ring_list : ℕ → ℕ → ℕ → RingList
 ring_list n head tail = record {

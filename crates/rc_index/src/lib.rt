@@ -6,7 +6,7 @@
 
 ghost use Rattle.std.specs.Prelude.{◌≡◌, ◌+◌, ◌%◌, ◌<◌, ◌≤◌, ◌↔◌, [], ◌∷◌, ◌++◌, length, drop, slice_get, IsTrue, IsNone, IfSome, OnSome};
 ghost use Rattle.std.specs.Int.{IsPowerOfTwo};
-ghost use Rattle.rc_index.specs.RingList.{IsRingList};
+ghost use Rattle.rc_index.specs.RingList.{IsRingList, empty_list};
 
 use std::marker::Model;
 
@@ -35,7 +35,7 @@ impl Indices {
     pub fn new(entries: u32) -> Indices
         requires power { IsPowerOfTwo entries }
         requires small { entries ≤ 2048 }
-        ensures value { result ≡ record { entries = entries; places = []; next = 0 } }
+        ensures value { result ≡ empty_list entries 0 }
         ensures law { IsRingList result }
     {
         Indices::opened_at(entries, 0)
@@ -45,7 +45,7 @@ impl Indices {
     pub fn opened_at(entries: u32, counter: u32) -> Indices
         requires power { IsPowerOfTwo entries }
         requires small { entries ≤ 2048 }
-        ensures value { result ≡ record { entries = entries; places = []; next = counter % entries } }
+        ensures value { result ≡ empty_list entries (counter % entries) }
         ensures law { IsRingList result }
     {
         Indices {

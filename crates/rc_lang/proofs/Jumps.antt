@@ -3,6 +3,7 @@ use Rattle.std.proofs.Common.{◌≡◌, ℕ, ◌+◌, ◌<◌, ◌≤◌, Bool,
 use Rattle.rc_lang.specs.declared.lines.Block.{Block}
 use Rattle.rc_lang.specs.declared.lines.Block.TheVariants.{InLock, InIf, InElse, InPeek, InArm, InLoop}
 use Rattle.rc_lang.specs.declared.lines.Line.{Line}
+use Rattle.rc_lang.specs.declared.lines.Locks.{Locks}
 use Rattle.rc_lang.specs.declared.lines.Stmt.{Stmt}
 use Rattle.rc_lang.specs.declared.lines.Stmt.TheVariants.{Do, Put, EndLock, If, Else, EndIf, Peek, Case, Other, Nothing, EndArm, EndPeek, Loop, EndLoop, Break}
 use Rattle.rc_lang.specs.declared.lines.Test.{Test}
@@ -59,8 +60,8 @@ module _ (lines : List Line) (each : EachNested lines) where
 
   outside_behind : (j : ℕ) (s : Stmt) → leads_open s ≡ true → IsNestedIn (blocks_at lines j) s → directly_in_peek (blocks_behind (blocks_at lines j) j s) ≡ false
   outside_behind j (Do op) g n = n
-  outside_behind j (Put k) g n = n
-  outside_behind j (EndLock o) g n = not_directly (without_innermost (blocks_at lines j)) (popped_fits j (InLock o) n).1
+  outside_behind j (Put pool k) g n = n
+  outside_behind j (EndLock o l) g n = (popped_fits j (InLock o l) n).1
   outside_behind j (EndIf o) g n = elim n [ inl h ↦ popped_fits j (InIf o) h | inr h ↦ popped_fits j (InElse o) h ]
   outside_behind j (Peek x) g n = absurd (cc)
   outside_behind j (EndArm o) g n = absurd (cc)
@@ -118,7 +119,7 @@ module _ (lines : List Line) (ends : List ℕ) (laid : IsLaid lines ends) (j : �
       record { stands = h.end.stands; lands = lands (slice_index ends o) (EndPeek o) (blocks_at lines o) lt h.end.stands (closes_peek lines laid.each (slice_index ends o) o h.end.stands).1.behind }
 
   -- a break
-  pub break_leads : (o : ℕ) (releases leaves : Bool) → stmt_at lines j ≡ Some (Break o releases leaves) → (k : ℕ) × LeadsOut lines j o (slice_index ends o) (EndLoop o k)
+  pub break_leads : (o : ℕ) (releases : Locks) (leaves : Bool) → stmt_at lines j ≡ Some (Break o releases leaves) → (k : ℕ) × LeadsOut lines j o (slice_index ends o) (EndLoop o k)
   break_leads o releases leaves e =
       let c = leaves_loop lines laid.each j o releases leaves e in
       let h : HasEnd lines ends o (EndLoop o c.number) = laid.linked o (Loop c.number) c.stands in
@@ -158,7 +159,7 @@ module _ (lines : List Line) (ends : List ℕ) (laid : IsLaid lines ends) (j : �
   pub arm_open : (o : ℕ) → stmt_at lines j ≡ Some (EndArm o) → IsOpen lines (slice_index ends o + 1)
   arm_open o e = open_behind lines laid.each (slice_index ends o) (EndPeek o) (arm_leads o e).stands refl
 
-  pub break_open : (o : ℕ) (releases leaves : Bool) → stmt_at lines j ≡ Some (Break o releases leaves) → IsOpen lines (slice_index ends o + 1)
+  pub break_open : (o : ℕ) (releases : Locks) (leaves : Bool) → stmt_at lines j ≡ Some (Break o releases leaves) → IsOpen lines (slice_index ends o + 1)
   break_open o releases leaves e = let b = break_leads o releases leaves e in open_behind lines laid.each (slice_index ends o) (EndLoop o b.0) b.1.stands refl
 
   pub back_open : (o k : ℕ) → stmt_at lines j ≡ Some (EndLoop o k) → IsOpen lines (o + 1)

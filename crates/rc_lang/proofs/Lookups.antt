@@ -1,5 +1,5 @@
 -- Look-ups in lists of lines and of blocks, where one more is at the end.
-use Rattle.std.proofs.Common.{◌≡◌, ℕ, zero, suc, ◌+◌, ◌-◌, ◌<◌, ◌≤◌, false, ◌||◌, List, [], ◌∷◌, ◌++◌, length, length-append, get_or, take, take_all, Option, Some, None, refl, sym, ap, ◌∙◌, subst, slice_get, ◌⊎◌, inl, inr, arith}
+use Rattle.std.proofs.Common.{◌≡◌, ℕ, zero, suc, ◌+◌, ◌-◌, ◌<◌, ◌≤◌, Bool, true, false, ◌||◌, List, [], ◌∷◌, ◌++◌, length, length-append, get_or, take, take_all, Option, Some, None, refl, sym, ap, ◌∙◌, subst, slice_get, ◌⊎◌, inl, inr, arith}
 use Rattle.std.proofs.Math.Bool.{or-false}
 use Rattle.std.proofs.lemmas.Bool.{or_parts}
 use Rattle.std.proofs.lemmas.List.Folds.{list_any-append}
@@ -7,8 +7,10 @@ use Rattle.std.proofs.lemmas.List.{take-append-le}
 use Rattle.std.proofs.lemmas.Option.{slice_get-get_or, slice_get_within, slice_get_past}
 use Rattle.rc_lang.specs.declared.lines.Block.{Block}
 use Rattle.rc_lang.specs.declared.lines.Line.{Line}
+use Rattle.rc_lang.specs.declared.lines.Locks.{Locks}
 use Rattle.rc_lang.specs.declared.lines.Stmt.{Stmt}
-use Rattle.rc_lang.specs.Nesting.{blocks_after, blocks_at, blocks_behind, directly_in_peek, in_lock, in_peek, innermost, is_lock, is_peek, is_some_peek, IsNestedIn, without_innermost}
+use Rattle.rc_lang.specs.Locks.{with_locks}
+use Rattle.rc_lang.specs.Nesting.{blocks_after, blocks_at, blocks_behind, directly_in_peek, in_peek, innermost, is_peek, is_some_peek, IsNestedIn, locks_in, takes_cq, takes_sq, without_innermost}
 use Rattle.rc_lang.specs.Program.{stmt_at, stmt_of}
 
 -- ---- lists
@@ -66,11 +68,25 @@ directly_pushed bs b = ap is_some_peek (innermost_pushed bs b)
 
 -- ---- locks, peeks and the way out of more blocks
 
-pub in_lock_more : (outer bs : List Block) → in_lock (outer ++ bs) ≡ (in_lock outer || in_lock bs)
-in_lock_more outer bs = list_any-append is_lock outer bs
+-- locks, side by side
+abbrev pub sides : Bool → Bool → Locks
+sides a b = record { sq = a; cq = b }
 
-pub in_lock_pushed : (bs : List Block) (b : Block) → in_lock (bs ++ b ∷ []) ≡ (in_lock bs || is_lock b)
-in_lock_pushed bs b = in_lock_more bs (b ∷ []) ∙ ap (λ x. in_lock bs || x) (or-false (is_lock b))
+pub same_sides : {a b c d : Bool} → a ≡ b → c ≡ d → sides a c ≡ sides b d
+same_sides {b = b} {c = c} e f = ap (λ x. sides x c) e ∙ ap (λ x. sides b x) f
+
+pub with_none : (l : Locks) → with_locks l (locks_in []) ≡ l
+with_none l = same_sides (or-false l.sq) (or-false l.cq)
+
+or_moves : (a b c : Bool) → ((a || b) || c) ≡ (a || (b || c))
+or_moves true b c = refl
+or_moves false b c = refl
+
+pub with_moves : (l m n : Locks) → with_locks (with_locks l m) n ≡ with_locks l (with_locks m n)
+with_moves l m n = same_sides (or_moves l.sq m.sq n.sq) (or_moves l.cq m.cq n.cq)
+
+pub locks_more : (outer bs : List Block) → locks_in (outer ++ bs) ≡ with_locks (locks_in outer) (locks_in bs)
+locks_more outer bs = same_sides (list_any-append takes_sq outer bs) (list_any-append takes_cq outer bs)
 
 pub in_peek_more : (outer bs : List Block) → in_peek (outer ++ bs) ≡ (in_peek outer || in_peek bs)
 in_peek_more outer bs = list_any-append is_peek outer bs

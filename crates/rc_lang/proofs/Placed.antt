@@ -36,7 +36,7 @@ pub record IsArmPlaced (lines : List Line) (j o : ℕ) (outer : List Block) : Ty
 
 -- A block that is open at place j, directly in these blocks: what opened it, and that these were open there.
 abbrev pub IsPlaced : List Line → ℕ → List Block → Block → Type 0
-IsPlaced lines j outer (InLock o) = OpensAt lines j o Lock outer
+IsPlaced lines j outer (InLock o l) = OpensAt lines j o (Lock l) outer
 IsPlaced lines j outer (InIf o) = (test : Test) × OpensAt lines j o (If test) outer
 IsPlaced lines j outer (InElse o) = IsElsePlaced lines j o outer
 IsPlaced lines j outer (InPeek o) = (x : ℕ) × OpensAt lines j o (Peek x) outer
@@ -58,7 +58,7 @@ opens_later : (lines : List Line) (j k o : ℕ) (s : Stmt) (outer : List Block) 
 opens_later lines j k o s outer le h = let lt : o < j = h.before in record { before = omega arith; stands = h.stands; blocks = h.blocks }
 
 pub placed_later : (lines : List Line) (j k : ℕ) (outer : List Block) (b : Block) → j ≤ k → IsPlaced lines j outer b → IsPlaced lines k outer b
-placed_later lines j k outer (InLock o) le h = opens_later lines j k o Lock outer le h
+placed_later lines j k outer (InLock o l) le h = opens_later lines j k o (Lock l) outer le h
 placed_later lines j k outer (InIf o) le h = (h.0, opens_later lines j k o (If h.0) outer le h.1)
 placed_later lines j k outer (InElse o) le h = record { opener = h.opener; test = h.test; turns = opens_later lines j k o (Else h.opener) (outer ++ InIf h.opener ∷ []) le h.turns; opens = h.opens }
 placed_later lines j k outer (InPeek o) le h = (h.0, opens_later lines j k o (Peek h.0) outer le h.1)
@@ -127,8 +127,8 @@ module _ (lines : List Line) (j : ℕ) (bs : List Block) (here : blocks_at lines
 
   placed_behind : (s : Stmt) → stmt_at lines j ≡ Some s → IsNestedIn bs s → ArePlaced lines (suc j) (blocks_behind bs j s)
   placed_behind (Do op) e n = kept
-  placed_behind (Put k) e n = kept
-  placed_behind Lock e n = pushed (InLock j) (opened Lock e)
+  placed_behind (Put pool k) e n = kept
+  placed_behind (Lock l) e n = pushed (InLock j l) (opened (Lock l) e)
   placed_behind (If test) e n = pushed (InIf j) (test, opened (If test) e)
   placed_behind (Else o) e n = turned o e n
   placed_behind (EndIf o) e n = elim n [ inl h ↦ popped (InIf o) h | inr h ↦ popped (InElse o) h ]

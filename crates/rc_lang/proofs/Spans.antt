@@ -15,7 +15,7 @@ use Rattle.rc_lang.proofs.Lookups.{EachNested, blocks_past, blocks_suc, get_new,
 
 -- the block that a line at place j opens
 abbrev pub opened_by : ℕ → Stmt → Option Block
-opened_by j Lock = Some (InLock j)
+opened_by j (Lock l) = Some (InLock j l)
 opened_by j (If test) = Some (InIf j)
 opened_by j (Else o) = Some (InElse j)
 opened_by j (Peek x) = Some (InPeek j)
@@ -41,8 +41,8 @@ module _ (bs : List Block) (j d : ℕ) (b : Block) where
 
   pub open_before : (s : Stmt) → slice_get (blocks_behind bs j s) d ≡ Some b → (slice_get bs d ≡ Some b) ⊎ (opened_by j s ≡ Some b)
   open_before (Do op) e = inl e
-  open_before (Put k) e = inl e
-  open_before (EndLock o) e = inl (older (length bs - 1) e)
+  open_before (Put pool k) e = inl e
+  open_before (EndLock o l) e = inl (older (length bs - 1) e)
   open_before (Else o) e = elim (get_push (without_innermost bs) (InElse j) d b e) [ inl h ↦ inl (older (length bs - 1) h) | inr h ↦ inr (ap Some h.1) ]
   open_before (EndIf o) e = inl (older (length bs - 1) e)
   open_before (EndArm o) e = inl (older (length bs - 1) e)

@@ -1,4 +1,5 @@
 pub mod Comparisons
+pub mod Locks
 pub mod Names
 pub mod Nesting
 pub mod Numbers

@@ -1,5 +1,6 @@
 -- What the parts of a program in the code stand for.
-use Rattle.std.specs.Prelude.{List, map}
+use Rattle.std.specs.Prelude.{ℕ, List, map}
+use Rattle.std.specs.Global.{Vec}
 use Rattle.rc_lang.specs.declared.program.Buffer.{Buffer as BufferPart}
 use Rattle.rc_lang.specs.declared.program.Declarations.{Declarations}
 use Rattle.rc_lang.specs.declared.program.Head.{Head}
@@ -7,6 +8,9 @@ use Rattle.rc_lang.specs.declared.program.Items.{Items as ItemsPart}
 use Rattle.rc_lang.specs.declared.program.More.{More as MorePart}
 use Rattle.rc_lang.specs.declared.program.Thread.{Thread as ThreadPart}
 use Rattle.rc_lang.specs.Program.{Buffer, Items, More, Thread, Program}
+
+abbrev pub view_names : List (Vec ℕ) → List (List ℕ)
+view_names names = map (λ n. n.items) names
 
 abbrev pub view_buffer : BufferPart → Buffer
 view_buffer b = record { name = b.name.items; bytes = b.bytes; shares = b.shares }
@@ -25,7 +29,7 @@ view_thread t = record {
   lists = map view_items t.lists.items;
   lines = t.lines.items;
   ends = t.ends.items;
-  variables = map (λ n. n.items) t.variables.items;
+  variables = view_names t.variables.items;
   flag = t.flag;
 }
 
@@ -38,5 +42,6 @@ view_program h d ts = record {
   files = d.files.items;
   buffers = map view_buffer d.buffers.items;
   tokens = d.tokens.items;
+  pools = view_names d.pools.items;
   threads = map view_thread ts;
 }

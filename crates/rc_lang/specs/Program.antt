@@ -4,12 +4,13 @@ use Rattle.std.specs.List.{IsDistinct}
 use Rattle.std.specs.List.Sorted.{IsStrictlyIncreasing}
 use Rattle.std.specs.Str.{bytes_eq}
 use Rattle.rc_lang.specs.declared.lines.Line.{Line}
+use Rattle.rc_lang.specs.declared.lines.Locks.{Locks}
 use Rattle.rc_lang.specs.declared.lines.Op.{Op}
 use Rattle.rc_lang.specs.declared.lines.Op.TheVariants.{Set, Assign, Add, Subtract, Load, Store, Fill, Print, PrepRead, PrepWrite, PrepFsync, SetData64, Submit, SubmitAndWait}
 use Rattle.rc_lang.specs.declared.lines.Operand.{Operand}
 use Rattle.rc_lang.specs.declared.lines.Operand.TheVariants.{Variable, Number}
 use Rattle.rc_lang.specs.declared.lines.Stmt.{Stmt}
-use Rattle.rc_lang.specs.declared.lines.Stmt.TheVariants.{Do, Put, If, Else, EndIf, Peek, Case, Other, Nothing, EndArm, EndPeek, Loop, EndLoop, Break}
+use Rattle.rc_lang.specs.declared.lines.Stmt.TheVariants.{Do, Put, Lock, If, Else, EndIf, Peek, Case, Other, Nothing, EndArm, EndPeek, Loop, EndLoop, Break}
 use Rattle.rc_lang.specs.declared.lines.Test.{Test}
 use Rattle.rc_lang.specs.declared.lines.Test.TheVariants.{Compare, ReadyZero, SpaceAtLeast, Take}
 use Rattle.rc_lang.specs.declared.program.File.{File}
@@ -17,8 +18,9 @@ use Rattle.rc_lang.specs.declared.program.Share.{Share}
 use Rattle.rc_lang.specs.declared.program.Token.{Token}
 use Rattle.rc_lang.specs.declared.program.TokenKind.{TokenKind}
 use Rattle.rc_lang.specs.declared.program.TokenKind.TheVariants.{Read, Write}
+use Rattle.rc_lang.specs.Locks.{both_locks, is_some_lock}
 use Rattle.rc_lang.specs.Names.{is_name}
-use Rattle.rc_lang.specs.Nesting.{IsNested, blocks_at, in_lock}
+use Rattle.rc_lang.specs.Nesting.{IsNested, blocks_at, locks_in}
 
 -- A buffer: its name, how many bytes it has, and into how many shares it is split.
 pub record Buffer : Type 0 where
@@ -42,7 +44,7 @@ pub record Items : Type 0 where
   pub more : More
 
 -- A thread: its name and the line of its header, what it holds as it begins, its lists of items (what it holds at the
--- tops of its loops, and what it puts into the pool and takes from it), its lines, for the lines that a jump starts from
+-- tops of its loops, and what it puts into pools and takes from them), its lines, for the lines that a jump starts from
 -- the place that it leads to, the names of its variables by their numbers, and its flag: the one variable that a loop of
 -- it names behind `when`, wherever in the thread that loop stands.
 pub record Thread : Type 0 where
@@ -56,8 +58,8 @@ pub record Thread : Type 0 where
   pub flag : Option ℕ
 
 -- A program: the version of the notation, how many entries its submission ring and its completion ring have
--- (io_uring_setup(2)), how many entries may be left queued where the lock is released, and its declarations and threads,
--- in text order.
+-- (io_uring_setup(2)), how many entries may be left queued where the lock of the submission side is released, and its
+-- declarations (of pools their names) and threads, in text order.
 pub record Program : Type 0 where
   pub version : ℕ
   pub entries : ℕ
@@ -66,6 +68,7 @@ pub record Program : Type 0 where
   pub files : List File
   pub buffers : List Buffer
   pub tokens : List Token
+  pub pools : List (List ℕ)
   pub threads : List Thread
 
 -- ---- look-ups
@@ -148,6 +151,10 @@ DeclaresToken program u = Contains (map (λ (t : Token). t.user_data) program.to
 abbrev pub DeclaresFile : Program → ℕ → Type 0
 DeclaresFile program fd = Contains (map (λ (f : File). f.number) program.files) fd
 
+-- The number is that of a declared pool, or none, for the pool without a name.
+abbrev pub DeclaresPool : Program → Option ℕ → Type 0
+DeclaresPool program pool = IfSome pool (λ n. n < length program.pools)
+
 abbrev pub IsOperand : ℕ → Operand → Type 0
 IsOperand variables (Variable x) = x < variables
 IsOperand variables (Number n) = Unit {0}
@@ -183,15 +190,21 @@ IsResolvedOp program variables (Submit x) = x < variables
 IsResolvedOp program variables (SubmitAndWait x n) = (x < variables) × (n ≤ 2048)
 IsResolvedOp program variables _ = Unit {0}
 
+-- A line takes some lock, and up to version 3 both.
+pub record AreTaken (program : Program) (l : Locks) : Type 0 where
+  pub some : is_some_lock l ≡ true
+  pub both : program.version ≤ 3 → l ≡ both_locks
+
 abbrev pub IsResolvedTest : Program → (variables lists : ℕ) → Test → Type 0
 IsResolvedTest program variables lists (Compare x c n) = x < variables
 IsResolvedTest program variables lists ReadyZero = Unit {0}
 IsResolvedTest program variables lists (SpaceAtLeast n) = n ≤ program.entries
-IsResolvedTest program variables lists (Take k) = k < lists
+IsResolvedTest program variables lists (Take pool k) = DeclaresPool program pool × (k < lists)
 
 abbrev pub IsResolved : Program → (variables lists : ℕ) → Stmt → Type 0
 IsResolved program variables lists (Do op) = IsResolvedOp program variables op
-IsResolved program variables lists (Put k) = k < lists
+IsResolved program variables lists (Put pool k) = DeclaresPool program pool × (k < lists)
+IsResolved program variables lists (Lock l) = AreTaken program l
 IsResolved program variables lists (If test) = IsResolvedTest program variables lists test
 IsResolved program variables lists (Peek x) = x < variables
 IsResolved program variables lists (Case o u) = DeclaresToken program u
@@ -256,11 +269,11 @@ pub record IsList (program : Program) (items : Items) : Type 0 where
   pub more : IsItems program (besides items)
   pub apart : IsDistinct nat_eq (items.tokens ++ items.more.tokens)
 
--- A bound on queued entries is said of loops in a lock alone.
+-- A bound on queued entries is said of loops in a lock of the submission side alone.
 abbrev pub MaySayQueue : Thread → ℕ → ℕ → Type 0
-MaySayQueue thread j k = in_lock (blocks_at thread.lines j) ≡ false → (items_at thread.lists k).queue ≡ None
+MaySayQueue thread j k = (locks_in (blocks_at thread.lines j)).sq ≡ false → (items_at thread.lists k).queue ≡ None
 
--- What is put into the pool or taken from it bounds no queue, and depends on no flag.
+-- What is put into a pool or taken from it bounds no queue, and depends on no flag.
 pub record IsOfPool (items : Items) : Type 0 where
   pub no_queue : items.queue ≡ None
   pub no_more : items.more ≡ no_more
@@ -288,8 +301,8 @@ pub record IsThread (program : Program) (thread : Thread) : Type 0 where
   pub resolved : (j : ℕ) (s : Stmt) → stmt_at thread.lines j ≡ Some s → IsResolved program (length thread.variables) (length thread.lists) s
   pub linked : (j : ℕ) (s : Stmt) → stmt_at thread.lines j ≡ Some s → IsLinked thread.lines thread.ends j s
   pub queues : (j k : ℕ) → stmt_at thread.lines j ≡ Some (Loop k) → MaySayQueue thread j k
-  pub puts : (j k : ℕ) → stmt_at thread.lines j ≡ Some (Put k) → IsOfPool (items_at thread.lists k)
-  pub takes : (j k : ℕ) → stmt_at thread.lines j ≡ Some (If (Take k)) → IsOfPool (items_at thread.lists k)
+  pub puts : (j : ℕ) (pool : Option ℕ) (k : ℕ) → stmt_at thread.lines j ≡ Some (Put pool k) → IsOfPool (items_at thread.lists k)
+  pub takes : (j : ℕ) (pool : Option ℕ) (k : ℕ) → stmt_at thread.lines j ≡ Some (If (Take pool k)) → IsOfPool (items_at thread.lists k)
 
 -- A file has a number up to 1,023 and at most 65,536 bytes, a buffer 1 to 4,096 bytes in 1 to 16 shares.
 pub record IsFile (file : File) : Type 0 where
@@ -317,7 +330,7 @@ line_numbers threads = flat_map (λ (t : Thread). numbers_from t.line t.lines) t
 -- What each made program keeps: the limits, nesting, resolved names, and that from the first header on each line has a
 -- higher number than the one before.
 pub record IsProgram (program : Program) : Type 0 where
-  pub version : (1 ≤ program.version) × (program.version ≤ 3)
+  pub version : (1 ≤ program.version) × (program.version ≤ 4)
   pub entries : IsRingSize 1024 program.entries
   pub completion_entries : IsRingSize 2048 program.completion_entries
   pub room : program.entries ≤ program.completion_entries
@@ -331,6 +344,10 @@ pub record IsProgram (program : Program) : Type 0 where
   pub few_tokens : length program.tokens ≤ 256
   pub tokens : All (λ (t : Token). IsTokenKind program t.kind) program.tokens
   pub distinct_tokens : IsDistinct nat_eq (map (λ (t : Token). t.user_data) program.tokens)
+  pub few_pools : length program.pools ≤ 16
+  pub pools : All (λ n. is_name n ≡ true) program.pools
+  pub distinct_pools : IsDistinct bytes_eq program.pools
+  pub no_pools : program.version ≤ 3 → program.pools ≡ []
   pub few_threads : length program.threads ≤ 16
   pub distinct_names : IsDistinct bytes_eq (map (λ (t : Thread). t.name) program.threads)
   pub each : (i : ℕ) (t : Thread) → slice_get program.threads i ≡ Some t → IsThread program t

@@ -2,6 +2,7 @@
 
 ghost use Rattle.std.specs.Prelude.{◌≡◌};
 ghost use Rattle.rc_lang.specs.Comparisons as spec;
+ghost use Rattle.rc_lang.specs.Locks as locks;
 
 /// An operand of a sum: a variable's number, or a number.
 #[derive(Clone, Copy)]
@@ -33,6 +34,25 @@ impl Comparison {
             Comparison::AtMost => a <= b,
             Comparison::Greater => a > b,
             Comparison::AtLeast => a >= b,
+        }
+    }
+}
+
+/// Some of the program's two locks: of the submission side and of the completion side.
+#[derive(Clone, Copy, PartialEq, Eq, Debug)]
+pub struct Locks {
+    pub sq: bool,
+    pub cq: bool,
+}
+
+impl Locks {
+    /// These locks and those.
+    pub fn with(self, others: Locks) -> Locks
+        ensures { result ≡ locks.with_locks self others }
+    {
+        Locks {
+            sq: self.sq || others.sq,
+            cq: self.cq || others.cq,
         }
     }
 }
@@ -87,9 +107,9 @@ pub enum Test {
     ReadyZero,
     /// `if sq_space_left >= n`: whether at least n entries, 0 to the ring's, are free (`io_uring_sq_space_left(3)`).
     SpaceAtLeast(u32),
-    /// `if take ITEMS`: whether the pool has at least the items, which then leave it; their number among the thread's
-    /// lists.
-    Take(usize),
+    /// `if take ITEMS` or `if take NAME ITEMS`: whether the pool has at least the items, which then leave it. The
+    /// number of the declared pool, none for the pool without a name; and that of the items among the thread's lists.
+    Take(Option<usize>, usize),
 }
 
 /// What is on a line. The blocks of a program are lines of their own, and a closing line names the place of the
@@ -98,12 +118,13 @@ pub enum Test {
 pub enum Stmt {
     /// A statement without a block.
     Do(Op),
-    /// `put ITEMS`: the items go to the pool; their number among the thread's lists.
-    Put(usize),
-    /// `lock {`: takes the program's lock.
-    Lock,
-    /// The closing brace of the lock at this place, where the lock is released.
-    EndLock(usize),
+    /// `put ITEMS` or `put NAME ITEMS`: the items go to the pool. The number of the declared pool, none for the pool
+    /// without a name; and that of the items among the thread's lists.
+    Put(Option<usize>, usize),
+    /// `lock {`, `lock sq {` or `lock cq {`: takes both locks or one.
+    Lock(Locks),
+    /// The closing brace of the lock at this place, where the locks that its line took are released.
+    EndLock(usize, Locks),
     /// `if .. {`.
     If(Test),
     /// `} else {`, of the if at this place.
@@ -126,8 +147,8 @@ pub enum Stmt {
     Loop(usize),
     /// The closing brace of the loop at this place, and the number of its items among the thread's lists.
     EndLoop(usize, usize),
-    /// `break` out of the loop at this place; whether it releases the lock, and whether it leaves an arm of a peek.
-    Break(usize, bool, bool),
+    /// `break` out of the loop at this place; the locks that it releases, and whether it leaves an arm of a peek.
+    Break(usize, Locks, bool),
 }
 
 /// A line of a thread.
@@ -142,8 +163,8 @@ pub struct Line {
 /// A block of a thread that is open at some place.
 #[derive(Clone, Copy)]
 pub enum Block {
-    /// The lock that is opened at this place.
-    InLock(usize),
+    /// The lock that is opened at this place, and which locks its line takes.
+    InLock(usize, Locks),
     /// The first branch of the if at this place.
     InIf(usize),
     /// The second branch of an if, which the else at this place begins.

@@ -7,14 +7,15 @@ use std::marker::Model;
 /// (`io_uring_setup(2)`).
 #[derive(Clone, Copy)]
 pub struct Head {
-    /// The version of the notation, 1 to 3. From version 2 on a thread may have a flag, and in version 3 there is a
-    /// pool.
+    /// The version of the notation, 1 to 4. From version 2 on a thread may have a flag, from version 3 on there is a
+    /// pool, and in version 4 there are pools with names, and each of the two locks may be taken alone.
     pub version: u32,
     /// Entries of the submission ring, 1 to 1024.
     pub entries: u32,
     /// Entries of the completion ring, from those of the submission ring to 2048.
     pub completion_entries: u32,
-    /// How many entries may be left queued where the lock is released, 0 to those of the submission ring.
+    /// How many entries may be left queued where the lock of the submission side is released, 0 to those of the
+    /// submission ring.
     pub left: u32,
 }
 
@@ -67,6 +68,8 @@ pub struct Declarations {
     pub buffers: Vec<Buffer>,
     /// At most 256, each user data once.
     pub tokens: Vec<Token>,
+    /// The names of pools, in ASCII: at most 16, each once. A pool's number is its place here.
+    pub pools: Vec<Vec<u8>>,
 }
 
 /// Shares of one buffer.
@@ -98,7 +101,8 @@ pub struct Items {
     pub tokens: Vec<u64>,
     /// How many completions it may still cause, 0 to 2048.
     pub credits: u32,
-    /// How many entries may be queued at most, 0 to those of the submission ring; said of loops in a lock alone.
+    /// How many entries may be queued at most, 0 to those of the submission ring; said of loops in a lock of the
+    /// submission side alone.
     pub queue: Option<u32>,
     /// What is held besides while the flag isn't 0; said of loops in a thread with a flag alone.
     pub more: More,
@@ -113,8 +117,8 @@ pub struct Thread {
     pub line: u32,
     /// What it holds as it begins.
     pub items: Items,
-    /// Its lists of items, in text order: what it holds at the tops of its loops, and what it puts into the pool and
-    /// takes from it.
+    /// Its lists of items, in text order: what it holds at the tops of its loops, and what it puts into pools and takes
+    /// from them.
     pub lists: Vec<Items>,
     /// Its lines, without the header and its closing brace.
     pub lines: Vec<Line>,
@@ -163,7 +167,7 @@ impl Model for Program {
 
 impl Program {
     ghost use Rattle.std.specs.Prelude.{◌≡◌, map};
-    ghost use Rattle.rc_lang.specs.Parts.{view_buffer, view_items, view_program, view_thread};
+    ghost use Rattle.rc_lang.specs.Parts.{view_buffer, view_items, view_names, view_program, view_thread};
     ghost use Rattle.rc_lang.specs.Program.{IsProgram, bytes_at, end_at, line_at, lists_of, shares_at, token_place};
 
     /// A program of these parts, which keep the limits, the nesting and the resolved names of programs.
@@ -178,7 +182,7 @@ impl Program {
         }
     }
 
-    /// The version of the notation: 1 to 3.
+    /// The version of the notation: 1 to 4.
     pub fn version(&self) -> u32
         ensures value { result ≡ self.now.version }
         ensures made { IsProgram self.now }
@@ -202,7 +206,8 @@ impl Program {
         self.head.completion_entries
     }
 
-    /// How many entries may be left queued where the lock is released: 0 to the entries of the submission ring.
+    /// How many entries may be left queued where the lock of the submission side is released: 0 to the entries of the
+    /// submission ring.
     pub fn left(&self) -> u32
         ensures value { result ≡ self.now.left }
         ensures made { IsProgram self.now }
@@ -232,6 +237,14 @@ impl Program {
         ensures made { IsProgram self.now }
     {
         &self.declarations.tokens
+    }
+
+    /// The names of the declared pools, in text order. A pool's number is its place here.
+    pub fn pools(&self) -> &[Vec<u8>]
+        ensures value { view_names result.now ≡ self.now.pools }
+        ensures made { IsProgram self.now }
+    {
+        &self.declarations.pools
     }
 
     /// The threads, in text order.

@@ -7,7 +7,7 @@ use Rattle.rc_lang.specs.declared.lines.Block.TheVariants.{InIf, InPeek}
 use Rattle.rc_lang.specs.declared.lines.Test.TheVariants as test
 use Rattle.rc_lang.specs.declared.program.TokenKind.{TokenKind}
 use Rattle.rc_lang.specs.declared.program.TokenKind.TheVariants as kind
-use Rattle.rc_lang.specs.Nesting.{Way, directly_in_peek, in_lock, in_peek, innermost, is_some_peek, way_out}
+use Rattle.rc_lang.specs.Nesting.{Way, directly_in_peek, in_peek, innermost, is_some_peek, locks_in, way_out}
 use Rattle.rc_lang.specs.Program.{Buffer as BufferOf, IsOfPool, IsProgram, Items, IsTokenKind, Program, Thread as ThreadOf, line_numbers}
 use Rattle.rc_read.specs.declared.parts.Region.{Region}
 use Rattle.rc_read.specs.declared.parts.Region.TheVariants.{Start, Second, Declarations, InThread, Between}
@@ -30,7 +30,7 @@ use Rattle.rc_read.specs.Words.{words_of}
 use Rattle.rc_read.proofs.KeptDraft.{MayFollow, draft_start}
 use Rattle.rc_read.proofs.KeptForms.{AreFalse, IsRegion, are_false, few_lines, HasForm, has_form, inside, items_by, none_alone, none_else, region_is}
 use Rattle.rc_read.proofs.KeptLists.{no_queue, no_queue_before}
-use Rattle.rc_read.proofs.KeptParts.{AreThreads, RiseTo, buffers_more, files_more, no_threads, rise_more, rise_none, tokens_more, tokens_on}
+use Rattle.rc_read.proofs.KeptParts.{AreThreads, RiseTo, buffers_more, files_more, no_threads, pools_in, pools_more, rise_more, rise_none, tokens_more, tokens_on}
 use Rattle.rc_read.proofs.KeptRows.{IsKind, IsTold, has_more, told}
 use Rattle.rc_read.proofs.KeptSheet.{IsKept, ThreadsAt, at, kept_brace, kept_counted, kept_named, kept_said, kept_start}
 use Rattle.rc_read.proofs.KeptSpots.{all_named, are_of}
@@ -87,26 +87,43 @@ module _ (ts : List ThreadOf) where
     kept_what : (what : Says) → IsTold ts s (naming s.draft ps) ws its st what → bad_brace s what ≡ false → is_too_deep s what ≡ false → bad_nesting s.draft.blocks its what ≡ false → bad_case s.draft what ≡ false → IsKept ts (counted (added (with_names s ps) ws its what))
     kept_what (says.Version v) t b d n c = record {
       few_lines = omega arith;
-      declared = record { sizes = record { version = (t.1, t.2); rings = k.declared.sizes.rings }; known_files = k.declared.known_files; known_buffers = k.declared.known_buffers; known_tokens = k.declared.known_tokens };
-      threads = at ts (with_names s ps) lt k Start (stands stand.First t.0);
+      declared = record {
+        sizes = record { version = (t.1, t.2); rings = k.declared.sizes.rings };
+        known_files = k.declared.known_files;
+        known_buffers = k.declared.known_buffers;
+        known_tokens = k.declared.known_tokens;
+        known_pools = pools_in v s.pools (at ts (with_names s ps) lt k Start (stands stand.First t.0)).1;
+      };
+      threads = (at ts (with_names s ps) lt k Start (stands stand.First t.0)).0;
     }
-    kept_what (says.Ring h) t b d n c = record { few_lines = omega arith; declared = record { sizes = record { version = k.declared.sizes.version; rings = t.1 }; known_files = k.declared.known_files; known_buffers = k.declared.known_buffers; known_tokens = k.declared.known_tokens }; threads = at ts (with_names s ps) lt k Second (stands stand.Second t.0) }
+    kept_what (says.Ring h) t b d n c = record { few_lines = omega arith; declared = record { sizes = record { version = k.declared.sizes.version; rings = t.1 }; known_files = k.declared.known_files; known_buffers = k.declared.known_buffers; known_tokens = k.declared.known_tokens; known_pools = k.declared.known_pools }; threads = at ts (with_names s ps) lt k Second (stands stand.Second t.0) }
     kept_what (says.File f) t b d n c = record {
       few_lines = omega arith;
-      declared = record { sizes = k.declared.sizes; known_files = files_more s.files f k.declared.known_files t.1 t.2 t.3; known_buffers = k.declared.known_buffers; known_tokens = k.declared.known_tokens };
+      declared = record { sizes = k.declared.sizes; known_files = files_more s.files f k.declared.known_files t.1 t.2 t.3; known_buffers = k.declared.known_buffers; known_tokens = k.declared.known_tokens; known_pools = k.declared.known_pools };
       threads = declares (added (with_names s ps) ws its (says.File f)) (stands stand.Declaration t.0) refl refl;
     }
     kept_what (says.Buffer bytes shares) t b d n c =
         let buffer : BufferOf = record { name = second_of ws; bytes = bytes; shares = shares } in
         record {
           few_lines = omega arith;
-          declared = record { sizes = k.declared.sizes; known_files = k.declared.known_files; known_buffers = buffers_more s.buffers buffer k.declared.known_buffers (record { name = t.4.0; bytes = t.1; shares = t.2 }) t.4.1 t.3; known_tokens = tokens_on s.buffers buffer s.tokens k.declared.known_tokens };
+          declared = record { sizes = k.declared.sizes; known_files = k.declared.known_files; known_buffers = buffers_more s.buffers buffer k.declared.known_buffers (record { name = t.4.0; bytes = t.1; shares = t.2 }) t.4.1 t.3; known_tokens = tokens_on s.buffers buffer s.tokens k.declared.known_tokens; known_pools = k.declared.known_pools };
           threads = declares (added (with_names s ps) ws its (says.Buffer bytes shares)) (stands stand.Declaration t.0) refl refl;
         }
     kept_what (says.Token token) t b d n c = record {
       few_lines = omega arith;
-      declared = record { sizes = k.declared.sizes; known_files = k.declared.known_files; known_buffers = k.declared.known_buffers; known_tokens = tokens_more s.buffers s.tokens token k.declared.known_tokens t.1 t.2 t.3 };
+      declared = record { sizes = k.declared.sizes; known_files = k.declared.known_files; known_buffers = k.declared.known_buffers; known_tokens = tokens_more s.buffers s.tokens token k.declared.known_tokens t.1 t.2 t.3; known_pools = k.declared.known_pools };
       threads = declares (added (with_names s ps) ws its (says.Token token)) (stands stand.Declaration t.0) refl refl;
+    }
+    kept_what says.Pool t b d n c = record {
+      few_lines = omega arith;
+      declared = record {
+        sizes = k.declared.sizes;
+        known_files = k.declared.known_files;
+        known_buffers = k.declared.known_buffers;
+        known_tokens = k.declared.known_tokens;
+        known_pools = pools_more s.head.version s.pools (second_of ws) k.declared.known_pools t.3.0 t.3.1 t.2 t.1;
+      };
+      threads = declares (added (with_names s ps) ws its says.Pool) (stands stand.Declaration t.0) refl refl;
     }
     kept_what says.Thread t b d n c = record {
       few_lines = omega arith;
@@ -121,11 +138,11 @@ module _ (ts : List ThreadOf) where
       };
     }
     kept_what (says.Op op) t b d n c = follows (says.Op op) (stands stand.Inside t.0) (record { nested = c; room = tt; arm = tt; resolved = t.1; list = tt })
-    kept_what says.Put t b d n c = follows says.Put (stands stand.Inside t.0) (record { nested = c; room = tt; arm = tt; resolved = longer (held its []); list = (refl, t.1, of_pool n) })
-    kept_what says.Lock t b d n c = follows says.Lock (stands stand.Inside t) (record { nested = or_parts (in_lock s.draft.blocks) (in_peek s.draft.blocks) n; room = room d; arm = tt; resolved = tt; list = tt })
-    kept_what (says.If (test.Take i)) t b d n c = let none : i < 0 = t.1 in absurd (omega arith)
+    kept_what (says.Put pool) t b d n c = follows (says.Put pool) (stands stand.Inside t.0) (record { nested = c; room = tt; arm = tt; resolved = (t.1, longer (held its [])); list = (refl, t.2, of_pool n) })
+    kept_what (says.Lock l) t b d n c = follows (says.Lock l) (stands stand.Inside t.0) (record { nested = (n, c); room = room d; arm = tt; resolved = t.1; list = tt })
+    kept_what (says.If (test.Take pool i)) t b d n c = let none : i < 0 = t.1.1 in absurd (omega arith)
     kept_what (says.If test) t b d n c = follows (says.If test) (stands stand.Inside t.0) (record { nested = c; room = room d; arm = tt; resolved = t.1; list = tt })
-    kept_what says.Take t b d n c = follows says.Take (stands stand.Inside t.0) (record { nested = c; room = room d; arm = tt; resolved = longer (held its []); list = (refl, t.1, of_pool n) })
+    kept_what (says.Take pool) t b d n c = follows (says.Take pool) (stands stand.Inside t.0) (record { nested = c; room = room d; arm = tt; resolved = (t.1, longer (held its [])); list = (refl, t.2, of_pool n) })
     kept_what says.Else t b d n c =
         let h = and_parts (is_inside s.region) (is_first_branch (innermost s.draft.blocks)) (not-false (is_inside s.region && is_first_branch (innermost s.draft.blocks)) b) in
         follows says.Else (inside s.region (ap not h.0)) (record { nested = first_branch (innermost s.draft.blocks) h.1; room = tt; arm = tt; resolved = tt; list = tt })
@@ -140,8 +157,8 @@ module _ (ts : List ThreadOf) where
         let h = or_parts (not (directly_in_peek s.draft.blocks)) s.draft.arms.none c in
         follows says.Nothing (stands stand.Inside t) (record { nested = peeked (innermost s.draft.blocks) (not-false (directly_in_peek s.draft.blocks) h.0); room = room d; arm = h.1; resolved = tt; list = tt })
     kept_what says.Loop t b d n c =
-        let h = or_parts (in_peek s.draft.blocks) (any_queue its && (not (in_lock s.draft.blocks) || any_queue (behind_when its))) n in
-        follows says.Loop (stands stand.Inside t.0) (record { nested = h.0; room = room d; arm = tt; resolved = longer (held_in_loop its); list = (refl, t.1, λ locked. no_queue_before its (no_queue_outside its (in_lock s.draft.blocks) (any_queue (behind_when its)) h.1 locked)) })
+        let h = or_parts (in_peek s.draft.blocks) (any_queue its && (not (locks_in s.draft.blocks).sq || any_queue (behind_when its))) n in
+        follows says.Loop (stands stand.Inside t.0) (record { nested = h.0; room = room d; arm = tt; resolved = longer (held_in_loop its); list = (refl, t.1, λ locked. no_queue_before its (no_queue_outside its (locks_in s.draft.blocks).sq (any_queue (behind_when its)) h.1 locked)) })
     kept_what says.Break t b d n c = follows says.Break (stands stand.Inside t) (record { nested = (c, out_of_loop (way_out s.draft.blocks) n); room = tt; arm = tt; resolved = tt; list = tt })
     kept_what says.Close t b d n c = kept_brace ts (with_names s ps) lt k (inside s.region b) (innermost s.draft.blocks) refl c
 
@@ -201,6 +218,10 @@ program_made s k threads = record {
   few_tokens = k.declared.known_tokens.few;
   tokens = λ i d lt. token_kind (program_in s) _ (k.declared.known_tokens.each i d lt);
   distinct_tokens = k.declared.known_tokens.distinct;
+  few_pools = k.declared.known_pools.few;
+  pools = k.declared.known_pools.each;
+  distinct_pools = k.declared.known_pools.distinct;
+  no_pools = k.declared.known_pools.none;
   few_threads = threads.0.few;
   distinct_names = threads.0.distinct;
   each = threads.0.each;

@@ -76,9 +76,9 @@ module _ (bs : List Block) (n o : ℕ) where
 
   was_open : (s : Stmt) → IsNestedIn bs s → ((x : ℕ) → s ≡ Peek x → ⊥) → Contains (blocks_behind bs n s) (InPeek o) → Contains bs (InPeek o)
   was_open (Do op) e ne c = c
-  was_open (Put k) e ne c = c
-  was_open Lock e ne c = was_pushed (InLock n) (λ q. absurd (cc)) c
-  was_open (EndLock p) e ne c = was_popped (InLock p) e c
+  was_open (Put pool k) e ne c = c
+  was_open (Lock l) e ne c = was_pushed (InLock n l) (λ q. absurd (cc)) c
+  was_open (EndLock p l) e ne c = was_popped (InLock p l) e c
   was_open (If test) e ne c = was_pushed (InIf n) (λ q. absurd (cc)) c
   was_open (Else p) e ne c = was_popped (InIf p) e (elim (Contains-push_cases (without_innermost bs) (InElse n) (InPeek o) c) [ inl h ↦ h | inr q ↦ absurd (cc) ])
   was_open (EndIf p) e ne c = elim e [ inl i ↦ was_popped (InIf p) i c | inr i ↦ was_popped (InElse p) i c ]

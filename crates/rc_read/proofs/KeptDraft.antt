@@ -12,7 +12,7 @@ use Rattle.rc_lang.specs.declared.lines.Stmt.{Stmt}
 use Rattle.rc_lang.specs.declared.lines.Stmt.TheVariants.{Do, Put, Lock, EndLock, If, Else, EndIf, Peek, Case, Other, Nothing, EndArm, EndPeek, Loop, EndLoop, Break}
 use Rattle.rc_lang.specs.declared.lines.Test.TheVariants.{Take}
 use Rattle.rc_lang.specs.Names.{is_name}
-use Rattle.rc_lang.specs.Nesting.{blocks_at, blocks_behind, in_lock, innermost, IsNestedIn, without_innermost}
+use Rattle.rc_lang.specs.Nesting.{blocks_at, blocks_behind, innermost, IsNestedIn, locks_in, without_innermost}
 use Rattle.rc_lang.specs.Program.{IsFlag, IsItems, IsList, IsOfPool, IsResolved, IsThread, Items, Program, items_at, no_items, no_more, stmt_at}
 use Rattle.rc_lang.proofs.Lookups.{EachNested, blocks_new, blocks_old, nested_more, nested_start, stands_within, stmt_push}
 use Rattle.rc_lang.proofs.Placed.{ArePlaced, placed, placed_innermost}
@@ -45,9 +45,9 @@ pub record IsDraft (p : Program) (d : Draft) : Type 0 where
   pub long : length d.ends ≡ length d.lines
   pub kept : AreKept d.blocks d.lines d.ends
   pub seen : AreSeen d.blocks d.lines d.arms
-  pub queues : (j k : ℕ) → stmt_at d.lines j ≡ Some (Loop k) → in_lock (blocks_at d.lines j) ≡ false → (items_at d.lists k).queue ≡ None
-  pub puts : (j k : ℕ) → stmt_at d.lines j ≡ Some (Put k) → IsOfPool (items_at d.lists k)
-  pub takes : (j k : ℕ) → stmt_at d.lines j ≡ Some (If (Take k)) → IsOfPool (items_at d.lists k)
+  pub queues : (j k : ℕ) → stmt_at d.lines j ≡ Some (Loop k) → (locks_in (blocks_at d.lines j)).sq ≡ false → (items_at d.lists k).queue ≡ None
+  pub puts : (j : ℕ) (pool : Option ℕ) (k : ℕ) → stmt_at d.lines j ≡ Some (Put pool k) → IsOfPool (items_at d.lists k)
+  pub takes : (j : ℕ) (pool : Option ℕ) (k : ℕ) → stmt_at d.lines j ≡ Some (If (Take pool k)) → IsOfPool (items_at d.lists k)
 
 pub draft_start : (p : Program) (name : List ℕ) (line : ℕ) (items : Items) → is_name name ≡ true → 1 ≤ line → line ≤ 4096 → IsItems p items → items.queue ≡ None → items.more ≡ no_more → IsDraft p (headed name line items)
 draft_start p name line items is some few held none nothing = record {
@@ -68,8 +68,8 @@ draft_start p name line items is some few held none nothing = record {
   kept = λ j s e. absurd (cc);
   seen = λ o c. let lt : c.0 < 0 = c.1 in absurd (omega arith);
   queues = λ j k e. absurd (cc);
-  puts = λ j k e. absurd (cc);
-  takes = λ j k e. absurd (cc);
+  puts = λ j pool k e. absurd (cc);
+  takes = λ j pool k e. absurd (cc);
 }
   where
     shallow : (j : ℕ) → length (blocks_at [] j) ≤ 31
@@ -109,7 +109,7 @@ draft_named p d ps few k = record {
 
 -- A line that opens a block finds room for it.
 abbrev pub HasRoom : List Block → Stmt → Type 0
-HasRoom bs Lock = length bs < 31
+HasRoom bs (Lock l) = length bs < 31
 HasRoom bs (If test) = length bs < 31
 HasRoom bs (Peek x) = length bs < 31
 HasRoom bs (Case o u) = length bs < 31
@@ -124,9 +124,9 @@ IsFinePool p d items k = (k ≡ length d.lists) × IsList p (held items []) × I
 
 -- The items of a loop, a put or a take are fine.
 abbrev pub IsFineList : Program → Draft → List Item → Stmt → Type 0
-IsFineList p d items (Put k) = IsFinePool p d items k
-IsFineList p d items (If (Take k)) = IsFinePool p d items k
-IsFineList p d items (Loop k) = (k ≡ length d.lists) × IsLoopOf p (length d.names) items × (in_lock d.blocks ≡ false → (held_in_loop items).queue ≡ None)
+IsFineList p d items (Put pool k) = IsFinePool p d items k
+IsFineList p d items (If (Take pool k)) = IsFinePool p d items k
+IsFineList p d items (Loop k) = (k ≡ length d.lists) × IsLoopOf p (length d.names) items × ((locks_in d.blocks).sq ≡ false → (held_in_loop items).queue ≡ None)
 IsFineList p d items s = Unit {0}
 
 -- Such a line may be the next.
@@ -153,9 +153,9 @@ module _ (bs : List Block) (n : ℕ) (few : length bs ≤ 31) where
 
   depth_behind : (s : Stmt) → IsNestedIn bs s → HasRoom bs s → length (blocks_behind bs n s) ≤ 31
   depth_behind (Do op) e r = few
-  depth_behind (Put k) e r = few
-  depth_behind Lock e r = deeper (InLock n) r
-  depth_behind (EndLock o) e r = less_deep
+  depth_behind (Put pool k) e r = few
+  depth_behind (Lock l) e r = deeper (InLock n l) r
+  depth_behind (EndLock o l) e r = less_deep
   depth_behind (If test) e r = deeper (InIf n) r
   depth_behind (Else o) e r = turned (InIf o) (InElse n) e
   depth_behind (EndIf o) e r = less_deep
@@ -172,8 +172,8 @@ module _ (bs : List Block) (n : ℕ) (few : length bs ≤ 31) where
 module _ (p : Program) (d : Draft) (items : List Item) where
   lists_fine : (s : Stmt) → IsFineList p d items s → All (IsList p) d.lists → All (IsList p) (lists_behind d.lists items s)
   lists_fine (Loop k) f h = All-push (IsList p) d.lists (held_in_loop items) h f.1.list
-  lists_fine (Put k) f h = All-push (IsList p) d.lists (held items []) h f.1
-  lists_fine (If (Take k)) f h = All-push (IsList p) d.lists (held items []) h f.1
+  lists_fine (Put pool k) f h = All-push (IsList p) d.lists (held items []) h f.1
+  lists_fine (If (Take pool k)) f h = All-push (IsList p) d.lists (held items []) h f.1
   lists_fine s f h = h
 
   longer : (i : Items) → length d.lists ≤ length (d.lists ++ i ∷ [])
@@ -181,17 +181,17 @@ module _ (p : Program) (d : Draft) (items : List Item) where
 
   lists_grow : (s : Stmt) → length d.lists ≤ length (lists_behind d.lists items s)
   lists_grow (Loop k) = longer (held_in_loop items)
-  lists_grow (Put k) = longer (held items [])
-  lists_grow (If (Take k)) = longer (held items [])
+  lists_grow (Put pool k) = longer (held items [])
+  lists_grow (If (Take pool k)) = longer (held items [])
   lists_grow s = omega arith
 
   old_items : (s : Stmt) (k : ℕ) → k < length d.lists → items_at (lists_behind d.lists items s) k ≡ items_at d.lists k
   old_items (Loop i) k lt = get_or_append_left d.lists (held_in_loop items ∷ []) no_items k lt
-  old_items (Put i) k lt = get_or_append_left d.lists (held items [] ∷ []) no_items k lt
-  old_items (If (Take i)) k lt = get_or_append_left d.lists (held items [] ∷ []) no_items k lt
+  old_items (Put pool i) k lt = get_or_append_left d.lists (held items [] ∷ []) no_items k lt
+  old_items (If (Take pool i)) k lt = get_or_append_left d.lists (held items [] ∷ []) no_items k lt
   old_items s k lt = refl
 
-  new_queue : (s : Stmt) → IsFineList p d items s → (k : ℕ) → s ≡ Loop k → in_lock d.blocks ≡ false → (items_at (lists_behind d.lists items s) k).queue ≡ None
+  new_queue : (s : Stmt) → IsFineList p d items s → (k : ℕ) → s ≡ Loop k → (locks_in d.blocks).sq ≡ false → (items_at (lists_behind d.lists items s) k).queue ≡ None
   new_queue (Loop i) f k e n =
       let q : i ≡ k = cc in
       let g : length d.lists ≡ k = sym f.0 ∙ q in
@@ -201,13 +201,13 @@ module _ (p : Program) (d : Draft) (items : List Item) where
   new_pool : (i k : ℕ) → IsFinePool p d items i → i ≡ k → IsOfPool (items_at (d.lists ++ held items [] ∷ []) k)
   new_pool i k f q = subst IsOfPool (sym (get_or_push d.lists (held items []) no_items k (sym f.0 ∙ q))) f.2
 
-  new_put : (s : Stmt) → IsFineList p d items s → (k : ℕ) → s ≡ Put k → IsOfPool (items_at (lists_behind d.lists items s) k)
-  new_put (Put i) f k e = new_pool i k f (cc)
-  new_put s f k e = absurd (cc)
+  new_put : (s : Stmt) → IsFineList p d items s → (pool : Option ℕ) (k : ℕ) → s ≡ Put pool k → IsOfPool (items_at (lists_behind d.lists items s) k)
+  new_put (Put other i) f pool k e = new_pool i k f (cc)
+  new_put s f pool k e = absurd (cc)
 
-  new_take : (s : Stmt) → IsFineList p d items s → (k : ℕ) → s ≡ If (Take k) → IsOfPool (items_at (lists_behind d.lists items s) k)
-  new_take (If (Take i)) f k e = new_pool i k f (cc)
-  new_take s f k e = absurd (cc)
+  new_take : (s : Stmt) → IsFineList p d items s → (pool : Option ℕ) (k : ℕ) → s ≡ If (Take pool k) → IsOfPool (items_at (lists_behind d.lists items s) k)
+  new_take (If (Take other i)) f pool k e = new_pool i k f (cc)
+  new_take s f pool k e = absurd (cc)
 
   -- ---- the flag
 
@@ -228,8 +228,8 @@ module _ (p : Program) (d : Draft) (items : List Item) where
     version = λ first. ap (λ o. option_or o (flag_in items)) (h.version first) ∙ f.1.version first;
     without = λ none. let n = neither d.flag (flag_in items) none in All-push (λ (i : Items). i.more ≡ no_more) d.lists (held_in_loop items) (h.without n.0) (nothing_besides items n.1);
   }
-  flag_more number (Put k) f h = record { variable = h.variable; version = h.version; without = flag_with h }
-  flag_more number (If (Take k)) f h = record { variable = h.variable; version = h.version; without = flag_with h }
+  flag_more number (Put pool k) f h = record { variable = h.variable; version = h.version; without = flag_with h }
+  flag_more number (If (Take pool k)) f h = record { variable = h.variable; version = h.version; without = flag_with h }
   flag_more number s f h = record { variable = h.variable; version = h.version; without = h.without }
 
 module _ (p : Program) (d : Draft) (k : IsDraft p d) where
@@ -272,19 +272,19 @@ module _ (p : Program) (d : Draft) (k : IsDraft p d) where
         queues = λ j i e. elim (stmt_push d.lines line j (Loop i) e) [
           | inl h ↦ λ locked.
               let lt : j < length d.lines = stands_within d.lines j (Loop i) h in
-              ap (λ (x : Items). x.queue) (old_items p d items s i (k.resolved j (Loop i) h)) ∙ k.queues j i h (ap in_lock (sym (blocks_old d.lines line j (omega arith))) ∙ locked)
+              ap (λ (x : Items). x.queue) (old_items p d items s i (k.resolved j (Loop i) h)) ∙ k.queues j i h (ap (λ bs. (locks_in bs).sq) (sym (blocks_old d.lines line j (omega arith))) ∙ locked)
           | inr h ↦ λ locked.
               let q : j ≡ length d.lines = h.0 in
               let here : blocks_at (d.lines ++ line ∷ []) j ≡ d.blocks = blocks_old d.lines line j (omega arith) ∙ ap (λ m. blocks_at d.lines m) q ∙ k.stand in
-              new_queue p d items s may.list i h.1 (ap in_lock (sym here) ∙ locked)
+              new_queue p d items s may.list i h.1 (ap (λ bs. (locks_in bs).sq) (sym here) ∙ locked)
         ];
-        puts = λ j i e. elim (stmt_push d.lines line j (Put i) e) [
-          | inl h ↦ subst IsOfPool (sym (old_items p d items s i (k.resolved j (Put i) h))) (k.puts j i h)
-          | inr h ↦ new_put p d items s may.list i h.1
+        puts = λ j pool i e. elim (stmt_push d.lines line j (Put pool i) e) [
+          | inl h ↦ subst IsOfPool (sym (old_items p d items s i (k.resolved j (Put pool i) h).1)) (k.puts j pool i h)
+          | inr h ↦ new_put p d items s may.list pool i h.1
         ];
-        takes = λ j i e. elim (stmt_push d.lines line j (If (Take i)) e) [
-          | inl h ↦ subst IsOfPool (sym (old_items p d items s i (k.resolved j (If (Take i)) h))) (k.takes j i h)
-          | inr h ↦ new_take p d items s may.list i h.1
+        takes = λ j pool i e. elim (stmt_push d.lines line j (If (Take pool i)) e) [
+          | inl h ↦ subst IsOfPool (sym (old_items p d items s i (k.resolved j (If (Take pool i)) h).1)) (k.takes j pool i h)
+          | inr h ↦ new_take p d items s may.list pool i h.1
         ];
       }
 

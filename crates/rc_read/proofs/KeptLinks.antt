@@ -19,7 +19,7 @@ use Rattle.rc_read.specs.Adds.{closed_by, ends_behind, ends_marked}
 
 -- The place whose end is known once the block is closed.
 abbrev pub marks : Block → Option ℕ
-marks (InLock o) = None
+marks (InLock o l) = None
 marks (InIf o) = Some o
 marks (InElse o) = Some o
 marks (InPeek o) = Some o
@@ -86,9 +86,9 @@ module _ (bs : List Block) (n o : ℕ) where
   -- a block that is open stays so, unless the line closes it
   stays : (s : Stmt) → IsNestedIn bs s → IsOpenAt bs o → (closed_by s ≡ Some o) ⊎ IsOpenAt (blocks_behind bs n s) o
   stays (Do op) e h = inr h
-  stays (Put k) e h = inr h
-  stays Lock e h = inr (pushed (InLock n) h)
-  stays (EndLock p) e h = popped (InLock p) e h
+  stays (Put pool k) e h = inr h
+  stays (Lock l) e h = inr (pushed (InLock n l) h)
+  stays (EndLock p l) e h = popped (InLock p l) e h
   stays (If test) e h = inr (pushed (InIf n) h)
   stays (Else p) e h = elim (popped (InIf p) e h) [
     | inl q ↦ inl q

@@ -1,5 +1,5 @@
 -- What is kept of files, buffers, tokens and threads, and what one more of them does to it.
-use Rattle.std.proofs.Common.{◌≡◌, ℕ, ◌+◌, ◌<◌, ◌≤◌, Bool, false, nat_eq, List, [], ◌∷◌, ◌++◌, length, length-append, map, Some, bytes_eq, slice_get, refl, sym, ap, ◌∙◌, subst, append_assoc, inl, inr, All, arith}
+use Rattle.std.proofs.Common.{◌≡◌, ℕ, ◌+◌, ◌<◌, ◌≤◌, Bool, true, false, nat_eq, List, [], ◌∷◌, ◌++◌, length, length-append, map, Some, bytes_eq, slice_get, refl, sym, ap, ◌∙◌, subst, append_assoc, inl, inr, All, arith}
 use Rattle.std.specs.List.{IsDistinct, list_any}
 use Rattle.std.specs.List.Sorted.{IsStrictlyIncreasing}
 use Rattle.std.specs.Cmp.{IsEquivalence}
@@ -15,6 +15,7 @@ use Rattle.rc_lang.specs.declared.program.Head.{Head}
 use Rattle.rc_lang.specs.declared.program.Token.{Token}
 use Rattle.rc_lang.specs.declared.program.TokenKind.{TokenKind}
 use Rattle.rc_lang.specs.declared.program.TokenKind.TheVariants.{Read, Write, Fsync, Nop}
+use Rattle.rc_lang.specs.Names.{is_name}
 use Rattle.rc_lang.specs.Program.{Buffer, IsBuffer, IsFile, IsThread, Program, Thread, line_numbers, no_buffer, numbers_from, shares_at}
 use Rattle.rc_lang.proofs.Lookups.{get_push}
 use Rattle.rc_lang.proofs.Rising.{rises_more}
@@ -104,16 +105,44 @@ kind_on buffers b Nop h = tt
 pub tokens_on : (buffers : List Buffer) (b : Buffer) (tokens : List Token) → AreTokens buffers tokens → AreTokens (buffers ++ b ∷ []) tokens
 tokens_on buffers b tokens k = record { few = k.few; each = λ i d lt. kind_on buffers b _ (k.each i d lt); distinct = k.distinct }
 
+-- ---- pools
+
+pub record ArePools (version : ℕ) (pools : List (List ℕ)) : Type 0 where
+  pub few : length pools ≤ 16
+  pub each : All (λ n. is_name n ≡ true) pools
+  pub distinct : IsDistinct bytes_eq pools
+  pub none : version ≤ 3 → pools ≡ []
+
+no_pools : (version : ℕ) → ArePools version []
+no_pools version = record { few = omega arith; each = All-nil (λ n. is_name n ≡ true); distinct = none_distinct bytes_eq; none = λ e. refl }
+
+-- where none is declared the version is of no matter
+pub pools_in : (version : ℕ) (pools : List (List ℕ)) → pools ≡ [] → ArePools version pools
+pools_in version pools e = subst (λ ns. ArePools version ns) (sym e) (no_pools version)
+
+not_listed_name : (ns : List (List ℕ)) (w : List ℕ) → is_among ns w ≡ false → list_any (bytes_eq w) ns ≡ false
+not_listed_name [] w e = refl
+not_listed_name (n ∷ ns) w e = let p = or_parts (bytes_eq n w) (is_among ns w) e in or_from (bytes_eq w n) (list_any (bytes_eq w) ns) (nat_list_eq_equiv.symm w n ∙ p.0) (not_listed_name ns w p.1)
+
+pub pools_more : (version : ℕ) (pools : List (List ℕ)) (n : List ℕ) → ArePools version pools → is_name n ≡ true → is_among pools n ≡ false → length pools < 16 → 4 ≤ version → ArePools version (pools ++ n ∷ [])
+pools_more version pools n k is new room later = record {
+  few = one_more pools n 16 room;
+  each = All-push (λ m. is_name m ≡ true) pools n k.each is;
+  distinct = IsDistinct-push nat_list_eq_equiv pools n k.distinct (not_listed_name pools n new);
+  none = λ e. absurd (omega arith);
+}
+
 -- ---- what is declared above the threads
 
-pub record AreDeclared (head : Head) (files : List File) (buffers : List Buffer) (tokens : List Token) : Type 0 where
+pub record AreDeclared (head : Head) (files : List File) (buffers : List Buffer) (tokens : List Token) (pools : List (List ℕ)) : Type 0 where
   pub sizes : IsHead head
   pub known_files : AreFiles files
   pub known_buffers : AreBuffers buffers
   pub known_tokens : AreTokens buffers tokens
+  pub known_pools : ArePools head.version pools
 
-pub nothing_declared : AreDeclared (record { version = 1; entries = 1; completion_entries = 2; left = 0 }) [] [] []
-nothing_declared = record { sizes = head_start; known_files = no_files; known_buffers = no_buffers; known_tokens = no_tokens [] }
+pub nothing_declared : AreDeclared (record { version = 1; entries = 1; completion_entries = 2; left = 0 }) [] [] [] []
+nothing_declared = record { sizes = head_start; known_files = no_files; known_buffers = no_buffers; known_tokens = no_tokens []; known_pools = no_pools 1 }
 
 -- ---- the numbers of lines
 

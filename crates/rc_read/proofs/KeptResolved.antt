@@ -13,6 +13,9 @@ module _ (p : Program) (m n a b : ℕ) (more : m ≤ n) (lists : a ≤ b) where
   below : (x : ℕ) → x < m → x < n
   below x lt = omega arith
 
+  fewer : (k : ℕ) → k < a → k < b
+  fewer k lt = omega arith
+
   operand_on : (o : Operand) → IsOperand m o → IsOperand n o
   operand_on (Variable x) h = below x h
   operand_on (Number k) h = tt
@@ -33,10 +36,10 @@ module _ (p : Program) (m n a b : ℕ) (more : m ≤ n) (lists : a ≤ b) where
   pub resolved_on : (s : Stmt) → IsResolved p m a s → IsResolved p n b s
   resolved_on (Do op) h = op_on op h
   resolved_on (If (Compare x c k)) h = below x h
-  resolved_on (If (Take k)) h = let lt : k < a = h in omega arith
+  resolved_on (If (Take pool k)) h = (h.0, fewer k h.1)
   resolved_on (If test) h = h
-  resolved_on (Put k) h = let lt : k < a = h in omega arith
+  resolved_on (Put pool k) h = (h.0, fewer k h.1)
   resolved_on (Peek x) h = below x h
-  resolved_on (Loop k) h = let lt : k < a = h in omega arith
-  resolved_on (EndLoop o k) h = let lt : k < a = h in omega arith
+  resolved_on (Loop k) h = fewer k h
+  resolved_on (EndLoop o k) h = fewer k h
   resolved_on s h = h

@@ -1,17 +1,19 @@
 -- What a line says, form by form, where no sentence is true of it.
 use Rattle.std.proofs.Common.{◌≡◌, ℕ, suc, ◌+◌, ◌*◌, ◌^◌, ◌<◌, ◌≤◌, Bool, true, false, cond, bytes_eq, nat_le, List, [], ◌∷◌, length, None, is_none, refl, sym, ap, ◌∙◌, subst, pow-suc, arith}
 use Rattle.std.proofs.lemmas.Bool.{or_parts, leb-false, leb-true}
+use Rattle.rc_lang.specs.declared.lines.Locks.{Locks}
 use Rattle.rc_lang.specs.declared.lines.Operand.{Operand as OperandOf}
 use Rattle.rc_lang.specs.declared.lines.Operand.TheVariants as operand
 use Rattle.rc_lang.specs.declared.program.Head.{Head}
 use Rattle.rc_lang.specs.declared.program.TokenKind.{TokenKind}
 use Rattle.rc_lang.specs.declared.program.TokenKind.TheVariants as kind
+use Rattle.rc_lang.specs.Locks.{is_some_lock}
 use Rattle.rc_lang.specs.Names.{is_name}
-use Rattle.rc_lang.specs.Program.{Buffer as BufferOf, DeclaresToken, IsFile, IsItems, IsList, IsOperand, IsResolvedOp, IsResolvedTest, IsRingSize, Thread as ThreadOf, shares_at}
+use Rattle.rc_lang.specs.Program.{AreTaken, Buffer as BufferOf, DeclaresPool, DeclaresToken, IsFile, IsItems, IsList, IsOperand, IsResolvedOp, IsResolvedTest, IsRingSize, Thread as ThreadOf, shares_at}
 use Rattle.rc_read.specs.declared.says.Rings.{Rings}
 use Rattle.rc_read.specs.declared.says.Says.{Says}
 use Rattle.rc_read.specs.declared.says.Says.TheVariants as says
-use Rattle.rc_read.specs.declared.table.Part.TheVariants.{Fixed, Number, NewBuffer, NewThread, Items, Flag}
+use Rattle.rc_read.specs.declared.table.Part.TheVariants.{Fixed, Number, Pool, NewBuffer, NewPool, NewThread, Items, Flag}
 use Rattle.rc_read.specs.declared.table.Range.TheVariants.{Within}
 use Rattle.rc_read.specs.declared.table.Row.{Row}
 use Rattle.rc_read.specs.declared.table.Row.TheVariants as row
@@ -29,7 +31,7 @@ use Rattle.rc_read.specs.Table.{parts_of, stand_of, version_of}
 use Rattle.rc_read.specs.Values.{any_lacks, items_in, rounded_up, start, value_at, values_of}
 use Rattle.rc_read.proofs.KeptItems.{SayFine, both_fine, items_fine}
 use Rattle.rc_read.proofs.KeptLists.{IsLoopOf, NoFlag, header_held, list_alone, loop_held, loop_when_held}
-use Rattle.rc_read.proofs.KeptSpots.{AllNamed, has_flag, is_second, items_after, items_alone, items_between, named_behind}
+use Rattle.rc_read.proofs.KeptSpots.{AllNamed, has_flag, is_second, items_after, items_alone, items_between, items_second, items_third, named_behind}
 use Rattle.rc_read.proofs.KeptValues.{Fine, made}
 
 -- ---- sizes of rings
@@ -83,7 +85,7 @@ pub record AreRings (rings : Rings) : Type 0 where
 
 -- The head says a version and such rings.
 pub record IsHead (h : Head) : Type 0 where
-  pub version : (1 ≤ h.version) × (h.version ≤ 3)
+  pub version : (1 ≤ h.version) × (h.version ≤ 4)
   pub rings : AreRings (record { entries = h.entries; completion_entries = h.completion_entries; left = h.left })
 
 submission : (size : ℕ) → size ≤ 1024 → IsRingSize 1024 (rounded_up size)
@@ -123,17 +125,18 @@ IsNewName names w = (is_name w ≡ true) × (is_among names w ≡ false)
 module _ (threads : List ThreadOf) (s : Sheet) (d : Draft) (ws : List (List ℕ)) (its : List Item) where
   -- A line says this, in a form that is there.
   abbrev pub IsTold : Stand → Says → Type 0
-  IsTold st (says.Version n) = (st ≡ stand.First) × (1 ≤ n) × (n ≤ 3)
+  IsTold st (says.Version n) = (st ≡ stand.First) × (1 ≤ n) × (n ≤ 4)
   IsTold st (says.Ring rings) = (st ≡ stand.Second) × AreRings rings
   IsTold st (says.File f) = (st ≡ stand.Declaration) × IsFile f × (has_file s.files f.number ≡ false) × (length s.files < 16)
   IsTold st (says.Buffer bytes shares) = (st ≡ stand.Declaration) × ((1 ≤ bytes) × (bytes ≤ 4096)) × ((1 ≤ shares) × (shares ≤ 16)) × (length s.buffers < 64) × IsNewName (buffer_names s.buffers) (second_of ws)
   IsTold st (says.Token t) = (st ≡ stand.Declaration) × IsKind s.buffers t.kind × (has_token s.tokens t.user_data ≡ false) × (length s.tokens < 256)
+  IsTold st says.Pool = (st ≡ stand.Declaration) × (4 ≤ s.head.version) × (length s.pools < 16) × IsNewName s.pools (second_of ws)
   IsTold st says.Thread = (st ≡ stand.Header) × (length s.threads < 16) × IsNewName (thread_names s.threads) (second_of ws) × IsItems (made threads s) (held its [])
   IsTold st (says.Op op) = (st ≡ stand.Inside) × IsResolvedOp (made threads s) (length d.names) op
-  IsTold st says.Put = (st ≡ stand.Inside) × IsList (made threads s) (held its [])
-  IsTold st says.Lock = st ≡ stand.Inside
+  IsTold st (says.Put pool) = (st ≡ stand.Inside) × DeclaresPool (made threads s) pool × IsList (made threads s) (held its [])
+  IsTold st (says.Lock l) = (st ≡ stand.Inside) × AreTaken (made threads s) l
   IsTold st (says.If test) = (st ≡ stand.Inside) × IsResolvedTest (made threads s) (length d.names) 0 test
-  IsTold st says.Take = (st ≡ stand.Inside) × IsList (made threads s) (held its [])
+  IsTold st (says.Take pool) = (st ≡ stand.Inside) × DeclaresPool (made threads s) pool × IsList (made threads s) (held its [])
   IsTold st says.Else = Unit {0}
   IsTold st (says.Peek x) = (st ≡ stand.Inside) × (x < length d.names)
   IsTold st (says.Case u) = (st ≡ stand.Inside) × DeclaresToken (made threads s) u
@@ -143,12 +146,17 @@ module _ (threads : List ThreadOf) (s : Sheet) (d : Draft) (ws : List (List ℕ)
   IsTold st says.Break = st ≡ stand.Inside
   IsTold st says.Close = Unit {0}
 
-  -- What a line says besides its values: the name that it declares, and its items.
+  -- What a line says besides its values: the name that it declares, its items, and that it isn't in earlier versions.
   abbrev pub HasMore : Row → Type 0
   HasMore row.Buffer = IsNewName (buffer_names s.buffers) (second_of ws)
+  HasMore row.Pool = (4 ≤ s.head.version) × IsNewName s.pools (second_of ws)
   HasMore row.Thread = IsNewName (thread_names s.threads) (second_of ws) × IsItems (made threads s) (held its [])
   HasMore row.Put = IsList (made threads s) (held its [])
+  HasMore row.PutNamed = IsList (made threads s) (held its [])
+  HasMore row.LockSq = 4 ≤ s.head.version
+  HasMore row.LockCq = 4 ≤ s.head.version
   HasMore row.IfTake = IsList (made threads s) (held its [])
+  HasMore row.IfTakeNamed = IsList (made threads s) (held its [])
   HasMore row.Loop = IsLoopOf (made threads s) (length d.names) its
   HasMore row.LoopWhen = IsLoopOf (made threads s) (length d.names) its
   HasMore r = Unit {0}
@@ -157,10 +165,14 @@ module _ (threads : List ThreadOf) (s : Sheet) (d : Draft) (ws : List (List ℕ)
   set_told x (operand.Variable y) a b = (refl, (a, b))
   set_told x (operand.Number n) a b = (refl, a)
 
+  one_taken : (l : Locks) → is_some_lock l ≡ true → 4 ≤ s.head.version → AreTaken (made threads s) l
+  one_taken l some later = record { some = some; both = λ v. let early : s.head.version ≤ 3 = v in absurd (omega arith) }
+
   pub told : (r : Row) (vs : List Value) → Fine threads s d vs 0 1 None (parts_of r) → HasMore r → IsTold (stand_of r) (says_of r vs)
   told row.Version vs f m = (refl, omega arith, omega arith)
   told row.SecondVersion vs f m = (refl, omega arith, omega arith)
   told row.ThirdVersion vs f m = (refl, omega arith, omega arith)
+  told row.FourthVersion vs f m = (refl, omega arith, omega arith)
   told row.Ring vs f m = (refl, one_size _ 0 f.0 (omega arith))
   told row.RingCq vs f m = (refl, two_sizes (small vs 0) (small vs 1) 0 f.0 f.1.0 (omega arith))
   told row.RingLeft vs f m = (refl, one_size _ _ f.0 f.1.0)
@@ -171,6 +183,7 @@ module _ (threads : List ThreadOf) (s : Sheet) (d : Draft) (ws : List (List ℕ)
   told row.TokenWrite vs f m = (refl, (f.1.0, f.1.1.0.0, f.1.1.0.1), f.0.0, f.0.1)
   told row.TokenFsync vs f m = (refl, tt, f.0.0, f.0.1)
   told row.TokenNop vs f m = (refl, tt, f.0.0, f.0.1)
+  told row.Pool vs f m = (refl, m.0, f.0, m.1)
   told row.Thread vs f m = (refl, f.0, m.0, m.1)
   told row.Set vs f m = set_told _ _ f.0 f.1.0
   told row.Add vs f m = (refl, (f.0, f.1.0, f.1.1.0))
@@ -179,8 +192,11 @@ module _ (threads : List ThreadOf) (s : Sheet) (d : Draft) (ws : List (List ℕ)
   told row.Store vs f m = (refl, (f.0, f.1.0.1, f.1.1.0))
   told row.Fill vs f m = (refl, (f.0, f.1.0))
   told row.Print vs f m = (refl, f.0)
-  told row.Put vs f m = (refl, m)
-  told row.Lock vs f m = refl
+  told row.Put vs f m = (refl, tt, m)
+  told row.PutNamed vs f m = (refl, f.0, m)
+  told row.Lock vs f m = (refl, record { some = refl; both = λ v. refl })
+  told row.LockSq vs f m = (refl, one_taken (record { sq = true; cq = false }) refl m)
+  told row.LockCq vs f m = (refl, one_taken (record { sq = false; cq = true }) refl m)
   told row.GetSqe vs f m = (refl, tt)
   told row.PrepRead vs f m = (refl, record { file = f.0; buffer = f.1.0; length_within = f.1.1.0.1; place_within = f.1.1.1.0.1 })
   told row.PrepWrite vs f m = (refl, (record { file = f.0; buffer = f.1.0; length_within = f.1.1.0.1; place_within = f.1.1.1.0.1 }, record { some = f.1.1.1.1.0.0; within = f.1.1.1.1.0.1 }))
@@ -197,7 +213,8 @@ module _ (threads : List ThreadOf) (s : Sheet) (d : Draft) (ws : List (List ℕ)
   told row.If vs f m = (refl, f.0)
   told row.IfReady vs f m = (refl, tt)
   told row.IfSpace vs f m = (refl, f.0)
-  told row.IfTake vs f m = (refl, m)
+  told row.IfTake vs f m = (refl, tt, m)
+  told row.IfTakeNamed vs f m = (refl, f.0, m)
   told row.Else vs f m = tt
   told row.Loop vs f m = (refl, m)
   told row.LoopWhen vs f m = (refl, m)
@@ -235,6 +252,18 @@ module _ (threads : List ThreadOf) (s : Sheet) (d : Draft) (ws : List (List ℕ)
   take_items : matches (parts_of row.IfTake) ws ≡ true → SayItems (spots_of (parts_of row.IfTake) ws)
   take_items e = let h = items_after words.If words.Take words.Open ws e in subst SayItems (sym h.1) (items_fine threads s (NoFlag threads s) d h.0)
 
+  pool_more : (w : List ℕ) (ps : List Spot) → SayItems ps → SayItems (record { part = Pool; word = w } ∷ ps)
+  pool_more w ps more seen l u =
+      let a = or_parts (is_none (value_at sheet seen Pool w)) (any_lacks sheet seen ps) l in
+      let b = or_parts (is_unknown s Pool w) (any_unknown s ps) u in
+      more seen a.1 b.1
+
+  put_named_items : matches (parts_of row.PutNamed) ws ≡ true → SayItems (spots_of (parts_of row.PutNamed) ws)
+  put_named_items e = let h = items_second words.Put Pool ws refl refl e in subst SayItems (sym h.2) (pool_more h.0 (spots_of_items h.1) (items_fine threads s (NoFlag threads s) d h.1))
+
+  take_named_items : matches (parts_of row.IfTakeNamed) ws ≡ true → SayItems (spots_of (parts_of row.IfTakeNamed) ws)
+  take_named_items e = let h = items_third words.If words.Take words.Open Pool ws refl refl e in subst SayItems (sym h.2) (pool_more h.0 (spots_of_items h.1) (items_fine threads s (NoFlag threads s) d h.1))
+
   -- where one is
   abbrev SayBoth : List Spot → Type 0
   SayBoth ps = SayFine threads s (λ x. x < length d.names) d ps
@@ -258,11 +287,19 @@ module _ (threads : List ThreadOf) (s : Sheet) (d : Draft) (ws : List (List ℕ)
       let k = is_second words.Buffer NewBuffer (Number (Within 1 4096) ∷ Number (Within 1 16) ∷ []) ws refl refl e in
       let double = or_parts (is_double s NewBuffer (second_of ws)) (any_double s (spots_of (Number (Within 1 4096) ∷ Number (Within 1 16) ∷ []) k.rest)) (subst (λ ps. any_double s ps ≡ false) k.spots h.new) in
       (k.fits, double.0)
+  has_more row.Pool e v h =
+      let k = is_second words.Pool NewPool [] ws refl refl e in
+      let double = or_parts (is_double s NewPool (second_of ws)) (any_double s (spots_of [] k.rest)) (subst (λ ps. any_double s ps ≡ false) k.spots h.new) in
+      (leb-true 4 s.head.version v, (k.fits, double.0))
   has_more row.Thread e v h =
       let k = is_second words.Thread NewThread (Fixed words.Holds ∷ Items ∷ Fixed words.Open ∷ []) ws refl refl e in
       let double = or_parts (is_double s NewThread (second_of ws)) (any_double s (spots_of (Fixed words.Holds ∷ Items ∷ Fixed words.Open ∷ []) k.rest)) (subst (λ ps. any_double s ps ≡ false) k.spots h.new) in
       ((k.fits, (or_parts (is_among (thread_names s.threads) (second_of ws)) (bytes_eq s.draft.name (second_of ws)) double.0).0), header_held threads s _ (thread_items e start h.numbers h.known) h.once)
   has_more row.Put e v h = list_alone threads s _ (put_items e start h.numbers h.known) h.once
+  has_more row.PutNamed e v h = list_alone threads s _ (put_named_items e start h.numbers h.known) h.once
+  has_more row.LockSq e v h = leb-true 4 s.head.version v
+  has_more row.LockCq e v h = leb-true 4 s.head.version v
+  has_more row.IfTakeNamed e v h = list_alone threads s _ (take_named_items e start h.numbers h.known) h.once
   has_more row.IfTake e v h = list_alone threads s _ (take_items e start h.numbers h.known) h.once
   has_more row.Loop e v h = loop_held threads s (length d.names) _ (loop_items e start h.numbers h.known) h.once
   has_more row.LoopWhen e v h = loop_when_held threads s (length d.names) _ (loop_when_items e h.named start h.numbers h.known) h.once (leb-true 2 s.head.version v)

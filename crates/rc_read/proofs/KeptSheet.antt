@@ -29,9 +29,9 @@ pub record IsOpen (p : Program) (count : ℕ) (d : Draft) (threads : List Thread
   pub numbers : RiseTo count (line_numbers threads ++ numbers_from d.line d.lines)
   pub draft : IsDraft p d
 
--- The threads, by the part of the text.
+-- The threads, by the part of the text, and that nothing is declared above the first line.
 abbrev pub ThreadsAt : Program → ℕ → Draft → List ThreadOf → Region → Type 0
-ThreadsAt p count d threads Start = threads ≡ []
+ThreadsAt p count d threads Start = (threads ≡ []) × (p.pools ≡ [])
 ThreadsAt p count d threads Second = threads ≡ []
 ThreadsAt p count d threads Declarations = threads ≡ []
 ThreadsAt p count d threads InThread = IsOpen p count d threads
@@ -40,12 +40,12 @@ ThreadsAt p count d threads Between = AreThreads p threads × RiseTo count (line
 -- What is kept of the sheet above each line, where these will be the program's threads.
 pub record IsKept (ts : List ThreadOf) (s : Sheet) : Type 0 where
   pub few_lines : s.count ≤ 4096
-  pub declared : AreDeclared s.head s.files s.buffers s.tokens
+  pub declared : AreDeclared s.head s.files s.buffers s.tokens s.pools
   pub threads : ThreadsAt (made ts s) s.count s.draft s.threads s.region
 
 module _ (ts : List ThreadOf) where
   pub kept_start : IsKept ts empty
-  kept_start = record { few_lines = omega arith; declared = nothing_declared; threads = refl }
+  kept_start = record { few_lines = omega arith; declared = nothing_declared; threads = (refl, refl) }
 
   -- ---- lines without words, and the variables of a line
 
@@ -100,7 +100,7 @@ module _ (ts : List ThreadOf) where
       }
 
       closes : (b : Block) → innermost s.draft.blocks ≡ Some b → is_some_peek (Some b) && not (s.draft.arms.other && s.draft.arms.none) ≡ false → MayFollow (made ts s) s.draft [] (closing b)
-      closes (InLock o) i n = record { nested = i; room = tt; arm = tt; resolved = tt; list = tt }
+      closes (InLock o l) i n = record { nested = i; room = tt; arm = tt; resolved = tt; list = tt }
       closes (InIf o) i n = record { nested = inl i; room = tt; arm = tt; resolved = tt; list = tt }
       closes (InElse o) i n = record { nested = inr i; room = tt; arm = tt; resolved = tt; list = tt }
       closes (InPeek o) i n = record { nested = i; room = tt; arm = and_parts s.draft.arms.other s.draft.arms.none (not-false (s.draft.arms.other && s.draft.arms.none) n); resolved = tt; list = tt }

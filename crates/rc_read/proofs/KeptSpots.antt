@@ -77,11 +77,14 @@ no_spot : (f : Word) (ws : List (List ℕ)) → spot_of_part (Fixed f) ws ≡ []
 no_spot f [] = refl
 no_spot f (w ∷ ws) = refl
 
+items_first : (g : Word) (ws : List (List ℕ)) → spots_of (Items ∷ Fixed g ∷ []) ws ≡ spots_of_items ws
+items_first g ws = ap (λ ps. spots_of_items ws ++ (ps ++ [])) (no_spot g (behind_items ws)) ∙ append-nil (spots_of_items ws)
+
 -- Between fixed words, or after one, the places are those of the items.
 pub items_between : (f g : Word) (ws : List (List ℕ)) → matches (Fixed f ∷ Items ∷ Fixed g ∷ []) ws ≡ true → (rest : List (List ℕ)) × (spots_of (Fixed f ∷ Items ∷ Fixed g ∷ []) ws ≡ spots_of_items rest)
 items_between f g ws e =
     let h = has_word (Fixed f) (Items ∷ Fixed g ∷ []) ws refl e in
-    (h.rest, spots_step (Fixed f) (Items ∷ Fixed g ∷ []) ws h ∙ ap (λ ps. spots_of_items h.rest ++ (ps ++ [])) (no_spot g (behind_items h.rest)) ∙ append-nil (spots_of_items h.rest))
+    (h.rest, spots_step (Fixed f) (Items ∷ Fixed g ∷ []) ws h ∙ items_first g h.rest)
 
 pub items_alone : (f : Word) (ws : List (List ℕ)) → matches (Fixed f ∷ Items ∷ []) ws ≡ true → (rest : List (List ℕ)) × (spots_of (Fixed f ∷ Items ∷ []) ws ≡ spots_of_items rest)
 items_alone f ws e = let h = has_word (Fixed f) (Items ∷ []) ws refl e in (h.rest, spots_step (Fixed f) (Items ∷ []) ws h ∙ append-nil (spots_of_items h.rest))
@@ -91,6 +94,18 @@ items_after e f g ws m =
     let h = has_word (Fixed e) (Fixed f ∷ Items ∷ Fixed g ∷ []) ws refl m in
     let k = items_between f g h.rest h.matches in
     (k.0, spots_step (Fixed e) (Fixed f ∷ Items ∷ Fixed g ∷ []) ws h ∙ k.1)
+
+-- After a fixed word and another place, or after two fixed words and another place, are those of the items.
+pub items_second : (f : Word) (part : Part) (ws : List (List ℕ)) → are_items part ≡ false → is_fixed part ≡ false → matches (Fixed f ∷ part ∷ Items ∷ []) ws ≡ true → (w : List ℕ) × (rest : List (List ℕ)) × (spots_of (Fixed f ∷ part ∷ Items ∷ []) ws ≡ record { part = part; word = w } ∷ spots_of_items rest)
+items_second f part ws one plain e =
+    let k = is_second f part (Items ∷ []) ws one plain e in
+    (second_of ws, k.rest, k.spots ∙ ap (λ ps. record { part = part; word = second_of ws } ∷ ps) (append-nil (spots_of_items k.rest)))
+
+pub items_third : (e f g : Word) (part : Part) (ws : List (List ℕ)) → are_items part ≡ false → is_fixed part ≡ false → matches (Fixed e ∷ Fixed f ∷ part ∷ Items ∷ Fixed g ∷ []) ws ≡ true → (w : List ℕ) × (rest : List (List ℕ)) × (spots_of (Fixed e ∷ Fixed f ∷ part ∷ Items ∷ Fixed g ∷ []) ws ≡ record { part = part; word = w } ∷ spots_of_items rest)
+items_third e f g part ws one plain m =
+    let h = has_word (Fixed e) (Fixed f ∷ part ∷ Items ∷ Fixed g ∷ []) ws refl m in
+    let k = is_second f part (Items ∷ Fixed g ∷ []) h.rest one plain h.matches in
+    (second_of h.rest, k.rest, spots_step (Fixed e) (Fixed f ∷ part ∷ Items ∷ Fixed g ∷ []) ws h ∙ k.spots ∙ ap (λ ps. record { part = part; word = second_of h.rest } ∷ ps) (items_first g k.rest))
 
 -- Around a flag are the places of two lists of items.
 pub record HasFlag (spots : List Spot) : Type 0 where

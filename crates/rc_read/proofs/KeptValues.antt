@@ -10,7 +10,7 @@ use Rattle.rc_lang.specs.declared.program.Token.{Token as TokenOf}
 use Rattle.rc_lang.specs.Numbers.{is_number, number_of, value_of}
 use Rattle.rc_lang.specs.Program.{Buffer as BufferOf, DeclaresFile, DeclaresToken, IsOperand, Program, Thread as ThreadOf, shares_at}
 use Rattle.rc_read.specs.declared.table.Part.{Part}
-use Rattle.rc_read.specs.declared.table.Part.TheVariants.{Fixed, Variable, Operand, Number, File, Buffer, Token, NewFile, NewBuffer, NewToken, NewThread, Items}
+use Rattle.rc_read.specs.declared.table.Part.TheVariants.{Fixed, Variable, Operand, Number, File, Buffer, Token, Pool, NewFile, NewBuffer, NewToken, NewPool, NewThread, Items}
 use Rattle.rc_read.specs.declared.table.Range.TheVariants.{Within, Size, CompletionSize, Rounded, Entries, Shares}
 use Rattle.rc_read.specs.declared.values.Seen.{Seen}
 use Rattle.rc_read.specs.declared.values.Value.{Value}
@@ -32,6 +32,7 @@ made threads s = record {
   files = s.files;
   buffers = s.buffers;
   tokens = s.tokens;
+  pools = s.pools;
   threads = threads;
 }
 
@@ -138,10 +139,12 @@ module _ (threads : List ThreadOf) (s : Sheet) (d : Draft) where
   FineAt r b (Number Shares) v = FineShares s.buffers b (as_small v)
   FineAt r b File v = DeclaresFile (made threads s) (as_small v)
   FineAt r b Buffer v = as_named v < length s.buffers
+  FineAt r b Pool v = as_named v < length s.pools
   FineAt r b Token v = DeclaresToken (made threads s) (as_user_data v)
   FineAt r b NewFile v = (as_small v ≤ 1023) × (has_file s.files (as_small v) ≡ false) × (length s.files < 16)
   FineAt r b NewBuffer v = length s.buffers < 64
   FineAt r b NewToken v = (has_token s.tokens (as_user_data v) ≡ false) × (length s.tokens < 256)
+  FineAt r b NewPool v = length s.pools < 16
   FineAt r b NewThread v = length s.threads < 16
   FineAt r b part v = Unit {0}
 
@@ -201,10 +204,12 @@ module _ (threads : List ThreadOf) (s : Sheet) (d : Draft) where
   fine_here seen r b a (Number Shares) w h = fine_shares w b seen.shares a.shares h.value
   fine_here seen r b a File w h = known_file threads s (file_number_of w) h.value h.known
   fine_here seen r b a Buffer w h = buffer_below s.buffers w h.known
+  fine_here seen r b a Pool w h = number_below s.pools w (not-false (is_among s.pools w) h.known)
   fine_here seen r b a Token w h = known_token threads s (user_data_of w) h.value h.known
   fine_here seen r b a NewFile w h = ((within 0 1023 w h.value).1, new_file s (file_number_of w) h.value h.new, leb-false 16 (length s.files) h.room)
   fine_here seen r b a NewBuffer w h = leb-false 64 (length s.buffers) h.room
   fine_here seen r b a NewToken w h = (new_token s (user_data_of w) h.value h.new, leb-false 256 (length s.tokens) h.room)
+  fine_here seen r b a NewPool w h = leb-false 16 (length s.pools) h.room
   fine_here seen r b a NewThread w h = leb-false 16 (length s.threads) h.room
   fine_here seen r b a part w h = tt
 

@@ -7,7 +7,7 @@ use Rattle.std.specs.Global.{Vec}
 use Rattle.std.specs.Str.{bytes_eq}
 use Rattle.std.specs.Prelude.{is_none, unwrap_or}
 use Rattle.rc_lang.specs.declared.lines.Operand.TheVariants as operand
-use Rattle.rc_read.specs.View.{view_names}
+use Rattle.rc_lang.specs.Parts.{view_names}
 use Rattle.rc_read.specs.declared.table.Part.{Part}
 use Rattle.rc_read.specs.declared.table.Part.TheVariants as part
 use Rattle.rc_read.specs.declared.table.Range.TheVariants as range

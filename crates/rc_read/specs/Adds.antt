@@ -1,6 +1,7 @@
 -- What a line adds to the sheet.
 use Rattle.std.specs.Prelude.{ℕ, ◌+◌, List, [], ◌∷◌, ◌++◌, length, slice_get, slice_set, Option, Some, None, true, unwrap_or}
 use Rattle.std.specs.Option.{option_or}
+use Rattle.rc_lang.specs.Locks.{both_locks}
 use Rattle.rc_lang.specs.Nesting.{innermost, blocks_behind, way_out}
 use Rattle.rc_lang.specs.Program.{Items, More, Thread as ThreadOf}
 use Rattle.rc_lang.specs.declared.lines.Block.{Block}
@@ -13,7 +14,7 @@ use Rattle.rc_lang.specs.declared.program.Share.{Share}
 use Rattle.rc_read.specs.declared.parts.Region.TheVariants as region
 use Rattle.rc_read.specs.declared.says.Rings.{Rings}
 use Rattle.rc_read.specs.declared.says.Says.{Says}
-use Rattle.rc_read.specs.declared.says.Says.TheVariants.{Version, Ring, File, Buffer, Token, Thread, Op, Put, Lock, If, Take, Else, Peek, Case, Other, Nothing, Loop, Break, Close}
+use Rattle.rc_read.specs.declared.says.Says.TheVariants.{Version, Ring, File, Buffer, Token, Pool, Thread, Op, Put, Lock, If, Take, Else, Peek, Case, Other, Nothing, Loop, Break, Close}
 use Rattle.rc_read.specs.declared.table.Row.{Row}
 use Rattle.rc_read.specs.declared.values.Item.{Item}
 use Rattle.rc_read.specs.declared.values.Item.TheVariants as item
@@ -85,8 +86,8 @@ arms_behind arms _ = arms
 -- The lists of items after a line: those of a loop, of a put and of a take are kept.
 abbrev pub lists_behind : List Items → List Item → Stmt → List Items
 lists_behind lists items (stmt.Loop k) = lists ++ held_in_loop items ∷ []
-lists_behind lists items (stmt.Put k) = lists ++ held items [] ∷ []
-lists_behind lists items (stmt.If (test.Take k)) = lists ++ held items [] ∷ []
+lists_behind lists items (stmt.Put pool k) = lists ++ held items [] ∷ []
+lists_behind lists items (stmt.If (test.Take pool k)) = lists ++ held items [] ∷ []
 lists_behind lists items _ = lists
 
 -- A thread's flag is the variable of its first `when`.
@@ -108,7 +109,7 @@ with_stmt d number items s = record d {
 -- the place that a block belongs to
 abbrev pub block_place : Option Block → ℕ
 block_place None = 0
-block_place (Some (InLock o)) = o
+block_place (Some (InLock o l)) = o
 block_place (Some (InIf o)) = o
 block_place (Some (InElse o)) = o
 block_place (Some (InPeek o)) = o
@@ -117,7 +118,7 @@ block_place (Some (InLoop o k)) = o
 
 -- the closing brace of a block
 abbrev pub closing : Block → Stmt
-closing (InLock o) = stmt.EndLock o
+closing (InLock o l) = stmt.EndLock o l
 closing (InIf o) = stmt.EndIf o
 closing (InElse o) = stmt.EndIf o
 closing (InPeek o) = stmt.EndPeek o
@@ -125,23 +126,27 @@ closing (InArm o) = stmt.EndArm o
 closing (InLoop o k) = stmt.EndLoop o k
 
 abbrev pub closing_of : Option Block → Stmt
-closing_of None = stmt.Lock
+closing_of None = stmt.Lock both_locks
 closing_of (Some b) = closing b
+
+-- a break out of the innermost of these blocks' loops
+abbrev pub break_out : List Block → Stmt
+break_out blocks = stmt.Break (unwrap_or (way_out blocks).loop 0) (way_out blocks).releases (way_out blocks).leaves
 
 -- The statement of a line in a thread: arms and braces belong to the innermost block, a break to the innermost loop.
 abbrev pub stmt_in : Draft → Says → Stmt
 stmt_in d (Op op) = stmt.Do op
-stmt_in d Put = stmt.Put (length d.lists)
-stmt_in d Lock = stmt.Lock
+stmt_in d (Put pool) = stmt.Put pool (length d.lists)
+stmt_in d (Lock l) = stmt.Lock l
 stmt_in d (If test) = stmt.If test
-stmt_in d Take = stmt.If (test.Take (length d.lists))
+stmt_in d (Take pool) = stmt.If (test.Take pool (length d.lists))
 stmt_in d Else = stmt.Else (block_place (innermost d.blocks))
 stmt_in d (Peek x) = stmt.Peek x
 stmt_in d (Case u) = stmt.Case (block_place (innermost d.blocks)) u
 stmt_in d Other = stmt.Other (block_place (innermost d.blocks))
 stmt_in d Nothing = stmt.Nothing (block_place (innermost d.blocks))
 stmt_in d Loop = stmt.Loop (length d.lists)
-stmt_in d Break = stmt.Break (unwrap_or (way_out d.blocks).loop 0) (way_out d.blocks).releases (way_out d.blocks).leaves
+stmt_in d Break = break_out d.blocks
 stmt_in d _ = closing_of (innermost d.blocks)
 
 -- the thread that is complete
@@ -173,6 +178,7 @@ added s ws items (Ring rings) = record s { region = region.Declarations; head = 
 added s ws items (File f) = record s { files = s.files ++ f ∷ [] }
 added s ws items (Buffer bytes shares) = record s { buffers = s.buffers ++ record { name = second_of ws; bytes = bytes; shares = shares } ∷ [] }
 added s ws items (Token t) = record s { tokens = s.tokens ++ t ∷ [] }
+added s ws items Pool = record s { pools = s.pools ++ second_of ws ∷ [] }
 added s ws items Thread = record s { region = region.InThread; draft = headed (second_of ws) (s.count + 1) (held items []) }
 added s ws items Close = closed s (innermost s.draft.blocks)
 added s ws items what = said s items what

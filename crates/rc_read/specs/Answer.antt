@@ -32,6 +32,7 @@ program_in s = record {
   files = s.files;
   buffers = s.buffers;
   tokens = s.tokens;
+  pools = s.pools;
   threads = s.threads;
 }
 

@@ -1,5 +1,5 @@
 -- What a line says, form by form, given what is in its places.
-use Rattle.std.specs.Prelude.{ℕ, ◌*◌, ◌==◌, List, slice_get, Option, Some, None, ℤ, pos}
+use Rattle.std.specs.Prelude.{ℕ, ◌*◌, ◌==◌, true, false, List, slice_get, Option, Some, None, ℤ, pos}
 use Rattle.rc_lang.specs.declared.lines.Comparison.{Comparison}
 use Rattle.rc_lang.specs.declared.lines.Comparison.TheVariants.{Equal}
 use Rattle.rc_lang.specs.declared.lines.Op.TheVariants as op
@@ -7,6 +7,7 @@ use Rattle.rc_lang.specs.declared.lines.Operand.{Operand as OperandOf}
 use Rattle.rc_lang.specs.declared.lines.Operand.TheVariants.{Variable, Number}
 use Rattle.rc_lang.specs.declared.lines.Test.TheVariants as test
 use Rattle.rc_lang.specs.declared.program.TokenKind.TheVariants as kind
+use Rattle.rc_lang.specs.Locks.{both_locks}
 use Rattle.rc_read.specs.declared.says.Says.{Says}
 use Rattle.rc_read.specs.declared.says.Says.TheVariants as says
 use Rattle.rc_read.specs.declared.table.Row.{Row}
@@ -75,6 +76,7 @@ abbrev pub says_of : Row → List Value → Says
 says_of row.Version v = says.Version 1
 says_of row.SecondVersion v = says.Version 2
 says_of row.ThirdVersion v = says.Version 3
+says_of row.FourthVersion v = says.Version 4
 says_of row.Ring v = with_rings (small v 0) 0
 says_of row.RingCq v = with_both (small v 0) (small v 1) 0
 says_of row.RingLeft v = with_rings (small v 0) (small v 1)
@@ -85,6 +87,7 @@ says_of row.TokenRead v = says.Token (record { user_data = user_data v 0; kind =
 says_of row.TokenWrite v = says.Token (record { user_data = user_data v 0; kind = kind.Write (named v 1) (small v 2) })
 says_of row.TokenFsync v = says.Token (record { user_data = user_data v 0; kind = kind.Fsync })
 says_of row.TokenNop v = says.Token (record { user_data = user_data v 0; kind = kind.Nop })
+says_of row.Pool v = says.Pool
 says_of row.Thread v = says.Thread
 says_of row.Set v = sets (named v 0) (operand v 1)
 says_of row.Add v = says.Op (op.Add (named v 0) (operand v 1) (operand v 2))
@@ -93,8 +96,11 @@ says_of row.Load v = says.Op (op.Load (named v 0) (named v 1) (small v 2))
 says_of row.Store v = says.Op (op.Store (named v 0) (small v 1) (named v 2))
 says_of row.Fill v = says.Op (op.Fill (named v 0) (named v 1))
 says_of row.Print v = says.Op (op.Print (named v 0))
-says_of row.Put v = says.Put
-says_of row.Lock v = says.Lock
+says_of row.Put v = says.Put None
+says_of row.PutNamed v = says.Put (Some (named v 0))
+says_of row.Lock v = says.Lock both_locks
+says_of row.LockSq v = says.Lock (record { sq = true; cq = false })
+says_of row.LockCq v = says.Lock (record { sq = false; cq = true })
 says_of row.GetSqe v = says.Op op.GetSqe
 says_of row.PrepRead v = says.Op (op.PrepRead (small v 0) (named v 1) (small v 2) (small v 3))
 says_of row.PrepWrite v = says.Op (op.PrepWrite (small v 0) (named v 1) (small v 2) (small v 3) (small v 4))
@@ -111,7 +117,8 @@ says_of row.Nothing v = says.Nothing
 says_of row.If v = says.If (test.Compare (named v 0) (comparison v 1) (signed v 2))
 says_of row.IfReady v = says.If test.ReadyZero
 says_of row.IfSpace v = says.If (test.SpaceAtLeast (small v 0))
-says_of row.IfTake v = says.Take
+says_of row.IfTake v = says.Take None
+says_of row.IfTakeNamed v = says.Take (Some (named v 0))
 says_of row.Else v = says.Else
 says_of row.Loop v = says.Loop
 says_of row.LoopWhen v = says.Loop

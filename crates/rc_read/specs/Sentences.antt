@@ -2,7 +2,7 @@
 use Rattle.std.specs.Prelude.{ℕ, List, [], ◌∷◌, length, take, Option, Some, None, Bool, true, false, ◌&&◌, ◌||◌, not, ◌==◌, nat_lt, nat_le, is_none, if◌then◌else◌, codes}
 use Rattle.std.specs.List.{list_any}
 use Rattle.std.specs.Str.{bytes_eq}
-use Rattle.rc_lang.specs.Nesting.{innermost, in_lock, in_peek, directly_in_peek, way_out}
+use Rattle.rc_lang.specs.Nesting.{breaks_order, innermost, in_peek, directly_in_peek, locks_in, way_out}
 use Rattle.rc_lang.specs.declared.lines.Block.{Block}
 use Rattle.rc_lang.specs.declared.lines.Block.TheVariants.{InIf}
 use Rattle.rc_read.specs.declared.parts.Region.{Region}
@@ -31,7 +31,7 @@ is_strange b = nat_lt 126 b || (nat_lt b 32 && not (b == 9) && not (b == 13))
 abbrev pub any_strange : List ℕ → Bool
 any_strange bytes = list_any is_strange bytes
 
--- ---- P2: the first line with words isn't `ringcheck 1`, `ringcheck 2` or `ringcheck 3`, the second doesn't begin with `ring`
+-- ---- P2: the first line with words isn't `ringcheck` and a number from 1 to 4, the second doesn't begin with `ring`
 
 abbrev pub is_version : Option Row → Bool
 is_version None = false
@@ -69,7 +69,7 @@ bad_line region (Some row) = not (may_stand (stand_of row) region)
 
 -- ---- P4 is `any_lacks`: a word in a number's place is no number or is out of its range
 
--- ---- P5: a file, a buffer or a token that isn't declared above
+-- ---- P5: a file, a buffer, a token or a pool that isn't declared above
 
 abbrev pub lacks_file : Sheet → Option ℕ → Bool
 lacks_file s None = false
@@ -82,6 +82,7 @@ lacks_token s (Some u) = not (has_token s.tokens u)
 abbrev pub is_unknown : Sheet → Part → List ℕ → Bool
 is_unknown s part.File w = lacks_file s (file_number_of w)
 is_unknown s part.Buffer w = not (is_among (buffer_names s.buffers) w)
+is_unknown s part.Pool w = not (is_among s.pools w)
 is_unknown s part.Token w = lacks_token s (user_data_of w)
 is_unknown s part.HeldToken w = lacks_token s (user_data_of w)
 is_unknown s _ w = false
@@ -89,7 +90,7 @@ is_unknown s _ w = false
 abbrev pub any_unknown : Sheet → List Spot → Bool
 any_unknown s ps = list_any (λ (p : Spot). is_unknown s p.part p.word) ps
 
--- ---- P6: a file, a buffer, a token or a thread declared twice, an item named twice in a list, a token in both
+-- ---- P6: a file, a buffer, a token, a pool or a thread declared twice, an item named twice in a list, a token in both
 
 abbrev pub repeats_file : Sheet → Option ℕ → Bool
 repeats_file s None = false
@@ -104,6 +105,7 @@ abbrev pub is_double : Sheet → Part → List ℕ → Bool
 is_double s part.NewFile w = repeats_file s (file_number_of w)
 is_double s part.NewBuffer w = is_among (buffer_names s.buffers) w
 is_double s part.NewToken w = repeats_token s (user_data_of w)
+is_double s part.NewPool w = is_among s.pools w
 is_double s part.NewThread w = is_among (thread_names s.threads) w || bytes_eq s.draft.name w
 is_double s _ w = false
 
@@ -149,16 +151,16 @@ bad_brace s Else = not (is_inside s.region && is_first_branch (innermost s.draft
 bad_brace s Thread = is_inside s.region
 bad_brace s _ = false
 
--- ---- P8: line 4,097, more than 256 bytes, a 33rd open block, or one thread, buffer, token, file or variable too many
+-- ---- P8: line 4,097, more than 256 bytes, a 33rd open block, or one thread, buffer, token, file, pool or variable too many
 
 abbrev pub is_too_long : Sheet → List ℕ → Bool
 is_too_long s line = nat_le 4096 s.count || nat_lt 256 (length line)
 
 -- The thread is a block too.
 abbrev pub opens_block : Says → Bool
-opens_block Lock = true
+opens_block (Lock l) = true
 opens_block (If test) = true
-opens_block Take = true
+opens_block (Take pool) = true
 opens_block (Peek x) = true
 opens_block (Case u) = true
 opens_block Other = true
@@ -173,6 +175,7 @@ abbrev pub is_full : Sheet → Part → Bool
 is_full s part.NewFile = nat_le 16 (length s.files)
 is_full s part.NewBuffer = nat_le 64 (length s.buffers)
 is_full s part.NewToken = nat_le 256 (length s.tokens)
+is_full s part.NewPool = nat_le 16 (length s.pools)
 is_full s part.NewThread = nat_le 16 (length s.threads)
 is_full s _ = false
 
@@ -182,7 +185,7 @@ any_full s ps = list_any (λ (p : Spot). is_full s p.part) ps
 abbrev pub has_too_many_names : Sheet → List Spot → Bool
 has_too_many_names s spots = nat_lt 64 (length (names_behind s.draft.names spots))
 
--- ---- P9: a lock in a lock or in a peek, a peek or a loop in a peek, a break outside a loop, queued entries outside a lock, after `when` or in what is put or taken
+-- ---- P9: a lock that breaks the order of locks, a peek or a loop in a peek, a break outside a loop, queued entries outside a lock of the submission side, after `when` or in what is put or taken
 
 abbrev pub says_queue : Item → Bool
 says_queue (item.Queued k) = true
@@ -192,12 +195,12 @@ abbrev pub any_queue : List Item → Bool
 any_queue is = list_any says_queue is
 
 abbrev pub bad_nesting : List Block → List Item → Says → Bool
-bad_nesting blocks is Lock = in_lock blocks || in_peek blocks
+bad_nesting blocks is (Lock l) = breaks_order blocks l
 bad_nesting blocks is (Peek x) = in_peek blocks
-bad_nesting blocks is Loop = in_peek blocks || (any_queue is && (not (in_lock blocks) || any_queue (behind_when is)))
+bad_nesting blocks is Loop = in_peek blocks || (any_queue is && (not (locks_in blocks).sq || any_queue (behind_when is)))
 bad_nesting blocks is Thread = any_queue is
-bad_nesting blocks is Put = any_queue is
-bad_nesting blocks is Take = any_queue is
+bad_nesting blocks is (Put pool) = any_queue is
+bad_nesting blocks is (Take pool) = any_queue is
 bad_nesting blocks is Break = is_none (way_out blocks).loop
 bad_nesting blocks is _ = false
 
@@ -209,10 +212,10 @@ bad_case d Other = not (directly_in_peek d.blocks) || d.arms.other
 bad_case d Nothing = not (directly_in_peek d.blocks) || d.arms.none
 bad_case d Close = directly_in_peek d.blocks && not (d.arms.other && d.arms.none)
 bad_case d (Op op) = directly_in_peek d.blocks
-bad_case d Put = directly_in_peek d.blocks
-bad_case d Lock = directly_in_peek d.blocks
+bad_case d (Put pool) = directly_in_peek d.blocks
+bad_case d (Lock l) = directly_in_peek d.blocks
 bad_case d (If test) = directly_in_peek d.blocks
-bad_case d Take = directly_in_peek d.blocks
+bad_case d (Take pool) = directly_in_peek d.blocks
 bad_case d (Peek x) = directly_in_peek d.blocks
 bad_case d Loop = directly_in_peek d.blocks
 bad_case d Break = directly_in_peek d.blocks

@@ -7,7 +7,7 @@ use Rattle.rc_lang.specs.declared.lines.Comparison.TheVariants.{Equal, NotEqual,
 use Rattle.rc_lang.specs.Names.{is_name, is_reserved_by}
 use Rattle.rc_lang.specs.Numbers.{is_digit}
 use Rattle.rc_read.specs.declared.table.Part.{Part}
-use Rattle.rc_read.specs.declared.table.Part.TheVariants.{Fixed, Variable, Operand, Comparison as Compare, Buffer, NewBuffer, NewThread, Items, Flag, HeldShares, HeldToken, Credits, Queued}
+use Rattle.rc_read.specs.declared.table.Part.TheVariants.{Fixed, Variable, Operand, Comparison as Compare, Buffer, Pool, NewBuffer, NewPool, NewThread, Items, Flag, HeldShares, HeldToken, Credits, Queued}
 use Rattle.rc_read.specs.declared.table.Row.{Row}
 use Rattle.rc_read.specs.Table.{text_of, parts_of, rows, version_of}
 
@@ -33,7 +33,9 @@ fits (Fixed fixed) w = bytes_eq w (text_of fixed)
 fits Variable w = is_name w
 fits Flag w = is_name w
 fits Buffer w = is_name w
+fits Pool w = is_name w
 fits NewBuffer w = is_name w
+fits NewPool w = is_name w
 fits NewThread w = is_name w
 fits Operand w = begins_number w || is_name w
 fits Compare w = is_some (comparison_of w)
@@ -132,7 +134,9 @@ has_name Variable = true
 has_name Operand = true
 has_name Flag = true
 has_name Buffer = true
+has_name Pool = true
 has_name NewBuffer = true
+has_name NewPool = true
 has_name NewThread = true
 has_name _ = false
 

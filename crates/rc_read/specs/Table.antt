@@ -2,7 +2,7 @@
 -- form, and where in a text it may be.
 use Rattle.std.specs.Prelude.{ℕ, List, [], ◌∷◌, ◌++◌, codes}
 use Rattle.rc_read.specs.declared.table.Part.{Part}
-use Rattle.rc_read.specs.declared.table.Part.TheVariants.{Fixed, Variable, Operand, Comparison, Signed, Number, File, Buffer, Token, NewFile, NewBuffer, NewToken, NewThread, Items, Flag}
+use Rattle.rc_read.specs.declared.table.Part.TheVariants.{Fixed, Variable, Operand, Comparison, Signed, Number, File, Buffer, Token, Pool, NewFile, NewBuffer, NewToken, NewPool, NewThread, Items, Flag}
 use Rattle.rc_read.specs.declared.table.Range.TheVariants.{Within, Size, CompletionSize, Rounded, Entries, Shares}
 use Rattle.rc_read.specs.declared.table.Row.{Row}
 use Rattle.rc_read.specs.declared.table.Row.TheVariants as row
@@ -18,12 +18,14 @@ text_of words.Ringcheck = codes "ringcheck"
 text_of words.One = codes "1"
 text_of words.Two = codes "2"
 text_of words.Three = codes "3"
+text_of words.Four = codes "4"
 text_of words.Ring = codes "ring"
 text_of words.Cq = codes "cq"
 text_of words.Left = codes "left"
 text_of words.File = codes "file"
 text_of words.Buffer = codes "buffer"
 text_of words.Token = codes "token"
+text_of words.Pool = codes "pool"
 text_of words.Read = codes "read"
 text_of words.Write = codes "write"
 text_of words.Fsync = codes "fsync"
@@ -40,6 +42,7 @@ text_of words.Store = codes "store"
 text_of words.Fill = codes "fill"
 text_of words.Print = codes "print"
 text_of words.Lock = codes "lock"
+text_of words.Sq = codes "sq"
 text_of words.GetSqe = codes "get_sqe"
 text_of words.PrepRead = codes "prep_read"
 text_of words.PrepWrite = codes "prep_write"
@@ -73,6 +76,7 @@ abbrev pub parts_of : Row → List Part
 parts_of row.Version = Fixed words.Ringcheck ∷ Fixed words.One ∷ []
 parts_of row.SecondVersion = Fixed words.Ringcheck ∷ Fixed words.Two ∷ []
 parts_of row.ThirdVersion = Fixed words.Ringcheck ∷ Fixed words.Three ∷ []
+parts_of row.FourthVersion = Fixed words.Ringcheck ∷ Fixed words.Four ∷ []
 parts_of row.Ring = Fixed words.Ring ∷ Number Size ∷ []
 parts_of row.RingCq = Fixed words.Ring ∷ Number Size ∷ Fixed words.Cq ∷ Number CompletionSize ∷ []
 parts_of row.RingLeft = Fixed words.Ring ∷ Number Size ∷ Fixed words.Left ∷ Number Rounded ∷ []
@@ -83,6 +87,7 @@ parts_of row.TokenRead = Fixed words.Token ∷ NewToken ∷ Fixed words.Read ∷
 parts_of row.TokenWrite = Fixed words.Token ∷ NewToken ∷ Fixed words.Write ∷ Buffer ∷ Number Shares ∷ []
 parts_of row.TokenFsync = Fixed words.Token ∷ NewToken ∷ Fixed words.Fsync ∷ []
 parts_of row.TokenNop = Fixed words.Token ∷ NewToken ∷ Fixed words.Nop ∷ []
+parts_of row.Pool = Fixed words.Pool ∷ NewPool ∷ []
 parts_of row.Thread = Fixed words.Thread ∷ NewThread ∷ Fixed words.Holds ∷ Items ∷ Fixed words.Open ∷ []
 parts_of row.Set = Variable ∷ Fixed words.Is ∷ Operand ∷ []
 parts_of row.Add = Variable ∷ Fixed words.Is ∷ Operand ∷ Fixed words.Plus ∷ Operand ∷ []
@@ -92,7 +97,10 @@ parts_of row.Store = Fixed words.Store ∷ Buffer ∷ Number (Within 0 4095) ∷
 parts_of row.Fill = Fixed words.Fill ∷ Buffer ∷ Variable ∷ []
 parts_of row.Print = Fixed words.Print ∷ Variable ∷ []
 parts_of row.Put = Fixed words.Put ∷ Items ∷ []
+parts_of row.PutNamed = Fixed words.Put ∷ Pool ∷ Items ∷ []
 parts_of row.Lock = Fixed words.Lock ∷ Fixed words.Open ∷ []
+parts_of row.LockSq = Fixed words.Lock ∷ Fixed words.Sq ∷ Fixed words.Open ∷ []
+parts_of row.LockCq = Fixed words.Lock ∷ Fixed words.Cq ∷ Fixed words.Open ∷ []
 parts_of row.GetSqe = Fixed words.GetSqe ∷ []
 parts_of row.PrepRead = Fixed words.PrepRead ∷ File ∷ Buffer ∷ Number (Within 0 4096) ∷ Number (Within 0 1048576) ∷ []
 parts_of row.PrepWrite = Fixed words.PrepWrite ∷ File ∷ Buffer ∷ Number (Within 0 4096) ∷ Number (Within 0 1048576) ∷ Number Shares ∷ []
@@ -110,6 +118,7 @@ parts_of row.If = Fixed words.If ∷ Variable ∷ Comparison ∷ Signed ∷ Fixe
 parts_of row.IfReady = Fixed words.If ∷ Fixed words.SqReady ∷ Fixed words.Equal ∷ Fixed words.Zero ∷ Fixed words.Open ∷ []
 parts_of row.IfSpace = Fixed words.If ∷ Fixed words.SqSpaceLeft ∷ Fixed words.AtLeast ∷ Number Entries ∷ Fixed words.Open ∷ []
 parts_of row.IfTake = Fixed words.If ∷ Fixed words.Take ∷ Items ∷ Fixed words.Open ∷ []
+parts_of row.IfTakeNamed = Fixed words.If ∷ Fixed words.Take ∷ Pool ∷ Items ∷ Fixed words.Open ∷ []
 parts_of row.Else = Fixed words.Close ∷ Fixed words.Else ∷ Fixed words.Open ∷ []
 parts_of row.Loop = Fixed words.Loop ∷ Fixed words.Keeps ∷ Items ∷ Fixed words.Open ∷ []
 parts_of row.LoopWhen = Fixed words.Loop ∷ Fixed words.Keeps ∷ Items ∷ Fixed words.When ∷ Flag ∷ Items ∷ Fixed words.Open ∷ []
@@ -121,12 +130,18 @@ abbrev pub version_of : Row → ℕ
 version_of row.LoopWhen = 2
 version_of row.Put = 3
 version_of row.IfTake = 3
+version_of row.Pool = 4
+version_of row.PutNamed = 4
+version_of row.LockSq = 4
+version_of row.LockCq = 4
+version_of row.IfTakeNamed = 4
 version_of _ = 1
 
 abbrev pub stand_of : Row → Stand
 stand_of row.Version = stand.First
 stand_of row.SecondVersion = stand.First
 stand_of row.ThirdVersion = stand.First
+stand_of row.FourthVersion = stand.First
 stand_of row.Ring = stand.Second
 stand_of row.RingCq = stand.Second
 stand_of row.RingLeft = stand.Second
@@ -137,6 +152,7 @@ stand_of row.TokenRead = stand.Declaration
 stand_of row.TokenWrite = stand.Declaration
 stand_of row.TokenFsync = stand.Declaration
 stand_of row.TokenNop = stand.Declaration
+stand_of row.Pool = stand.Declaration
 stand_of row.Thread = stand.Header
 stand_of row.Else = stand.Brace
 stand_of row.Close = stand.Brace
@@ -146,9 +162,9 @@ stand_of _ = stand.Inside
 abbrev pub fixed_rows : List Row
 fixed_rows =
     row.Close ∷ row.Else ∷ row.Break ∷ row.GetSqe ∷ row.CqeSeen ∷ row.Case ∷ row.PrepNop ∷ row.Peek ∷ row.Print ∷ row.PrepRead ∷ row.PrepWrite
-    ∷ row.PrepFsync ∷ row.Put ∷ row.Lock ∷ row.Loop ∷ row.LoopWhen ∷ row.Other ∷ row.Nothing ∷ row.SetData64 ∷ row.Store ∷ row.Fill ∷ row.IfReady ∷ row.If ∷ row.IfSpace ∷ row.IfTake
+    ∷ row.PrepFsync ∷ row.Put ∷ row.PutNamed ∷ row.Pool ∷ row.Lock ∷ row.Loop ∷ row.LoopWhen ∷ row.LockSq ∷ row.LockCq ∷ row.Other ∷ row.Nothing ∷ row.SetData64 ∷ row.Store ∷ row.Fill ∷ row.IfReady ∷ row.If ∷ row.IfSpace ∷ row.IfTake ∷ row.IfTakeNamed
     ∷ row.Thread ∷ row.TokenRead ∷ row.TokenWrite ∷ row.TokenFsync ∷ row.TokenNop ∷ row.File ∷ row.Buffer ∷ row.Ring ∷ row.RingCq ∷ row.RingLeft
-    ∷ row.RingCqLeft ∷ row.Version ∷ row.SecondVersion ∷ row.ThirdVersion ∷ []
+    ∷ row.RingCqLeft ∷ row.Version ∷ row.SecondVersion ∷ row.ThirdVersion ∷ row.FourthVersion ∷ []
 
 abbrev pub assignments : List Row
 assignments = row.Submit ∷ row.Set ∷ row.Add ∷ row.Subtract ∷ row.Load ∷ row.SubmitAndWait ∷ []

@@ -63,6 +63,9 @@ file_number_of w = number_of 0 1023 w
 abbrev pub small_value : Option ℕ → Option Value
 small_value n = option_map (λ n. Small n) n
 
+abbrev pub item_value : (ℕ → ItemOf) → Option ℕ → Option Value
+item_value item_of n = option_map (λ n. Item (item_of n)) n
+
 abbrev pub signed_value : List ℕ → Option Value
 signed_value w = option_map (λ n. Operand (operand.Number n)) (signed_of w)
 
@@ -83,13 +86,14 @@ value_at s seen (part.Number range) w = small_value (number_at s seen range w)
 value_at s seen part.File w = small_value (file_number_of w)
 value_at s seen part.NewFile w = small_value (file_number_of w)
 value_at s seen part.Buffer w = Some (Named (buffer_number s.buffers w))
+value_at s seen part.Pool w = Some (Named (number_in s.pools w))
 value_at s seen part.Token w = option_map (λ u. UserData u) (user_data_of w)
 value_at s seen part.NewToken w = option_map (λ u. UserData u) (user_data_of w)
 value_at s seen part.Flag w = Some (Item (item.When (number_in s.draft.names w)))
-value_at s seen part.HeldShares w = option_map (λ k. Item (item.Shares seen.buffer k)) (number_of 1 16 w)
-value_at s seen part.HeldToken w = option_map (λ u. Item (item.Token u)) (user_data_of w)
-value_at s seen part.Credits w = option_map (λ n. Item (item.Credits n)) (number_of 0 2048 w)
-value_at s seen part.Queued w = option_map (λ k. Item (item.Queued k)) (number_of 0 s.head.entries w)
+value_at s seen part.HeldShares w = item_value (item.Shares seen.buffer) (number_of 1 16 w)
+value_at s seen part.HeldToken w = item_value item.Token (user_data_of w)
+value_at s seen part.Credits w = item_value item.Credits (number_of 0 2048 w)
+value_at s seen part.Queued w = item_value item.Queued (number_of 0 s.head.entries w)
 value_at s seen _ w = Some Nothing
 
 -- What a place says of those after it: the entries of a submission ring, and a buffer.

@@ -1,8 +1,8 @@
 -- What the parts read so far stand for.
-use Rattle.std.specs.Prelude.{ℕ, List, map}
+use Rattle.std.specs.Prelude.{List, map}
 use Rattle.std.specs.Global.{Vec}
 use Rattle.rc_lang.specs.Nesting.{Way}
-use Rattle.rc_lang.specs.Parts.{view_buffer, view_items, view_thread}
+use Rattle.rc_lang.specs.Parts.{view_buffer, view_items, view_names, view_thread}
 use Rattle.rc_lang.specs.Program.{Items}
 use Rattle.rc_lang.specs.declared.program.Items.{Items as ItemsPart}
 use Rattle.rc_read.specs.Sheets.{Sheet, Draft, Arms}
@@ -10,9 +10,6 @@ use Rattle.rc_read.specs.declared.blocks.Way.{Way as WayPart}
 use Rattle.rc_read.specs.declared.parts.Arms.{Arms as ArmsPart}
 use Rattle.rc_read.specs.declared.parts.Draft.{Draft as DraftPart}
 use Rattle.rc_read.specs.declared.parts.Parts.{Parts}
-
-abbrev pub view_names : List (Vec ℕ) → List (List ℕ)
-view_names names = map (λ n. n.items) names
 
 abbrev pub view_lists : Vec ItemsPart → List Items
 view_lists lists = map view_items lists.items
@@ -42,6 +39,7 @@ view_sheet p = record {
   files = p.files.items;
   buffers = map view_buffer p.buffers.items;
   tokens = p.tokens.items;
+  pools = view_names p.pools.items;
   threads = map view_thread p.threads.items;
   draft = view_draft p.draft;
 }

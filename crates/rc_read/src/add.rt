@@ -119,6 +119,15 @@ impl Parts {
         Ok(())
     }
 
+    // Declares a pool.
+    fn put_pool(&mut self, alloc: Global, words: &[&[u8]]) -> Result<(), AllocError>
+        ensures ok { AddsLine result self.old words.now [] Says.Pool self.new }
+        ensures count { self.new.count ≡ self.old.count }
+    {
+        self.pools.push(Vec::from_slice(alloc, second_of(words))?)?;
+        Ok(())
+    }
+
     fn put(
         &mut self,
         alloc: Global,
@@ -144,10 +153,11 @@ impl Parts {
             Says::File(file) => Ok(self.files.push(file)?),
             Says::Buffer(bytes, shares) => self.put_buffer(alloc, words, bytes, shares),
             Says::Token(token) => Ok(self.tokens.push(token)?),
+            Says::Pool => self.put_pool(alloc, words),
             Says::Thread => self.open(alloc, words, items),
             Says::Close => self.close(alloc),
-            Says::Op(_) | Says::Put | Says::Lock => self.say(alloc, items, says),
-            Says::If(_) | Says::Take => self.say(alloc, items, says),
+            Says::Op(_) | Says::Put(_) | Says::Lock(_) => self.say(alloc, items, says),
+            Says::If(_) | Says::Take(_) => self.say(alloc, items, says),
             Says::Else | Says::Peek(_) | Says::Case(_) => self.say(alloc, items, says),
             Says::Other | Says::Nothing => self.say(alloc, items, says),
             Says::Loop | Says::Break => self.say(alloc, items, says),

@@ -11,16 +11,21 @@ use crate::parts::{Arms, Draft, Parts, Region};
 use crate::says::Says;
 use crate::table::Stand;
 use crate::values::Item;
-use rc_lang::lines::Block;
+use rc_lang::lines::{Block, Locks};
 
-/// The way of a break out of the open blocks: the place of the innermost loop, and whether a lock and a peek are in
-/// it on the way.
+/// The way of a break out of the open blocks: the place of the innermost loop, which locks are taken in it on the way,
+/// and whether a peek is.
 #[derive(Clone, Copy)]
 pub struct Way {
     pub place: Option<usize>,
-    pub releases: bool,
+    pub releases: Locks,
     pub leaves: bool,
 }
+
+const NO_LOCK: Locks = Locks {
+    sq: false,
+    cq: false,
+};
 
 /// The innermost open block.
 pub fn innermost(blocks: &[Block]) -> Option<Block>
@@ -29,11 +34,21 @@ pub fn innermost(blocks: &[Block]) -> Option<Block>
     blocks.last().copied()
 }
 
-fn is_lock(block: Block) -> bool
-    ensures { result ≡ nesting.is_lock block }
+fn takes_sq(block: Block) -> bool
+    ensures { result ≡ nesting.takes_sq block }
 {
     match block {
-        Block::InLock(_) => true,
+        Block::InLock(_, locks) => locks.sq,
+        Block::InIf(_) | Block::InElse(_) | Block::InPeek(_) => false,
+        Block::InArm(_) | Block::InLoop(_, _) => false,
+    }
+}
+
+fn takes_cq(block: Block) -> bool
+    ensures { result ≡ nesting.takes_cq block }
+{
+    match block {
+        Block::InLock(_, locks) => locks.cq,
         Block::InIf(_) | Block::InElse(_) | Block::InPeek(_) => false,
         Block::InArm(_) | Block::InLoop(_, _) => false,
     }
@@ -44,16 +59,23 @@ fn is_peek(block: Block) -> bool
 {
     match block {
         Block::InPeek(_) => true,
-        Block::InLock(_) | Block::InIf(_) | Block::InElse(_) => false,
+        Block::InLock(_, _) | Block::InIf(_) | Block::InElse(_) => false,
         Block::InArm(_) | Block::InLoop(_, _) => false,
     }
 }
 
-/// Whether a lock is open.
-pub fn in_lock(blocks: &[Block]) -> bool
-    ensures { result ≡ nesting.in_lock blocks.now }
+/// Whether a lock of the submission side is open.
+pub fn in_sq(blocks: &[Block]) -> bool
+    ensures { result ≡ (nesting.locks_in blocks.now).sq }
 {
-    blocks.iter().any(|block| is_lock(*block))
+    blocks.iter().any(|block| takes_sq(*block))
+}
+
+/// Whether a lock of the completion side is open.
+pub fn in_cq(blocks: &[Block]) -> bool
+    ensures { result ≡ (nesting.locks_in blocks.now).cq }
+{
+    blocks.iter().any(|block| takes_cq(*block))
 }
 
 /// Whether a peek is open.
@@ -61,6 +83,14 @@ pub fn in_peek(blocks: &[Block]) -> bool
     ensures { result ≡ nesting.in_peek blocks.now }
 {
     blocks.iter().any(|block| is_peek(*block))
+}
+
+// Whether such a lock breaks the order in which locks are nested, or is in a peek where it may not.
+fn breaks_order(blocks: &[Block], locks: Locks) -> bool
+    ensures { result ≡ nesting.breaks_order blocks.now locks }
+{
+    let sq = in_sq(blocks);
+    (locks.sq && sq) || (locks.cq && (sq || in_cq(blocks) || in_peek(blocks)))
 }
 
 /// Whether the innermost open block is a peek.
@@ -77,8 +107,8 @@ fn way_past(way: Way, block: Block) -> Way
     ensures { view_way result ≡ nesting.way_past (view_way way) block }
 {
     match block {
-        Block::InLock(_) => Way {
-            releases: true,
+        Block::InLock(_, locks) => Way {
+            releases: way.releases.with(locks),
             ..way
         },
         Block::InPeek(_) => Way {
@@ -87,7 +117,7 @@ fn way_past(way: Way, block: Block) -> Way
         },
         Block::InLoop(place, _) => Way {
             place: Some(place),
-            releases: false,
+            releases: NO_LOCK,
             leaves: false,
         },
         Block::InIf(_) | Block::InElse(_) | Block::InArm(_) => way,
@@ -100,7 +130,7 @@ pub fn way_out(blocks: &[Block]) -> Way
 {
     let mut way = Way {
         place: None,
-        releases: false,
+        releases: NO_LOCK,
         leaves: false,
     };
     for block in blocks {
@@ -136,7 +166,7 @@ fn is_first_branch(block: Option<Block>) -> bool
 {
     match block {
         Some(Block::InIf(_)) => true,
-        Some(Block::InLock(_) | Block::InElse(_) | Block::InPeek(_)) => false,
+        Some(Block::InLock(_, _) | Block::InElse(_) | Block::InPeek(_)) => false,
         Some(Block::InArm(_) | Block::InLoop(_, _)) => false,
         None => false,
     }
@@ -153,9 +183,9 @@ pub fn bad_brace(parts: &Parts, says: Says) -> bool
         }
         Says::Thread => is_inside(parts.region),
         Says::Version(_) | Says::Ring(_) | Says::File(_) | Says::Buffer(_, _) => false,
-        Says::Token(_) | Says::Op(_) | Says::Put | Says::Lock | Says::If(_) => false,
-        Says::Take | Says::Peek(_) | Says::Case(_) | Says::Other | Says::Nothing => false,
-        Says::Loop | Says::Break => false,
+        Says::Token(_) | Says::Pool | Says::Op(_) | Says::Put(_) | Says::Lock(_) => false,
+        Says::If(_) | Says::Take(_) | Says::Peek(_) | Says::Case(_) | Says::Other => false,
+        Says::Nothing | Says::Loop | Says::Break => false,
     }
 }
 
@@ -170,10 +200,10 @@ fn opens_block(says: Says) -> bool
     ensures { result ≡ spec.opens_block says }
 {
     match says {
-        Says::Lock | Says::If(_) | Says::Take | Says::Peek(_) | Says::Loop => true,
+        Says::Lock(_) | Says::If(_) | Says::Take(_) | Says::Peek(_) | Says::Loop => true,
         Says::Case(_) | Says::Other | Says::Nothing => true,
         Says::Version(_) | Says::Ring(_) | Says::File(_) | Says::Buffer(_, _) => false,
-        Says::Token(_) | Says::Thread | Says::Op(_) | Says::Put => false,
+        Says::Token(_) | Says::Pool | Says::Thread | Says::Op(_) | Says::Put(_) => false,
         Says::Else | Says::Break | Says::Close => false,
     }
 }
@@ -191,16 +221,15 @@ pub fn bad_nesting(draft: &Draft, items: &[Item], says: Says) -> bool
 {
     let blocks = &draft.blocks;
     match says {
-        Says::Lock => in_lock(blocks) || in_peek(blocks),
+        Says::Lock(locks) => breaks_order(blocks, locks),
         Says::Peek(_) => in_peek(blocks),
         Says::Loop => {
-            in_peek(blocks)
-                || (any_queue(items) && (!in_lock(blocks) || any_queue(parted(items).1)))
+            in_peek(blocks) || (any_queue(items) && (!in_sq(blocks) || any_queue(parted(items).1)))
         }
-        Says::Thread | Says::Put | Says::Take => any_queue(items),
+        Says::Thread | Says::Put(_) | Says::Take(_) => any_queue(items),
         Says::Break => way_out(blocks).place.is_none(),
         Says::Version(_) | Says::Ring(_) | Says::File(_) | Says::Buffer(_, _) => false,
-        Says::Token(_) | Says::Op(_) | Says::If(_) | Says::Else => false,
+        Says::Token(_) | Says::Pool | Says::Op(_) | Says::If(_) | Says::Else => false,
         Says::Case(_) | Says::Other | Says::Nothing | Says::Close => false,
     }
 }
@@ -222,9 +251,9 @@ pub fn bad_case(draft: &Draft, says: Says) -> bool
         Says::Other => !directly || arms.other,
         Says::Nothing => !directly || arms.none,
         Says::Close => directly && !(arms.other && arms.none),
-        Says::Op(_) | Says::Lock | Says::If(_) | Says::Peek(_) => directly,
-        Says::Put | Says::Take | Says::Loop | Says::Break => directly,
+        Says::Op(_) | Says::Lock(_) | Says::If(_) | Says::Peek(_) => directly,
+        Says::Put(_) | Says::Take(_) | Says::Loop | Says::Break => directly,
         Says::Version(_) | Says::Ring(_) | Says::File(_) | Says::Buffer(_, _) => false,
-        Says::Token(_) | Says::Thread | Says::Else => false,
+        Says::Token(_) | Says::Pool | Says::Thread | Says::Else => false,
     }
 }

@@ -1,6 +1,6 @@
 //! What a line adds to the open thread.
 
-ghost use Rattle.std.specs.Prelude.{◌≡◌, ◌++◌, ◌∷◌, [], map, slice_set, unwrap_or, OnOk, IfOk};
+ghost use Rattle.std.specs.Prelude.{◌≡◌, ◌++◌, ◌∷◌, [], map, slice_set, OnOk, IfOk};
 ghost use Rattle.rc_lang.specs.Nesting as nesting;
 ghost use Rattle.rc_lang.specs.Parts.{view_items, view_thread};
 ghost use Rattle.rc_read.specs.Adds as spec;
@@ -13,7 +13,7 @@ use crate::parts::{Arms, Draft};
 use crate::says::Says;
 use crate::values::Item;
 use indexmap::IndexSet;
-use rc_lang::lines::{Block, Line, Stmt, Test};
+use rc_lang::lines::{Block, Line, Locks, Stmt, Test};
 use rc_lang::program::{Items, More, Share, Thread};
 use std::alloc::{AllocError, Global};
 
@@ -70,8 +70,8 @@ fn put_block(blocks: &mut Vec<Block>, place: usize, stmt: Stmt) -> Result<(), Al
     ensures { OnOk result (blocks.new.items ≡ nesting.blocks_behind blocks.old.items place stmt) }
 {
     match stmt {
-        Stmt::Do(_) | Stmt::Put(_) | Stmt::Break(_, _, _) => Ok(()),
-        Stmt::Lock => Ok(blocks.push(Block::InLock(place))?),
+        Stmt::Do(_) | Stmt::Put(_, _) | Stmt::Break(_, _, _) => Ok(()),
+        Stmt::Lock(locks) => Ok(blocks.push(Block::InLock(place, locks))?),
         Stmt::If(_) => Ok(blocks.push(Block::InIf(place))?),
         Stmt::Else(_) => {
             let _ = blocks.pop();
@@ -82,7 +82,7 @@ fn put_block(blocks: &mut Vec<Block>, place: usize, stmt: Stmt) -> Result<(), Al
             Ok(blocks.push(Block::InArm(peek))?)
         }
         Stmt::Loop(number) => Ok(blocks.push(Block::InLoop(place, number))?),
-        Stmt::EndLock(_) | Stmt::EndIf(_) | Stmt::EndArm(_) => {
+        Stmt::EndLock(_, _) | Stmt::EndIf(_) | Stmt::EndArm(_) => {
             let _ = blocks.pop();
             Ok(())
         }
@@ -100,7 +100,7 @@ fn closed_by(stmt: Stmt) -> Option<usize>
     match stmt {
         Stmt::Else(place) | Stmt::EndIf(place) => Some(place),
         Stmt::EndPeek(place) | Stmt::EndLoop(place, _) => Some(place),
-        Stmt::Do(_) | Stmt::Put(_) | Stmt::Lock | Stmt::EndLock(_) | Stmt::If(_) => None,
+        Stmt::Do(_) | Stmt::Put(_, _) | Stmt::Lock(_) | Stmt::EndLock(_, _) | Stmt::If(_) => None,
         Stmt::Peek(_) | Stmt::Case(_, _) | Stmt::Other(_) | Stmt::Nothing(_) => None,
         Stmt::EndArm(_) | Stmt::Loop(_) | Stmt::Break(_, _, _) => None,
     }
@@ -149,13 +149,14 @@ fn put_list(
     items: &[Item],
     stmt: Stmt,
 ) -> Result<(), AllocError>
-    ensures { OnOk result (view_lists lists.new ≡ spec.lists_behind (view_lists lists.old) items.now stmt) }
+    ensures { OnOk result
+        (view_lists lists.new ≡ spec.lists_behind (view_lists lists.old) items.now stmt) }
 {
     match stmt {
         Stmt::Loop(_) => push_items(alloc, lists, items),
-        Stmt::Put(_) | Stmt::If(Test::Take(_)) => push_pool(alloc, lists, items),
+        Stmt::Put(_, _) | Stmt::If(Test::Take(_, _)) => push_pool(alloc, lists, items),
         Stmt::If(Test::Compare(_, _, _) | Test::ReadyZero | Test::SpaceAtLeast(_)) => Ok(()),
-        Stmt::Do(_) | Stmt::Lock | Stmt::EndLock(_) => Ok(()),
+        Stmt::Do(_) | Stmt::Lock(_) | Stmt::EndLock(_, _) => Ok(()),
         Stmt::Else(_) | Stmt::EndIf(_) | Stmt::Peek(_) | Stmt::Case(_, _) => Ok(()),
         Stmt::Other(_) | Stmt::Nothing(_) | Stmt::EndArm(_) | Stmt::EndPeek(_) => Ok(()),
         Stmt::EndLoop(_, _) | Stmt::Break(_, _, _) => Ok(()),
@@ -168,7 +169,7 @@ fn flag_behind(flag: Option<usize>, items: &[Item], stmt: Stmt) -> Option<usize>
 {
     match stmt {
         Stmt::Loop(_) => flag.or(flag_in(items)),
-        Stmt::Do(_) | Stmt::Put(_) | Stmt::Lock | Stmt::EndLock(_) | Stmt::If(_) => flag,
+        Stmt::Do(_) | Stmt::Put(_, _) | Stmt::Lock(_) | Stmt::EndLock(_, _) | Stmt::If(_) => flag,
         Stmt::Else(_) | Stmt::EndIf(_) | Stmt::Peek(_) | Stmt::Case(_, _) => flag,
         Stmt::Other(_) | Stmt::Nothing(_) | Stmt::EndArm(_) | Stmt::EndPeek(_) => flag,
         Stmt::EndLoop(_, _) | Stmt::Break(_, _, _) => flag,
@@ -196,7 +197,8 @@ impl Arms {
                 self.none = true;
                 Ok(())
             }
-            Stmt::Do(_) | Stmt::Put(_) | Stmt::Lock | Stmt::EndLock(_) | Stmt::If(_) => Ok(()),
+            Stmt::Do(_) | Stmt::Put(_, _) | Stmt::Lock(_) | Stmt::EndLock(_, _) => Ok(()),
+            Stmt::If(_) => Ok(()),
             Stmt::Else(_) | Stmt::EndIf(_) | Stmt::EndArm(_) | Stmt::EndPeek(_) => Ok(()),
             Stmt::Loop(_) | Stmt::EndLoop(_, _) | Stmt::Break(_, _, _) => Ok(()),
         }
@@ -208,7 +210,7 @@ fn block_place(block: Option<Block>) -> usize
     ensures { result ≡ spec.block_place block }
 {
     match block {
-        Some(Block::InLock(place) | Block::InIf(place) | Block::InElse(place)) => place,
+        Some(Block::InLock(place, _) | Block::InIf(place) | Block::InElse(place)) => place,
         Some(Block::InPeek(place) | Block::InArm(place)) => place,
         Some(Block::InLoop(place, _)) => place,
         None => 0,
@@ -220,7 +222,7 @@ fn closing(block: Block) -> Stmt
     ensures { result ≡ spec.closing block }
 {
     match block {
-        Block::InLock(place) => Stmt::EndLock(place),
+        Block::InLock(place, locks) => Stmt::EndLock(place, locks),
         Block::InIf(place) | Block::InElse(place) => Stmt::EndIf(place),
         Block::InPeek(place) => Stmt::EndPeek(place),
         Block::InArm(place) => Stmt::EndArm(place),
@@ -233,13 +235,13 @@ fn closing_of(block: Option<Block>) -> Stmt
 {
     match block {
         Some(block) => closing(block),
-        None => Stmt::Lock,
+        None => Stmt::Lock(Locks { sq: true, cq: true }),
     }
 }
 
 // A break out of the innermost of these blocks' loops.
 fn break_out(blocks: &[Block]) -> Stmt
-    ensures { let way = nesting.way_out blocks.now in result ≡ Stmt.Break (unwrap_or way.loop 0) way.releases way.leaves }
+    ensures { result ≡ spec.break_out blocks.now }
 {
     let way = way_out(blocks);
     Stmt::Break(way.place.unwrap_or(0), way.releases, way.leaves)
@@ -263,10 +265,10 @@ impl Draft {
         let block = innermost(&self.blocks);
         match says {
             Says::Op(op) => Stmt::Do(op),
-            Says::Put => Stmt::Put(self.lists.len()),
-            Says::Lock => Stmt::Lock,
+            Says::Put(pool) => Stmt::Put(pool, self.lists.len()),
+            Says::Lock(locks) => Stmt::Lock(locks),
             Says::If(test) => Stmt::If(test),
-            Says::Take => Stmt::If(Test::Take(self.lists.len())),
+            Says::Take(pool) => Stmt::If(Test::Take(pool, self.lists.len())),
             Says::Else => Stmt::Else(block_place(block)),
             Says::Peek(variable) => Stmt::Peek(variable),
             Says::Case(user_data) => Stmt::Case(block_place(block), user_data),
@@ -275,7 +277,7 @@ impl Draft {
             Says::Loop => Stmt::Loop(self.lists.len()),
             Says::Break => break_out(&self.blocks),
             Says::Version(_) | Says::Ring(_) | Says::File(_) => closing_of(block),
-            Says::Buffer(_, _) | Says::Token(_) | Says::Thread => closing_of(block),
+            Says::Buffer(_, _) | Says::Token(_) | Says::Pool | Says::Thread => closing_of(block),
             Says::Close => closing_of(block),
         }
     }
@@ -288,7 +290,8 @@ impl Draft {
         items: &[Item],
         stmt: Stmt,
     ) -> Result<(), AllocError>
-        ensures { OnOk result (view_draft self.new ≡ spec.with_stmt (view_draft self.old) number items.now stmt) }
+        ensures { OnOk result
+            (view_draft self.new ≡ spec.with_stmt (view_draft self.old) number items.now stmt) }
     {
         let place = self.lines.len();
         self.flag = flag_behind(self.flag, items, stmt);

@@ -12,23 +12,25 @@ use std::fmt;
 pub enum ReadCause {
     /// Among the line's first 256 bytes is one above 126, or below 32 other than tab and carriage return.
     NotAscii = 1,
-    /// The text doesn't begin with `ringcheck 1`, `ringcheck 2` or `ringcheck 3` and a line that begins with `ring`.
+    /// The text doesn't begin with `ringcheck` and a number from 1 to 4, and a line that begins with `ring`.
     BadHead,
     /// The words are no form, or one that may not be in this part of the text.
     BadLine,
     /// A word in a number's place is no number or is out of its range.
     BadNumber,
-    /// A file, a buffer or a token that isn't declared above.
+    /// A file, a buffer, a token or a pool that isn't declared above.
     UnknownName,
-    /// A file, a buffer, a token or a thread declared twice, an item named twice in a list, or a token in both of a line.
+    /// A file, a buffer, a token, a pool or a thread declared twice, an item named twice in a list, or a token in both
+    /// of a line.
     DoubleName,
     /// A closing brace without an open block, an else that closes no first branch, a thread in a thread, or a block
     /// that is open at the end of the text.
     Braces,
-    /// One line, byte, open block, thread, buffer, token, file or variable too many.
+    /// One line, byte, open block, thread, buffer, token, file, pool or variable too many.
     TooLarge,
-    /// A lock in a lock or in a peek, a peek or a loop in a peek, a break outside a loop, or queued entries said
-    /// outside a lock, after `when` or in what is put or taken.
+    /// A lock in a lock or in a peek, but for `lock sq {` where no lock of that side is open; a peek or a loop in a
+    /// peek, a break outside a loop, or queued entries said outside a lock of the submission side, after `when` or in
+    /// what is put or taken.
     BadNesting,
     /// An arm that isn't directly in a peek, another statement that does, an arm twice, or an arm that is
     /// missing.

@@ -12,10 +12,12 @@ ghost use Rattle.rc_read.specs.Words.{cut};
 /// line has one.
 pub fn each_text_has_one_answer()
     ensures some { (bytes : List ℕ) → HasAnswer bytes (answer_of bytes) }
-    ensures one { (bytes : List ℕ) (a b : Result Program (ℕ × ℕ)) → HasAnswer bytes a → HasAnswer bytes b → a ≡ b }
+    ensures one { (bytes : List ℕ) (a b : Result Program (ℕ × ℕ))
+        → HasAnswer bytes a → HasAnswer bytes b → a ≡ b }
 {}
 
 /// The fault of a line that a line feed has ended is the fault of every text that goes on from there.
 pub fn a_fault_is_that_of_every_continuation()
-    ensures { (bytes more : List ℕ) (fault : ℕ × ℕ) → judged empty (cut bytes).0 ≡ Err fault → answer_of (bytes ++ more) ≡ Err fault }
+    ensures { (bytes more : List ℕ) (fault : ℕ × ℕ) → judged empty (cut bytes).0 ≡ Err fault
+        → answer_of (bytes ++ more) ≡ Err fault }
 {}

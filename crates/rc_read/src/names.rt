@@ -2,9 +2,8 @@
 
 ghost use Rattle.std.specs.Prelude.{◌≡◌, map, IfOk, OnOk};
 ghost use Rattle.std.specs.Str.{bytes_eq};
-ghost use Rattle.rc_lang.specs.Parts.{view_buffer, view_thread};
+ghost use Rattle.rc_lang.specs.Parts.{view_buffer, view_names, view_thread};
 ghost use Rattle.rc_read.specs.Sheets as spec;
-ghost use Rattle.rc_read.specs.View.{view_names};
 
 use crate::words::is;
 use indexmap::IndexSet;
@@ -41,6 +40,19 @@ pub fn has_buffer(buffers: &[Buffer], word: &[u8]) -> bool
     ensures { result ≡ spec.is_among (spec.buffer_names (map view_buffer buffers.now)) word.now }
 {
     find_buffer(buffers, word).1.is_some()
+}
+
+/// The number of a pool, which where it isn't declared is that of the next, and whether it is declared.
+pub fn find_pool(pools: &[Vec<u8>], word: &[u8]) -> (usize, bool)
+    ensures number { result.0 ≡ spec.number_in (view_names pools.now) word.now }
+    ensures declared { result.1 ≡ spec.is_among (view_names pools.now) word.now }
+{
+    for (i, pool) in pools.iter().enumerate() {
+        if is(pool, word) {
+            return (i, true);
+        }
+    }
+    (pools.len(), false)
 }
 
 /// Whether a complete thread has this name.
@@ -84,7 +96,8 @@ pub fn add_name(
     word: &[u8],
 ) -> Result<usize, AllocError>
     ensures number { IfOk result (λ n. n ≡ spec.number_in (view_names names.old.keys) word.now) }
-    ensures names { OnOk result (view_names names.new.keys ≡ spec.with_name (view_names names.old.keys) word.now) }
+    ensures names { OnOk result
+        (view_names names.new.keys ≡ spec.with_name (view_names names.old.keys) word.now) }
 {
     if let Some(number) = names.get_index_of(word) {
         return Ok(number);

@@ -10,7 +10,7 @@ ghost use Rattle.rc_read.specs.Texts.{view_spots};
 ghost use Rattle.rc_read.specs.Values as spec;
 ghost use Rattle.rc_read.specs.View.{view_sheet};
 
-use crate::names::{add_name, find_buffer, has_buffer, has_file, has_thread, has_token};
+use crate::names::{add_name, find_buffer, find_pool, has_buffer, has_file, has_thread, has_token};
 use crate::parts::Parts;
 use crate::spots::{Spot, begins_number, comparison_of};
 use crate::table::{Part, Range};
@@ -125,6 +125,16 @@ fn look_at_buffer(parts: &Parts, noted: &mut Noted, word: &[u8]) -> Option<Value
     Some(Value::Named(buffer))
 }
 
+fn look_at_pool(parts: &Parts, noted: &mut Noted, word: &[u8]) -> Option<Value>
+    ensures value { IsValue (view_sheet parts.now) Part.Pool word.now noted.old result }
+    ensures seen { noted.new.seen ≡ noted.old.seen }
+    ensures wrong { IsWrong (view_sheet parts.now) Part.Pool word.now noted.old noted.new }
+{
+    let (pool, declared) = find_pool(&parts.pools, word);
+    noted.lack(!declared);
+    Some(Value::Named(pool))
+}
+
 // The user data of a token.
 fn look_at_token(parts: &Parts, noted: &mut Noted, word: &[u8]) -> Option<u64>
     ensures value { result ≡ spec.user_data_of word.now }
@@ -185,6 +195,15 @@ fn look_at_new_token(parts: &Parts, noted: &mut Noted, word: &[u8]) -> Option<Va
     user_data_value(user_data)
 }
 
+fn look_at_new_pool(parts: &Parts, noted: &mut Noted, word: &[u8]) -> Option<Value>
+    ensures value { IsValue (view_sheet parts.now) Part.NewPool word.now noted.old result }
+    ensures seen { noted.new.seen ≡ noted.old.seen }
+    ensures wrong { IsWrong (view_sheet parts.now) Part.NewPool word.now noted.old noted.new }
+{
+    noted.repeat(find_pool(&parts.pools, word).1, parts.pools.len() >= 16);
+    Some(Value::Nothing)
+}
+
 fn look_at_new_thread(parts: &Parts, noted: &mut Noted, word: &[u8]) -> Option<Value>
     ensures value { IsValue (view_sheet parts.now) Part.NewThread word.now noted.old result }
     ensures seen { noted.new.seen ≡ noted.old.seen }
@@ -238,11 +257,13 @@ fn look_at(
         Part::Number(Range::Size) => look_at_size(noted, word),
         Part::Number(range) => small_value(number_at(parts, noted.seen, range, word)),
         Part::Buffer => look_at_buffer(parts, noted, word),
+        Part::Pool => look_at_pool(parts, noted, word),
         Part::Token => user_data_value(look_at_token(parts, noted, word)),
         Part::File => look_at_file(parts, noted, word),
         Part::NewFile => look_at_new_file(parts, noted, word),
         Part::NewBuffer => look_at_new_buffer(parts, noted, word),
         Part::NewToken => look_at_new_token(parts, noted, word),
+        Part::NewPool => look_at_new_pool(parts, noted, word),
         Part::NewThread => look_at_new_thread(parts, noted, word),
         Part::Flag => {
             let variable = variable_of(alloc, parts, word)?;

@@ -56,6 +56,7 @@ pub struct Parts {
     pub files: Vec<File>,
     pub buffers: Vec<Buffer>,
     pub tokens: Vec<Token>,
+    pub pools: Vec<Vec<u8>>,
     pub threads: Vec<Thread>,
     pub draft: Draft,
     ghost few_lines: { count ≤ 4096 },
@@ -140,6 +141,7 @@ impl Parts {
             files: Vec::new(alloc),
             buffers: Vec::new(alloc),
             tokens: Vec::new(alloc),
+            pools: Vec::new(alloc),
             threads: Vec::new(alloc),
             draft: Draft::new(alloc),
         }

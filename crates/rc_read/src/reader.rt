@@ -35,7 +35,11 @@ impl Model for Reader {
     ghost use Rattle.rc_read.specs.Stream.{IsReachedOrFaulty};
     ghost use Rattle.rc_read.specs.View.{view_sheet};
 
-    ghost view = { λ r. record { fault = r.fault; sheet = view_sheet r.parts; pending = r.pending.items } };
+    ghost view = { λ r. record {
+      fault = r.fault;
+      sheet = view_sheet r.parts;
+      pending = r.pending.items;
+    } };
 
     ghost invariant = { λ r. IsReachedOrFaulty r.fault (view_sheet r.parts) };
 }
@@ -101,6 +105,7 @@ fn program_in(parts: Parts) -> Program
         files: parts.files,
         buffers: parts.buffers,
         tokens: parts.tokens,
+        pools: parts.pools,
     };
     Program::new(parts.head, declarations, parts.threads)
 }
@@ -166,8 +171,10 @@ impl Reader {
     /// Takes the next piece of the text. The answer is an error where a line that a line feed has ended so far can't
     /// be read, or a growth was refused; after an error each call answers it again.
     pub fn feed(&mut self, piece: &[u8]) -> Result<(), ReadFault>
-        ensures reads { (text : List ℕ) → HasRead self.old text → HasRead self.new (text ++ piece.now) }
-        ensures so_far { (bytes : List ℕ) → HasRead self.old bytes → IsAnswerSoFar (bytes ++ piece.now) result }
+        ensures reads { (text : List ℕ) → HasRead self.old text
+            → HasRead self.new (text ++ piece.now) }
+        ensures so_far { (bytes : List ℕ) → HasRead self.old bytes
+            → IsAnswerSoFar (bytes ++ piece.now) result }
         ensures kept { (fault : ReadFault) → (result ≡ Err fault) ↔ (self.new.fault ≡ Some fault) }
         ensures stays { IsSome self.old.fault → self.new ≡ self.old }
     {

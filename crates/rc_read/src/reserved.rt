@@ -58,7 +58,7 @@ fn is_reserved_at(first: u8, w: &[u8]) -> bool
     }
 }
 
-// Whether a word says what is put into the pool or taken from it.
+// Whether a word says that something is put into a pool or taken from it.
 fn is_of_pool(w: &[u8]) -> bool
     ensures { result ≡ spec.is_of_pool w.now }
 {
@@ -69,7 +69,9 @@ fn is_of_pool(w: &[u8]) -> bool
 pub fn is_reserved_by(version: u32, w: &[u8]) -> bool
     ensures { result ≡ spec.is_reserved_by version w.now }
 {
-    (version >= 2 && is(w, b"when")) || (version >= 3 && is_of_pool(w))
+    (version >= 2 && is(w, b"when"))
+        || (version >= 3 && is_of_pool(w))
+        || (version >= 4 && is(w, b"pool"))
 }
 
 /// Whether a word is reserved.

@@ -5,10 +5,11 @@ ghost use Rattle.rc_read.specs.Says as spec;
 
 use crate::table::Row;
 use crate::values::{Value, rounded_up};
-use rc_lang::lines::{Comparison, Op, Operand, Test};
+use rc_lang::lines::{Comparison, Locks, Op, Operand, Test};
 use rc_lang::program::{File, Token, TokenKind};
 
-/// The numbers of entries of the rings, and how many entries may be left queued where the lock is released.
+/// The numbers of entries of the rings, and how many entries may be left queued where the lock of the submission side
+/// is released.
 #[derive(Clone, Copy)]
 pub struct Rings {
     pub entries: u32,
@@ -25,12 +26,15 @@ pub enum Says {
     /// A buffer's bytes and shares.
     Buffer(u32, u32),
     Token(Token),
+    Pool,
     Thread,
     Op(Op),
-    Put,
-    Lock,
+    /// The number of the declared pool, none for the pool without a name.
+    Put(Option<usize>),
+    Lock(Locks),
     If(Test),
-    Take,
+    /// The number of the declared pool, none for the pool without a name.
+    Take(Option<usize>),
     Else,
     Peek(usize),
     Case(u64),
@@ -127,6 +131,13 @@ fn sets(variable: usize, to: Operand) -> Says
     }
 }
 
+// A lock of the submission side or of the completion side, or of both.
+fn locks(sq: bool, cq: bool) -> Says
+    ensures { result ≡ Says.Lock (record { sq = sq; cq = cq }) }
+{
+    Says::Lock(Locks { sq, cq })
+}
+
 /// What a line of this form says, given what its places say.
 pub fn says_of(row: Row, v: &[Value]) -> Says
     ensures { result ≡ spec.says_of row v.now }
@@ -135,6 +146,7 @@ pub fn says_of(row: Row, v: &[Value]) -> Says
         Row::Version => Says::Version(1),
         Row::SecondVersion => Says::Version(2),
         Row::ThirdVersion => Says::Version(3),
+        Row::FourthVersion => Says::Version(4),
         Row::Ring => with_rings(small(v, 0), 0),
         Row::RingCq => with_both(small(v, 0), small(v, 1), 0),
         Row::RingLeft => with_rings(small(v, 0), small(v, 1)),
@@ -160,6 +172,7 @@ pub fn says_of(row: Row, v: &[Value]) -> Says
             user_data: user_data(v, 0),
             kind: TokenKind::Nop,
         }),
+        Row::Pool => Says::Pool,
         Row::Thread => Says::Thread,
         Row::Set => sets(named(v, 0), operand(v, 1)),
         Row::Add => Says::Op(Op::Add(named(v, 0), operand(v, 1), operand(v, 2))),
@@ -168,8 +181,11 @@ pub fn says_of(row: Row, v: &[Value]) -> Says
         Row::Store => Says::Op(Op::Store(named(v, 0), small(v, 1), named(v, 2))),
         Row::Fill => Says::Op(Op::Fill(named(v, 0), named(v, 1))),
         Row::Print => Says::Op(Op::Print(named(v, 0))),
-        Row::Put => Says::Put,
-        Row::Lock => Says::Lock,
+        Row::Put => Says::Put(None),
+        Row::PutNamed => Says::Put(Some(named(v, 0))),
+        Row::Lock => locks(true, true),
+        Row::LockSq => locks(true, false),
+        Row::LockCq => locks(false, true),
         Row::GetSqe => Says::Op(Op::GetSqe),
         Row::PrepRead => Says::Op(Op::PrepRead(small(v, 0), named(v, 1), small(v, 2), small(v, 3))),
         Row::PrepWrite => Says::Op(Op::PrepWrite(
@@ -192,7 +208,8 @@ pub fn says_of(row: Row, v: &[Value]) -> Says
         Row::If => Says::If(Test::Compare(named(v, 0), comparison(v, 1), signed(v, 2))),
         Row::IfReady => Says::If(Test::ReadyZero),
         Row::IfSpace => Says::If(Test::SpaceAtLeast(small(v, 0))),
-        Row::IfTake => Says::Take,
+        Row::IfTake => Says::Take(None),
+        Row::IfTakeNamed => Says::Take(Some(named(v, 0))),
         Row::Else => Says::Else,
         Row::Loop | Row::LoopWhen => Says::Loop,
         Row::Break => Says::Break,

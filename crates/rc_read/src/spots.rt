@@ -59,7 +59,8 @@ pub fn fits(part: Part, word: &[u8]) -> bool
     match part {
         Part::Fixed(fixed) => is(word, text_of(fixed)),
         Part::Variable | Part::Flag => is_name(word),
-        Part::Buffer | Part::NewBuffer | Part::NewThread => is_name(word),
+        Part::Buffer | Part::Pool => is_name(word),
+        Part::NewBuffer | Part::NewPool | Part::NewThread => is_name(word),
         Part::Operand => begins_number(word) || is_name(word),
         Part::Comparison => comparison_of(word).is_some(),
         Part::Signed | Part::Number(_) | Part::File | Part::Token => true,
@@ -212,7 +213,8 @@ pub fn has_name(part: Part) -> bool
 {
     match part {
         Part::Variable | Part::Operand | Part::Flag => true,
-        Part::Buffer | Part::NewBuffer | Part::NewThread => true,
+        Part::Buffer | Part::Pool => true,
+        Part::NewBuffer | Part::NewPool | Part::NewThread => true,
         _ => false,
     }
 }
@@ -242,6 +244,7 @@ fn has_items(row: Row) -> bool
 {
     match row {
         Row::Thread | Row::Put | Row::IfTake | Row::Loop | Row::LoopWhen => true,
+        Row::PutNamed | Row::IfTakeNamed => true,
         _ => false,
     }
 }

@@ -34,14 +34,16 @@ pub enum Part {
     Comparison,
     Signed,
     Number(Range),
-    /// A file, a buffer or a token that is declared above.
+    /// A file, a buffer, a token or a pool that is declared above.
     File,
     Buffer,
     Token,
-    /// A file, a buffer, a token or a thread that the line declares.
+    Pool,
+    /// A file, a buffer, a token, a pool or a thread that the line declares.
     NewFile,
     NewBuffer,
     NewToken,
+    NewPool,
     NewThread,
     /// Any number of items.
     Items,
@@ -60,6 +62,7 @@ pub enum Row {
     Version,
     SecondVersion,
     ThirdVersion,
+    FourthVersion,
     Ring,
     RingCq,
     RingLeft,
@@ -70,6 +73,7 @@ pub enum Row {
     TokenWrite,
     TokenFsync,
     TokenNop,
+    Pool,
     Thread,
     Set,
     Add,
@@ -79,7 +83,10 @@ pub enum Row {
     Fill,
     Print,
     Put,
+    PutNamed,
     Lock,
+    LockSq,
+    LockCq,
     GetSqe,
     PrepRead,
     PrepWrite,
@@ -97,6 +104,7 @@ pub enum Row {
     IfReady,
     IfSpace,
     IfTake,
+    IfTakeNamed,
     Else,
     Loop,
     LoopWhen,
@@ -129,6 +137,7 @@ pub fn parts_of(row: Row) -> &'static [Part]
         Row::Version => &[Part::Fixed(Word::Ringcheck), Part::Fixed(Word::One)],
         Row::SecondVersion => &[Part::Fixed(Word::Ringcheck), Part::Fixed(Word::Two)],
         Row::ThirdVersion => &[Part::Fixed(Word::Ringcheck), Part::Fixed(Word::Three)],
+        Row::FourthVersion => &[Part::Fixed(Word::Ringcheck), Part::Fixed(Word::Four)],
         Row::Ring => &[Part::Fixed(Word::Ring), Part::Number(Range::Size)],
         Row::RingCq => &[
             Part::Fixed(Word::Ring),
@@ -184,6 +193,7 @@ pub fn parts_of(row: Row) -> &'static [Part]
             Part::NewToken,
             Part::Fixed(Word::Nop),
         ],
+        Row::Pool => &[Part::Fixed(Word::Pool), Part::NewPool],
         Row::Thread => &[
             Part::Fixed(Word::Thread),
             Part::NewThread,
@@ -222,7 +232,18 @@ pub fn parts_of(row: Row) -> &'static [Part]
         Row::Fill => &[Part::Fixed(Word::Fill), Part::Buffer, Part::Variable],
         Row::Print => &[Part::Fixed(Word::Print), Part::Variable],
         Row::Put => &[Part::Fixed(Word::Put), Part::Items],
+        Row::PutNamed => &[Part::Fixed(Word::Put), Part::Pool, Part::Items],
         Row::Lock => &[Part::Fixed(Word::Lock), Part::Fixed(Word::Open)],
+        Row::LockSq => &[
+            Part::Fixed(Word::Lock),
+            Part::Fixed(Word::Sq),
+            Part::Fixed(Word::Open),
+        ],
+        Row::LockCq => &[
+            Part::Fixed(Word::Lock),
+            Part::Fixed(Word::Cq),
+            Part::Fixed(Word::Open),
+        ],
         Row::GetSqe => &[Part::Fixed(Word::GetSqe)],
         Row::PrepRead => &[
             Part::Fixed(Word::PrepRead),
@@ -297,6 +318,13 @@ pub fn parts_of(row: Row) -> &'static [Part]
             Part::Items,
             Part::Fixed(Word::Open),
         ],
+        Row::IfTakeNamed => &[
+            Part::Fixed(Word::If),
+            Part::Fixed(Word::Take),
+            Part::Pool,
+            Part::Items,
+            Part::Fixed(Word::Open),
+        ],
         Row::Else => &[
             Part::Fixed(Word::Close),
             Part::Fixed(Word::Else),
@@ -329,6 +357,7 @@ pub fn version_of(row: Row) -> u32
     match row {
         Row::LoopWhen => 2,
         Row::Put | Row::IfTake => 3,
+        Row::Pool | Row::PutNamed | Row::LockSq | Row::LockCq | Row::IfTakeNamed => 4,
         _ => 1,
     }
 }
@@ -338,14 +367,15 @@ pub fn stand_of(row: Row) -> Stand
     ensures { result ≡ spec.stand_of row }
 {
     match row {
-        Row::Version | Row::SecondVersion | Row::ThirdVersion => Stand::First,
+        Row::Version | Row::SecondVersion | Row::ThirdVersion | Row::FourthVersion => Stand::First,
         Row::Ring | Row::RingCq | Row::RingLeft | Row::RingCqLeft => Stand::Second,
         Row::File
         | Row::Buffer
         | Row::TokenRead
         | Row::TokenWrite
         | Row::TokenFsync
-        | Row::TokenNop => Stand::Declaration,
+        | Row::TokenNop
+        | Row::Pool => Stand::Declaration,
         Row::Thread => Stand::Header,
         Row::Else | Row::Close => Stand::Brace,
         Row::Set | Row::Add | Row::Subtract | Row::Load | Row::Store | Row::Fill => Stand::Inside,
@@ -353,7 +383,8 @@ pub fn stand_of(row: Row) -> Stand
         Row::PrepFsync | Row::PrepNop | Row::SetData64 | Row::Submit => Stand::Inside,
         Row::SubmitAndWait | Row::CqeSeen | Row::Peek | Row::Case | Row::Other => Stand::Inside,
         Row::Nothing | Row::If | Row::IfReady | Row::IfSpace | Row::IfTake => Stand::Inside,
-        Row::Put | Row::Loop | Row::LoopWhen | Row::Break => Stand::Inside,
+        Row::Put | Row::Loop | Row::LoopWhen | Row::Break | Row::PutNamed => Stand::Inside,
+        Row::LockSq | Row::LockCq | Row::IfTakeNamed => Stand::Inside,
     }
 }
 
@@ -374,13 +405,27 @@ pub fn rows_of(first: u8) -> &'static [Row]
             Row::PrepWrite,
             Row::PrepFsync,
             Row::Put,
+            Row::PutNamed,
+            Row::Pool,
         ],
-        b'l' => &[Row::Lock, Row::Loop, Row::LoopWhen],
+        b'l' => &[
+            Row::Lock,
+            Row::Loop,
+            Row::LoopWhen,
+            Row::LockSq,
+            Row::LockCq,
+        ],
         b'o' => &[Row::Other],
         b'n' => &[Row::Nothing],
         b's' => &[Row::SetData64, Row::Store],
         b'f' => &[Row::Fill, Row::File],
-        b'i' => &[Row::IfReady, Row::If, Row::IfSpace, Row::IfTake],
+        b'i' => &[
+            Row::IfReady,
+            Row::If,
+            Row::IfSpace,
+            Row::IfTake,
+            Row::IfTakeNamed,
+        ],
         b't' => &[
             Row::Thread,
             Row::TokenRead,
@@ -396,6 +441,7 @@ pub fn rows_of(first: u8) -> &'static [Row]
             Row::Version,
             Row::SecondVersion,
             Row::ThirdVersion,
+            Row::FourthVersion,
         ],
         _ => &[],
     }

@@ -28,7 +28,7 @@ pub enum Value {
     Nothing,
     Small(u32),
     UserData(u64),
-    /// A variable's or a buffer's number.
+    /// A variable's, a buffer's or a pool's number.
     Named(usize),
     Operand(Operand),
     Compares(Comparison),
@@ -148,27 +148,27 @@ pub fn user_data_value(user_data: Option<u64>) -> Option<Value>
 }
 
 pub fn held_shares(buffer: usize, word: &[u8]) -> Option<Value>
-    ensures { result ≡ option_map (λ k. Value.Item (Item.Shares buffer k)) (number_in 1 16 word.now) }
+    ensures { result ≡ spec.item_value (Item.Shares buffer) (number_in 1 16 word.now) }
 {
     let count = small_number_of(1, 16, word)?;
     Some(Value::Item(Item::Shares(buffer, count)))
 }
 
 pub fn held_token(user_data: Option<u64>) -> Option<Value>
-    ensures { result ≡ option_map (λ u. Value.Item (Item.Token u)) user_data }
+    ensures { result ≡ spec.item_value Item.Token user_data }
 {
     Some(Value::Item(Item::Token(user_data?)))
 }
 
 pub fn held_credits(word: &[u8]) -> Option<Value>
-    ensures { result ≡ option_map (λ n. Value.Item (Item.Credits n)) (number_in 0 2048 word.now) }
+    ensures { result ≡ spec.item_value Item.Credits (number_in 0 2048 word.now) }
 {
     let count = small_number_of(0, 2048, word)?;
     Some(Value::Item(Item::Credits(count)))
 }
 
 pub fn held_queued(entries: u32, word: &[u8]) -> Option<Value>
-    ensures { result ≡ option_map (λ k. Value.Item (Item.Queued k)) (number_in 0 entries word.now) }
+    ensures { result ≡ spec.item_value Item.Queued (number_in 0 entries word.now) }
 {
     let count = small_number_of(0, entries, word)?;
     Some(Value::Item(Item::Queued(count)))

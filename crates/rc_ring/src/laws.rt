@@ -13,10 +13,11 @@ pub fn counters_show_in_places_alone()
         → call_answers (after_calls calls (empty_rings entries completion_entries p s))
         ≡ call_answers (after_calls calls (empty_rings entries completion_entries q t)) }
     ensures opened { (entries completion_entries p q s t : ℕ)
-        → AreAlike (empty_rings entries completion_entries p s) (empty_rings entries completion_entries q t) }
+        → AreAlike (empty_rings entries completion_entries p s)
+        (empty_rings entries completion_entries q t) }
     ensures answers { (a b : Rings) → AreAlike a b → call_answers a ≡ call_answers b }
     ensures stays { (calls : List RingCall) (a b : Rings) → AreAlike a b
         → AreAlike (after_calls calls a) (after_calls calls b) }
-    ensures preps { (entry : Entry) (a b c d : Rings) → AreAlike a b → Prepares a c entry → Prepares b d entry
-        → AreAlike c d }
+    ensures preps { (entry : Entry) (a b c d : Rings) → AreAlike a b
+        → Prepares a c entry → Prepares b d entry → AreAlike c d }
 {}

@@ -46,9 +46,11 @@ impl Model for Ring {
 
     ghost use Rattle.rc_ring.specs.Places.{rings_of, IsWellFormed};
 
-    ghost view = { λ a. rings_of a.submissions a.completions a.sqes.items a.cqes.items a.parked a.stage };
+    ghost view = { λ a. rings_of a.submissions a.completions a.sqes.items a.cqes.items
+        a.parked a.stage };
 
-    ghost invariant = { λ a. IsWellFormed a.submissions a.completions a.sqes.items a.cqes.items a.parked a.stage };
+    ghost invariant = { λ a. IsWellFormed a.submissions a.completions a.sqes.items a.cqes.items
+        a.parked a.stage };
 }
 
 impl Ring {

@@ -6,3 +6,5 @@ mod Small
 mod Held
 pub mod PoolBags
 pub mod Named
+pub mod AllPools
+pub mod Lacking

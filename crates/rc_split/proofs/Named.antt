@@ -150,7 +150,7 @@ module _ (P : Program) (pool : Pool) (items : Items) (of : IsItems P items) wher
   ]
 
   -- So no count overflows.
-  pub shares_small : IsProgram P → overfills P pool items ≡ false → (b : ℕ) → (shares_in items.shares b ≡ 0) ⊎ (slice_index pool.shares b + shares_in items.shares b < 2 ^ 32)
+  pub shares_small : IsProgram P → overfills P (pooled P pool) items ≡ false → (b : ℕ) → (shares_in items.shares b ≡ 0) ⊎ (slice_index pool.shares b + shares_in items.shares b < 2 ^ 32)
   shares_small made e b =
       let h = or_parts (too_many || some) (nat_lt P.completion_entries (pooled P pool Credit + items.credits)) e in
       let f = or_parts too_many some h.0 in

@@ -1,6 +1,7 @@
 -- Bags: how many of each part somebody holds.
 use Rattle.std.specs.Prelude.{ℕ, ◌≡◌, ◌+◌, ◌-◌, ◌≤◌, Bool, true, false, cond, min, nat_eq, sum_by, count_by, List, [], None}
 use Rattle.rc_lang.specs.declared.program.Share.{Share}
+use Rattle.rc_lang.specs.declared.program.Token.{Token}
 use Rattle.rc_lang.specs.Program.{Items, besides, no_more}
 
 -- what holdings are made of: shares of the buffer with a number, the token with a user data, credits for completions
@@ -58,6 +59,10 @@ least a b p = min (a p) (b p)
 abbrev pub bag_on : Bool → Items → Part → ℕ
 bag_on true items = bag_of items
 bag_on false items = plus (bag_of items) (bag_of (besides items))
+
+-- how many of these tokens a bag hasn't
+abbrev pub lacking : List Token → (Part → ℕ) → ℕ
+lacking tokens b = count_by (λ (t : Token). nat_eq (b (TokenOf t.user_data)) 0) tokens
 
 -- The second bag covers the first.
 abbrev pub IsWithin : (Part → ℕ) → (Part → ℕ) → Type 0

@@ -3,10 +3,11 @@ use Rattle.std.specs.Prelude.{ℕ, ◌≡◌, ◌+◌, ◌≤◌, ◌⊎◌, ◌
 use Rattle.std.specs.Int.{bit_at}
 use Rattle.rc_lang.specs.Program.{Program, IsProgram, DeclaresToken, token_place}
 use Rattle.rc_lang.specs.declared.program.Share.{Share}
+use Rattle.rc_split.specs.declared.holding.Rows.{Rows}
 use Rattle.rc_split.specs.declared.part.Part.{Part as Given}
 use Rattle.rc_split.specs.declared.part.Part.TheVariants.{Shares, Token, Credits}
 use Rattle.rc_lang.specs.Program.{Items, besides}
-use Rattle.rc_split.specs.Bags.{Part, ShareOf, TokenOf, Credit, shares_bag, token_bag, credits_bag, bag_of, bag_on, shares_alone, plus, minus, IsWithin}
+use Rattle.rc_split.specs.Bags.{Part, ShareOf, TokenOf, Credit, shares_bag, token_bag, credits_bag, bag_of, bag_on, shares_alone, plus, minus, least, IsWithin}
 
 -- a program's shares by the numbers of its buffers, marks at the places of its tokens that are held, and the credits
 pub record Holding : Type 0 where
@@ -14,6 +15,10 @@ pub record Holding : Type 0 where
   pub shares : List ℕ
   pub marks : List ℕ
   pub credits : ℕ
+
+-- the holding of a program whose rows these are
+abbrev pub holding_in : Program → Rows → Holding
+holding_in program rows = record { program = program; shares = rows.shares; marks = rows.marks; credits = rows.credits }
 
 -- whether there is a mark at a place: each of four words has each fourth place, from its lowest bit on
 abbrev pub is_marked : List ℕ → ℕ → Bool
@@ -47,12 +52,15 @@ Covers h z items = IsWithin (bag_on z items) (bag h)
 
 -- ---- parts that are given and taken
 
--- This is taken from a holding, or given to it.
+-- This is taken from a holding, or given to it, or the least of both is left.
 abbrev pub Loses : Holding → Holding → (Part → ℕ) → Type 0
 Loses old new lost = Holds new old.program (minus (bag old) lost)
 
 abbrev pub Gains : Holding → Holding → (Part → ℕ) → Type 0
 Gains old new gained = Holds new old.program (plus (bag old) gained)
+
+abbrev pub Meets : Holding → Holding → (Part → ℕ) → Type 0
+Meets old new met = Holds new old.program (least (bag old) met)
 
 -- With more no count comes to 2^20, and with more items no token is held twice.
 abbrev pub StaysSmall : Holding → (Part → ℕ) → Type 0

@@ -1,6 +1,6 @@
 //! Holdings as rows.
 
-ghost use Rattle.std.specs.Prelude.{◌≡◌, ◌^◌, ◌<◌, ℕ, IsOkAnd, IsTrue, ◌↔◌, true, ◌≤◌, All};
+ghost use Rattle.std.specs.Prelude.{◌≡◌, ◌^◌, ◌<◌, ℕ, IsOkAnd, IsTrue, ◌↔◌, true, ◌≤◌, All, nat_eq};
 ghost use Rattle.rc_lang.specs.Parts.{view_items};
 ghost use Rattle.rc_lang.specs.Program.{IsProgram, DeclaresToken};
 ghost use Rattle.rc_split.specs.Bags as bags;
@@ -36,9 +36,9 @@ impl<'a> Model for Holding<'a> {
 
     ghost Value = { spec.Holding };
 
-    ghost view = { λ h. record { program = h.program.now; shares = h.rows.shares; marks = h.rows.marks; credits = h.rows.credits } };
+    ghost view = { λ h. spec.holding_in h.program.now h.rows };
 
-    ghost invariant = { λ h. spec.IsSound (record { program = h.program.now; shares = h.rows.shares; marks = h.rows.marks; credits = h.rows.credits }) };
+    ghost invariant = { λ h. spec.IsSound (spec.holding_in h.program.now h.rows) };
 }
 
 impl<'a> Holding<'a> {
@@ -131,6 +131,24 @@ impl<'a> Holding<'a> {
         ensures { result ≡ spec.bag self.now bags.Credit }
     {
         self.rows.credits
+    }
+
+    /// How many of the program's tokens aren't held, at most 256.
+    pub fn lacking(&self) -> u32
+        ensures value { result ≡ bags.lacking self.now.program.tokens (spec.bag self.now) }
+        ensures few { result ≤ 256 }
+    {
+        let tokens = self.program.tokens();
+        tokens
+            .iter()
+            .filter(|token| self.lacks_token(token.user_data))
+            .count() as u32
+    }
+
+    fn lacks_token(&self, user_data: u64) -> bool
+        ensures { result ≡ nat_eq (spec.bag self.now (bags.TokenOf user_data)) 0 }
+    {
+        !self.holds_token(user_data)
     }
 
     fn holds_token(&self, user_data: u64) -> bool
@@ -347,7 +365,7 @@ impl<'a> Holding<'a> {
     /// Leaves the least of both, part by part. Both are of one program.
     pub fn meet(&mut self, other: &Holding)
         requires { other.now.program ≡ self.old.program }
-        ensures { spec.Holds self.new self.old.program (bags.least (spec.bag self.old) (spec.bag other.now)) }
+        ensures { spec.Meets self.old self.new (spec.bag other.now) }
     {
         rows::least_counts(&mut self.rows.shares, &other.rows.shares);
         rows::least_marks(&mut self.rows.marks, &other.rows.marks);

@@ -7,4 +7,5 @@
 pub mod holding;
 pub mod part;
 pub mod pool;
+pub mod pools;
 mod rows;

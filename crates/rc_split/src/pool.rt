@@ -1,12 +1,13 @@
-//! The pool: what threads put where each of them can take it, under the lock.
+//! A pool: what threads put where each of them can take it.
 
 ghost use Rattle.std.specs.Prelude.{◌≡◌, ◌<◌, false, slice_index, All};
-ghost use Rattle.std.specs.List.{list_all, list_any};
+ghost use Rattle.std.specs.List.{list_all};
 ghost use Rattle.rc_lang.specs.Parts.{view_items};
 ghost use Rattle.rc_lang.specs.declared.program.Share as given;
-ghost use Rattle.rc_lang.specs.Program.{IsItems, token_place};
+ghost use Rattle.rc_lang.specs.Program.{IsItems};
 ghost use Rattle.rc_split.specs.Holdings.{CanCount};
 ghost use Rattle.rc_split.specs.Pools as spec;
+ghost use Rattle.rc_split.specs.Pools.{fewer_shares, more_shares};
 
 use crate::rows;
 use rc_lang::program::{Items, Program, Share};
@@ -57,21 +58,11 @@ impl Pool {
         shares && tokens && items.credits <= self.credits
     }
 
-    /// Whether the pool has no room for the items: with them it would have more shares of a buffer than there are, a
-    /// token twice, or more credits than the completion ring has entries.
-    pub fn is_overfilled_by(&self, program: &Program, items: &Items) -> bool
-        ensures { result ≡ spec.overfills program.now self.now (view_items items.now) }
-    {
-        let shares = self.has_too_many(program, &items.shares);
-        let tokens = self.has_some(program, &items.tokens);
-        let credits = u64::from(self.credits) + u64::from(items.credits);
-        shares || tokens || u64::from(program.completion_entries()) < credits
-    }
-
     /// Puts the items into the pool, which has room for them. They are items of the program.
     pub fn put(&mut self, program: &Program, items: &Items)
         requires made { IsItems program.now (view_items items.now) }
-        requires room { spec.overfills program.now self.old (view_items items.now) ≡ false }
+        requires room { spec.overfills program.now (spec.pooled program.now self.old)
+            (view_items items.now) ≡ false }
         ensures { self.new ≡ spec.with_items program.now self.old (view_items items.now) }
     {
         // Any of a program's readers says that it was made, and so how many shares and credits there are at most.
@@ -105,15 +96,6 @@ impl Pool {
             .all(|share| share.count <= self.shares_of(share.buffer))
     }
 
-    fn has_too_many(&self, program: &Program, shares: &[Share]) -> bool
-        ensures { result ≡ list_any (spec.is_too_many program.now self.now) shares.now }
-    {
-        shares.iter().any(|share| {
-            let shares = u64::from(self.shares_of(share.buffer)) + u64::from(share.count);
-            u64::from(program.shares_at(share.buffer)) < shares
-        })
-    }
-
     /// Whether a token of the program is in the pool.
     pub fn has_token(&self, program: &Program, user_data: u64) -> bool
         ensures { result ≡ spec.has_token program.now self.now user_data }
@@ -130,17 +112,11 @@ impl Pool {
         tokens.iter().all(|token| self.has_token(program, *token))
     }
 
-    fn has_some(&self, program: &Program, tokens: &[u64]) -> bool
-        ensures { result ≡ list_any (spec.has_token program.now self.now) tokens.now }
-    {
-        tokens.iter().any(|token| self.has_token(program, *token))
-    }
-
     /// Adds these shares, of buffers that have a place here. No count of a buffer that they name overflows.
     fn add_shares(&mut self, shares: &[Share])
         requires there { All (λ (s : given.Share). s.buffer < 64) shares.now }
         requires small { CanCount self.old.shares shares.now }
-        ensures { self.new ≡ record self.old { shares = spec.more_shares self.old.shares shares.now } }
+        ensures { self.new ≡ record self.old { shares = more_shares self.old.shares shares.now } }
     {
         for share in shares {
             let there = self.shares_of(share.buffer);
@@ -149,7 +125,7 @@ impl Pool {
     }
 
     fn lessen_shares(&mut self, shares: &[Share])
-        ensures { self.new ≡ record self.old { shares = spec.fewer_shares self.old.shares shares.now } }
+        ensures { self.new ≡ record self.old { shares = fewer_shares self.old.shares shares.now } }
     {
         for share in shares {
             rows::lower(&mut self.shares, share.buffer, share.count);
@@ -157,7 +133,7 @@ impl Pool {
     }
 
     fn mark_all(&mut self, program: &Program, tokens: &[u64], is: bool)
-        ensures { self.new ≡ record self.old { marks = spec.with_marks program.now is self.old.marks tokens.now } }
+        ensures { self.new ≡ spec.with_tokens program.now is self.old tokens.now }
     {
         for token in tokens {
             self.mark(program, *token, is);
@@ -166,7 +142,7 @@ impl Pool {
 
     /// Marks a token as there, or not.
     fn mark(&mut self, program: &Program, user_data: u64, is: bool)
-        ensures { self.new ≡ record self.old { marks = spec.with_mark is self.old.marks (token_place program.now.tokens user_data) } }
+        ensures { self.new ≡ spec.with_token program.now is self.old user_data }
     {
         if let Some(place) = program.token_place(user_data) {
             self.marks[place] = is;

@@ -42,7 +42,8 @@ pub fn is_marked(marks: &[u64; 4], place: usize) -> bool
 /// Marks a place, or takes its mark away.
 pub fn mark(marks: &mut [u64; 4], place: usize, held: bool)
     requires { place < 256 }
-    ensures { (k : ℕ) → spec.is_marked marks.new k ≡ cond (nat_eq place k) held (spec.is_marked marks.old k) }
+    ensures { (k : ℕ)
+        → spec.is_marked marks.new k ≡ cond (nat_eq place k) held (spec.is_marked marks.old k) }
 {
     let bit = 1 << (place / 4);
     if held {
@@ -54,7 +55,8 @@ pub fn mark(marks: &mut [u64; 4], place: usize, held: bool)
 
 /// Leaves the least count at each place.
 pub fn least_counts(mine: &mut [u32; 64], theirs: &[u32; 64])
-    ensures { (k : ℕ) → slice_index mine.new k ≡ min (slice_index mine.old k) (slice_index theirs.now k) }
+    ensures { (k : ℕ)
+        → slice_index mine.new k ≡ min (slice_index mine.old k) (slice_index theirs.now k) }
 {
     for place in 0..64 {
         mine[place] = mine[place].min(theirs[place]);
@@ -63,7 +65,8 @@ pub fn least_counts(mine: &mut [u32; 64], theirs: &[u32; 64])
 
 /// Leaves the marks that are in both.
 pub fn least_marks(mine: &mut [u64; 4], theirs: &[u64; 4])
-    ensures { (k : ℕ) → spec.is_marked mine.new k ≡ (spec.is_marked mine.old k && spec.is_marked theirs.now k) }
+    ensures { (k : ℕ)
+        → spec.is_marked mine.new k ≡ (spec.is_marked mine.old k && spec.is_marked theirs.now k) }
 {
     for word in 0..4 {
         mine[word] &= theirs[word];

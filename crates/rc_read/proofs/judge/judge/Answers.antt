@@ -1,6 +1,7 @@
 use Rattle.std.proofs.Common.{refl, sym, ap, ◌∙◌}
 use Rattle.std.proofs.lemmas.List.{length-map, take-map}
-use Rattle.rc_read.specs.View.{view_names, view_sheet}
+use Rattle.rc_lang.specs.Parts.{view_names}
+use Rattle.rc_read.specs.View.{view_sheet}
 use Rattle.rc_read.proofs.Judged.{dropped, put_names}
 use Rattle.rc_read.proofs.judge.judge.Goals as goal
 

@@ -3,7 +3,7 @@ use Rattle.std.specs.Cmp.Lexicographic.{pointwise}
 use Rattle.std.specs.Global.{Vec}
 use Rattle.std.specs.List.{position_or_len}
 use Rattle.rc_read.specs.Sheets.{number_in}
-use Rattle.rc_read.specs.View.{view_names}
+use Rattle.rc_lang.specs.Parts.{view_names}
 use Rattle.rc_read.proofs.Numbered.{is_old}
 use Rattle.rc_read.proofs.Seen.{numbered, found, with_one}
 use Rattle.rc_read.proofs.names.add_name.Goals as goal
