@@ -35,7 +35,8 @@ impl Model for Seeded {
 impl Seeded {
     /// The choices of a seed: those of `Lcg64Xsh32::seed_from_u64`.
     pub fn new(seed: u64) -> Seeded
-        ensures { let pcg = ⟦<Lcg64Xsh32 as SeedableRng>⟧ in result ≡ pcg.of_seed (pcg.seed_of_u64 seed) }
+        ensures { let pcg = ⟦<Lcg64Xsh32 as SeedableRng>⟧ in
+            result ≡ pcg.of_seed (pcg.seed_of_u64 seed) }
     {
         Seeded {
             words: Lcg64Xsh32::seed_from_u64(seed),

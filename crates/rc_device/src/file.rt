@@ -72,7 +72,9 @@ impl StoredFile {
     /// Writes bytes from `off` on, within `ROOM`. Where the file ended before that, zeros fill the gap (`pwrite(2)`).
     pub fn write_at(&mut self, off: usize, bytes: &[u8])
         requires { off + length bytes.now ≤ ROOM }
-        ensures { self.new ≡ record self.old { content = written_to self.old.content off bytes.now } }
+        ensures { self.new ≡ record self.old {
+          content = written_to self.old.content off bytes.now;
+        } }
     {
         if bytes.is_empty() {
             return;

@@ -22,8 +22,9 @@ pub fn the_rest_of_a_file_stays()
 
 /// Writing one file leaves the others as they were.
 pub fn other_files_stay()
-    ensures written { (files : List DiskFile) (fd : ℤ) (k : ℕ) (content : List ℕ) → place_of files fd ≡ Some k
-        → content_of (with_content files k content) fd ≡ content }
-    ensures others { (files : List DiskFile) (fd other : ℤ) (k : ℕ) (content : List ℕ) → place_of files fd ≡ Some k
-        → other ≢ fd → content_of (with_content files k content) other ≡ content_of files other }
+    ensures written { (files : List DiskFile) (fd : ℤ) (k : ℕ) (content : List ℕ)
+        → place_of files fd ≡ Some k → content_of (with_content files k content) fd ≡ content }
+    ensures others { (files : List DiskFile) (fd other : ℤ) (k : ℕ) (content : List ℕ)
+        → place_of files fd ≡ Some k → other ≢ fd
+        → content_of (with_content files k content) other ≡ content_of files other }
 {}

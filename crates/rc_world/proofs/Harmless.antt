@@ -3,34 +3,42 @@ use Rattle.std.proofs.Common.{◌≡◌, ℕ, ◌+◌, ◌<◌, ◌≤◌, Bool,
 use Rattle.std.proofs.lemmas.Bool.{or_parts, and_left, and_right, cases_lt}
 use Rattle.std.proofs.lemmas.Option.{same_Some, slice_get_within}
 use Rattle.rc_lang.specs.declared.lines.Line.{Line}
+use Rattle.rc_lang.specs.declared.lines.Locks.{Locks}
 use Rattle.rc_lang.specs.declared.lines.Stmt.{Stmt}
+use Rattle.rc_lang.specs.declared.lines.Stmt.TheVariants.{Lock}
 use Rattle.rc_lang.specs.Program.{Thread, lines_in}
 use Rattle.rc_world.specs.declared.fault.FaultKind.{FaultKind}
 use Rattle.rc_world.specs.declared.fault.FaultKind.TheVariants.{WriteOfPending, ReadOfFilling, KernelClash, ThreadRace, RingFull, Overflow, AmbiguousData, UnknownReap, NoLock, RawEntry, OutOfBuffer, DoublePut}
 use Rattle.rc_world.specs.Controls.{Standing, next_at, next_line}
-use Rattle.rc_world.specs.Faults.{Access, access_of, has_fault, is_ambiguous_at, is_double_at, is_full_at, is_holder, is_out_at, is_raw_at, is_ring_call, is_unknown_at, races, reads_filling, writes_pending}
-use Rattle.rc_world.specs.Harm.{IsHarmless, harms_buffer, harms_rings, is_harmful, line_of}
+use Rattle.rc_world.specs.Faults.{Access, access_of, has_cq, has_fault, has_sq, is_ambiguous_at, is_cq_call, is_double_at, is_full_at, is_out_at, is_raw_at, is_sq_call, is_unknown_at, races, reads_filling, writes_pending}
+use Rattle.rc_world.specs.Harm.{IsHarmless, harms_buffer, harms_cq, harms_sq, is_harmful, line_of}
 use Rattle.rc_world.specs.Machine.{World}
 use Rattle.rc_world.proofs.Heads.{no_races}
 
 -- ---- one thread
 
-record Quiet (h p q r s d c : Bool) : Type 0 where
+-- on the submission side
+record QuietSq (h p q s c : Bool) : Type 0 where
   full : (h && p) ≡ false
   ambiguous : (h && q) ≡ false
-  unknown : (h && r) ≡ false
   raw : (h && s) ≡ false
-  double : (h && d) ≡ false
   call : (c && not h) ≡ false
 
-quiet : (h p q r s d c : Bool) → (if h then p || q || r || s || d else c) ≡ false → Quiet h p q r s d c
-quiet true p q r s d c e =
-    let x = or_parts (p || q || r || s) d e in
-    let a = or_parts (p || q || r) s x.0 in
-    let b = or_parts (p || q) r a.0 in
-    let f = or_parts p q b.0 in
-    record { full = f.0; ambiguous = f.1; unknown = b.1; raw = a.1; double = x.1; call = and_right c false refl }
-quiet false p q r s d c e = record { full = refl; ambiguous = refl; unknown = refl; raw = refl; double = refl; call = and_left c true e }
+quiet_sq : (h p q s c : Bool) → (if h then p || q || s else c) ≡ false → QuietSq h p q s c
+quiet_sq true p q s c e =
+    let a = or_parts (p || q) s e in
+    let b = or_parts p q a.0 in
+    record { full = b.0; ambiguous = b.1; raw = a.1; call = and_right c false refl }
+quiet_sq false p q s c e = record { full = refl; ambiguous = refl; raw = refl; call = and_left c true e }
+
+-- and on the completion side
+record QuietCq (h r c : Bool) : Type 0 where
+  unknown : (h && r) ≡ false
+  call : (c && not h) ≡ false
+
+quiet_cq : (h r c : Bool) → (if h then r else c) ≡ false → QuietCq h r c
+quiet_cq true r c e = record { unknown = e; call = and_right c false refl }
+quiet_cq false r c e = record { unknown = refl; call = and_left c true e }
 
 record Untouched (w : World) (i : ℕ) (a : Option Access) : Type 0 where
   writes : writes_pending w.pending a ≡ false
@@ -45,14 +53,23 @@ untouched w i (Some a) e =
     record { writes = c.0; reads = c.1; race = b.1 }
 
 module _ (w : World) (i : ℕ) (s : Stmt) (e : is_harmful w i s ≡ false) where
-  sides : ((harms_buffer w i (access_of s) || is_out_at w.program s) ≡ false) × ((if is_holder w.controls.holder i then harms_rings w i s else is_ring_call s) ≡ false)
-  sides = or_parts (harms_buffer w i (access_of s) || is_out_at w.program s) (if is_holder w.controls.holder i then harms_rings w i s else is_ring_call s) e
+  pool : ((harms_buffer w i (access_of s) || is_out_at w.program s || harms_sq w i s || harms_cq w i s) ≡ false) × (is_double_at w i s ≡ false)
+  pool = or_parts (harms_buffer w i (access_of s) || is_out_at w.program s || harms_sq w i s || harms_cq w i s) (is_double_at w i s) e
 
-  rings : Quiet (is_holder w.controls.holder i) (is_full_at w s) (is_ambiguous_at w s) (is_unknown_at w s) (is_raw_at w.slot s) (is_double_at w i s) (is_ring_call s)
-  rings = quiet (is_holder w.controls.holder i) (is_full_at w s) (is_ambiguous_at w s) (is_unknown_at w s) (is_raw_at w.slot s) (is_double_at w i s) (is_ring_call s) sides.1
+  last : ((harms_buffer w i (access_of s) || is_out_at w.program s || harms_sq w i s) ≡ false) × (harms_cq w i s ≡ false)
+  last = or_parts (harms_buffer w i (access_of s) || is_out_at w.program s || harms_sq w i s) (harms_cq w i s) pool.0
+
+  first : ((harms_buffer w i (access_of s) || is_out_at w.program s) ≡ false) × (harms_sq w i s ≡ false)
+  first = or_parts (harms_buffer w i (access_of s) || is_out_at w.program s) (harms_sq w i s) last.0
+
+  submits : QuietSq (has_sq w i) (is_full_at w s) (is_ambiguous_at w s) (is_raw_at w.slot s) (is_sq_call s)
+  submits = quiet_sq (has_sq w i) (is_full_at w s) (is_ambiguous_at w s) (is_raw_at w.slot s) (is_sq_call s) first.1
+
+  reaps : QuietCq (has_cq w i) (is_unknown_at w s) (is_cq_call s)
+  reaps = quiet_cq (has_cq w i) (is_unknown_at w s) (is_cq_call s) last.1
 
   places : (harms_buffer w i (access_of s) ≡ false) × (is_out_at w.program s ≡ false)
-  places = or_parts (harms_buffer w i (access_of s)) (is_out_at w.program s) sides.0
+  places = or_parts (harms_buffer w i (access_of s)) (is_out_at w.program s) first.0
 
   buffer : Untouched w i (access_of s)
   buffer = untouched w i (access_of s) places.0
@@ -62,14 +79,25 @@ module _ (w : World) (i : ℕ) (s : Stmt) (e : is_harmful w i s ≡ false) where
   harmless ReadOfFilling = buffer.reads
   harmless KernelClash = refl
   harmless ThreadRace = buffer.race
-  harmless RingFull = rings.full
+  harmless RingFull = submits.full
   harmless Overflow = refl
-  harmless AmbiguousData = rings.ambiguous
-  harmless UnknownReap = rings.unknown
-  harmless NoLock = rings.call
-  harmless RawEntry = rings.raw
+  harmless AmbiguousData = submits.ambiguous
+  harmless UnknownReap = reaps.unknown
+  harmless NoLock = ap (λ b. b || (is_cq_call s && not (has_cq w i))) submits.call ∙ reaps.call
+  harmless RawEntry = submits.raw
   harmless OutOfBuffer = places.1
-  harmless DoublePut = rings.double
+  harmless DoublePut = pool.1
+
+-- ---- a lock
+
+neither : (b c : Bool) → (((if b then false else false) || (if c then false else false)) || false) ≡ false
+neither true true = refl
+neither true false = refl
+neither false true = refl
+neither false false = refl
+
+pub lock_harmless : (w : World) (i : ℕ) (wanted : Locks) → is_harmful w i (Lock wanted) ≡ false
+lock_harmless w i wanted = neither (has_sq w i) (has_cq w i)
 
 -- ---- the pass
 

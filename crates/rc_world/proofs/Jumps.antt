@@ -1,5 +1,6 @@
 -- Where the jumps of a thread lead that is at a line.
-use Rattle.std.proofs.Common.{ℕ, ◌<◌, ◌≤◌, Bool, length, ap, arith}
+use Rattle.std.proofs.Common.{ℕ, ◌<◌, ◌≤◌, Bool, Option, length, ap, arith}
+use Rattle.rc_lang.specs.declared.lines.Locks.{Locks}
 use Rattle.rc_lang.specs.declared.lines.Op.{Op}
 use Rattle.rc_lang.specs.declared.lines.Stmt.TheVariants.{Do, Put, If, Peek, EndLoop, Break}
 use Rattle.rc_lang.specs.declared.lines.Test.{Test}
@@ -28,7 +29,7 @@ module _ (P : Program) (c : Controls) (i j : ℕ) where
       let le : j ≤ 4096 = s.within in
       omega arith
 
-  pub break_small : (o : ℕ) (releases leaves : Bool) → StandsAt P c i j (Break o releases leaves) → end_at P i o ≤ 4096
+  pub break_small : (o : ℕ) (releases : Locks) (leaves : Bool) → StandsAt P c i j (Break o releases leaves) → end_at P i o ≤ 4096
   break_small o releases leaves s =
       let l = laid P s.made i in
       let n = nested_here (lines_of P i) l.each j (Break o releases leaves) s.line in
@@ -39,11 +40,11 @@ module _ (P : Program) (c : Controls) (i j : ℕ) where
   test_small (Compare x comparison n) s = let r = resolved_in P s.made i j _ s.line in let le : r.0 ≤ 64 = r.2 in let lt : x < r.0 = r.3 in omega arith
   test_small ReadyZero s = tt
   test_small (SpaceAtLeast n) s = tt
-  test_small (Take k) s = listed_in P s.made i j (If (Take k)) s.line
+  test_small (Take pool k) s = listed_in P s.made i j (If (Take pool k)) s.line
 
   -- the items of a put are those of a made program
-  pub put_small : (k : ℕ) → StandsAt P c i j (Put k) → k < length (lists_of P i)
-  put_small k s = listed_in P s.made i j (Put k) s.line
+  pub put_small : (pool : Option ℕ) (k : ℕ) → StandsAt P c i j (Put pool k) → k < length (lists_of P i)
+  put_small pool k s = listed_in P s.made i j (Put pool k) s.line
 
   pub op_small : (op : Op) → StandsAt P c i j (Do op) → CallIsSmall P op
   op_small op s = small_stmt P s.made i j (Do op) s.line

@@ -39,13 +39,13 @@ resolved_in P made i j s h = let t = in_thread P made i j s h in (length t.0.var
 
 -- A made program's line with a number of items names one of its thread's lists.
 abbrev pub NamesList : ℕ → Stmt → Type 0
-NamesList lists (Put k) = k < lists
-NamesList lists (If (Take k)) = k < lists
+NamesList lists (Put pool k) = k < lists
+NamesList lists (If (Take pool k)) = k < lists
 NamesList lists _ = Unit {0}
 
 names_list : (P : Program) (n lists : ℕ) (s : Stmt) → IsResolved P n lists s → NamesList lists s
-names_list P n lists (Put k) h = h
-names_list P n lists (If (Take k)) h = h
+names_list P n lists (Put pool k) h = h.1
+names_list P n lists (If (Take pool k)) h = h.1
 names_list P n lists _ h = tt
 
 pub listed_in : (P : Program) → IsProgram P → (i j : ℕ) (s : Stmt) → stmt_at (lines_of P i) j ≡ Some s → NamesList (length (lists_of P i)) s

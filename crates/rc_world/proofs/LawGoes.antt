@@ -1,7 +1,8 @@
 -- In a world of a run without a fault each thread with something left has a step, and each pending request can complete.
 use Rattle.std.proofs.Common.{◌≡◌, ℕ, ◌+◌, ◌<◌, ◌≤◌, Bool, true, false, ◌&&◌, not, if◌then◌else◌, List, [], ◌∷◌, ◌++◌, length, nat_eq, nat_le, nat_lt, Option, Some, None, refl, sym, ap, ◌∙◌, subst, slice_get, slice_index, slice_index_or, slice_set, replicate, inl, inr, ℤ, pos, arith, eq-eqb, leb-false, lt-ltb}
-use Rattle.std.proofs.lemmas.Bool.{le-leb, and_parts, and_from, false_from_ne_true, or_cases, or_left, or_right, not-false, true≢false}
+use Rattle.std.proofs.lemmas.Bool.{le-leb, and_parts, and_from, false_from_ne_true, or_cases, or_left, or_parts, or_right, not-false, true≢false}
 use Rattle.rc_lang.specs.declared.lines.Line.{Line}
+use Rattle.rc_lang.specs.declared.lines.Locks.{Locks}
 use Rattle.rc_lang.specs.declared.lines.Op.{Op}
 use Rattle.rc_lang.specs.declared.lines.Op.TheVariants.{Load, Store, Fill, GetSqe, PrepRead, PrepWrite, PrepFsync, PrepNop, SetData64, Submit, SubmitAndWait, CqeSeen}
 use Rattle.rc_lang.specs.declared.lines.Stmt.{Stmt}
@@ -10,10 +11,10 @@ use Rattle.rc_lang.specs.declared.lines.Test.{Test}
 use Rattle.rc_lang.specs.declared.lines.Test.TheVariants.{Compare, ReadyZero, SpaceAtLeast, Take}
 use Rattle.rc_lang.specs.declared.request.Kind.TheVariants.{Fsync, Read, Write}
 use Rattle.rc_lang.specs.declared.request.Request.{Request}
-use Rattle.rc_lang.specs.Program.{IsResolvedOp, Program, bytes_at, items_at, line_at, lines_of, lists_of, stmt_of}
+use Rattle.rc_lang.specs.Program.{IsResolvedOp, Items, Program, bytes_at, items_at, line_at, lines_of, lists_of, stmt_of}
 use Rattle.rc_lang.specs.Requests.{may_complete}
 use Rattle.rc_lang.proofs.Rests.{may_rest}
-use Rattle.rc_split.specs.Pools.{with_items}
+use Rattle.rc_split.specs.Pools.{all_pooled, overfills, put_into}
 use Rattle.rc_world.specs.declared.controls.Answer.TheVariants.{Plain, Byte}
 use Rattle.rc_world.specs.declared.event.Completion.{Completion}
 use Rattle.rc_world.specs.declared.event.Action.TheVariants.{ItemsPut}
@@ -23,8 +24,8 @@ use Rattle.rc_world.specs.declared.fault.FaultKind.{FaultKind}
 use Rattle.rc_world.specs.declared.fault.FaultKind.TheVariants.{WriteOfPending, ReadOfFilling, KernelClash, RingFull, UnknownReap, NoLock, RawEntry, OutOfBuffer, DoublePut}
 use Rattle.rc_world.specs.declared.world.Slot.{Slot}
 use Rattle.rc_world.specs.declared.world.Slot.TheVariants.{Closed, Vacant, Prepared}
-use Rattle.rc_world.specs.Controls.{Move, Standing, acts, as_event, goes_on, loads, locks, low_byte, made, moved, number_of_event, peeks, reaps, variable}
-use Rattle.rc_world.specs.Faults.{clashes, fault_of, front_is_one, has_buffer, has_fault, is_closed, is_double_at, is_filling, is_holder, is_named, is_prepared, is_ring_call, is_vacant, names, reads_into}
+use Rattle.rc_world.specs.Controls.{Move, Standing, acts, are_free, as_event, goes_on, loads, low_byte, made, moved, number_of_event, peeks, reaps, takes_locks, variable}
+use Rattle.rc_world.specs.Faults.{clashes, fault_of, front_is_one, has_buffer, has_cq, has_fault, has_sq, is_closed, is_cq_call, is_filling, is_named, is_prepared, is_sq_call, is_vacant, may_put, names, reads_into}
 use Rattle.rc_world.specs.Items.{is_submit}
 use Rattle.rc_world.specs.Laws.{CompletesFreely, GoesOn, NoHiddenHarm, IsAtEnd}
 use Rattle.rc_world.specs.Kept.{IsKept, IsMemory}
@@ -106,15 +107,21 @@ abbrev HasNoFault : World → ℕ → Stmt → Type 0
 HasNoFault w i s = (kind : FaultKind) → has_fault w kind i s ≡ false
 
 module _ (w : World) (i : ℕ) (t : Standing) (r : ℤ) where
-  -- a thread at a call on the ring holds the lock
-  holds : (s : Stmt) → is_ring_call s ≡ true → HasNoFault w i s → is_holder w.controls.holder i ≡ true
-  holds s c f = not-false (is_holder w.controls.holder i) (and_false (is_ring_call s) (not (is_holder w.controls.holder i)) (f NoLock) c)
+  -- a thread at a call holds the lock of its side
+  locks_held : (s : Stmt) → HasNoFault w i s → ((is_sq_call s && not (has_sq w i)) ≡ false) × ((is_cq_call s && not (has_cq w i)) ≡ false)
+  locks_held s f = or_parts (is_sq_call s && not (has_sq w i)) (is_cq_call s && not (has_cq w i)) (f NoLock)
 
-  -- a prep of an entry that the holder has opened
-  can_prepare : (op : Op) (q : Request) (m : Move) → is_ring_call (Do op) ≡ true → HasNoFault w i (Do op) → (is_holder w.controls.holder i && not (is_vacant w.slot)) ≡ false → fits_buffer w.program q ≡ true
+  holds_sq : (s : Stmt) → is_sq_call s ≡ true → HasNoFault w i s → has_sq w i ≡ true
+  holds_sq s c f = not-false (has_sq w i) (and_false (is_sq_call s) (not (has_sq w i)) (locks_held s f).0 c)
+
+  holds_cq : (s : Stmt) → is_cq_call s ≡ true → HasNoFault w i s → has_cq w i ≡ true
+  holds_cq s c f = not-false (has_cq w i) (and_false (is_cq_call s) (not (has_cq w i)) (locks_held s f).1 c)
+
+  -- a prep of an entry that the thread has opened
+  can_prepare : (op : Op) (q : Request) (m : Move) → is_sq_call (Do op) ≡ true → HasNoFault w i (Do op) → (has_sq w i && not (is_vacant w.slot)) ≡ false → fits_buffer w.program q ≡ true
       → in_rings w t r (Do op) ≡ prepares w q w.slot → acts w.program w.controls i t (Do op) (stmt_answer w r (Do op)) ≡ Some m → CanDo w i t r (Do op)
   can_prepare op q m c f raw room e a =
-      let v = prepares_vacant w q room w.slot (and_false (is_holder w.controls.holder i) _ raw (holds (Do op) c f)) in
+      let v = prepares_vacant w q room w.slot (and_false (has_sq w i) _ raw (holds_sq (Do op) c f)) in
       record { rings = v.0; move = m; in_the_rings = e ∙ v.1; acted = a }
 
   can_submit : (n : ℤ) → is_take w n ≡ true → (if is_take w n then Some (hands_over w (count_in n)) else None) ≡ Some (hands_over w (count_in n))
@@ -155,20 +162,20 @@ module _ (w : World) (i : ℕ) (t : Standing) (r : ℤ) where
         let s = stands b a.0 (not_named b (f WriteOfPending)) in
         record { rings = with_bytes w b (replicate (length s.bytes) (low_byte (variable t x))); move = _; in_the_rings = ap (fills w b (low_byte (variable t x))) s.there; acted = refl }
     can_do n GetSqe a f u =
-        let h = holds (Do GetSqe) refl f in
-        let v = opens w w.slot (and_false (is_holder w.controls.holder i) _ (f RawEntry) h) (and_false (is_holder w.controls.holder i) _ (f RingFull) h) in
+        let h = holds_sq (Do GetSqe) refl f in
+        let v = opens w w.slot (and_false (has_sq w i) _ (f RawEntry) h) (and_false (has_sq w i) _ (f RingFull) h) in
         record { rings = v.0; move = _; in_the_rings = v.1; acted = refl }
     can_do n (PrepRead fd b len off) a f u = can_prepare (PrepRead fd b len off) (new_request Read (pos fd) b len off) _ refl f (f RawEntry) (not-false (nat_le len (bytes_at w.program.buffers b)) (f OutOfBuffer)) refl refl
     can_do n (PrepWrite fd b len off k) a f u = can_prepare (PrepWrite fd b len off k) (new_request Write (pos fd) b len off) _ refl f (f RawEntry) (not-false (nat_le len (bytes_at w.program.buffers b)) (f OutOfBuffer)) refl refl
     can_do n (PrepFsync fd datasync) a f u = can_prepare (PrepFsync fd datasync) (new_request Fsync (pos fd) 0 0 0) _ refl f (f RawEntry) (le-leb 0 (bytes_at w.program.buffers 0) (omega arith)) refl refl
     can_do n PrepNop a f u = can_prepare PrepNop prepared_nop _ refl f (f RawEntry) (le-leb 0 (bytes_at w.program.buffers 0) (omega arith)) refl refl
     can_do n (SetData64 d) a f u =
-        let v = queues_prepared w d w.slot (and_false (is_holder w.controls.holder i) _ (f RawEntry) (holds (Do (SetData64 d)) refl f)) in
+        let v = queues_prepared w d w.slot (and_false (has_sq w i) _ (f RawEntry) (holds_sq (Do (SetData64 d)) refl f)) in
         record { rings = v.0; move = _; in_the_rings = v.1; acted = refl }
     can_do n (Submit x) a f u = record { rings = hands_over w (count_in r); move = _; in_the_rings = can_submit r (u refl); acted = refl }
     can_do n (SubmitAndWait x k) a f u = record { rings = hands_over w (count_in r); move = _; in_the_rings = can_submit r (u refl); acted = refl }
     can_do n CqeSeen a f u =
-        let c = has_front w w.controls.peeked w.completions (and_false (is_holder w.controls.holder i) _ (f UnknownReap) (holds (Do CqeSeen) refl f)) in
+        let c = has_front w w.controls.peeked w.completions (and_false (has_cq w i) _ (f UnknownReap) (holds_cq (Do CqeSeen) refl f)) in
         record { rings = _; move = _; in_the_rings = ap (reaps_front w) c.2; acted = ap (λ cs. reaps w.controls t (front_of cs)) c.2 }
     can_do n _ a f u = record { rings = w; move = _; in_the_rings = refl; acted = refl }
 
@@ -176,17 +183,23 @@ module _ (w : World) (i : ℕ) (t : Standing) (r : ℤ) where
   can_decide (Compare x comparison n) = record { rings = w; move = _; in_the_rings = refl; acted = refl }
   can_decide ReadyZero = record { rings = w; move = _; in_the_rings = refl; acted = refl }
   can_decide (SpaceAtLeast n) = record { rings = w; move = _; in_the_rings = refl; acted = refl }
-  can_decide (Take k) = record { rings = w; move = _; in_the_rings = refl; acted = refl }
+  can_decide (Take pool k) = record { rings = w; move = _; in_the_rings = refl; acted = refl }
 
-  -- a put of the holder that isn't one too many
-  can_put : (k : ℕ) → HasNoFault w i (Put k) → CanDo w i t r (Put k)
-  can_put k f =
-      let room = and_false (is_holder w.controls.holder i) (is_double_at w i (Put k)) (f DoublePut) (holds (Put k) refl f) in
+  -- the locks that a put asks for
+  put_held : (pool : Option ℕ) (k : ℕ) → HasNoFault w i (Put pool k) → may_put w i pool ≡ true
+  put_held None k f = and_from (has_sq w i) (has_cq w i) (holds_sq (Put None k) refl f) (holds_cq (Put None k) refl f)
+  put_held (Some n) k f = refl
+
+  -- a put that isn't one too many
+  can_put : (pool : Option ℕ) (k : ℕ) → HasNoFault w i (Put pool k) → CanDo w i t r (Put pool k)
+  can_put pool k f =
+      let items : Items = items_at (lists_of w.program i) k in
+      let room = and_false (may_put w i pool) (overfills w.program (all_pooled w.program w.controls.pools) items) (f DoublePut) (put_held pool k f) in
       record {
         rings = w;
-        move = record (goes_on w.controls t ItemsPut) { pool = with_items w.program w.controls.pool (items_at (lists_of w.program i) k) };
+        move = record (goes_on w.controls t ItemsPut) { pools = put_into w.program pool items w.controls.pools };
         in_the_rings = refl;
-        acted = ap (λ b. if b then None else Some (record (goes_on w.controls t ItemsPut) { pool = with_items w.program w.controls.pool (items_at (lists_of w.program i) k) })) room;
+        acted = ap (λ b. if b then None else Some (record (goes_on w.controls t ItemsPut) { pools = put_into w.program pool items w.controls.pools })) room;
       }
 
   can_peek : (x : ℕ) → CanDo w i t r (Peek x)
@@ -196,8 +209,8 @@ module _ (w : World) (i : ℕ) (t : Standing) (r : ℤ) where
       go [] e = record { rings = w; move = _; in_the_rings = refl; acted = ap (λ cs. peeks w.program w.controls i t x (front_of cs)) e }
       go (c ∷ cs) e = record { rings = w; move = _; in_the_rings = refl; acted = ap (λ cs. peeks w.program w.controls i t x (front_of cs)) e }
 
-  can_lock : w.controls.holder ≡ None → CanDo w i t r Lock
-  can_lock e = record { rings = w; move = _; in_the_rings = refl; acted = ap (locks w.controls i t Plain) e }
+  can_lock : (wanted : Locks) → are_free wanted w.controls.holders ≡ true → CanDo w i t r (Lock wanted)
+  can_lock wanted e = record { rings = w; move = takes_locks w.controls i t wanted; in_the_rings = refl; acted = ap (λ b. if b then Some (takes_locks w.controls i t wanted) else None) e }
 
   steps : (l : Line) → StandsAt w i t l → CanDo w i t r l.stmt → (s : Event × World) × (thread_step w i r ≡ Some s)
   steps l s d = (
@@ -221,16 +234,16 @@ module _ (w : World) (safe : fault_of w ≡ None) (kept : IsKept w) (i : ℕ) (t
       let h = resolved_in w.program kept.made i t.place (Do op) (ap stmt_of a.line ∙ ap Some e) in
       ready l a (Do op) e (λ r u. can_do w i t r kept.memory h.0 op h.3 (subst (λ x. HasNoFault w i x) e (no_fault l a)) (λ x. u))
 
-  lock_goes : (l : Line) → StandsAt w i t l → l.stmt ≡ Lock → (holder : Option ℕ) → w.controls.holder ≡ holder → GoesOn w i
-  lock_goes l a e None h = ready l a Lock e (λ r u. can_lock w i t r h)
-  lock_goes l a e (Some j) h = inr (inl (l, j, next_of_standing w i t l a, e, h))
+  lock_goes : (l : Line) → StandsAt w i t l → (wanted : Locks) → l.stmt ≡ Lock wanted → (free : Bool) → are_free wanted w.controls.holders ≡ free → GoesOn w i
+  lock_goes l a wanted e true h = ready l a (Lock wanted) e (λ r u. can_lock w i t r wanted h)
+  lock_goes l a wanted e false h = inr (inl (l, wanted, next_of_standing w i t l a, e, h))
 
   -- at a line that is an event
   pub line_goes : (l : Line) → StandsAt w i t l → (s : Stmt) → l.stmt ≡ s → may_rest (Some s) ≡ true → GoesOn w i
   line_goes l a (Do op) e h = op_goes l a op e
-  line_goes l a (Put k) e h = ready l a (Put k) e (λ r u. can_put w i t r k (subst (λ x. HasNoFault w i x) e (no_fault l a)))
-  line_goes l a Lock e h = lock_goes l a e w.controls.holder refl
-  line_goes l a (EndLock o) e h = ready l a (EndLock o) e (λ r u. record { rings = w; move = _; in_the_rings = refl; acted = refl })
+  line_goes l a (Put pool k) e h = ready l a (Put pool k) e (λ r u. can_put w i t r pool k (subst (λ x. HasNoFault w i x) e (no_fault l a)))
+  line_goes l a (Lock wanted) e h = lock_goes l a wanted e (are_free wanted w.controls.holders) refl
+  line_goes l a (EndLock o released) e h = ready l a (EndLock o released) e (λ r u. record { rings = w; move = _; in_the_rings = refl; acted = refl })
   line_goes l a (If test) e h = ready l a (If test) e (λ r u. can_decide w i t r test)
   line_goes l a (Peek x) e h = ready l a (Peek x) e (λ r u. can_peek w i t r x)
   line_goes l a (Loop k) e h = ready l a (Loop k) e (λ r u. record { rings = w; move = _; in_the_rings = refl; acted = refl })

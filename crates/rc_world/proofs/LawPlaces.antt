@@ -8,6 +8,7 @@ use Rattle.std.proofs.lemmas.List.Sums.{fails_before_first}
 use Rattle.std.proofs.lemmas.Option.{get_or_from_slice_get, same_Some, slice_get-get_or, slice_get_within}
 use Rattle.rc_lang.specs.Comparisons.{compares}
 use Rattle.rc_lang.specs.declared.lines.Line.{Line}
+use Rattle.rc_lang.specs.declared.lines.Locks.{Locks}
 use Rattle.rc_lang.specs.declared.lines.Op.{Op}
 use Rattle.rc_lang.specs.declared.lines.Op.TheVariants.{Set, Assign, Add, Subtract, Load, Store, Fill, Print, GetSqe, PrepRead, PrepWrite, PrepFsync, PrepNop, SetData64, Submit, SubmitAndWait, CqeSeen}
 use Rattle.rc_lang.specs.declared.lines.Stmt.{Stmt}
@@ -19,23 +20,23 @@ use Rattle.rc_lang.proofs.Jumps.{IsLaid, IsOpen, back_open, break_open, false_op
 use Rattle.rc_lang.proofs.Lookups.{line_with}
 use Rattle.rc_lang.proofs.Rests.{IsRest, or_on, passed_to, same_settled, settled as settles_at, settles, start_rests}
 use Rattle.rc_lang.proofs.Spans.{nothing_between, other_between}
-use Rattle.rc_split.specs.Pools.{Pool, includes, overfills, with_items, without_items}
+use Rattle.rc_split.specs.Pools.{Pools, all_pooled, includes, overfills, pool_of, put_into, taken_from}
 use Rattle.rc_world.specs.declared.controls.Answer.{Answer}
 use Rattle.rc_world.specs.declared.controls.Answer.TheVariants.{Plain, Number, Byte, Front}
-use Rattle.rc_world.specs.declared.event.Action.TheVariants.{VariableSet, Stored, Filled, Printed, Locked, EntryOpened, ReadPrepared, WritePrepared, FsyncPrepared, NopPrepared, DataSet, Looped, ItemsPut}
-use Rattle.rc_world.specs.Controls.{Controls, Move, Standing, acts, arm_for, arms_of, assigns, branches, breaks, decides, does, first_place, goes_on, hop_of, is_case, is_none_arm, is_other, loads, locks, low_byte, none_arm, operand_value, or_from, peeks, plainly, puts_items, reaps, releases_lock, rest_at, returns_to, sets_variable, settled, submits, tries_to_take, variable, wrapped}
+use Rattle.rc_world.specs.declared.event.Action.TheVariants.{VariableSet, Stored, Filled, Printed, EntryOpened, ReadPrepared, WritePrepared, FsyncPrepared, NopPrepared, DataSet, Looped, ItemsPut}
+use Rattle.rc_world.specs.Controls.{Controls, Move, Standing, acts, are_free, arm_for, arms_of, assigns, branches, breaks, decides, does, first_place, goes_on, hop_of, is_case, is_none_arm, is_other, loads, locks, low_byte, none_arm, operand_value, or_from, peeks, plainly, puts_items, reaps, releases_locks, rest_at, returns_to, sets_variable, settled, submits, takes_locks, tries_to_take, variable, wrapped}
 use Rattle.rc_world.proofs.Laid.{laid}
 use Rattle.rc_world.proofs.LawLists.{get_in_range, range_has}
 
 -- ---- the first line that passes a test
 
 -- A line that passes the test is at this place.
-record Passes (test : Stmt → Bool) (lines : List Line) (k : ℕ) : Type 0 where
-  line : Line
-  stands : slice_get lines k ≡ Some line
-  passes : test line.stmt ≡ true
+pub record Passes (test : Stmt → Bool) (lines : List Line) (k : ℕ) : Type 0 where
+  pub line : Line
+  pub stands : slice_get lines k ≡ Some line
+  pub passes : test line.stmt ≡ true
 
-place_passes : (test : Stmt → Bool) (lines : List Line) (k : ℕ) → first_place test lines ≡ Some k → Passes test lines k
+pub place_passes : (test : Stmt → Bool) (lines : List Line) (k : ℕ) → first_place test lines ≡ Some k → Passes test lines k
 place_passes test [] k e = absurd (cc)
 place_passes test (l ∷ lines) k e =
     let h = position-Some (λ (m : Line). test m.stmt) (l ∷ lines) k l e in
@@ -99,7 +100,7 @@ module _ (program : Program) (is : IsProgram program) (i : ℕ) where
   -- ---- the arms of a peek
 
   module _ (o x : ℕ) (here : stmt_at (lines_of program i) o ≡ Some (Peek x)) where
-    arms : HasArms (lines_of program i) (ends_in (slice_get program.threads i)) o
+    pub arms : HasArms (lines_of program i) (ends_in (slice_get program.threads i)) o
     arms = lines_laid.linked o (Peek x) here
 
     in_arm : (test : Stmt → Bool) → ((s : Stmt) → test s ≡ true → leads_open s ≡ true) → (k : ℕ) → first_place test (arms_of program i o) ≡ Some k → IsOpen (lines_of program i) (o + k + 1)
@@ -108,7 +109,7 @@ module _ (program : Program) (is : IsProgram program) (i : ℕ) where
         open_behind (lines_of program i) lines_laid.each (o + k) p.line.stmt (ap stmt_of (get_in_range (lines_of program i) o (end_at program i o) k p.line p.stands)) (leads p.line.stmt p.passes)
 
     -- an arm that is between the peek and its end is found
-    arm_found : (test : Stmt → Bool) (s : Stmt) (p : ℕ) → stmt_at (lines_of program i) p ≡ Some s → test s ≡ true → (o < p) × (p < end_at program i o) → (k : ℕ) × (first_place test (arms_of program i o) ≡ Some k)
+    pub arm_found : (test : Stmt → Bool) (s : Stmt) (p : ℕ) → stmt_at (lines_of program i) p ≡ Some s → test s ≡ true → (o < p) × (p < end_at program i o) → (k : ℕ) × (first_place test (arms_of program i o) ≡ Some k)
     arm_found test s p e t b =
         let l = line_with (lines_of program i) p s e in
         let lt : o < p = b.0 in
@@ -154,7 +155,7 @@ module _ (program : Program) (is : IsProgram program) (i : ℕ) where
     assign_place : (x : ℕ) (v : ℤ) → assigns c t x v a ≡ Some m → m.place ≡ t.place + 1
     assign_place x v e = plain_place (sets_variable c t x v (VariableSet v)) a e
 
-    op_place : (op : Op) → does c t op a ≡ Some m → m.place ≡ t.place + 1
+    pub op_place : (op : Op) → does c t op a ≡ Some m → m.place ≡ t.place + 1
     op_place (Set x n) e = assign_place x n e
     op_place (Assign x y) e = assign_place x (variable t y) e
     op_place (Add x y z) e = assign_place x (wrapped (operand_value t y +ℤ operand_value t z)) e
@@ -184,7 +185,7 @@ module _ (program : Program) (is : IsProgram program) (i : ℕ) where
       branch_open true e = behind (If test) here refl e
       branch_open false e = goes_to (end_at program i t.place + 1) e (false_open (lines_of program i) _ lines_laid t.place test here)
 
-      take_open : (pool : Pool) (holds : Bool) → m.place ≡ (if holds then record (branches program c i t true) { pool = pool } else branches program c i t false).place → IsOpen (lines_of program i) m.place
+      take_open : (pools : Pools) (holds : Bool) → m.place ≡ (if holds then record (branches program c i t true) { pools = pools } else branches program c i t false).place → IsOpen (lines_of program i) m.place
       take_open pool true e = branch_open true e
       take_open pool false e = branch_open false e
 
@@ -194,9 +195,9 @@ module _ (program : Program) (is : IsProgram program) (i : ℕ) where
       decide_open ReadyZero _ e = absurd (cc)
       decide_open (SpaceAtLeast k) (Number n) e = branch_open (int_le (pos k) n) (same_place _ e)
       decide_open (SpaceAtLeast k) _ e = absurd (cc)
-      decide_open (Take k) b e =
+      decide_open (Take pool k) b e =
           let items = items_at (lists_of program i) k in
-          take_open (without_items program c.pool items) (includes program c.pool items) (plain_place (tries_to_take program c i t items) b e)
+          take_open (taken_from program pool items c.pools) (includes program (pool_of c.pools pool) items) (plain_place (tries_to_take program c i t pool items) b e)
 
     peek_open : (x : ℕ) → stmt_at (lines_of program i) t.place ≡ Some (Peek x) → (b : Answer) → peeks program c i t x b ≡ Some m → IsOpen (lines_of program i) m.place
     peek_open x h Plain e = goes_to (none_arm program i t.place + 1) (same_place _ e) (open_none_arm t.place x h)
@@ -204,23 +205,26 @@ module _ (program : Program) (is : IsProgram program) (i : ℕ) where
     peek_open x h (Number n) e = absurd (cc)
     peek_open x h (Byte n) e = absurd (cc)
 
-    lock_place : (holder : Option ℕ) → locks c i t a holder ≡ Some m → m.place ≡ t.place + 1
-    lock_place None e = plain_place (record { action = Locked; holder = Some i; peeked = c.peeked; pool = c.pool; place = t.place + 1; variables = t.variables }) a e
-    lock_place (Some j) e = absurd (cc)
+    free_place : (free : Bool) (n : Move) → (if free then plainly n a else None) ≡ Some m → m.place ≡ n.place
+    free_place true n e = plain_place n a e
+    free_place false n e = absurd (cc)
+
+    lock_place : (wanted : Locks) → locks c i t wanted a ≡ Some m → m.place ≡ t.place + 1
+    lock_place wanted e = free_place (are_free wanted c.holders) (takes_locks c i t wanted) e
 
     room_place : (full : Bool) (n : Move) → (if full then None else plainly n a) ≡ Some m → m.place ≡ n.place
     room_place true n e = absurd (cc)
     room_place false n e = plain_place n a e
 
-    put_place : (items : Items) → puts_items program c t items a ≡ Some m → m.place ≡ t.place + 1
-    put_place items e = room_place (overfills program c.pool items) (record (goes_on c t ItemsPut) { pool = with_items program c.pool items }) e
+    pub put_place : (pool : Option ℕ) (items : Items) → puts_items program c t pool items a ≡ Some m → m.place ≡ t.place + 1
+    put_place pool items e = room_place (overfills program (all_pooled program c.pools) items) (record (goes_on c t ItemsPut) { pools = put_into program pool items c.pools }) e
 
     -- What a statement does leads to a place where the thread may go.
     pub acts_open : (s : Stmt) → stmt_at (lines_of program i) t.place ≡ Some s → acts program c i t s a ≡ Some m → IsOpen (lines_of program i) m.place
     acts_open (Do op) h e = behind (Do op) h refl (op_place op e)
-    acts_open (Put k) h e = behind (Put k) h refl (put_place (items_at (lists_of program i) k) e)
-    acts_open Lock h e = behind Lock h refl (lock_place c.holder e)
-    acts_open (EndLock o) h e = behind (EndLock o) h refl (plain_place (releases_lock c t) a e)
+    acts_open (Put pool k) h e = behind (Put pool k) h refl (put_place pool (items_at (lists_of program i) k) e)
+    acts_open (Lock wanted) h e = behind (Lock wanted) h refl (lock_place wanted e)
+    acts_open (EndLock o released) h e = behind (EndLock o released) h refl (plain_place (releases_locks c t released) a e)
     acts_open (If test) h e = decide_open test h test a e
     acts_open (Peek x) h e = peek_open x h a e
     acts_open (Loop k) h e = behind (Loop k) h refl (plain_place (goes_on c t Looped) a e)

@@ -68,7 +68,7 @@ module _ (program : Program) (w : World) (h : IsSound program w) (safe : clashes
 abbrev at_start : Thread → Standing
 at_start t = record { place = 0; variables = replicate 64 (pos 0) }
 
-start_of : (threads : List Thread) (i : ℕ) (t : Standing) → slice_get (map at_start threads) i ≡ Some t → t.place ≡ 0
+pub start_of : (threads : List Thread) (i : ℕ) (t : Standing) → slice_get (map at_start threads) i ≡ Some t → t.place ≡ 0
 start_of [] i t e = absurd (cc)
 start_of (x ∷ threads) zero t e = ap (λ (y : Standing). y.place) (sym (same_Some _ _ e))
 start_of (x ∷ threads) (suc i) t e = start_of threads i t e
@@ -80,7 +80,7 @@ sound_at_start program made = record {
   kept = kept_start program made;
 }
 
-after_step : (program : Program) (w after : World) (e : Event) → IsSound program w → IsStep w e after → IsSound program after
+pub after_step : (program : Program) (w after : World) (e : Event) → IsSound program w → IsStep w e after → IsSound program after
 after_step program w after e h s = elim s.step [
   | inl q ↦ after_thread program w after q.0 q.1 h (stepped w q.0 q.1 e after q.2)
   | inr q ↦ after_kernel program w h (none_in_kernel w KernelClash (none_of_kind w s.no_fault KernelClash)) q.0 q.1 q.2 after (completed w q.0 q.1 q.2 e after (slice_get w.pending q.0) refl q.3)

@@ -5,7 +5,7 @@ use Rattle.std.proofs.lemmas.List.{length-replicate, length-take}
 use Rattle.std.proofs.lemmas.Option.{slice_get_past}
 use Rattle.rc_lang.specs.declared.lines.Line.{Line}
 use Rattle.rc_lang.specs.declared.lines.Stmt.{Stmt}
-use Rattle.rc_lang.specs.declared.lines.Stmt.TheVariants.{Lock, Else, EndIf, Case, Other, Nothing, EndArm, EndPeek}
+use Rattle.rc_lang.specs.declared.lines.Stmt.TheVariants.{Else, EndIf, Case, Other, Nothing, EndArm, EndPeek}
 use Rattle.rc_lang.specs.Program.{bytes_at, line_at, lines_of}
 use Rattle.rc_lang.specs.Requests.{may_complete}
 use Rattle.rc_world.specs.declared.controls.Next.{Next}
@@ -35,11 +35,11 @@ use Rattle.rc_world.proofs.LawRuns.{IsSound, run_sound, sound_at_start}
 take_allowed : (w : World) (take : Option ℤ) (n : Next) → is_ready w take n ≡ true → is_take w (take_of w take) ≡ true
 take_allowed w None (Ready l) e = le-leb (length w.queued) (length w.queued) (omega arith)
 take_allowed w (Some r) (Ready l) e = (and_parts (is_submit l.stmt) (is_take w r) e).1
-take_allowed w take TakenLock e = absurd (cc)
+take_allowed w take (TakenLock wanted) e = absurd (cc)
 take_allowed w take Ended e = absurd (cc)
 
 -- what is enabled is at an event
-ready_rests : (w : World) (take : Option ℤ) (l : Line) (s : Stmt) → is_ready w take (ready_or_taken w.controls.holder l s) ≡ true → may_rest (Some s) ≡ true
+ready_rests : (w : World) (take : Option ℤ) (l : Line) (s : Stmt) → is_ready w take (ready_or_taken w.controls.holders l s) ≡ true → may_rest (Some s) ≡ true
 ready_rests w take l (Else o) e = absurd (cc)
 ready_rests w take l (EndIf o) e = absurd (cc)
 ready_rests w take l (Case o u) e = absurd (cc)
@@ -52,20 +52,20 @@ ready_rests w take l _ e = refl
 module _ (w : World) (safe : fault_of w ≡ None) (kept : IsKept w) (i : ℕ) (take : Option ℤ) (ready : is_ready w take (next_of w.program w.controls i) ≡ true) where
   -- it isn't enabled where the thread has ended, nor at a taken lock
   not_ended : next_line w.program w.controls i ≡ None → ⊥
-  not_ended e = let d : is_ready w take (next_of w.program w.controls i) ≡ false = ap (λ l. is_ready w take (next_by w.controls.holder l)) e in cc
+  not_ended e = let d : is_ready w take (next_of w.program w.controls i) ≡ false = ap (λ l. is_ready w take (next_by w.controls.holders l)) e in cc
 
   goes : GoesOn w i → (s : Event × World) × (thread_step w i (take_of w take) ≡ Some s)
   goes (inl z) = absurd (not_ended (ap (next_at w.program i) z.1 ∙ slice_get_past (lines_of w.program i) z.0.place (let q : z.0.place ≡ length (lines_of w.program i) = z.2 in omega arith)))
   goes (inr (inl z)) =
       let d : is_ready w take (next_of w.program w.controls i) ≡ false =
-      ap (λ l. is_ready w take (next_by w.controls.holder l)) z.2 ∙ ap (λ s. is_ready w take (ready_or_taken w.controls.holder z.0 s)) z.3 ∙ ap (λ h. is_ready w take (ready_or_taken h z.0 Lock)) z.4 in
+      ap (λ l. is_ready w take (next_by w.controls.holders l)) z.2 ∙ ap (λ s. is_ready w take (ready_or_taken w.controls.holders z.0 s)) z.3 ∙ ap (λ free. is_ready w take (if free then Ready z.0 else TakenLock z.1)) z.4 in
       absurd (cc)
   goes (inr (inr step)) = step (take_of w take) (take_allowed w take (next_of w.program w.controls i) ready)
 
   at_line : (t : Standing) → slice_get w.controls.threads i ≡ Some t → (o : Option Line) → line_at w.program i t.place ≡ o → GoesOn w i
   at_line t c None e = absurd (not_ended (ap (next_at w.program i) c ∙ e))
   at_line t c (Some l) e =
-      let r = sym (ap (λ o. is_ready w take (next_by w.controls.holder o)) (ap (next_at w.program i) c ∙ e)) ∙ ready in
+      let r = sym (ap (λ o. is_ready w take (next_by w.controls.holders o)) (ap (next_at w.program i) c ∙ e)) ∙ ready in
       line_goes w safe kept i t c l (record { standing = c; line = e }) l.stmt refl (ready_rests w take l l.stmt r)
 
   at_thread : (o : Option Standing) → slice_get w.controls.threads i ≡ o → GoesOn w i

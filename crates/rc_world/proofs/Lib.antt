@@ -1,5 +1,6 @@
 pub mod Pieces
 mod Pooling
+mod Locking
 pub mod Lists
 pub mod Requests
 pub mod Memory
@@ -22,8 +23,10 @@ pub mod LawFaultless
 pub mod LawGoes
 pub mod LawLeast
 pub mod LawLists
+mod LawLocks
 pub mod LawPlaces
 pub mod LawRuns
 pub mod LawSteps
 pub mod LawTraces
 pub mod Harmless
+mod Free

@@ -7,8 +7,9 @@ use Rattle.rc_lang.specs.declared.lines.Stmt.TheVariants.{Do, If}
 use Rattle.rc_lang.specs.declared.lines.Test.{Test}
 use Rattle.rc_lang.specs.declared.lines.Test.TheVariants.{Compare, ReadyZero, SpaceAtLeast, Take}
 use Rattle.rc_lang.specs.Program.{IsOperand, IsProgram, Items, Program, items_at, lines_of, lists_of, stmt_at}
-use Rattle.rc_split.specs.Pools.{Pool, without_items}
+use Rattle.rc_split.specs.Pools.{Pools, taken_from}
 use Rattle.rc_world.specs.declared.controls.Answer.{Answer}
+use Rattle.rc_world.specs.declared.controls.Holders.{Holders}
 use Rattle.rc_world.specs.declared.event.Action.{Action}
 use Rattle.rc_world.specs.Controls.{Controls, Move, Standing, acts, branches, hop_of, is_arm_end, made, passes_arm, rest_at}
 
@@ -42,17 +43,21 @@ Decides program i old test a holds new = act_at program i old (If test) a ≡ So
 abbrev pub list_at : Program → ℕ → ℕ → Items
 list_at program i k = items_at (lists_of program i) k
 
-abbrev pub after_take : Program → ℕ → ℕ → Controls → Bool → Controls
-after_take program i k c holds = record c { pool = if holds then without_items program c.pool (list_at program i k) else c.pool }
+abbrev pub after_take : Program → ℕ → Option ℕ → ℕ → Controls → Bool → Controls
+after_take program i pool k c holds = record c { pools = if holds then taken_from program pool (list_at program i k) c.pools else c.pools }
 
 -- with another value of a variable
 abbrev pub with_variable : Controls → ℕ → ℕ → ℤ → Controls
 with_variable c i x v =
     record c { threads = slice_set c.threads i (record { place = (standing_at c i).place; variables = slice_set (standing_at c i).variables x v }) }
 
--- with another pool
-abbrev pub with_pool : Controls → Pool → Controls
-with_pool c pool = record c { pool = pool }
+-- with other holders of the locks
+abbrev pub with_holders : Controls → Holders → Controls
+with_holders c h = record c { holders = h }
+
+-- with other pools
+abbrev pub with_pools : Controls → Pools → Controls
+with_pools c pools = record c { pools = pools }
 
 -- with the thread gone to a place
 abbrev pub gone_to : Program → Controls → ℕ → ℕ → Controls
@@ -79,7 +84,7 @@ abbrev pub TestIsSmall : Program → ℕ → Test → Type 0
 TestIsSmall program i (Compare x comparison n) = x < 64
 TestIsSmall program i ReadyZero = Unit {0}
 TestIsSmall program i (SpaceAtLeast n) = Unit {0}
-TestIsSmall program i (Take k) = k < length (lists_of program i)
+TestIsSmall program i (Take pool k) = k < length (lists_of program i)
 
 -- The numbers of a statement are small enough: its variables are some of 64, and a prep names a file and a buffer that
 -- may be there.

@@ -4,6 +4,7 @@ use Rattle.std.specs.Int.{cast_unsigned, int_wrap, w64}
 use Rattle.std.specs.Ordering.{int_eq}
 use Rattle.rc_lang.specs.Comparisons.{compares}
 use Rattle.rc_lang.specs.declared.lines.Line.{Line}
+use Rattle.rc_lang.specs.declared.lines.Locks.{Locks}
 use Rattle.rc_lang.specs.declared.lines.Op.{Op}
 use Rattle.rc_lang.specs.declared.lines.Op.TheVariants.{Set, Assign, Add, Subtract, Load, Store, Fill, Print, GetSqe, PrepRead, PrepWrite, PrepFsync, PrepNop, SetData64, Submit, SubmitAndWait, CqeSeen}
 use Rattle.rc_lang.specs.declared.lines.Operand.{Operand}
@@ -13,9 +14,10 @@ use Rattle.rc_lang.specs.declared.lines.Stmt.TheVariants.{Do, Put, Lock, EndLock
 use Rattle.rc_lang.specs.declared.lines.Test.{Test}
 use Rattle.rc_lang.specs.declared.lines.Test.TheVariants.{Compare, ReadyZero, SpaceAtLeast, Take}
 use Rattle.rc_lang.specs.Program.{Program, Items, Thread, items_at, lines_of, line_at, lists_of, end_at, stmt_at}
-use Rattle.rc_split.specs.Pools.{Pool, empty_pool, includes, overfills, with_items, without_items}
+use Rattle.rc_split.specs.Pools.{Pools, all_pooled, empty_pools, includes, overfills, pool_of, put_into, taken_from}
 use Rattle.rc_world.specs.declared.controls.Answer.{Answer}
 use Rattle.rc_world.specs.declared.controls.Answer.TheVariants.{Plain, Number, Byte, Front}
+use Rattle.rc_world.specs.declared.controls.Holders.{Holders}
 use Rattle.rc_world.specs.declared.event.Action.{Action}
 use Rattle.rc_world.specs.declared.event.Action.TheVariants.{VariableSet, Loaded, Stored, Filled, Printed, Locked, Released, EntryOpened, ReadPrepared, WritePrepared, FsyncPrepared, NopPrepared, DataSet, Submitted, Peeked, PeekedNone, Reaped, Branched, Looped, LoopLeft, ItemsPut}
 use Rattle.rc_world.specs.declared.event.Event.{Event}
@@ -26,12 +28,31 @@ pub record Standing : Type 0 where
   pub place : ℕ
   pub variables : List ℤ
 
--- Where each thread is, which one holds the lock, whether the front completion is peeked, and the pool.
+-- Where each thread is, who holds the lock of each side of the ring, whether the front completion is peeked, and the pools.
 pub record Controls : Type 0 where
   pub threads : List Standing
-  pub holder : Option ℕ
+  pub holders : Holders
   pub peeked : Bool
-  pub pool : Pool
+  pub pools : Pools
+
+-- ---- locks
+
+-- both locks are free
+abbrev pub nobody : Holders
+nobody = record { sq = None; cq = None }
+
+-- Nobody holds a lock that is wanted.
+abbrev pub is_free : Bool → Option ℕ → Bool
+is_free false holder = true
+is_free true None = true
+is_free true (Some i) = false
+
+abbrev pub are_free : Locks → Holders → Bool
+are_free wanted h = is_free wanted.sq h.sq && is_free wanted.cq h.cq
+
+-- where these locks have another holder, or none
+abbrev pub held_by : Option ℕ → Locks → Holders → Holders
+held_by holder l h = record { sq = if l.sq then holder else h.sq; cq = if l.cq then holder else h.cq }
 
 -- ---- variables
 
@@ -113,23 +134,23 @@ none_arm program i o = o + unwrap_or (first_place (is_none_arm o) (arms_of progr
 
 -- ---- what a statement does
 
--- What the thread does, who holds the lock then, whether the front is peeked, the pool, where the thread goes, and its
+-- What the thread does, who holds the locks then, whether the front is peeked, the pools, where the thread goes, and its
 -- variables.
 pub record Move : Type 0 where
   pub action : Action
-  pub holder : Option ℕ
+  pub holders : Holders
   pub peeked : Bool
-  pub pool : Pool
+  pub pools : Pools
   pub place : ℕ
   pub variables : List ℤ
 
 -- to the next line
 abbrev pub goes_on : Controls → Standing → Action → Move
-goes_on c t action = record { action = action; holder = c.holder; peeked = c.peeked; pool = c.pool; place = t.place + 1; variables = t.variables }
+goes_on c t action = record { action = action; holders = c.holders; peeked = c.peeked; pools = c.pools; place = t.place + 1; variables = t.variables }
 
 -- to the next line, with another value of a variable
 abbrev pub sets_variable : Controls → Standing → ℕ → ℤ → Action → Move
-sets_variable c t x v action = record { action = action; holder = c.holder; peeked = c.peeked; pool = c.pool; place = t.place + 1; variables = slice_set t.variables x v }
+sets_variable c t x v action = record { action = action; holders = c.holders; peeked = c.peeked; pools = c.pools; place = t.place + 1; variables = slice_set t.variables x v }
 
 -- where nothing is answered
 abbrev pub plainly : Move → Answer → Option Move
@@ -149,7 +170,7 @@ submits c t x _ = None
 
 -- io_uring_cqe_seen(3): then nothing is peeked.
 abbrev pub reaps : Controls → Standing → Answer → Option Move
-reaps c t (Front cqe) = Some (record { action = Reaped cqe.user_data; holder = c.holder; peeked = false; pool = c.pool; place = t.place + 1; variables = t.variables })
+reaps c t (Front cqe) = Some (record { action = Reaped cqe.user_data; holders = c.holders; peeked = false; pools = c.pools; place = t.place + 1; variables = t.variables })
 reaps c t _ = None
 
 abbrev pub does : Controls → Standing → Op → Answer → Option Move
@@ -174,54 +195,60 @@ does c t CqeSeen a = reaps c t a
 -- An if whose test is false leads past its else or, without one, past its closing brace.
 abbrev pub branches : Program → Controls → ℕ → Standing → Bool → Move
 branches program c i t holds =
-    record { action = Branched holds; holder = c.holder; peeked = c.peeked; pool = c.pool; place = (if holds then t.place else end_at program i t.place) + 1; variables = t.variables }
+    record { action = Branched holds; holders = c.holders; peeked = c.peeked; pools = c.pools; place = (if holds then t.place else end_at program i t.place) + 1; variables = t.variables }
 
--- What an `if take` asks for leaves the pool where the pool has it, and else nothing does.
-abbrev pub tries_to_take : Program → Controls → ℕ → Standing → Items → Move
-tries_to_take program c i t items =
-    if includes program c.pool items then record (branches program c i t true) { pool = without_items program c.pool items } else branches program c i t false
+-- What an `if take` asks for leaves the pool that it names where that has it, and else nothing does.
+abbrev pub tries_to_take : Program → Controls → ℕ → Standing → Option ℕ → Items → Move
+tries_to_take program c i t pool items =
+    if includes program (pool_of c.pools pool) items then record (branches program c i t true) { pools = taken_from program pool items c.pools } else branches program c i t false
 
 abbrev pub decides : Program → Controls → ℕ → Standing → Test → Answer → Option Move
 decides program c i t (Compare x comparison n) a = plainly (branches program c i t (compares comparison (variable t x) n)) a
 decides program c i t ReadyZero (Number n) = Some (branches program c i t (int_eq n (pos 0)))
 decides program c i t (SpaceAtLeast m) (Number n) = Some (branches program c i t (int_le (pos m) n))
-decides program c i t (Take k) a = plainly (tries_to_take program c i t (items_at (lists_of program i) k)) a
+decides program c i t (Take pool k) a = plainly (tries_to_take program c i t pool (items_at (lists_of program i) k)) a
 decides program c i t _ _ = None
 
 -- io_uring_peek_cqe(3): without a completion the variable is -EAGAIN, else the front's result, and the front is peeked.
 abbrev pub peeks : Program → Controls → ℕ → Standing → ℕ → Answer → Option Move
 peeks program c i t x Plain =
-    Some (record { action = PeekedNone; holder = c.holder; peeked = c.peeked; pool = c.pool; place = none_arm program i t.place + 1; variables = slice_set t.variables x (negsuc 10) })
+    Some (record { action = PeekedNone; holders = c.holders; peeked = c.peeked; pools = c.pools; place = none_arm program i t.place + 1; variables = slice_set t.variables x (negsuc 10) })
 peeks program c i t x (Front cqe) =
-    Some (record { action = Peeked cqe; holder = c.holder; peeked = true; pool = c.pool; place = arm_for program i t.place cqe.user_data + 1; variables = slice_set t.variables x cqe.res })
+    Some (record { action = Peeked cqe; holders = c.holders; peeked = true; pools = c.pools; place = arm_for program i t.place cqe.user_data + 1; variables = slice_set t.variables x cqe.res })
 peeks program c i t x _ = None
 
--- The items go to the pool, where it has room for them.
-abbrev pub puts_items : Program → Controls → Standing → Items → Answer → Option Move
-puts_items program c t items a = if overfills program c.pool items then None else plainly (record (goes_on c t ItemsPut) { pool = with_items program c.pool items }) a
+-- The items go to the pool that is named, where all pools together have room for them.
+abbrev pub puts_items : Program → Controls → Standing → Option ℕ → Items → Answer → Option Move
+puts_items program c t pool items a =
+    if overfills program (all_pooled program c.pools) items then None else plainly (record (goes_on c t ItemsPut) { pools = put_into program pool items c.pools }) a
 
--- The lock is taken where nobody holds it.
-abbrev pub locks : Controls → ℕ → Standing → Answer → Option ℕ → Option Move
-locks c i t a None = plainly (record { action = Locked; holder = Some i; peeked = c.peeked; pool = c.pool; place = t.place + 1; variables = t.variables }) a
-locks c i t a (Some j) = None
+-- The wanted locks are taken at once, where each of them is free.
+abbrev pub takes_locks : Controls → ℕ → Standing → Locks → Move
+takes_locks c i t wanted = record (goes_on c t (Locked wanted)) { holders = held_by (Some i) wanted c.holders }
 
-abbrev pub releases_lock : Controls → Standing → Move
-releases_lock c t = record { action = Released; holder = None; peeked = c.peeked; pool = c.pool; place = t.place + 1; variables = t.variables }
+abbrev pub locks : Controls → ℕ → Standing → Locks → Answer → Option Move
+locks c i t wanted a = if are_free wanted c.holders then plainly (takes_locks c i t wanted) a else None
+
+abbrev pub releases_locks : Controls → Standing → Locks → Move
+releases_locks c t released = record (goes_on c t (Released released)) { holders = held_by None released c.holders }
+
+abbrev pub releases : Controls → Standing → Locks → Answer → Option Move
+releases c t released a = plainly (releases_locks c t released) a
 
 -- back to the line after the top of the loop at place o
 abbrev pub returns_to : Controls → Standing → ℕ → Move
-returns_to c t o = record { action = Looped; holder = c.holder; peeked = c.peeked; pool = c.pool; place = o + 1; variables = t.variables }
+returns_to c t o = record { action = Looped; holders = c.holders; peeked = c.peeked; pools = c.pools; place = o + 1; variables = t.variables }
 
--- A break leads past the end of the loop at place o. It may release the lock, and leave an arm of a peek.
-abbrev pub breaks : Program → Controls → ℕ → Standing → ℕ → Bool → Bool → Move
+-- A break leads past the end of the loop at place o. It may release locks, and leave an arm of a peek.
+abbrev pub breaks : Program → Controls → ℕ → Standing → ℕ → Locks → Bool → Move
 breaks program c i t o releases leaves =
-    record { action = LoopLeft; holder = if releases then None else c.holder; peeked = if leaves then false else c.peeked; pool = c.pool; place = end_at program i o + 1; variables = t.variables }
+    record { action = LoopLeft; holders = held_by None releases c.holders; peeked = if leaves then false else c.peeked; pools = c.pools; place = end_at program i o + 1; variables = t.variables }
 
 abbrev pub acts : Program → Controls → ℕ → Standing → Stmt → Answer → Option Move
 acts program c i t (Do op) a = does c t op a
-acts program c i t (Put k) a = puts_items program c t (items_at (lists_of program i) k) a
-acts program c i t Lock a = locks c i t a c.holder
-acts program c i t (EndLock o) a = plainly (releases_lock c t) a
+acts program c i t (Put pool k) a = puts_items program c t pool (items_at (lists_of program i) k) a
+acts program c i t (Lock wanted) a = locks c i t wanted a
+acts program c i t (EndLock o released) a = releases c t released a
 acts program c i t (If test) a = decides program c i t test a
 acts program c i t (Peek x) a = peeks program c i t x a
 acts program c i t (Loop k) a = plainly (goes_on c t Looped) a
@@ -233,9 +260,9 @@ acts program c i t _ a = None
 abbrev pub moved : Program → Controls → ℕ → Move → Controls
 moved program c i m = record {
   threads = slice_set c.threads i (record { place = rest_at program i m.place; variables = m.variables });
-  holder = m.holder;
+  holders = m.holders;
   peeked = if passes_arm program i m.place then false else m.peeked;
-  pool = m.pool;
+  pools = m.pools;
 }
 
 abbrev pub made : Program → Controls → ℕ → Option Move → Option (Action × Controls)
@@ -276,6 +303,6 @@ controls_step program c i a = acts_on program c i a (slice_get c.threads i) (nex
 
 -- ---- the start
 
--- Every thread at its first line, its variables 0; the lock is free, nothing is peeked, and the pool is empty.
+-- Every thread at its first line, its variables 0; the locks are free, nothing is peeked, and the pools are empty.
 abbrev pub start_controls : Program → Controls
-start_controls program = record { threads = map (λ (t : Thread). record { place = 0; variables = replicate 64 (pos 0) }) program.threads; holder = None; peeked = false; pool = empty_pool }
+start_controls program = record { threads = map (λ (t : Thread). record { place = 0; variables = replicate 64 (pos 0) }) program.threads; holders = nobody; peeked = false; pools = empty_pools (length program.pools) }

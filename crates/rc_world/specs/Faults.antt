@@ -1,5 +1,5 @@
 -- The faults of a world. Each is read off one world, before the harmful step.
-use Rattle.std.specs.Prelude.{ℕ, ◌+◌, Bool, true, false, ◌&&◌, ◌||◌, not, if◌then◌else◌, List, [], ◌∷◌, ◌++◌, drop, length, Option, Some, None, nat_eq, nat_le, slice_get}
+use Rattle.std.specs.Prelude.{ℕ, ◌+◌, Bool, true, false, ◌&&◌, ◌||◌, not, if◌then◌else◌, List, [], ◌∷◌, ◌++◌, drop, length, Option, Some, None, is_none, nat_eq, nat_le, slice_get}
 use Rattle.std.specs.List.{list_any}
 use Rattle.rc_lang.specs.declared.lines.Line.{Line}
 use Rattle.rc_lang.specs.declared.lines.Op.{Op}
@@ -12,7 +12,7 @@ use Rattle.rc_lang.specs.declared.request.Kind.{Kind}
 use Rattle.rc_lang.specs.declared.request.Kind.TheVariants.{Nop, Fsync, Read, Write}
 use Rattle.rc_lang.specs.declared.request.Request.{Request}
 use Rattle.rc_lang.specs.Program.{Program, bytes_at, items_at, lists_of}
-use Rattle.rc_split.specs.Pools.{overfills}
+use Rattle.rc_split.specs.Pools.{all_pooled, overfills}
 use Rattle.rc_world.specs.declared.event.Completion.{Completion}
 use Rattle.rc_world.specs.declared.fault.Fault.{Fault}
 use Rattle.rc_world.specs.declared.fault.FaultKind.{FaultKind}
@@ -26,6 +26,16 @@ use Rattle.rc_world.specs.Machine.{Pending, World, is_read, used_entries}
 abbrev pub is_holder : Option ℕ → ℕ → Bool
 is_holder None i = false
 is_holder (Some j) i = nat_eq j i
+
+-- The thread holds the lock of the submission side, that of the completion side, both.
+abbrev pub has_sq : World → ℕ → Bool
+has_sq w i = is_holder w.controls.holders.sq i
+
+abbrev pub has_cq : World → ℕ → Bool
+has_cq w i = is_holder w.controls.holders.cq i
+
+abbrev pub has_both_locks : World → ℕ → Bool
+has_both_locks w i = has_sq w i && has_cq w i
 
 abbrev pub is_closed : Slot → Bool
 is_closed Closed = true
@@ -145,47 +155,60 @@ abbrev pub front_is_one : World → List Completion → Bool
 front_is_one w [] = false
 front_is_one w (c ∷ cs) = nat_eq (count_of c.user_data w.completed) 1
 
--- F5: the holder's next is `get_sqe`, and no entry is free (io_uring_get_sqe(3)).
+-- F5: the next of who has the submission side is `get_sqe`, and no entry is free (io_uring_get_sqe(3)).
 abbrev pub is_full_at : World → Stmt → Bool
 is_full_at w (Do GetSqe) = nat_le w.program.entries (used_entries w)
 is_full_at w _ = false
 
--- F7: the holder's next is `set_data64 U` on a prepared entry, and a request in flight has that user data.
+-- F7: the next of who has the submission side is `set_data64 U` on a prepared entry, and a request in flight has that
+-- user data.
 abbrev pub is_ambiguous_at : World → Stmt → Bool
 is_ambiguous_at w (Do (SetData64 u)) = is_prepared w.slot && is_in_flight w u
 is_ambiguous_at w _ = false
 
--- F8: the holder's next is `cqe_seen`, and nothing is peeked, or the front isn't that of exactly one request.
+-- F8: the next of who has the completion side is `cqe_seen`, and nothing is peeked, or the front isn't that of exactly
+-- one request.
 abbrev pub is_unknown_at : World → Stmt → Bool
 is_unknown_at w (Do CqeSeen) = not (w.controls.peeked && front_is_one w w.completions)
 is_unknown_at w _ = false
 
--- F9: a call on the ring or the pool is next, of a thread that isn't the holder.
-abbrev pub is_ring_op : Op → Bool
-is_ring_op (Set x n) = false
-is_ring_op (Assign x y) = false
-is_ring_op (Add x y z) = false
-is_ring_op (Subtract x y z) = false
-is_ring_op (Load x b i) = false
-is_ring_op (Store b i x) = false
-is_ring_op (Fill b x) = false
-is_ring_op (Print x) = false
-is_ring_op _ = true
+-- F9: a call is next of a thread that hasn't the lock of its side. Calls on the pool without a name are of both sides,
+-- and those on a pool with a name of none.
+abbrev pub is_sq_op : Op → Bool
+is_sq_op (Set x n) = false
+is_sq_op (Assign x y) = false
+is_sq_op (Add x y z) = false
+is_sq_op (Subtract x y z) = false
+is_sq_op (Load x b i) = false
+is_sq_op (Store b i x) = false
+is_sq_op (Fill b x) = false
+is_sq_op (Print x) = false
+is_sq_op CqeSeen = false
+is_sq_op _ = true
 
-abbrev pub is_ring_test : Test → Bool
-is_ring_test (Compare x comparison n) = false
-is_ring_test ReadyZero = true
-is_ring_test (SpaceAtLeast n) = true
-is_ring_test (Take k) = true
+abbrev pub is_sq_test : Test → Bool
+is_sq_test (Compare x comparison n) = false
+is_sq_test ReadyZero = true
+is_sq_test (SpaceAtLeast n) = true
+is_sq_test (Take pool k) = is_none pool
 
-abbrev pub is_ring_call : Stmt → Bool
-is_ring_call (Do op) = is_ring_op op
-is_ring_call (Put k) = true
-is_ring_call (If test) = is_ring_test test
-is_ring_call (Peek x) = true
-is_ring_call _ = false
+abbrev pub is_sq_call : Stmt → Bool
+is_sq_call (Do op) = is_sq_op op
+is_sq_call (Put pool k) = is_none pool
+is_sq_call (If test) = is_sq_test test
+is_sq_call _ = false
 
--- F10: the holder's next wants the open entry in another stage.
+abbrev pub is_cq_call : Stmt → Bool
+is_cq_call (Do CqeSeen) = true
+is_cq_call (Put pool k) = is_none pool
+is_cq_call (If (Take pool k)) = is_none pool
+is_cq_call (Peek x) = true
+is_cq_call _ = false
+
+abbrev pub lacks_lock : World → ℕ → Stmt → Bool
+lacks_lock w i s = (is_sq_call s && not (has_sq w i)) || (is_cq_call s && not (has_cq w i))
+
+-- F10: the next of who has the submission side wants the open entry in another stage.
 abbrev pub op_is_raw : Slot → Op → Bool
 op_is_raw s GetSqe = not (is_closed s)
 op_is_raw s (PrepRead fd b len off) = not (is_vacant s)
@@ -199,8 +222,8 @@ op_is_raw s _ = false
 
 abbrev pub is_raw_at : Slot → Stmt → Bool
 is_raw_at s (Do op) = op_is_raw s op
-is_raw_at s (EndLock o) = not (is_closed s)
-is_raw_at s (Break o releases leaves) = releases && not (is_closed s)
+is_raw_at s (EndLock o released) = released.sq && not (is_closed s)
+is_raw_at s (Break o releases leaves) = releases.sq && not (is_closed s)
 is_raw_at s _ = false
 
 -- F6: a request is pending, and the completion ring has no room (io_uring(7)).
@@ -208,9 +231,14 @@ abbrev pub overflows : World → List Pending → Bool
 overflows w [] = false
 overflows w (p ∷ ps) = nat_le w.program.completion_entries (length w.completions)
 
--- F12: the holder's next is a put of items that the pool has no room for: some of them are there already.
+-- F12: a put is next of items that the pools together have no room for: some of them are there already. It is a put to
+-- a pool with a name, or that of who has both sides.
+abbrev pub may_put : World → ℕ → Option ℕ → Bool
+may_put w i None = has_both_locks w i
+may_put w i (Some n) = true
+
 abbrev pub is_double_at : World → ℕ → Stmt → Bool
-is_double_at w i (Put k) = overfills w.program w.controls.pool (items_at (lists_of w.program i) k)
+is_double_at w i (Put pool k) = may_put w i pool && overfills w.program (all_pooled w.program w.controls.pools) (items_at (lists_of w.program i) k)
 is_double_at w i _ = false
 
 -- ---- all of them
@@ -221,14 +249,14 @@ has_fault w WriteOfPending i s = writes_pending w.pending (access_of s)
 has_fault w ReadOfFilling i s = reads_filling w.pending (access_of s)
 has_fault w KernelClash i s = false
 has_fault w ThreadRace i s = races w i (access_of s)
-has_fault w RingFull i s = is_holder w.controls.holder i && is_full_at w s
+has_fault w RingFull i s = has_sq w i && is_full_at w s
 has_fault w Overflow i s = false
-has_fault w AmbiguousData i s = is_holder w.controls.holder i && is_ambiguous_at w s
-has_fault w UnknownReap i s = is_holder w.controls.holder i && is_unknown_at w s
-has_fault w NoLock i s = is_ring_call s && not (is_holder w.controls.holder i)
-has_fault w RawEntry i s = is_holder w.controls.holder i && is_raw_at w.slot s
+has_fault w AmbiguousData i s = has_sq w i && is_ambiguous_at w s
+has_fault w UnknownReap i s = has_cq w i && is_unknown_at w s
+has_fault w NoLock i s = lacks_lock w i s
+has_fault w RawEntry i s = has_sq w i && is_raw_at w.slot s
 has_fault w OutOfBuffer i s = is_out_at w.program s
-has_fault w DoublePut i s = is_holder w.controls.holder i && is_double_at w i s
+has_fault w DoublePut i s = is_double_at w i s
 
 -- the fault of this kind in the kernel
 abbrev pub in_kernel : World → FaultKind → Bool

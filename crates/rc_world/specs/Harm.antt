@@ -5,7 +5,7 @@ use Rattle.rc_lang.specs.declared.lines.Line.{Line}
 use Rattle.rc_lang.specs.declared.lines.Stmt.{Stmt}
 use Rattle.rc_world.specs.declared.fault.FaultKind.{FaultKind}
 use Rattle.rc_world.specs.Controls.{next_line}
-use Rattle.rc_world.specs.Faults.{Access, access_of, has_data, has_fault, is_ambiguous_at, is_double_at, is_full_at, is_holder, is_out_at, is_raw_at, is_ring_call, is_unknown_at, races, reads_filling, writes_pending}
+use Rattle.rc_world.specs.Faults.{Access, access_of, has_cq, has_data, has_fault, has_sq, is_ambiguous_at, is_cq_call, is_double_at, is_full_at, is_out_at, is_raw_at, is_sq_call, is_unknown_at, races, reads_filling, writes_pending}
 use Rattle.rc_world.specs.Machine.{Pending, World}
 
 -- the line that a thread has next
@@ -20,11 +20,15 @@ abbrev pub harms_buffer : World → ℕ → Option Access → Bool
 harms_buffer w i None = false
 harms_buffer w i (Some a) = writes_pending w.pending (Some a) || reads_filling w.pending (Some a) || races w i (Some a)
 
-abbrev pub harms_rings : World → ℕ → Stmt → Bool
-harms_rings w i s = is_full_at w s || is_ambiguous_at w s || is_unknown_at w s || is_raw_at w.slot s || is_double_at w i s
+-- so in the ring of a side, of who has it and of any other thread
+abbrev pub harms_sq : World → ℕ → Stmt → Bool
+harms_sq w i s = if has_sq w i then is_full_at w s || is_ambiguous_at w s || is_raw_at w.slot s else is_sq_call s
+
+abbrev pub harms_cq : World → ℕ → Stmt → Bool
+harms_cq w i s = if has_cq w i then is_unknown_at w s else is_cq_call s
 
 abbrev pub is_harmful : World → ℕ → Stmt → Bool
-is_harmful w i s = harms_buffer w i (access_of s) || is_out_at w.program s || (if is_holder w.controls.holder i then harms_rings w i s else is_ring_call s)
+is_harmful w i s = harms_buffer w i (access_of s) || is_out_at w.program s || harms_sq w i s || harms_cq w i s || is_double_at w i s
 
 -- At its next line the thread has no fault of any kind.
 abbrev pub IsHarmless : World → ℕ → Type 0

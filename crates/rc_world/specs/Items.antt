@@ -6,34 +6,35 @@ use Rattle.rc_lang.specs.declared.lines.Stmt.{Stmt}
 use Rattle.rc_lang.specs.declared.lines.Stmt.TheVariants.{Do, Lock, Else, EndIf, Case, Other, Nothing, EndArm, EndPeek}
 use Rattle.rc_lang.specs.Program.{Program}
 use Rattle.rc_lang.specs.Requests.{may_complete}
+use Rattle.rc_world.specs.declared.controls.Holders.{Holders}
 use Rattle.rc_world.specs.declared.controls.Next.{Next}
 use Rattle.rc_world.specs.declared.controls.Next.TheVariants.{Ready, TakenLock, Ended}
 use Rattle.rc_world.specs.declared.event.Event.{Event}
 use Rattle.rc_world.specs.declared.event.Item.{Item}
 use Rattle.rc_world.specs.declared.event.Item.TheVariants.{Thread, Kernel}
-use Rattle.rc_world.specs.Controls.{Controls, next_line}
+use Rattle.rc_world.specs.Controls.{Controls, are_free, next_line}
 use Rattle.rc_world.specs.Faults.{has_data}
 use Rattle.rc_world.specs.Machine.{Pending, World, count_in, is_read, is_take, kernel_step, thread_step}
 
--- What a thread has next: a lock that somebody holds is taken. Lines that are no events are nothing to have next, and
--- no thread of a run is at one (the law NoHiddenHarm).
-abbrev pub ready_or_taken : Option ℕ → Line → Stmt → Next
-ready_or_taken holder l (Else o) = Ended
-ready_or_taken holder l (EndIf o) = Ended
-ready_or_taken holder l (Case o u) = Ended
-ready_or_taken holder l (Other o) = Ended
-ready_or_taken holder l (Nothing o) = Ended
-ready_or_taken holder l (EndArm o) = Ended
-ready_or_taken holder l (EndPeek o) = Ended
-ready_or_taken (Some j) l Lock = TakenLock
-ready_or_taken holder l _ = Ready l
+-- What a thread has next: a lock is taken where somebody holds one of those that it wants. Lines that are no events are
+-- nothing to have next, and no thread of a run is at one (the law NoHiddenHarm).
+abbrev pub ready_or_taken : Holders → Line → Stmt → Next
+ready_or_taken h l (Else o) = Ended
+ready_or_taken h l (EndIf o) = Ended
+ready_or_taken h l (Case o u) = Ended
+ready_or_taken h l (Other o) = Ended
+ready_or_taken h l (Nothing o) = Ended
+ready_or_taken h l (EndArm o) = Ended
+ready_or_taken h l (EndPeek o) = Ended
+ready_or_taken h l (Lock wanted) = if are_free wanted h then Ready l else TakenLock wanted
+ready_or_taken h l _ = Ready l
 
-abbrev pub next_by : Option ℕ → Option Line → Next
-next_by holder None = Ended
-next_by holder (Some l) = ready_or_taken holder l l.stmt
+abbrev pub next_by : Holders → Option Line → Next
+next_by h None = Ended
+next_by h (Some l) = ready_or_taken h l l.stmt
 
 abbrev pub next_of : Program → Controls → ℕ → Next
-next_of program c i = next_by c.holder (next_line program c i)
+next_of program c i = next_by c.holders (next_line program c i)
 
 -- A thread's item is enabled where it has a next that isn't a taken lock; an answer comes only with a submit, and is
 -- one that the submit may give.

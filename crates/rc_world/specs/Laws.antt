@@ -1,12 +1,13 @@
 -- Harm can't hide as a missing step, and traces are runs.
-use Rattle.std.specs.Prelude.{ℕ, ◌≡◌, ◌<◌, ◌⊎◌, true, List, length, Some, None, slice_get, ℤ}
+use Rattle.std.specs.Prelude.{ℕ, ◌≡◌, ◌<◌, ◌⊎◌, true, false, List, length, Some, None, slice_get, ℤ}
 use Rattle.rc_lang.specs.declared.lines.Line.{Line}
+use Rattle.rc_lang.specs.declared.lines.Locks.{Locks}
 use Rattle.rc_lang.specs.declared.lines.Stmt.TheVariants.{Lock}
 use Rattle.rc_lang.specs.Program.{Program, IsProgram, lines_of}
 use Rattle.rc_lang.specs.Requests.{may_complete}
 use Rattle.rc_world.specs.declared.event.Event.{Event}
 use Rattle.rc_world.specs.declared.event.Item.{Item}
-use Rattle.rc_world.specs.Controls.{Standing, next_line}
+use Rattle.rc_world.specs.Controls.{Standing, are_free, next_line}
 use Rattle.rc_world.specs.Faults.{fault_of}
 use Rattle.rc_world.specs.Items.{is_enabled, item_step}
 use Rattle.rc_world.specs.Machine.{Pending, World, bytes_brought, is_take, kernel_step, start_world, thread_step}
@@ -17,9 +18,9 @@ use Rattle.rc_world.specs.Trace.{trace_of}
 abbrev pub IsAtEnd : World → ℕ → Type 0
 IsAtEnd w i = (t : Standing) × (slice_get w.controls.threads i ≡ Some t) × (t.place ≡ length (lines_of w.program i))
 
--- The thread's next line takes the lock, and somebody holds it.
+-- The thread's next line wants locks, and somebody holds one of them.
 abbrev pub WaitsForLock : World → ℕ → Type 0
-WaitsForLock w i = (l : Line) × (j : ℕ) × (next_line w.program w.controls i ≡ Some l) × (l.stmt ≡ Lock) × (w.controls.holder ≡ Some j)
+WaitsForLock w i = (l : Line) × (wanted : Locks) × (next_line w.program w.controls i ≡ Some l) × (l.stmt ≡ Lock wanted) × (are_free wanted w.controls.holders ≡ false)
 
 -- The thread has a step, whatever of the allowed answers its submit gets.
 abbrev pub HasStep : World → ℕ → Type 0
@@ -39,6 +40,17 @@ abbrev pub NoHiddenHarm : Type 0
 NoHiddenHarm =
     (program : Program) (events : List Event) (w : World) → IsProgram program → IsRun (start_world program) events w → fault_of w ≡ None →
     ((i : ℕ) → i < length program.threads → GoesOn w i) × CompletesFreely w
+
+-- The thread holds a lock.
+abbrev pub HoldsLock : World → ℕ → Type 0
+HoldsLock w j = (w.controls.holders.sq ≡ Some j) ⊎ (w.controls.holders.cq ≡ Some j)
+
+-- In a world without a fault, of any run of a made program, where a thread waits for a lock, one that holds a lock has a
+-- step. So threads never wait for each other, each for a lock that another holds.
+abbrev pub NoDeadlock : Type 0
+NoDeadlock =
+    (program : Program) (events : List Event) (w : World) (i : ℕ) → IsProgram program → IsRun (start_world program) events w → fault_of w ≡ None → WaitsForLock w i →
+    (j : ℕ) × HoldsLock w j × HasStep w j
 
 -- The events of a trace are a run from the start world to the world where the trace ends.
 abbrev pub TracesAreRuns : Type 0

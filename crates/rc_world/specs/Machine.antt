@@ -180,7 +180,7 @@ abbrev pub test_answer : World → Test → Answer
 test_answer w (Compare x comparison n) = Plain
 test_answer w ReadyZero = Number (pos (used_entries w))
 test_answer w (SpaceAtLeast n) = Number (pos (w.program.entries - used_entries w))
-test_answer w (Take k) = Plain
+test_answer w (Take pool k) = Plain
 
 abbrev pub stmt_answer : World → ℤ → Stmt → Answer
 stmt_answer w r (Do op) = op_answer w r op

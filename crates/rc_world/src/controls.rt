@@ -1,17 +1,18 @@
-//! Where each thread is, its variables, the lock, whether the front completion is peeked, and the pool.
+//! Where each thread is, its variables, who holds the locks, whether the front completion is peeked, and the pools.
 
-ghost use Rattle.std.specs.Prelude.{◌≡◌, ◌<◌, ◌≤◌, length, map, option_map, pos, replicate, ◌+ℤ◌, ◌-ℤ◌, slice_get, IfOk, IsSome, IsOkAnd};
+ghost use Rattle.std.specs.Prelude.{◌≡◌, ◌<◌, ◌≤◌, ◌&&◌, is_none, length, map, option_map, pos, replicate, ◌+ℤ◌, ◌-ℤ◌, slice_get, IfOk, IsSome, IsOkAnd};
 ghost use Rattle.rc_lang.specs.declared.lines.Stmt.TheVariants.{Do, If};
 ghost use Rattle.rc_lang.specs.Program.{IsProgram, IsOperand, Program as SpecProgram, end_at, lines_of};
-ghost use Rattle.rc_world.specs.Changes.{Acts, CallIsSmall, Decides, StandsAt, TestIsSmall, act_at, hop_at, standing_at, with_pool};
+ghost use Rattle.rc_world.specs.Changes.{Acts, CallIsSmall, Decides, StandsAt, TestIsSmall, act_at, hop_at, standing_at, with_pools};
 ghost use Rattle.rc_world.specs.Parts.{at_first_line};
 ghost use Rattle.rc_world.specs.Controls as spec;
+ghost use Rattle.rc_world.specs.Readers as readers;
 
-use self::places::ready_or_taken;
+use self::places::{is_holder, ready_or_taken};
 use crate::event::{Action, Completion, Event};
-use rc_lang::lines::{Line, Op, Operand, Stmt, Test};
+use rc_lang::lines::{Line, Locks, Op, Operand, Stmt, Test};
 use rc_lang::program::{Program, Thread};
-use rc_split::pool::Pool;
+use rc_split::pools::Pools;
 use std::alloc::{AllocError, Global};
 use std::marker::Model;
 
@@ -32,8 +33,8 @@ struct Control {
 pub enum Next {
     /// A statement, or a mark that is an event.
     Ready(Line),
-    /// A lock that somebody holds.
-    TakenLock,
+    /// A lock that takes these, where somebody holds one of them.
+    TakenLock(Locks),
     /// Nothing: the thread has ended, or there is no such thread.
     Ended,
 }
@@ -52,13 +53,52 @@ pub enum Answer {
     Front(Completion),
 }
 
-/// Where each thread of a program is, which one holds the lock, whether the front completion is peeked, and the pool.
+/// Which thread holds each of the two locks.
+#[derive(Clone, Copy)]
+pub struct Holders {
+    /// The lock of the submission side.
+    pub sq: Option<u32>,
+    /// That of the completion side.
+    pub cq: Option<u32>,
+}
+
+impl Holders {
+    /// Whether nobody holds a lock that is wanted.
+    pub fn are_free(self, wanted: Locks) -> bool
+        ensures { result ≡ spec.are_free wanted self }
+    {
+        is_free(wanted.sq, self.sq) && is_free(wanted.cq, self.cq)
+    }
+
+    /// Who holds a lock that is wanted, that of the submission side first.
+    pub fn taken_by(self, wanted: Locks) -> Option<u32>
+        ensures value { result ≡ readers.taken_by wanted self }
+        ensures free { spec.are_free wanted self ≡ is_none result }
+    {
+        match if_wanted(wanted.sq, self.sq) {
+            Some(holder) => Some(holder),
+            None => if_wanted(wanted.cq, self.cq),
+        }
+    }
+
+    // Where these locks have another holder, or none.
+    fn held_by(self, holder: Option<u32>, locks: Locks) -> Holders
+        ensures { result ≡ spec.held_by holder locks self }
+    {
+        Holders {
+            sq: if locks.sq { holder } else { self.sq },
+            cq: if locks.cq { holder } else { self.cq },
+        }
+    }
+}
+
+/// Where each thread of a program is, who holds the locks, whether the front completion is peeked, and the pools.
 #[derive(Drop)]
 pub struct Controls {
     threads: Vec<Control>,
-    holder: Option<u32>,
+    holders: Holders,
     peeked: bool,
-    pool: Pool,
+    pools: Pools,
 }
 
 impl Model for Controls {
@@ -71,9 +111,9 @@ impl Model for Controls {
 
     ghost view = { λ c. record {
       threads = map view_control c.threads.items;
-      holder = c.holder;
+      holders = c.holders;
       peeked = c.peeked;
-      pool = c.pool;
+      pools = c.pools;
     } };
 
     ghost invariant = { λ c. length c.threads.items ≤ 16 };
@@ -84,16 +124,16 @@ impl Controls {
     ghost use Rattle.rc_world.specs.Faults.{is_holder};
     ghost use Rattle.rc_world.specs.Readers.{variable_in};
 
-    /// Every thread at its first line, its variables 0; the lock is free, nothing is peeked, and the pool is empty.
+    /// Every thread at its first line, its variables 0; the locks are free, nothing is peeked, and the pools are empty.
     pub fn start(alloc: Global, program: &Program) -> Result<Controls, AllocError>
         ensures start { IfOk result (λ c. c ≡ spec.start_controls program.now) }
         ensures made { IsProgram program.now }
     {
         Ok(Controls {
             threads: first_places(alloc, program.threads())?,
-            holder: None,
+            holders: Holders { sq: None, cq: None },
             peeked: false,
-            pool: Pool::empty(),
+            pools: Pools::empty(alloc, program.pools().len())?,
         })
     }
 
@@ -102,7 +142,7 @@ impl Controls {
         ensures { result ≡ next_of program.now self.now thread }
     {
         match self.line(program, thread) {
-            Some(line) => ready_or_taken(self.holder, line),
+            Some(line) => ready_or_taken(self.holders, line),
             None => Next::Ended,
         }
     }
@@ -128,28 +168,32 @@ impl Controls {
         self.peeked
     }
 
-    /// What is in the pool.
-    pub fn pool(&self) -> &Pool
-        ensures { result.now ≡ self.now.pool }
+    /// What is in the pools.
+    pub fn pools(&self) -> &Pools
+        ensures { result.now ≡ self.now.pools }
     {
-        &self.pool
+        &self.pools
     }
 
-    /// The number of the thread that holds the lock.
-    pub fn holder(&self) -> Option<u32>
-        ensures { result ≡ self.now.holder }
+    /// Which thread holds each of the two locks.
+    pub fn holders(&self) -> Holders
+        ensures { result ≡ self.now.holders }
     {
-        self.holder
+        self.holders
     }
 
-    /// Whether the thread holds the lock.
-    pub(crate) fn is_holder(&self, thread: u32) -> bool
-        ensures { result ≡ is_holder self.now.holder thread }
+    /// Whether the thread holds the lock of the submission side.
+    pub(crate) fn has_sq(&self, thread: u32) -> bool
+        ensures { result ≡ is_holder self.now.holders.sq thread }
     {
-        match self.holder {
-            Some(holder) => holder == thread,
-            None => false,
-        }
+        is_holder(self.holders.sq, thread)
+    }
+
+    /// Whether the thread holds the lock of the completion side.
+    pub(crate) fn has_cq(&self, thread: u32) -> bool
+        ensures { result ≡ is_holder self.now.holders.cq thread }
+    {
+        is_holder(self.holders.cq, thread)
     }
 
     /// How many threads there are, at most 16.
@@ -228,15 +272,9 @@ impl Controls {
     {
         match stmt {
             Stmt::Do(op) => self.call(program, thread, place, op, answer),
-            Stmt::Put(k) => self.put(program, thread, place, k, answer),
-            Stmt::Lock => {
-                self.holder = Some(thread);
-                self.pass(program, thread, place, Action::Locked)
-            }
-            Stmt::EndLock(_) => {
-                self.holder = None;
-                self.pass(program, thread, place, Action::Released)
-            }
+            Stmt::Put(pool, k) => self.put(program, thread, place, pool, k, answer),
+            Stmt::Lock(wanted) => self.lock(program, thread, place, wanted, answer),
+            Stmt::EndLock(_, released) => self.release(program, thread, place, released, answer),
             Stmt::If(test) => {
                 let holds = self.decide(program, thread, test, answer);
                 self.branch(program, thread, place, holds)
@@ -313,12 +351,12 @@ impl Controls {
         }
     }
 
-    // What an if decides. An `if take` that holds takes its items out of the pool.
+    // What an if decides. An `if take` that holds takes its items out of the pool that it names.
     fn decide(&mut self, program: &Program, thread: u32, test: Test, answer: Answer) -> bool
         requires exists { thread < length self.old.threads }
         requires within { TestIsSmall program.now thread test }
         requires step { IsSome (act_at program.now thread self.old (If test) answer) }
-        ensures pool { self.new ≡ with_pool self.old self.new.pool }
+        ensures pools { self.new ≡ with_pools self.old self.new.pools }
         ensures step { Decides program.now thread self.old test answer result self.new }
     {
         match test {
@@ -331,9 +369,29 @@ impl Controls {
                 Answer::Number(free) => i64::from(wanted) <= i64::from(free),
                 _ => unreachable!(),
             },
-            Test::Take(k) => self.take(program, thread, k),
+            Test::Take(pool, k) => self.take(program, thread, pool, k),
         }
     }
+}
+
+// Whether nobody holds a lock, if it is wanted.
+fn is_free(wanted: bool, holder: Option<u32>) -> bool
+    ensures { result ≡ spec.is_free wanted holder }
+{
+    if !wanted {
+        return true;
+    }
+    match holder {
+        None => true,
+        Some(_) => false,
+    }
+}
+
+// Who holds a lock, if it is wanted.
+fn if_wanted(wanted: bool, holder: Option<u32>) -> Option<u32>
+    ensures { result ≡ readers.if_wanted wanted holder }
+{
+    if wanted { holder } else { None }
 }
 
 // As many threads that begin as these.

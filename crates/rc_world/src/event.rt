@@ -1,5 +1,7 @@
 //! What happens in a world, and what a schedule names.
 
+use rc_lang::lines::Locks;
+
 /// A completion queue entry (`io_uring_enter(2)`).
 #[derive(Clone, Copy, PartialEq, Eq, Debug)]
 pub struct Completion {
@@ -22,10 +24,10 @@ pub enum Action {
     Filled(u8),
     /// A variable with this value was printed.
     Printed(i64),
-    /// The lock was taken.
-    Locked,
-    /// The lock was released.
-    Released,
+    /// These locks were taken.
+    Locked(Locks),
+    /// These locks were released.
+    Released(Locks),
     /// A submission entry was opened.
     EntryOpened,
     /// The open entry was made a read.
@@ -52,7 +54,7 @@ pub enum Action {
     Looped,
     /// A break left a loop.
     LoopLeft,
-    /// Items were put into the pool.
+    /// Items were put into a pool.
     ItemsPut,
 }
 

@@ -25,14 +25,15 @@ pub enum FaultKind {
     AmbiguousData,
     /// F8: `cqe_seen` is next and no completion of exactly one request was peeked.
     UnknownReap,
-    /// F9: a call on the ring or the pool is next, of a thread without the lock.
+    /// F9: a call on the ring or on the pool without a name is next, of a thread without the lock of its side, or of
+    /// both.
     NoLock,
-    /// F10: a call, the end of the lock or a break that releases it is next, which the stage of the submission entry
-    /// doesn't allow.
+    /// F10: a call, the end of a lock of the submission side or a break that releases it is next, which the stage of
+    /// the submission entry doesn't allow.
     RawEntry,
     /// F11: a load or a store past the end of its buffer is next, or a prep of more bytes than the buffer has.
     OutOfBuffer,
-    /// F12: a put is next of items that the pool has no room for, since some of them are there already.
+    /// F12: a put is next of items that the pools have no room for, since some of them are there already.
     DoublePut,
 }
 

@@ -184,7 +184,7 @@ impl<'a> World<'a> {
     {
         match next {
             Next::Ready(line) => self.takes(take, line.stmt),
-            Next::TakenLock => false,
+            Next::TakenLock(_) => false,
             Next::Ended => false,
         }
     }

@@ -1,29 +1,43 @@
-//! What a thread has next at a place, and to which arm of a peek it goes.
+//! What a thread has next at a place, whether it holds a lock, and to which arm of a peek it goes.
 
 ghost use Rattle.std.specs.Prelude.{◌≡◌, ◌<◌, ◌≤◌, length, IfSome};
 ghost use Rattle.rc_lang.specs.Program.{end_at, lines_of};
 ghost use Rattle.rc_world.specs.Controls as spec;
+ghost use Rattle.rc_world.specs.Faults.{is_holder};
 ghost use Rattle.rc_world.specs.Items.{ready_or_taken};
 
-use super::Next;
+use super::{Holders, Next};
 use rc_lang::lines::{Line, Stmt};
 use rc_lang::program::Program;
 
 // What a thread has next that is at this line.
-pub(super) fn ready_or_taken(holder: Option<u32>, line: Line) -> Next
-    ensures { result ≡ ready_or_taken holder line line.stmt }
+pub(super) fn ready_or_taken(holders: Holders, line: Line) -> Next
+    ensures { result ≡ ready_or_taken holders line line.stmt }
 {
     match line.stmt {
-        Stmt::Lock => match holder {
-            None => Next::Ready(line),
-            Some(_) => Next::TakenLock,
-        },
-        Stmt::Do(_) | Stmt::Put(_) | Stmt::EndLock(_) | Stmt::If(_) => Next::Ready(line),
+        Stmt::Lock(wanted) => {
+            if holders.are_free(wanted) {
+                Next::Ready(line)
+            } else {
+                Next::TakenLock(wanted)
+            }
+        }
+        Stmt::Do(_) | Stmt::Put(_, _) | Stmt::EndLock(_, _) | Stmt::If(_) => Next::Ready(line),
         Stmt::Peek(_) | Stmt::Loop(_) | Stmt::EndLoop(_, _) | Stmt::Break(_, _, _) => {
             Next::Ready(line)
         }
         Stmt::Else(_) | Stmt::EndIf(_) | Stmt::Case(_, _) | Stmt::Other(_) => Next::Ended,
         Stmt::Nothing(_) | Stmt::EndArm(_) | Stmt::EndPeek(_) => Next::Ended,
+    }
+}
+
+// Whether the thread is the holder of a lock.
+pub(super) fn is_holder(holder: Option<u32>, thread: u32) -> bool
+    ensures { result ≡ is_holder holder thread }
+{
+    match holder {
+        Some(holder) => holder == thread,
+        None => false,
     }
 }
 

@@ -2,16 +2,17 @@
 
 ghost use Rattle.std.specs.Prelude.{◌≡◌, ◌<◌, ◌≤◌, length, Some, IsSome};
 ghost use Rattle.rc_lang.specs.declared.lines.Op.TheVariants.{CqeSeen, Set, Submit};
-ghost use Rattle.rc_lang.specs.declared.lines.Stmt.TheVariants.{Break, Do, Peek, Put};
+ghost use Rattle.rc_lang.specs.declared.lines.Stmt.TheVariants.{Break, Do, Lock, Peek, Put};
 ghost use Rattle.rc_lang.specs.Program.{end_at, lists_of};
-ghost use Rattle.rc_split.specs.Pools.{includes};
+ghost use Rattle.rc_split.specs.Pools.{includes, pool_of};
 ghost use Rattle.rc_world.specs.declared.controls.Answer.TheVariants.{Plain};
 ghost use Rattle.rc_world.specs.Changes.{Acts, Moves, StandsAt, act_at, after_take, if_rule, gone_to, list_at, standing_at, with_variable};
-ghost use Rattle.rc_world.specs.Controls.{controls_step, goes_on, loads};
+ghost use Rattle.rc_world.specs.Controls.{controls_step, goes_on, loads, releases};
 
 use super::places::{arm_for, none_arm, number_of_event};
 use super::{Answer, Controls, rest};
 use crate::event::{Action, Event};
+use rc_lang::lines::Locks;
 use rc_lang::program::Program;
 
 /// The value of a variable after a peek without a completion: `-EAGAIN` (`io_uring_peek_cqe(3)`).
@@ -123,34 +124,79 @@ impl Controls {
         self.pass(program, thread, place, Action::Reaped(completion.user_data))
     }
 
+    // The step of a lock, whose locks nobody holds.
+    pub(super) fn lock(
+        &mut self,
+        program: &Program,
+        thread: u32,
+        place: usize,
+        wanted: Locks,
+        answer: Answer,
+    ) -> Action
+        requires here { StandsAt program.now self.old thread place (Lock wanted) }
+        requires step { IsSome (act_at program.now thread self.old (Lock wanted) answer) }
+        ensures { Acts program.now thread self.old (Lock wanted) answer result self.new }
+    {
+        self.holders = self.holders.held_by(Some(thread), wanted);
+        self.pass(program, thread, place, Action::Locked(wanted))
+    }
+
+    // The step of the closing brace of a lock.
+    pub(super) fn release(
+        &mut self,
+        program: &Program,
+        thread: u32,
+        place: usize,
+        released: Locks,
+        answer: Answer,
+    ) -> Action
+        requires exists { thread < length self.old.threads }
+        requires here { (standing_at self.old thread).place ≡ place }
+        requires within { place ≤ 4096 }
+        requires step { IsSome (releases self.old (standing_at self.old thread) released answer) }
+        ensures { Moves program.now thread self.old (λ c t. releases c t released answer) result
+            self.new }
+    {
+        self.holders = self.holders.held_by(None, released);
+        self.pass(program, thread, place, Action::Released(released))
+    }
+
     // The step of a put.
     pub(super) fn put(
         &mut self,
         program: &Program,
         thread: u32,
         place: usize,
+        pool: Option<usize>,
         k: usize,
         answer: Answer,
     ) -> Action
-        requires here { StandsAt program.now self.old thread place (Put k) }
-        requires step { IsSome (act_at program.now thread self.old (Put k) answer) }
-        ensures { Acts program.now thread self.old (Put k) answer result self.new }
+        requires here { StandsAt program.now self.old thread place (Put pool k) }
+        requires step { IsSome (act_at program.now thread self.old (Put pool k) answer) }
+        ensures { Acts program.now thread self.old (Put pool k) answer result self.new }
     {
         let items = &program.lists_of(thread as usize)[k];
-        self.pool.put(program, items);
+        self.pools.put(pool, program, items);
         self.pass(program, thread, place, Action::ItemsPut)
     }
 
-    // Takes the items out of the pool, if it has all of them; whether it had.
-    pub(super) fn take(&mut self, program: &Program, thread: u32, k: usize) -> bool
+    // Takes the items out of a pool, if it has all of them; whether it had.
+    pub(super) fn take(
+        &mut self,
+        program: &Program,
+        thread: u32,
+        pool: Option<usize>,
+        k: usize,
+    ) -> bool
         requires { k < length (lists_of program.now thread) }
-        ensures holds { result ≡ includes program.now self.old.pool (list_at program.now thread k) }
-        ensures pool { self.new ≡ after_take program.now thread k self.old result }
+        ensures holds { result ≡ includes program.now (pool_of self.old.pools pool)
+            (list_at program.now thread k) }
+        ensures pools { self.new ≡ after_take program.now thread pool k self.old result }
     {
         let items = &program.lists_of(thread as usize)[k];
-        let holds = self.pool.includes(program, items);
+        let holds = self.pools.includes(pool, program, items);
         if holds {
-            self.pool.take(program, items);
+            self.pools.take(pool, program, items);
         }
         holds
     }
@@ -167,7 +213,8 @@ impl Controls {
         requires here { (standing_at self.old thread).place ≡ place }
         requires within { place ≤ 4096 }
         requires end { end_at program.now thread place ≤ 4096 }
-        ensures { Moves program.now thread self.old (if_rule program.now thread holds) result self.new }
+        ensures { Moves program.now thread self.old (if_rule program.now thread holds) result
+            self.new }
     {
         let last = if holds {
             place
@@ -216,16 +263,15 @@ impl Controls {
         program: &Program,
         thread: u32,
         top: usize,
-        releases: bool,
+        releases: Locks,
         leaves: bool,
     ) -> Action
         requires exists { thread < length self.old.threads }
         requires end { end_at program.now thread top ≤ 4096 }
-        ensures { Acts program.now thread self.old (Break top releases leaves) Plain result self.new }
+        ensures { Acts program.now thread self.old (Break top releases leaves) Plain result
+            self.new }
     {
-        if releases {
-            self.holder = None;
-        }
+        self.holders = self.holders.held_by(None, releases);
         if leaves {
             self.peeked = false;
         }
@@ -245,7 +291,8 @@ impl Controls {
         requires exists { thread < length self.old.threads }
         requires here { (standing_at self.old thread).place ≡ place }
         requires within { place ≤ 4096 }
-        ensures { Moves program.now thread self.old (λ c t. Some (goes_on c t action)) result self.new }
+        ensures { Moves program.now thread self.old (λ c t. Some (goes_on c t action)) result
+            self.new }
     {
         self.go(program, thread, place + 1);
         action

@@ -3,15 +3,15 @@
 ghost use Rattle.std.specs.Prelude.{◌≡◌, ◌+◌, ◌&&◌, ◌<◌, ◌≤◌, ℕ, None, map, option_map, slice_get, true};
 ghost use Rattle.std.specs.Bool.{OnFalse};
 ghost use Rattle.std.specs.List.{list_any};
-ghost use Rattle.rc_lang.specs.declared.lines.Stmt.TheVariants.{Put};
-ghost use Rattle.rc_lang.specs.Program.{lines_of, lists_of};
+ghost use Rattle.rc_lang.specs.Program.{items_at, lines_of, lists_of};
+ghost use Rattle.rc_split.specs.Pools.{all_pooled, overfills};
 ghost use Rattle.rc_world.specs.Faults as spec;
 ghost use Rattle.rc_world.specs.Harm as harm;
 ghost use Rattle.rc_world.specs.Harm.{line_of};
 ghost use Rattle.rc_world.specs.WorldParts.{view_access, view_pending};
 
 use self::statements::{
-    Access, access_of, conflicts, is_out_at, is_prepared, is_raw_at, is_ring_call,
+    Access, access_of, conflicts, is_cq_call, is_out_at, is_prepared, is_raw_at, is_sq_call,
 };
 use super::requests::is_read;
 use super::{Pending, World};
@@ -69,16 +69,14 @@ impl<'a> World<'a> {
         ensures { result ≡ harm.is_harmful self.now thread stmt }
     {
         match stmt {
-            // Most threads are before the lock.
-            Stmt::Lock => false,
+            // Most threads are before a lock.
+            Stmt::Lock(_) => false,
             _ => {
                 self.harms_buffer(thread, access_of(stmt))
                     || is_out_at(self.program, stmt)
-                    || if self.controls.is_holder(thread) {
-                        self.harms_rings(thread, stmt)
-                    } else {
-                        is_ring_call(stmt)
-                    }
+                    || self.harms_sq(thread, stmt)
+                    || self.harms_cq(thread, stmt)
+                    || self.is_double_at(thread, stmt)
             }
         }
     }
@@ -98,14 +96,40 @@ impl<'a> World<'a> {
         }
     }
 
-    fn harms_rings(&self, thread: u32, stmt: Stmt) -> bool
-        ensures { result ≡ harm.harms_rings self.now thread stmt }
+    // Whether it is harmful what the next statement of a thread does on the submission side.
+    fn harms_sq(&self, thread: u32, stmt: Stmt) -> bool
+        ensures { result ≡ harm.harms_sq self.now thread stmt }
     {
-        self.is_full_at(stmt)
-            || self.is_ambiguous_at(stmt)
-            || self.is_unknown_at(stmt)
-            || is_raw_at(self.slot, stmt)
-            || self.is_double_at(thread, stmt)
+        if self.controls.has_sq(thread) {
+            self.is_full_at(stmt) || self.is_ambiguous_at(stmt) || is_raw_at(self.slot, stmt)
+        } else {
+            is_sq_call(stmt)
+        }
+    }
+
+    // Whether it is harmful what the next statement of a thread does on the completion side.
+    fn harms_cq(&self, thread: u32, stmt: Stmt) -> bool
+        ensures { result ≡ harm.harms_cq self.now thread stmt }
+    {
+        if self.controls.has_cq(thread) {
+            self.is_unknown_at(stmt)
+        } else {
+            is_cq_call(stmt)
+        }
+    }
+
+    fn has_both_locks(&self, thread: u32) -> bool
+        ensures { result ≡ spec.has_both_locks self.now thread }
+    {
+        self.controls.has_sq(thread) && self.controls.has_cq(thread)
+    }
+
+    // Whether the next statement of a thread is a call of a side whose lock it hasn't.
+    fn lacks_lock(&self, thread: u32, stmt: Stmt) -> bool
+        ensures { result ≡ spec.lacks_lock self.now thread stmt }
+    {
+        is_sq_call(stmt) && !self.controls.has_sq(thread)
+            || is_cq_call(stmt) && !self.controls.has_cq(thread)
     }
 
     // The first fault of these kinds.
@@ -139,7 +163,8 @@ impl<'a> World<'a> {
     // The fault of this kind that a thread has.
     fn fault_at(&self, kind: FaultKind, thread: u32) -> Option<Fault>
         requires { thread ≤ 16 }
-        ensures { result ≡ slice_get (spec.fault_at self.now kind thread (line_of self.now thread)) 0 }
+        ensures { result ≡ slice_get (spec.fault_at self.now kind thread (line_of self.now thread))
+            0 }
     {
         let line = self.controls.line(self.program, thread)?;
         if self.has_fault(kind, thread, line.stmt) {
@@ -179,18 +204,16 @@ impl<'a> World<'a> {
             FaultKind::ReadOfFilling => self.reads_filling(access_of(stmt)),
             FaultKind::KernelClash => false,
             FaultKind::ThreadRace => self.races(thread, access_of(stmt)),
-            FaultKind::RingFull => self.controls.is_holder(thread) && self.is_full_at(stmt),
+            FaultKind::RingFull => self.controls.has_sq(thread) && self.is_full_at(stmt),
             FaultKind::Overflow => false,
             FaultKind::AmbiguousData => {
-                self.controls.is_holder(thread) && self.is_ambiguous_at(stmt)
+                self.controls.has_sq(thread) && self.is_ambiguous_at(stmt)
             }
-            FaultKind::UnknownReap => self.controls.is_holder(thread) && self.is_unknown_at(stmt),
-            FaultKind::NoLock => is_ring_call(stmt) && !self.controls.is_holder(thread),
-            FaultKind::RawEntry => self.controls.is_holder(thread) && is_raw_at(self.slot, stmt),
+            FaultKind::UnknownReap => self.controls.has_cq(thread) && self.is_unknown_at(stmt),
+            FaultKind::NoLock => self.lacks_lock(thread, stmt),
+            FaultKind::RawEntry => self.controls.has_sq(thread) && is_raw_at(self.slot, stmt),
             FaultKind::OutOfBuffer => is_out_at(self.program, stmt),
-            FaultKind::DoublePut => {
-                self.controls.is_holder(thread) && self.is_double_at(thread, stmt)
-            }
+            FaultKind::DoublePut => self.is_double_at(thread, stmt),
         }
     }
 
@@ -277,19 +300,31 @@ impl<'a> World<'a> {
         ensures { result ≡ spec.is_double_at self.now thread stmt }
     {
         match stmt {
-            Stmt::Put(k) => self.overfills(thread, k),
+            Stmt::Put(pool, k) => self.may_put(thread, pool) && self.overfills(thread, k),
             _ => false,
         }
     }
 
-    // Whether the pool has no room for these items of a thread. A number that names no list says no items.
-    fn overfills(&self, thread: u32, k: usize) -> bool
-        ensures { result ≡ spec.is_double_at self.now thread (Put k) }
+    // Whether a thread has the locks that a put to this pool asks for.
+    fn may_put(&self, thread: u32, pool: Option<usize>) -> bool
+        ensures { result ≡ spec.may_put self.now thread pool }
     {
-        let pool = self.controls.pool();
+        match pool {
+            Some(_) => true,
+            None => self.has_both_locks(thread),
+        }
+    }
+
+    // Whether the pools have no room for these items of a thread. A number that names no list says no items.
+    fn overfills(&self, thread: u32, k: usize) -> bool
+        ensures { result ≡ overfills self.now.program
+            (all_pooled self.now.program self.now.controls.pools)
+            (items_at (lists_of self.now.program thread) k) }
+    {
+        let pools = self.controls.pools();
         match self.program.lists_of(thread as usize).get(k) {
-            Some(items) => pool.is_overfilled_by(self.program, items),
-            None => self.program.completion_entries() < pool.credits(),
+            Some(items) => pools.are_overfilled_by(self.program, items),
+            None => u64::from(self.program.completion_entries()) < pools.credits(),
         }
     }
 

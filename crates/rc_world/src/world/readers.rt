@@ -7,10 +7,11 @@ ghost use Rattle.rc_world.specs.Readers.{variable_in};
 
 use super::requests::place_of_pending;
 use super::{Slot, World};
+use crate::controls::Holders;
 use crate::event::Completion;
 use rc_lang::lines::Line;
 use rc_lang::request::Request;
-use rc_split::pool::Pool;
+use rc_split::pools::Pools;
 
 impl<'a> World<'a> {
     /// The line that a thread has next; none where it has ended, or there is no such thread.
@@ -27,18 +28,18 @@ impl<'a> World<'a> {
         self.controls.value(thread, x)
     }
 
-    /// The number of the thread that holds the lock.
-    pub fn holder(&self) -> Option<u32>
-        ensures { result ≡ self.now.controls.holder }
+    /// Which thread holds each of the two locks.
+    pub fn holders(&self) -> Holders
+        ensures { result ≡ self.now.controls.holders }
     {
-        self.controls.holder()
+        self.controls.holders()
     }
 
-    /// What is in the pool.
-    pub fn pool(&self) -> &Pool
-        ensures { result.now ≡ self.now.controls.pool }
+    /// What is in the pools.
+    pub fn pools(&self) -> &Pools
+        ensures { result.now ≡ self.now.controls.pools }
     {
-        self.controls.pool()
+        self.controls.pools()
     }
 
     /// The open submission entry.

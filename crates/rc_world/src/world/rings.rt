@@ -164,7 +164,8 @@ impl<'a> World<'a> {
     ) -> Result<Event, AllocError>
         requires calm { clashes self.old.pending ≡ false }
         requires step { IsSome (item_step self.old (Kernel user_data res fill)) }
-        ensures { TriesEvent result self.old self.new (λ w. item_step w (Kernel user_data res fill)) }
+        ensures { TriesEvent result self.old self.new
+            (λ w. item_step w (Kernel user_data res fill)) }
     {
         let Some(place) = place_of_pending(&self.pending, user_data) else {
             unreachable!()

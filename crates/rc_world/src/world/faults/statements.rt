@@ -1,4 +1,4 @@
-//! What a statement does with a buffer, and what it asks of the lock and of the open entry.
+//! What a statement does with a buffer, and what it asks of the locks and of the open entry.
 
 ghost use Rattle.std.specs.Prelude.{◌≡◌, ◌&&◌, option_map};
 ghost use Rattle.rc_world.specs.Faults as spec;
@@ -78,21 +78,33 @@ pub(super) fn is_prepared(slot: Slot) -> bool
     }
 }
 
-// Whether a statement is a call on the ring or the pool.
-pub(super) fn is_ring_call(stmt: Stmt) -> bool
-    ensures { result ≡ spec.is_ring_call stmt }
+// Whether a statement is a call of the submission side.
+pub(super) fn is_sq_call(stmt: Stmt) -> bool
+    ensures { result ≡ spec.is_sq_call stmt }
 {
     match stmt {
-        Stmt::Do(op) => is_ring_op(op),
-        Stmt::Put(_) => true,
-        Stmt::If(test) => is_ring_test(test),
+        Stmt::Do(op) => is_sq_op(op),
+        Stmt::Put(pool, _) => pool.is_none(),
+        Stmt::If(test) => is_sq_test(test),
+        _ => false,
+    }
+}
+
+// Whether a statement is a call of the completion side.
+pub(super) fn is_cq_call(stmt: Stmt) -> bool
+    ensures { result ≡ spec.is_cq_call stmt }
+{
+    match stmt {
+        Stmt::Do(Op::CqeSeen) => true,
+        Stmt::Put(pool, _) => pool.is_none(),
+        Stmt::If(Test::Take(pool, _)) => pool.is_none(),
         Stmt::Peek(_) => true,
         _ => false,
     }
 }
 
-fn is_ring_op(op: Op) -> bool
-    ensures { result ≡ spec.is_ring_op op }
+fn is_sq_op(op: Op) -> bool
+    ensures { result ≡ spec.is_sq_op op }
 {
     match op {
         Op::Set(_, _) => false,
@@ -103,18 +115,19 @@ fn is_ring_op(op: Op) -> bool
         Op::Store(_, _, _) => false,
         Op::Fill(_, _) => false,
         Op::Print(_) => false,
+        Op::CqeSeen => false,
         _ => true,
     }
 }
 
-fn is_ring_test(test: Test) -> bool
-    ensures { result ≡ spec.is_ring_test test }
+fn is_sq_test(test: Test) -> bool
+    ensures { result ≡ spec.is_sq_test test }
 {
     match test {
         Test::Compare(_, _, _) => false,
         Test::ReadyZero => true,
         Test::SpaceAtLeast(_) => true,
-        Test::Take(_) => true,
+        Test::Take(pool, _) => pool.is_none(),
     }
 }
 
@@ -124,8 +137,8 @@ pub(super) fn is_raw_at(slot: Slot, stmt: Stmt) -> bool
 {
     match stmt {
         Stmt::Do(op) => op_is_raw(slot, op),
-        Stmt::EndLock(_) => !is_closed(slot),
-        Stmt::Break(_, releases, _) => releases && !is_closed(slot),
+        Stmt::EndLock(_, released) => released.sq && !is_closed(slot),
+        Stmt::Break(_, releases, _) => releases.sq && !is_closed(slot),
         _ => false,
     }
 }

@@ -7,12 +7,12 @@ pub returns-then-ends_arm : goal.returns-then-ends_arm
 returns-then-ends_arm c =
     let lt = within_items c.self.inside.threads.items c.args.self.now c.args.thread (ap (λ (k : Controls). k.threads) c.self.view_is) c.requires.exists in
     rw (← c.self.view_is)
-    (gone_is c.args.program.now c.self.inside.threads.items c.self.inside.holder c.self.inside.peeked c.self.inside.pool c.args.thread c.args.start c.rest-place.result.0 c.rest-place.result.1 _ c.index_mut.result.now lt
+    (gone_is c.args.program.now c.self.inside.threads.items c.self.inside.holders c.self.inside.peeked c.self.inside.pools c.args.thread c.args.start c.rest-place.result.0 c.rest-place.result.1 _ c.index_mut.result.now lt
     c.index_mut.ensures.value c.rest-place.ensures.place c.rest-place.ensures.arm (ap (λ x. if x then false else c.self.inside.peeked) (sym c.if-ends_arm.true)))
 
 pub returns-else-ends_arm : goal.returns-else-ends_arm
 returns-else-ends_arm c =
     let lt = within_items c.self.inside.threads.items c.args.self.now c.args.thread (ap (λ (k : Controls). k.threads) c.self.view_is) c.requires.exists in
     rw (← c.self.view_is)
-    (gone_is c.args.program.now c.self.inside.threads.items c.self.inside.holder c.self.inside.peeked c.self.inside.pool c.args.thread c.args.start c.rest-place.result.0 c.rest-place.result.1 _ c.index_mut.result.now lt
+    (gone_is c.args.program.now c.self.inside.threads.items c.self.inside.holders c.self.inside.peeked c.self.inside.pools c.args.thread c.args.start c.rest-place.result.0 c.rest-place.result.1 _ c.index_mut.result.now lt
     c.index_mut.ensures.value c.rest-place.ensures.place c.rest-place.ensures.arm (ap (λ x. if x then false else c.self.inside.peeked) (sym c.if-ends_arm.false)))

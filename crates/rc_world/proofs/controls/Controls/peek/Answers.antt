@@ -49,7 +49,7 @@ returns-in-Plain c =
     let i = c.args.thread in
     let place = ap (λ j. none_arm P i j + 1) c.requires.here.place in
     ap (λ a. made P old i (peeks P old i (standing_at old i) c.args.x a)) c.in-Plain.is
-    ∙ set_and_gone P old _ c.go.new.self i _ _ c.args.x (negsuc 10) old.holder old.peeked PeekedNone c.requires.here.exists c.set.ensures c.go.ensures
+    ∙ set_and_gone P old _ c.go.new.self i _ _ c.args.x (negsuc 10) old.holders old.peeked PeekedNone c.requires.here.exists c.set.ensures c.go.ensures
     (ap (λ n. n + 1) c.none_arm-arm.ensures.value ∙ sym place)
 
 pub returns-in-Front : goal.returns-in-Front
@@ -63,6 +63,6 @@ returns-in-Front c =
     let plain : c.from.result ≡ cqe.res = search rules in
     let set = c.set-in-Front.ensures ∙ ap (with_variable old i c.args.x) (to_z-of_z w64 c.from.result fits ∙ plain) in
     ap (λ a. made P old i (peeks P old i (standing_at old i) c.args.x a)) c.in-Front.is
-    ∙ set_and_gone P old _ c.go-in-Front.new.self i _ _ c.args.x cqe.res old.holder true (Peeked cqe) c.requires.here.exists
-    (ap (λ (k : Controls). record { threads = k.threads; holder = k.holder; peeked = true; pool = k.pool }) (c.self.view_is ∙ set)) c.go-in-Front.ensures
+    ∙ set_and_gone P old _ c.go-in-Front.new.self i _ _ c.args.x cqe.res old.holders true (Peeked cqe) c.requires.here.exists
+    (ap (λ (k : Controls). record { threads = k.threads; holders = k.holders; peeked = true; pools = k.pools }) (c.self.view_is ∙ set)) c.go-in-Front.ensures
     (ap (λ n. n + 1) c.arm_for-arm.ensures.value ∙ sym place)

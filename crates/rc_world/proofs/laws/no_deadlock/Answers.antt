@@ -1,0 +1,5 @@
+use Rattle.rc_world.proofs.LawLocks.{none_deadlocked}
+use Rattle.rc_world.proofs.laws.no_deadlock.Goals as goal
+
+pub returns : goal.returns
+returns c = none_deadlocked
