@@ -1,7 +1,7 @@
 -- A world of which those facts are true has no fault.
 use Rattle.std.proofs.Common.{◌≡◌, ℕ, ◌+◌, ◌<◌, ◌≤◌, Bool, true, false, ◌&&◌, ◌||◌, List, [], ◌∷◌, length, drop, Option, Some, None, refl, sym, ap, ◌∙◌, subst, inl, inr, arith}
 use Rattle.std.proofs.lemmas.Option.{same_Some, slice_get_within}
-use Rattle.std.proofs.lemmas.Bool.{and_from, and_parts, and_right, eq-eqb, eqb-true, false_from_ne_true, leb-true, lt-leb, ltb-true, not_from_true, not-true, or_cases, or_from}
+use Rattle.std.proofs.lemmas.Bool.{and_from, and_parts, and_right, eq-eqb, eqb-true, false_from_ne_true, leb-true, lt-leb, ltb-true, not_from_true, or_cases, or_from}
 use Rattle.std.proofs.lemmas.List.{length-map}
 use Rattle.std.specs.List.{list_any}
 use Rattle.std.specs.Prelude.{is_some, nat_eq, nat_le, not, slice_get, ℤ, if◌then◌else◌}
@@ -10,7 +10,7 @@ use Rattle.rc_lang.specs.declared.lines.Op.{Op}
 use Rattle.rc_lang.specs.declared.lines.Op.TheVariants.{Load, Store, Fill, GetSqe, PrepRead, PrepWrite, PrepFsync, PrepNop, SetData64, Submit, SubmitAndWait, CqeSeen}
 use Rattle.rc_lang.specs.declared.lines.Stmt.{Stmt}
 use Rattle.rc_lang.specs.declared.lines.Stmt.TheVariants.{Do, Put, EndLock, If, Peek, Break}
-use Rattle.rc_lang.specs.declared.lines.Test.TheVariants.{Compare, ReadyZero, SpaceAtLeast, Take}
+use Rattle.rc_lang.specs.declared.lines.Test.TheVariants.{ReadyZero, SpaceAtLeast, Take}
 use Rattle.rc_lang.specs.declared.request.Request.{Request}
 use Rattle.rc_lang.specs.Program.{IsProgram, IsResolved, Items, Program, Thread, bytes_at, items_at, lines_in, lines_of, lists_of, shares_at, stmt_at, stmt_of}
 use Rattle.rc_rules.specs.declared.mode.Mode.{Mode}
@@ -20,15 +20,15 @@ use Rattle.rc_rules.specs.declared.mode.Slot.TheVariants.{Closed, Vacant}
 use Rattle.rc_rules.specs.declared.mode.Submitting.{Submitting}
 use Rattle.rc_rules.specs.Premises.{Meets}
 use Rattle.rc_rules.specs.Needs.{line_premises}
-use Rattle.rc_rules.specs.Rules.{Locks, both_locks, is_seen, kind_of, limit, locks_of, owned, same_slot}
+use Rattle.rc_rules.specs.Rules.{is_seen, kind_of, limit, leave_needs, owned, premises_of, release_needs, same_slot, sq_of}
 use Rattle.rc_rules.proofs.Weaker.{same_slot_is}
-use Rattle.rc_split.specs.Bags.{Part, ShareOf, TokenOf, Credit, bag_of}
-use Rattle.rc_split.specs.Pools.{pooled}
+use Rattle.rc_split.specs.Bags.{Part, ShareOf, TokenOf, Credit, bag_of, lacking}
+use Rattle.rc_split.specs.Pools.{all_pooled, overfills}
 use Rattle.rc_world.specs.declared.event.Completion.{Completion}
 use Rattle.rc_world.specs.declared.fault.FaultKind.{FaultKind}
 use Rattle.rc_world.specs.declared.fault.FaultKind.TheVariants.{WriteOfPending, ReadOfFilling, KernelClash, ThreadRace, RingFull, Overflow, AmbiguousData, UnknownReap, NoLock, RawEntry, OutOfBuffer, DoublePut}
 use Rattle.rc_world.specs.Controls.{Standing, next_at, next_line}
-use Rattle.rc_world.specs.Faults.{Access, access_at, access_by, access_of, clashes, conflicts, count_of, fault_of, front_is_one, has_data, has_fault, is_closed, is_filling, is_full_at, is_holder, is_in_flight, is_named, is_ambiguous_at, is_double_at, is_out_at, is_prepared, is_raw_at, is_ring_call, is_ring_op, is_unknown_at, is_vacant, names, op_is_out, op_is_raw, overflows, races_from, reads_filling, reads_into, writes_pending}
+use Rattle.rc_world.specs.Faults.{Access, access_at, access_by, access_of, clashes, conflicts, count_of, fault_of, front_is_one, has_cq, has_data, has_fault, has_sq, is_closed, is_cq_call, is_filling, is_full_at, is_in_flight, is_named, is_ambiguous_at, is_double_at, is_out_at, is_prepared, is_raw_at, is_sq_call, is_sq_op, is_unknown_at, lacks_lock, is_vacant, may_put, names, op_is_out, op_is_raw, overflows, races_from, reads_filling, reads_into, writes_pending}
 use Rattle.rc_world.specs.Machine.{Pending, World, is_read, slot_len, used_entries}
 use Rattle.rc_world.proofs.Lists.{found}
 use Rattle.rc_admit.proofs.Flight.{data_in, front_is}
@@ -36,11 +36,17 @@ use Rattle.rc_admit.proofs.Lists.{sum_to, sum_to_one, sum_to_two, sum_over, sum_
 use Rattle.rc_admit.proofs.Moves.{cq_has, sq_has}
 use Rattle.rc_admit.proofs.Ops.{slot_closed, slot_vacant, slot_prepared}
 use Rattle.rc_admit.proofs.Owned.{Stand, EdgeAt, HasEdge, owns, owns_pending, unheld, SlotFits, StartsWith, IsNonempty, FrontFits, held, HasKind, HasKindPending, Owned, WellOwned}
-use Rattle.rc_admit.proofs.Pool.{room_in_pool}
-use Rattle.rc_admit.proofs.Rule.{asks_lock, called, has_both, held_of, known_sq, met, prepared_as}
+use Rattle.rc_admit.proofs.Pool.{room_in_pools}
+use Rattle.rc_admit.proofs.Rule.{asks_lock, called, can_queue_by, has_both, held_of, known_sq, met, prepared_as, put_covered}
 use Rattle.rc_admit.proofs.Shares.{buffer_shared, credits_owned, data_owned, data_pending, fills_all, names_one, no_clash}
-use Rattle.rc_admit.proofs.Steps.{token_owned}
+use Rattle.rc_admit.proofs.Tokens.{count_most, few_queued, token_owned}
 use Rattle.rc_world.proofs.LawFaultless.{without_fault}
+
+-- ---- what the rules ask of a lock
+
+none_lacking : (c h : Bool) → (c ≡ true → h ≡ true) → (c && not h) ≡ false
+none_lacking false h f = refl
+none_lacking true h f = ap not (f refl)
 
 -- ---- what the rules ask of an access
 
@@ -119,10 +125,10 @@ module _ (w : World) (made : IsProgram w.program) (S : Stand) (edge : HasEdge w.
   kind_at k x e = Each-get (HasKindPending P) k w.pending x e o.pending
 
   -- what the world has where a label has a lock
-  sq_at : (i : ℕ) (s : Submitting) → (modes i).sq ≡ Some s → (is_holder w.controls.holder i ≡ true) × (length w.queued + slot_len w.slot ≤ s.queued) × SlotFits w.slot s.slot
+  sq_at : (i : ℕ) (s : Submitting) → (modes i).sq ≡ Some s → (has_sq w i ≡ true) × (length w.queued + slot_len w.slot ≤ s.queued) × SlotFits w.slot s.slot
   sq_at i s e = sq_has P S w bags modes i o s e
 
-  cq_at : (i : ℕ) (k : Peeked) → (modes i).cq ≡ Some k → (is_holder w.controls.holder i ≡ true) × FrontFits w.controls.peeked w.completions k
+  cq_at : (i : ℕ) (k : Peeked) → (modes i).cq ≡ Some k → (has_cq w i ≡ true) × FrontFits w.controls.peeked w.completions k
   cq_at i k e = cq_has P S w bags modes i o k e
 
   -- ---- buffers
@@ -230,64 +236,77 @@ module _ (w : World) (made : IsProgram w.program) (S : Stand) (edge : HasEdge w.
   is_not_raw i (SubmitAndWait y n) h = let x = called (modes i).sq _ h in wants_closed i x.known x.is (x.asked 4)
   is_not_raw i _ h = refl
 
-  -- what releases the locks
-  released_closed : (i : ℕ) → locks_of (modes i) ≡ both_locks true → Meets (line_premises P [] (bags i) (modes i) (EndLock 0)) → not (is_closed w.slot) ≡ false
-  released_closed i l h =
-      let s = held_of (modes i).sq (ap (λ (x : Locks). x.sq) l) in
-      wants_closed i s.0 s.1 (subst (λ (x : Submitting). same_slot x.slot Closed ≡ true) (known_sq (modes i) s.0 s.1) h.0)
+  -- what releases the lock of the submission side
+  closed_behind : (i : ℕ) → is_some (modes i).sq ≡ true → same_slot (sq_of (modes i)).slot Closed ≡ true → not (is_closed w.slot) ≡ false
+  closed_behind i l h =
+      let s = held_of (modes i).sq l in
+      wants_closed i s.0 s.1 (subst (λ (x : Submitting). same_slot x.slot Closed ≡ true) (known_sq (modes i) s.0 s.1) h)
+
+  released_closed : (i : ℕ) (b : Bool) → (b ≡ true → is_some (modes i).sq ≡ true) → Meets (premises_of P [] true (bags i) (modes i) (release_needs b)) → (b && not (is_closed w.slot)) ≡ false
+  released_closed i true l h = closed_behind i (l refl) h.0
+  released_closed i false l h = refl
+
+  broken_closed : (i : ℕ) (b : Bool) → (b ≡ true → is_some (modes i).sq ≡ true) → Meets (premises_of P [] true (bags i) (modes i) (leave_needs b)) → (b && not (is_closed w.slot)) ≡ false
+  broken_closed i true l h = closed_behind i (l refl) h.0
+  broken_closed i false l h = refl
 
   no_raw_entry : (i : ℕ) (s : Stmt) (vars : List ℤ) (k : ℕ) → EdgeAt P S i (bags i) (modes i) vars k (Some s) → is_raw_at w.slot s ≡ false
   no_raw_entry i (Do op) vars k h = is_not_raw i op h.0
-  no_raw_entry i (EndLock p) vars k h = released_closed i h.0 h.1
-  no_raw_entry i (Break p true leaves) vars k h = released_closed i (h.0 refl) h.1
+  no_raw_entry i (EndLock p l) vars k h = released_closed i l.sq h.0.sq h.1
+  no_raw_entry i (Break p releases leaves) vars k h = broken_closed i releases.sq h.0.sq h.2
   no_raw_entry i _ vars k h = refl
 
-  has_sq : (i : ℕ) → is_some (modes i).sq ≡ true → is_holder w.controls.holder i ≡ true
-  has_sq i l = let s = held_of (modes i).sq l in (sq_at i s.0 s.1).0
+  knows_sq : (i : ℕ) → is_some (modes i).sq ≡ true → has_sq w i ≡ true
+  knows_sq i l = let s = held_of (modes i).sq l in (sq_at i s.0 s.1).0
 
-  has_cq : (i : ℕ) → is_some (modes i).cq ≡ true → is_holder w.controls.holder i ≡ true
-  has_cq i l = let k = held_of (modes i).cq l in (cq_at i k.0 k.1).0
+  knows_cq : (i : ℕ) → is_some (modes i).cq ≡ true → has_cq w i ≡ true
+  knows_cq i l = let k = held_of (modes i).cq l in (cq_at i k.0 k.1).0
 
-  op_locked : (i : ℕ) (op : Op) → Meets (line_premises P [] (bags i) (modes i) (Do op)) → is_ring_op op ≡ true → is_holder w.controls.holder i ≡ true
-  op_locked i GetSqe h r = has_sq i (asks_lock (modes i).sq _ h)
-  op_locked i (PrepRead fd b len off) h r = has_sq i (asks_lock (modes i).sq _ h)
-  op_locked i (PrepWrite fd b len off k) h r = has_sq i (asks_lock (modes i).sq _ h)
-  op_locked i (PrepFsync fd datasync) h r = has_sq i (asks_lock (modes i).sq _ h)
-  op_locked i PrepNop h r = has_sq i (asks_lock (modes i).sq _ h)
-  op_locked i (SetData64 u) h r = has_sq i (asks_lock (modes i).sq _ h)
-  op_locked i (Submit x) h r = has_sq i (asks_lock (modes i).sq _ h)
-  op_locked i (SubmitAndWait x n) h r = has_sq i (asks_lock (modes i).sq _ h)
-  op_locked i CqeSeen h r = has_cq i (asks_lock (modes i).cq _ h)
+  op_locked : (i : ℕ) (op : Op) → Meets (line_premises P [] (bags i) (modes i) (Do op)) → is_sq_op op ≡ true → has_sq w i ≡ true
+  op_locked i GetSqe h r = knows_sq i (asks_lock (modes i).sq _ h)
+  op_locked i (PrepRead fd b len off) h r = knows_sq i (asks_lock (modes i).sq _ h)
+  op_locked i (PrepWrite fd b len off k) h r = knows_sq i (asks_lock (modes i).sq _ h)
+  op_locked i (PrepFsync fd datasync) h r = knows_sq i (asks_lock (modes i).sq _ h)
+  op_locked i PrepNop h r = knows_sq i (asks_lock (modes i).sq _ h)
+  op_locked i (SetData64 u) h r = knows_sq i (asks_lock (modes i).sq _ h)
+  op_locked i (Submit x) h r = knows_sq i (asks_lock (modes i).sq _ h)
+  op_locked i (SubmitAndWait x n) h r = knows_sq i (asks_lock (modes i).sq _ h)
   op_locked i _ h r = absurd (cc)
 
-  call_locked : (i : ℕ) (s : Stmt) (vars : List ℤ) (k : ℕ) → EdgeAt P S i (bags i) (modes i) vars k (Some s) → is_ring_call s ≡ true → is_holder w.controls.holder i ≡ true
-  call_locked i (Do op) vars k h r = op_locked i op h.0 r
-  call_locked i (Peek x) vars k h r = has_cq i (asks_lock (modes i).cq _ h.0)
-  call_locked i (If ReadyZero) vars k h r = has_sq i (asks_lock (modes i).sq _ h.0)
-  call_locked i (If (SpaceAtLeast n)) vars k h r = has_sq i (asks_lock (modes i).sq _ h.0)
-  call_locked i (If (Take n)) vars k h r = has_sq i (asks_lock (modes i).sq _ h.0)
-  call_locked i (If (Compare x c n)) vars k h r = absurd (cc)
-  call_locked i (Put n) vars k h r = has_sq i (asks_lock (modes i).sq _ h.0)
-  call_locked i _ vars k h r = absurd (cc)
+  sq_locked : (i : ℕ) (s : Stmt) (vars : List ℤ) (k : ℕ) → EdgeAt P S i (bags i) (modes i) vars k (Some s) → is_sq_call s ≡ true → has_sq w i ≡ true
+  sq_locked i (Do op) vars k h r = op_locked i op h.0 r
+  sq_locked i (If ReadyZero) vars k h r = knows_sq i (asks_lock (modes i).sq _ h.0)
+  sq_locked i (If (SpaceAtLeast n)) vars k h r = knows_sq i (asks_lock (modes i).sq _ h.0)
+  sq_locked i (If (Take None n)) vars k h r = knows_sq i (asks_lock (modes i).sq _ h.0)
+  sq_locked i (If _) vars k h r = absurd (cc)
+  sq_locked i (Put None n) vars k h r = knows_sq i (asks_lock (modes i).sq _ h.0)
+  sq_locked i _ vars k h r = absurd (cc)
 
-  no_lock_missing : (i : ℕ) (s : Stmt) (vars : List ℤ) (k : ℕ) → EdgeAt P S i (bags i) (modes i) vars k (Some s) → (is_ring_call s && not (is_holder w.controls.holder i)) ≡ false
-  no_lock_missing i s vars k h = false_from_ne_true (is_ring_call s && not (is_holder w.controls.holder i)) bad
-    where
-      bad : (is_ring_call s && not (is_holder w.controls.holder i)) ≡ true → ⊥
-      bad e =
-          let t = and_parts (is_ring_call s) (not (is_holder w.controls.holder i)) e in
-          let a : is_holder w.controls.holder i ≡ true = call_locked i s vars k h t.0 in
-          let b : is_holder w.controls.holder i ≡ false = not-true (is_holder w.controls.holder i) t.1 in
-          cc
+  cq_locked : (i : ℕ) (s : Stmt) (vars : List ℤ) (k : ℕ) → EdgeAt P S i (bags i) (modes i) vars k (Some s) → is_cq_call s ≡ true → has_cq w i ≡ true
+  cq_locked i (Do CqeSeen) vars k h r = knows_cq i (asks_lock (modes i).cq _ h.0)
+  cq_locked i (Do _) vars k h r = absurd (cc)
+  cq_locked i (Peek x) vars k h r = knows_cq i (asks_lock (modes i).cq _ h.0)
+  cq_locked i (If (Take None n)) vars k h r = knows_cq i (has_both (modes i).sq (modes i).cq _ h.0).second
+  cq_locked i (If _) vars k h r = absurd (cc)
+  cq_locked i (Put None n) vars k h r = knows_cq i (has_both (modes i).sq (modes i).cq _ h.0).second
+  cq_locked i _ vars k h r = absurd (cc)
 
-  no_ring_full : (i : ℕ) (s : Stmt) (vars : List ℤ) (k : ℕ) → EdgeAt P S i (bags i) (modes i) vars k (Some s) → is_full_at w s ≡ false
-  no_ring_full i (Do GetSqe) vars k h =
+  no_lock_missing : (i : ℕ) (s : Stmt) (vars : List ℤ) (k : ℕ) → EdgeAt P S i (bags i) (modes i) vars k (Some s) → lacks_lock w i s ≡ false
+  no_lock_missing i s vars k h =
+      ap (λ b. b || (is_cq_call s && not (has_cq w i))) (none_lacking (is_sq_call s) (has_sq w i) (sq_locked i s vars k h)) ∙ none_lacking (is_cq_call s) (has_cq w i) (cq_locked i s vars k h)
+
+  no_ring_full : (i : ℕ) (s : Stmt) (vars : List ℤ) (k : ℕ) → i < length w.controls.threads → EdgeAt P S i (bags i) (modes i) vars k (Some s) → is_full_at w s ≡ false
+  no_ring_full i (Do GetSqe) vars k lt h =
       let s = called (modes i).sq _ h.0 in
-      let x : length w.queued + slot_len w.slot ≤ s.known.queued = (sq_at i s.known s.is).1 in
-      let y : s.known.queued < P.entries = ltb-true _ _ (s.asked 3) in
-      lt-leb P.entries (used_entries w) (omega arith)
-  no_ring_full i (Do _) vars k h = refl
-  no_ring_full i _ vars k h = refl
+      let f = sq_at i s.known s.is in
+      let none : slot_len w.slot ≡ 0 = ap slot_len (slot_closed w.slot (subst (λ x. SlotFits w.slot x) (same_slot_is s.known.slot Closed (s.asked 4)) f.2)) in
+      let some : length w.queued < P.entries = elim (can_queue_by P (bags i) s.known.queued (s.asked 3)) [
+        | inl y ↦ let x : length w.queued + slot_len w.slot ≤ s.known.queued = f.1 in omega (arith, x, y)
+        | inr y ↦ let x : length w.queued ≤ lacking P.tokens (bags i) = few_queued P S w bags modes i o lt in omega (arith, x, y)
+      ] in
+      lt-leb P.entries (used_entries w) (omega (arith, none, some))
+  no_ring_full i (Do _) vars k lt h = refl
+  no_ring_full i _ vars k lt h = refl
 
   no_overflow : (ps : List Pending) → w.pending ≡ ps → overflows w ps ≡ false
   no_overflow [] e = refl
@@ -314,10 +333,6 @@ module _ (w : World) (made : IsProgram w.program) (S : Stand) (edge : HasEdge w.
   no_ambiguous_data i (Do _) vars k lt h = refl
   no_ambiguous_data i _ vars k lt h = refl
 
-  count_most : (u : ℕ) (rs : List Request) → count_of u rs ≤ sum_over (owns P (TokenOf u)) rs
-  count_most u [] = omega arith
-  count_most u (r ∷ rs) = let h : count_of u rs ≤ sum_over (owns P (TokenOf u)) rs = count_most u rs in omega arith
-
   -- A completion at the front is that of one request.
   front_one : (cs : List Completion) → w.completions ≡ cs → IsNonempty cs → front_is_one w cs ≡ true
   front_one [] e n = absurd n
@@ -328,7 +343,7 @@ module _ (w : World) (made : IsProgram w.program) (S : Stand) (edge : HasEdge w.
       let fl : sum_over (owns P p) w.completed ≡ owned P f.request.user_data p + sum_over (owns P p) f.others = ap (sum_over (owns P p)) f.is in
       let one : 1 ≤ owned P f.request.user_data p = subst (λ u. 1 ≤ owned P u p) (sym f.same) (token_owned P u) in
       let tot : unheld P w p ≤ 1 = flight_most p in
-      let few : count_of u f.others ≤ sum_over (owns P p) f.others = count_most u f.others in
+      let few : count_of u f.others ≤ sum_over (owns P p) f.others = count_most P u f.others in
       let first : count_of u (f.request ∷ f.others) ≡ 1 + count_of u f.others = ap (λ (t : Bool). (if t then 1 else 0) + count_of u f.others) (eq-eqb f.request.user_data u f.same) in
       let all : count_of u w.completed ≡ count_of u (f.request ∷ f.others) = ap (count_of u) f.is in
       eq-eqb (count_of u w.completed) 1 (omega arith)
@@ -361,17 +376,19 @@ module _ (w : World) (made : IsProgram w.program) (S : Stand) (edge : HasEdge w.
   no_out_of_buffer i (Do op) vars k h = op_within i op h.0
   no_out_of_buffer i _ vars k h = refl
 
-  -- ---- the pool
+  -- ---- pools
 
-  -- What a thread holds isn't in the pool.
-  room_for_put : (i : ℕ) (items : Items) → i < length w.controls.threads → Meets (line_premises P (items ∷ []) (bags i) (modes i) (Put 0)) → (p : Part) → pooled P w.controls.pool p + bag_of items p ≤ limit P p
-  room_for_put i items lt h p =
-      let mine : bag_of items p ≤ bags i p = (has_both (modes i).sq (modes i).cq _ h).asked.0 p in
+  -- What a thread holds is in no pool.
+  room_for_put : (i : ℕ) (items : Items) → i < length w.controls.threads → ((p : Part) → bag_of items p ≤ bags i p) → (p : Part) → all_pooled P w.controls.pools p + bag_of items p ≤ limit P p
+  room_for_put i items lt covered p =
+      let mine : bag_of items p ≤ bags i p = covered p in
       let all : bags i p + unheld P w p ≤ limit P p = one_and_flight p i lt in
       omega arith
 
   no_double_put : (i : ℕ) (s : Stmt) (vars : List ℤ) (k : ℕ) → i < length w.controls.threads → EdgeAt P S i (bags i) (modes i) vars k (Some s) → is_double_at w i s ≡ false
-  no_double_put i (Put n) vars k lt h = room_in_pool P w.controls.pool (items_at (lists_of P i) n) (room_for_put i (items_at (lists_of P i) n) lt h.0)
+  no_double_put i (Put pool n) vars k lt h =
+      let items : Items = items_at (lists_of P i) n in
+      and_right (may_put w i pool) (overfills P (all_pooled P w.controls.pools) items) (room_in_pools P (all_pooled P w.controls.pools) items (room_for_put i items lt (put_covered P items (bags i) (modes i) pool h.0)))
   no_double_put i _ vars k lt h = refl
 
   -- ---- all of them
@@ -381,14 +398,14 @@ module _ (w : World) (made : IsProgram w.program) (S : Stand) (edge : HasEdge w.
   none_here ReadOfFilling i s n = no_read_of_filling i s n (access_of s) refl
   none_here KernelClash i s n = refl
   none_here ThreadRace i s n = no_races i s n (drop (i + 1) w.controls.threads) (i + 1) (omega arith)
-  none_here RingFull i s n = and_right (is_holder w.controls.holder i) (is_full_at w s) (no_ring_full i s _ _ (edge_at i s n))
+  none_here RingFull i s n = and_right (has_sq w i) (is_full_at w s) (no_ring_full i s _ _ (within i s n) (edge_at i s n))
   none_here Overflow i s n = refl
-  none_here AmbiguousData i s n = and_right (is_holder w.controls.holder i) (is_ambiguous_at w s) (no_ambiguous_data i s _ _ (within i s n) (edge_at i s n))
-  none_here UnknownReap i s n = and_right (is_holder w.controls.holder i) (is_unknown_at w s) (no_unknown_reap i s _ _ (edge_at i s n))
+  none_here AmbiguousData i s n = and_right (has_sq w i) (is_ambiguous_at w s) (no_ambiguous_data i s _ _ (within i s n) (edge_at i s n))
+  none_here UnknownReap i s n = and_right (has_cq w i) (is_unknown_at w s) (no_unknown_reap i s _ _ (edge_at i s n))
   none_here NoLock i s n = no_lock_missing i s _ _ (edge_at i s n)
-  none_here RawEntry i s n = and_right (is_holder w.controls.holder i) (is_raw_at w.slot s) (no_raw_entry i s _ _ (edge_at i s n))
+  none_here RawEntry i s n = and_right (has_sq w i) (is_raw_at w.slot s) (no_raw_entry i s _ _ (edge_at i s n))
   none_here OutOfBuffer i s n = no_out_of_buffer i s _ _ (edge_at i s n)
-  none_here DoublePut i s n = and_right (is_holder w.controls.holder i) (is_double_at w i s) (no_double_put i s _ _ (within i s n) (edge_at i s n))
+  none_here DoublePut i s n = no_double_put i s _ _ (within i s n) (edge_at i s n)
 
   pub own_no_fault : fault_of w ≡ None
   own_no_fault = without_fault w no_kernel_clash (no_overflow w.pending refl) (λ kind j l e. none_here kind j l.stmt (next_is w j l e))

@@ -1,23 +1,24 @@
 -- A labelling that obeys the rules gives the edge law: a claim of how each thread of an accepted program may stand.
-use Rattle.std.proofs.Common.{◌≡◌, ℕ, ◌+◌, ◌<◌, ◌≤◌, Bool, true, false, ◌||◌, cond, List, [], ◌∷◌, ◌++◌, take, Option, Some, refl, sym, ap, ◌∙◌, subst, ◌⊎◌, inl, inr, arith}
+use Rattle.std.proofs.Common.{◌≡◌, ℕ, ◌+◌, ◌<◌, ◌≤◌, Bool, true, false, cond, List, [], ◌∷◌, ◌++◌, take, Option, Some, refl, sym, ap, ◌∙◌, subst, ◌⊎◌, inl, inr, arith}
 use Rattle.std.specs.Prelude.{nat_lt, slice_get, slice_set, ℤ}
-use Rattle.std.proofs.lemmas.Bool.{ltb-true, or_cases}
+use Rattle.std.proofs.lemmas.Bool.{ltb-true, or_left, or_right}
 use Rattle.std.proofs.lemmas.List.{get_or-take}
-use Rattle.std.proofs.Math.Bool.{or-false, or-true}
 use Rattle.rc_lang.specs.declared.lines.Block.{Block}
 use Rattle.rc_lang.specs.declared.lines.Block.TheVariants.{InLock, InIf, InElse, InPeek, InArm, InLoop}
 use Rattle.rc_lang.specs.declared.lines.Line.{Line}
+use Rattle.rc_lang.specs.declared.lines.Locks.{Locks}
 use Rattle.rc_lang.specs.declared.lines.Op.{Op}
 use Rattle.rc_lang.specs.declared.lines.Stmt.{Stmt}
 use Rattle.rc_lang.specs.declared.lines.Stmt.TheVariants.{Do, Put, Lock, EndLock, If, Else, EndIf, Peek, Case, Other, Nothing, EndArm, EndPeek, Loop, EndLoop, Break}
 use Rattle.rc_lang.specs.declared.lines.Test.{Test}
-use Rattle.rc_lang.specs.Nesting.{blocks_at, in_lock, in_peek}
+use Rattle.rc_lang.specs.Locks.{no_lock, with_locks, without_locks}
+use Rattle.rc_lang.specs.Nesting.{blocks_at, in_peek, locks_in}
 use Rattle.rc_lang.specs.Program.{HasArms, IsProgram, Items, Program, Thread, end_at, ends_in, items_at, lines_of, lists_of, stmt_at, stmt_of}
-use Rattle.rc_lang.proofs.Along.{same_lock}
-use Rattle.rc_lang.proofs.Closing.{closes_arm, closes_if, closes_lock, closes_loop, leaves_loop, turns as turns_here}
+use Rattle.rc_lang.proofs.Along.{locks_next, locks_pushed, same_locks}
+use Rattle.rc_lang.proofs.Closing.{AreAmong, closes_arm, closes_if, closes_lock, closes_loop, leaves_loop, turns as turns_here}
 use Rattle.rc_lang.proofs.Fitting.{peek_found, placed_at}
 use Rattle.rc_lang.proofs.Jumps.{IsLaid, arm_leads, back_leads, break_leads, case_lands, else_leads, false_leads, nothing_lands, other_lands}
-use Rattle.rc_lang.proofs.Lookups.{blocks_next, in_lock_more, in_lock_pushed, line_with, nested_here}
+use Rattle.rc_lang.proofs.Lookups.{blocks_next, line_with, locks_more, with_none}
 use Rattle.rc_lang.proofs.Rests.{laid_in}
 use Rattle.rc_lang.proofs.Spans.{case_between, nothing_between, other_between}
 use Rattle.rc_rules.specs.declared.mode.Mode.{Mode}
@@ -29,13 +30,13 @@ use Rattle.rc_rules.specs.declared.flag.Write.TheVariants.{Anything}
 use Rattle.rc_rules.specs.Sides.{Sides, brings, forgets, may_skip, on, test_goes, turns, unreached, write_of, write_to}
 use Rattle.rc_rules.specs.Premises.{Meets, Premise}
 use Rattle.rc_rules.specs.Needs.{line_premises}
-use Rattle.rc_rules.specs.Rules.{Locks, asks, asks_both, both_locks, broken, case_at, goes, locked, locks_of, op_effect, peek_at, premises_of, put_effect, stmt_needs, test_effect, top_mode, unlocked, with_lock, with_peeked}
-use Rattle.rc_rules.proofs.Rising.{leave_same, op_same, test_same}
-use Rattle.rc_rules.proofs.Weaker.{locks_same, peeked_grows, peeked_locks, weaker_trans}
+use Rattle.rc_rules.specs.Rules.{asks, asks_both, broken, case_at, freed, goes, locked, locks_of, op_effect, peek_at, premises_of, put_effect, stmt_needs, test_effect, top_mode, with_lock, with_peeked}
+use Rattle.rc_rules.proofs.Rising.{leave_same, op_same, put_asked, release_asked, test_same}
+use Rattle.rc_rules.proofs.Weaker.{freed_locks, locked_locks, locks_same, peeked_grows, peeked_locks, weaker_trans}
 use Rattle.rc_split.specs.Bags.{Part, TokenOf, bag_of, bag_on, minus}
 use Rattle.rc_world.specs.Controls.{arm_for, none_arm}
 use Rattle.rc_admit.proofs.FlatLooks.{arm_in, arm_is, break_in, get_take, len_take, none_is_at}
-use Rattle.rc_admit.proofs.FlatRules.{IsBelow, behind_break, behind_op, behind_test, below, covered, for_each, locks_behind, top_same, where_known}
+use Rattle.rc_admit.proofs.FlatRules.{IsBelow, behind_op, behind_test, below, covered, for_each, top_same, where_known}
 use Rattle.rc_admit.proofs.Lists.{Each, Each-append}
 use Rattle.rc_admit.proofs.Owned.{EdgeAt, HasEdge, Leads, MayBecome, MayPass, Stand}
 use Rattle.rc_admit.proofs.Rule.{AtLive, asks_lock}
@@ -43,13 +44,13 @@ use Rattle.rc_admit.proofs.Sides.{IsStored, any_turns, brought, loop_turns, meet
 
 -- ---- how a thread stands
 
--- With some variables, a label on their side that is live, with both locks exactly where its place is in a lock.
+-- With some variables, a label on their side that is live, with the locks in which its place is.
 pub record Entered (flag : Option ℕ) (lines : List Line) (labels : List Sides) (o : ℕ) : Type 0 where
   pub variables : List ℤ
   pub bag : Part → ℕ
   pub mode : Mode
   pub label : label_at labels o (side_of flag variables) ≡ Live bag mode
-  pub locked : locks_of mode ≡ both_locks (in_lock (blocks_at lines o))
+  pub locked : locks_of mode ≡ locks_in (blocks_at lines o)
 
 -- A loop and a peek were entered with a live label.
 abbrev pub Enters : Option ℕ → List Line → List Sides → Block → Type 0
@@ -61,7 +62,7 @@ Enters flag lines labels _ = Unit {0}
 pub record At (flag : Option ℕ) (lines : List Line) (labels : List Sides) (b : Part → ℕ) (m : Mode) (vars : List ℤ) (k : ℕ) : Type 0 where
   pub label : label_at labels k (side_of flag vars) ≡ Live b m
   pub stored : IsStored flag vars
-  pub locked : locks_of m ≡ both_locks (in_lock (blocks_at lines k))
+  pub locked : locks_of m ≡ locks_in (blocks_at lines k)
   pub openers : Each (Enters flag lines labels) (blocks_at lines k)
 
 -- with the labels of some labelling that obeys the rules
@@ -78,9 +79,17 @@ Each-right : {A : Type 0} (P : A → Type 0) (xs ys : List A) → Each P (xs ++ 
 Each-right P [] ys h = h
 Each-right P (x ∷ xs) ys h = Each-right P xs ys h.1
 
-or_first : (a b : Bool) → a ≡ true → (a || b) ≡ true
-or_first true b e = refl
-or_first false b e = absurd (cc)
+-- ---- locks
+
+-- blocks that take none
+locks_past : (bs cs : List Block) → locks_in cs ≡ no_lock → locks_in (bs ++ cs) ≡ locks_in bs
+locks_past bs cs e = locks_more bs cs ∙ ap (with_locks (locks_in bs)) e ∙ with_none (locks_in bs)
+
+cq_inside : (bs cs : List Block) → (locks_in bs).cq ≡ true → (locks_in (bs ++ cs)).cq ≡ true
+cq_inside bs cs e = ap (λ (l : Locks). l.cq) (locks_more bs cs) ∙ or_left (locks_in bs).cq (locks_in cs).cq e
+
+among_pushed : (l m : Locks) → AreAmong m (with_locks l m)
+among_pushed l m = record { sq = λ e. or_right l.sq m.sq e; cq = λ e. or_right l.cq m.cq e }
 
 -- ---- the edges
 
@@ -119,7 +128,7 @@ module _ (P : Program) (wf : IsProgram P) (i : ℕ) (thread : Thread) (labels : 
   skipped_is k j z s t lt e may w = ungate (may_skip flag z (stmt_at (take j lines) k)) t _ (ap (may_skip flag z) (stmt_is k j s lt e) ∙ may) w
 
   -- to a place where these blocks are open
-  pub lead : (b : Part → ℕ) (m : Mode) (new : List ℤ) (k : ℕ) (bs : List Block) → blocks_at lines k ≡ bs → locks_of m ≡ both_locks (in_lock bs) → IsStored flag new → Each (Enters flag lines labels) bs → Weaker (label_at labels k (side_of flag new)) (Live b m) → Leads (Labelled P) i b m new k
+  pub lead : (b : Part → ℕ) (m : Mode) (new : List ℤ) (k : ℕ) (bs : List Block) → blocks_at lines k ≡ bs → locks_of m ≡ locks_in bs → IsStored flag new → Each (Enters flag lines labels) bs → Weaker (label_at labels k (side_of flag new)) (Live b m) → Leads (Labelled P) i b m new k
   lead b m new k bs n l h os w =
       let s = below (label_at labels k (side_of flag new)) b m w in
       record {
@@ -135,7 +144,7 @@ module _ (P : Program) (wf : IsProgram P) (i : ℕ) (thread : Thread) (labels : 
           record {
             label = s.is;
             stored = h;
-            locked = locks_same s.mode m s.weaker ∙ l ∙ ap (λ x. both_locks (in_lock x)) (sym n);
+            locked = locks_same s.mode m s.weaker ∙ l ∙ ap locks_in (sym n);
             openers = subst (λ x. Each In x) (sym n) os;
           },
         );
@@ -158,20 +167,16 @@ module _ (P : Program) (wf : IsProgram P) (i : ℕ) (thread : Thread) (labels : 
     same c n new j e l h w = lead c n new j (blocks_at lines k) e (l ∙ a.locked) h a.openers w
 
     -- into blocks that are opened here, none of them a lock
-    into : (c : Part → ℕ) (n : Mode) (new : List ℤ) (j : ℕ) (bs : List Block) → blocks_at lines j ≡ blocks_at lines k ++ bs → in_lock bs ≡ false → IsStored flag new → Each (Enters flag lines labels) bs → locks_of n ≡ locks_of m → Weaker (label_at labels j (side_of flag new)) (Live c n) → Leads (Labelled P) i c n new j
-    into c n new j bs e f h os l w =
-        let s : in_lock (blocks_at lines k ++ bs) ≡ in_lock (blocks_at lines k) = in_lock_more (blocks_at lines k) bs ∙ ap (λ x. in_lock (blocks_at lines k) || x) f ∙ or-false (in_lock (blocks_at lines k)) in
-        lead c n new j (blocks_at lines k ++ bs) e (l ∙ a.locked ∙ ap both_locks (sym s)) h (Each-append In (blocks_at lines k) bs a.openers os) w
+    into : (c : Part → ℕ) (n : Mode) (new : List ℤ) (j : ℕ) (bs : List Block) → blocks_at lines j ≡ blocks_at lines k ++ bs → locks_in bs ≡ no_lock → IsStored flag new → Each (Enters flag lines labels) bs → locks_of n ≡ locks_of m → Weaker (label_at labels j (side_of flag new)) (Live c n) → Leads (Labelled P) i c n new j
+    into c n new j bs e f h os l w = lead c n new j (blocks_at lines k ++ bs) e (l ∙ a.locked ∙ sym (locks_past (blocks_at lines k) bs f)) h (Each-append In (blocks_at lines k) bs a.openers os) w
 
     -- out of blocks, with the same variables
-    out : (c : Part → ℕ) (n : Mode) (j : ℕ) (bs cs : List Block) → blocks_at lines k ≡ bs ++ cs → blocks_at lines j ≡ bs → locks_of n ≡ both_locks (in_lock bs) → Weaker (label_at labels j (side_of flag vars)) (Live c n) → Leads (Labelled P) i c n vars j
+    out : (c : Part → ℕ) (n : Mode) (j : ℕ) (bs cs : List Block) → blocks_at lines k ≡ bs ++ cs → blocks_at lines j ≡ bs → locks_of n ≡ locks_in bs → Weaker (label_at labels j (side_of flag vars)) (Live c n) → Leads (Labelled P) i c n vars j
     out c n j bs cs d e l w = lead c n vars j bs e l a.stored (Each-left In bs cs (subst (λ x. Each In x) d a.openers)) w
 
     -- of which none is a lock
-    out_same : (c : Part → ℕ) (n : Mode) (j : ℕ) (bs cs : List Block) → blocks_at lines k ≡ bs ++ cs → blocks_at lines j ≡ bs → in_lock cs ≡ false → locks_of n ≡ locks_of m → Weaker (label_at labels j (side_of flag vars)) (Live c n) → Leads (Labelled P) i c n vars j
-    out_same c n j bs cs d e f l w =
-        let s : in_lock (blocks_at lines k) ≡ in_lock bs = ap in_lock d ∙ in_lock_more bs cs ∙ ap (λ x. in_lock bs || x) f ∙ or-false (in_lock bs) in
-        out c n j bs cs d e (l ∙ a.locked ∙ ap both_locks s) w
+    out_same : (c : Part → ℕ) (n : Mode) (j : ℕ) (bs cs : List Block) → blocks_at lines k ≡ bs ++ cs → blocks_at lines j ≡ bs → locks_in cs ≡ no_lock → locks_of n ≡ locks_of m → Weaker (label_at labels j (side_of flag vars)) (Live c n) → Leads (Labelled P) i c n vars j
+    out_same c n j bs cs d e f l w = out c n j bs cs d e (l ∙ a.locked ∙ ap locks_in d ∙ locks_past bs cs f) w
 
     -- the opener of a block that is open here was entered
     opener : (outer : List Block) (o : Block) (inner : List Block) → blocks_at lines k ≡ outer ++ o ∷ inner → Enters flag lines labels o
@@ -208,25 +213,31 @@ module _ (P : Program) (wf : IsProgram P) (i : ℕ) (thread : Thread) (labels : 
             behind_op P wf b m op (λ c n. Leads (Labelled P) i c n new (k + 1)) (label_at labels (k + 1) (side_of flag new)) w (λ c n l w. same c n new (k + 1) (blocks_next lines k (Do op) e) l h.stored w)
 
     -- what is put is not held after the line
-    put_edge : (n : ℕ) → stmt_at lines k ≡ Some (Put n) → EdgeAt P (Labelled P) i b m vars k (Some (Put n))
-    put_edge n e =
-        let g = good_at k (Put n) e in
+    put_edge : (pool : Option ℕ) (n : ℕ) → stmt_at lines k ≡ Some (Put pool n) → EdgeAt P (Labelled P) i b m vars k (Some (Put pool n))
+    put_edge pool n e =
+        let g = good_at k (Put pool n) e in
         let items : Items = items_at thread.lists n in
-        subst (λ lists. Meets (line_premises P lists b m (Put n)) × Leads (Labelled P) i (minus b (bag_of (items_at lists n))) m vars (k + 1)) (sym lists_are)
-        (asked (Put n) (λ z bag m. line_premises P thread.lists bag m (Put n)) e g.meets, same (minus b (bag_of items)) m vars (k + 1) (blocks_next lines k (Put n) e) refl a.stored (comes (Put n) (λ bag m. put_effect bag m items) (label_at labels (k + 1) side) e (g.after side).0))
+        subst (λ lists. Meets (line_premises P (items_at lists n ∷ []) b m (Put pool 0)) × Leads (Labelled P) i (minus b (bag_of (items_at lists n))) m vars (k + 1)) (sym lists_are) (
+          asked (Put pool n) (λ z bag m. line_premises P (items ∷ []) bag m (Put pool 0)) e (subst Meets (put_asked P thread.lists (here (take k lines) (take (k + 1) labels)) pool n) g.meets),
+          same (minus b (bag_of items)) m vars (k + 1) (blocks_next lines k (Put pool n) e) refl a.stored (comes (Put pool n) (λ bag m. put_effect bag m items) (label_at labels (k + 1) side) e (g.after side).0),
+        )
 
-    lock_edge : stmt_at lines k ≡ Some Lock → EdgeAt P (Labelled P) i b m vars k (Some Lock)
-    lock_edge e =
-        let l : true ≡ in_lock (blocks_at lines k ++ InLock k ∷ []) = sym (in_lock_pushed (blocks_at lines k) (InLock k) ∙ or-true (in_lock (blocks_at lines k))) in
-        lead b (locked P) vars (k + 1) (blocks_at lines k ++ InLock k ∷ []) (blocks_next lines k Lock e) (ap both_locks l) a.stored (Each-append In (blocks_at lines k) (InLock k ∷ []) a.openers (tt, tt)) (comes Lock (λ bag m. Live bag (locked P)) (label_at labels (k + 1) side) e ((good_at k Lock e).after side).0)
+    lock_edge : (l : Locks) → stmt_at lines k ≡ Some (Lock l) → EdgeAt P (Labelled P) i b m vars k (Some (Lock l))
+    lock_edge l e =
+        let bs : List Block = blocks_at lines k in
+        let n : locks_of (locked P l m) ≡ locks_in (bs ++ InLock k l ∷ []) = locked_locks P l m ∙ ap (λ x. with_locks x l) a.locked ∙ sym (locks_pushed bs k l) in
+        lead b (locked P l m) vars (k + 1) (bs ++ InLock k l ∷ []) (blocks_next lines k (Lock l) e) n a.stored (Each-append In bs (InLock k l ∷ []) a.openers (tt, tt)) (comes (Lock l) (λ bag m. Live bag (locked P l m)) (label_at labels (k + 1) side) e ((good_at k (Lock l) e).after side).0)
 
-    unlock_edge : (o : ℕ) → stmt_at lines k ≡ Some (EndLock o) → EdgeAt P (Labelled P) i b m vars k (Some (EndLock o))
-    unlock_edge o e =
-        let g = good_at k (EndLock o) e in
-        let c = closes_lock lines laid.each k o e in
-        let l : in_lock (blocks_at lines k) ≡ true = ap in_lock c.within ∙ in_lock_pushed (blocks_at lines o) (InLock o) ∙ or-true (in_lock (blocks_at lines o)) in
-        let f : in_lock (blocks_at lines o) ≡ false = (nested_here lines laid.each o Lock c.stands).0 in
-        (a.locked ∙ ap both_locks l, asked (EndLock o) (λ z bag m. line_premises P [] bag m (EndLock 0)) e g.meets, out b unlocked (k + 1) (blocks_at lines o) (InLock o ∷ []) c.within c.behind (ap both_locks (sym f)) (comes (EndLock o) (λ bag m. Live bag unlocked) (label_at labels (k + 1) side) e (g.after side).0))
+    unlock_edge : (o : ℕ) (l : Locks) → stmt_at lines k ≡ Some (EndLock o l) → EdgeAt P (Labelled P) i b m vars k (Some (EndLock o l))
+    unlock_edge o l e =
+        let g = good_at k (EndLock o l) e in
+        let c = closes_lock lines laid.each k o l e in
+        let held : AreAmong l (locks_of m) = subst (AreAmong l) (sym (a.locked ∙ ap locks_in c.within ∙ locks_pushed (blocks_at lines o) o l)) (among_pushed (locks_in (blocks_at lines o)) l) in
+        let n : locks_of (freed l m) ≡ locks_in (blocks_at lines o) = freed_locks l m ∙ ap (λ x. without_locks x l) a.locked ∙ sym (locks_next lines laid.each k (EndLock o l) e) ∙ ap locks_in c.behind in (
+          held,
+          asked (EndLock o l) (λ z bag m. line_premises P [] bag m (EndLock 0 l)) e (subst Meets (release_asked P thread.lists (here (take k lines) (take (k + 1) labels)) o l) g.meets),
+          out b (freed l m) (k + 1) (blocks_at lines o) (InLock o l ∷ []) c.within c.behind n (comes (EndLock o l) (λ bag m. Live bag (freed l m)) (label_at labels (k + 1) side) e (g.after side).0),
+        )
 
     -- a false if
     false_edge : (test : Test) → stmt_at lines k ≡ Some (If test) → MayPass test vars false → Leads (Labelled P) i b m vars (end_at P i k + 1)
@@ -316,8 +327,8 @@ module _ (P : Program) (wf : IsProgram P) (i : ℕ) (thread : Thread) (labels : 
           | inr d ↦ inr (inr (to_other v (arm_for P i k u) d))
         ]
 
-    -- a peek that was entered was entered in a lock
-    peek_inside : (o x : ℕ) → stmt_at lines o ≡ Some (Peek x) → Entered flag lines labels o → in_lock (blocks_at lines o) ≡ true
+    -- a peek that was entered was entered in the lock of its side
+    peek_inside : (o x : ℕ) → stmt_at lines o ≡ Some (Peek x) → Entered flag lines labels o → (locks_in (blocks_at lines o)).cq ≡ true
     peek_inside o x e h =
         let z : Bool = side_of flag h.variables in
         sym (ap (λ (l : Locks). l.cq) h.locked) ∙ asks_lock h.mode.cq _ (subst (λ s. Meets (asks s (λ bag n. with_lock 1 n.cq (λ p. [])))) (here_is o z (Peek x) e ∙ h.label) (meets_side (λ y. asks (here (take o lines) (take (o + 1) labels) y) (λ bag n. with_lock 1 n.cq (λ p. []))) z (good_at o (Peek x) e).meets))
@@ -328,10 +339,10 @@ module _ (P : Program) (wf : IsProgram P) (i : ℕ) (thread : Thread) (labels : 
         let h = arm_leads lines ends laid k o e in
         let lt : k < end_at P i o = laid.linked k (EndArm o) e in
         let l = line_with lines k (EndArm o) e in
-        let inside : in_lock (blocks_at lines o) ≡ true = peek_inside o c.variable c.stands (opener (blocks_at lines o) (InPeek o) (InArm o ∷ []) c.within) in
-        let here_inside : in_lock (blocks_at lines k) ≡ true = ap in_lock c.within ∙ in_lock_more (blocks_at lines o) (InPeek o ∷ InArm o ∷ []) ∙ or_first (in_lock (blocks_at lines o)) false inside in
+        let inside : (locks_in (blocks_at lines o)).cq ≡ true = peek_inside o c.variable c.stands (opener (blocks_at lines o) (InPeek o) (InArm o ∷ []) c.within) in
+        let here_inside : (locks_in (blocks_at lines k)).cq ≡ true = ap (λ x. (locks_in x).cq) c.within ∙ cq_inside (blocks_at lines o) (InPeek o ∷ InArm o ∷ []) inside in
         let w = arm_in side (take (end_at P i o) lines) (take (end_at P i o + 1) labels) (label_at labels (end_at P i o + 1) side) k o l.0 (get_take (end_at P i o) k lines l.0 lt l.1) l.2 ((good_at (end_at P i o) (EndPeek o) h.stands).after side) in
-        (ap (λ (l : Locks). l.cq) (a.locked ∙ ap both_locks here_inside), out_same b (with_peeked Unseen m) (end_at P i o + 1) (blocks_at lines o) (InPeek o ∷ InArm o ∷ []) c.within h.lands.blocks refl (peeked_locks Unseen m) (subst (λ s. Weaker (label_at labels (end_at P i o + 1) side) (peek_at Unseen s)) (known_at (end_at P i o) (omega arith)) w))
+        (ap (λ (l : Locks). l.cq) a.locked ∙ here_inside, out_same b (with_peeked Unseen m) (end_at P i o + 1) (blocks_at lines o) (InPeek o ∷ InArm o ∷ []) c.within h.lands.blocks refl (peeked_locks Unseen m) (subst (λ s. Weaker (label_at labels (end_at P i o + 1) side) (peek_at Unseen s)) (known_at (end_at P i o) (omega arith)) w))
 
     loop_edge : (n : ℕ) → stmt_at lines k ≡ Some (Loop n) → EdgeAt P (Labelled P) i b m vars k (Some (Loop n))
     loop_edge n e =
@@ -349,35 +360,38 @@ module _ (P : Program) (wf : IsProgram P) (i : ℕ) (thread : Thread) (labels : 
         let top_of : Label → Label = λ l. goes l (λ bag q. Live (bag_on side items) (top_mode P items q)) in
         let y = brought (λ y. turns (forgets flag) y side) top_of (here (take o lines) (take (o + 1) labels)) (label_at labels (o + 1) side) (side_of flag h.variables) (loop_turns flag h.variables vars) ((good_at o (Loop n) c.stands).after side) in
         let w = subst (λ s. Weaker (label_at labels (o + 1) side) (top_of s)) (here_is o (side_of flag h.variables) (Loop n) c.stands ∙ h.label) y in
-        let s : locks_of h.mode ≡ locks_of m = h.locked ∙ sym (a.locked ∙ ap both_locks (ap in_lock c.within ∙ same_lock (blocks_at lines o) (InLoop o n) refl)) in
+        let s : locks_of h.mode ≡ locks_of m = h.locked ∙ sym (a.locked ∙ ap locks_in c.within ∙ same_locks (blocks_at lines o) (InLoop o n) refl) in
         let v = subst (λ l. Weaker (label_at labels (o + 1) side) (Live (bag_on side items) l)) (top_same P items h.mode m s) w in
         same b m vars (o + 1) (back_leads lines ends laid k o n e).1 refl a.stored (weaker_trans (label_at labels (o + 1) side) (Live (bag_on side items) (top_mode P items m)) (Live b m) v (covered P 14 items side b m (asked (EndLoop o n) (λ z bag l. premises_of P thread.lists z bag l (stmt_needs (EndLoop o n))) e (good_at k (EndLoop o n) e).meets)))
 
-    break_edge : (o : ℕ) (releases leaves : Bool) → stmt_at lines k ≡ Some (Break o releases leaves) → EdgeAt P (Labelled P) i b m vars k (Some (Break o releases leaves))
+    break_edge : (o : ℕ) (releases : Locks) (leaves : Bool) → stmt_at lines k ≡ Some (Break o releases leaves) → EdgeAt P (Labelled P) i b m vars k (Some (Break o releases leaves))
     break_edge o releases leaves e =
         let c = leaves_loop lines laid.each k o releases leaves e in
         let h = break_leads lines ends laid k o releases leaves e in
         let lt : k < end_at P i o = laid.linked k (Break o releases leaves) e in
         let l = line_with lines k (Break o releases leaves) e in
         let w = break_in side (take (end_at P i o) lines) (take (end_at P i o + 1) labels) (label_at labels (end_at P i o + 1) side) k o releases leaves l.0 (get_take (end_at P i o) k lines l.0 lt l.1) l.2 ((good_at (end_at P i o) (EndLoop o h.0) h.1.stands).after side) in (
-          λ t. elim (or_cases releases leaves t) [ inl r ↦ a.locked ∙ ap both_locks (c.locked r) | inr r ↦ a.locked ∙ ap both_locks (in_peek_locked (c.peeked ∙ r)) ],
+          subst (AreAmong releases) (sym a.locked) c.locked,
+          λ t. ap (λ (x : Locks). x.cq) a.locked ∙ in_peek_locked (c.peeked ∙ t),
           subst Meets (leave_same P thread.lists side b m o releases leaves) (asked (Break o releases leaves) (λ z bag n. premises_of P thread.lists z bag n (stmt_needs (Break o releases leaves))) e (good_at k (Break o releases leaves) e).meets),
-          behind_break b m releases (λ d n. Leads (Labelled P) i d n vars (end_at P i o + 1)) (label_at labels (end_at P i o + 1) side) (subst (λ s. Weaker (label_at labels (end_at P i o + 1) side) (broken releases s)) (known_at (end_at P i o) (omega arith)) w)
-              (λ n s v. out b n (end_at P i o + 1) (blocks_at lines o) (InLoop o c.number ∷ c.inner) c.within h.1.lands.blocks (s ∙ ap (λ x. cond releases (both_locks false) x) a.locked ∙ locks_behind releases (in_lock (blocks_at lines k)) ∙ ap both_locks (sym c.lock_outside)) v),
+          out b (freed releases (with_peeked Unseen m)) (end_at P i o + 1) (blocks_at lines o) (InLoop o c.number ∷ c.inner) c.within h.1.lands.blocks
+              (freed_locks releases (with_peeked Unseen m) ∙ ap (λ x. without_locks x releases) (peeked_locks Unseen m ∙ a.locked) ∙ sym c.locks_outside)
+              (subst (λ s. Weaker (label_at labels (end_at P i o + 1) side) (broken releases s)) (known_at (end_at P i o) (omega arith)) w),
         )
       where
-        in_peek_locked : in_peek (blocks_at lines k) ≡ true → in_lock (blocks_at lines k) ≡ true
+        -- in a peek the lock of its side is held
+        in_peek_locked : in_peek (blocks_at lines k) ≡ true → (locks_in (blocks_at lines k)).cq ≡ true
         in_peek_locked t =
             let f = peek_found (blocks_at lines k) t in
             let p = placed_at lines laid.each k f.0 (InPeek f.1) f.2 f.3 in
-            let inside : in_lock f.0 ≡ true = ap in_lock (sym p.1.blocks) ∙ peek_inside f.1 p.0 p.1.stands (opener f.0 (InPeek f.1) f.2 f.3) in
-            ap in_lock f.3 ∙ in_lock_more f.0 (InPeek f.1 ∷ f.2) ∙ or_first (in_lock f.0) (in_lock f.2) inside
+            let inside : (locks_in f.0).cq ≡ true = ap (λ x. (locks_in x).cq) (sym p.1.blocks) ∙ peek_inside f.1 p.0 p.1.stands (opener f.0 (InPeek f.1) f.2 f.3) in
+            ap (λ x. (locks_in x).cq) f.3 ∙ cq_inside f.0 (InPeek f.1 ∷ f.2) inside
 
     pub edge_at : (x : Option Stmt) → stmt_at lines k ≡ x → EdgeAt P (Labelled P) i b m vars k x
     edge_at (Some (Do op)) e = do_edge op e
-    edge_at (Some (Put n)) e = put_edge n e
-    edge_at (Some Lock) e = lock_edge e
-    edge_at (Some (EndLock o)) e = unlock_edge o e
+    edge_at (Some (Put pool n)) e = put_edge pool n e
+    edge_at (Some (Lock l)) e = lock_edge l e
+    edge_at (Some (EndLock o l)) e = unlock_edge o l e
     edge_at (Some (If test)) e = if_edge test e
     edge_at (Some (Else o)) e = else_edge o e
     edge_at (Some (EndIf o)) e = end_if_edge o e

@@ -7,6 +7,7 @@ use Rattle.std.proofs.lemmas.List.Quantifiers.{position-Some}
 use Rattle.std.proofs.lemmas.List.Sums.{fails_before_first}
 use Rattle.std.proofs.lemmas.Option.{get_or_from_slice_get, slice_get-get_or, slice_get_within}
 use Rattle.rc_lang.specs.declared.lines.Line.{Line}
+use Rattle.rc_lang.specs.declared.lines.Locks.{Locks}
 use Rattle.rc_lang.specs.declared.lines.Stmt.{Stmt}
 use Rattle.rc_lang.specs.declared.lines.Stmt.TheVariants.{Case, Other, Nothing, EndArm, Break}
 use Rattle.rc_lang.specs.Program.{Program, end_at, lines_of, stmt_at, stmt_of}
@@ -140,7 +141,7 @@ arm_in z (m ∷ lines) labels t (suc k) o l e s h =
     subst (λ s. Weaker t (peek_at Unseen s)) (label_drop labels k z) (arm_in z lines (drop 1 labels) t k o l e s (each_right t (arm_end m.stmt o (label_at labels 0 z)) (arm_ends lines (drop 1 labels) o z) h))
 
 -- A break is among those of its loop.
-pub break_in : (z : Bool) (lines : List Line) (labels : List Sides) (t : Label) (k o : ℕ) (releases leaves : Bool) (l : Line) → slice_get lines k ≡ Some l → l.stmt ≡ Break o releases leaves → WeakerThanEach t (break_ends lines labels o z) → Weaker t (broken releases (label_at labels k z))
+pub break_in : (z : Bool) (lines : List Line) (labels : List Sides) (t : Label) (k o : ℕ) (releases : Locks) (leaves : Bool) (l : Line) → slice_get lines k ≡ Some l → l.stmt ≡ Break o releases leaves → WeakerThanEach t (break_ends lines labels o z) → Weaker t (broken releases (label_at labels k z))
 break_in z [] labels t k o r v l e s h = absurd (cc)
 break_in z (m ∷ lines) labels t zero o r v l e s h =
     let x : m.stmt ≡ Break o r v = cc in

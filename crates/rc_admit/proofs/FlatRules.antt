@@ -2,6 +2,7 @@
 use Rattle.std.proofs.Common.{◌≡◌, ℕ, Bool, true, false, ◌&&◌, cond, List, [], ◌∷◌, Option, Some, None, refl, sym, ap, ◌∙◌}
 use Rattle.std.specs.Prelude.{is_some, nat_le, option_map, unwrap_or}
 use Rattle.std.proofs.lemmas.Bool.{and_parts, leb-true}
+use Rattle.rc_lang.specs.declared.lines.Locks.{Locks}
 use Rattle.rc_lang.specs.declared.lines.Op.{Op}
 use Rattle.rc_lang.specs.declared.lines.Test.{Test}
 use Rattle.rc_lang.specs.declared.lines.Test.TheVariants.{Compare, ReadyZero, SpaceAtLeast, Take}
@@ -12,9 +13,9 @@ use Rattle.rc_rules.specs.declared.mode.Slot.TheVariants.{Closed}
 use Rattle.rc_rules.specs.declared.mode.Submitting.{Submitting}
 use Rattle.rc_rules.specs.Labels.{Label, Dead, Live, UnderLock, Weaker, WeakerMode, WeakerSubmitting}
 use Rattle.rc_rules.specs.Premises.{Is, Covers, Meets}
-use Rattle.rc_rules.specs.Rules.{Locks, both_locks, broken, can_take, keeps_queue, locks_of, op_effect, queue_on, same_slot, test_effect, test_mode, top_mode, top_sq, unlocked, with_peeked}
+use Rattle.rc_rules.specs.Rules.{can_take, keeps_queue, locks_of, op_effect, queue_on, same_slot, test_effect, test_mode, top_mode, top_sq}
 use Rattle.rc_rules.proofs.Lines.{effect_by}
-use Rattle.rc_rules.proofs.Weaker.{peeked_locks, same_slot_is, test_locks}
+use Rattle.rc_rules.proofs.Weaker.{same_slot_is, test_locks}
 use Rattle.rc_split.specs.Bags.{Part, IsWithin, bag_of, bag_on, plus}
 use Rattle.rc_admit.proofs.Owned.{front_below}
 use Rattle.rc_admit.proofs.Rule.{AtLive, Claim}
@@ -47,7 +48,7 @@ where_known Dead X K f = tt
 where_known (Live b m) X K f = f
 
 pub behind_test : (P : Program) (lists : List Items) (b : Part → ℕ) (m : Mode) (test : Test) (K : Claim) (t : Label) → Weaker t (test_effect P lists b m test) → ((c : Part → ℕ) (n : Mode) → locks_of n ≡ locks_of m → Weaker t (Live c n) → K c n) → AtLive (test_effect P lists b m test) K
-behind_test P lists b m (Take k) K t w f = go (can_take P b m (items_at lists k)) w
+behind_test P lists b m (Take pool k) K t w f = go (can_take P b m (items_at lists k)) w
   where
     go : (y : Bool) → Weaker t (cond y (Live (plus b (bag_of (items_at lists k))) m) Dead) → AtLive (cond y (Live (plus b (bag_of (items_at lists k))) m) Dead) K
     go false w = tt
@@ -55,15 +56,6 @@ behind_test P lists b m (Take k) K t w f = go (can_take P b m (items_at lists k)
 behind_test P lists b m (Compare x c n) K t w f = f b m refl w
 behind_test P lists b m ReadyZero K t w f = f b (test_mode P ReadyZero m) (test_locks P ReadyZero m) w
 behind_test P lists b m (SpaceAtLeast n) K t w f = f b (test_mode P (SpaceAtLeast n) m) (test_locks P (SpaceAtLeast n) m) w
-
-pub behind_break : (b : Part → ℕ) (m : Mode) (releases : Bool) (K : Claim) (t : Label) → Weaker t (broken releases (Live b m)) → ((n : Mode) → locks_of n ≡ cond releases (both_locks false) (locks_of m) → Weaker t (Live b n) → K b n) → AtLive (broken releases (Live b m)) K
-behind_break b m true K t w f = f unlocked refl w
-behind_break b m false K t w f = f (with_peeked Unseen m) (peeked_locks Unseen m) w
-
--- which are held behind a break, by whether they are before it
-pub locks_behind : (releases held : Bool) → cond releases (both_locks false) (both_locks held) ≡ both_locks (cond releases false held)
-locks_behind true held = refl
-locks_behind false held = refl
 
 -- ---- loops
 

@@ -64,7 +64,7 @@ completes_keeps P S w k res x bs e h =
             omega arith;
         free = o.free;
         submits = o.submits;
-        reaps = λ i. held_map (FrontFits w.controls.peeked w.completions) (FrontFits w.controls.peeked (w.completions ++ completion_of r res ∷ [])) (front_more w.controls.peeked w.completions (completion_of r res ∷ [])) (is_holder w.controls.holder i) (h.1 i).cq (o.reaps i);
+        reaps = λ i. held_map (FrontFits w.controls.peeked w.completions) (FrontFits w.controls.peeked (w.completions ++ completion_of r res ∷ [])) (front_more w.controls.peeked w.completions (completion_of r res ∷ [])) (is_holder w.controls.holders.cq i) (h.1 i).cq (o.reaps i);
         queued = o.queued;
         pending = Each-without (HasKindPending P) k w.pending o.pending;
         completed = Each-append (HasKind P) w.completed (r ∷ []) o.completed (Each-get (HasKindPending P) k w.pending x e o.pending, tt);

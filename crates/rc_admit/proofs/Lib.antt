@@ -3,6 +3,7 @@ pub mod Lists
 pub mod Flight
 pub mod Pool
 pub mod Owned
+pub mod Tokens
 pub mod Moves
 pub mod Ops
 pub mod Steps

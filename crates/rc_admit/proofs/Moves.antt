@@ -18,6 +18,7 @@ use Rattle.rc_split.specs.Bags.{Part}
 use Rattle.rc_world.specs.declared.event.Completion.{Completion}
 use Rattle.rc_world.specs.declared.world.Slot.{Slot as Entry}
 use Rattle.rc_world.specs.declared.world.Slot.TheVariants as entries
+use Rattle.rc_world.specs.declared.controls.Holders.{Holders}
 use Rattle.rc_world.specs.Controls.{Standing, passes_arm, rest_at}
 use Rattle.rc_world.specs.Faults.{is_holder}
 use Rattle.rc_world.specs.Machine.{World, slot_len}
@@ -29,14 +30,14 @@ use Rattle.rc_admit.proofs.Owned.{Stand, Leads, HasEdge, slot_bag, mode_bag, unh
 -- The world in which thread i went to this place, with these variables: it comes to rest, and at the end of an arm
 -- nothing is peeked any more.
 abbrev pub later : World → List Standing → Bool → World
-later w ts e = record w { controls = record { threads = ts; holder = w.controls.holder; peeked = cond e false w.controls.peeked; pool = w.controls.pool } }
+later w ts e = record w { controls = record { threads = ts; holders = w.controls.holders; peeked = cond e false w.controls.peeked; pools = w.controls.pools } }
 
 abbrev pub put : Program → World → ℕ → ℕ → List ℤ → World
 put P w i k vars = later w (slice_set w.controls.threads i (record { place = rest_at P i k; variables = vars })) (passes_arm P i k)
 
--- the world with another holder, and with another word on what is peeked
-abbrev pub with_lock : World → Option ℕ → Bool → World
-with_lock w holder peeked = record w { controls = record { threads = w.controls.threads; holder = holder; peeked = peeked; pool = w.controls.pool } }
+-- the world with other holders, and with another word on what is peeked
+abbrev pub with_locks : World → Holders → Bool → World
+with_locks w holders peeked = record w { controls = record { threads = w.controls.threads; holders = holders; peeked = peeked; pools = w.controls.pools } }
 
 abbrev pub upd : {A : Type 0} → (ℕ → A) → ℕ → A → ℕ → A
 upd f i x j = cond (nat_eq i j) x (f j)
@@ -85,14 +86,18 @@ pub record CqPart (holder : Option ℕ) (peeked : Bool) (cs : List Completion) (
   pub mine : CqFits peeked cs (is_holder holder i) o
   pub others : (k : ℕ) → (k ≡ i → ⊥) → CqFits peeked cs (is_holder holder k) (modes k).cq
 
+-- what is known of the submission side as its lock is taken
+abbrev pub taken : Program → Submitting
+taken P = record { queued = P.left; slot = Closed }
+
 -- A thread's step to a label that fits the world: what it and the requests own together is no more.
 pub record Moved (P : Program) (w w1 : World) (bags : ℕ → Part → ℕ) (modes : ℕ → Mode) (i : ℕ) (b : Part → ℕ) (m : Mode) : Type 0 where
   pub of : w1.program ≡ P
   pub room : length w1.queued + slot_len w1.slot ≤ P.entries
   pub same : w1.controls.threads ≡ w.controls.threads
   pub local : (p : Part) → held P b m p + unheld P w1 p ≤ held P (bags i) (modes i) p + unheld P w p
-  pub submits : SqPart P w1.controls.holder (length w1.queued) w1.slot modes i m.sq
-  pub reaps : CqPart w1.controls.holder w1.controls.peeked w1.completions modes i m.cq
+  pub submits : SqPart P w1.controls.holders.sq (length w1.queued) w1.slot modes i m.sq
+  pub reaps : CqPart w1.controls.holders.cq w1.controls.peeked w1.completions modes i m.cq
   pub queued : Each (HasKind P) w1.queued
   pub pending : Each (HasKindPending P) w1.pending
   pub completed : Each (HasKind P) w1.completed
@@ -108,13 +113,14 @@ module _ (P : Program) (S : Stand) (edge : HasEdge P S) (w w1 : World) (bags : �
       let e : Bool = passes_arm P i left in
       let bags' : ℕ → Part → ℕ = upd bags i s.bag in
       let modes' : ℕ → Mode = upd modes i s.mode in
-      let h : ℕ → Bool = is_holder w1.controls.holder in
+      let h : ℕ → Bool = is_holder w1.controls.holders.sq in
+      let g : ℕ → Bool = is_holder w1.controls.holders.cq in
       let n : ℕ = length w1.queued in
       let pe : Bool = w1.controls.peeked in
       let cs : List Completion = w1.completions in
       let sq : SqFits n w1.slot (h i) s.mode.sq = held_weaker (QueueFits n w1.slot) WeakerSubmitting (queue_weaker n w1.slot) (h i) m.sq s.mode.sq s.weaker.0 v.submits.mine in
-      let cq : CqFits pe cs (h i) s.mode.cq = held_weaker (FrontFits pe cs) WeakerPeeked (front_weaker pe cs) (h i) m.cq s.mode.cq s.weaker.1 v.reaps.mine in
-      let lock : e ≡ true → h i ≡ true = λ x. unseen_holder pe cs (h i) s.mode.cq (z.unseen x) cq in
+      let cq : CqFits pe cs (g i) s.mode.cq = held_weaker (FrontFits pe cs) WeakerPeeked (front_weaker pe cs) (g i) m.cq s.mode.cq s.weaker.1 v.reaps.mine in
+      let lock : e ≡ true → g i ≡ true = λ x. unseen_holder pe cs (g i) s.mode.cq (z.unseen x) cq in
       let len : length ts ≡ length w.controls.threads = length-set w1.controls.threads i new ∙ ap length v.same in (
         bags',
         modes',
@@ -149,8 +155,8 @@ module _ (P : Program) (S : Stand) (edge : HasEdge P S) (w w1 : World) (bags : �
             | inr x ↦ subst (λ (y : Mode). SqFits n w1.slot (h k) y.sq) (sym (upd_off modes i s.mode k x.0)) (v.submits.others k x.0)
           ];
           reaps = λ k. elim (same_or_not k i) [
-            | inl x ↦ subst (λ (y : Mode). CqFits (cond e false pe) cs (h k) y.cq) (sym (upd_at modes i s.mode k x.0)) (subst (λ j. CqFits (cond e false pe) cs (h j) s.mode.cq) (sym x.0) (fits_later pe cs e (h i) s.mode.cq z.unseen cq))
-            | inr x ↦ subst (λ (y : Mode). CqFits (cond e false pe) cs (h k) y.cq) (sym (upd_off modes i s.mode k x.0)) (other_later pe cs e (h k) (modes k).cq (λ y. holder_one w1.controls.holder i k (lock y) x.0) (v.reaps.others k x.0))
+            | inl x ↦ subst (λ (y : Mode). CqFits (cond e false pe) cs (g k) y.cq) (sym (upd_at modes i s.mode k x.0)) (subst (λ j. CqFits (cond e false pe) cs (g j) s.mode.cq) (sym x.0) (fits_later pe cs e (g i) s.mode.cq z.unseen cq))
+            | inr x ↦ subst (λ (y : Mode). CqFits (cond e false pe) cs (g k) y.cq) (sym (upd_off modes i s.mode k x.0)) (other_later pe cs e (g k) (modes k).cq (λ y. holder_one w1.controls.holders.cq i k (lock y) x.0) (v.reaps.others k x.0))
           ];
           queued = v.queued;
           pending = v.pending;
@@ -164,26 +170,29 @@ not_none None i e n = cc
 not_none (Some j) i e n = cc
 
 module _ (P : Program) (S : Stand) (w : World) (bags : ℕ → Part → ℕ) (modes : ℕ → Mode) (i : ℕ) (o : Owned P S w bags modes) where
-  abbrev holds : ℕ → Bool
-  holds k = is_holder w.controls.holder k
+  abbrev submits : ℕ → Bool
+  submits k = is_holder w.controls.holders.sq k
+
+  abbrev reaps : ℕ → Bool
+  reaps k = is_holder w.controls.holders.cq k
 
   -- ---- the submission side
 
-  pub sq_still : SqPart P w.controls.holder (length w.queued) w.slot modes i (modes i).sq
+  pub sq_still : SqPart P w.controls.holders.sq (length w.queued) w.slot modes i (modes i).sq
   sq_still = record { free = o.free; mine = o.submits i; others = λ k ne. o.submits k }
 
   -- what the world has, from the label
-  pub sq_has : (s : Submitting) → (modes i).sq ≡ Some s → (holds i ≡ true) × (length w.queued + slot_len w.slot ≤ s.queued) × SlotFits w.slot s.slot
-  sq_has s e = let f = held_parts (QueueFits (length w.queued) w.slot) (holds i) s (subst (λ x. SqFits (length w.queued) w.slot (holds i) x) e (o.submits i)) in (f.0, f.1.0, f.1.1)
+  pub sq_has : (s : Submitting) → (modes i).sq ≡ Some s → (submits i ≡ true) × (length w.queued + slot_len w.slot ≤ s.queued) × SlotFits w.slot s.slot
+  sq_has s e = let f = held_parts (QueueFits (length w.queued) w.slot) (submits i) s (subst (λ x. SqFits (length w.queued) w.slot (submits i) x) e (o.submits i)) in (f.0, f.1.0, f.1.1)
 
   -- the holder goes on, with another queue and slot
-  pub sq_step : (n : ℕ) (slot : Entry) (s t : Submitting) → (modes i).sq ≡ Some s → n + slot_len slot ≤ t.queued → SlotFits slot t.slot → SqPart P w.controls.holder n slot modes i (Some t)
+  pub sq_step : (n : ℕ) (slot : Entry) (s t : Submitting) → (modes i).sq ≡ Some s → n + slot_len slot ≤ t.queued → SlotFits slot t.slot → SqPart P w.controls.holders.sq n slot modes i (Some t)
   sq_step n slot s t e bound fit =
       let h = sq_has s e in
       record {
-        free = λ x. absurd (not_none w.controls.holder i h.0 x);
-        mine = held_made (QueueFits n slot) (holds i) t h.0 (bound, fit);
-        others = λ k ne. not_held (QueueFits (length w.queued) w.slot) (QueueFits n slot) (holds k) (holds k) (modes k).sq (holder_one w.controls.holder i k h.0 ne) (holder_one w.controls.holder i k h.0 ne) (o.submits k);
+        free = λ x. absurd (not_none w.controls.holders.sq i h.0 x);
+        mine = held_made (QueueFits n slot) (submits i) t h.0 (bound, fit);
+        others = λ k ne. not_held (QueueFits (length w.queued) w.slot) (QueueFits n slot) (submits k) (submits k) (modes k).sq (holder_one w.controls.holders.sq i k h.0 ne) (holder_one w.controls.holders.sq i k h.0 ne) (o.submits k);
       }
 
   pub sq_frees : (s : Submitting) → (modes i).sq ≡ Some s → s.queued ≤ P.left → w.slot ≡ entries.Closed → SqPart P None (length w.queued) w.slot modes i None
@@ -192,34 +201,34 @@ module _ (P : Program) (S : Stand) (w : World) (bags : ℕ → Part → ℕ) (mo
       record {
         free = λ x. (omega (arith, h.1), closed);
         mine = tt;
-        others = λ k ne. not_held (QueueFits (length w.queued) w.slot) (QueueFits (length w.queued) w.slot) (holds k) false (modes k).sq (holder_one w.controls.holder i k h.0 ne) refl (o.submits k);
+        others = λ k ne. not_held (QueueFits (length w.queued) w.slot) (QueueFits (length w.queued) w.slot) (submits k) false (modes k).sq (holder_one w.controls.holders.sq i k h.0 ne) refl (o.submits k);
       }
 
-  pub sq_takes : w.controls.holder ≡ None → SqPart P (Some i) (length w.queued) w.slot modes i (Some (record { queued = P.left; slot = Closed }))
+  pub sq_takes : w.controls.holders.sq ≡ None → SqPart P (Some i) (length w.queued) w.slot modes i (Some (taken P))
   sq_takes e =
       let f = o.free e in
       let z : slot_len w.slot ≡ 0 = ap slot_len f.1 in
       let mine : is_holder (Some i) i ≡ true = eq-eqb i i refl in
       record {
         free = λ x. absurd (cc);
-        mine = held_made (QueueFits (length w.queued) w.slot) (is_holder (Some i) i) (record { queued = P.left; slot = Closed }) mine (omega (arith, f.0), subst (λ s. SlotFits s Closed) (sym f.1) tt);
-        others = λ k ne. not_held (QueueFits (length w.queued) w.slot) (QueueFits (length w.queued) w.slot) (holds k) (is_holder (Some i) k) (modes k).sq (ap (λ (x : Option ℕ). is_holder x k) e) (holder_one (Some i) i k mine ne) (o.submits k);
+        mine = held_made (QueueFits (length w.queued) w.slot) (is_holder (Some i) i) (taken P) mine (omega (arith, f.0), subst (λ s. SlotFits s Closed) (sym f.1) tt);
+        others = λ k ne. not_held (QueueFits (length w.queued) w.slot) (QueueFits (length w.queued) w.slot) (submits k) (is_holder (Some i) k) (modes k).sq (ap (λ (x : Option ℕ). is_holder x k) e) (holder_one (Some i) i k mine ne) (o.submits k);
       }
 
   -- ---- the completion side
 
-  pub cq_still : CqPart w.controls.holder w.controls.peeked w.completions modes i (modes i).cq
+  pub cq_still : CqPart w.controls.holders.cq w.controls.peeked w.completions modes i (modes i).cq
   cq_still = record { mine = o.reaps i; others = λ k ne. o.reaps k }
 
-  pub cq_has : (p : Peeked) → (modes i).cq ≡ Some p → (holds i ≡ true) × FrontFits w.controls.peeked w.completions p
-  cq_has p e = held_parts (FrontFits w.controls.peeked w.completions) (holds i) p (subst (λ x. CqFits w.controls.peeked w.completions (holds i) x) e (o.reaps i))
+  pub cq_has : (p : Peeked) → (modes i).cq ≡ Some p → (reaps i ≡ true) × FrontFits w.controls.peeked w.completions p
+  cq_has p e = held_parts (FrontFits w.controls.peeked w.completions) (reaps i) p (subst (λ x. CqFits w.controls.peeked w.completions (reaps i) x) e (o.reaps i))
 
-  pub cq_step : (pe : Bool) (cs : List Completion) (p q : Peeked) → (modes i).cq ≡ Some p → FrontFits pe cs q → CqPart w.controls.holder pe cs modes i (Some q)
+  pub cq_step : (pe : Bool) (cs : List Completion) (p q : Peeked) → (modes i).cq ≡ Some p → FrontFits pe cs q → CqPart w.controls.holders.cq pe cs modes i (Some q)
   cq_step pe cs p q e fit =
       let h = cq_has p e in
       record {
-        mine = held_made (FrontFits pe cs) (holds i) q h.0 fit;
-        others = λ k ne. not_held (FrontFits w.controls.peeked w.completions) (FrontFits pe cs) (holds k) (holds k) (modes k).cq (holder_one w.controls.holder i k h.0 ne) (holder_one w.controls.holder i k h.0 ne) (o.reaps k);
+        mine = held_made (FrontFits pe cs) (reaps i) q h.0 fit;
+        others = λ k ne. not_held (FrontFits w.controls.peeked w.completions) (FrontFits pe cs) (reaps k) (reaps k) (modes k).cq (holder_one w.controls.holders.cq i k h.0 ne) (holder_one w.controls.holders.cq i k h.0 ne) (o.reaps k);
       }
 
   pub cq_frees : (pe : Bool) (p : Peeked) → (modes i).cq ≡ Some p → CqPart None pe w.completions modes i None
@@ -227,13 +236,13 @@ module _ (P : Program) (S : Stand) (w : World) (bags : ℕ → Part → ℕ) (mo
       let h = cq_has p e in
       record {
         mine = tt;
-        others = λ k ne. not_held (FrontFits w.controls.peeked w.completions) (FrontFits pe w.completions) (holds k) false (modes k).cq (holder_one w.controls.holder i k h.0 ne) refl (o.reaps k);
+        others = λ k ne. not_held (FrontFits w.controls.peeked w.completions) (FrontFits pe w.completions) (reaps k) false (modes k).cq (holder_one w.controls.holders.cq i k h.0 ne) refl (o.reaps k);
       }
 
-  pub cq_takes : w.controls.holder ≡ None → CqPart (Some i) w.controls.peeked w.completions modes i (Some Unseen)
+  pub cq_takes : w.controls.holders.cq ≡ None → CqPart (Some i) w.controls.peeked w.completions modes i (Some Unseen)
   cq_takes e =
       let mine : is_holder (Some i) i ≡ true = eq-eqb i i refl in
       record {
         mine = held_made (FrontFits w.controls.peeked w.completions) (is_holder (Some i) i) Unseen mine tt;
-        others = λ k ne. not_held (FrontFits w.controls.peeked w.completions) (FrontFits w.controls.peeked w.completions) (holds k) (is_holder (Some i) k) (modes k).cq (ap (λ (x : Option ℕ). is_holder x k) e) (holder_one (Some i) i k mine ne) (o.reaps k);
+        others = λ k ne. not_held (FrontFits w.controls.peeked w.completions) (FrontFits w.controls.peeked w.completions) (reaps k) (is_holder (Some i) k) (modes k).cq (ap (λ (x : Option ℕ). is_holder x k) e) (holder_one (Some i) i k mine ne) (o.reaps k);
       }

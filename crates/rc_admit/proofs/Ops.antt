@@ -1,7 +1,8 @@
 -- Statements without a block keep what is true of each world.
 use Rattle.std.proofs.Common.{◌≡◌, ℕ, ◌+◌, ◌-◌, ◌≤◌, ◌<◌, Bool, true, false, cond, List, [], ◌∷◌, ◌++◌, length, take, drop, map, Option, Some, None, refl, sym, ap, ◌∙◌, subst, inl, inr, arith, length-append, length-drop}
-use Rattle.std.proofs.lemmas.Bool.{leb-true, ltb-true}
-use Rattle.std.specs.Prelude.{slice_get, slice_set, unwrap_or, nat_lt, ℤ, if◌then◌else◌}
+use Rattle.std.proofs.lemmas.Bool.{leb-true}
+use Rattle.std.specs.Prelude.{slice_get, slice_set, unwrap_or, min, nat_lt, ℤ, if◌then◌else◌}
+use Rattle.std.proofs.lemmas.Option.{slice_get_within}
 use Rattle.rc_lang.specs.declared.lines.Stmt.TheVariants.{Do}
 use Rattle.rc_lang.specs.declared.lines.Op.{Op}
 use Rattle.rc_lang.specs.declared.lines.Op.TheVariants.{Set, Load, Store, Fill, Print, GetSqe, PrepRead, PrepWrite, PrepFsync, PrepNop, SetData64, Submit, SubmitAndWait, CqeSeen}
@@ -16,11 +17,11 @@ use Rattle.rc_rules.specs.declared.mode.Slot.{Slot}
 use Rattle.rc_rules.specs.declared.mode.Slot.TheVariants.{Closed, Vacant, Prepared}
 use Rattle.rc_rules.specs.declared.mode.Submitting.{Submitting}
 use Rattle.rc_rules.specs.Needs.{line_premises}
-use Rattle.rc_rules.specs.Rules.{is_seen, kind_bag, kind_of, line_bag, op_effect, owned, reaped}
+use Rattle.rc_rules.specs.Rules.{can_queue, is_seen, kind_bag, kind_of, line_bag, op_effect, owned, reaped}
 use Rattle.rc_rules.specs.Premises.{Meets}
 use Rattle.rc_rules.proofs.Weaker.{same_slot_is}
-use Rattle.rc_split.specs.Bags.{Part, ShareOf, TokenOf, Credit, shares_bag, token_bag, credits_bag, minus, plus}
-use Rattle.rc_split.specs.Pools.{Pool, pooled}
+use Rattle.rc_split.specs.Bags.{Part, ShareOf, TokenOf, Credit, shares_bag, token_bag, credits_bag, lacking, minus, plus}
+use Rattle.rc_split.specs.Pools.{Pools, all_pooled}
 use Rattle.rc_world.specs.declared.controls.Answer.{Answer}
 use Rattle.rc_world.specs.declared.controls.Answer.TheVariants.{Byte}
 use Rattle.rc_world.specs.declared.event.Action.{Action}
@@ -34,7 +35,8 @@ use Rattle.rc_split.proofs.PoolBags.{same_or_not}
 use Rattle.rc_admit.proofs.Lists.{sum_over, sum_over-append, Each, Each-append, Each-take, Each-drop, Each-map}
 use Rattle.rc_admit.proofs.Moves.{Moved, SqPart, moves, put, cq_has, cq_step, cq_still, sq_has, sq_step, sq_still}
 use Rattle.rc_admit.proofs.Owned.{Stand, Leads, MayBecome, HasEdge, slot_bag, owns, owns_pending, FitsKind, SlotFits, StartsWith, IsNonempty, mode_bag, HasKind, HasKindPending, Owned, WellOwned}
-use Rattle.rc_admit.proofs.Rule.{AtLive, Claim, called, prepared_as, then_known}
+use Rattle.rc_admit.proofs.Rule.{AtLive, Claim, called, can_queue_by, prepared_as, then_known}
+use Rattle.rc_admit.proofs.Tokens.{few_queued}
 
 pub credit_covered : (b : Part → ℕ) → 1 ≤ b Credit → (p : Part) → credits_bag 1 p ≤ b p
 credit_covered b h (ShareOf c) = omega arith
@@ -89,16 +91,16 @@ quiet P S w bs bags modes i o = record {
   agree = o.agree;
 }
 
-abbrev pub with_pool : World → Pool → World
-with_pool w pool = record w { controls = record w.controls { pool = pool } }
+abbrev pub with_pools : World → Pools → World
+with_pools w pools = record w { controls = record w.controls { pools = pools } }
 
--- nothing but the pool, and what the thread holds: together they have no more than before
-pub pools : (P : Program) (S : Stand) (w : World) (pool : Pool) (bags : ℕ → Part → ℕ) (modes : ℕ → Mode) (i : ℕ) (b : Part → ℕ) → Owned P S w bags modes → ((p : Part) → b p + pooled P pool p ≤ bags i p + pooled P w.controls.pool p) → Moved P w (with_pool w pool) bags modes i b (modes i)
-pools P S w pool bags modes i b o local = record {
+-- nothing but the pools, and what the thread holds: together they have no more than before
+pub pooling : (P : Program) (S : Stand) (w : World) (pools : Pools) (bags : ℕ → Part → ℕ) (modes : ℕ → Mode) (i : ℕ) (b : Part → ℕ) → Owned P S w bags modes → ((p : Part) → b p + all_pooled P pools p ≤ bags i p + all_pooled P w.controls.pools p) → Moved P w (with_pools w pools) bags modes i b (modes i)
+pooling P S w pools bags modes i b o local = record {
   of = o.of;
   room = o.room;
   same = refl;
-  local = λ p. let h : b p + pooled P pool p ≤ bags i p + pooled P w.controls.pool p = local p in omega arith;
+  local = λ p. let h : b p + all_pooled P pools p ≤ bags i p + all_pooled P w.controls.pools p = local p in omega arith;
   submits = sq_still P S w bags modes i o;
   reaps = cq_still P S w bags modes i o;
   queued = o.queued;
@@ -141,10 +143,10 @@ module _ (P : Program) (S : Stand) (w : World) (bags : ℕ → Part → ℕ) (mo
       agree = o.agree;
     }
 
-    pub get_sqe : 1 ≤ bags i Credit → s.queued < P.entries → s.slot ≡ Closed → Moved P w (with_slot w entries.Vacant) bags modes i (minus (bags i) (credits_bag 1)) (knowing (record { queued = s.queued + 1; slot = Vacant }))
+    pub get_sqe : 1 ≤ bags i Credit → length w.queued < P.entries → s.slot ≡ Closed → Moved P w (with_slot w entries.Vacant) bags modes i (minus (bags i) (credits_bag 1)) (knowing (record { queued = min (s.queued + 1) P.entries; slot = Vacant }))
     get_sqe c lt f =
         let h : length w.queued + slot_len w.slot ≤ s.queued = has.0 in
-        slots entries.Vacant (minus (bags i) (credits_bag 1)) (s.queued + 1) Vacant
+        slots entries.Vacant (minus (bags i) (credits_bag 1)) (min (s.queued + 1) P.entries) Vacant
         (λ p. let x : credits_bag 1 p ≤ bags i p = credit_covered (bags i) c p in let y : slot_bag P s.slot p ≡ 0 = ap (λ z. slot_bag P z p) f in omega arith)
         (omega arith) (omega arith) tt
 
@@ -203,7 +205,7 @@ module _ (P : Program) (S : Stand) (w : World) (bags : ℕ → Part → ℕ) (mo
           local = λ p.
               let a : sum_over (owns P p) (drop n w.queued) + sum_over (owns_pending P p) (w.pending ++ ps) ≡ sum_over (owns P p) w.queued + sum_over (owns_pending P p) w.pending = taken_sum (owns P p) n w.queued w.pending ps are in
               omega arith;
-          submits = subst (λ x. SqPart P w.controls.holder (length (drop n w.queued)) w.slot modes i x) (sym e) (sq_step P S w bags modes i o (length (drop n w.queued)) w.slot s s e (omega arith) has.1);
+          submits = subst (λ x. SqPart P w.controls.holders.sq (length (drop n w.queued)) w.slot modes i x) (sym e) (sq_step P S w bags modes i o (length (drop n w.queued)) w.slot s s e (omega arith) has.1);
           reaps = cq_still P S w bags modes i o;
           queued = Each-drop (HasKind P) n w.queued o.queued;
           pending = Each-append (HasKindPending P) w.pending ps o.pending (Each-map (HasKind P) (λ (x : Pending). x.request) ps (subst (λ xs. Each (HasKind P) xs) (sym are) (Each-take (HasKind P) n w.queued o.queued)));
@@ -273,14 +275,21 @@ module _ (P : Program) (S : Stand) (edge : HasEdge P S) (w : World) (bags : ℕ 
   fill_keeps b byte action None h = tt
   fill_keeps b byte action (Some bytes) h = quietly _ t.variables h
 
+  -- An entry is free, as the label says, or as the tokens do that the thread doesn't hold.
+  room : (s : Submitting) → (modes i).sq ≡ Some s → can_queue P (bags i) s.queued ≡ true → length w.queued < P.entries
+  room s e c = elim (can_queue_by P (bags i) s.queued c) [
+    | inl lt ↦ let h : length w.queued + slot_len w.slot ≤ s.queued = (has P S w bags modes i o s e).0 in omega (arith, lt, h)
+    | inr lt ↦ let h : length w.queued ≤ lacking P.tokens (bags i) = few_queued P S w bags modes i o (slice_get_within w.controls.threads i t get) in omega (arith, lt, h)
+  ]
+
   -- a slot that opens, and one that is filled
-  open_keeps : (s : Submitting) (action : Action) (x : Entry) → (modes i).sq ≡ Some s → 1 ≤ bags i Credit → s.queued < P.entries → s.slot ≡ Closed → Leads S i (minus (bags i) (credits_bag 1)) (record (modes i) { sq = Some (record { queued = s.queued + 1; slot = Vacant }) }) t.variables (t.place + 1) → Keeps P S w.controls i (opens_entry w x) (Some (goes_on w.controls t action))
+  open_keeps : (s : Submitting) (action : Action) (x : Entry) → (modes i).sq ≡ Some s → 1 ≤ bags i Credit → can_queue P (bags i) s.queued ≡ true → s.slot ≡ Closed → Leads S i (minus (bags i) (credits_bag 1)) (record (modes i) { sq = Some (record { queued = min (s.queued + 1) P.entries; slot = Vacant }) }) t.variables (t.place + 1) → Keeps P S w.controls i (opens_entry w x) (Some (goes_on w.controls t action))
   open_keeps s action entries.Vacant e c lt f l = tt
   open_keeps s action (entries.Prepared q) e c lt f l = tt
   open_keeps s action entries.Closed e c lt f l = go (nat_lt (length w.queued) w.program.entries)
     where
       go : (y : Bool) → Keeps P S w.controls i (if y then Some (record w { slot = entries.Vacant }) else None) (Some (goes_on w.controls t action))
-      go true = goes _ t.variables _ _ (get_sqe P S w bags modes i o s e c lt f) l
+      go true = goes _ t.variables _ _ (get_sqe P S w bags modes i o s e c (room s e lt) f) l
       go false = tt
 
   prep_keeps : (s : Submitting) (action : Action) (kind : TokenKind) (q : Request) (x : Entry) → (modes i).sq ≡ Some s → FitsKind q kind → ((p : Part) → kind_bag P kind p ≤ bags i p) → s.slot ≡ Vacant → Leads S i (minus (bags i) (kind_bag P kind)) (record (modes i) { sq = Some (record s { slot = Prepared kind }) }) t.variables (t.place + 1) → Keeps P S w.controls i (prepares w q x) (Some (goes_on w.controls t action))
@@ -301,16 +310,16 @@ module _ (P : Program) (S : Stand) (edge : HasEdge P S) (w : World) (bags : ℕ 
       goes _ t.variables _ _ (set_data P S w bags modes i o s e u x kind q k fit f c) l
 
   -- entries that are submitted
-  submit_keeps : (s : Submitting) (x : ℕ) (action : Action) → (modes i).sq ≡ Some s → Leads S i (bags i) (modes i) (slice_set t.variables x r) (t.place + 1) → Keeps P S w.controls i (submits_by w r) (Some (record { action = action; holder = w.controls.holder; peeked = w.controls.peeked; pool = w.controls.pool; place = t.place + 1; variables = slice_set t.variables x r }))
+  submit_keeps : (s : Submitting) (x : ℕ) (action : Action) → (modes i).sq ≡ Some s → Leads S i (bags i) (modes i) (slice_set t.variables x r) (t.place + 1) → Keeps P S w.controls i (submits_by w r) (Some (record { action = action; holders = w.controls.holders; peeked = w.controls.peeked; pools = w.controls.pools; place = t.place + 1; variables = slice_set t.variables x r }))
   submit_keeps s x action e l = go (is_take w r)
     where
-      handed : WellOwned P S (record (hands_over w (count_in r)) { controls = moved P w.controls i (record { action = action; holder = w.controls.holder; peeked = w.controls.peeked; pool = w.controls.pool; place = t.place + 1; variables = slice_set t.variables x r }) })
+      handed : WellOwned P S (record (hands_over w (count_in r)) { controls = moved P w.controls i (record { action = action; holders = w.controls.holders; peeked = w.controls.peeked; pools = w.controls.pools; place = t.place + 1; variables = slice_set t.variables x r }) })
       handed =
           let n = begun (record w { queued = drop (count_in r) w.queued }) (take (count_in r) w.queued) in
-          subst (λ (v : World). WellOwned P S (record v { controls = moved P w.controls i (record { action = action; holder = w.controls.holder; peeked = w.controls.peeked; pool = w.controls.pool; place = t.place + 1; variables = slice_set t.variables x r }) })) (sym n.is)
+          subst (λ (v : World). WellOwned P S (record v { controls = moved P w.controls i (record { action = action; holders = w.controls.holders; peeked = w.controls.peeked; pools = w.controls.pools; place = t.place + 1; variables = slice_set t.variables x r }) })) (sym n.is)
           (goes _ (slice_set t.variables x r) (bags i) (modes i) (submit P S w bags modes i o s e (count_in r) n.pending n.buffers n.are) l)
 
-      go : (y : Bool) → Keeps P S w.controls i (if y then Some (hands_over w (count_in r)) else None) (Some (record { action = action; holder = w.controls.holder; peeked = w.controls.peeked; pool = w.controls.pool; place = t.place + 1; variables = slice_set t.variables x r }))
+      go : (y : Bool) → Keeps P S w.controls i (if y then Some (hands_over w (count_in r)) else None) (Some (record { action = action; holders = w.controls.holders; peeked = w.controls.peeked; pools = w.controls.pools; place = t.place + 1; variables = slice_set t.variables x r }))
       go true = handed
       go false = tt
 
@@ -343,7 +352,7 @@ module _ (P : Program) (S : Stand) (edge : HasEdge P S) (w : World) (bags : ℕ 
   op_keeps (Print x) h = quietly w.buffers t.variables (h.1 t.variables refl)
   op_keeps GetSqe h =
       let x = called (modes i).sq _ h.0 in
-      open_keeps x.known _ w.slot x.is (leb-true 1 _ (x.asked 2)) (ltb-true _ _ (x.asked 3)) (same_slot_is x.known.slot Closed (x.asked 4)) (then_known (modes i).sq _ (Behind GetSqe) x.known x.is h.1 t.variables refl)
+      open_keeps x.known _ w.slot x.is (leb-true 1 _ (x.asked 2)) (x.asked 3) (same_slot_is x.known.slot Closed (x.asked 4)) (then_known (modes i).sq _ (Behind GetSqe) x.known x.is h.1 t.variables refl)
   op_keeps (PrepRead fd b len off) h =
       let x = called (modes i).sq _ h.0 in
       prep_keeps x.known _ (tokens.Read b) _ w.slot x.is (refl, refl) (shares_covered (bags i) b (shares_at P.buffers b) (leb-true _ _ (x.asked 7))) (same_slot_is x.known.slot Vacant (x.asked 5)) (then_known (modes i).sq _ (Behind (PrepRead fd b len off)) x.known x.is h.1 t.variables refl)

@@ -13,6 +13,7 @@ use Rattle.rc_lang.specs.declared.program.TokenKind.TheVariants as tokens
 use Rattle.rc_lang.specs.declared.request.Kind.TheVariants.{Nop, Fsync, Read, Write}
 use Rattle.rc_lang.specs.declared.request.Request.{Request}
 use Rattle.rc_lang.specs.Program.{Program, Thread, end_at, items_at, lines_of, lists_of, stmt_at}
+use Rattle.rc_lang.proofs.Closing.{AreAmong}
 use Rattle.rc_rules.specs.declared.mode.Mode.{Mode}
 use Rattle.rc_rules.specs.declared.mode.Peeked.{Peeked}
 use Rattle.rc_rules.specs.declared.mode.Peeked.TheVariants.{Unseen, Sees, SeesOther}
@@ -23,9 +24,9 @@ use Rattle.rc_rules.specs.Labels.{Live, UnderLock, WeakerMode, WeakerPeeked, Wea
 use Rattle.rc_rules.specs.Premises.{Meets}
 use Rattle.rc_rules.proofs.Weaker.{mode_refl, mode_trans}
 use Rattle.rc_rules.specs.Needs.{line_premises}
-use Rattle.rc_rules.specs.Rules.{both_locks, broken, kind_bag, kind_of, limit, locked, locks_of, op_effect, owned, sq_of, test_effect, unlocked, with_peeked}
+use Rattle.rc_rules.specs.Rules.{broken, freed, kind_bag, kind_of, limit, locked, locks_of, op_effect, owned, sq_of, test_effect, unlocked, with_peeked}
 use Rattle.rc_split.specs.Bags.{Part, TokenOf, bag_of, credits_bag, minus}
-use Rattle.rc_split.specs.Pools.{pooled}
+use Rattle.rc_split.specs.Pools.{all_pooled}
 use Rattle.rc_world.specs.declared.event.Completion.{Completion}
 use Rattle.rc_world.specs.declared.world.Slot.{Slot as Entry}
 use Rattle.rc_world.specs.declared.world.Slot.TheVariants as entries
@@ -66,15 +67,15 @@ abbrev pub MayPass : Test → List ℤ → Bool → Type 0
 MayPass (Compare x c n) vars b = compares c (slice_index_or vars x (pos 0)) n ≡ b
 MayPass ReadyZero vars b = Unit {0}
 MayPass (SpaceAtLeast n) vars b = Unit {0}
-MayPass (Take k) vars b = Unit {0}
+MayPass (Take pool k) vars b = Unit {0}
 
 -- The edge law at the line k of thread i: the state before it meets the premises of the line, and the rule's state
 -- after it leads to one in which the thread may be.
 abbrev pub EdgeAt : Program → Stand → ℕ → (Part → ℕ) → Mode → List ℤ → ℕ → Option Stmt → Type 0
 EdgeAt P S i b m vars k (Some (Do op)) = Meets (line_premises P [] b m (Do op)) × AtLive (op_effect P b m op) (λ c n. (new : List ℤ) → MayBecome op vars new → Leads S i c n new (k + 1))
-EdgeAt P S i b m vars k (Some (Put n)) = Meets (line_premises P (lists_of P i) b m (Put n)) × Leads S i (minus b (bag_of (items_at (lists_of P i) n))) m vars (k + 1)
-EdgeAt P S i b m vars k (Some Lock) = Leads S i b (locked P) vars (k + 1)
-EdgeAt P S i b m vars k (Some (EndLock o)) = (locks_of m ≡ both_locks true) × Meets (line_premises P [] b m (EndLock 0)) × Leads S i b unlocked vars (k + 1)
+EdgeAt P S i b m vars k (Some (Put pool n)) = Meets (line_premises P (items_at (lists_of P i) n ∷ []) b m (Put pool 0)) × Leads S i (minus b (bag_of (items_at (lists_of P i) n))) m vars (k + 1)
+EdgeAt P S i b m vars k (Some (Lock l)) = Leads S i b (locked P l m) vars (k + 1)
+EdgeAt P S i b m vars k (Some (EndLock o l)) = AreAmong l (locks_of m) × Meets (line_premises P [] b m (EndLock 0 l)) × Leads S i b (freed l m) vars (k + 1)
 EdgeAt P S i b m vars k (Some (If test)) = Meets (line_premises P [] b m (If test))
     × AtLive (test_effect P (lists_of P i) b m test) (λ c n. MayPass test vars true → Leads S i c n vars (k + 1))
     × (MayPass test vars false → Leads S i b m vars (end_at P i k + 1))
@@ -86,7 +87,7 @@ EdgeAt P S i b m vars k (Some (Peek x)) = Meets (line_premises P [] b m (Peek 0)
 EdgeAt P S i b m vars k (Some (EndArm o)) = (is_some m.cq ≡ true) × Leads S i b (with_peeked Unseen m) vars (end_at P i o + 1)
 EdgeAt P S i b m vars k (Some (Loop n)) = Leads S i b m vars (k + 1)
 EdgeAt P S i b m vars k (Some (EndLoop o n)) = Leads S i b m vars (o + 1)
-EdgeAt P S i b m vars k (Some (Break o releases leaves)) = ((releases || leaves) ≡ true → locks_of m ≡ both_locks true) × Meets (line_premises P [] b m (Break 0 releases false))
+EdgeAt P S i b m vars k (Some (Break o releases leaves)) = AreAmong releases (locks_of m) × (leaves ≡ true → is_some m.cq ≡ true) × Meets (line_premises P [] b m (Break 0 releases false))
     × AtLive (broken releases (Live b m)) (λ c n. Leads S i c n vars (end_at P i o + 1))
 EdgeAt P S i b m vars k _ = Unit {0}
 
@@ -118,9 +119,9 @@ owns P p r = owned P r.user_data p
 abbrev pub owns_pending : Program → Part → Pending → ℕ
 owns_pending P p = of_pending (owns P p)
 
--- what no thread holds: what the requests in flight own, and what is in the pool
+-- what no thread holds: what the requests in flight own, and what is in the pools
 abbrev pub unheld : Program → World → Part → ℕ
-unheld P w p = in_flight (owns P p) w + pooled P w.controls.pool p
+unheld P w p = in_flight (owns P p) w + all_pooled P w.controls.pools p
 
 -- The request is one of this kind, of this buffer.
 abbrev pub FitsKind : Request → TokenKind → Type 0
@@ -180,9 +181,9 @@ pub record Owned (P : Program) (S : ℕ → (Part → ℕ) → Mode → List ℤ
   pub room : length w.queued + slot_len w.slot ≤ P.entries
   pub stands : (i : ℕ) (t : Standing) → slice_get w.controls.threads i ≡ Some t → S i (bags i) (modes i) t.variables t.place
   pub total : (p : Part) → sum_to (λ i. held P (bags i) (modes i) p) (length w.controls.threads) + unheld P w p ≤ limit P p
-  pub free : w.controls.holder ≡ None → (length w.queued ≤ P.left) × (w.slot ≡ entries.Closed)
-  pub submits : (i : ℕ) → SqFits (length w.queued) w.slot (is_holder w.controls.holder i) (modes i).sq
-  pub reaps : (i : ℕ) → CqFits w.controls.peeked w.completions (is_holder w.controls.holder i) (modes i).cq
+  pub free : w.controls.holders.sq ≡ None → (length w.queued ≤ P.left) × (w.slot ≡ entries.Closed)
+  pub submits : (i : ℕ) → SqFits (length w.queued) w.slot (is_holder w.controls.holders.sq i) (modes i).sq
+  pub reaps : (i : ℕ) → CqFits w.controls.peeked w.completions (is_holder w.controls.holders.cq i) (modes i).cq
   pub queued : Each (HasKind P) w.queued
   pub pending : Each (HasKindPending P) w.pending
   pub completed : Each (HasKind P) w.completed

@@ -1,14 +1,14 @@
 -- What tests of the items of a put and of a take say, where nobody has more of a part than there is.
-use Rattle.std.proofs.Common.{◌≡◌, ℕ, zero, suc, ◌+◌, ◌<◌, ◌≤◌, true, false, cond, List, [], ◌∷◌, length, Option, Some, None, nat_eq, nat_le, replicate, slice_get, slice_index, slice_index_or, refl, ap, subst, sym, inl, inr, arith, All}
+use Rattle.std.proofs.Common.{◌≡◌, ℕ, ◌+◌, ◌<◌, ◌≤◌, true, false, List, [], ◌∷◌, length, Option, Some, None, nat_eq, slice_get, refl, subst, sym, inl, inr, arith, All}
 use Rattle.std.specs.Prelude.{nat_lt}
 use Rattle.std.specs.List.{IsDistinct, list_all, list_any}
 use Rattle.std.proofs.lemmas.Bool.{and_from, cases_order, eqb-true, le-leb, leb-true, ltb-true, or_cases, or_from, false_from_ne_true}
 use Rattle.std.proofs.lemmas.List.{get_or_past}
 use Rattle.std.proofs.lemmas.List.Elements.{All-get_or, All-nil}
 use Rattle.rc_lang.specs.declared.program.Share.{Share}
-use Rattle.rc_lang.specs.Program.{IsItems, IsList, IsProgram, Items, Program, Thread, items_at, lists_in, lists_of, no_items, shares_at, token_place}
+use Rattle.rc_lang.specs.Program.{IsItems, IsList, IsProgram, Items, Program, Thread, items_at, lists_in, lists_of, no_items, shares_at}
 use Rattle.rc_split.specs.Bags.{Part, ShareOf, TokenOf, Credit, bag_of}
-use Rattle.rc_split.specs.Pools.{Pool, empty_pool, mark_at, overfills, pooled}
+use Rattle.rc_split.specs.Pools.{is_there, is_too_many, overfills}
 use Rattle.rc_split.proofs.PoolBags.{one_share, one_token, shares_in, tokens_in}
 use Rattle.rc_rules.specs.Rules.{has_room, is_within_limit, limit}
 
@@ -34,27 +34,6 @@ items_of P made i k = go (slice_get P.threads i) refl
     go : (x : Option Thread) → slice_get P.threads i ≡ x → IsItems P (items_at (lists_in x) k)
     go None e = nothing_named P
     go (Some t) e = listed P t.lists (made.each i t e).lists k
-
--- ---- the empty pool
-
-zeros_at : (n b : ℕ) → slice_index (replicate n 0) b ≡ 0
-zeros_at zero b = refl
-zeros_at (suc n) zero = refl
-zeros_at (suc n) (suc b) = zeros_at n b
-
-unmarked : (n k : ℕ) → slice_index_or (replicate n false) k false ≡ false
-unmarked zero k = refl
-unmarked (suc n) zero = refl
-unmarked (suc n) (suc k) = unmarked n k
-
-mark_none : (n : ℕ) (x : Option ℕ) → mark_at (replicate n false) x ≡ 0
-mark_none n None = refl
-mark_none n (Some k) = ap (λ b. cond b 1 0) (unmarked n k)
-
-pub none_pooled : (P : Program) (p : Part) → pooled P empty_pool p ≡ 0
-none_pooled P (ShareOf b) = zeros_at 64 b
-none_pooled P (TokenOf u) = mark_none 256 (token_place P.tokens u)
-none_pooled P Credit = refl
 
 -- ---- parts that are named
 
@@ -93,27 +72,27 @@ module _ (P : Program) (items : Items) (b : Part → ℕ) (few : (p : Part) → 
   pub room_for : has_room P b items ≡ true
   room_for = and_from _ (is_within_limit P b items Credit) (and_from _ _ (all_shares items.shares) (all_tokens items.tokens)) (le-leb _ _ (few Credit))
 
-module _ (P : Program) (pool : Pool) (items : Items) (few : (p : Part) → pooled P pool p + bag_of items p ≤ limit P p) where
-  no_share_over : (ss : List Share) → ((b : ℕ) → shares_in ss b ≤ bag_of items (ShareOf b)) → list_any (λ (s : Share). nat_lt (shares_at P.buffers s.buffer) (pooled P pool (ShareOf s.buffer) + s.count)) ss ≡ false
+module _ (P : Program) (there : Part → ℕ) (items : Items) (few : (p : Part) → there p + bag_of items p ≤ limit P p) where
+  no_share_over : (ss : List Share) → ((b : ℕ) → shares_in ss b ≤ bag_of items (ShareOf b)) → list_any (is_too_many P there) ss ≡ false
   no_share_over [] in_all = refl
   no_share_over (s ∷ ss) in_all =
       or_from _ _
-      (false_from_ne_true (nat_lt (shares_at P.buffers s.buffer) (pooled P pool (ShareOf s.buffer) + s.count)) (λ e.
-      let lt : shares_at P.buffers s.buffer < pooled P pool (ShareOf s.buffer) + s.count = ltb-true _ _ e in
+      (false_from_ne_true (is_too_many P there s) (λ e.
+      let lt : shares_at P.buffers s.buffer < there (ShareOf s.buffer) + s.count = ltb-true _ _ e in
       omega (arith, few (ShareOf s.buffer), share_most s ss, in_all s.buffer)))
       (no_share_over ss (λ b. omega (arith, share_more s ss b, in_all b)))
 
-  no_token_over : (ts : List ℕ) → ((u : ℕ) → tokens_in ts u ≤ bag_of items (TokenOf u)) → list_any (λ u. nat_le 1 (pooled P pool (TokenOf u))) ts ≡ false
+  no_token_over : (ts : List ℕ) → ((u : ℕ) → tokens_in ts u ≤ bag_of items (TokenOf u)) → list_any (is_there there) ts ≡ false
   no_token_over [] in_all = refl
   no_token_over (t ∷ ts) in_all =
       or_from _ _
-      (false_from_ne_true (nat_le 1 (pooled P pool (TokenOf t))) (λ e.
-      let le : 1 ≤ pooled P pool (TokenOf t) = leb-true _ _ e in
+      (false_from_ne_true (is_there there t) (λ e.
+      let le : 1 ≤ there (TokenOf t) = leb-true _ _ e in
       omega (arith, few (TokenOf t), token_first t ts t refl, in_all t)))
       (no_token_over ts (λ u. omega (arith, token_more t ts u, in_all u)))
 
-  -- The pool has room for what isn't there.
-  pub room_in_pool : overfills P pool items ≡ false
-  room_in_pool =
+  -- There is room for what isn't there.
+  pub room_in_pools : overfills P there items ≡ false
+  room_in_pools =
       or_from _ _ (or_from _ _ (no_share_over items.shares (λ b. omega arith)) (no_token_over items.tokens (λ u. omega arith)))
-      (false_from_ne_true (nat_lt P.completion_entries (pooled P pool Credit + items.credits)) (λ e. let lt : P.completion_entries < pooled P pool Credit + items.credits = ltb-true _ _ e in omega (arith, few Credit)))
+      (false_from_ne_true (nat_lt P.completion_entries (there Credit + items.credits)) (λ e. let lt : P.completion_entries < there Credit + items.credits = ltb-true _ _ e in omega (arith, few Credit)))

@@ -1,16 +1,20 @@
 -- What the rules say of a live state, premise by premise, and of the state after a line.
-use Rattle.std.proofs.Common.{◌≡◌, ℕ, true, false, cond, nat_eq, List, [], ◌∷◌, Option, Some, None, refl, ap, subst}
-use Rattle.std.specs.Prelude.{is_some, unwrap_or}
+use Rattle.std.proofs.Common.{◌≡◌, ℕ, ◌<◌, ◌&&◌, true, false, cond, nat_eq, List, [], ◌∷◌, Option, Some, None, refl, ap, subst, ◌⊎◌, inl, inr}
+use Rattle.std.specs.Prelude.{is_some, nat_le, nat_lt, unwrap_or}
+use Rattle.std.proofs.lemmas.Bool.{and_parts, ltb-true, or_cases}
+use Rattle.rc_lang.specs.declared.lines.Stmt.TheVariants.{Put}
 use Rattle.rc_lang.specs.declared.program.TokenKind.{TokenKind}
+use Rattle.rc_lang.specs.Program.{Items, Program}
 use Rattle.rc_rules.specs.declared.mode.Mode.{Mode}
 use Rattle.rc_rules.specs.declared.mode.Slot.{Slot}
 use Rattle.rc_rules.specs.declared.mode.Slot.TheVariants.{Closed, Prepared}
 use Rattle.rc_rules.specs.declared.mode.Submitting.{Submitting}
 use Rattle.rc_rules.specs.Labels.{Label, Dead, Live}
+use Rattle.rc_rules.specs.Needs.{line_premises}
 use Rattle.rc_rules.specs.Premises.{Premise, Is, IsMet, Meets}
-use Rattle.rc_rules.specs.Rules.{if_locked, is_prepared_as, sq_of, with_lock}
+use Rattle.rc_rules.specs.Rules.{can_queue, if_locked, is_prepared_as, sq_of, with_lock}
 use Rattle.rc_rules.proofs.Weaker.{same_slot_is}
-use Rattle.rc_split.specs.Bags.{Part}
+use Rattle.rc_split.specs.Bags.{Part, IsWithin, bag_of, lacking}
 
 -- A claim of a live state; of a dead one nothing is claimed.
 abbrev pub Claim : Type 1
@@ -70,3 +74,17 @@ known_sq m s e = ap (λ (o : Option Submitting). unwrap_or o (record { queued = 
 pub prepared_as : (x : Option TokenKind) (slot : Slot) → is_prepared_as x slot ≡ true → (kind : TokenKind) × (x ≡ Some kind) × (slot ≡ Prepared kind)
 prepared_as None slot e = absurd (cc)
 prepared_as (Some kind) slot e = (kind, refl, same_slot_is slot (Prepared kind) e)
+
+-- ---- pools and the queue
+
+-- What is put is held.
+pub put_covered : (P : Program) (items : Items) (b : Part → ℕ) (m : Mode) (pool : Option ℕ) → Meets (line_premises P (items ∷ []) b m (Put pool 0)) → IsWithin (bag_of items) b
+put_covered P items b m None h = (has_both m.sq m.cq _ h).asked.0
+put_covered P items b m (Some n) h = h.0
+
+-- The two ways in which one more entry has room.
+pub can_queue_by : (P : Program) (b : Part → ℕ) (n : ℕ) → can_queue P b n ≡ true → (n < P.entries) ⊎ (lacking P.tokens b < P.entries)
+can_queue_by P b n e = elim (or_cases (nat_lt n P.entries) (nat_le 4 P.version && nat_lt (lacking P.tokens b) P.entries) e) [
+  | inl x ↦ inl (ltb-true n P.entries x)
+  | inr x ↦ inr (ltb-true (lacking P.tokens b) P.entries (and_parts (nat_le 4 P.version) (nat_lt (lacking P.tokens b) P.entries) x).1)
+]

@@ -17,7 +17,7 @@ use Rattle.rc_world.proofs.Lists.{found}
 use Rattle.rc_split.proofs.PoolBags.{same_or_not}
 use Rattle.rc_admit.proofs.Lists.{sum_over, sum_over_one, Each, Each-get}
 use Rattle.rc_admit.proofs.Owned.{FitsKind, HasKind, HasKindPending, owns, owns_pending}
-use Rattle.rc_admit.proofs.Steps.{token_owned}
+use Rattle.rc_admit.proofs.Tokens.{token_owned}
 
 same_shares : (c d k : ℕ) → c ≡ d → shares_bag c k (ShareOf d) ≡ k
 same_shares c d k e = elim (same_or_not c d) [ inl h ↦ ap (λ t. cond t k 0) h.1 | inr h ↦ absurd (h.0 e) ]

@@ -122,7 +122,7 @@ test_may (Some f) (Compare x c n) vars b h = elim (cases_eq f x) [
 ]
 test_may flag ReadyZero vars b h = refl
 test_may flag (SpaceAtLeast n) vars b h = refl
-test_may flag (Take k) vars b h = refl
+test_may flag (Take pool k) vars b h = refl
 
 -- ---- ways
 

@@ -7,12 +7,12 @@ use Rattle.rc_rules.specs.Labels.{UnderLock, WeakerMode, WeakerPeeked, WeakerSub
 use Rattle.rc_rules.specs.Labellings.{headers_bag}
 use Rattle.rc_rules.specs.Rules.{limit, unlocked}
 use Rattle.rc_split.specs.Bags.{Part, bag_of}
-use Rattle.rc_split.specs.Pools.{empty_pool, pooled}
+use Rattle.rc_split.specs.Pools.{all_pooled, empty_pools}
+use Rattle.rc_split.proofs.AllPools.{none_pooled}
 use Rattle.rc_world.specs.Controls.{Standing}
 use Rattle.rc_world.specs.Machine.{start_world}
 use Rattle.rc_admit.proofs.Lists.{sum_to}
 use Rattle.rc_admit.proofs.Owned.{Stand, HasStart, WellOwned}
-use Rattle.rc_admit.proofs.Pool.{none_pooled}
 
 none_below : {A : Type 0} (F : A → A → Type 0) (o : Option A) → UnderLock F o None → o ≡ None
 none_below F None w = refl
@@ -91,7 +91,7 @@ module _ (P : Program) (S : Stand) (start : HasStart P S) where
           let x : sum_to f n ≤ sum_to g n = sum_to_most f g n (λ j. let h : first_bag j (slice_get P.threads j) refl p ≤ bag_in (slice_get P.threads j) p = first_most j (slice_get P.threads j) refl p in omega arith) in
           let y : sum_to g n ≡ headers_bag P.threads p = sum_headers P.threads p in
           let z : headers_bag P.threads p ≤ limit P p = within p in
-          let none : pooled P empty_pool p ≡ 0 = none_pooled P p in
+          let none : all_pooled P (empty_pools (length P.pools)) p ≡ 0 = none_pooled P (length P.pools) p in
           omega (arith, x, y, none);
       free = λ n. (omega arith, refl);
       submits = λ i. tt;

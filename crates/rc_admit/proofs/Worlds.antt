@@ -13,8 +13,8 @@ use Rattle.rc_lang.specs.declared.lines.Test.TheVariants.{ReadyZero, SpaceAtLeas
 use Rattle.rc_lang.specs.declared.request.Request.{Request}
 use Rattle.rc_lang.specs.declared.program.Share.{Share}
 use Rattle.rc_lang.specs.Program.{Items, bytes_at, items_at, lists_of, shares_at}
-use Rattle.rc_split.specs.Bags.{ShareOf, TokenOf, Credit}
-use Rattle.rc_split.specs.Pools.{overfills, pooled}
+use Rattle.rc_split.specs.Bags.{Part, ShareOf, TokenOf, Credit}
+use Rattle.rc_split.specs.Pools.{all_pooled, is_there, is_too_many, overfills}
 use Rattle.rc_split.proofs.Named.{no_share, none_at as none_in}
 use Rattle.rc_world.specs.declared.event.Completion.{Completion}
 use Rattle.rc_world.specs.declared.event.Event.{Event}
@@ -23,10 +23,10 @@ use Rattle.rc_world.specs.declared.fault.FaultKind.TheVariants.{WriteOfPending, 
 use Rattle.rc_world.specs.declared.world.Slot.{Slot}
 use Rattle.rc_world.specs.declared.world.Slot.TheVariants.{Closed, Vacant, Prepared}
 use Rattle.rc_world.specs.Controls.{Controls, Standing, controls_step, next_line}
-use Rattle.rc_world.specs.Faults.{Access, access_at, access_by, access_of, clash, clashes, clashes_with, conflicts, count_of, fault_of, front_is_one, has_buffer, has_data, has_fault, in_kernel, is_closed, is_holder, is_in_flight, is_prepared, is_raw_at, is_ring_call, is_vacant, names, overflows, races_from, reads_into}
+use Rattle.rc_world.specs.Faults.{Access, access_at, access_by, access_of, clash, clashes, clashes_with, conflicts, count_of, fault_of, front_is_one, has_buffer, has_cq, has_data, has_fault, has_sq, in_kernel, is_closed, is_cq_call, is_holder, is_in_flight, is_prepared, is_raw_at, is_sq_call, is_vacant, may_put, names, overflows, races_from, reads_into}
 use Rattle.rc_world.specs.Machine.{Pending, World, in_rings, is_read, reaps_front, stmt_answer, thread_step, thread_step_at, used_entries, with_controls, without_data}
 use Rattle.rc_world.proofs.LawFaultless.{none_at, none_in_kernel, none_of_kind}
-use Rattle.rc_admit.specs.Worlds.{DataIsFresh, CallsUnderLock, EachReapsOne, EntrySuits, Fills, FindsEntry, HasRoom, IsNext, IsPending, IsRingCall, Names, NoKernelClash, NoReadOfFilling, NoThreadRace, NothingPutTwice, NoWriteOfPending, OfSafeWorlds, ReadsBuffer, StaysWithinBuffers, Suits, WritesBuffer}
+use Rattle.rc_admit.specs.Worlds.{DataIsFresh, CallsUnderLock, EachReapsOne, EntrySuits, Fills, FindsEntry, HasRoom, IsCqCall, IsNext, IsPending, IsSqCall, Names, NoKernelClash, NoReadOfFilling, NoThreadRace, NothingPutTwice, NoWriteOfPending, OfSafeWorlds, ReadsBuffer, StaysWithinBuffers, Suits, WritesBuffer}
 use Rattle.rc_admit.proofs.Excludes.{next_is}
 use Rattle.rc_world.proofs.Lists.{any_at}
 use Rattle.rc_world.proofs.LawGoes.{and_false}
@@ -66,22 +66,27 @@ prepared_is Closed e = absurd (cc)
 prepared_is Vacant e = absurd (cc)
 prepared_is (Prepared r) e = (r, refl)
 
-is_called : (s : Stmt) → IsRingCall s → is_ring_call s ≡ true
-is_called (Do GetSqe) c = refl
-is_called (Do (PrepRead fd b len off)) c = refl
-is_called (Do (PrepWrite fd b len off k)) c = refl
-is_called (Do (PrepFsync fd datasync)) c = refl
-is_called (Do PrepNop) c = refl
-is_called (Do (SetData64 u)) c = refl
-is_called (Do (Submit x)) c = refl
-is_called (Do (SubmitAndWait x n)) c = refl
-is_called (Peek x) c = refl
-is_called (Do CqeSeen) c = refl
-is_called (If ReadyZero) c = refl
-is_called (If (SpaceAtLeast n)) c = refl
-is_called (If (Take k)) c = refl
-is_called (Put k) c = refl
-is_called _ c = absurd c
+calls_sq : (s : Stmt) → IsSqCall s → is_sq_call s ≡ true
+calls_sq (Do GetSqe) c = refl
+calls_sq (Do (PrepRead fd b len off)) c = refl
+calls_sq (Do (PrepWrite fd b len off k)) c = refl
+calls_sq (Do (PrepFsync fd datasync)) c = refl
+calls_sq (Do PrepNop) c = refl
+calls_sq (Do (SetData64 u)) c = refl
+calls_sq (Do (Submit x)) c = refl
+calls_sq (Do (SubmitAndWait x n)) c = refl
+calls_sq (If ReadyZero) c = refl
+calls_sq (If (SpaceAtLeast n)) c = refl
+calls_sq (If (Take None k)) c = refl
+calls_sq (Put None k) c = refl
+calls_sq _ c = absurd c
+
+calls_cq : (s : Stmt) → IsCqCall s → is_cq_call s ≡ true
+calls_cq (Peek x) c = refl
+calls_cq (Do CqeSeen) c = refl
+calls_cq (If (Take None k)) c = refl
+calls_cq (Put None k) c = refl
+calls_cq _ c = absurd c
 
 -- two of the pending requests
 clash_there : (ps : List Pending) (j k : ℕ) (p q : Pending) → j < k → slice_get ps j ≡ Some p → slice_get ps k ≡ Some q → clash p.request q.request ≡ true → clashes ps ≡ true
@@ -231,21 +236,30 @@ module _ (w : World) (none : fault_of w ≡ None) where
 
   -- ---- the rings
 
-  under_lock : (i : ℕ) (s : Stmt) → IsNext w i s → IsRingCall s → is_holder w.controls.holder i ≡ true
-  under_lock i s n c = not-false (is_holder w.controls.holder i) (and_false (is_ring_call s) (not (is_holder w.controls.holder i)) (at NoLock i s n) (is_called s c))
+  none_lacking : (i : ℕ) (s : Stmt) → IsNext w i s → ((is_sq_call s && not (has_sq w i)) ≡ false) × ((is_cq_call s && not (has_cq w i)) ≡ false)
+  none_lacking i s n = or_parts (is_sq_call s && not (has_sq w i)) (is_cq_call s && not (has_cq w i)) (at NoLock i s n)
+
+  under_sq : (i : ℕ) (s : Stmt) → IsNext w i s → IsSqCall s → has_sq w i ≡ true
+  under_sq i s n c = not-false (has_sq w i) (and_false (is_sq_call s) (not (has_sq w i)) (none_lacking i s n).0 (calls_sq s c))
+
+  under_cq : (i : ℕ) (s : Stmt) → IsNext w i s → IsCqCall s → has_cq w i ≡ true
+  under_cq i s n c = not-false (has_cq w i) (and_false (is_cq_call s) (not (has_cq w i)) (none_lacking i s n).1 (calls_cq s c))
 
   pub calls_under_lock : CallsUnderLock w
-  calls_under_lock i s n c = holder_is w.controls.holder i (under_lock i s n c)
+  calls_under_lock i s n = (λ c. holder_is w.controls.holders.sq i (under_sq i s n c), λ c. holder_is w.controls.holders.cq i (under_cq i s n c))
 
-  -- what is wrong of the holder's next statement alone
-  of_holder : (i : ℕ) (b : Bool) → is_holder w.controls.holder i ≡ true → (is_holder w.controls.holder i && b) ≡ false → b ≡ false
-  of_holder i b h e = and_false (is_holder w.controls.holder i) b e h
+  -- what is wrong of the next statement of who has the submission side, and the completion side, alone
+  of_sq : (i : ℕ) (b : Bool) → has_sq w i ≡ true → (has_sq w i && b) ≡ false → b ≡ false
+  of_sq i b h e = and_false (has_sq w i) b e h
+
+  of_cq : (i : ℕ) (b : Bool) → has_cq w i ≡ true → (has_cq w i && b) ≡ false → b ≡ false
+  of_cq i b h e = and_false (has_cq w i) b e h
 
   pub finds_entry : FindsEntry w
   finds_entry i n =
-      let h = under_lock i (Do GetSqe) n tt in
-      let closed : w.slot ≡ Closed = closed_is w.slot (of_holder i (not (is_closed w.slot)) h (at RawEntry i (Do GetSqe) n)) in
-      let room : used_entries w < w.program.entries = leb-false w.program.entries (used_entries w) (of_holder i (nat_le w.program.entries (used_entries w)) h (at RingFull i (Do GetSqe) n)) in
+      let h = under_sq i (Do GetSqe) n tt in
+      let closed : w.slot ≡ Closed = closed_is w.slot (of_sq i (not (is_closed w.slot)) h (at RawEntry i (Do GetSqe) n)) in
+      let room : used_entries w < w.program.entries = leb-false w.program.entries (used_entries w) (of_sq i (nat_le w.program.entries (used_entries w)) h (at RingFull i (Do GetSqe) n)) in
       (closed, omega arith)
 
   suits_at : (i : ℕ) (s : Stmt) → is_raw_at w.slot s ≡ false → Suits w.slot s
@@ -257,12 +271,12 @@ module _ (w : World) (none : fault_of w ≡ None) where
   suits_at i (Do (SetData64 u)) e = prepared_is w.slot e
   suits_at i (Do (Submit x)) e = closed_is w.slot e
   suits_at i (Do (SubmitAndWait x n)) e = closed_is w.slot e
-  suits_at i (EndLock o) e = closed_is w.slot e
-  suits_at i (Break o releases leaves) e = λ r. closed_is w.slot (and_false releases (not (is_closed w.slot)) e r)
+  suits_at i (EndLock o released) e = λ r. closed_is w.slot (and_false released.sq (not (is_closed w.slot)) e r)
+  suits_at i (Break o releases leaves) e = λ r. closed_is w.slot (and_false releases.sq (not (is_closed w.slot)) e r)
   suits_at i _ e = tt
 
   pub entry_suits : EntrySuits w
-  entry_suits i s h n = suits_at i s (of_holder i (is_raw_at w.slot s) (is_the_holder w.controls.holder i h) (at RawEntry i s n))
+  entry_suits i s h n = suits_at i s (of_sq i (is_raw_at w.slot s) (is_the_holder w.controls.holders.sq i h) (at RawEntry i s n))
 
   pub has_room : HasRoom w
   has_room k r p = go w.pending (in_the_kernel Overflow) p.1
@@ -275,9 +289,9 @@ module _ (w : World) (none : fault_of w ≡ None) where
 
   pub none_in_flight : (i u : ℕ) → IsNext w i (Do (SetData64 u)) → is_in_flight w u ≡ false
   none_in_flight i u n =
-      let h = under_lock i (Do (SetData64 u)) n tt in
-      let prepared : is_prepared w.slot ≡ true = not-false (is_prepared w.slot) (of_holder i (not (is_prepared w.slot)) h (at RawEntry i (Do (SetData64 u)) n)) in
-      and_false (is_prepared w.slot) (is_in_flight w u) (of_holder i (is_prepared w.slot && is_in_flight w u) h (at AmbiguousData i (Do (SetData64 u)) n)) prepared
+      let h = under_sq i (Do (SetData64 u)) n tt in
+      let prepared : is_prepared w.slot ≡ true = not-false (is_prepared w.slot) (of_sq i (not (is_prepared w.slot)) h (at RawEntry i (Do (SetData64 u)) n)) in
+      and_false (is_prepared w.slot) (is_in_flight w u) (of_sq i (is_prepared w.slot && is_in_flight w u) h (at AmbiguousData i (Do (SetData64 u)) n)) prepared
 
   pub data_is_fresh : DataIsFresh w
   data_is_fresh i u k r n inside e =
@@ -318,8 +332,8 @@ module _ (w : World) (none : fault_of w ≡ None) where
 
   pub each_reaps_one : EachReapsOne w
   each_reaps_one i n =
-      let h = under_lock i (Do CqeSeen) n tt in
-      let both = and_parts w.controls.peeked (front_is_one w w.completions) (not-false (w.controls.peeked && front_is_one w w.completions) (of_holder i (not (w.controls.peeked && front_is_one w w.completions)) h (at UnknownReap i (Do CqeSeen) n))) in
+      let h = under_cq i (Do CqeSeen) n tt in
+      let both = and_parts w.controls.peeked (front_is_one w w.completions) (not-false (w.controls.peeked && front_is_one w w.completions) (of_cq i (not (w.controls.peeked && front_is_one w w.completions)) h (at UnknownReap i (Do CqeSeen) n))) in
       let f = front_of_one w.completions both.1 in
       record {
         front = f.0;
@@ -330,21 +344,25 @@ module _ (w : World) (none : fault_of w ≡ None) where
         gone = λ r e after s. subst (λ x. Leaves f.0 f.1 x) s (leaves i r f.0 f.1 f.2 f.3 n);
       }
 
-  -- ---- the pool
+  -- ---- pools
 
   pub nothing_put_twice : NothingPutTwice w
-  nothing_put_twice i k n =
+  nothing_put_twice i k pool n =
       let items : Items = items_at (lists_of w.program i) k in
-      let h = under_lock i (Put k) n tt in
-      let room : overfills w.program w.controls.pool items ≡ false = of_holder i (overfills w.program w.controls.pool items) h (at DoublePut i (Put k) n) in
-      let first = or_parts (list_any (λ (s : Share). nat_lt (shares_at w.program.buffers s.buffer) (pooled w.program w.controls.pool (ShareOf s.buffer) + s.count)) items.shares || list_any (λ u. nat_le 1 (pooled w.program w.controls.pool (TokenOf u))) items.tokens) (nat_lt w.program.completion_entries (pooled w.program w.controls.pool Credit + items.credits)) room in
-      let both = or_parts (list_any (λ (s : Share). nat_lt (shares_at w.program.buffers s.buffer) (pooled w.program w.controls.pool (ShareOf s.buffer) + s.count)) items.shares) (list_any (λ u. nat_le 1 (pooled w.program w.controls.pool (TokenOf u))) items.tokens) first.0 in
+      let there : Part → ℕ = all_pooled w.program w.controls.pools in
+      let room : overfills w.program there items ≡ false = and_false (may_put w i pool) (overfills w.program there items) (at DoublePut i (Put pool k) n) (puts pool n) in
+      let first = or_parts (list_any (is_too_many w.program there) items.shares || list_any (is_there there) items.tokens) (nat_lt w.program.completion_entries (there Credit + items.credits)) room in
+      let both = or_parts (list_any (is_too_many w.program there) items.shares) (list_any (is_there there) items.tokens) first.0 in
       record {
-        shares = All-from_get_or (λ (s : Share). pooled w.program w.controls.pool (ShareOf s.buffer) + s.count ≤ shares_at w.program.buffers s.buffer) items.shares no_share (λ j lt. ltb-false _ _ (none_in (λ (s : Share). nat_lt (shares_at w.program.buffers s.buffer) (pooled w.program w.controls.pool (ShareOf s.buffer) + s.count)) items.shares j no_share both.0 lt));
-        tokens = All-from_get_or (λ u. pooled w.program w.controls.pool (TokenOf u) ≡ 0) items.tokens 0 (λ j lt. below_one _ (leb-false _ _ (none_in (λ u. nat_le 1 (pooled w.program w.controls.pool (TokenOf u))) items.tokens j 0 both.1 lt)));
+        shares = All-from_get_or (λ (s : Share). there (ShareOf s.buffer) + s.count ≤ shares_at w.program.buffers s.buffer) items.shares no_share (λ j lt. ltb-false _ _ (none_in (is_too_many w.program there) items.shares j no_share both.0 lt));
+        tokens = All-from_get_or (λ u. there (TokenOf u) ≡ 0) items.tokens 0 (λ j lt. below_one _ (leb-false _ _ (none_in (is_there there) items.tokens j 0 both.1 lt)));
         credits = ltb-false _ _ first.1;
       }
     where
+      puts : (pool : Option ℕ) → IsNext w i (Put pool k) → may_put w i pool ≡ true
+      puts None n = and_from (has_sq w i) (has_cq w i) (under_sq i (Put None k) n tt) (under_cq i (Put None k) n tt)
+      puts (Some j) n = refl
+
       below_one : (n : ℕ) → n < 1 → n ≡ 0
       below_one n lt = omega arith
 

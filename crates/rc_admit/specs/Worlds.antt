@@ -1,5 +1,5 @@
 -- What it means that a program is safe: what holds of each world of its runs, in the terms of io_uring(7).
-use Rattle.std.specs.Prelude.{ℕ, ◌≡◌, ◌≢◌, ◌⊎◌, ◌<◌, ◌≤◌, ◌+◌, true, List, ◌∷◌, length, map, Some, slice_get, ℤ, All}
+use Rattle.std.specs.Prelude.{ℕ, ◌≡◌, ◌≢◌, ◌⊎◌, ◌<◌, ◌≤◌, ◌+◌, true, List, ◌∷◌, length, map, Option, Some, None, slice_get, ℤ, All}
 use Rattle.rc_lang.specs.declared.lines.Line.{Line}
 use Rattle.rc_lang.specs.declared.lines.Op.{Op}
 use Rattle.rc_lang.specs.declared.lines.Op.TheVariants.{Load, Store, Fill, GetSqe, PrepRead, PrepWrite, PrepFsync, PrepNop, SetData64, Submit, SubmitAndWait, CqeSeen}
@@ -11,7 +11,7 @@ use Rattle.rc_lang.specs.declared.request.Request.{Request}
 use Rattle.rc_lang.specs.declared.program.Share.{Share}
 use Rattle.rc_lang.specs.Program.{Items, Program, bytes_at, items_at, lists_of, shares_at}
 use Rattle.rc_split.specs.Bags.{ShareOf, TokenOf, Credit}
-use Rattle.rc_split.specs.Pools.{Pool, pooled}
+use Rattle.rc_split.specs.Pools.{Pools, all_pooled}
 use Rattle.rc_world.specs.declared.event.Completion.{Completion}
 use Rattle.rc_world.specs.declared.event.Event.{Event}
 use Rattle.rc_world.specs.declared.world.Slot.{Slot}
@@ -81,36 +81,42 @@ StaysWithinBuffers w = (i : ℕ) (op : Op) → IsNext w i (Do op) → IsInBuffer
 
 -- ---- the rings
 
--- The calls on the ring: io_uring_get_sqe(3), io_uring_prep_read(3), io_uring_prep_write(3), io_uring_prep_fsync(3),
--- io_uring_prep_nop(3), io_uring_sqe_set_data64(3), io_uring_submit(3), io_uring_submit_and_wait(3),
--- io_uring_peek_cqe(3), io_uring_cqe_seen(3), io_uring_sq_ready(3) and io_uring_sq_space_left(3). Those on the pool,
--- which is plain memory under the same lock, go with them.
-abbrev pub IsRingCall : Stmt → Type 0
-IsRingCall (Do GetSqe) = Unit {0}
-IsRingCall (Do (PrepRead fd b len off)) = Unit {0}
-IsRingCall (Do (PrepWrite fd b len off k)) = Unit {0}
-IsRingCall (Do (PrepFsync fd datasync)) = Unit {0}
-IsRingCall (Do PrepNop) = Unit {0}
-IsRingCall (Do (SetData64 u)) = Unit {0}
-IsRingCall (Do (Submit x)) = Unit {0}
-IsRingCall (Do (SubmitAndWait x n)) = Unit {0}
-IsRingCall (Peek x) = Unit {0}
-IsRingCall (Do CqeSeen) = Unit {0}
-IsRingCall (If ReadyZero) = Unit {0}
-IsRingCall (If (SpaceAtLeast n)) = Unit {0}
-IsRingCall (If (Take k)) = Unit {0}
-IsRingCall (Put k) = Unit {0}
-IsRingCall _ = ⊥
+-- The calls of the submission side: io_uring_get_sqe(3), io_uring_prep_read(3), io_uring_prep_write(3),
+-- io_uring_prep_fsync(3), io_uring_prep_nop(3), io_uring_sqe_set_data64(3), io_uring_submit(3),
+-- io_uring_submit_and_wait(3), io_uring_sq_ready(3) and io_uring_sq_space_left(3). Those on the pool without a name,
+-- which is plain memory under both locks, go with them; a pool with a name has a mutex of its own.
+abbrev pub IsSqCall : Stmt → Type 0
+IsSqCall (Do GetSqe) = Unit {0}
+IsSqCall (Do (PrepRead fd b len off)) = Unit {0}
+IsSqCall (Do (PrepWrite fd b len off k)) = Unit {0}
+IsSqCall (Do (PrepFsync fd datasync)) = Unit {0}
+IsSqCall (Do PrepNop) = Unit {0}
+IsSqCall (Do (SetData64 u)) = Unit {0}
+IsSqCall (Do (Submit x)) = Unit {0}
+IsSqCall (Do (SubmitAndWait x n)) = Unit {0}
+IsSqCall (If ReadyZero) = Unit {0}
+IsSqCall (If (SpaceAtLeast n)) = Unit {0}
+IsSqCall (If (Take None k)) = Unit {0}
+IsSqCall (Put None k) = Unit {0}
+IsSqCall _ = ⊥
 
--- None of them is made without the lock.
+-- Those of the completion side: io_uring_peek_cqe(3) and io_uring_cqe_seen(3), and those on the pool without a name.
+abbrev pub IsCqCall : Stmt → Type 0
+IsCqCall (Peek x) = Unit {0}
+IsCqCall (Do CqeSeen) = Unit {0}
+IsCqCall (If (Take None k)) = Unit {0}
+IsCqCall (Put None k) = Unit {0}
+IsCqCall _ = ⊥
+
+-- None of them is made without the lock of its side.
 abbrev pub CallsUnderLock : World → Type 0
-CallsUnderLock w = (i : ℕ) (s : Stmt) → IsNext w i s → IsRingCall s → w.controls.holder ≡ Some i
+CallsUnderLock w = (i : ℕ) (s : Stmt) → IsNext w i s → (IsSqCall s → w.controls.holders.sq ≡ Some i) × (IsCqCall s → w.controls.holders.cq ≡ Some i)
 
 -- Each io_uring_get_sqe(3) finds a free entry.
 abbrev pub FindsEntry : World → Type 0
 FindsEntry w = (i : ℕ) → IsNext w i (Do GetSqe) → (w.slot ≡ Closed) × (length w.queued < w.program.entries)
 
--- What the holder of the lock does next finds the open entry at the stage that it wants.
+-- What the holder of the submission side does next finds the open entry at the stage that it wants.
 abbrev pub Suits : Slot → Stmt → Type 0
 Suits x (Do GetSqe) = x ≡ Closed
 Suits x (Do (PrepRead fd b len off)) = x ≡ Vacant
@@ -120,12 +126,12 @@ Suits x (Do PrepNop) = x ≡ Vacant
 Suits x (Do (SetData64 u)) = (r : Request) × (x ≡ Prepared r)
 Suits x (Do (Submit y)) = x ≡ Closed
 Suits x (Do (SubmitAndWait y n)) = x ≡ Closed
-Suits x (EndLock o) = x ≡ Closed
-Suits x (Break o releases leaves) = releases ≡ true → x ≡ Closed
+Suits x (EndLock o released) = released.sq ≡ true → x ≡ Closed
+Suits x (Break o releases leaves) = releases.sq ≡ true → x ≡ Closed
 Suits x _ = Unit {0}
 
 abbrev pub EntrySuits : World → Type 0
-EntrySuits w = (i : ℕ) (s : Stmt) → w.controls.holder ≡ Some i → IsNext w i s → Suits w.slot s
+EntrySuits w = (i : ℕ) (s : Stmt) → w.controls.holders.sq ≡ Some i → IsNext w i s → Suits w.slot s
 
 -- A pending request finds room in the completion ring.
 abbrev pub HasRoom : World → Type 0
@@ -161,15 +167,15 @@ pub record ReapsOne (w : World) (i : ℕ) : Type 0 where
 abbrev pub EachReapsOne : World → Type 0
 EachReapsOne w = (i : ℕ) → IsNext w i (Do CqeSeen) → ReapsOne w i
 
--- ---- the pool
+-- ---- the pools
 
--- None of the items is in the pool already: no token that they name is there, the shares of a buffer that are there and
+-- None of the items is in a pool already: no token that they name is there, the shares of a buffer that are there and
 -- theirs are together no more than it has, and the credits no more than the completion ring has entries.
-pub record IsNotThere (P : Program) (pool : Pool) (items : Items) : Type 0 where
-  pub shares : All (λ (s : Share). pooled P pool (ShareOf s.buffer) + s.count ≤ shares_at P.buffers s.buffer) items.shares
-  pub tokens : All (λ u. pooled P pool (TokenOf u) ≡ 0) items.tokens
-  pub credits : pooled P pool Credit + items.credits ≤ P.completion_entries
+pub record IsNotThere (P : Program) (pools : Pools) (items : Items) : Type 0 where
+  pub shares : All (λ (s : Share). all_pooled P pools (ShareOf s.buffer) + s.count ≤ shares_at P.buffers s.buffer) items.shares
+  pub tokens : All (λ u. all_pooled P pools (TokenOf u) ≡ 0) items.tokens
+  pub credits : all_pooled P pools Credit + items.credits ≤ P.completion_entries
 
--- Nothing is put that is there.
+-- Nothing is put that is there, in whatever pool.
 abbrev pub NothingPutTwice : World → Type 0
-NothingPutTwice w = (i k : ℕ) → IsNext w i (Put k) → IsNotThere w.program w.controls.pool (items_at (lists_of w.program i) k)
+NothingPutTwice w = (i k : ℕ) (pool : Option ℕ) → IsNext w i (Put pool k) → IsNotThere w.program w.controls.pools (items_at (lists_of w.program i) k)

@@ -13,13 +13,15 @@ pub fn accepted_is_safe()
 ///
 /// - no thread is about to write a buffer that a pending request names, nor to read one that a pending read fills; no
 ///   two pending requests and no two threads go to one buffer while one of them writes it; nothing goes past its end;
-/// - no call on the ring is made without the lock; each `io_uring_get_sqe(3)` finds a free entry, and what the holder
-///   does next finds the open entry at the stage that it wants; a pending request finds room in the completion ring;
+/// - no call on a side of the ring is made without its lock; each `io_uring_get_sqe(3)` finds a free entry, and what the
+///   holder of the submission side does next finds the open entry at the stage that it wants; a pending request finds
+///   room in the completion ring;
 /// - each `io_uring_sqe_set_data64(3)` gives user data that no request in flight has, so that no two of them have the
 ///   same, and the completions in their ring are those of the completed requests, in their order;
 /// - at each `io_uring_cqe_seen(3)` the front completion was looked at, exactly one completed request has its user
 ///   data, and after that step none has;
-/// - nothing is put into the pool that is there already, and no call on the pool is made without the lock.
+/// - nothing is put into a pool that is in one already, and no call on the pool without a name is made without both
+///   locks.
 pub fn safe_worlds()
     ensures no_write_of_pending { worlds.OfSafeWorlds worlds.NoWriteOfPending }
     ensures no_read_of_filling { worlds.OfSafeWorlds worlds.NoReadOfFilling }

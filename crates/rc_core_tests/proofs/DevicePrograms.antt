@@ -5,11 +5,12 @@ use Rattle.rc_lang.specs.declared.program.Buffer.{Buffer as BufferPart}
 use Rattle.rc_lang.specs.declared.program.File.{File}
 use Rattle.rc_lang.specs.declared.program.Thread.{Thread as ThreadPart}
 use Rattle.rc_lang.specs.declared.program.Token.{Token}
-use Rattle.rc_lang.specs.Parts.{view_buffer, view_thread}
+use Rattle.std.specs.Global.{Vec}
+use Rattle.rc_lang.specs.Parts.{view_buffer, view_names, view_thread}
 use Rattle.rc_lang.specs.Program.{IsProgram}
 
 one_file_is : (len : ℕ) → len ≤ 65536
-    → IsProgram (record { version = 1; entries = 1; completion_entries = 2; left = 0; files = record { number = 3; len = len } ∷ []; buffers = []; tokens = []; threads = [] })
+    → IsProgram (record { version = 1; entries = 1; completion_entries = 2; left = 0; files = record { number = 3; len = len } ∷ []; buffers = []; tokens = []; pools = []; threads = [] })
 unfolding IsDistinct
 one_file_is len h = record {
   version = (omega arith, omega arith);
@@ -26,14 +27,18 @@ one_file_is len h = record {
   few_tokens = omega arith;
   tokens = search rules;
   distinct_tokens = tt;
+  few_pools = omega arith;
+  pools = search rules;
+  distinct_pools = tt;
+  no_pools = λ e. refl;
   few_threads = omega arith;
   distinct_names = tt;
   each = λ i t e. absurd (cc);
   numbers = λ k lt. absurd (omega arith);
 }
 
-pub one_file : (len : ℕ) (files : List File) (buffers : List BufferPart) (tokens : List Token) (threads : List ThreadPart)
-    → len ≤ 65536 → files ≡ record { number = 3; len = len } ∷ [] → buffers ≡ [] → tokens ≡ [] → threads ≡ []
+pub one_file : (len : ℕ) (files : List File) (buffers : List BufferPart) (tokens : List Token) (pools : List (Vec ℕ)) (threads : List ThreadPart)
+    → len ≤ 65536 → files ≡ record { number = 3; len = len } ∷ [] → buffers ≡ [] → tokens ≡ [] → pools ≡ [] → threads ≡ []
     → IsProgram (record {
       version = 1;
       entries = 1;
@@ -42,6 +47,7 @@ pub one_file : (len : ℕ) (files : List File) (buffers : List BufferPart) (toke
       files = files;
       buffers = map view_buffer buffers;
       tokens = tokens;
+      pools = view_names pools;
       threads = map view_thread threads;
     })
-one_file len files buffers tokens threads h fs bs ts ths = rw (fs, bs, ts, ths) (one_file_is len h)
+one_file len files buffers tokens pools threads h fs bs ts ps ths = rw (fs, bs, ts, ps, ths) (one_file_is len h)

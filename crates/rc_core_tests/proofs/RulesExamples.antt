@@ -1,13 +1,16 @@
 -- The program of the tests of `rc_rules`.
-use Rattle.std.proofs.Common.{◌≡◌, ℕ, zero, suc, ◌+◌, ◌≤◌, ◌<◌, List, [], ◌∷◌, ◌++◌, map, length, Some, None, Result, Ok, Err, refl, sym, ap, subst, ◌∙◌, arith, lit≤, cond, nat_lt, Bool, true, false}
+use Rattle.std.proofs.Common.{◌≡◌, ℕ, zero, suc, ◌+◌, ◌≤◌, ◌<◌, List, [], ◌∷◌, ◌++◌, map, length, Some, None, Result, Ok, Err, refl, sym, ap, subst, ◌∙◌, arith, lit≤, cond, not, nat_lt, ◌&&◌, Bool, true, false}
 use Rattle.std.specs.Prelude.{All, slice_get}
 use Rattle.std.proofs.lemmas.Bool.{eqb-false}
+use Rattle.rc_lang.specs.declared.lines.Locks.{Locks}
 use Rattle.rc_lang.specs.declared.lines.Op.{Op}
+use Rattle.rc_lang.specs.Locks.{no_lock, with_locks, without_locks}
 use Rattle.rc_lang.specs.Nesting.{blocks_at}
-use Rattle.rc_lang.specs.Parts.{view_buffer, view_program, view_thread}
+use Rattle.rc_lang.specs.Parts.{view_buffer, view_names, view_program, view_thread}
 use Rattle.rc_lang.specs.declared.program.Declarations.{Declarations}
 use Rattle.rc_lang.specs.declared.program.Thread.{Thread as ThreadPart}
 use Rattle.rc_lang.specs.Program.{Program, Thread, IsProgram, IsThread, IsFile, IsBuffer, IsTokenKind, DeclaresToken, line_numbers}
+use Rattle.rc_lang.proofs.Lookups.{same_sides}
 use Rattle.rc_lang.proofs.Rising.{by_test}
 use Rattle.rc_lang.specs.Program.{Items, More, IsItems, IsList, no_more}
 use Rattle.rc_split.specs.Bags.{Part, ShareOf, TokenOf, Credit, bag_of, IsWithin}
@@ -18,12 +21,12 @@ use Rattle.rc_rules.specs.Labels.{Label, Dead, Live, WeakerMode, WeakerThanEach,
 use Rattle.rc_rules.specs.Premises.{Premise}
 use Rattle.rc_rules.specs.Rules.{locks_of, op_effect, put_effect, goes, case_at, with_peeked, entered, top}
 use Rattle.rc_rules.specs.Sides.{on, brings, turns, write_of, forgets}
-use Rattle.rc_rules.specs.States.{State, label_of, program_of, Gives, Becomes, OnBoth, IsStart, IsUnlocked, IsLocked}
+use Rattle.rc_rules.specs.States.{State, label_of, program_of, Gives, Becomes, OnBoth, IsStart, AreFree, AreHeld, HasLocks}
 use Rattle.rc_rules.specs.Labellings.{start_of}
 use Rattle.rc_core_tests.specs.RulesExample.{share, share_thread, IsAtMost, IsOfShare}
 use Rattle.rc_core_tests.proofs.Plain.{distinct, none, plain_items}
 use Rattle.rc_rules.proofs.Lines.{effect_by}
-use Rattle.rc_rules.proofs.Weaker.{locks_same}
+use Rattle.rc_rules.proofs.Weaker.{locked_locks, locks_same}
 use Rattle.rc_rules.proofs.Headers.{few_of, count_once}
 use Rattle.rc_verify.proofs.Fit.{AreAll, gate_keeps, kept_few}
 use Rattle.std.specs.List.{IsDistinct}
@@ -78,8 +81,8 @@ is_thread = record {
   resolved = λ j s e. absurd (cc);
   linked = λ j s e. absurd (cc);
   queues = λ j k e. absurd (cc);
-  puts = λ j k e. absurd (cc);
-  takes = λ j k e. absurd (cc);
+  puts = λ j pool k e. absurd (cc);
+  takes = λ j pool k e. absurd (cc);
 }
 
 pub is_share : IsProgram share
@@ -98,6 +101,10 @@ is_share = record {
   few_tokens = lit≤ tt;
   tokens = kinds;
   distinct_tokens = single nat_eq 9;
+  few_pools = lit≤ tt;
+  pools = none _;
+  distinct_pools = distinct _;
+  no_pools = λ e. refl;
   few_threads = lit≤ tt;
   distinct_names = single bytes_eq (codes "t0");
   each = each;
@@ -127,8 +134,8 @@ led_by Q q (Live a m) ts h e = go ts h.weaker e (λ w. h.strongest Dead w)
 few_lowered : (n : ℕ) → IsLowered (IsAtMost n)
 few_lowered n = record { dead = tt; lower = λ a b m k w v h p. omega (arith, w p, h p) }
 
-locked_lowered : IsLowered IsLocked
-locked_lowered = record { dead = tt; lower = λ a b m n w v h. locks_same m n v ∙ h }
+has_lowered : (l : Locks) → IsLowered (HasLocks l)
+has_lowered l = record { dead = tt; lower = λ a b m n w v h. locks_same m n v ∙ h }
 
 -- a property of each label before a line, and what the line makes of it after
 became : (R : Label → Type 0) → IsLowered R → (old new : State) (bs : Bool → List Label) → Becomes old new bs → ((z : Bool) → AreAll R (bs z)) → OnBoth R new
@@ -154,9 +161,9 @@ op_few : (P : Program) (n : ℕ) (op : Op) (s : Label) → IsProgram P → IsAtM
 op_few P n op Dead h l = tt
 op_few P n op (Live a m) h l = effect_by P a m op h (IsAtMost (n + 18)) tt (λ b k e le p. omega (arith, l p, le p))
 
-op_locked : (P : Program) (op : Op) (s : Label) → IsProgram P → IsLocked s → IsLocked (goes s (λ b m. op_effect P b m op))
-op_locked P op Dead h l = tt
-op_locked P op (Live a m) h l = effect_by P a m op h IsLocked tt (λ b n e le. e ∙ l)
+op_has : (P : Program) (op : Op) (l : Locks) (s : Label) → IsProgram P → HasLocks l s → HasLocks l (goes s (λ b m. op_effect P b m op))
+op_has P op l Dead h g = tt
+op_has P op l (Live a m) h g = effect_by P a m op h (HasLocks l) tt (λ b n e le. e ∙ g)
 
 -- ---- calls
 
@@ -170,8 +177,8 @@ OverOp op old z = brings (λ y. turns (write_of old.flag op) y z) (λ s. goes s 
 pub over_few : {X : Type 0} (old new : State) (r : Result X Cause) (ps : List (ℕ × Premise)) (op : Op) (n : ℕ) → program_of old ≡ share → Gives old new r ps (OverOp op old) → OnBoth (IsAtMost n) old → OnBoth (IsAtMost (n + 18)) new
 over_few old new r ps op n e g h = gave (IsAtMost (n + 18)) (few_lowered (n + 18)) old new r ps (OverOp op old) g (λ z. brought (IsAtMost (n + 18)) tt (λ y. turns (write_of old.flag op) y z) (λ s. goes s (λ b m. op_effect (program_of old) b m op)) (label_of old) (λ y. op_few (program_of old) n op (label_of old y) (subst IsProgram (sym e) is_share) (h y))) (few_all n (n + 18) old (omega arith) h)
 
-pub over_locked : {X : Type 0} (old new : State) (r : Result X Cause) (ps : List (ℕ × Premise)) (op : Op) → program_of old ≡ share → Gives old new r ps (OverOp op old) → OnBoth IsLocked old → OnBoth IsLocked new
-over_locked old new r ps op e g h = gave IsLocked locked_lowered old new r ps (OverOp op old) g (λ z. brought IsLocked tt (λ y. turns (write_of old.flag op) y z) (λ s. goes s (λ b m. op_effect (program_of old) b m op)) (label_of old) (λ y. op_locked (program_of old) op (label_of old y) (subst IsProgram (sym e) is_share) (h y))) h
+pub over_has : {X : Type 0} (old new : State) (r : Result X Cause) (ps : List (ℕ × Premise)) (op : Op) (l : Locks) → program_of old ≡ share → Gives old new r ps (OverOp op old) → OnBoth (HasLocks l) old → OnBoth (HasLocks l) new
+over_has old new r ps op l e g h = gave (HasLocks l) (has_lowered l) old new r ps (OverOp op old) g (λ z. brought (HasLocks l) tt (λ y. turns (write_of old.flag op) y z) (λ s. goes s (λ b m. op_effect (program_of old) b m op)) (label_of old) (λ y. op_has (program_of old) op l (label_of old y) (subst IsProgram (sym e) is_share) (h y))) h
 
 case_at_few : (n u : ℕ) (s : Label) → IsAtMost n s → IsAtMost n (case_at u s)
 case_at_few n u Dead h = tt
@@ -180,20 +187,43 @@ case_at_few n u (Live a m) h = elim (nat_lt 0 (a (TokenOf u))) as (λ x. IsAtMos
 pub case_few : {X : Type 0} (old new : State) (r : Result X Cause) (ps : List (ℕ × Premise)) (u n : ℕ) → Gives old new r ps (λ z. case_at u (label_of old z) ∷ []) → OnBoth (IsAtMost n) old → OnBoth (IsAtMost n) new
 case_few old new r ps u n g h = gave (IsAtMost n) (few_lowered n) old new r ps _ g (λ z. (case_at_few n u (label_of old z) (h z), tt)) h
 
-entered_few : (P : Program) (n : ℕ) (s : Label) → IsAtMost n s → IsAtMost n (entered P s)
-entered_few P n Dead h = tt
-entered_few P n (Live a m) h = h
+entered_few : (P : Program) (l : Locks) (n : ℕ) (s : Label) → IsAtMost n s → IsAtMost n (entered P l s)
+entered_few P l n Dead h = tt
+entered_few P l n (Live a m) h = h
 
-pub lock_few : {X : Type 0} (old new : State) (r : Result X Cause) (ps : List (ℕ × Premise)) (n : ℕ) → Gives old new r ps (λ z. entered (program_of old) (label_of old z) ∷ []) → OnBoth (IsAtMost n) old → OnBoth (IsAtMost n) new
-lock_few old new r ps n g h = gave (IsAtMost n) (few_lowered n) old new r ps _ g (λ z. (entered_few (program_of old) n (label_of old z) (h z), tt)) h
+pub lock_few : {X : Type 0} (old new : State) (r : Result X Cause) (ps : List (ℕ × Premise)) (l : Locks) (n : ℕ) → Gives old new r ps (λ z. entered (program_of old) l (label_of old z) ∷ []) → OnBoth (IsAtMost n) old → OnBoth (IsAtMost n) new
+lock_few old new r ps l n g h = gave (IsAtMost n) (few_lowered n) old new r ps _ g (λ z. (entered_few (program_of old) l n (label_of old z) (h z), tt)) h
 
-entered_locked : (P : Program) (s : Label) → IsLocked (entered P s)
-entered_locked P Dead = tt
-entered_locked P (Live a m) = refl
+entered_has : (P : Program) (l : Locks) (s : Label) → HasLocks no_lock s → HasLocks l (entered P l s)
+entered_has P l Dead h = tt
+entered_has P l (Live a m) h = locked_locks P l m ∙ ap (λ k. with_locks k l) h
 
-pub lock_locked : {X : Type 0} (old new : State) (r : Result X Cause) → Gives old new r [] (λ z. entered (program_of old) (label_of old z) ∷ []) → OnBoth IsLocked new
-lock_locked old new (Ok x) g = became IsLocked locked_lowered old new _ g.1 (λ z. (entered_locked (program_of old) (label_of old z), tt))
-lock_locked old new (Err c) g = absurd (g.0.fails tt)
+pub lock_has : {X : Type 0} (old new : State) (r : Result X Cause) (l : Locks) → Gives old new r [] (λ z. entered (program_of old) l (label_of old z) ∷ []) → OnBoth (HasLocks no_lock) old → OnBoth (HasLocks l) new
+lock_has old new (Ok x) l g h = became (HasLocks l) (has_lowered l) old new _ g.1 (λ z. (entered_has (program_of old) l (label_of old z) (h z), tt))
+lock_has old new (Err c) l g h = absurd (g.0.fails tt)
+
+-- where none is held each is free, and those that are held are
+and_true : (b : Bool) → (b && true) ≡ b
+and_true true = refl
+and_true false = refl
+
+and_not : (b : Bool) → (b && not b) ≡ false
+and_not true = refl
+and_not false = refl
+
+is_free : (l : Locks) (s : Label) → HasLocks no_lock s → AreFree l s
+is_free l Dead h = tt
+is_free l (Live a m) h = ap (without_locks l) h ∙ same_sides (and_true l.sq) (and_true l.cq)
+
+pub all_free : (l : Locks) (s : State) → OnBoth (HasLocks no_lock) s → OnBoth (AreFree l) s
+all_free l s h z = is_free l (label_of s z) (h z)
+
+is_held : (l : Locks) (s : Label) → HasLocks l s → AreHeld l s
+is_held l Dead h = tt
+is_held l (Live a m) h = ap (without_locks l) h ∙ same_sides (and_not l.sq) (and_not l.cq)
+
+pub all_held : (l : Locks) (s : State) → OnBoth (HasLocks l) s → OnBoth (AreHeld l) s
+all_held l s h z = is_held l (label_of s z) (h z)
 
 -- ---- loops
 
@@ -286,12 +316,12 @@ same_few Dead t n e h = tt
 same_few (Live a m) Dead n e h = absurd e
 same_few (Live a m) (Live b k) n e h = λ p. omega (arith, e.0 p, h p)
 
-same_unlocked : (s t : Label) → IsSame s t → IsUnlocked t → IsUnlocked s
-same_unlocked Dead t e h = tt
-same_unlocked (Live a m) Dead e h = absurd e
-same_unlocked (Live a m) (Live b n) e h = ap locks_of e.1 ∙ h
+same_has : (s t : Label) (l : Locks) → IsSame s t → HasLocks l t → HasLocks l s
+same_has Dead t l e h = tt
+same_has (Live a m) Dead l e h = absurd e
+same_has (Live a m) (Live b n) l e h = ap locks_of e.1 ∙ h
 
-start_sides : (z : Bool) → IsAtMost 100 (on z (start_of share_thread)) × IsUnlocked (on z (start_of share_thread))
+start_sides : (z : Bool) → IsAtMost 100 (on z (start_of share_thread)) × HasLocks no_lock (on z (start_of share_thread))
 start_sides true = (share_few, refl)
 start_sides false = (tt, tt)
 
@@ -306,18 +336,19 @@ pub start_few : {E : Type 0} (P : Program) (r : Result State E) → P ≡ share 
 start_few P (Ok s) e h = λ z. same_few (label_of s z) (on z (start_of share_thread)) 100 (starts P s e h z) (start_sides z).0
 start_few P (Err x) e h = absurd h
 
-pub start_unlocked : {E : Type 0} (P : Program) (r : Result State E) → P ≡ share → IsOkAnd r (IsStart P 0) → IfOk r (λ s. OnBoth IsUnlocked s)
-start_unlocked P (Ok s) e h = λ z. same_unlocked (label_of s z) (on z (start_of share_thread)) (starts P s e h z) (start_sides z).1
+pub start_unlocked : {E : Type 0} (P : Program) (r : Result State E) → P ≡ share → IsOkAnd r (IsStart P 0) → IfOk r (λ s. OnBoth (HasLocks no_lock) s)
+start_unlocked P (Ok s) e h = λ z. same_has (label_of s z) (on z (start_of share_thread)) no_lock (starts P s e h z) (start_sides z).1
 start_unlocked P (Err x) e h = absurd h
 
 -- ---- the program
 
 -- what is made of the parts of the program
-pub made_share : (d : Declarations) (ts : List ThreadPart) → d.files.items ≡ share.files → map view_buffer d.buffers.items ≡ share.buffers → d.tokens.items ≡ share.tokens → map view_thread ts ≡ share.threads → IsProgram (view_program (record { version = 2; entries = 2; completion_entries = 4; left = 0 }) d ts)
-made_share d ts e f g h =
-    subst (λ x. IsProgram (record share { files = x; buffers = map view_buffer d.buffers.items; tokens = d.tokens.items; threads = map view_thread ts })) (sym e)
-    (subst (λ x. IsProgram (record share { buffers = x; tokens = d.tokens.items; threads = map view_thread ts })) (sym f)
-    (subst (λ x. IsProgram (record share { tokens = x; threads = map view_thread ts })) (sym g) (subst (λ x. IsProgram (record share { threads = x })) (sym h) is_share)))
+pub made_share : (d : Declarations) (ts : List ThreadPart) → d.files.items ≡ share.files → map view_buffer d.buffers.items ≡ share.buffers → d.tokens.items ≡ share.tokens → view_names d.pools.items ≡ share.pools → map view_thread ts ≡ share.threads → IsProgram (view_program (record { version = 4; entries = 2; completion_entries = 4; left = 0 }) d ts)
+made_share d ts e f g p h =
+    subst (λ x. IsProgram (record share { files = x; buffers = map view_buffer d.buffers.items; tokens = d.tokens.items; pools = view_names d.pools.items; threads = map view_thread ts })) (sym e)
+    (subst (λ x. IsProgram (record share { buffers = x; tokens = d.tokens.items; pools = view_names d.pools.items; threads = map view_thread ts })) (sym f)
+    (subst (λ x. IsProgram (record share { tokens = x; pools = view_names d.pools.items; threads = map view_thread ts })) (sym g)
+    (subst (λ x. IsProgram (record share { pools = x; threads = map view_thread ts })) (sym p) (subst (λ x. IsProgram (record share { threads = x })) (sym h) is_share))))
 
 pub one_thread : (xs ys : List ThreadPart) (t : ThreadPart) → ys ≡ [] → xs ≡ ys ++ t ∷ [] → view_thread t ≡ share_thread → map view_thread xs ≡ share.threads
 one_thread xs ys t e f g = rw (f, e) (ap (λ x. x ∷ []) g)

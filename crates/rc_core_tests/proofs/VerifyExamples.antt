@@ -11,7 +11,7 @@ use Rattle.rc_lang.specs.declared.lines.Test.TheVariants.{Take}
 use Rattle.rc_lang.specs.declared.program.Declarations.{Declarations}
 use Rattle.rc_lang.specs.declared.program.Thread.{Thread as ThreadPart}
 use Rattle.rc_lang.specs.Nesting.{IsNested, IsNestedIn, blocks_at}
-use Rattle.rc_lang.specs.Parts.{view_program, view_thread, view_buffer}
+use Rattle.rc_lang.specs.Parts.{view_program, view_thread, view_buffer, view_names}
 use Rattle.rc_lang.specs.Program.{Thread, IsFlag, IsProgram, IsThread, IsItems, IsResolved, IsLinked, line_numbers, stmt_at}
 use Rattle.rc_lang.proofs.Rising.{by_test}
 use Rattle.rc_core_tests.proofs.Plain.{distinct, none}
@@ -78,8 +78,8 @@ nested calls branch = record { each = stands calls branch; depth = depth calls b
 -- The line names no list of items.
 abbrev NamesNone : Stmt → Type 0
 NamesNone (Loop k) = ⊥
-NamesNone (Put k) = ⊥
-NamesNone (If (Take k)) = ⊥
+NamesNone (Put pool k) = ⊥
+NamesNone (If (Take pool k)) = ⊥
 NamesNone _ = Unit {0}
 
 no_list : (calls branch : Bool) (j : ℕ) (s : Stmt) → stmt_at (example_lines calls branch) j ≡ Some s → NamesNone s
@@ -121,8 +121,8 @@ is_thread n calls branch flag h = record {
   resolved = λ j s e. each_stmt (λ k. IsResolved (example n calls branch flag) 1 0) calls branch j s e (λ b. (lit≤ tt, tt, tt)) (λ b. tt);
   linked = linked calls branch;
   queues = λ j k e. absurd (no_list calls branch j (Loop k) e);
-  puts = λ j k e. absurd (no_list calls branch j (Put k) e);
-  takes = λ j k e. absurd (no_list calls branch j (If (Take k)) e);
+  puts = λ j pool k e. absurd (no_list calls branch j (Put pool k) e);
+  takes = λ j pool k e. absurd (no_list calls branch j (If (Take pool k)) e);
 }
 
 rising : (calls branch : Bool) → IsStrictlyIncreasing (line_numbers (example_thread 0 calls branch false ∷ []))
@@ -130,7 +130,7 @@ rising true true = by_test (3 ∷ 4 ∷ 5 ∷ 6 ∷ []) refl
 rising true false = by_test (3 ∷ 4 ∷ []) refl
 rising false branch = by_test (3 ∷ []) refl
 
-version_is : (flag : Bool) → (1 ≤ example_version flag) × (example_version flag ≤ 3)
+version_is : (flag : Bool) → (1 ≤ example_version flag) × (example_version flag ≤ 4)
 version_is true = (lit≤ tt, lit≤ tt)
 version_is false = (lit≤ tt, lit≤ tt)
 
@@ -150,6 +150,10 @@ is_example n calls branch flag h = record {
   few_tokens = lit≤ tt;
   tokens = none _;
   distinct_tokens = distinct nat_eq;
+  few_pools = lit≤ tt;
+  pools = none _;
+  distinct_pools = distinct bytes_eq;
+  no_pools = λ e. refl;
   few_threads = lit≤ tt;
   distinct_names = single bytes_eq (codes "t0");
   each = each;
@@ -161,11 +165,12 @@ is_example n calls branch flag h = record {
     each (suc i) t e = absurd cc
 
 -- what is made of the parts
-pub made : (n : ℕ) (calls branch flag : Bool) (d : Declarations) (before after : List ThreadPart) (t : ThreadPart) → n ≤ 2048 → d.files.items ≡ [] → d.buffers.items ≡ [] → d.tokens.items ≡ [] → before ≡ [] → after ≡ before ++ t ∷ [] → view_thread t ≡ example_thread n calls branch flag → (version : ℕ) → version ≡ example_version flag → IsProgram (view_program (record { version = version; entries = 1; completion_entries = 2; left = 0 }) d after)
-made n calls branch flag d before after t h e f g b a v version w =
+pub made : (n : ℕ) (calls branch flag : Bool) (d : Declarations) (before after : List ThreadPart) (t : ThreadPart) → n ≤ 2048 → d.files.items ≡ [] → d.buffers.items ≡ [] → d.tokens.items ≡ [] → d.pools.items ≡ [] → before ≡ [] → after ≡ before ++ t ∷ [] → view_thread t ≡ example_thread n calls branch flag → (version : ℕ) → version ≡ example_version flag → IsProgram (view_program (record { version = version; entries = 1; completion_entries = 2; left = 0 }) d after)
+made n calls branch flag d before after t h e f g p b a v version w =
     let ts : map view_thread after ≡ example_thread n calls branch flag ∷ [] = rw (a, b) (ap (λ x. x ∷ []) v) in
     let P = example n calls branch flag in
-    subst (λ k. IsProgram (record P { version = k; files = d.files.items; buffers = map view_buffer d.buffers.items; tokens = d.tokens.items; threads = map view_thread after })) (sym w)
-    (subst (λ x. IsProgram (record P { files = x; buffers = map view_buffer d.buffers.items; tokens = d.tokens.items; threads = map view_thread after })) (sym e)
-    (subst (λ x. IsProgram (record P { buffers = map view_buffer x; tokens = d.tokens.items; threads = map view_thread after })) (sym f)
-    (subst (λ x. IsProgram (record P { tokens = x; threads = map view_thread after })) (sym g) (subst (λ x. IsProgram (record P { threads = x })) (sym ts) (is_example n calls branch flag h)))))
+    subst (λ k. IsProgram (record P { version = k; files = d.files.items; buffers = map view_buffer d.buffers.items; tokens = d.tokens.items; pools = view_names d.pools.items; threads = map view_thread after })) (sym w)
+    (subst (λ x. IsProgram (record P { files = x; buffers = map view_buffer d.buffers.items; tokens = d.tokens.items; pools = view_names d.pools.items; threads = map view_thread after })) (sym e)
+    (subst (λ x. IsProgram (record P { buffers = map view_buffer x; tokens = d.tokens.items; pools = view_names d.pools.items; threads = map view_thread after })) (sym f)
+    (subst (λ x. IsProgram (record P { tokens = x; pools = view_names d.pools.items; threads = map view_thread after })) (sym g)
+    (subst (λ x. IsProgram (record P { pools = view_names x; threads = map view_thread after })) (sym p) (subst (λ x. IsProgram (record P { threads = x })) (sym ts) (is_example n calls branch flag h))))))

@@ -1,4 +1,4 @@
--- The program of the tests of `rc_rules`: `ringcheck 2`, `ring 2`, `file 3 64`, `buffer a 16 2`, `token 9 write a 1`, and
+-- The program of the tests of `rc_rules`: `ringcheck 4`, `ring 2`, `file 3 64`, `buffer a 16 2`, `token 9 write a 1`, and
 -- the thread `t0 holds a:2 t:9 c:1` without a line, which has the variables x and y; the first is its flag.
 use Rattle.std.specs.Prelude.{ℕ, ◌≡◌, ◌≤◌, [], ◌∷◌, None, Some, codes}
 use Rattle.rc_lang.specs.declared.program.TokenKind.TheVariants.{Write}
@@ -21,13 +21,14 @@ share_thread = record {
 
 abbrev pub share : Program
 share = record {
-  version = 2;
+  version = 4;
   entries = 2;
   completion_entries = 4;
   left = 0;
   files = record { number = 3; len = 64 } ∷ [];
   buffers = record { name = codes "a"; bytes = 16; shares = 2 } ∷ [];
   tokens = record { user_data = 9; kind = Write 0 1 } ∷ [];
+  pools = [];
   threads = share_thread ∷ [];
 }
 

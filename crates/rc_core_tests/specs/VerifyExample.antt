@@ -51,5 +51,6 @@ example credits calls branch flag = record {
   files = [];
   buffers = [];
   tokens = [];
+  pools = [];
   threads = example_thread credits calls branch flag ∷ [];
 }

@@ -13,15 +13,116 @@ const OVER_CREDITS: &str = "ringcheck 1\nring 4\nthread t0 holds c:9 {\n}\n";
 
 const OPEN_THREAD: &str = "ringcheck 1\nring 1\nthread t0 holds {\n";
 
+/// A submitter and a reaper, each under the lock of its side.
+const TWO_LOCKS: &str = "ringcheck 4
+ring 2
+token 7 nop
+thread t0 holds t:7 c:1 {
+lock sq {
+get_sqe
+prep_nop
+set_data64 7
+loop keeps q:1 {
+r = submit
+if sq_ready == 0 {
+break
+}
+}
+}
+}
+thread t1 holds {
+lock cq {
+loop keeps {
+peek_cqe r {
+case 7 {
+cqe_seen
+break
+}
+other {
+}
+none {
+}
+}
+}
+}
+}
+";
+
+/// Of two tokens one is held at `get_sqe`: at most one entry of the two is queued.
+const ROOM_BY_TOKENS: &str = "ringcheck 4
+ring 2 left 2
+token 7 nop
+token 8 nop
+thread t0 holds t:7 t:8 c:2 {
+loop keeps t:7 c:1 {
+lock sq {
+get_sqe
+prep_nop
+set_data64 7
+}
+break
+}
+}
+";
+
+/// The same in a ring of one entry.
+const AS_MANY_AS_ENTRIES: &str = "ringcheck 4
+ring 1 left 1
+token 7 nop
+token 8 nop
+thread t0 holds t:7 t:8 c:2 {
+loop keeps t:7 c:1 {
+lock sq {
+get_sqe
+prep_nop
+set_data64 7
+}
+break
+}
+}
+";
+
+/// A token that goes to one of two pools and is taken from it, under no lock.
+const NAMED_POOLS: &str = "ringcheck 4
+ring 1
+pool free
+pool done
+token 7 nop
+thread t0 holds t:7 {
+put free t:7
+if take done t:7 {
+}
+if take free t:7 {
+}
+}
+";
+
+/// A token that is put into each of two pools.
+const IN_TWO_POOLS: &str = "ringcheck 4
+ring 1
+pool free
+pool done
+token 7 nop
+thread t0 holds t:7 {
+put free t:7
+put done t:7
+}
+";
+
 /// A text, and what it is answered with.
 type Row = (&'static str, &'static str, u32, u32);
 
-const ROWS: [Row; 10] = [
+const ROWS: [Row; 15] = [
     (HANDOFF, "accepted", 0, 0),
     (EMPTY_THREAD, "accepted", 0, 0),
     (ALL_CREDITS, "accepted", 0, 0),
     (POOLED, "accepted", 0, 0),
     (DOUBLE, "refused", 7, 19),
+    (TWO_LOCKS, "accepted", 0, 0),
+    (ROOM_BY_TOKENS, "accepted", 0, 0),
+    (AS_MANY_AS_ENTRIES, "refused", 8, 3),
+    (NAMED_POOLS, "accepted", 0, 0),
+    (IN_TWO_POOLS, "refused", 8, 19),
     (EARLY, "refused", 18, 8),
     (NOP, "refused", 19, 12),
     (OVER_CREDITS, "refused", 3, 18),

@@ -25,6 +25,7 @@ fn disk(alloc: Global, len: u32) -> Result<Disk, AllocError>
         files: Vec::from_array(alloc, [File { number: 3, len }])?,
         buffers: Vec::new(alloc),
         tokens: Vec::new(alloc),
+        pools: Vec::new(alloc),
     };
     let program = Program::new(head, declarations, Vec::new(alloc));
     Disk::new(alloc, &program)

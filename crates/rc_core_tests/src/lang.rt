@@ -48,6 +48,7 @@ fn a_program_without_threads_is_made_of_its_head(rt: HostRuntime) {
         files: Vec::new(alloc),
         buffers: Vec::new(alloc),
         tokens: Vec::new(alloc),
+        pools: Vec::new(alloc),
     };
     let program = Program::new(head, declarations, Vec::new(alloc));
     let sizes = (program.entries(), program.completion_entries());
@@ -55,6 +56,7 @@ fn a_program_without_threads_is_made_of_its_head(rt: HostRuntime) {
     assert_eq!(rt; (program.version(), program.left()), (1, 3));
     assert_eq!(rt; program.threads().len(), 0);
     assert_eq!(rt; program.files().len(), 0);
+    assert_eq!(rt; program.pools().len(), 0);
     assert!(rt; program.line_at(0, 0).is_none());
     assert_eq!(rt; program.lists_of(0).len(), 0);
     assert_eq!(rt; program.end_at(0, 0), 0);

@@ -9,6 +9,7 @@ use std::test::Fail;
 mod faults;
 mod flags;
 mod limits;
+mod locks;
 mod messages;
 mod pieces;
 mod pools;

@@ -1,15 +1,16 @@
 //! The calls of a program that writes a buffer of two shares with one of them, one by one.
 
-ghost use Rattle.std.specs.Prelude.{◌≡◌, ◌≤◌, ◌+◌, [], None, IfOk, map};
+ghost use Rattle.std.specs.Prelude.{◌≡◌, ◌≤◌, ◌+◌, IfOk, map};
 ghost use Rattle.rc_core_tests.specs.RulesExample.{share, share_thread, IsAtMost, IsOfShare};
-ghost use Rattle.rc_lang.specs.Parts.{view_buffer, view_items, view_more, view_thread};
-ghost use Rattle.rc_lang.specs.Program.{IsList};
-ghost use Rattle.rc_rules.specs.States.{IsLocked, IsUnlocked, OnBoth};
+ghost use Rattle.rc_lang.specs.Locks.{both_locks, no_lock};
+ghost use Rattle.rc_lang.specs.Parts.{view_buffer, view_items, view_more, view_names, view_thread};
+ghost use Rattle.rc_lang.specs.Program.{IsList, no_items, no_more};
+ghost use Rattle.rc_rules.specs.States.{HasLocks, OnBoth};
 
 mod flags;
 mod pool;
 
-use rc_lang::lines::{Op, Stmt};
+use rc_lang::lines::{Locks, Op, Stmt};
 use rc_lang::program::{
     Buffer, Declarations, File, Head, Items, More, Program, Share, Thread, Token, TokenKind,
 };
@@ -26,6 +27,7 @@ fn declarations(alloc: Global) -> Result<Declarations, AllocError>
     ensures files { IfOk result (λ d. d.files.items ≡ share.files) }
     ensures buffers { IfOk result (λ d. map view_buffer d.buffers.items ≡ share.buffers) }
     ensures tokens { IfOk result (λ d. d.tokens.items ≡ share.tokens) }
+    ensures pools { IfOk result (λ d. view_names d.pools.items ≡ share.pools) }
 {
     let name = Vec::from_slice(alloc, b"a")?;
     let mut buffers = Vec::new(alloc);
@@ -41,6 +43,7 @@ fn declarations(alloc: Global) -> Result<Declarations, AllocError>
         files,
         buffers,
         tokens,
+        pools: Vec::new(alloc),
     })
 }
 
@@ -87,7 +90,7 @@ fn thread(alloc: Global) -> Result<Thread, AllocError>
 
 // So many credits, and nothing else.
 pub fn more(alloc: Global, credits: u32) -> More
-    ensures { view_more result ≡ record { shares = []; tokens = []; credits = credits } }
+    ensures { view_more result ≡ record no_more { credits = credits } }
 {
     More {
         shares: Vec::new(alloc),
@@ -100,7 +103,7 @@ pub fn program(alloc: Global) -> Result<Program, AllocError>
     ensures { IfOk result (λ p. p ≡ share) }
 {
     let head = Head {
-        version: 2,
+        version: 4,
         entries: 2,
         completion_entries: 4,
         left: 0,
@@ -115,20 +118,49 @@ pub fn started(alloc: Global, program: &Program) -> Result<State<'_>, AllocError
     requires { program.now ≡ share }
     ensures of { IfOk result IsOfShare }
     ensures few { IfOk result (λ s. OnBoth (IsAtMost 100) s) }
-    ensures unlocked { IfOk result (λ s. OnBoth IsUnlocked s) }
+    ensures unlocked { IfOk result (λ s. OnBoth (HasLocks no_lock) s) }
 {
     State::start(alloc, program, 0)
+}
+
+const BOTH: Locks = Locks { sq: true, cq: true };
+
+const SQ: Locks = Locks {
+    sq: true,
+    cq: false,
+};
+
+const CQ: Locks = Locks {
+    sq: false,
+    cq: true,
+};
+
+// The state of the thread's beginning, with these locks.
+fn taken(alloc: Global, program: &Program, locks: Locks) -> Result<State<'_>, AllocError>
+    requires { program.now ≡ share }
+    ensures of { IfOk result IsOfShare }
+    ensures few { IfOk result (λ s. OnBoth (IsAtMost 100) s) }
+    ensures locks { IfOk result (λ s. OnBoth (HasLocks locks) s) }
+{
+    let mut state = started(alloc, program)?;
+    let _ = state.enter_lock(locks);
+    Ok(state)
 }
 
 pub fn locked(alloc: Global, program: &Program) -> Result<State<'_>, AllocError>
     requires { program.now ≡ share }
     ensures of { IfOk result IsOfShare }
     ensures few { IfOk result (λ s. OnBoth (IsAtMost 100) s) }
-    ensures locked { IfOk result (λ s. OnBoth IsLocked s) }
+    ensures locked { IfOk result (λ s. OnBoth (HasLocks both_locks) s) }
 {
-    let mut state = started(alloc, program)?;
-    let _ = state.enter_lock();
-    Ok(state)
+    taken(alloc, program, BOTH)
+}
+
+// Releases these locks: 0, or the number of the cause.
+fn release(state: &mut State, locks: Locks) -> u32
+    requires { OnBoth (HasLocks locks) state.old }
+{
+    number(state.release(locks))
 }
 
 // Goes over a statement: 0, or the number of the cause.
@@ -138,7 +170,7 @@ pub fn over(state: &mut State, op: Op, count: u32) -> u32
     requires small { count ≤ 10000 }
     ensures of { IsOfShare state.new }
     ensures few { OnBoth (IsAtMost (count + 18)) state.new }
-    ensures locked { OnBoth IsLocked state.old → OnBoth IsLocked state.new }
+    ensures locked { OnBoth (HasLocks both_locks) state.old → OnBoth (HasLocks both_locks) state.new }
 {
     number(transfer(state, &Stmt::Do(op)))
 }
@@ -285,7 +317,7 @@ fn the_lock_is_asked_for_first(rt: HostRuntime) -> Result<(), Fail> {
 
 // Items that name credits alone, and these besides.
 pub fn list(alloc: Global, credits: u32, more: More) -> Items
-    ensures { view_items result ≡ record { shares = []; tokens = []; credits = credits; queue = None; more = view_more more } }
+    ensures { view_items result ≡ record no_items { credits = credits; more = view_more more } }
 {
     Items {
         shares: Vec::new(alloc),
@@ -367,7 +399,7 @@ fn a_loop_keeps_exactly_its_items(rt: HostRuntime) -> Result<(), Fail> {
     assert_eq!(rt; number(state.loop_end(&credits(rt.alloc(), 2, 0))), 14);
     assert_eq!(rt; number(state.loop_end(&credits(rt.alloc(), 1, 0))), 0);
     assert!(rt; !is_live(&state));
-    assert_eq!(rt; number(other.break_out(false)), 0);
+    assert_eq!(rt; number(other.break_out(SQ)), 0);
     assert!(rt; !is_live(&other));
     Ok(())
 }
@@ -375,8 +407,42 @@ fn a_loop_keeps_exactly_its_items(rt: HostRuntime) -> Result<(), Fail> {
 #[test]
 fn a_lock_is_released_with_its_queue_empty(rt: HostRuntime) -> Result<(), Fail> {
     let program = program(rt.alloc())?;
-    let mut state = locked(rt.alloc(), &program)?;
-    assert_eq!(rt; number(state.release()), 0);
+    let mut state = taken(rt.alloc(), &program, BOTH)?;
+    assert_eq!(rt; release(&mut state, BOTH), 0);
     assert_eq!(rt; number(state.ready_zero()), 1);
+    let mut state = taken(rt.alloc(), &program, SQ)?;
+    assert_eq!(rt; release(&mut state, SQ), 0);
+    assert_eq!(rt; number(state.ready_zero()), 1);
+    let mut state = taken(rt.alloc(), &program, CQ)?;
+    assert_eq!(rt; release(&mut state, CQ), 0);
+    assert_eq!(rt; number(state.arm_other()), 1);
+    Ok(())
+}
+
+// A call, and the number of its cause where the lock of the submission side is held, and where the other is.
+type Asked = (Op, u32, u32);
+
+const ASKED: [Asked; 4] = [
+    (Op::GetSqe, 0, 1),
+    (Op::PrepNop, 5, 1),
+    (Op::Submit(1), 0, 1),
+    (Op::CqeSeen, 1, 11),
+];
+
+#[test]
+fn a_lock_of_one_side_gives_that_side_alone(rt: HostRuntime) -> Result<(), Fail> {
+    let program = program(rt.alloc())?;
+    for (op, in_sq, in_cq) in ASKED {
+        let mut submits = taken(rt.alloc(), &program, SQ)?;
+        assert_eq!(rt; over(&mut submits, op, 100), in_sq);
+        let mut reaps = taken(rt.alloc(), &program, CQ)?;
+        assert_eq!(rt; over(&mut reaps, op, 100), in_cq);
+    }
+    let mut submits = taken(rt.alloc(), &program, SQ)?;
+    assert_eq!(rt; number(submits.ready_zero()), 0);
+    assert_eq!(rt; number(submits.arm_other()), 1);
+    let mut reaps = taken(rt.alloc(), &program, CQ)?;
+    assert_eq!(rt; number(reaps.arm_other()), 0);
+    assert_eq!(rt; number(reaps.ready_zero()), 1);
     Ok(())
 }

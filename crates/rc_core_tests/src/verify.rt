@@ -85,7 +85,8 @@ fn variables(alloc: Global) -> Result<Vec<Vec<u8>>, AllocError>
 }
 
 fn thread(alloc: Global, credits: u8, shape: Shape) -> Result<Thread, AllocError>
-    ensures { IfOk result (λ t. view_thread t ≡ example_thread credits shape.calls shape.branch shape.flag) }
+    ensures { IfOk result
+        (λ t. view_thread t ≡ example_thread credits shape.calls shape.branch shape.flag) }
 {
     let name = Vec::from_slice(alloc, b"t0")?;
     let lines = lines(alloc, shape)?;
@@ -125,6 +126,7 @@ fn program(alloc: Global, credits: u8, shape: Shape) -> Result<Program, AllocErr
         files: Vec::new(alloc),
         buffers: Vec::new(alloc),
         tokens: Vec::new(alloc),
+        pools: Vec::new(alloc),
     };
     let mut threads = Vec::new(alloc);
     threads.push(thread(alloc, credits, shape)?)?;

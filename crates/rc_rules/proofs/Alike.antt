@@ -1,7 +1,8 @@
 -- Sides of one state: unless one is dead, both have the same locks, and their slots are at one stage.
-use Rattle.std.proofs.Common.{◌≡◌, ℕ, ◌-◌, ◌⊎◌, inl, inr, Bool, true, false, cond, nat_lt, ◌&&◌, [], ◌∷◌, Option, Some, None, refl, sym, ap, subst, ◌∙◌}
+use Rattle.std.proofs.Common.{◌≡◌, ℕ, ◌-◌, ◌⊎◌, inl, inr, Bool, true, false, cond, not, nat_lt, ◌&&◌, ◌||◌, [], ◌∷◌, Option, Some, None, refl, sym, ap, subst, ◌∙◌}
 use Rattle.std.specs.Prelude.{is_some}
 use Rattle.std.proofs.lemmas.Bool.{and_from, eq-eqb}
+use Rattle.rc_lang.specs.declared.lines.Locks.{Locks}
 use Rattle.rc_lang.specs.declared.lines.Op.{Op}
 use Rattle.rc_lang.specs.declared.lines.Op.TheVariants as ops
 use Rattle.rc_lang.specs.declared.lines.Test.{Test}
@@ -22,10 +23,10 @@ use Rattle.rc_rules.specs.declared.rule.Rule.{Rule}
 use Rattle.rc_rules.specs.declared.rule.Rule.TheVariants.{Do, Put, Lock, Release, If, Take, Case, Other, Nothing}
 use Rattle.rc_rules.specs.Labels.{Label, Dead, Live, UnderLock, Weaker, WeakerMode, WeakerPeeked, WeakerSubmitting, IsStrongest, IsSame}
 use Rattle.rc_rules.specs.OneRule.{rule_effect}
-use Rattle.rc_rules.specs.Rules.{Locks, same_kind, same_slot, if_locked, op_effect, goes, at_most, test_mode, with_peeked, case_at, can_take, take_effect, agree_sq, agree, agree_all}
+use Rattle.rc_rules.specs.Rules.{same_kind, same_slot, if_locked, op_effect, goes, locked, freed, at_most, test_mode, with_peeked, case_at, can_take, take_effect, agree_sq, agree, agree_all, broken}
 use Rattle.rc_rules.specs.States.{State, label_of, label_in, mode_in, mode_or, mode_of, is_live, AgreeOnLocks, IsState}
 use Rattle.rc_split.specs.Holdings.{Holding}
-use Rattle.rc_rules.proofs.Weaker.{lock_held, lock_map, lock_maps, lock_refl, lock_sym, lock_trans, locks_equal, map_held, same_slot_is}
+use Rattle.rc_rules.proofs.Weaker.{freed_held, lock_freed, lock_held, lock_map, lock_maps, lock_refl, lock_sym, lock_taken, lock_trans, locks_equal, map_held, same_slot_is, taken_held}
 
 abbrev SameStage : Submitting → Submitting → Type 0
 SameStage s t = s.slot ≡ t.slot
@@ -144,10 +145,21 @@ test_alike : (P : Program) (test : Test) (m n : Mode) → AlikeModes m n → Ali
 test_alike P (Compare x c k) m n l = l
 test_alike P ReadyZero m n l = most_alike 0 m n l
 test_alike P (SpaceAtLeast k) m n l = most_alike (P.entries - k) m n l
-test_alike P (tests.Take k) m n l = l
+test_alike P (tests.Take pool k) m n l = l
+
+locked_alike : (P : Program) (locks : Locks) (m n : Mode) → AlikeModes m n → AlikeModes (locked P locks m) (locked P locks n)
+locked_alike P locks m n l = (lock_taken SameStage locks.sq _ m.sq n.sq refl l.0, taken_held locks.cq Unseen m.cq ∙ ap (λ b. b || locks.cq) l.1 ∙ sym (taken_held locks.cq Unseen n.cq))
+
+freed_alike : (locks : Locks) (m n : Mode) → AlikeModes m n → AlikeModes (freed locks m) (freed locks n)
+freed_alike locks m n l = (lock_freed SameStage locks.sq m.sq n.sq l.0, freed_held locks.cq m.cq ∙ ap (λ b. b && not locks.cq) l.1 ∙ sym (freed_held locks.cq n.cq))
 
 with_alike : (p q : Peeked) (m n : Mode) → AlikeModes m n → AlikeModes (with_peeked p m) (with_peeked q n)
 with_alike p q m n l = (l.0, map_held (λ _. p) m.cq ∙ l.1 ∙ sym (map_held (λ _. q) n.cq))
+
+pub broken_alike : (locks : Locks) (s t : Label) → Alike s t → Alike (broken locks s) (broken locks t)
+broken_alike locks Dead t l = tt
+broken_alike locks (Live a m) Dead l = tt
+broken_alike locks (Live a m) (Live b n) l = freed_alike locks (with_peeked Unseen m) (with_peeked Unseen n) (with_alike Unseen Unseen m n l)
 
 case_alike : (u : ℕ) (a b : Part → ℕ) (m n : Mode) → AlikeModes m n → Alike (case_at u (Live a m)) (case_at u (Live b n))
 case_alike u a b m n l = go (nat_lt 0 (a (TokenOf u))) (nat_lt 0 (b (TokenOf u)))
@@ -167,11 +179,11 @@ take_alike P items a b m n l = go (can_take P a m items) (can_take P b n items)
 
 rule_alike : (P : Program) (rule : Rule) (a b : Part → ℕ) (m n : Mode) → AlikeModes m n → Alike (rule_effect P rule a m) (rule_effect P rule b n)
 rule_alike P (Do op) a b m n l = effect_alike P a b m n op l
-rule_alike P (Put items) a b m n l = l
-rule_alike P Lock a b m n l = (refl, refl)
-rule_alike P Release a b m n l = (tt, refl)
+rule_alike P (Put pool items) a b m n l = l
+rule_alike P (Lock takes) a b m n l = locked_alike P takes m n l
+rule_alike P (Release releases) a b m n l = freed_alike releases m n l
 rule_alike P (If test) a b m n l = test_alike P test m n l
-rule_alike P (Take items) a b m n l = take_alike P (view_items items.now) a b m n l
+rule_alike P (Take pool items) a b m n l = take_alike P (view_items items.now) a b m n l
 rule_alike P (Case u) a b m n l = case_alike u a b m n l
 rule_alike P Other a b m n l = with_alike SeesOther SeesOther m n l
 rule_alike P Nothing a b m n l = with_alike Unseen Unseen m n l

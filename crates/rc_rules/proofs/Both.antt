@@ -3,6 +3,7 @@ use Rattle.std.proofs.Common.{◌≡◌, ℕ, Bool, true, false, List, [], ◌�
 use Rattle.std.specs.Prelude.{ℤ, pos}
 use Rattle.std.specs.Ordering.{int_eq}
 use Rattle.std.proofs.lemmas.Bool.{and_parts}
+use Rattle.rc_lang.specs.declared.lines.Locks.{Locks}
 use Rattle.rc_lang.specs.declared.lines.Op.{Op}
 use Rattle.rc_lang.specs.declared.lines.Stmt.TheVariants.{Do}
 use Rattle.rc_lang.specs.declared.lines.Op.TheVariants as ops
@@ -18,10 +19,10 @@ use Rattle.rc_rules.specs.Labels.{Label, Dead, Live, Weaker, IsStrongest, IsSame
 use Rattle.rc_rules.specs.OneRule.{rule_premises, rule_effect, only_computes, MayFollow, SideGoes, StateGoes}
 use Rattle.rc_rules.specs.Premises.{Premise, Meets, FailsFirst, Tests}
 use Rattle.rc_rules.specs.Needs.{line_premises}
-use Rattle.rc_rules.specs.Rules.{asks, asks_both, goes, op_effect}
+use Rattle.rc_rules.specs.Rules.{asks, asks_both, broken, goes, op_effect}
 use Rattle.rc_rules.specs.Sides.{gate, brings, turns}
-use Rattle.rc_rules.specs.States.{Side, State, side_label, label_of, program_of, is_live, IsState, GivesSide, Gives, Becomes, OnBoth, AgreeOnLocks}
-use Rattle.rc_rules.proofs.Alike.{Alike, Joined, alike, alike_lock, alike_slot, alike_sym, same_alike, goes_alike, joins_alike, agree_swap}
+use Rattle.rc_rules.specs.States.{Side, State, side_label, label_of, program_of, is_live, IsState, GivesSide, Becomes, OnBoth, AgreeOnLocks}
+use Rattle.rc_rules.proofs.Alike.{Alike, Joined, alike, alike_lock, alike_slot, alike_sym, broken_alike, same_alike, goes_alike, joins_alike, agree_swap}
 use Rattle.rc_rules.proofs.Weaker.{strongest, strongest_left, weaker_trans, meets_append, meets_left, meets_right, fails_left, not_both}
 
 pub dead_of : (s : Label) → is_live s ≡ false → s ≡ Dead
@@ -122,6 +123,13 @@ module _ (f : Option ℕ) (a b s o : Side) (rule : Rule) (r q t : Result (Unit {
   both_kept k =
       let w : Alike (side_label s) (side_label o) = same_alike _ _ _ _ zero_went.0 other_went.0 (goes_alike a.program rule (side_label a) (side_label b) (alike (side_label a) (side_label b) k.lock k.slot)) in
       record { program = other_went.1 ∙ p ∙ sym zero_went.1; lock = alike_lock _ _ w; slot = alike_slot _ _ w }
+
+-- ---- a break on both sides
+
+pub carried_kept : (l : Locks) (f : Option ℕ) (a b s o : Side) → IsState (record { flag = f; zero = a; other = b }) → IsSame (side_label s) (broken l (side_label a)) → IsSame (side_label o) (broken l (side_label b)) → s.program ≡ a.program → o.program ≡ b.program → IsState (record { flag = f; zero = s; other = o })
+carried_kept l f a b s o k e g p q =
+    let w : Alike (side_label s) (side_label o) = same_alike _ _ _ _ e g (broken_alike l (side_label a) (side_label b) (alike (side_label a) (side_label b) k.lock k.slot)) in
+    record { program = q ∙ k.program ∙ sym p; lock = alike_lock _ _ w; slot = alike_slot _ _ w }
 
 -- ---- writes to the flag
 

@@ -1,7 +1,8 @@
 -- Stronger states are asked for less and give stronger states.
-use Rattle.std.proofs.Common.{◌≡◌, ℕ, suc, ◌+◌, ◌<◌, ◌≤◌, ◌⊎◌, inl, inr, Bool, true, false, cond, nat_eq, nat_lt, nat_le, List, [], ◌∷◌, ◌++◌, length, drop, Option, Some, None, refl, sym, ap, subst, arith}
-use Rattle.std.proofs.lemmas.Bool.{and_from, and_parts, leb-true, le-leb, ltb-true}
+use Rattle.std.proofs.Common.{◌≡◌, ℕ, suc, ◌+◌, ◌<◌, ◌≤◌, inl, inr, Bool, true, false, cond, nat_eq, nat_lt, nat_le, ◌&&◌, ◌||◌, List, [], ◌∷◌, ◌++◌, length, drop, Option, Some, None, refl, sym, ap, subst, arith}
+use Rattle.std.proofs.lemmas.Bool.{and_from, and_parts, leb-true, le-leb, ltb-true, or_cases, or_left, or_right}
 use Rattle.rc_lang.specs.declared.lines.Line.{Line}
+use Rattle.rc_lang.specs.declared.lines.Locks.{Locks}
 use Rattle.rc_lang.specs.declared.lines.Op.{Op}
 use Rattle.rc_lang.specs.declared.lines.Op.TheVariants as ops
 use Rattle.rc_lang.specs.declared.lines.Stmt.{Stmt}
@@ -9,7 +10,8 @@ use Rattle.rc_lang.specs.declared.lines.Stmt.TheVariants.{Do, Put, Lock, EndLock
 use Rattle.rc_lang.specs.declared.lines.Test.{Test}
 use Rattle.rc_lang.specs.declared.lines.Test.TheVariants.{Compare, ReadyZero, SpaceAtLeast, Take}
 use Rattle.rc_lang.specs.Program.{Program, Thread, Items, items_at, stmt_at}
-use Rattle.rc_split.specs.Bags.{Part, ShareOf, TokenOf, Credit, bag_of, bag_on, plus, IsWithin}
+use Rattle.rc_split.specs.Bags.{Part, ShareOf, TokenOf, Credit, bag_of, bag_on, lacking, plus, IsWithin}
+use Rattle.rc_split.proofs.Lacking.{lacking_less}
 use Rattle.rc_rules.specs.declared.mode.Mode.{Mode}
 use Rattle.rc_rules.specs.declared.mode.Peeked.{Peeked}
 use Rattle.rc_rules.specs.declared.mode.Peeked.TheVariants.{Unseen, Sees, SeesOther}
@@ -18,13 +20,13 @@ use Rattle.rc_rules.specs.declared.mode.Slot.TheVariants.{Closed, Vacant}
 use Rattle.rc_rules.specs.declared.mode.Submitting.{Submitting}
 use Rattle.rc_rules.specs.Labels.{Label, Dead, Live, UnderLock, Weaker, WeakerMode, WeakerPeeked, WeakerSubmitting}
 use Rattle.rc_rules.specs.Premises.{Premise, Is, Covers, IsMet, Meets, MeetsBelow}
-use Rattle.rc_rules.specs.Rules.{kind_of, same_slot, has_kind, is_prepared_as, is_seen, sq_of, with_lock, premises_of, op_needs, test_needs, leave_needs, if_locked, op_effect, reaped, asks, asks_both, joins_both, goes, locked, unlocked, entered, released, put_effect, can_take, take_effect, test_effect, with_slot, at_most, with_peeked, peek_at, case_at, agree_sq, agree, agree_each, agree_all, queue_on, keeps_queue, top_sq, top_mode, top, broken}
+use Rattle.rc_rules.specs.Rules.{kind_of, same_slot, has_kind, is_prepared_as, is_seen, sq_of, can_queue, with_lock, premises_of, op_needs, pool_needs, test_needs, leave_needs, release_needs, stmt_needs, if_locked, op_effect, reaped, asks, asks_both, joins_both, goes, locked, entered, released, put_effect, can_take, take_effect, test_effect, freed, with_slot, at_most, with_peeked, peek_at, case_at, agree_sq, agree, agree_each, agree_all, queue_on, keeps_queue, top_sq, top, broken}
 use Rattle.rc_rules.specs.Labellings.{label_at, here, skipped, arm_end, arm_ends, break_end, break_ends, befores, premises}
 use Rattle.rc_rules.specs.Laws.{EachWeaker, IsStronger, GrowsAt}
 use Rattle.rc_rules.specs.declared.flag.Write.TheVariants.{Anything}
 use Rattle.rc_rules.specs.Sides.{Sides, gate, brings, turns, write_to, write_of, forgets, test_goes, may_skip}
 use Rattle.rc_rules.proofs.Room.{still_can}
-use Rattle.rc_rules.proofs.Weaker.{lock_maps, mode_refl, peeked_grows, sq_weaker, label_drop, meets_append, meets_left, meets_right, below_append, below_left, below_right}
+use Rattle.rc_rules.proofs.Weaker.{lock_freed, lock_maps, lock_taken, peeked_grows, sq_weaker, label_drop, meets_append, meets_left, meets_right, below_append, below_left, below_right}
 
 -- ---- lists of premises
 
@@ -89,6 +91,14 @@ fewer a b k h e = let x : b < k = ltb-true b k e in le-leb (suc a) k (omega arit
 below : (a b k : ℕ) → a ≤ b → nat_le b k ≡ true → nat_le a k ≡ true
 below a b k h e = let x : b ≤ k = leb-true b k e in le-leb a k (omega arith)
 
+or_grows : (x y u v : Bool) → (x ≡ true → u ≡ true) → (y ≡ true → v ≡ true) → (x || y) ≡ true → (u || v) ≡ true
+or_grows x y u v f g e = elim (or_cases x y e) [ inl h ↦ or_left u v (f h) | inr h ↦ or_right u v (g h) ]
+
+-- who holds more, and knows of fewer queued, has room where one who holds less has it
+room_grows : (P : Program) (b c : Part → ℕ) (s t : Submitting) → IsWithin b c → WeakerSubmitting s t → can_queue P b s.queued ≡ true → can_queue P c t.queued ≡ true
+room_grows P b c s t w v = or_grows (nat_lt s.queued P.entries) (nat_le 4 P.version && nat_lt (lacking P.tokens b) P.entries) (nat_lt t.queued P.entries) (nat_le 4 P.version && nat_lt (lacking P.tokens c) P.entries) (fewer t.queued s.queued P.entries v.queued)
+    (λ e. let h = and_parts (nat_le 4 P.version) (nat_lt (lacking P.tokens b) P.entries) e in and_from _ _ h.0 (fewer (lacking P.tokens c) (lacking P.tokens b) P.entries (lacking_less P.tokens b c w) h.1))
+
 slot_of : (s t : Submitting) (x : Slot) → WeakerSubmitting s t → same_slot s.slot x ≡ true → same_slot t.slot x ≡ true
 slot_of s t x v e = subst (λ y. same_slot y x ≡ true) v.slot e
 
@@ -112,7 +122,7 @@ asks_less : (P : Program) (lists : List Items) (z : Bool) (op : Op) → AsksLess
 asks_less P lists z (ops.Load x d i) b c m n w v = (refl, more 1 (b (ShareOf d)) (c (ShareOf d)) (w (ShareOf d)), (refl, λ h. h, tt))
 asks_less P lists z (ops.Store d i x) b c m n w v = (refl, more _ (b (ShareOf d)) (c (ShareOf d)) (w (ShareOf d)), (refl, λ h. h, tt))
 asks_less P lists z (ops.Fill d x) b c m n w v = (refl, more _ (b (ShareOf d)) (c (ShareOf d)) (w (ShareOf d)), tt)
-asks_less P lists z ops.GetSqe b c m n w v = locked_less WeakerSubmitting _ _ m.sq n.sq (λ i j v. (refl, more 1 (b Credit) (c Credit) (w Credit), (refl, fewer j.queued i.queued P.entries v.queued, (refl, slot_of i j Closed v, tt)))) v.0
+asks_less P lists z ops.GetSqe b c m n w v = locked_less WeakerSubmitting _ _ m.sq n.sq (λ i j v. (refl, more 1 (b Credit) (c Credit) (w Credit), (refl, room_grows P b c i j w v, (refl, slot_of i j Closed v, tt)))) v.0
 asks_less P lists z (ops.PrepRead f d l o) b c m n w v = locked_less WeakerSubmitting _ _ m.sq n.sq (λ i j v. (refl, slot_of i j Vacant v, (refl, more _ (b (ShareOf d)) (c (ShareOf d)) (w (ShareOf d)), (refl, λ h. h, tt)))) v.0
 asks_less P lists z (ops.PrepWrite f d l o k) b c m n w v = locked_less WeakerSubmitting _ _ m.sq n.sq (λ i j v. (refl, slot_of i j Vacant v, (refl, more k (b (ShareOf d)) (c (ShareOf d)) (w (ShareOf d)), (refl, λ h. h, tt)))) v.0
 asks_less P lists z (ops.PrepFsync f d) b c m n w v = locked_less WeakerSubmitting _ _ m.sq n.sq (λ i j v. (refl, slot_of i j Vacant v, tt)) v.0
@@ -155,20 +165,22 @@ sq_less b c m n w v = locked_less WeakerSubmitting _ _ m.sq n.sq (λ s t u. tt) 
 peek_less : AsksLess (λ b m. with_lock 1 m.cq (λ p. []))
 peek_less b c m n w v = locked_less WeakerPeeked _ _ m.cq n.cq (λ p q u. tt) v.1
 
+pool_less : (P : Program) (lists : List Items) (z : Bool) (pool : Option ℕ) → AsksLess (λ b m. premises_of P lists z b m (pool_needs pool))
+pool_less P lists z None b c m n w v = locked_less WeakerSubmitting _ _ m.sq n.sq (λ s t u. peek_less b c m n w v) v.0
+pool_less P lists z (Some k) b c m n w v = tt
+
 test_less : (P : Program) (lists : List Items) (z : Bool) (test : Test) → AsksLess (λ b m. premises_of P lists z b m (test_needs test))
 test_less P lists z (Compare x k n) b d m o w v = tt
 test_less P lists z ReadyZero b d m o w v = sq_less b d m o w v
 test_less P lists z (SpaceAtLeast n) b d m o w v = sq_less b d m o w v
-test_less P lists z (Take k) b d m o w v = locked_less WeakerSubmitting _ _ m.sq o.sq (λ s t u. peek_less b d m o w v) v.0
+test_less P lists z (Take pool k) b d m o w v = pool_less P lists z pool b d m o w v
 
-abbrev put_asks : Items → (Part → ℕ) → Mode → List (ℕ × Premise)
-put_asks items b m = with_lock 1 m.sq (λ s. with_lock 1 m.cq (λ p. (19, Covers b (bag_of items)) ∷ []))
+put_less : (P : Program) (lists : List Items) (z : Bool) (pool : Option ℕ) (k : ℕ) → AsksLess (λ b m. premises_of P lists z b m (stmt_needs (Put pool k)))
+put_less P lists z None k b c m n w v = locked_less WeakerSubmitting _ _ m.sq n.sq (λ s t u. locked_less WeakerPeeked _ _ m.cq n.cq (λ p q x. (refl, λ h y. omega (arith, h y, w y), tt)) v.1) v.0
+put_less P lists z (Some x) k b c m n w v = (refl, λ h y. omega (arith, h y, w y), tt)
 
-put_less : (items : Items) → AsksLess (λ b m. put_asks items b m)
-put_less items b c m n w v = locked_less WeakerSubmitting _ _ m.sq n.sq (λ s t u. locked_less WeakerPeeked _ _ m.cq n.cq (λ p q x. (refl, λ h y. omega (arith, h y, w y), tt)) v.1) v.0
-
-put_grows : (items : Items) → Grows (λ b m. put_asks items b m) (λ b m. put_effect b m items)
-put_grows items b c m n w v h = (λ p. omega (arith, w p), v)
+put_grows : (items : Items) (s t : Label) → Weaker s t → Weaker (goes s (λ b m. put_effect b m items)) (goes t (λ b m. put_effect b m items))
+put_grows items = plain_grow (λ b m. put_effect b m items) (λ b c m n w v h. (λ p. omega (arith, w p), v))
 
 -- who holds less can take what one who holds more can
 take_grows : (P : Program) (items : Items) (b c : Part → ℕ) (m n : Mode) → IsWithin b c → WeakerMode m n → Weaker (take_effect P b m items) (take_effect P c n items)
@@ -186,7 +198,7 @@ test_grows : (P : Program) (lists : List Items) (test : Test) → Grows (λ b m.
 test_grows P lists (Compare x k n) b d m o w v h = (w, v)
 test_grows P lists ReadyZero b d m o w v h = (w, most_grows _ m o v)
 test_grows P lists (SpaceAtLeast n) b d m o w v h = (w, most_grows _ m o v)
-test_grows P lists (Take k) b d m o w v h = take_grows P (items_at lists k) b d m o w v
+test_grows P lists (Take pool k) b d m o w v h = take_grows P (items_at lists k) b d m o w v
 
 closed_less : (m n : Mode) → WeakerMode m n → same_slot (sq_of m).slot Closed ≡ true → same_slot (sq_of n).slot Closed ≡ true
 closed_less m n v h = slot_of (sq_of m) (sq_of n) Closed (sq_weaker m n v) h
@@ -197,6 +209,10 @@ left_less P m n v h = below (sq_of n).queued (sq_of m).queued P.left (sq_weaker 
 leave_less : (P : Program) (lists : List Items) (z : Bool) (r : Bool) → AsksLess (λ b m. premises_of P lists z b m (leave_needs r))
 leave_less P lists z true b c m n w v = (refl, closed_less m n v, (refl, left_less P m n v, tt))
 leave_less P lists z false b c m n w v = (refl, closed_less m n v, tt)
+
+release_less : (P : Program) (lists : List Items) (z : Bool) (r : Bool) → AsksLess (λ b m. premises_of P lists z b m (release_needs r))
+release_less P lists z true b c m n w v = leave_less P lists z true b c m n w v
+release_less P lists z false b c m n w v = tt
 
 queue_grows : (P : Program) (items : Items) (m n : Mode) → WeakerMode m n → keeps_queue (queue_on P items) m ≡ true → keeps_queue (queue_on P items) n ≡ true
 queue_grows P items m n v h = let g = and_parts _ _ h in and_from _ _ (closed_less m n v g.0) (below (sq_of n).queued (sq_of m).queued (queue_on P items) (sq_weaker m n v).queued g.1)
@@ -215,15 +231,20 @@ top_grows P items z (Live b m) (Live c n) w = (λ p. omega arith, (lock_maps Wea
 peek_grows : (p : Peeked) (s t : Label) → Weaker s t → Weaker (peek_at p s) (peek_at p t)
 peek_grows p = plain_grow (λ b m. Live b (with_peeked p m)) (λ b c m n w v h. (w, peeked_grows p m n v))
 
-released_grows : (s t : Label) → Weaker s t → Weaker (released s) (released t)
-released_grows = plain_grow (λ b m. Live b unlocked) (λ b c m n w v h. (w, mode_refl unlocked))
+taken_grows : (P : Program) (l : Locks) (m n : Mode) → WeakerMode m n → WeakerMode (locked P l m) (locked P l n)
+taken_grows P l m n w = (lock_taken WeakerSubmitting l.sq _ m.sq n.sq (record { queued = omega arith; slot = refl }) w.0, lock_taken WeakerPeeked l.cq _ m.cq n.cq (inl refl) w.1)
 
-entered_grows : (P : Program) (s t : Label) → Weaker s t → Weaker (entered P s) (entered P t)
-entered_grows P = plain_grow (λ b m. Live b (locked P)) (λ b c m n w v h. (w, mode_refl (locked P)))
+entered_grows : (P : Program) (l : Locks) (s t : Label) → Weaker s t → Weaker (entered P l s) (entered P l t)
+entered_grows P l = plain_grow (λ b m. Live b (locked P l m)) (λ b c m n w v h. (w, taken_grows P l m n v))
 
-broken_grows : (r : Bool) (s t : Label) → Weaker s t → Weaker (broken r s) (broken r t)
-broken_grows true s t w = released_grows s t w
-broken_grows false s t w = peek_grows Unseen s t w
+freed_grows : (l : Locks) (m n : Mode) → WeakerMode m n → WeakerMode (freed l m) (freed l n)
+freed_grows l m n w = (lock_freed WeakerSubmitting l.sq m.sq n.sq w.0, lock_freed WeakerPeeked l.cq m.cq n.cq w.1)
+
+released_grows : (l : Locks) (s t : Label) → Weaker s t → Weaker (released l s) (released l t)
+released_grows l = plain_grow (λ b m. Live b (freed l m)) (λ b c m n w v h. (w, freed_grows l m n v))
+
+broken_grows : (l : Locks) (s t : Label) → Weaker s t → Weaker (broken l s) (broken l t)
+broken_grows l = plain_grow (λ b m. Live b (freed l (with_peeked Unseen m))) (λ b c m n w v h. (w, freed_grows l (with_peeked Unseen m) (with_peeked Unseen n) (peeked_grows Unseen m n v)))
 
 case_grows : (u : ℕ) (s t : Label) → Weaker s t → Weaker (case_at u s) (case_at u t)
 case_grows u s Dead w = tt
@@ -336,23 +357,23 @@ module _ (P : Program) (thread : Thread) (lines : List Line) (known more : List 
   -- a stronger labelling asks for less
   pub premises_grow : (s : Stmt) → Eases (premises P thread lines known s) (premises P thread lines more s)
   premises_grow (Do op) = both_grow (λ z b m. premises_of P thread.lists z b m (op_needs op)) (λ z. asks_less P thread.lists z op)
-  premises_grow (Put k) = both_grow (λ z b m. put_asks (items_at thread.lists k) b m) (λ z. put_less (items_at thread.lists k))
-  premises_grow (EndLock o) = both_grow (λ z b m. premises_of P thread.lists z b m (leave_needs true)) (λ z. leave_less P thread.lists z true)
+  premises_grow (Put pool k) = both_grow (λ z b m. premises_of P thread.lists z b m (stmt_needs (Put pool k))) (λ z. put_less P thread.lists z pool k)
+  premises_grow (EndLock o l) = both_grow (λ z b m. premises_of P thread.lists z b m (release_needs l.sq)) (λ z. release_less P thread.lists z l.sq)
   premises_grow (If test) = both_grow (λ z b m. premises_of P thread.lists z b m (test_needs test)) (λ z. test_less P thread.lists z test)
   premises_grow (EndIf o) = joins_less (λ z. here lines known z ∷ skipped thread lines known o z ∷ []) (λ z. here lines more z ∷ skipped thread lines more o z ∷ []) (ends_grow o)
   premises_grow (Peek x) = both_grow (λ z b m. with_lock 1 m.cq (λ p. [])) (λ z. peek_less)
   premises_grow (EndPeek o) = joins_less (λ z. arm_ends lines known o z) (λ z. arm_ends lines more o z) (λ z. arms_grow lines known more o z g)
   premises_grow (Loop k) = both_grow (λ z b m. loop_asks P 13 (items_at thread.lists k) z b m) (loop_less P 13 (items_at thread.lists k))
   premises_grow (EndLoop o k) = both_grow (λ z b m. loop_asks P 14 (items_at thread.lists k) z b m) (loop_less P 14 (items_at thread.lists k))
-  premises_grow (Break o r l) = both_grow (λ z b m. premises_of P thread.lists z b m (leave_needs r)) (λ z. leave_less P thread.lists z r)
+  premises_grow (Break o r l) = both_grow (λ z b m. premises_of P thread.lists z b m (leave_needs r.sq)) (λ z. leave_less P thread.lists z r.sq)
   premises_grow _ = no_premise
 
   -- and gives stronger states
   pub befores_grow : (s : Stmt) (z : Bool) → Meets (premises P thread lines known s) → EachWeaker (befores P thread lines known s z) (befores P thread lines more s z)
   befores_grow (Do op) z h = brings_grow (λ y. turns (write_of thread.flag op) y z) (λ s. goes s (λ b m. op_effect P b m op)) (λ y. goes_grow (λ b m. premises_of P thread.lists y b m (op_needs op)) (λ b m. op_effect P b m op) (grows P thread.lists y op) _ _ (here_grows y) (side_met (λ x b m. premises_of P thread.lists x b m (op_needs op)) y h))
-  befores_grow (Put k) z h = (goes_grow (λ b m. put_asks (items_at thread.lists k) b m) (λ b m. put_effect b m (items_at thread.lists k)) (put_grows (items_at thread.lists k)) _ _ (here_grows z) (side_met (λ x b m. put_asks (items_at thread.lists k) b m) z h), tt)
-  befores_grow Lock z h = (entered_grows P _ _ (here_grows z), tt)
-  befores_grow (EndLock o) z h = (released_grows _ _ (here_grows z), tt)
+  befores_grow (Put pool k) z h = (put_grows (items_at thread.lists k) _ _ (here_grows z), tt)
+  befores_grow (Lock l) z h = (entered_grows P l _ _ (here_grows z), tt)
+  befores_grow (EndLock o l) z h = (released_grows l _ _ (here_grows z), tt)
   befores_grow (If test) z h = (gate_grows (test_goes thread.flag test z true) _ _ (plain_grow (λ b m. test_effect P thread.lists b m test) (test_grows P thread.lists test) _ _ (here_grows z)), tt)
   befores_grow (Else o) z h = (skip_grows o z, tt)
   befores_grow (EndIf o) z h = ends_grow o z

@@ -2,6 +2,7 @@
 use Rattle.std.proofs.Common.{◌≡◌, ℕ, ◌⊎◌, inl, inr, Bool, true, false, cond, [], ◌∷◌, Option, Some, None, refl, sym, ap, subst, ◌∙◌, arith}
 use Rattle.std.specs.Prelude.{is_some, unwrap_or}
 use Rattle.std.proofs.lemmas.Bool.{eqb-true, eq-eqb}
+use Rattle.rc_lang.specs.declared.lines.Locks.{Locks}
 use Rattle.rc_lang.specs.Program.{Program}
 use Rattle.rc_split.specs.Bags.{Part, TokenOf, least}
 use Rattle.rc_split.specs.Holdings.{Holding, bag}
@@ -10,7 +11,7 @@ use Rattle.rc_rules.specs.declared.mode.Peeked.{Peeked}
 use Rattle.rc_rules.specs.declared.mode.Peeked.TheVariants.{Unseen, Sees, SeesOther}
 use Rattle.rc_rules.specs.declared.mode.Submitting.{Submitting}
 use Rattle.rc_rules.specs.Labels.{Label, Dead, Live, UnderLock, Weaker, WeakerMode, WeakerPeeked, WeakerSubmitting, IsStrongest}
-use Rattle.rc_rules.specs.Rules.{Locks, agree, agree_sq, same_slot}
+use Rattle.rc_rules.specs.Rules.{agree, agree_sq, same_slot}
 use Rattle.rc_rules.specs.States.{Side, side_of, side_label, label_in, live_of, same_peeked, of_both, both_submitting, both_peeked, both, IsFreeIn, IsFreeFor, AgreeOnLocks}
 use Rattle.rc_rules.proofs.Moves.{fewer_free}
 use Rattle.rc_rules.proofs.Weaker.{same_slot_is}

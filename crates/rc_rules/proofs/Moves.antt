@@ -71,7 +71,15 @@ test_free : (P : Program) (a : Part → ℕ) (test : Test) (m : Mode) → IsFree
 test_free P a (Compare x c n) m f = f
 test_free P a ReadyZero m f = f
 test_free P a (SpaceAtLeast n) m f = f
-test_free P a (tests.Take k) m f = f
+test_free P a (tests.Take pool k) m f = f
+
+locked_free : (P : Program) (a : Part → ℕ) (b : Bool) (o : Option Peeked) → IsFreeFor P a (unwrap_or o Unseen) → IsFreeFor P a (unwrap_or (cond b (Some Unseen) o) Unseen)
+locked_free P a true o f = tt
+locked_free P a false o f = f
+
+freed_free : (P : Program) (a : Part → ℕ) (b : Bool) (o : Option Peeked) → IsFreeFor P a (unwrap_or o Unseen) → IsFreeFor P a (unwrap_or (cond b None o) Unseen)
+freed_free P a true o f = tt
+freed_free P a false o f = f
 
 case_free : (P : Program) (a : Part → ℕ) (u : ℕ) (m : Mode) → DeclaresToken P u → IsFree P (case_at u (Live a m))
 case_free P a u m d = go (nat_lt 0 (a (TokenOf u))) refl
@@ -92,11 +100,11 @@ take_free P a m items f = go (can_take P a m items) refl
 
 rule_free : (P : Program) (a : Part → ℕ) (m : Mode) (rule : Rule) → IsFreeIn P a m → MayFollow P rule (Live a m) → IsFree P (rule_effect P rule a m)
 rule_free P a m (Do op) f h = effect_free P a m op f
-rule_free P a m (Put items) f h = put_free P a (bag_of (view_items items.now)) m f
-rule_free P a m Lock f h = tt
-rule_free P a m Release f h = tt
+rule_free P a m (Put pool items) f h = put_free P a (bag_of (view_items items.now)) m f
+rule_free P a m (Lock takes) f h = locked_free P a takes.cq m.cq f
+rule_free P a m (Release releases) f h = freed_free P a releases.cq m.cq f
 rule_free P a m (If test) f h = test_free P a test m f
-rule_free P a m (Take items) f h = take_free P a m (view_items items.now) f
+rule_free P a m (Take pool items) f h = take_free P a m (view_items items.now) f
 rule_free P a m (Case u) f h = case_free P a u m h
 rule_free P a m Other f h = with_free P a SeesOther m tt
 rule_free P a m Nothing f h = with_free P a Unseen m tt

@@ -1,5 +1,5 @@
 -- Needs in the order of the numbers of their causes: the first that isn't met is the least premise that fails.
-use Rattle.std.proofs.Common.{◌≡◌, ℕ, ◌+◌, ◌≤◌, Bool, true, false, List, [], ◌∷◌, Option, Some, None, Result, Ok, Err, length, get_or, refl, sym, subst, arith}
+use Rattle.std.proofs.Common.{◌≡◌, ℕ, ◌≤◌, Bool, true, false, List, [], ◌∷◌, Option, Some, None, Result, Ok, Err, length, get_or, refl, sym, subst, arith}
 use Rattle.std.specs.Prelude.{is_some}
 use Rattle.rc_lang.specs.Program.{Program, Items}
 use Rattle.rc_split.specs.Bags.{Part}

@@ -1,5 +1,6 @@
 -- The numbers of a line's needs never fall.
-use Rattle.std.proofs.Common.{◌≡◌, ℕ, ◌<◌, Bool, true, false, List, [], ◌∷◌, ◌++◌, refl, ap, ◌∙◌, arith}
+use Rattle.std.proofs.Common.{◌≡◌, ℕ, Bool, true, false, Option, Some, None, List, [], ◌∷◌, ◌++◌, refl, ap, ◌∙◌, arith}
+use Rattle.rc_lang.specs.declared.lines.Locks.{Locks}
 use Rattle.rc_lang.specs.declared.lines.Op.{Op}
 use Rattle.rc_lang.specs.declared.lines.Op.TheVariants as ops
 use Rattle.rc_lang.specs.declared.lines.Stmt.{Stmt}
@@ -7,13 +8,21 @@ use Rattle.rc_lang.specs.declared.lines.Stmt.TheVariants as stmts
 use Rattle.rc_lang.specs.declared.lines.Stmt.TheVariants.{Do, Put, EndLock, If, EndIf, Peek, EndPeek, EndLoop, Break}
 use Rattle.rc_lang.specs.declared.lines.Test.{Test}
 use Rattle.rc_lang.specs.declared.lines.Test.TheVariants.{Compare, Take}
-use Rattle.rc_lang.specs.Program.{Program, Items}
+use Rattle.rc_lang.specs.Program.{Program, Items, items_at}
 use Rattle.rc_split.specs.Bags.{Part}
 use Rattle.rc_rules.specs.declared.mode.Mode.{Mode}
 use Rattle.rc_rules.specs.Labels.{Label, Dead, Live}
 use Rattle.rc_rules.specs.Needs.{AreOrdered, line_premises}
 use Rattle.rc_rules.specs.Premises.{Premise}
-use Rattle.rc_rules.specs.Rules.{asked, asks, asks_both, premises_of, stmt_needs}
+use Rattle.rc_rules.specs.Rules.{asked, asks, asks_both, leave_needs, premises_of, release_needs, stmt_needs}
+
+leave_ordered : (releases : Bool) → AreOrdered 0 (leave_needs releases)
+leave_ordered true = (omega arith, (omega arith, tt))
+leave_ordered false = (omega arith, tt)
+
+release_ordered : (releases : Bool) → AreOrdered 0 (release_needs releases)
+release_ordered true = leave_ordered true
+release_ordered false = tt
 
 pub ordered : (s : Stmt) → AreOrdered 0 (stmt_needs s)
 ordered (Do (ops.Load x b i)) = (omega arith, (omega arith, tt))
@@ -29,18 +38,19 @@ ordered (Do (ops.Submit x)) = (omega arith, (omega arith, tt))
 ordered (Do (ops.SubmitAndWait x n)) = (omega arith, (omega arith, tt))
 ordered (Do ops.CqeSeen) = (omega arith, (omega arith, tt))
 ordered (Do _) = tt
-ordered (Put k) = (omega arith, (omega arith, (omega arith, tt)))
-ordered (EndLock o) = (omega arith, (omega arith, tt))
+ordered (Put None k) = (omega arith, (omega arith, (omega arith, tt)))
+ordered (Put (Some n) k) = (omega arith, tt)
+ordered (EndLock o l) = release_ordered l.sq
 ordered (If (Compare x c n)) = tt
-ordered (If (Take k)) = (omega arith, (omega arith, tt))
+ordered (If (Take None k)) = (omega arith, (omega arith, tt))
+ordered (If (Take (Some n) k)) = tt
 ordered (If _) = (omega arith, tt)
 ordered (EndIf o) = (omega arith, tt)
 ordered (Peek x) = (omega arith, tt)
 ordered (EndPeek o) = (omega arith, tt)
 ordered (stmts.Loop k) = (omega arith, tt)
 ordered (EndLoop o k) = (omega arith, tt)
-ordered (Break o true leaves) = (omega arith, (omega arith, tt))
-ordered (Break o false leaves) = (omega arith, tt)
+ordered (Break o releases leaves) = leave_ordered releases.sq
 ordered _ = tt
 
 -- ---- lines that name no list, and need the same on both sides
@@ -60,12 +70,25 @@ op_same P lists z bag m (ops.SubmitAndWait x n) = refl
 op_same P lists z bag m ops.CqeSeen = refl
 op_same P lists z bag m _ = refl
 
-pub leave_same : (P : Program) (lists : List Items) (z : Bool) (bag : Part → ℕ) (m : Mode) (o : ℕ) (releases leaves : Bool) → premises_of P lists z bag m (stmt_needs (Break o releases leaves)) ≡ line_premises P [] bag m (Break 0 releases false)
-leave_same P lists z bag m o true leaves = refl
-leave_same P lists z bag m o false leaves = refl
+left_same : (P : Program) (lists : List Items) (z : Bool) (bag : Part → ℕ) (m : Mode) (releases : Bool) → premises_of P lists z bag m (leave_needs releases) ≡ premises_of P [] true bag m (leave_needs releases)
+left_same P lists z bag m true = refl
+left_same P lists z bag m false = refl
+
+pub leave_same : (P : Program) (lists : List Items) (z : Bool) (bag : Part → ℕ) (m : Mode) (o : ℕ) (releases : Locks) (leaves : Bool) → premises_of P lists z bag m (stmt_needs (Break o releases leaves)) ≡ line_premises P [] bag m (Break 0 releases false)
+leave_same P lists z bag m o releases leaves = left_same P lists z bag m releases.sq
+
+release_same : (P : Program) (lists : List Items) (z : Bool) (bag : Part → ℕ) (m : Mode) (releases : Bool) → premises_of P lists z bag m (release_needs releases) ≡ premises_of P [] true bag m (release_needs releases)
+release_same P lists z bag m true = refl
+release_same P lists z bag m false = refl
+
+put_same : (P : Program) (lists : List Items) (z : Bool) (bag : Part → ℕ) (m : Mode) (pool : Option ℕ) (k : ℕ) → premises_of P lists z bag m (stmt_needs (Put pool k)) ≡ line_premises P (items_at lists k ∷ []) bag m (Put pool 0)
+put_same P lists z bag m None k = refl
+put_same P lists z bag m (Some n) k = refl
 
 pub test_same : (P : Program) (lists : List Items) (z : Bool) (bag : Part → ℕ) (m : Mode) (test : Test) → premises_of P lists z bag m (stmt_needs (If test)) ≡ line_premises P [] bag m (If test)
 test_same P lists z bag m (Compare x c n) = refl
+test_same P lists z bag m (Take None k) = refl
+test_same P lists z bag m (Take (Some n) k) = refl
 test_same P lists z bag m _ = refl
 
 side_same : (s : Label) (F G : (Part → ℕ) → Mode → List (ℕ × Premise)) → ((bag : Part → ℕ) (m : Mode) → F bag m ≡ G bag m) → asks s F ≡ asks s G
@@ -78,8 +101,14 @@ asks_same labels F G h = ap (λ ps. ps ++ asks (labels false) (F false)) (side_s
 pub op_asked : (P : Program) (lists : List Items) (labels : Bool → Label) (op : Op) → asked P lists labels (Do op) ≡ asks_both labels (λ z bag m. line_premises P [] bag m (Do op))
 op_asked P lists labels op = asks_same labels _ _ (λ z bag m. op_same P lists z bag m op)
 
-pub leave_asked : (P : Program) (lists : List Items) (labels : Bool → Label) (o : ℕ) (releases leaves : Bool) → asked P lists labels (Break o releases leaves) ≡ asks_both labels (λ z bag m. line_premises P [] bag m (Break 0 releases false))
+pub leave_asked : (P : Program) (lists : List Items) (labels : Bool → Label) (o : ℕ) (releases : Locks) (leaves : Bool) → asked P lists labels (Break o releases leaves) ≡ asks_both labels (λ z bag m. line_premises P [] bag m (Break 0 releases false))
 leave_asked P lists labels o releases leaves = asks_same labels _ _ (λ z bag m. leave_same P lists z bag m o releases leaves)
+
+pub release_asked : (P : Program) (lists : List Items) (labels : Bool → Label) (o : ℕ) (l : Locks) → asked P lists labels (EndLock o l) ≡ asks_both labels (λ z bag m. line_premises P [] bag m (EndLock 0 l))
+release_asked P lists labels o l = asks_same labels _ _ (λ z bag m. release_same P lists z bag m l.sq)
+
+pub put_asked : (P : Program) (lists : List Items) (labels : Bool → Label) (pool : Option ℕ) (k : ℕ) → asked P lists labels (Put pool k) ≡ asks_both labels (λ z bag m. line_premises P (items_at lists k ∷ []) bag m (Put pool 0))
+put_asked P lists labels pool k = asks_same labels _ _ (λ z bag m. put_same P lists z bag m pool k)
 
 pub test_asked : (P : Program) (lists : List Items) (labels : Bool → Label) (test : Test) → asked P lists labels (If test) ≡ asks_both labels (λ z bag m. line_premises P [] bag m (If test))
 test_asked P lists labels test = asks_same labels _ _ (λ z bag m. test_same P lists z bag m test)

@@ -1,7 +1,9 @@
 -- Labels that say less than others or the same, and what tests of slots tell.
-use Rattle.std.proofs.Common.{◌≡◌, ℕ, ◌+◌, ◌⊎◌, inl, inr, Bool, true, ◌≤◌, Option, Some, None, Result, Ok, Err, List, [], ◌∷◌, ◌++◌, drop, nat_eq, suc, refl, sym, ap, subst, ◌∙◌, arith}
+use Rattle.std.proofs.Common.{◌≡◌, ℕ, ◌+◌, inl, inr, Bool, true, false, cond, not, ◌&&◌, ◌||◌, ◌≤◌, Option, Some, None, Result, Ok, Err, List, [], ◌∷◌, ◌++◌, drop, nat_eq, suc, refl, sym, ap, subst, ◌∙◌, arith}
 use Rattle.std.specs.Prelude.{is_some, option_map, unwrap_or}
 use Rattle.std.proofs.lemmas.Bool.{and_parts, eqb-true}
+use Rattle.rc_lang.specs.declared.lines.Locks.{Locks}
+use Rattle.rc_lang.specs.Locks.{with_locks, without_locks}
 use Rattle.rc_lang.specs.declared.lines.Test.{Test}
 use Rattle.rc_lang.specs.declared.lines.Test.TheVariants.{Compare, ReadyZero, SpaceAtLeast, Take}
 use Rattle.rc_lang.specs.declared.program.TokenKind.{TokenKind}
@@ -19,7 +21,7 @@ use Rattle.rc_rules.specs.Sides.{Sides}
 use Rattle.rc_rules.specs.declared.cause.Cause.{Cause}
 use Rattle.rc_rules.specs.Causes.{premise_number}
 use Rattle.rc_rules.specs.Premises.{Premise, Meets, MeetsBelow, FailsFirst, Tests}
-use Rattle.rc_rules.specs.Rules.{Locks, locks_of, peeked_of, same_kind, same_slot, sq_of, at_most, test_mode, top_mode, with_peeked}
+use Rattle.rc_rules.specs.Rules.{locks_of, peeked_of, same_kind, same_slot, sq_of, at_most, freed, locked, test_mode, top_mode, with_peeked}
 
 -- ---- under a lock
 
@@ -66,6 +68,15 @@ module _ {A : Type 0} (F : A → A → Type 0) where
   lock_maps G f h (Some s) None v = v
   lock_maps G f h (Some s) (Some t) v = h s t v
 
+  -- where it is taken, or released, where that is said
+  pub lock_taken : (b : Bool) (s : A) (o p : Option A) → F s s → UnderLock F o p → UnderLock F (cond b (Some s) o) (cond b (Some s) p)
+  lock_taken true s o p h v = h
+  lock_taken false s o p h v = v
+
+  pub lock_freed : (b : Bool) (o p : Option A) → UnderLock F o p → UnderLock F (cond b None o) (cond b None p)
+  lock_freed true o p v = tt
+  lock_freed false o p v = v
+
 -- ---- modes
 
 submitting_refl : (s : Submitting) → WeakerSubmitting s s
@@ -106,6 +117,24 @@ sq_given m s e = ap (λ a. these a (is_some m.cq)) (sym (ap is_some e))
 pub cq_given : (m : Mode) (p : Peeked) → m.cq ≡ Some p → these (is_some m.sq) true ≡ locks_of m
 cq_given m p e = ap (these (is_some m.sq)) (sym (ap is_some e))
 
+pub taken_held : {A : Type 0} (b : Bool) (s : A) (o : Option A) → is_some (cond b (Some s) o) ≡ (is_some o || b)
+taken_held true s None = refl
+taken_held true s (Some t) = refl
+taken_held false s None = refl
+taken_held false s (Some t) = refl
+
+pub freed_held : {A : Type 0} (b : Bool) (o : Option A) → is_some (cond b None o) ≡ (is_some o && not b)
+freed_held true None = refl
+freed_held true (Some s) = refl
+freed_held false None = refl
+freed_held false (Some s) = refl
+
+pub locked_locks : (P : Program) (l : Locks) (m : Mode) → locks_of (locked P l m) ≡ with_locks (locks_of m) l
+locked_locks P l m = ap (λ x. these x (is_some (cond l.cq (Some Unseen) m.cq))) (taken_held l.sq _ m.sq) ∙ ap (these (is_some m.sq || l.sq)) (taken_held l.cq _ m.cq)
+
+pub freed_locks : (l : Locks) (m : Mode) → locks_of (freed l m) ≡ without_locks (locks_of m) l
+freed_locks l m = ap (λ x. these x (is_some (cond l.cq None m.cq))) (freed_held l.sq m.sq) ∙ ap (these (is_some m.sq && not l.sq)) (freed_held l.cq m.cq)
+
 pub locks_same : (m n : Mode) → WeakerMode m n → locks_of m ≡ locks_of n
 locks_same m n w = locks_equal m n (lock_held WeakerSubmitting m.sq n.sq w.0) (lock_held WeakerPeeked m.cq n.cq w.1)
 
@@ -123,7 +152,7 @@ pub test_locks : (P : Program) (test : Test) (m : Mode) → locks_of (test_mode 
 test_locks P (Compare x c n) m = refl
 test_locks P ReadyZero m = most_locks _ m
 test_locks P (SpaceAtLeast n) m = most_locks _ m
-test_locks P (Take k) m = refl
+test_locks P (Take pool k) m = refl
 
 pub top_locks : (P : Program) (items : Items) (m : Mode) → locks_of (top_mode P items m) ≡ locks_of m
 top_locks P items m = locks_equal (top_mode P items m) m (map_held _ m.sq) (map_held _ m.cq)

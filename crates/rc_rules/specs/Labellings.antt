@@ -52,9 +52,9 @@ break_ends (l ∷ lines) labels o z = break_end l.stmt o (label_at labels 0 z) +
 -- an arm, and after a break, nothing comes from above.
 abbrev pub befores : Program → Thread → List Line → List Sides → Stmt → Bool → List Label
 befores P thread lines known (Do op) z = brings (λ y. turns (write_of thread.flag op) y z) (λ s. goes s (λ bag m. op_effect P bag m op)) (here lines known)
-befores P thread lines known (Put k) z = goes (here lines known z) (λ bag m. put_effect bag m (items_at thread.lists k)) ∷ []
-befores P thread lines known Lock z = entered P (here lines known z) ∷ []
-befores P thread lines known (EndLock o) z = released (here lines known z) ∷ []
+befores P thread lines known (Put pool k) z = goes (here lines known z) (λ bag m. put_effect bag m (items_at thread.lists k)) ∷ []
+befores P thread lines known (Lock l) z = entered P l (here lines known z) ∷ []
+befores P thread lines known (EndLock o l) z = released l (here lines known z) ∷ []
 befores P thread lines known (If test) z = gate (test_goes thread.flag test z true) (goes (here lines known z) (λ bag m. test_effect P thread.lists bag m test)) ∷ []
 befores P thread lines known (Else o) z = skipped thread lines known o z ∷ []
 befores P thread lines known (EndIf o) z = here lines known z ∷ skipped thread lines known o z ∷ []
@@ -71,7 +71,7 @@ befores P thread lines known (Break o releases leaves) z = []
 -- The premises are those of what the line needs, on each side of the point before it; where ends join, they are of all
 -- of those.
 abbrev pub premises : Program → Thread → List Line → List Sides → Stmt → List (ℕ × Premise)
-premises P thread lines known Lock = []
+premises P thread lines known (Lock l) = []
 premises P thread lines known (Else o) = []
 premises P thread lines known (EndIf o) = joins_both (befores P thread lines known (EndIf o))
 premises P thread lines known (Case o u) = []

@@ -23,15 +23,15 @@ use Rattle.rc_rules.specs.States.{State, Side, Follows, Gives, GivesSide, IsSmal
 -- the line, where a list of items has the number 0, and the lists; an arm asks what its peek does
 abbrev pub line_of : Rule → Stmt
 line_of (Do op) = stmts.Do op
-line_of (Put items) = stmts.Put 0
-line_of Lock = stmts.Lock
-line_of Release = stmts.EndLock 0
+line_of (Put pool items) = stmts.Put pool 0
+line_of (Lock l) = stmts.Lock l
+line_of (Release l) = stmts.EndLock 0 l
 line_of (If test) = stmts.If test
-line_of (Take items) = stmts.If (Taken 0)
+line_of (Take pool items) = stmts.If (Taken pool 0)
 line_of _ = stmts.Peek 0
 
 abbrev pub lists_of : Rule → List Items
-lists_of (Put items) = view_items items.now ∷ []
+lists_of (Put pool items) = view_items items.now ∷ []
 lists_of _ = []
 
 abbrev pub rule_premises : Program → Rule → (Part → ℕ) → Mode → List (ℕ × Premise)
@@ -40,11 +40,11 @@ rule_premises P rule bag m = line_premises P (lists_of rule) bag m (line_of rule
 -- Of a test it is what is known of the ring; what a take brings is told by its own rule.
 abbrev pub rule_effect : Program → Rule → (Part → ℕ) → Mode → Label
 rule_effect P (Do op) bag m = op_effect P bag m op
-rule_effect P (Put items) bag m = put_effect bag m (view_items items.now)
-rule_effect P Lock bag m = entered P (Live bag m)
-rule_effect P Release bag m = released (Live bag m)
+rule_effect P (Put pool items) bag m = put_effect bag m (view_items items.now)
+rule_effect P (Lock l) bag m = entered P l (Live bag m)
+rule_effect P (Release l) bag m = released l (Live bag m)
 rule_effect P (If test) bag m = Live bag (test_mode P test m)
-rule_effect P (Take items) bag m = take_effect P bag m (view_items items.now)
+rule_effect P (Take pool items) bag m = take_effect P bag m (view_items items.now)
 rule_effect P (Case u) bag m = case_at u (Live bag m)
 rule_effect P Other bag m = peek_at SeesOther (Live bag m)
 rule_effect P Nothing bag m = peek_at Unseen (Live bag m)
@@ -75,6 +75,6 @@ only_computes _ = false
 -- declared token
 abbrev pub MayFollow : Program → Rule → Label → Type 0
 MayFollow P (Do op) s = IsSmall s
-MayFollow P (Take items) s = IsItems P (view_items items.now) × IsSmall s
+MayFollow P (Take pool items) s = IsItems P (view_items items.now) × IsSmall s
 MayFollow P (Case u) s = DeclaresToken P u
 MayFollow P _ s = Unit {0}

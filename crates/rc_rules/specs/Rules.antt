@@ -1,6 +1,7 @@
 -- The rule of each line: what it asks of the state before it, and the state after it.
-use Rattle.std.specs.Prelude.{ℕ, ◌+◌, ◌-◌, Bool, true, false, cond, min, List, [], ◌∷◌, ◌++◌, Option, Some, None, is_some, option_map, unwrap_or, nat_eq, nat_lt, nat_le, not, ◌&&◌, slice_get}
+use Rattle.std.specs.Prelude.{ℕ, ◌+◌, ◌-◌, Bool, true, false, cond, min, List, [], ◌∷◌, ◌++◌, Option, Some, None, is_some, option_map, unwrap_or, nat_eq, nat_lt, nat_le, not, ◌&&◌, ◌||◌, slice_get}
 use Rattle.std.specs.List.{list_all, list_any}
+use Rattle.rc_lang.specs.declared.lines.Locks.{Locks}
 use Rattle.rc_lang.specs.declared.lines.Op.{Op}
 use Rattle.rc_lang.specs.declared.lines.Op.TheVariants as ops
 use Rattle.rc_lang.specs.declared.lines.Stmt.{Stmt}
@@ -22,7 +23,7 @@ use Rattle.rc_rules.specs.declared.mode.Peeked.TheVariants.{Unseen, Sees, SeesOt
 use Rattle.rc_rules.specs.declared.mode.Slot.{Slot}
 use Rattle.rc_rules.specs.declared.mode.Slot.TheVariants.{Closed, Vacant, Prepared}
 use Rattle.rc_rules.specs.declared.mode.Submitting.{Submitting}
-use Rattle.rc_split.specs.Bags.{Part, ShareOf, TokenOf, Credit, shares_bag, token_bag, credits_bag, bag_of, bag_on, nothing, plus, minus}
+use Rattle.rc_split.specs.Bags.{Part, ShareOf, TokenOf, Credit, shares_bag, token_bag, credits_bag, bag_of, bag_on, lacking, nothing, plus, minus}
 use Rattle.rc_split.specs.declared.part.Part.TheVariants as parts
 use Rattle.rc_split.specs.Holdings.{covers_part}
 use Rattle.rc_rules.specs.Causes.{premise_number}
@@ -113,6 +114,11 @@ sq_of m = unwrap_or m.sq (record { queued = 0; slot = Closed })
 abbrev pub peeked_of : Mode → Peeked
 peeked_of m = unwrap_or m.cq Unseen
 
+-- Behind so many queued entries there is room for one more. From version 4 on there is room too where the tokens that
+-- aren't held are fewer than the ring's entries: each queued entry owns one of them.
+abbrev pub can_queue : Program → (Part → ℕ) → ℕ → Bool
+can_queue P bag queued = nat_lt queued P.entries || (nat_le 4 P.version && nat_lt (lacking P.tokens bag) P.entries)
+
 -- no slot is open, and no more entries are queued than this
 abbrev pub keeps_queue : ℕ → Mode → Bool
 keeps_queue n m = same_slot (sq_of m).slot Closed && nat_le (sq_of m).queued n
@@ -133,7 +139,7 @@ meant P lists z bag m (needs.Part part) = Is (covers_part bag part)
 meant P lists z bag m (needs.Whole b) = Is (is_whole P bag b)
 meant P lists z bag m (needs.Items k) = Covers bag (bag_of (items_at lists k))
 meant P lists z bag m (needs.Loop k) = Covers bag (bag_on z (items_at lists k))
-meant P lists z bag m needs.Room = Is (nat_lt (sq_of m).queued P.entries)
+meant P lists z bag m needs.Room = Is (can_queue P bag (sq_of m).queued)
 meant P lists z bag m needs.Closed = Is (same_slot (sq_of m).slot Closed)
 meant P lists z bag m needs.Vacant = Is (same_slot (sq_of m).slot Vacant)
 meant P lists z bag m needs.Prepared = Is (has_kind (sq_of m).slot)
@@ -162,12 +168,17 @@ premises_of P lists z bag m (need ∷ rest) = then_asked P lists z bag m (premis
 
 -- ---- what each line needs, in the order of the numbers of the causes
 
--- Calls on the submission side need its lock, those on the completion side its, and those on the pool both.
+-- Calls on the submission side need its lock, those on the completion side its.
 abbrev pub sq_lock : Cause × Asks
 sq_lock = (causes.Unlocked, needs.SqLock)
 
 abbrev pub cq_lock : Cause × Asks
 cq_lock = (causes.Unlocked, needs.CqLock)
+
+-- The pool without a name is reached under both, one with a name under any or none.
+abbrev pub pool_needs : Option ℕ → List (Cause × Asks)
+pool_needs None = sq_lock ∷ cq_lock ∷ []
+pool_needs (Some n) = []
 
 -- statements without a block; the others need nothing
 abbrev pub op_needs : Op → List (Cause × Asks)
@@ -189,24 +200,29 @@ abbrev pub test_needs : Test → List (Cause × Asks)
 test_needs (Compare x c n) = []
 test_needs ReadyZero = sq_lock ∷ []
 test_needs (SpaceAtLeast n) = sq_lock ∷ []
-test_needs (Take k) = sq_lock ∷ cq_lock ∷ []
+test_needs (Take pool k) = pool_needs pool
 
--- where the locks are released (true), and where a loop is left with them or without
+-- where a loop is left, by whether the lock of the submission side is released there
 abbrev pub leave_needs : Bool → List (Cause × Asks)
 leave_needs true = (causes.SlotOpen, needs.Closed) ∷ (causes.QueueLeft, needs.Left) ∷ []
 leave_needs false = (causes.SlotOpen, needs.Closed) ∷ []
 
+-- at the closing brace of a lock, by the same
+abbrev pub release_needs : Bool → List (Cause × Asks)
+release_needs true = leave_needs true
+release_needs false = []
+
 abbrev pub stmt_needs : Stmt → List (Cause × Asks)
 stmt_needs (stmts.Do op) = op_needs op
-stmt_needs (stmts.Put k) = sq_lock ∷ cq_lock ∷ (causes.NotHeld, needs.Items k) ∷ []
-stmt_needs (stmts.EndLock o) = leave_needs true
+stmt_needs (stmts.Put pool k) = pool_needs pool ++ (causes.NotHeld, needs.Items k) ∷ []
+stmt_needs (stmts.EndLock o l) = release_needs l.sq
 stmt_needs (stmts.If test) = test_needs test
 stmt_needs (stmts.EndIf o) = (causes.JoinMismatch, needs.Agreeing) ∷ []
 stmt_needs (stmts.Peek x) = cq_lock ∷ []
 stmt_needs (stmts.EndPeek o) = (causes.JoinMismatch, needs.Agreeing) ∷ []
 stmt_needs (stmts.Loop k) = (causes.LoopEntry, needs.Loop k) ∷ []
 stmt_needs (stmts.EndLoop o k) = (causes.LoopBody, needs.Loop k) ∷ []
-stmt_needs (stmts.Break o releases leaves) = leave_needs releases
+stmt_needs (stmts.Break o releases leaves) = leave_needs releases.sq
 stmt_needs _ = []
 
 -- ---- the state after a statement without a block; most leave it
@@ -215,6 +231,10 @@ stmt_needs _ = []
 abbrev pub if_locked : {A : Type 0} → Option A → (A → Label) → Label
 if_locked None F = Dead
 if_locked (Some s) F = F s
+
+-- an open entry more counts as queued, and no more are ever queued than the ring has entries
+abbrev pub opened : Program → Submitting → Mode → Mode
+opened P s m = record m { sq = Some (record { queued = min (s.queued + 1) P.entries; slot = Vacant }) }
 
 abbrev pub with_slot : Slot → Submitting → Mode → Mode
 with_slot slot s m = record m { sq = Some (record s { slot = slot }) }
@@ -226,7 +246,7 @@ reaped P (Sees u) p = owned P u p
 reaped P SeesOther p = credits_bag 1 p
 
 abbrev pub op_effect : Program → (Part → ℕ) → Mode → Op → Label
-op_effect P bag m ops.GetSqe = if_locked m.sq (λ s. Live (minus bag (credits_bag 1)) (record m { sq = Some (record { queued = s.queued + 1; slot = Vacant }) }))
+op_effect P bag m ops.GetSqe = if_locked m.sq (λ s. Live (minus bag (credits_bag 1)) (opened P s m))
 op_effect P bag m (ops.PrepRead fd b len off) = if_locked m.sq (λ s. Live (minus bag (kind_bag P (Read b))) (with_slot (Prepared (Read b)) s m))
 op_effect P bag m (ops.PrepWrite fd b len off k) = if_locked m.sq (λ s. Live (minus bag (kind_bag P (Write b k))) (with_slot (Prepared (Write b k)) s m))
 op_effect P bag m (ops.PrepFsync fd datasync) = if_locked m.sq (λ s. Live bag (with_slot (Prepared Fsync) s m))
@@ -257,30 +277,27 @@ goes (Live bag m) F = F bag m
 -- ---- locks
 
 -- which of the two are held
-pub record Locks : Type 0 where
-  pub sq : Bool
-  pub cq : Bool
-
 abbrev pub locks_of : Mode → Locks
 locks_of m = record { sq = is_some m.sq; cq = is_some m.cq }
-
--- both, or neither
-abbrev pub both_locks : Bool → Locks
-both_locks b = record { sq = b; cq = b }
 
 abbrev pub unlocked : Mode
 unlocked = record { sq = None; cq = None }
 
-abbrev pub locked : Program → Mode
-locked P = record { sq = Some (record { queued = P.left; slot = Closed }); cq = Some Unseen }
+-- what is known where some are taken: as many entries may be queued as may be left, and nothing is peeked
+abbrev pub locked : Program → Locks → Mode → Mode
+locked P l m = record { sq = cond l.sq (Some (record { queued = P.left; slot = Closed })) m.sq; cq = cond l.cq (Some Unseen) m.cq }
 
-abbrev pub entered : Program → Label → Label
-entered P s = goes s (λ bag m. Live bag (locked P))
+-- and where some are released
+abbrev pub freed : Locks → Mode → Mode
+freed l m = record { sq = cond l.sq None m.sq; cq = cond l.cq None m.cq }
 
-abbrev pub released : Label → Label
-released s = goes s (λ bag m. Live bag unlocked)
+abbrev pub entered : Program → Locks → Label → Label
+entered P l s = goes s (λ bag m. Live bag (locked P l m))
 
--- ---- the pool
+abbrev pub released : Locks → Label → Label
+released l s = goes s (λ bag m. Live bag (freed l m))
+
+-- ---- pools
 
 -- What is put isn't held any more.
 abbrev pub put_effect : (Part → ℕ) → Mode → Items → Label
@@ -301,11 +318,11 @@ names_peeked tokens Unseen = false
 names_peeked tokens (Sees u) = list_any (λ v. nat_eq v u) tokens
 names_peeked tokens SeesOther = false
 
--- The pool may have the items: neither the thread nor the request that is peeked has them, as far as they are known to.
+-- A pool may have the items: neither the thread nor the request that is peeked has them, as far as they are known to.
 abbrev pub can_take : Program → (Part → ℕ) → Mode → Items → Bool
 can_take P bag m items = has_room P bag items && not (names_peeked items.tokens (peeked_of m))
 
--- Where the pool can't have them, nothing reaches the branch that takes them.
+-- Where no pool can have them, nothing reaches the branch that takes them.
 abbrev pub take_effect : Program → (Part → ℕ) → Mode → Items → Label
 take_effect P bag m items = cond (can_take P bag m items) (Live (plus bag (bag_of items)) m) Dead
 
@@ -320,11 +337,11 @@ abbrev pub test_mode : Program → Test → Mode → Mode
 test_mode P (Compare x c n) m = m
 test_mode P ReadyZero m = at_most 0 m
 test_mode P (SpaceAtLeast n) m = at_most (P.entries - n) m
-test_mode P (Take k) m = m
+test_mode P (Take pool k) m = m
 
 -- the first branch, in a thread with these lists of items
 abbrev pub test_effect : Program → List Items → (Part → ℕ) → Mode → Test → Label
-test_effect P lists bag m (Take k) = take_effect P bag m (items_at lists k)
+test_effect P lists bag m (Take pool k) = take_effect P bag m (items_at lists k)
 test_effect P lists bag m test = Live bag (test_mode P test m)
 
 -- ---- peeks
@@ -373,6 +390,5 @@ abbrev pub top : Program → Items → Bool → Label → Label
 top P items z s = goes s (λ bag m. Live (bag_on z items) (top_mode P items m))
 
 -- what a break takes to the end of its loop
-abbrev pub broken : Bool → Label → Label
-broken true s = released s
-broken false s = peek_at Unseen s
+abbrev pub broken : Locks → Label → Label
+broken l s = goes s (λ bag m. Live bag (freed l (with_peeked Unseen m)))

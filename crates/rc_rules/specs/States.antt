@@ -1,25 +1,27 @@
 -- What the calls of `State` do.
 use Rattle.std.specs.Prelude.{ℕ, ◌≡◌, ◌≤◌, ◌+◌, ◌-◌, ◌^◌, Bool, true, false, List, [], ◌∷◌, Option, Some, None, Result, Ok, Err, cond, max, nat_eq, nat_le, slice_get, ◌||◌}
+use Rattle.rc_lang.specs.declared.lines.Locks.{Locks}
 use Rattle.rc_lang.specs.declared.lines.Op.{Op}
 use Rattle.rc_lang.specs.declared.lines.Stmt.{Stmt}
 use Rattle.rc_lang.specs.declared.lines.Stmt.TheVariants.{Do, If, Loop, Put}
 use Rattle.rc_lang.specs.declared.lines.Test.{Test}
 use Rattle.rc_lang.specs.declared.program.TokenKind.{TokenKind}
 use Rattle.rc_lang.specs.declared.program.Share.{Share}
+use Rattle.rc_lang.specs.Locks.{no_lock, without_locks}
 use Rattle.rc_lang.specs.Program.{Program, Thread, Items, DeclaresToken, IsTokenKind, shares_at}
 use Rattle.rc_rules.specs.declared.cause.Cause.{Cause}
 use Rattle.rc_rules.specs.declared.mode.Mode.{Mode}
 use Rattle.rc_rules.specs.declared.mode.Peeked.{Peeked}
 use Rattle.rc_rules.specs.declared.mode.Peeked.TheVariants.{Unseen, Sees, SeesOther}
 use Rattle.rc_rules.specs.declared.mode.Submitting.{Submitting}
-use Rattle.rc_split.specs.Bags.{Part, ShareOf, TokenOf}
+use Rattle.rc_split.specs.Bags.{Part, ShareOf, TokenOf, lacking}
 use Rattle.rc_split.specs.Holdings.{Holding, bag}
 use Rattle.rc_rules.specs.declared.needs.Asks.{Asks}
 use Rattle.rc_rules.specs.Causes.{premise_number}
 use Rattle.rc_rules.specs.Labellings.{start_of}
 use Rattle.rc_rules.specs.Labels.{Label, Dead, Live, IsStrongest, IsSame}
 use Rattle.rc_rules.specs.Needs.{IsMetOn, line_premises}
-use Rattle.rc_rules.specs.Rules.{Locks, agree, asked, asks, asks_both, both_locks, goes, locks_of, op_effect, peeked_of, premises_of, put_effect, stmt_needs, test_effect, top}
+use Rattle.rc_rules.specs.Rules.{agree, asked, asks, asks_both, entered, goes, locks_of, op_effect, peeked_of, premises_of, put_effect, stmt_needs, test_effect, top}
 use Rattle.rc_rules.specs.declared.flag.Write.{Write}
 use Rattle.rc_rules.specs.Sides.{Sides, brings, forgets, gate, on, turns, write_of}
 use Rattle.rc_rules.specs.Premises.{Premise, Meets, FailsFirst}
@@ -44,6 +46,11 @@ MeetsNeed s lists z asks = IsMetOn s.program lists z (side_label s) asks
 abbrev pub held_at : Label → Part → ℕ
 held_at Dead p = 0
 held_at (Live bag m) p = bag p
+
+-- how many declared tokens aren't held, none where nothing reaches
+abbrev pub lacked_at : Program → Label → ℕ
+lacked_at P Dead = 0
+lacked_at P (Live bag m) = lacking P.tokens bag
 
 -- a side that holds this, where something reaches its point
 abbrev pub live_of : Holding → Option Mode → Option (Holding × Mode)
@@ -108,12 +115,14 @@ abbrev pub HasLocks : Locks → Label → Type 0
 HasLocks locks Dead = Unit {0}
 HasLocks locks (Live bag m) = locks_of m ≡ locks
 
--- so both, and neither
-abbrev pub IsLocked : Label → Type 0
-IsLocked s = HasLocks (both_locks true) s
+-- Unless it is dead, none of these is held; or each of them is.
+abbrev pub AreFree : Locks → Label → Type 0
+AreFree locks Dead = Unit {0}
+AreFree locks (Live bag m) = without_locks locks (locks_of m) ≡ locks
 
-abbrev pub IsUnlocked : Label → Type 0
-IsUnlocked s = HasLocks (both_locks false) s
+abbrev pub AreHeld : Locks → Label → Type 0
+AreHeld locks Dead = Unit {0}
+AreHeld locks (Live bag m) = without_locks locks (locks_of m) ≡ no_lock
 
 -- whether something reaches one of the sides
 abbrev pub is_reached : State → Bool
@@ -183,9 +192,13 @@ done s op l = goes l (λ bag m. op_effect (program_of s) bag m op)
 abbrev pub Does : State → State → Result (Unit {0}) Cause → Op → Type 0
 Does old new result op = Gives old new result (asked_alike old [] (Do op)) (λ z. brings (λ y. turns (write_of old.flag op) y z) (done old op) (label_of old))
 
+-- so of a lock, which asks for nothing
+abbrev pub EntersLock : State → State → Result (Unit {0}) Cause → Locks → Type 0
+EntersLock old new result takes = Gives old new result [] (λ z. entered (program_of old) takes (label_of old z) ∷ [])
+
 -- so of a put, of the first branch of a test, and of a loop's top
-abbrev pub Puts : State → State → Result (Unit {0}) Cause → Items → Type 0
-Puts old new result items = GoesOver old new result (items ∷ []) (Put 0) (λ l. goes l (λ bag m. put_effect bag m items))
+abbrev pub Puts : State → State → Result (Unit {0}) Cause → Option ℕ → Items → Type 0
+Puts old new result pool items = GoesOver old new result (items ∷ []) (Put pool 0) (λ l. goes l (λ bag m. put_effect bag m items))
 
 abbrev pub GoesInto : State → State → Result (Unit {0}) Cause → List Items → Test → Type 0
 GoesInto old new result lists test = GoesOver old new result lists (If test) (λ l. goes l (λ bag m. test_effect (program_of old) lists bag m test))

@@ -8,7 +8,7 @@ ghost use Rattle.rc_rules.specs.States as states;
 
 use crate::cause::Cause;
 use crate::mode::{Mode, Peeked, Slot, Submitting, same_slot, sq_of};
-use rc_lang::lines::Test;
+use rc_lang::lines::{Locks, Test};
 use rc_lang::program::{Items, Program};
 
 /// What is known of the ring in the first branch of a test; what a take brings is told by its own rule.
@@ -54,6 +54,37 @@ fn seen_as(peeked: Peeked, cq: Option<Peeked>) -> Option<Peeked>
     match cq {
         Some(_) => Some(peeked),
         None => None,
+    }
+}
+
+/// What is known where some locks are taken: as many entries may be queued as may be left, and nothing is peeked.
+pub fn locked(program: &Program, takes: Locks, mode: Mode) -> Mode
+    ensures { result ≡ rules.locked program.now takes mode }
+{
+    Mode {
+        sq: if takes.sq {
+            Some(Submitting {
+                queued: program.left(),
+                slot: Slot::Closed,
+            })
+        } else {
+            mode.sq
+        },
+        cq: if takes.cq {
+            Some(Peeked::Unseen)
+        } else {
+            mode.cq
+        },
+    }
+}
+
+/// What is known where some locks are released.
+pub fn freed(releases: Locks, mode: Mode) -> Mode
+    ensures { result ≡ rules.freed releases mode }
+{
+    Mode {
+        sq: if releases.sq { None } else { mode.sq },
+        cq: if releases.cq { None } else { mode.cq },
     }
 }
 

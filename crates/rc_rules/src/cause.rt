@@ -6,7 +6,7 @@ ghost use Rattle.rc_rules.specs.Causes as spec;
 /// The premise of a rule that a line doesn't meet.
 #[derive(Clone, Copy)]
 pub enum Cause {
-    /// A call on the ring outside of the lock.
+    /// A call on one side of the ring without its lock, or on the pool without a name without both.
     Unlocked,
     /// No credit is held.
     NoCredit,
@@ -42,7 +42,7 @@ pub enum Cause {
     TokenTwice,
     /// The threads hold more credits than the completion ring has entries.
     OverCredits,
-    /// An item that is put into the pool isn't held.
+    /// An item that is put into a pool isn't held.
     NotHeld,
 }
 

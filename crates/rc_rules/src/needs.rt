@@ -2,6 +2,7 @@
 
 ghost use Rattle.std.specs.Prelude.{ℕ, ◌≡◌, ◌∷◌, ◌↔◌, [], map, IsTrue};
 ghost use Rattle.rc_lang.specs.Parts.{view_items};
+ghost use Rattle.rc_lang.specs.declared.lines.Stmt.TheVariants as stmts;
 ghost use Rattle.rc_rules.specs.Needs as spec;
 ghost use Rattle.rc_rules.specs.Needs.{listed};
 ghost use Rattle.rc_rules.specs.Rules as rules;
@@ -32,7 +33,8 @@ pub enum Asks {
     /// At a loop's top or its end: that no entry is open, that no more are queued than the loop's items say, and that
     /// these are held; the number of their list.
     Loop(usize),
-    /// Room for one more entry in the queue.
+    /// Room for one more entry in the queue: fewer are queued than the ring has entries, or from version 4 on fewer
+    /// tokens aren't held.
     Room,
     /// That no entry is open.
     Closed,
@@ -141,7 +143,7 @@ fn op_needs(op: Op) -> Needs
     }
 }
 
-/// What is needed where the locks are released, or where a loop is left with them or without.
+/// What is needed where a loop is left, by whether the lock of the submission side is released there.
 fn leave_needs(releases: bool) -> Needs
     ensures { listed result ≡ rules.leave_needs releases }
 {
@@ -152,6 +154,37 @@ fn leave_needs(releases: bool) -> Needs
     }
 }
 
+/// What is needed at the closing brace of a lock, by the same.
+fn release_needs(releases: bool) -> Needs
+    ensures { listed result ≡ rules.release_needs releases }
+{
+    if releases {
+        leave_needs(true)
+    } else {
+        [None; 4]
+    }
+}
+
+/// What a pool needs. Only the one without a name needs the locks.
+fn pool_needs(pool: Option<usize>) -> Needs
+    ensures { listed result ≡ rules.pool_needs pool }
+{
+    match pool {
+        Some(_) => [None; 4],
+        None => two(SQ_LOCK, CQ_LOCK),
+    }
+}
+
+fn put_needs(pool: Option<usize>, list: usize) -> Needs
+    ensures { listed result ≡ stmt_needs (stmts.Put pool list) }
+{
+    let held = (Cause::NotHeld, Asks::Items(list));
+    match pool {
+        Some(_) => one(held),
+        None => three(SQ_LOCK, CQ_LOCK, held),
+    }
+}
+
 fn test_needs(test: Test) -> Needs
     ensures { listed result ≡ rules.test_needs test }
 {
@@ -159,7 +192,7 @@ fn test_needs(test: Test) -> Needs
         Test::Compare(_, _, _) => [None; 4],
         Test::ReadyZero => one(SQ_LOCK),
         Test::SpaceAtLeast(_) => one(SQ_LOCK),
-        Test::Take(_) => two(SQ_LOCK, CQ_LOCK),
+        Test::Take(pool, _) => pool_needs(pool),
     }
 }
 
@@ -169,15 +202,15 @@ pub fn needs_of(stmt: Stmt) -> Needs
 {
     match stmt {
         Stmt::Do(op) => op_needs(op),
-        Stmt::Put(k) => three(SQ_LOCK, CQ_LOCK, (Cause::NotHeld, Asks::Items(k))),
-        Stmt::EndLock(_) => leave_needs(true),
+        Stmt::Put(pool, k) => put_needs(pool, k),
+        Stmt::EndLock(_, releases) => release_needs(releases.sq),
         Stmt::If(test) => test_needs(test),
         Stmt::EndIf(_) => one((Cause::JoinMismatch, Asks::Agreeing)),
         Stmt::Peek(_) => one(CQ_LOCK),
         Stmt::EndPeek(_) => one((Cause::JoinMismatch, Asks::Agreeing)),
         Stmt::Loop(k) => one((Cause::LoopEntry, Asks::Loop(k))),
         Stmt::EndLoop(_, k) => one((Cause::LoopBody, Asks::Loop(k))),
-        Stmt::Break(_, releases, _) => leave_needs(releases),
+        Stmt::Break(_, releases, _) => leave_needs(releases.sq),
         _ => [None; 4],
     }
 }
@@ -240,7 +273,7 @@ pub fn is_met(holding: &Holding, lists: &[Items], zero: bool, mode: Mode, asks: 
             }
             None => keeps_queue(program.entries(), mode),
         },
-        Asks::Room => sq.queued < program.entries(),
+        Asks::Room => can_queue(holding, sq.queued),
         Asks::Closed => same_slot(sq.slot, Slot::Closed),
         Asks::Vacant => same_slot(sq.slot, Slot::Vacant),
         Asks::Prepared => has_kind(sq.slot),
@@ -251,6 +284,16 @@ pub fn is_met(holding: &Holding, lists: &[Items], zero: bool, mode: Mode, asks: 
         Asks::Left => sq.queued <= program.left(),
         Asks::Agreeing => true,
     }
+}
+
+/// Whether behind so many queued entries there is room for one more. From version 4 on the tokens that aren't held say it
+/// too: each queued entry owns one of them.
+fn can_queue(holding: &Holding, queued: u32) -> bool
+    ensures { result ≡ rules.can_queue holding.now.program (bag holding.now) queued }
+{
+    let program = holding.program();
+    let entries = program.entries();
+    queued < entries || program.version() >= 4 && holding.lacking() < entries
 }
 
 /// Whether all shares of the buffer are held.

@@ -1,6 +1,6 @@
 //! The rules of statements without a block, on a holding and a mode.
 
-ghost use Rattle.std.specs.Prelude.{◌≡◌, ◌≤◌, ◌<◌, ◌+◌, ◌^◌, Some, true};
+ghost use Rattle.std.specs.Prelude.{◌≡◌, ◌≤◌, ◌^◌, Some, true};
 ghost use Rattle.rc_lang.specs.Program.{IsProgram, IsTokenKind};
 ghost use Rattle.rc_rules.specs.OneRule.{only_computes};
 ghost use Rattle.rc_rules.specs.Rules as rules;
@@ -52,19 +52,18 @@ pub fn after(holding: &mut Holding, mode: Mode, op: &Op) -> Mode
     }
 }
 
-/// `io_uring_get_sqe(3)`: a credit goes to the open slot, which counts as a queued entry.
+/// `io_uring_get_sqe(3)`: a credit goes to the open slot, which counts as a queued entry. No more are ever queued than the
+/// ring has entries.
 fn opened(holding: &mut Holding, mode: Mode) -> Mode
-    requires held { 1 ≤ bag holding.old bags.Credit }
-    requires room { (rules.sq_of mode).queued < holding.old.program.entries }
-    ensures ring { result ≡ record mode { sq = Some (record { queued = (rules.sq_of mode).queued + 1; slot = slots.Vacant }) } }
+    requires { 1 ≤ bag holding.old bags.Credit }
+    ensures ring { result ≡ rules.opened holding.old.program (rules.sq_of mode) mode }
     ensures lost { Loses holding.old holding.new (bags.credits_bag 1) }
 {
-    // The queue has room below this number, so that the sum fits.
-    let _ = holding.program().entries();
+    let entries = holding.program().entries();
     let _ = holding.take(Part::Credits(1));
     Mode {
         sq: Some(Submitting {
-            queued: sq_of(mode).queued + 1,
+            queued: sq_of(mode).queued.saturating_add(1).min(entries),
             slot: Slot::Vacant,
         }),
         ..mode

@@ -1,4 +1,4 @@
-//! The rules of the pool, on a holding and what is known of the ring.
+//! The rules of pools, on a holding and what is known of the ring.
 
 ghost use Rattle.std.specs.Prelude.{◌≡◌, ◌+◌, ◌≤◌, ◌^◌, nat_eq, nat_le};
 ghost use Rattle.std.specs.List.{list_all, list_any};
@@ -14,8 +14,7 @@ use rc_lang::program::{Items, Share};
 use rc_split::holding::Holding;
 use rc_split::part::Part;
 
-/// The first branch of `if take ITEMS`: what the pool had is held. None: the pool can't have it, so nothing comes
-/// there.
+/// The first branch of `if take ITEMS`: what the pool had is held. None: no pool can have it, so nothing comes there.
 pub fn take(holding: &mut Holding, mode: Mode, items: &Items) -> Option<Mode>
     requires made { IsItems holding.old.program (view_items items.now) }
     requires small { (p : bags.Part) → bag holding.old p ≤ 2 ^ 19 }
@@ -28,7 +27,7 @@ pub fn take(holding: &mut Holding, mode: Mode, items: &Items) -> Option<Mode>
     Some(mode)
 }
 
-/// Whether the pool may have the items: neither the thread nor the request that is peeked has them.
+/// Whether a pool may have the items: neither the thread nor the request that is peeked has them.
 fn can_take(holding: &Holding, mode: Mode, items: &Items) -> bool
     requires { IsItems holding.now.program (view_items items.now) }
     ensures answer { result ≡ rules.can_take holding.now.program (bag holding.now) mode (view_items items.now) }

@@ -5,17 +5,17 @@ ghost use Rattle.rc_lang.specs.Parts.{view_items};
 ghost use Rattle.rc_rules.specs.Labels.{Live};
 ghost use Rattle.rc_rules.specs.OneRule as rules;
 ghost use Rattle.rc_rules.specs.Premises.{Meets};
-ghost use Rattle.rc_rules.specs.Rules.{case_at, locked};
+ghost use Rattle.rc_rules.specs.Rules.{case_at};
 ghost use Rattle.rc_rules.specs.States as states;
 ghost use Rattle.rc_split.specs.Holdings.{bag};
 
-use crate::blocks::{behind_test, in_arm};
+use crate::blocks::{behind_test, freed, in_arm, locked};
 use crate::cause::Cause;
-use crate::mode::{Mode, Peeked, Slot, Submitting, unlocked};
+use crate::mode::{Mode, Peeked};
 use crate::needs::checked;
 use crate::{ops, pool};
-use rc_lang::lines::{Op, Stmt, Test};
-use rc_lang::program::{Items, Program};
+use rc_lang::lines::{Locks, Op, Stmt, Test};
+use rc_lang::program::Items;
 use rc_split::holding::Holding;
 use rc_split::part::Part;
 use std::slice;
@@ -25,16 +25,16 @@ use std::slice;
 pub enum Rule<'a> {
     /// A statement without a block.
     Do(Op),
-    /// `put ITEMS`.
-    Put(&'a Items),
-    /// `lock {`.
-    Lock,
-    /// The closing brace of a lock.
-    Release,
+    /// `put ITEMS` or `put NAME ITEMS`: the number of the pool with the name, and the items.
+    Put(Option<usize>, &'a Items),
+    /// `lock {`, `lock sq {` or `lock cq {`: the locks that it takes.
+    Lock(Locks),
+    /// The closing brace of a lock, which releases these.
+    Release(Locks),
     /// The first branch of a test of a variable or of the rings.
     If(Test),
-    /// The first branch of `if take ITEMS`.
-    Take(&'a Items),
+    /// The first branch of `if take ITEMS` or `if take NAME ITEMS`, as of a put.
+    Take(Option<usize>, &'a Items),
     /// `case U {`.
     Case(u64),
     /// `other {`.
@@ -49,11 +49,11 @@ fn line_of(rule: Rule) -> Stmt
 {
     match rule {
         Rule::Do(op) => Stmt::Do(op),
-        Rule::Put(_) => Stmt::Put(0),
-        Rule::Lock => Stmt::Lock,
-        Rule::Release => Stmt::EndLock(0),
+        Rule::Put(pool, _) => Stmt::Put(pool, 0),
+        Rule::Lock(takes) => Stmt::Lock(takes),
+        Rule::Release(releases) => Stmt::EndLock(0, releases),
         Rule::If(test) => Stmt::If(test),
-        Rule::Take(_) => Stmt::If(Test::Take(0)),
+        Rule::Take(pool, _) => Stmt::If(Test::Take(pool, 0)),
         _ => Stmt::Peek(0),
     }
 }
@@ -63,7 +63,7 @@ fn lists_of<'a>(rule: Rule<'a>) -> &'a [Items]
     ensures { map view_items result.now ≡ rules.lists_of rule.entry }
 {
     match rule {
-        Rule::Put(items) => slice::from_ref(items),
+        Rule::Put(_, items) => slice::from_ref(items),
         _ => &[],
     }
 }
@@ -87,30 +87,17 @@ fn after(holding: &mut Holding, mode: Mode, rule: Rule) -> Option<Mode>
 {
     match rule {
         Rule::Do(op) => Some(ops::after(holding, mode, &op)),
-        Rule::Put(items) => {
+        Rule::Put(_, items) => {
             holding.lose(items);
             Some(mode)
         }
-        Rule::Lock => Some(locked(holding.program())),
-        Rule::Release => Some(unlocked()),
+        Rule::Lock(takes) => Some(locked(holding.program(), takes, mode)),
+        Rule::Release(releases) => Some(freed(releases, mode)),
         Rule::If(test) => Some(behind_test(holding.program(), test, mode)),
-        Rule::Take(items) => pool::take(holding, mode, items),
+        Rule::Take(_, items) => pool::take(holding, mode, items),
         Rule::Case(user_data) => in_case(holding, mode, user_data),
         Rule::Other => Some(in_arm(Peeked::SeesOther, mode)),
         Rule::Nothing => Some(in_arm(Peeked::Unseen, mode)),
-    }
-}
-
-/// Behind `lock {` both locks are held, and as many entries may be queued as may be left.
-fn locked(program: &Program) -> Mode
-    ensures { result ≡ locked program.now }
-{
-    Mode {
-        sq: Some(Submitting {
-            queued: program.left(),
-            slot: Slot::Closed,
-        }),
-        cq: Some(Peeked::Unseen),
     }
 }
 

@@ -12,12 +12,12 @@ ghost use Rattle.rc_rules.specs.States as spec;
 ghost use Rattle.rc_rules.specs.declared.mode.Peeked.TheVariants as peeks;
 ghost use Rattle.rc_split.specs.Bags.{Credit, ShareOf, TokenOf, bag_on, bag_of};
 
-use crate::blocks::{self, in_arm};
+use crate::blocks::{self, freed, in_arm};
 use crate::cause::Cause;
 use crate::mode::{Mode, Peeked, unlocked};
 use crate::needs::{Asks, checked, is_met};
 use crate::rule::{Rule, follow};
-use rc_lang::lines::Stmt;
+use rc_lang::lines::{Locks, Stmt};
 use rc_lang::program::{Items, Program};
 use rc_split::holding::Holding;
 use rc_split::part::Part;
@@ -146,6 +146,16 @@ impl<'a> Side<'a> {
         }
     }
 
+    /// How many declared tokens aren't held: none where nothing reaches the side.
+    pub fn lacking(&self) -> u32
+        ensures { result ≡ spec.lacked_at self.now.program (spec.side_label self.now) }
+    {
+        match self.mode {
+            Some(_) => self.holding.lacking(),
+            None => 0,
+        }
+    }
+
     /// Whether a token is held. Where nothing reaches the side it isn't.
     pub fn has_token(&self, user_data: u64) -> bool
         ensures { result ≡ nat_le 1 (spec.held_at (spec.side_label self.now) (TokenOf user_data)) }
@@ -206,6 +216,16 @@ impl<'a> Side<'a> {
     {
         if let Some(mode) = self.mode {
             self.mode = Some(in_arm(Peeked::Unseen, mode));
+        }
+    }
+
+    /// What a break that releases these locks takes to the end of its loop.
+    pub fn carry_out(&mut self, releases: Locks)
+        ensures label { IsSame (spec.side_label self.new) (rules.broken releases (spec.side_label self.old)) }
+        ensures of { self.new.program ≡ self.old.program }
+    {
+        if let Some(mode) = self.mode {
+            self.mode = Some(freed(releases, in_arm(Peeked::Unseen, mode)));
         }
     }
 

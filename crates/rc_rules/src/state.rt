@@ -23,7 +23,7 @@ use crate::premises::lesser;
 use crate::rule::Rule;
 use crate::side::Side;
 use crate::{blocks, ops};
-use rc_lang::lines::{Comparison, Op, Stmt, Test};
+use rc_lang::lines::{Comparison, Locks, Op, Stmt, Test};
 use rc_lang::program::{Items, Program};
 use std::alloc::{AllocError, Global};
 use std::marker::Model;
@@ -277,20 +277,21 @@ impl<'a> State<'a> {
         }
     }
 
-    /// `lock {`: both locks are held, and as many entries may be queued as may be left. The state is dead, or has none.
-    pub fn enter_lock(&mut self) -> Result<(), Cause>
-        requires { spec.OnBoth spec.IsUnlocked self.old }
-        ensures { spec.Gives self.old self.new result [] (λ z. rules.entered (spec.program_of self.old) (spec.label_of self.old z) ∷ []) }
+    /// `lock {`, `lock sq {` or `lock cq {`: these locks are held. As many entries may be queued as may be left, and
+    /// nothing is peeked. The state is dead, or has none of them.
+    pub fn enter_lock(&mut self, takes: Locks) -> Result<(), Cause>
+        requires { spec.OnBoth (spec.AreFree takes) self.old }
+        ensures { spec.EntersLock self.old self.new result takes }
     {
-        self.follow(Rule::Lock)
+        self.follow(Rule::Lock(takes))
     }
 
-    /// The closing brace of a lock. The state is dead, or has both locks.
-    pub fn release(&mut self) -> Result<(), Cause>
-        requires { spec.OnBoth spec.IsLocked self.old }
-        ensures { spec.GoesOver self.old self.new result [] (stmts.EndLock 0) rules.released }
+    /// The closing brace of a lock, which releases these. The state is dead, or has them.
+    pub fn release(&mut self, releases: Locks) -> Result<(), Cause>
+        requires { spec.OnBoth (spec.AreHeld releases) self.old }
+        ensures { spec.GoesOver self.old self.new result [] (stmts.EndLock 0 releases) (rules.released releases) }
     {
-        self.follow(Rule::Release)
+        self.follow(Rule::Release(releases))
     }
 
     /// Whether the arms of a peek may be entered here.
@@ -318,7 +319,7 @@ impl<'a> State<'a> {
         self.follow(Rule::Other)
     }
 
-    /// After an arm, and after a break that keeps the locks, nothing is peeked.
+    /// After an arm nothing is peeked.
     pub fn forget_peeked(&mut self)
         ensures { spec.BecomesEach self.old self.new (rules.peek_at peeks.Unseen) }
     {

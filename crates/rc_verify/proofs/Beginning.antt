@@ -1,10 +1,11 @@
 -- Where a walk begins, and what it answers.
-use Rattle.std.proofs.Common.{◌≡◌, ℕ, zero, suc, Bool, false, ◌<◌, ◌≤◌, List, [], ◌∷◌, length, map, take_all, Option, Some, None, get_or, refl, sym, ap, subst, ◌∙◌, arith, slice_get}
+use Rattle.std.proofs.Common.{◌≡◌, ℕ, zero, suc, Bool, ◌<◌, ◌≤◌, List, [], ◌∷◌, length, map, take_all, Option, Some, None, get_or, refl, sym, ap, subst, ◌∙◌, arith, slice_get}
 use Rattle.std.proofs.lemmas.Option.{slice_get-get_or}
 use Rattle.rc_lang.specs.declared.lines.Line.{Line}
 use Rattle.rc_lang.specs.declared.program.Thread.{Thread as ThreadPart}
 use Rattle.rc_lang.specs.Parts.{view_thread}
-use Rattle.rc_lang.specs.Nesting.{blocks_at, in_lock}
+use Rattle.rc_lang.specs.Locks.{no_lock}
+use Rattle.rc_lang.specs.Nesting.{blocks_at, locks_in}
 use Rattle.rc_lang.specs.Program.{IsProgram, Program, Thread}
 use Rattle.rc_rules.specs.Labellings.{HasLabels, IsGood, IsRefusedAt}
 use Rattle.rc_rules.specs.Sides.{Sides, on}
@@ -45,8 +46,8 @@ starts P i t s branches loops peek made is h e f g = record {
     first : BeginsAs s t
     first = h.1 t is
 
-    fits : (k : ℕ) (x : Sides) → slice_get (sides_of s ∷ []) k ≡ Some x → (z : Bool) → Fits (in_lock (blocks_at t.lines k)) (most_at 0) (on z x)
-    fits zero x q z = let g : sides_of s ≡ x = cc in subst (λ y. Fits false 4096 (on z y)) g (start_fits P t z (label_of s z) (made.each i t is).items (first.each z))
+    fits : (k : ℕ) (x : Sides) → slice_get (sides_of s ∷ []) k ≡ Some x → (z : Bool) → Fits (locks_in (blocks_at t.lines k)) (most_at 0) (on z x)
+    fits zero x q z = let g : sides_of s ≡ x = cc in subst (λ y. Fits no_lock 4096 (on z y)) g (start_fits P t z (label_of s z) (made.each i t is).items (first.each z))
     fits (suc k) x q z = absurd (cc)
 
 -- ---- the answers

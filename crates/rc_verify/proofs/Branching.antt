@@ -1,5 +1,5 @@
 -- Ifs, and the ends of their branches.
-use Rattle.std.proofs.Common.{◌≡◌, ℕ, zero, suc, ◌+◌, ◌<◌, ◌≤◌, ◌⊎◌, Bool, true, false, List, [], ◌∷◌, ◌++◌, length, length-append, take, Option, Some, None, Result, Ok, Err, refl, sym, ap, subst, ◌∙◌, inl, inr, arith, slice_index_or}
+use Rattle.std.proofs.Common.{◌≡◌, ℕ, zero, suc, ◌+◌, ◌<◌, ◌≤◌, Bool, true, false, List, [], ◌∷◌, ◌++◌, length, length-append, take, Option, Some, None, Result, Ok, Err, refl, sym, ap, subst, ◌∙◌, inl, inr, arith, slice_index_or}
 use Rattle.std.specs.Prelude.{IsSome, OnErr, OnOk, ℤ}
 use Rattle.std.proofs.lemmas.Option.{get_or_from_slice_get, slice_get-get_or}
 use Rattle.std.proofs.Math.ListN.{get_or-append}
@@ -11,16 +11,15 @@ use Rattle.rc_lang.specs.declared.lines.Line.{Line}
 use Rattle.rc_lang.specs.declared.lines.Stmt.TheVariants.{If, Else, EndIf}
 use Rattle.rc_lang.specs.declared.lines.Test.{Test}
 use Rattle.rc_lang.specs.declared.lines.Test.TheVariants.{Compare, ReadyZero, SpaceAtLeast, Take}
-use Rattle.rc_lang.specs.Nesting.{blocks_at, in_lock}
+use Rattle.rc_lang.specs.Nesting.{blocks_at, locks_in}
 use Rattle.rc_lang.specs.Program.{Items, Program, Thread, items_at, no_items, stmt_at}
-use Rattle.rc_lang.proofs.Along.{same_lock}
+use Rattle.rc_lang.proofs.Along.{same_locks}
 use Rattle.rc_lang.proofs.Closing.{closes_if, turns as turns_at}
 use Rattle.rc_lang.proofs.Lookups.{blocks_next}
 use Rattle.rc_rules.specs.declared.cause.Cause.{Cause}
 use Rattle.rc_rules.specs.declared.mode.Mode.{Mode}
 use Rattle.rc_rules.specs.declared.mode.Peeked.{Peeked}
 use Rattle.rc_rules.specs.declared.mode.Submitting.{Submitting}
-use Rattle.rc_rules.specs.declared.mode.Peeked.TheVariants.{Unseen}
 use Rattle.rc_rules.specs.Labels.{Label, Dead, Live, UnderLock, Weaker, WeakerMode, WeakerPeeked, WeakerSubmitting, IsStrongest}
 use Rattle.rc_rules.specs.Labellings.{here, label_at, skipped}
 use Rattle.rc_rules.specs.Premises.{Meets, Premise}
@@ -35,7 +34,7 @@ use Rattle.rc_verify.specs.Stack.{last_of, rest_of}
 use Rattle.rc_verify.specs.Walk.{AreKept, Fits, IsBranch, OnKept, PassesLine, Reaches, branch_place, loop_place, most_at, peek_place, places}
 use Rattle.rc_verify.proofs.Fit.{fits_alike, fits_more, gate_fits, strongest_fits, test_fits}
 use Rattle.rc_verify.proofs.Joining.{above, below}
-use Rattle.rc_rules.proofs.Rising.{test_asked}
+use Rattle.rc_rules.proofs.Rising.{asks_same, test_asked, test_same}
 use Rattle.rc_rules.proofs.Weaker.{meets_append, only_itself}
 use Rattle.rc_verify.proofs.Keeping.{KeepsLast, few_branches, few_places, keep_more, kept_length, last_kept, places_pushed, pushed_none, same_last, some_last}
 use Rattle.rc_verify.proofs.Plainly.{fits_behind, fits_known, loops_same, opens_none, peek_same}
@@ -96,11 +95,13 @@ compared lists s new test x c n e h = subst (Tested lists s new) (sym e) (meets_
     each : (z : Bool) → IsStrongest (label_of new z) (gate (test_goes s.flag (Compare x c n) z true) (goes (label_of s z) Live) ∷ [])
     each z = subst (λ l. IsStrongest (label_of new z) (gate (test_goes s.flag (Compare x c n) z true) l ∷ [])) (sym (same_too (label_of s z))) (subst (λ k. IsStrongest (label_of new z) (gate (test_goes s.flag k z true) (label_of s z) ∷ [])) e (h.each z))
 
--- A take asks and gives what the items do that it names.
-pub taken_from : {X : Type 0} (lists : List Items) (s new : State) (x : Result X Cause) (test : Test) (k : ℕ) (items : Items) → test ≡ Take k → items ≡ items_at lists k → Gives s new x (asked_alike s [] (If (Take 0))) (λ z. goes (label_of s z) (λ bag m. take_effect (program_of s) bag m items) ∷ []) → Gives s new x (asked_alike s [] (If test)) (λ z. gate (test_goes s.flag test z true) (goes (label_of s z) (λ bag m. test_effect (program_of s) lists bag m test)) ∷ [])
-taken_from lists s new x test k items e q g =
+-- A take gives what the items do that it names, and asks no list.
+pub taken_from : {X : Type 0} (lists : List Items) (s new : State) (x : Result X Cause) (test : Test) (pool : Option ℕ) (k : ℕ) (items : Items) → test ≡ Take pool k → items ≡ items_at lists k → Gives s new x (asked_alike s (items ∷ []) (If (Take pool 0))) (λ z. goes (label_of s z) (λ bag m. take_effect (program_of s) bag m items) ∷ []) → Gives s new x (asked_alike s [] (If test)) (λ z. gate (test_goes s.flag test z true) (goes (label_of s z) (λ bag m. test_effect (program_of s) lists bag m test)) ∷ [])
+taken_from lists s new x test pool k items e q g =
+    let same : asked_alike s (items ∷ []) (If (Take pool 0)) ≡ asked_alike s [] (If (Take pool 0)) = asks_same (label_of s) _ _ (λ z bag m. test_same (program_of s) (items ∷ []) true bag m (Take pool 0)) in
+    let h : Gives s new x (asked_alike s [] (If (Take pool 0))) (λ z. goes (label_of s z) (λ bag m. take_effect (program_of s) bag m items) ∷ []) = subst (λ ps. Gives s new x ps (λ z. goes (label_of s z) (λ bag m. take_effect (program_of s) bag m items) ∷ [])) same g in
     subst (λ t. Gives s new x (asked_alike s [] (If t)) (λ z. gate (test_goes s.flag t z true) (goes (label_of s z) (λ bag m. test_effect (program_of s) lists bag m t)) ∷ [])) (sym e)
-    (subst (λ is. Gives s new x (asked_alike s [] (If (Take 0))) (λ z. goes (label_of s z) (λ bag m. take_effect (program_of s) bag m is) ∷ [])) q g)
+    (subst (λ is. Gives s new x (asked_alike s [] (If (Take pool 0))) (λ z. goes (label_of s z) (λ bag m. take_effect (program_of s) bag m is) ∷ [])) q h)
 
 -- ---- what a branch leaves after it
 
@@ -144,7 +145,7 @@ module _ (P : Program) (t : Thread) (j : ℕ) (w : Walk) (r : Reaches P t j w) w
   tests_here (Compare x c n) e = tt
   tests_here ReadyZero e = tt
   tests_here (SpaceAtLeast n) e = tt
-  tests_here (Take k) e = let lt : k < length t.lists = r.thread.resolved j (If (Take k)) e in (lt, (r.thread.lists k no_items lt).first)
+  tests_here (Take pool k) e = let lt : k < length t.lists = (r.thread.resolved j (If (Take pool k)) e).1 in (lt, (r.thread.lists k no_items lt).first)
 
   pub may_test : (test : Test) (lists : List Items) → stmt_at t.lines j ≡ Some (If test) → lists ≡ t.lists → MayTest (program_of w.state) lists test
   may_test test lists e q = subst (λ (p : Program). MayTest p lists test) (sym r.at.here.of.program) (subst (λ (is : List Items). MayTest P is test) (sym q) (tests_here test e))
@@ -159,9 +160,9 @@ module _ (P : Program) (t : Thread) (j : ℕ) (w : Walk) (r : Reaches P t j w) w
       let bs = blocks_at t.lines j in
       let n : blocks_at t.lines (j + 1) ≡ bs ++ InIf j ∷ [] = blocks_next t.lines j (If test) e in
       let same = opens_none t j bs (InIf j) refl n in
-      let f : (z : Bool) → Fits (in_lock bs) (most_at j + 18) (goes (here (take j t.lines) r.labels z) (λ bag m. test_effect P t.lists bag m test)) = λ z. fits_more (in_lock bs) (most_at j) (most_at j + 18) _ (omega arith) (test_fits P t.lists test (in_lock bs) (most_at j) _ r.made (tests_here test e) (omega arith) (fits_known P t j w r (If test) e z)) in
+      let f : (z : Bool) → Fits (locks_in bs) (most_at j + 18) (goes (here (take j t.lines) r.labels z) (λ bag m. test_effect P t.lists bag m test)) = λ z. fits_more (locks_in bs) (most_at j) (most_at j + 18) _ (omega arith) (test_fits P t.lists test (locks_in bs) (most_at j) _ r.made (tests_here test e) (omega arith) (fits_known P t j w r (If test) e z)) in
       passes P t j w r (If test) e w' x gave
-      (λ b z. fits_behind P t j w r (If test) e (label_of new z) (strongest_fits (in_lock bs) (most_at j + 18) (label_of new z) _ (gate_fits (test_goes t.flag test z true) (in_lock bs) (most_at j + 18) _ (f z), tt) (b z)))
+      (λ b z. fits_behind P t j w r (If test) e (label_of new z) (strongest_fits (locks_in bs) (most_at j + 18) (label_of new z) _ (gate_fits (test_goes t.flag test z true) (locks_in bs) (most_at j + 18) _ (f z), tt) (b z)))
       (λ y q. record {
         branches = grown new kept n (on_ok (KeepsOther test w.state w.branches kept) x y k q);
         peek = peek_same P t j w r (If test) e (sides_of new) (λ o z. refl) (same peek_place refl);
@@ -187,12 +188,12 @@ module _ (P : Program) (t : Thread) (j : ℕ) (w : Walk) (r : Reaches P t j w) w
   else_some o e = some_last (IsBranch P t j r.labels) _ o w.branches (else_kept o e)
 
   -- What comes from a branch fits as the label that it is read at does.
-  branch_fits : (o : ℕ) (s : State) (z : Bool) → in_lock (blocks_at t.lines o) ≡ in_lock (blocks_at t.lines j) → IsBranch P t j r.labels o s → Fits (in_lock (blocks_at t.lines j)) (most_at j) (label_of s z)
+  branch_fits : (o : ℕ) (s : State) (z : Bool) → locks_in (blocks_at t.lines o) ≡ locks_in (blocks_at t.lines j) → IsBranch P t j r.labels o s → Fits (locks_in (blocks_at t.lines j)) (most_at j) (label_of s z)
   branch_fits o s z l h =
       let lt : o < length r.labels = omega (arith, h.before, r.at.size) in
       let is = slice_get-get_or r.labels o unreached lt in
-      let f : Fits (in_lock (blocks_at t.lines j)) (most_at j) (label_at r.labels o z) = subst (λ b. Fits b (most_at j) (label_at r.labels o z)) l (r.at.fits o (slice_index_or r.labels o unreached) is z) in
-      subst (λ x. Fits (in_lock (blocks_at t.lines j)) (most_at j) x) (sym (h.at z)) (gate_fits (may_skip t.flag z (stmt_at t.lines o)) (in_lock (blocks_at t.lines j)) (most_at j) (label_at r.labels o z) f)
+      let f : Fits (locks_in (blocks_at t.lines j)) (most_at j) (label_at r.labels o z) = subst (λ b. Fits b (most_at j) (label_at r.labels o z)) l (r.at.fits o (slice_index_or r.labels o unreached) is z) in
+      subst (λ x. Fits (locks_in (blocks_at t.lines j)) (most_at j) x) (sym (h.at z)) (gate_fits (may_skip t.flag z (stmt_at t.lines o)) (locks_in (blocks_at t.lines j)) (most_at j) (label_at r.labels o z) f)
 
   pub else_passes : (o : ℕ) (new : State) (kept : List (Option State)) → stmt_at t.lines j ≡ Some (Else o) → last_of w.branches ≡ Some new → kept ≡ rest_of w.branches ++ Some w.state ∷ [] → Reaches P t (j + 1) (record { state = new; branches = kept; peek = w.peek; loops = w.loops })
   else_passes o new kept e q k =
@@ -200,10 +201,10 @@ module _ (P : Program) (t : Thread) (j : ℕ) (w : Walk) (r : Reaches P t j w) w
       let c = turns_at t.lines r.thread.nested.each j o e in
       let last = else_kept o e in
       let b = same_last (IsBranch P t j r.labels) (places branch_place (blocks_at t.lines o)) o w.branches new last q in
-      let l : in_lock (blocks_at t.lines o) ≡ in_lock (blocks_at t.lines j) = sym (ap in_lock c.within ∙ same_lock (blocks_at t.lines o) (InIf o) refl) in
+      let l : locks_in (blocks_at t.lines o) ≡ locks_in (blocks_at t.lines j) = sym (ap locks_in c.within ∙ same_locks (blocks_at t.lines o) (InIf o) refl) in
       let best : AreStrongestOf new (lead_at P t j r.labels (Else o)) = λ z. subst (λ x. IsStrongest (label_of new z) (x ∷ [])) (b.at z ∙ skipped_front t j r.labels o z b.before) (only_itself (label_of new z)) in
       onward P t j w r (Else o) e w' tt best b.of
-      (λ z. fits_behind P t j w r (Else o) e (label_of new z) (fits_more (in_lock (blocks_at t.lines j)) (most_at j) (most_at j + 18) (label_of new z) (omega arith) (branch_fits o new z l b)))
+      (λ z. fits_behind P t j w r (Else o) e (label_of new z) (fits_more (locks_in (blocks_at t.lines j)) (most_at j) (most_at j + 18) (label_of new z) (omega arith) (branch_fits o new z l b)))
       (record {
         branches = grown new kept c.behind k last.rest;
         peek = peek_same P t j w r (Else o) e (sides_of new) (λ o z. refl) (same peek_place c.within c.behind refl refl);
@@ -238,7 +239,7 @@ module _ (P : Program) (t : Thread) (j : ℕ) (w : Walk) (r : Reaches P t j w) w
     pub loop : loop_place block ≡ []
     pub within : blocks_at t.lines j ≡ outer ++ block ∷ []
     pub behind : blocks_at t.lines (j + 1) ≡ outer
-    pub lock : in_lock (blocks_at t.lines o) ≡ in_lock (blocks_at t.lines j)
+    pub locks : locks_in (blocks_at t.lines o) ≡ locks_in (blocks_at t.lines j)
 
   ends_branch : (o : ℕ) → stmt_at t.lines j ≡ Some (EndIf o) → EndsBranch o
   ends_branch o e = elim (closes_if t.lines r.thread.nested.each j o e) [
@@ -250,7 +251,7 @@ module _ (P : Program) (t : Thread) (j : ℕ) (w : Walk) (r : Reaches P t j w) w
       loop = refl;
       within = c.1.within;
       behind = c.1.behind;
-      lock = sym (ap in_lock c.1.within ∙ same_lock (blocks_at t.lines o) (InIf o) refl);
+      locks = sym (ap locks_in c.1.within ∙ same_locks (blocks_at t.lines o) (InIf o) refl);
     }
     | inr c ↦ record {
       outer = blocks_at t.lines c.opener;
@@ -260,7 +261,7 @@ module _ (P : Program) (t : Thread) (j : ℕ) (w : Walk) (r : Reaches P t j w) w
       loop = refl;
       within = c.within;
       behind = c.behind;
-      lock = ap in_lock c.turned ∙ same_lock (blocks_at t.lines c.opener) (InIf c.opener) refl ∙ sym (ap in_lock c.within ∙ same_lock (blocks_at t.lines c.opener) (InElse o) refl);
+      locks = ap locks_in c.turned ∙ same_locks (blocks_at t.lines c.opener) (InIf c.opener) refl ∙ sym (ap locks_in c.within ∙ same_locks (blocks_at t.lines c.opener) (InElse o) refl);
     }
   ]
 
@@ -273,14 +274,14 @@ module _ (P : Program) (t : Thread) (j : ℕ) (w : Walk) (r : Reaches P t j w) w
   branch_last : (o : ℕ) (s : State) → stmt_at t.lines j ≡ Some (EndIf o) → last_of w.branches ≡ Some s → IsBranch P t j r.labels o s
   branch_last o s e q = same_last (IsBranch P t j r.labels) _ o w.branches s (end_kept o e) q
 
-  fits_last : (o : ℕ) (s : State) (z : Bool) → stmt_at t.lines j ≡ Some (EndIf o) → last_of w.branches ≡ Some s → Fits (in_lock (blocks_at t.lines j)) (most_at j) (label_of s z)
-  fits_last o s z e q = branch_fits o s z (ends_branch o e).lock (branch_last o s e q)
+  fits_last : (o : ℕ) (s : State) (z : Bool) → stmt_at t.lines j ≡ Some (EndIf o) → last_of w.branches ≡ Some s → Fits (locks_in (blocks_at t.lines j)) (most_at j) (label_of s z)
+  fits_last o s z e q = branch_fits o s z (ends_branch o e).locks (branch_last o s e q)
 
   pub end_of : (o : ℕ) (s : State) → stmt_at t.lines j ≡ Some (EndIf o) → last_of w.branches ≡ Some s → IsOfSame s w.state
   end_of o s e q = same_of P t s w.state (branch_last o s e q).of r.at.here.of
 
   pub end_alike : (o : ℕ) (s : State) → stmt_at t.lines j ≡ Some (EndIf o) → last_of w.branches ≡ Some s → (y z : Bool) → AgreeOnLocks (label_of w.state y) (label_of s z)
-  end_alike o s e q y z = fits_alike (in_lock (blocks_at t.lines j)) (most_at j) (most_at j) (label_of w.state y) (label_of s z) (fits_here P t j w r (EndIf o) e y) (fits_last o s z e q)
+  end_alike o s e q y z = fits_alike (locks_in (blocks_at t.lines j)) (most_at j) (most_at j) (label_of w.state y) (label_of s z) (fits_here P t j w r (EndIf o) e y) (fits_last o s z e q)
 
   -- the labels of both branches, with one read at the line at o
   gave_both : {X : Type 0} (h m b : Bool → Label) (new : State) (x : Result X Cause) → ((z : Bool) → m z ≡ b z) → Gave P t new x (joins_both (two h m)) (two h m) → Gave P t new x (joins_both (two h b)) (two h b)
@@ -296,10 +297,10 @@ module _ (P : Program) (t : Thread) (j : ℕ) (w : Walk) (r : Reaches P t j w) w
       let h = here (take j t.lines) r.labels in
       let gave = took P t w.state new (seen_at t j r.labels) x (λ p f l. joins_both (two (λ z. on z l) (label_of s))) (λ p f l. two (λ z. on z l) (label_of s)) r.at.here.of (here_is P t j w r (EndIf o) e) g in
       let gave' = gave_both h (label_of s) (skipped t (take j t.lines) r.labels o) new x known gave in
-      let f : (z : Bool) → Fits (in_lock bs) (most_at j + 18) (h z) = λ z. fits_more (in_lock bs) (most_at j) (most_at j + 18) (h z) (omega arith) (fits_known P t j w r (EndIf o) e z) in
-      let f' : (z : Bool) → Fits (in_lock bs) (most_at j + 18) (skipped t (take j t.lines) r.labels o z) = λ z. subst (λ y. Fits (in_lock bs) (most_at j + 18) y) (known z) (fits_more (in_lock bs) (most_at j) (most_at j + 18) (label_of s z) (omega arith) (fits_last o s z e q)) in
+      let f : (z : Bool) → Fits (locks_in bs) (most_at j + 18) (h z) = λ z. fits_more (locks_in bs) (most_at j) (most_at j + 18) (h z) (omega arith) (fits_known P t j w r (EndIf o) e z) in
+      let f' : (z : Bool) → Fits (locks_in bs) (most_at j + 18) (skipped t (take j t.lines) r.labels o z) = λ z. subst (λ y. Fits (locks_in bs) (most_at j + 18) y) (known z) (fits_more (locks_in bs) (most_at j) (most_at j + 18) (label_of s z) (omega arith) (fits_last o s z e q)) in
       passes P t j w r (EndIf o) e w' x gave'
-      (λ b z. fits_behind P t j w r (EndIf o) e (label_of new z) (strongest_fits (in_lock bs) (most_at j + 18) (label_of new z) _ (f z, (f' z, tt)) (b z)))
+      (λ b z. fits_behind P t j w r (EndIf o) e (label_of new z) (strongest_fits (locks_in bs) (most_at j + 18) (label_of new z) _ (f z, (f' z, tt)) (b z)))
       (λ y q'. record {
         branches = left new kept c.outer c.behind k (end_kept o e).rest;
         peek = peek_same P t j w r (EndIf o) e (sides_of new) (λ o z. refl) (same peek_place c.outer c.block c.within c.behind c.peek);

@@ -2,8 +2,9 @@
 use Rattle.std.proofs.Common.{◌≡◌, ℕ, ◌+◌, ◌<◌, Bool, true, false, List, [], ◌∷◌, ◌++◌, take, Option, Some, Result, Ok, Err, refl, sym, ap, subst, ◌∙◌, arith, slice_get}
 use Rattle.std.specs.Prelude.{IsSome, OnOk}
 use Rattle.rc_lang.specs.declared.lines.Block.TheVariants.{InLoop}
+use Rattle.rc_lang.specs.declared.lines.Locks.{Locks}
 use Rattle.rc_lang.specs.declared.lines.Stmt.TheVariants.{Break}
-use Rattle.rc_lang.specs.Nesting.{blocks_at, in_lock}
+use Rattle.rc_lang.specs.Nesting.{blocks_at, locks_in}
 use Rattle.rc_lang.specs.Program.{Program, Thread, stmt_at}
 use Rattle.rc_lang.proofs.Closing.{LeavesLoop, leaves_loop}
 use Rattle.rc_lang.proofs.Placed.{each_placed, placed}
@@ -14,7 +15,7 @@ use Rattle.rc_rules.specs.Premises.{Meets, Premise}
 use Rattle.rc_rules.specs.Needs.{line_premises}
 use Rattle.rc_rules.specs.Rules.{asks, asks_both}
 use Rattle.rc_rules.specs.Sides.{Sides, on}
-use Rattle.rc_rules.specs.States.{asked_alike, State, Gives, IsLocked, OnBoth, label_of, program_of, sides_of}
+use Rattle.rc_rules.specs.States.{asked_alike, State, Gives, label_of, program_of, sides_of}
 use Rattle.rc_rules.proofs.Rising.{leave_asked}
 use Rattle.rc_verify.specs.declared.walk.Walk.{Walk}
 use Rattle.rc_verify.specs.Stack.{last_of, rest_of}
@@ -24,14 +25,14 @@ use Rattle.rc_verify.specs.Walk.{AreKept, Fits, IsClosed, IsLoop, OnKept, Passes
 use Rattle.rc_verify.proofs.Agreeing.{closed_agree}
 use Rattle.rc_verify.proofs.Branching.{on_ok}
 use Rattle.rc_verify.proofs.Ends.{other_break, own_break, strongest_more}
-use Rattle.rc_verify.proofs.Fit.{broken_closed, broken_fits, fits_alike, fits_locked, fits_more, strongest_closed, strongest_fits}
+use Rattle.rc_verify.proofs.Fit.{broken_closed, broken_fits, fits_alike, fits_more, strongest_closed, strongest_fits}
 use Rattle.rc_verify.proofs.Joining.{each_meets}
 use Rattle.rc_verify.proofs.Keeping.{KeepsLast, keep_more, kept_too, last_kept, nothing_more, places_more, same_last, some_last}
 use Rattle.rc_verify.proofs.Looping.{loops_before, no_loop_places}
 use Rattle.rc_verify.proofs.Plainly.{branches_same, fits_behind, peek_same}
 use Rattle.rc_verify.proofs.Standing.{Gave, breaks_next, fits_here, here_is, loop_on, of_same, passes, same_of, seen_at, took}
 
-module _ (P : Program) (t : Thread) (j : ℕ) (w : Walk) (r : Reaches P t j w) (o : ℕ) (releases leaves : Bool) (e : stmt_at t.lines j ≡ Some (Break o releases leaves)) where
+module _ (P : Program) (t : Thread) (j : ℕ) (w : Walk) (r : Reaches P t j w) (o : ℕ) (releases : Locks) (leaves : Bool) (e : stmt_at t.lines j ≡ Some (Break o releases leaves)) where
   out : LeavesLoop t.lines j o releases leaves
   out = leaves_loop t.lines r.thread.nested.each j o releases leaves e
 
@@ -47,11 +48,8 @@ module _ (P : Program) (t : Thread) (j : ℕ) (w : Walk) (r : Reaches P t j w) (
   loop_last : (s : State) → last_of w.loops ≡ Some s → IsLoop P t j r.labels o s
   loop_last s q = same_last (IsLoop P t j r.labels) _ o w.loops s loop_kept q
 
-  pub break_locked : releases ≡ true → OnBoth IsLocked w.state
-  break_locked q z = fits_locked (most_at j) (label_of w.state z) (subst (λ b. Fits b (most_at j) (label_of w.state z)) (out.locked q) (fits_here P t j w r (Break o releases leaves) e z))
-
-  taken_fits : (z : Bool) → Fits (in_lock (blocks_at t.lines o)) (most_at j) (taken releases w.state z)
-  taken_fits z = broken_fits releases (in_lock (blocks_at t.lines j)) (in_lock (blocks_at t.lines o)) (most_at j) (label_of w.state z) out.lock_outside (fits_here P t j w r (Break o releases leaves) e z)
+  taken_fits : (z : Bool) → Fits (locks_in (blocks_at t.lines o)) (most_at j) (taken releases w.state z)
+  taken_fits z = broken_fits releases (locks_in (blocks_at t.lines j)) (locks_in (blocks_at t.lines o)) (most_at j) (label_of w.state z) out.locks_outside (fits_here P t j w r (Break o releases leaves) e z)
 
   -- what both sides are asked
   abbrev Asked : List (ℕ × Premise)
@@ -65,7 +63,7 @@ module _ (P : Program) (t : Thread) (j : ℕ) (w : Walk) (r : Reaches P t j w) (
       let h = loop_last s q in
       record {
         of = same_of P t w.state s r.at.here.of h.breaks.of;
-        alike = λ y z. fits_alike (in_lock (blocks_at t.lines o)) (most_at j) (most_at j) (label_of s y) (taken releases w.state z) (h.breaks.fits y) (taken_fits z);
+        alike = λ y z. fits_alike (locks_in (blocks_at t.lines o)) (most_at j) (most_at j) (label_of s y) (taken releases w.state z) (h.breaks.fits y) (taken_fits z);
         agree = λ m. let c = taken_closed m in (closed_agree (two (label_of s) (taken releases w.state) true ++ two (label_of s) (taken releases w.state) false) (h.closed true, (c true, (h.closed false, (c false, tt)))), tt);
       }
 
@@ -74,17 +72,17 @@ module _ (P : Program) (t : Thread) (j : ℕ) (w : Walk) (r : Reaches P t j w) (
   joined : (s : State) (new : Sides) (kept : List (Option State)) → Meets Asked → last_of w.loops ≡ Some s → (b : Breaks s (taken releases w.state) w.loops kept) → IsLoop P t (j + 1) (r.labels ++ new ∷ []) o b.keeps.state
   joined s new kept m q b =
       let h = loop_last s q in
-      let lock = in_lock (blocks_at t.lines o) in
+      let held = locks_in (blocks_at t.lines o) in
       let now = b.keeps.state in
       let xs : Bool → List Label = λ z. break_ends (take j t.lines) r.labels o z in
       let y : Bool → Label = taken releases w.state in
       let n : (z : Bool) → break_ends (take (j + 1) t.lines) (r.labels ++ new ∷ []) o z ≡ xs z ++ y z ∷ [] = λ z. breaks_next P t j w r (Break o releases leaves) e new o z ∙ ap (λ ys. xs z ++ ys) (own_break o releases leaves (label_of w.state z)) in
-      let carried : (z : Bool) → Fits lock (most_at j) (b.carried z) = λ z. strongest_fits lock (most_at j) (b.carried z) (y z ∷ []) (taken_fits z, tt) (b.carries z) in
+      let carried : (z : Bool) → Fits held (most_at j) (b.carried z) = λ z. strongest_fits held (most_at j) (b.carried z) (y z ∷ []) (taken_fits z, tt) (b.carries z) in
       record {
         breaks = record {
           of = of_same P t now s h.breaks.of b.keeps.meet.of;
           strongest = λ z. subst (λ zs. IsStrongest (label_of now z) zs) (sym (n z)) (strongest_more (label_of now z) (label_of s z) (b.carried z) (y z) (xs z) (h.breaks.strongest z) (b.carries z) (b.keeps.meet.each z));
-          fits = λ z. fits_more lock (most_at j) (most_at (j + 1)) (label_of now z) (omega arith) (strongest_fits lock (most_at j) (label_of now z) (label_of s z ∷ b.carried z ∷ []) (h.breaks.fits z, (carried z, tt)) (b.keeps.meet.each z));
+          fits = λ z. fits_more held (most_at j) (most_at (j + 1)) (label_of now z) (omega arith) (strongest_fits held (most_at j) (label_of now z) (label_of s z ∷ b.carried z ∷ []) (h.breaks.fits z, (carried z, tt)) (b.keeps.meet.each z));
         };
         closed = λ z. strongest_closed (label_of now z) (label_of s z ∷ b.carried z ∷ []) (h.closed z, (strongest_closed (b.carried z) (y z ∷ []) (taken_closed m z, tt) (b.carries z), tt)) (b.keeps.meet.each z);
       }
@@ -109,7 +107,7 @@ module _ (P : Program) (t : Thread) (j : ℕ) (w : Walk) (r : Reaches P t j w) (
       let F : Program → Option ℕ → Sides → List (ℕ × Premise) = λ p f l. asks_both (λ z. on z l) (λ z bag m. line_premises p [] bag m (Break 0 releases false)) in
       let gave = subst (λ ps. Gave P t new x ps (λ z. [])) (sym (leave_asked P t.lists (λ z. on z (seen_at t j r.labels)) o releases leaves)) (took P t w.state new (seen_at t j r.labels) x F (λ p f l z. []) r.at.here.of (here_is P t j w r (Break o releases leaves) e) g) in
       passes P t j w r (Break o releases leaves) e w' x gave
-      (λ b z. fits_behind P t j w r (Break o releases leaves) e (label_of new z) (strongest_fits (in_lock (blocks_at t.lines j)) (most_at j + 18) (label_of new z) [] tt (b z)))
+      (λ b z. fits_behind P t j w r (Break o releases leaves) e (label_of new z) (strongest_fits (locks_in (blocks_at t.lines j)) (most_at j + 18) (label_of new z) [] tt (b z)))
       (λ y q. record {
         branches = branches_same P t j w r (Break o releases leaves) e (sides_of new) (ap (places branch_place) out.behind);
         peek = peek_same P t j w r (Break o releases leaves) e (sides_of new) (λ p z. refl) (ap (places peek_place) out.behind);

@@ -3,10 +3,11 @@ use Rattle.std.proofs.Common.{◌≡◌, ℕ, ◌+◌, Bool, true, false, List, 
 use Rattle.std.specs.Prelude.{IfSome, IsSome}
 use Rattle.rc_lang.specs.declared.lines.Block.{Block}
 use Rattle.rc_lang.specs.declared.lines.Block.TheVariants.{InPeek, InArm}
+use Rattle.rc_lang.specs.declared.lines.Locks.{Locks}
 use Rattle.rc_lang.specs.declared.lines.Stmt.TheVariants.{EndArm, EndPeek}
-use Rattle.rc_lang.specs.Nesting.{blocks_at, in_lock}
+use Rattle.rc_lang.specs.Nesting.{blocks_at, locks_in}
 use Rattle.rc_lang.specs.Program.{Program, Thread, stmt_at}
-use Rattle.rc_lang.proofs.Along.{same_lock}
+use Rattle.rc_lang.proofs.Along.{same_locks}
 use Rattle.rc_lang.proofs.Closing.{ClosesArm, closes_arm, closes_peek}
 use Rattle.rc_rules.specs.declared.cause.Cause.{Cause}
 use Rattle.rc_rules.specs.declared.mode.Peeked.TheVariants.{Unseen}
@@ -50,10 +51,10 @@ module _ (old new : State) (end y : Bool → Label) (xs : Bool → List Label) (
   next_strongest true false q h j z = absurd (cc)
   next_strongest false c q h j z = absurd (cc)
 
-  next_fits : (lock : Bool) (n : ℕ) (b c : Bool) → c ≡ true → (b ≡ true → (z : Bool) → Fits lock n (label_of old z)) → ((z : Bool) → Fits lock n (y z)) → JoinsOn old new end c b → (z : Bool) → Fits lock n (label_of new z)
-  next_fits lock n true true q h f j z = strongest_fits lock n (label_of new z) (label_of old z ∷ end z ∷ []) (h refl z, (strongest_fits lock n (end z) (y z ∷ []) (f z, tt) (forgets z), tt)) (j.1.each z)
-  next_fits lock n true false q h f j z = absurd (cc)
-  next_fits lock n false c q h f j z = absurd (cc)
+  next_fits : (held : Locks) (n : ℕ) (b c : Bool) → c ≡ true → (b ≡ true → (z : Bool) → Fits held n (label_of old z)) → ((z : Bool) → Fits held n (y z)) → JoinsOn old new end c b → (z : Bool) → Fits held n (label_of new z)
+  next_fits held n true true q h f j z = strongest_fits held n (label_of new z) (label_of old z ∷ end z ∷ []) (h refl z, (strongest_fits held n (end z) (y z ∷ []) (f z, tt) (forgets z), tt)) (j.1.each z)
+  next_fits held n true false q h f j z = absurd (cc)
+  next_fits held n false c q h f j z = absurd (cc)
 
 module _ (P : Program) (t : Thread) (j : ℕ) (w : Walk) (r : Reaches P t j w) where
   -- ---- an arm's end
@@ -64,8 +65,8 @@ module _ (P : Program) (t : Thread) (j : ℕ) (w : Walk) (r : Reaches P t j w) w
   grouped : (o : ℕ) → ClosesArm t.lines j o → blocks_at t.lines j ≡ (blocks_at t.lines o ++ InPeek o ∷ []) ++ InArm o ∷ []
   grouped o c = c.within ∙ sym (append_assoc (blocks_at t.lines o) (InPeek o ∷ []) (InArm o ∷ []))
 
-  arm_lock : (o : ℕ) → ClosesArm t.lines j o → in_lock (blocks_at t.lines j) ≡ in_lock (blocks_at t.lines o)
-  arm_lock o c = ap in_lock (grouped o c) ∙ same_lock (blocks_at t.lines o ++ InPeek o ∷ []) (InArm o) refl ∙ same_lock (blocks_at t.lines o) (InPeek o) refl
+  arm_locks : (o : ℕ) → ClosesArm t.lines j o → locks_in (blocks_at t.lines j) ≡ locks_in (blocks_at t.lines o)
+  arm_locks o c = ap locks_in (grouped o c) ∙ same_locks (blocks_at t.lines o ++ InPeek o ∷ []) (InArm o) refl ∙ same_locks (blocks_at t.lines o) (InPeek o) refl
 
   pub arm_some : (o : ℕ) → stmt_at t.lines j ≡ Some (EndArm o) → IsSome w.peek
   arm_some o e = some_armed P t j w r o (ending o (closes_arm t.lines r.thread.nested.each j o e))
@@ -75,19 +76,19 @@ module _ (P : Program) (t : Thread) (j : ℕ) (w : Walk) (r : Reaches P t j w) w
       let a = ending o (closes_arm t.lines r.thread.nested.each j o e) in
       subst (λ (x : Option Arms). IfSome x (λ a. IsOfSame w.state a.ends)) (sym a.is) (same_of P t w.state a.arms.ends r.at.here.of a.holds.of)
 
-  end_fits : (o : ℕ) → stmt_at t.lines j ≡ Some (EndArm o) → (z : Bool) → Fits (in_lock (blocks_at t.lines o)) (most_at j) (peek_at Unseen (label_of w.state z))
-  end_fits o e z = peek_fits Unseen (in_lock (blocks_at t.lines o)) (most_at j) (label_of w.state z) (subst (λ b. Fits b (most_at j) (label_of w.state z)) (arm_lock o (closes_arm t.lines r.thread.nested.each j o e)) (fits_here P t j w r (EndArm o) e z))
+  end_fits : (o : ℕ) → stmt_at t.lines j ≡ Some (EndArm o) → (z : Bool) → Fits (locks_in (blocks_at t.lines o)) (most_at j) (peek_at Unseen (label_of w.state z))
+  end_fits o e z = peek_fits Unseen (locks_in (blocks_at t.lines o)) (most_at j) (label_of w.state z) (subst (λ b. Fits b (most_at j) (label_of w.state z)) (arm_locks o (closes_arm t.lines r.thread.nested.each j o e)) (fits_here P t j w r (EndArm o) e z))
 
   pub arm_alike : (o : ℕ) → stmt_at t.lines j ≡ Some (EndArm o) → IfSome w.peek (λ a. a.agree ≡ true → (y z : Bool) → AgreeOnLocks (label_of a.ends y) (peek_at Unseen (label_of w.state z)))
   arm_alike o e =
       let a = ending o (closes_arm t.lines r.thread.nested.each j o e) in
       subst (λ (x : Option Arms). IfSome x (λ a. a.agree ≡ true → (y z : Bool) → AgreeOnLocks (label_of a.ends y) (peek_at Unseen (label_of w.state z)))) (sym a.is)
-      (λ q y z. fits_alike (in_lock (blocks_at t.lines o)) (most_at j) (most_at j) (label_of a.arms.ends y) (peek_at Unseen (label_of w.state z)) ((a.holds.ends q).fits y) (end_fits o e z))
+      (λ q y z. fits_alike (locks_in (blocks_at t.lines o)) (most_at j) (most_at j) (label_of a.arms.ends y) (peek_at Unseen (label_of w.state z)) ((a.holds.ends q).fits y) (end_fits o e z))
 
   ended : (o : ℕ) (a a' : Arms) (new : Sides) → stmt_at t.lines j ≡ Some (EndArm o) → IsPeeked P t j r.labels o a → EndsArm a a' w.state → IsPeeked P t (j + 1) (r.labels ++ new ∷ []) o a'
   ended o a a' new e h g =
       let labels = r.labels ++ new ∷ [] in
-      let lock = in_lock (blocks_at t.lines o) in
+      let held = locks_in (blocks_at t.lines o) in
       let xs : Bool → List Label = λ z. arm_ends (take j t.lines) r.labels o z in
       let y : Bool → Label = λ z. peek_at Unseen (label_of w.state z) in
       let q : (z : Bool) → arm_ends (take (j + 1) t.lines) labels o z ≡ xs z ++ y z ∷ [] = λ z. arms_next P t j w r (EndArm o) e new o z ∙ ap (λ ys. xs z ++ ys) (own_arm o (label_of w.state z)) in
@@ -101,7 +102,7 @@ module _ (P : Program) (t : Thread) (j : ℕ) (w : Walk) (r : Reaches P t j w) w
         ends = λ p. record {
           of = of_same P t a'.ends a.ends h.of g.of;
           strongest = λ z. subst (λ zs. IsStrongest (label_of a'.ends z) zs) (sym (q z)) (next_strongest a.ends a'.ends g.end y xs g.forgets a.agree a'.agree p (λ i. (h.ends i).strongest) g.joins z);
-          fits = λ z. fits_more lock (most_at j) (most_at (j + 1)) (label_of a'.ends z) (omega arith) (next_fits a.ends a'.ends g.end y xs g.forgets lock (most_at j) a.agree a'.agree p (λ i. (h.ends i).fits) (end_fits o e) g.joins z);
+          fits = λ z. fits_more held (most_at j) (most_at (j + 1)) (label_of a'.ends z) (omega arith) (next_fits a.ends a'.ends g.end y xs g.forgets held (most_at j) a.agree a'.agree p (λ i. (h.ends i).fits) (end_fits o e) g.joins z);
         };
       }
 
@@ -114,7 +115,7 @@ module _ (P : Program) (t : Thread) (j : ℕ) (w : Walk) (r : Reaches P t j w) w
       let h = g a.arms a.is in
       let one : AreKept R (o ∷ []) (h.0 ∷ []) = (ended o a.arms h.0 (sides_of new) e a.holds h.2, tt) in
       let q : places peek_place (blocks_at t.lines (j + 1)) ≡ o ∷ [] = ap (places peek_place) c.behind ∙ places_pushed peek_place (blocks_at t.lines o) (InPeek o) ∙ ap (λ os. os ++ o ∷ []) (peek_alone P t j w r o c.variable c.stands) in
-      onward P t j w r (EndArm o) e w' tt (λ z. dead_strongest (label_of new z) (d z)) (of_same P t new w.state r.at.here.of p) (λ z. dead_fits (in_lock (blocks_at t.lines (j + 1))) (most_at (j + 1)) (label_of new z) (d z))
+      onward P t j w r (EndArm o) e w' tt (λ z. dead_strongest (label_of new z) (d z)) (of_same P t new w.state r.at.here.of p) (λ z. dead_fits (locks_in (blocks_at t.lines (j + 1))) (most_at (j + 1)) (label_of new z) (d z))
       (record {
         branches = branches_same P t j w r (EndArm o) e (sides_of new) (same branch_place refl);
         peek = subst (λ os. AreKept R os (listed peek)) (sym q) (subst (λ (z : Option Arms). AreKept R (o ∷ []) (listed z)) (sym h.1) one);
@@ -137,11 +138,11 @@ module _ (P : Program) (t : Thread) (j : ℕ) (w : Walk) (r : Reaches P t j w) w
       let w' : Walk = record { state = new; branches = w.branches; peek = peek; loops = w.loops } in
       let R = IsPeeked P t (j + 1) (r.labels ++ sides_of new ∷ []) in
       let c = closes_peek t.lines r.thread.nested.each j o e in
-      let lock = in_lock (blocks_at t.lines o) in
-      let m : IsMeet P t lock (most_at j) (arm_ends (take j t.lines) r.labels o) new = subst (λ (s : State). IsMeet P t lock (most_at j) (arm_ends (take j t.lines) r.labels o) s) (sym g.1) (h.ends g.0) in
+      let held = locks_in (blocks_at t.lines o) in
+      let m : IsMeet P t held (most_at j) (arm_ends (take j t.lines) r.labels o) new = subst (λ (s : State). IsMeet P t held (most_at j) (arm_ends (take j t.lines) r.labels o) s) (sym g.1) (h.ends g.0) in
       let p : places peek_place (blocks_at t.lines (j + 1)) ≡ [] = ap (places peek_place) c.1.behind ∙ peek_alone P t j w r o c.0 c.1.stands in
       onward P t j w r (EndPeek o) e w' (h.agree ∙ g.0, tt) m.strongest m.of
-      (λ z. subst (λ bs. Fits (in_lock bs) (most_at (j + 1)) (label_of new z)) (sym c.1.behind) (fits_more lock (most_at j) (most_at (j + 1)) (label_of new z) (omega arith) (m.fits z)))
+      (λ z. subst (λ bs. Fits (locks_in bs) (most_at (j + 1)) (label_of new z)) (sym c.1.behind) (fits_more held (most_at j) (most_at (j + 1)) (label_of new z) (omega arith) (m.fits z)))
       (record {
         branches = branches_same P t j w r (EndPeek o) e (sides_of new) (same branch_place refl);
         peek = subst (λ os. AreKept R os (listed peek)) (sym p) (subst (λ (z : Option Arms). AreKept R [] (listed z)) (sym q) tt);

@@ -2,6 +2,7 @@
 use Rattle.std.proofs.Common.{◌≡◌, ℕ, ◌+◌, Bool, true, false, cond, nat_eq, List, [], ◌∷◌, ◌++◌, append_assoc, length, refl, sym, ap, ◌∙◌, arith}
 use Rattle.std.proofs.lemmas.Bool.{eqb-true, eq-eqb}
 use Rattle.rc_lang.specs.declared.lines.Line.{Line}
+use Rattle.rc_lang.specs.declared.lines.Locks.{Locks}
 use Rattle.rc_lang.specs.declared.lines.Stmt.TheVariants.{EndArm, Break}
 use Rattle.rc_rules.specs.declared.mode.Peeked.TheVariants.{Unseen}
 use Rattle.rc_rules.specs.Labels.{Label, Weaker, WeakerThanEach, IsStrongest}
@@ -30,10 +31,10 @@ breaks_more z (m ∷ lines) l (x ∷ labels) new o e =
 pub own_arm : (o : ℕ) (s : Label) → arm_end (EndArm o) o s ≡ peek_at Unseen s ∷ []
 own_arm o s = ap (λ b. cond b (peek_at Unseen s ∷ []) []) (eq-eqb o o refl)
 
-pub own_break : (o : ℕ) (releases leaves : Bool) (s : Label) → break_end (Break o releases leaves) o s ≡ broken releases s ∷ []
+pub own_break : (o : ℕ) (releases : Locks) (leaves : Bool) (s : Label) → break_end (Break o releases leaves) o s ≡ broken releases s ∷ []
 own_break o releases leaves s = ap (λ b. cond b (broken releases s ∷ []) []) (eq-eqb o o refl)
 
-pub other_break : (p o : ℕ) (releases leaves : Bool) (s : Label) → (p ≡ o → ⊥) → break_end (Break p releases leaves) o s ≡ []
+pub other_break : (p o : ℕ) (releases : Locks) (leaves : Bool) (s : Label) → (p ≡ o → ⊥) → break_end (Break p releases leaves) o s ≡ []
 other_break p o releases leaves s d = go (nat_eq p o) refl
   where
     go : (b : Bool) → nat_eq p o ≡ b → cond b (broken releases s ∷ []) [] ≡ []

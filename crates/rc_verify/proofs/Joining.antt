@@ -1,6 +1,7 @@
 -- Two states that join: arms, breaks, and the ends of branches.
 use Rattle.std.proofs.Common.{◌≡◌, ℕ, ◌<◌, Bool, true, false, ◌&&◌, List, [], ◌∷◌, ◌++◌, Option, Some, Result, Ok, Err, refl, sym, ap, subst, ◌∙◌, arith}
 use Rattle.std.specs.Result.{is_ok}
+use Rattle.rc_lang.specs.declared.lines.Locks.{Locks}
 use Rattle.rc_lang.specs.declared.lines.Stmt.TheVariants.{Break}
 use Rattle.rc_rules.specs.declared.cause.Cause.{Cause}
 use Rattle.rc_rules.specs.Causes.{premise_number}
@@ -99,7 +100,7 @@ agree_too m n x y e f v w h = more (agree m x) (agree m e) (agree m n) (agree m 
     more true a' true true c' true d' false k' l l' p q r s t h = absurd (cc)
     more true a' true true c' true d' true k' false l' p q r s t h = absurd (cc)
 
-pub fits_with : (s here moved end : State) (b : Bool) → moved ≡ here → MayBreak s here b → Meets (asked_alike here [] (Break 0 b false)) → Becomes moved end (λ z. taken b moved z ∷ []) → FitsWith s end
+pub fits_with : (s here moved end : State) (b : Locks) → moved ≡ here → MayBreak s here b → Meets (asked_alike here [] (Break 0 b false)) → Becomes moved end (λ z. taken b moved z ∷ []) → FitsWith s end
 fits_with s here moved end b q f h w =
     let w' : Becomes here end (λ z. taken b here z ∷ []) = subst (λ (t : State). Becomes t end (λ z. taken b t z ∷ [])) q w in
     let v : (z : Bool) → Weaker (label_of end z) (taken b here z) = λ z. below (label_of end z) (taken b here z) (w'.each z) in
@@ -110,7 +111,7 @@ fits_with s here moved end b q f h w =
       agree = join_all (two (label_of s) (label_of end) true ++ two (label_of s) (label_of end) false) (agree_too (label_of s true) (label_of s false) (taken b here true) (taken b here false) (label_of end true) (label_of end false) (u true) (u false) (f.agree h).0);
     }
 
-pub breaks : (s here moved end : State) (b : Bool) (old new : List (Option State)) → moved ≡ here → Becomes moved end (λ z. taken b moved z ∷ []) → KeepsMeet s (label_of end) old new → Breaks s (taken b here) old new
+pub breaks : (s here moved end : State) (b : Locks) (old new : List (Option State)) → moved ≡ here → Becomes moved end (λ z. taken b moved z ∷ []) → KeepsMeet s (label_of end) old new → Breaks s (taken b here) old new
 breaks s here moved end b old new q w k = record {
   carried = label_of end;
   carries = λ z. subst (λ (t : State). IsStrongest (label_of end z) (taken b t z ∷ [])) q (w.each z);

@@ -45,7 +45,7 @@ few_places f h [] = omega arith
 few_places f h (b ∷ bs) = few_more (f b) (places f bs) (length bs) (h b) (few_places f h bs)
 
 pub few_branches : (b : Block) → length (branch_place b) ≤ 1
-few_branches (InLock o) = omega arith
+few_branches (InLock o l) = omega arith
 few_branches (InIf o) = omega arith
 few_branches (InElse o) = omega arith
 few_branches (InPeek o) = omega arith
@@ -53,7 +53,7 @@ few_branches (InArm o) = omega arith
 few_branches (InLoop o k) = omega arith
 
 pub few_loops : (b : Block) → length (loop_place b) ≤ 1
-few_loops (InLock o) = omega arith
+few_loops (InLock o l) = omega arith
 few_loops (InIf o) = omega arith
 few_loops (InElse o) = omega arith
 few_loops (InPeek o) = omega arith

@@ -5,9 +5,10 @@ use Rattle.std.proofs.lemmas.Bool.{eqb-true}
 use Rattle.rc_lang.specs.declared.lines.Block.{Block}
 use Rattle.rc_lang.specs.declared.lines.Block.TheVariants.{InLock, InIf, InElse, InPeek, InArm, InLoop}
 use Rattle.rc_lang.specs.declared.lines.Line.{Line}
+use Rattle.rc_lang.specs.declared.lines.Locks.{Locks}
 use Rattle.rc_lang.specs.declared.lines.Stmt.{Stmt}
 use Rattle.rc_lang.specs.declared.lines.Stmt.TheVariants.{Loop, EndLoop, Break}
-use Rattle.rc_lang.specs.Nesting.{blocks_at, in_lock}
+use Rattle.rc_lang.specs.Nesting.{blocks_at, locks_in}
 use Rattle.rc_lang.specs.Program.{Items, IsList, Program, Thread, items_at, no_items, stmt_at, stmt_of}
 use Rattle.rc_lang.proofs.Closing.{closes_loop, in_loop, leaves_loop}
 use Rattle.rc_lang.proofs.Lookups.{blocks_next}
@@ -34,7 +35,7 @@ use Rattle.rc_verify.proofs.Strongest.{get_front}
 
 -- ---- lists
 
-no_break : (s : Stmt) (o : ℕ) (x : Label) → ((releases leaves : Bool) → s ≡ Break o releases leaves → ⊥) → break_end s o x ≡ []
+no_break : (s : Stmt) (o : ℕ) (x : Label) → ((releases : Locks) (leaves : Bool) → s ≡ Break o releases leaves → ⊥) → break_end s o x ≡ []
 no_break (Break p releases leaves) o x n = go (nat_eq p o) refl
   where
     go : (b : Bool) → nat_eq p o ≡ b → cond b (broken releases x ∷ []) [] ≡ []
@@ -42,13 +43,13 @@ no_break (Break p releases leaves) o x n = go (nat_eq p o) refl
     go false e = refl
 no_break _ o x n = refl
 
-no_breaks : (lines : List Line) (labels : List Sides) (o : ℕ) (z : Bool) → ((k : ℕ) (l : Line) → slice_get lines k ≡ Some l → (releases leaves : Bool) → l.stmt ≡ Break o releases leaves → ⊥) → break_ends lines labels o z ≡ []
+no_breaks : (lines : List Line) (labels : List Sides) (o : ℕ) (z : Bool) → ((k : ℕ) (l : Line) → slice_get lines k ≡ Some l → (releases : Locks) (leaves : Bool) → l.stmt ≡ Break o releases leaves → ⊥) → break_ends lines labels o z ≡ []
 no_breaks [] labels o z n = refl
 no_breaks (l ∷ lines) labels o z n = ap (λ xs. xs ++ break_ends lines (drop 1 labels) o z) (no_break l.stmt o (label_at labels 0 z) (n 0 l refl)) ∙ no_breaks lines (drop 1 labels) o z (λ k m e. n (suc k) m e)
 
 pub no_loop_places : (bs : List Block) → in_loop bs ≡ false → places loop_place bs ≡ []
 no_loop_places [] e = refl
-no_loop_places (InLock o ∷ bs) e = no_loop_places bs e
+no_loop_places (InLock o l ∷ bs) e = no_loop_places bs e
 no_loop_places (InIf o ∷ bs) e = no_loop_places bs e
 no_loop_places (InElse o ∷ bs) e = no_loop_places bs e
 no_loop_places (InPeek o ∷ bs) e = no_loop_places bs e
@@ -58,7 +59,7 @@ no_loop_places (InLoop o k ∷ bs) e = absurd (cc)
 -- A loop that is open is before.
 pub loops_before : (lines : List Line) (j : ℕ) (outer bs : List Block) → EachPlaced lines j outer bs → (k o : ℕ) → slice_get (places loop_place bs) k ≡ Some o → o < j
 loops_before lines j outer [] h k o e = absurd (cc)
-loops_before lines j outer (InLock p ∷ bs) h k o e = loops_before lines j (outer ++ InLock p ∷ []) bs h.1 k o e
+loops_before lines j outer (InLock p l ∷ bs) h k o e = loops_before lines j (outer ++ InLock p l ∷ []) bs h.1 k o e
 loops_before lines j outer (InIf p ∷ bs) h k o e = loops_before lines j (outer ++ InIf p ∷ []) bs h.1 k o e
 loops_before lines j outer (InElse p ∷ bs) h k o e = loops_before lines j (outer ++ InElse p ∷ []) bs h.1 k o e
 loops_before lines j outer (InPeek p ∷ bs) h k o e = loops_before lines j (outer ++ InPeek p ∷ []) bs h.1 k o e
@@ -89,7 +90,7 @@ module _ (P : Program) (t : Thread) (j : ℕ) (w : Walk) (r : Reaches P t j w) w
   none_broken : (k : ℕ) (new : Sides) (z : Bool) → stmt_at t.lines j ≡ Some (Loop k) → break_ends (take (j + 1) t.lines) (r.labels ++ new ∷ []) j z ≡ []
   none_broken k new z e = breaks_next P t j w r (Loop k) e new j z ∙ nothing_more (break_ends (take j t.lines) r.labels j z) ∙ no_breaks (take j t.lines) r.labels j z before
     where
-      before : (i : ℕ) (l : Line) → slice_get (take j t.lines) i ≡ Some l → (releases leaves : Bool) → l.stmt ≡ Break j releases leaves → ⊥
+      before : (i : ℕ) (l : Line) → slice_get (take j t.lines) i ≡ Some l → (releases : Locks) (leaves : Bool) → l.stmt ≡ Break j releases leaves → ⊥
       before i l is releases leaves f =
           let h = get_front t.lines j i l is in
           let at : stmt_at t.lines i ≡ Some (Break j releases leaves) = ap stmt_of h.0 ∙ ap Some f in
@@ -102,7 +103,7 @@ module _ (P : Program) (t : Thread) (j : ℕ) (w : Walk) (r : Reaches P t j w) w
     breaks = record {
       of = of_same P t s w.state r.at.here.of p;
       strongest = λ z. subst (λ xs. IsStrongest (label_of s z) xs) (sym (none_broken k new z e)) (dead_strongest (label_of s z) (d z));
-      fits = λ z. dead_fits (in_lock (blocks_at t.lines j)) (most_at (j + 1)) (label_of s z) (d z);
+      fits = λ z. dead_fits (locks_in (blocks_at t.lines j)) (most_at (j + 1)) (label_of s z) (d z);
     };
     closed = λ z. dead_closed (label_of s z) (d z);
   }
@@ -123,9 +124,9 @@ module _ (P : Program) (t : Thread) (j : ℕ) (w : Walk) (r : Reaches P t j w) w
       let n : blocks_at t.lines (j + 1) ≡ bs ++ InLoop j k ∷ [] = blocks_next t.lines j (Loop k) e in
       let same = opens_none t j bs (InLoop j k) refl n in
       let lt : k < length t.lists = r.thread.resolved j (Loop k) e in
-      let f : (z y : Bool) → Fits (in_lock bs) (most_at j + 18) (top P i z (here (take j t.lines) r.labels y)) = λ z y. top_fits P i z (in_lock bs) (most_at j) (most_at j + 18) _ (loop_items k lt) (omega arith) (fits_known P t j w r (Loop k) e y) in
+      let f : (z y : Bool) → Fits (locks_in bs) (most_at j + 18) (top P i z (here (take j t.lines) r.labels y)) = λ z y. top_fits P i z (locks_in bs) (most_at j) (most_at j + 18) _ (loop_items k lt) (omega arith) (fits_known P t j w r (Loop k) e y) in
       passes P t j w r (Loop k) e w' x gave
-      (λ b z. fits_behind P t j w r (Loop k) e (label_of new z) (strongest_fits (in_lock bs) (most_at j + 18) (label_of new z) _ (brings_fit (λ y. turns (forgets t.flag) y z) (λ s. top P i z s) (here (take j t.lines) r.labels) (in_lock bs) (most_at j + 18) (f z)) (b z)))
+      (λ b z. fits_behind P t j w r (Loop k) e (label_of new z) (strongest_fits (locks_in bs) (most_at j + 18) (label_of new z) _ (brings_fit (λ y. turns (forgets t.flag) y z) (λ s. top P i z s) (here (take j t.lines) r.labels) (locks_in bs) (most_at j + 18) (f z)) (b z)))
       (λ y p. record {
         branches = branches_same P t j w r (Loop k) e (sides_of new) (same branch_place refl);
         peek = peek_same P t j w r (Loop k) e (sides_of new) (λ o z. refl) (same peek_place refl);
@@ -170,7 +171,7 @@ module _ (P : Program) (t : Thread) (j : ℕ) (w : Walk) (r : Reaches P t j w) w
           let R = OnKept (IsLoop P t (j + 1) (r.labels ++ sides_of new ∷ [])) in
           let stay = loops_stay P t j w r (EndLoop o k) e (sides_of new) (λ p z. refl) (places loop_place (blocks_at t.lines o)) (rest_of w.loops) last.rest in
           onward P t j w r (EndLoop o k) e w' h.0 m.strongest m.of
-          (λ z. subst (λ bs. Fits (in_lock bs) (most_at (j + 1)) (label_of new z)) (sym c.behind) (fits_more (in_lock (blocks_at t.lines o)) (most_at j) (most_at (j + 1)) (label_of new z) (omega arith) (m.fits z)))
+          (λ z. subst (λ bs. Fits (locks_in bs) (most_at (j + 1)) (label_of new z)) (sym c.behind) (fits_more (locks_in (blocks_at t.lines o)) (most_at j) (most_at (j + 1)) (label_of new z) (omega arith) (m.fits z)))
           (record {
             branches = branches_same P t j w r (EndLoop o k) e (sides_of new) (same branch_place refl);
             peek = peek_same P t j w r (EndLoop o k) e (sides_of new) (λ p z. refl) (same peek_place refl);

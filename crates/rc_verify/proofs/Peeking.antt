@@ -6,9 +6,10 @@ use Rattle.std.proofs.lemmas.Bool.{eq-eqb, eqb-true, or_parts}
 use Rattle.rc_lang.specs.declared.lines.Block.{Block}
 use Rattle.rc_lang.specs.declared.lines.Block.TheVariants.{InPeek}
 use Rattle.rc_lang.specs.declared.lines.Line.{Line}
+use Rattle.rc_lang.specs.declared.lines.Locks.{Locks}
 use Rattle.rc_lang.specs.declared.lines.Stmt.{Stmt}
 use Rattle.rc_lang.specs.declared.lines.Stmt.TheVariants.{Peek, EndArm}
-use Rattle.rc_lang.specs.Nesting.{blocks_at, in_lock, in_peek, is_peek}
+use Rattle.rc_lang.specs.Nesting.{blocks_at, in_peek, is_peek, locks_in}
 use Rattle.rc_lang.specs.Program.{Program, Thread, stmt_at, stmt_of}
 use Rattle.rc_lang.proofs.Closing.{closes_arm}
 use Rattle.rc_lang.proofs.Lookups.{blocks_next, get_new, nested_here}
@@ -86,7 +87,7 @@ none_asked s h = ap (λ ps. ps ++ side_asks (s false)) (cq_asks (s true) (h true
 pub dead_strongest : (s : Label) → s ≡ Dead → IsStrongest s []
 dead_strongest s e = record { weaker = tt; strongest = λ t w. subst (λ z. Weaker t z) (sym e) tt }
 
-pub dead_fits : (b : Bool) (n : ℕ) (s : Label) → s ≡ Dead → Fits b n s
+pub dead_fits : (held : Locks) (n : ℕ) (s : Label) → s ≡ Dead → Fits held n s
 dead_fits b n s e = subst (λ z. Fits b n z) (sym e) tt
 
 -- ---- a peek into the flag
@@ -127,7 +128,7 @@ module _ (P : Program) (t : Thread) (j : ℕ) (w : Walk) (r : Reaches P t j w) w
         ends = λ q. record {
           of = of_same P t a.ends new p h.of;
           strongest = λ z. subst (λ xs. IsStrongest (label_of a.ends z) xs) (sym (none z)) (dead_strongest (label_of a.ends z) (h.dead z));
-          fits = λ z. dead_fits (in_lock (blocks_at t.lines j)) (most_at (j + 1)) (label_of a.ends z) (h.dead z);
+          fits = λ z. dead_fits (locks_in (blocks_at t.lines j)) (most_at (j + 1)) (label_of a.ends z) (h.dead z);
         };
       }
 
@@ -145,8 +146,8 @@ module _ (P : Program) (t : Thread) (j : ℕ) (w : Walk) (r : Reaches P t j w) w
       let gave = took P t w.state new (seen_at t j r.labels) (Ok y) F B r.at.here.of (here_is P t j w r (Peek v) e) (g.0, g.1) in
       let n : blocks_at t.lines (j + 1) ≡ bs ++ InPeek j ∷ [] = blocks_next t.lines j (Peek v) e in
       let same = opens_none t j bs (InPeek j) refl n in
-      let f : (z : Bool) → Fits (in_lock bs) (most_at j + 18) (label_of w.state z) = λ z. fits_more (in_lock bs) (most_at j) (most_at j + 18) (label_of w.state z) (omega arith) (fits_here P t j w r (Peek v) e z) in
-      let f' : (z : Bool) → Fits (in_lock bs) (most_at j + 18) (label_of new z) = λ z. strongest_fits (in_lock bs) (most_at j + 18) (label_of new z) _ (brings_fit (may z) (λ s. s) (label_of w.state) (in_lock bs) (most_at j + 18) f) (g.1.each z) in
+      let f : (z : Bool) → Fits (locks_in bs) (most_at j + 18) (label_of w.state z) = λ z. fits_more (locks_in bs) (most_at j) (most_at j + 18) (label_of w.state z) (omega arith) (fits_here P t j w r (Peek v) e z) in
+      let f' : (z : Bool) → Fits (locks_in bs) (most_at j + 18) (label_of new z) = λ z. strongest_fits (locks_in bs) (most_at j + 18) (label_of new z) _ (brings_fit (may z) (λ s. s) (label_of w.state) (locks_in bs) (most_at j + 18) f) (g.1.each z) in
       let m = each_meets (label_of w.state) side_asks g.0 in
       let l : OnBoth HasCq new = λ z. brought_cq (may z) (λ s. s) (label_of w.state) (label_of new z) (λ y. met_cq (label_of w.state y) (m y)) (g.1.each z) in
       let p : places peek_place (blocks_at t.lines (j + 1)) ≡ j ∷ [] = ap (places peek_place) n ∙ places_pushed peek_place bs (InPeek j) ∙ ap (λ os. os ++ j ∷ []) (no_peeks bs (nested_here t.lines r.thread.nested.each j (Peek v) e)) in

@@ -5,8 +5,9 @@ use Rattle.std.proofs.Math.ListN.{get_or-append}
 use Rattle.std.proofs.Math.Seq.{take-length}
 use Rattle.std.proofs.lemmas.Option.{get_or_from_slice_get}
 use Rattle.rc_lang.specs.declared.lines.Line.{Line}
+use Rattle.rc_lang.specs.declared.lines.Locks.{Locks}
 use Rattle.rc_lang.specs.declared.lines.Stmt.{Stmt}
-use Rattle.rc_lang.specs.Nesting.{blocks_at, in_lock}
+use Rattle.rc_lang.specs.Nesting.{blocks_at, locks_in}
 use Rattle.rc_lang.specs.Program.{Program, Thread, stmt_at}
 use Rattle.rc_lang.proofs.Lookups.{get_new, get_old, get_push, line_with, stands_within}
 use Rattle.rc_rules.specs.declared.cause.Cause.{Cause}
@@ -85,11 +86,11 @@ branch_on P t j labels new n o (Some s) h =
 branches_on : (P : Program) (t : Thread) (j : ℕ) (labels : List Sides) (new : Sides) → length labels ≡ j + 1 → (os : List ℕ) (xs : List (Option State)) → AreKept (OnKept (IsBranch P t j labels)) os xs → AreKept (OnKept (IsBranch P t (j + 1) (labels ++ new ∷ []))) os xs
 branches_on P t j labels new n os xs h = kept_too (OnKept (IsBranch P t j labels)) (OnKept (IsBranch P t (j + 1) (labels ++ new ∷ []))) os xs (λ k o x e r. branch_on P t j labels new n o x r) h
 
-meet_on : (P : Program) (t : Thread) (b : Bool) (n k : ℕ) (ends more : Bool → List Label) (s : State) → n ≤ k → ((z : Bool) → more z ≡ ends z) → IsMeet P t b n ends s → IsMeet P t b k more s
-meet_on P t b n k ends more s l e h = record {
+meet_on : (P : Program) (t : Thread) (held : Locks) (n k : ℕ) (ends more : Bool → List Label) (s : State) → n ≤ k → ((z : Bool) → more z ≡ ends z) → IsMeet P t held n ends s → IsMeet P t held k more s
+meet_on P t held n k ends more s l e h = record {
   of = h.of;
   strongest = λ z. subst (λ xs. IsStrongest (label_of s z) xs) (sym (e z)) (h.strongest z);
-  fits = λ z. fits_more b n k (label_of s z) l (h.fits z);
+  fits = λ z. fits_more held n k (label_of s z) l (h.fits z);
 }
 
 module _ (P : Program) (t : Thread) (j : ℕ) (labels : List Sides) (new : Sides) where
@@ -99,13 +100,13 @@ module _ (P : Program) (t : Thread) (j : ℕ) (labels : List Sides) (new : Sides
     locked = h.locked;
     of = h.of;
     agree = ap (λ xs. agree_all (xs ++ arm_ends (take (j + 1) t.lines) (labels ++ new ∷ []) o false)) (e true) ∙ ap (λ ys. agree_all (arm_ends (take j t.lines) labels o true ++ ys)) (e false) ∙ h.agree;
-    ends = λ q. meet_on P t (in_lock (blocks_at t.lines o)) (most_at j) (most_at (j + 1)) (arm_ends (take j t.lines) labels o) (arm_ends (take (j + 1) t.lines) (labels ++ new ∷ []) o) a.ends (omega arith) e (h.ends q);
+    ends = λ q. meet_on P t (locks_in (blocks_at t.lines o)) (most_at j) (most_at (j + 1)) (arm_ends (take j t.lines) labels o) (arm_ends (take (j + 1) t.lines) (labels ++ new ∷ []) o) a.ends (omega arith) e (h.ends q);
   }
 
   pub loop_on : (o : ℕ) (x : Option State) → ((z : Bool) → break_ends (take (j + 1) t.lines) (labels ++ new ∷ []) o z ≡ break_ends (take j t.lines) labels o z) → OnKept (IsLoop P t j labels) o x → OnKept (IsLoop P t (j + 1) (labels ++ new ∷ [])) o x
   loop_on o None e h = h
   loop_on o (Some s) e h = record {
-    breaks = meet_on P t (in_lock (blocks_at t.lines o)) (most_at j) (most_at (j + 1)) (break_ends (take j t.lines) labels o) (break_ends (take (j + 1) t.lines) (labels ++ new ∷ []) o) s (omega arith) e h.breaks;
+    breaks = meet_on P t (locks_in (blocks_at t.lines o)) (most_at j) (most_at (j + 1)) (break_ends (take j t.lines) labels o) (break_ends (take (j + 1) t.lines) (labels ++ new ∷ []) o) s (omega arith) e h.breaks;
     closed = h.closed;
   }
 
@@ -125,7 +126,7 @@ module _ (P : Program) (t : Thread) (j : ℕ) (w : Walk) (r : Reaches P t j w) (
   pub here_is : sides_of w.state ≡ seen_at t j r.labels
   here_is = sym (ap (λ k. slice_index_or r.labels k unreached) front ∙ known_here)
 
-  pub fits_here : (z : Bool) → Fits (in_lock (blocks_at t.lines j)) (most_at j) (label_of w.state z)
+  pub fits_here : (z : Bool) → Fits (locks_in (blocks_at t.lines j)) (most_at j) (label_of w.state z)
   fits_here z = r.at.fits j (sides_of w.state) r.at.here.at z
 
   line_here : (l : Line) × (slice_get t.lines j ≡ Some l) × (l.stmt ≡ s)
@@ -162,16 +163,16 @@ module _ (P : Program) (t : Thread) (j : ℕ) (w : Walk) (r : Reaches P t j w) (
           ∙ ap (λ x. break_ends (take j t.lines) r.labels o z ++ break_end s o (on z x)) (sym here_is)
 
   -- after the line, with the labels of the state that the walk has there
-  pub onward : (w' : Walk) → Meets (asked_at P t j r.labels s) → AreStrongestOf w'.state (lead_at P t j r.labels s) → IsOf P t w'.state → ((z : Bool) → Fits (in_lock (blocks_at t.lines (j + 1))) (most_at (j + 1)) (label_of w'.state z)) → Keeps P t (j + 1) (r.labels ++ sides_of w'.state ∷ []) w' → Reaches P t (j + 1) w'
+  pub onward : (w' : Walk) → Meets (asked_at P t j r.labels s) → AreStrongestOf w'.state (lead_at P t j r.labels s) → IsOf P t w'.state → ((z : Bool) → Fits (locks_in (blocks_at t.lines (j + 1))) (most_at (j + 1)) (label_of w'.state z)) → Keeps P t (j + 1) (r.labels ++ sides_of w'.state ∷ []) w' → Reaches P t (j + 1) w'
   onward w' m b p f k = go line_here
     where
       there : slice_get (r.labels ++ sides_of w'.state ∷ []) (j + 1) ≡ Some (sides_of w'.state)
       there = ap (λ i. slice_get (r.labels ++ sides_of w'.state ∷ []) i) (sym r.at.size) ∙ get_new r.labels (sides_of w'.state) []
 
-      fits_all : (i : ℕ) (x : Sides) → slice_get (r.labels ++ sides_of w'.state ∷ []) i ≡ Some x → (z : Bool) → Fits (in_lock (blocks_at t.lines i)) (most_at (j + 1)) (on z x)
+      fits_all : (i : ℕ) (x : Sides) → slice_get (r.labels ++ sides_of w'.state ∷ []) i ≡ Some x → (z : Bool) → Fits (locks_in (blocks_at t.lines i)) (most_at (j + 1)) (on z x)
       fits_all i x is z = elim (get_push r.labels (sides_of w'.state) i x is) [
-        | inl h ↦ fits_more (in_lock (blocks_at t.lines i)) (most_at j) (most_at (j + 1)) (on z x) (omega arith) (r.at.fits i x h z)
-        | inr h ↦ subst (λ y. Fits (in_lock (blocks_at t.lines i)) (most_at (j + 1)) (on z y)) h.1 (subst (λ n. Fits (in_lock (blocks_at t.lines n)) (most_at (j + 1)) (label_of w'.state z)) (sym (h.0 ∙ r.at.size)) (f z))
+        | inl h ↦ fits_more (locks_in (blocks_at t.lines i)) (most_at j) (most_at (j + 1)) (on z x) (omega arith) (r.at.fits i x h z)
+        | inr h ↦ subst (λ y. Fits (locks_in (blocks_at t.lines i)) (most_at (j + 1)) (on z y)) h.1 (subst (λ n. Fits (locks_in (blocks_at t.lines n)) (most_at (j + 1)) (label_of w'.state z)) (sym (h.0 ∙ r.at.size)) (f z))
       ]
 
       go : (l : Line) × (slice_get t.lines j ≡ Some l) × (l.stmt ≡ s) → Reaches P t (j + 1) w'
@@ -194,7 +195,7 @@ module _ (P : Program) (t : Thread) (j : ℕ) (w : Walk) (r : Reaches P t j w) (
             };
           }
 
-  pub passes : {X : Type 0} (w' : Walk) (x : Result X Cause) → Gave P t w'.state x (asked_at P t j r.labels s) (lead_at P t j r.labels s) → (AreStrongestOf w'.state (lead_at P t j r.labels s) → (z : Bool) → Fits (in_lock (blocks_at t.lines (j + 1))) (most_at (j + 1)) (label_of w'.state z)) → ((y : X) → x ≡ Ok y → Keeps P t (j + 1) (r.labels ++ sides_of w'.state ∷ []) w') → PassesLine P t j w' x
+  pub passes : {X : Type 0} (w' : Walk) (x : Result X Cause) → Gave P t w'.state x (asked_at P t j r.labels s) (lead_at P t j r.labels s) → (AreStrongestOf w'.state (lead_at P t j r.labels s) → (z : Bool) → Fits (locks_in (blocks_at t.lines (j + 1))) (most_at (j + 1)) (label_of w'.state z)) → ((y : X) → x ≡ Ok y → Keeps P t (j + 1) (r.labels ++ sides_of w'.state ∷ []) w') → PassesLine P t j w' x
   passes w' (Ok y) g f k = onward w' g.0 g.1 g.2 (f g.1) (k y refl)
   passes w' (Err c) g f k = refused (premise_number c) g
 

@@ -9,9 +9,9 @@ use Rattle.rc_rules.specs.Rules.{goes, test_effect}
 use Rattle.rc_rules.specs.Sides.{gate, test_goes}
 use Rattle.rc_rules.specs.States.{State, Becomes, Gives, asked_alike, label_of, program_of}
 
--- What an if takes from the pool are items of the program, among these lists.
+-- What an if takes from a pool are items of the program, among these lists.
 abbrev pub MayTest : Program → List Items → Test → Type 0
-MayTest P lists (Take k) = (k < length lists) × IsItems P (items_at lists k)
+MayTest P lists (Take pool k) = (k < length lists) × IsItems P (items_at lists k)
 MayTest P lists _ = Unit {0}
 
 -- What goes to a branch of a test, as far as the test is of the flag: to the first, where it holds, or to the other.

@@ -1,5 +1,6 @@
 -- What is kept of loops.
 use Rattle.std.specs.Prelude.{ℕ, ◌≡◌, Bool, false, List, [], ◌∷◌, ◌++◌, Option, Some, Result, Ok, Err}
+use Rattle.rc_lang.specs.declared.lines.Locks.{Locks}
 use Rattle.rc_lang.specs.declared.lines.Stmt.{Stmt}
 use Rattle.rc_lang.specs.declared.lines.Stmt.TheVariants.{Loop, EndLoop, Break}
 use Rattle.rc_lang.specs.Program.{Items}
@@ -28,7 +29,7 @@ HoldsDead s room = (dead : State) × (room ≡ Some dead) × OnBoth (λ l. l ≡
 abbrev pub loop_asks : Stmt → Items → State → List (ℕ × Premise)
 loop_asks stmt items s = asked (program_of s) (items ∷ []) (label_of s) stmt
 
-abbrev pub break_asks : Bool → State → List (ℕ × Premise)
+abbrev pub break_asks : Locks → State → List (ℕ × Premise)
 break_asks releases s = asked_alike s [] (Break 0 releases false)
 
 -- The premises of the top hold, and what the loop keeps is known, of a flag that the loop may write on no side.
@@ -45,7 +46,7 @@ ClosesLoop premises old new s (Err cause) = FailsFirst (premise_number cause) pr
 abbrev pub Closes : {X : Type 0} → Items → State → List (Option State) → List (Option State) → State → Result X Cause → Type 0
 Closes items here old new s result = ClosesLoop (loop_asks (EndLoop 0 0) items here) old new s result
 
--- The slot is at one stage on each side of both, and all are locked or none is.
+-- The slot is at one stage on each side of both, and all have the same locks.
 pub record FitsWith (s end : State) : Type 0 where
   pub of : IsOfSame end s
   pub alike : AreAlike s (label_of end)
@@ -58,11 +59,11 @@ pub record KeepsMeet (s : State) (end : Bool → Label) (old new : List (Option 
   pub meet : Becomes s state (two (label_of s) end)
 
 -- what a break here takes to the end of its loop, on each side
-abbrev pub taken : Bool → State → Bool → Label
+abbrev pub taken : Locks → State → Bool → Label
 taken releases here z = broken releases (label_of here z)
 
 -- It agrees with the breaks before.
-pub record MayBreak (s here : State) (releases : Bool) : Type 0 where
+pub record MayBreak (s here : State) (releases : Locks) : Type 0 where
   pub of : IsOfSame here s
   pub alike : AreAlike s (taken releases here)
   pub agree : Meets (break_asks releases here) → Meets (joins_both (two (label_of s) (taken releases here)))
@@ -74,9 +75,9 @@ pub record Breaks (s : State) (end : Bool → Label) (old new : List (Option Sta
   pub keeps : KeepsMeet s carried old new
 
 -- The premises of a break hold, and nothing goes on to the line after it.
-abbrev pub LeavesLoop : {X : Type 0} → Bool → State → State → Result X Cause → Type 0
+abbrev pub LeavesLoop : {X : Type 0} → Locks → State → State → Result X Cause → Type 0
 LeavesLoop releases old new result = Gives old new result (break_asks releases old) (λ z. [])
 
 -- A break has joined the breaks before it, of the loop whose state is kept last.
-abbrev pub JoinsLoop : Bool → State → List (Option State) → List (Option State) → Type 0
+abbrev pub JoinsLoop : Locks → State → List (Option State) → List (Option State) → Type 0
 JoinsLoop releases here old new = OnLast old (λ s. Breaks s (taken releases here) old new)

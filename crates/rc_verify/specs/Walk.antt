@@ -4,7 +4,8 @@ use Rattle.std.specs.Prelude.{ℕ, ◌≡◌, ◌+◌, ◌*◌, ◌<◌, ◌≤�
 use Rattle.rc_lang.specs.declared.lines.Block.{Block}
 use Rattle.rc_lang.specs.declared.lines.Block.TheVariants.{InIf, InElse, InPeek, InLoop}
 use Rattle.rc_lang.specs.declared.lines.Line.{Line}
-use Rattle.rc_lang.specs.Nesting.{blocks_at, in_lock}
+use Rattle.rc_lang.specs.declared.lines.Locks.{Locks}
+use Rattle.rc_lang.specs.Nesting.{blocks_at, locks_in}
 use Rattle.rc_lang.specs.Program.{Program, Thread, IsProgram, IsThread}
 use Rattle.rc_rules.specs.declared.cause.Cause.{Cause}
 use Rattle.rc_rules.specs.declared.mode.Slot.TheVariants.{Closed}
@@ -13,7 +14,7 @@ use Rattle.rc_rules.specs.Causes.{premise_number}
 use Rattle.rc_rules.specs.Labels.{Label, Dead, Live, IsStrongest}
 use Rattle.rc_rules.specs.Labellings.{arm_ends, break_ends, skipped, IsRefusedAt}
 use Rattle.rc_rules.specs.Sides.{Sides, on}
-use Rattle.rc_rules.specs.Rules.{same_slot, agree_all, both_locks, locks_of, sq_of}
+use Rattle.rc_rules.specs.Rules.{same_slot, agree_all, locks_of, sq_of}
 use Rattle.rc_rules.specs.States.{State, label_of, program_of, sides_of}
 use Rattle.rc_verify.specs.declared.walk.Walk.{Walk}
 use Rattle.rc_verify.specs.declared.arms.Arms.{Arms}
@@ -21,10 +22,10 @@ use Rattle.rc_verify.specs.Strongest.{AreStrongest}
 
 -- ---- labels at a place
 
--- Where it is live, both locks are held or neither, as that is said, and no count is above n.
-abbrev pub Fits : Bool → ℕ → Label → Type 0
-Fits lock n Dead = Unit {0}
-Fits lock n (Live bag m) = (locks_of m ≡ both_locks lock) × ((p : Part) → bag p ≤ n)
+-- Where it is live, exactly these locks are held, and no count is above n.
+abbrev pub Fits : Locks → ℕ → Label → Type 0
+Fits locks n Dead = Unit {0}
+Fits locks n (Live bag m) = (locks_of m ≡ locks) × ((p : Part) → bag p ≤ n)
 
 -- how many of each part are held at most after j lines: a loop keeps 4,096 of one at most, and a request that is reaped
 -- gives back 18 in all at most
@@ -93,10 +94,10 @@ pub record IsBranch (P : Program) (t : Thread) (j : ℕ) (labels : List Sides) (
   pub at : (z : Bool) → label_of s z ≡ skipped t t.lines labels o z
 
 -- On each side the state is the strongest that is weaker than each of these ends.
-pub record IsMeet (P : Program) (t : Thread) (lock : Bool) (n : ℕ) (ends : Bool → List Label) (s : State) : Type 0 where
+pub record IsMeet (P : Program) (t : Thread) (locks : Locks) (n : ℕ) (ends : Bool → List Label) (s : State) : Type 0 where
   pub of : IsOf P t s
   pub strongest : (z : Bool) → IsStrongest (label_of s z) (ends z)
-  pub fits : (z : Bool) → Fits lock n (label_of s z)
+  pub fits : (z : Bool) → Fits locks n (label_of s z)
 
 -- Of the peek at o the state before its arms is kept, whether the arms so far agree on the slot, and then their meet.
 pub record IsPeeked (P : Program) (t : Thread) (j : ℕ) (labels : List Sides) (o : ℕ) (a : Arms) : Type 0 where
@@ -104,11 +105,11 @@ pub record IsPeeked (P : Program) (t : Thread) (j : ℕ) (labels : List Sides) (
   pub locked : (z : Bool) → HasCq (label_of a.before z)
   pub of : IsOf P t a.ends
   pub agree : agree_all (arm_ends (take j t.lines) labels o true ++ arm_ends (take j t.lines) labels o false) ≡ a.agree
-  pub ends : a.agree ≡ true → IsMeet P t (in_lock (blocks_at t.lines o)) (most_at j) (arm_ends (take j t.lines) labels o) a.ends
+  pub ends : a.agree ≡ true → IsMeet P t (locks_in (blocks_at t.lines o)) (most_at j) (arm_ends (take j t.lines) labels o) a.ends
 
 -- Of the loop at o the meet of its breaks so far is kept.
 pub record IsLoop (P : Program) (t : Thread) (j : ℕ) (labels : List Sides) (o : ℕ) (s : State) : Type 0 where
-  pub breaks : IsMeet P t (in_lock (blocks_at t.lines o)) (most_at j) (break_ends (take j t.lines) labels o) s
+  pub breaks : IsMeet P t (locks_in (blocks_at t.lines o)) (most_at j) (break_ends (take j t.lines) labels o) s
   pub closed : (z : Bool) → IsClosed (label_of s z)
 
 -- ---- the place that a walk has come to
@@ -125,7 +126,7 @@ pub record IsAt (P : Program) (t : Thread) (j : ℕ) (labels : List Sides) (w : 
   pub size : length labels ≡ j + 1
   pub strongest : AreStrongest P t (take j t.lines) labels
   pub here : IsSaved P t labels j w.state
-  pub fits : (k : ℕ) (s : Sides) → slice_get labels k ≡ Some s → (z : Bool) → Fits (in_lock (blocks_at t.lines k)) (most_at j) (on z s)
+  pub fits : (k : ℕ) (s : Sides) → slice_get labels k ≡ Some s → (z : Bool) → Fits (locks_in (blocks_at t.lines k)) (most_at j) (on z s)
   pub keeps : Keeps P t j labels w
 
 pub record Reaches (P : Program) (t : Thread) (j : ℕ) (w : Walk) : Type 0 where

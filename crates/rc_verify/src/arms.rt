@@ -65,7 +65,8 @@ impl<'a> Peek<'a> {
     }
 }
 
-/// `peek_cqe x {`, which asks for the lock, and then writes the variable: what was known of a flag is lost.
+/// `peek_cqe x {`, which asks for the lock of the completion side, and then writes the variable: what was known of a flag
+/// is lost.
 pub fn open_peek<'a>(
     state: &mut State<'a>,
     peek: &mut Peek<'a>,

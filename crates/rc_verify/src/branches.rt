@@ -39,7 +39,7 @@ fn test_state(state: &mut State, test: Test, lists: &[Items]) -> Result<(), Caus
         }
         Test::ReadyZero => state.ready_zero(),
         Test::SpaceAtLeast(n) => state.space_at_least(n),
-        Test::Take(k) => state.take(&lists[k]),
+        Test::Take(pool, k) => state.take(pool, &lists[k]),
     }
 }
 

@@ -1,15 +1,15 @@
 //! Loops and their breaks.
 
-ghost use Rattle.std.specs.Prelude.{◌≡◌, ◌<◌, ◌∷◌, [], true, length, IsSome, Some, OnErr, OnOk};
+ghost use Rattle.std.specs.Prelude.{◌≡◌, ◌<◌, length, IsSome, OnErr, OnOk};
 ghost use Rattle.rc_lang.specs.Parts.{view_items};
 ghost use Rattle.rc_lang.specs.Program.{IsList};
-ghost use Rattle.rc_rules.specs.Premises.{Meets};
 ghost use Rattle.rc_rules.specs.States as states;
 ghost use Rattle.rc_verify.specs.Stack.{OnLast, last_of};
 ghost use Rattle.rc_verify.specs.Loops as spec;
 ghost use Rattle.rc_verify.specs.Loops.{Closes};
 
 use crate::stack::StateStack;
+use rc_lang::lines::Locks;
 use rc_lang::program::Items;
 use rc_rules::cause::Cause;
 use rc_rules::state::State;
@@ -46,33 +46,19 @@ pub fn close_loop<'a>(
     Ok(())
 }
 
-/// Becomes what a break takes to the end of its loop, where it may break there.
-fn carry(end: &mut State, releases: bool)
-    requires meets { Meets (spec.break_asks releases end.old) }
-    requires locked { releases ≡ true → states.OnBoth states.IsLocked end.old }
-    ensures { states.Becomes end.old end.new (λ z. spec.taken releases end.old z ∷ []) }
-{
-    if releases {
-        let _ = end.release();
-    } else {
-        end.forget_peeked();
-    }
-}
-
-/// `break`, which may release the lock. Nothing comes from above after it.
+/// `break`, which releases these locks. Nothing comes from above after it.
 pub fn leave_loop<'a>(
     state: &mut State<'a>,
     loops: &mut StateStack<'a>,
-    releases: bool,
+    releases: Locks,
 ) -> Result<(), Cause>
-    requires locked { releases ≡ true → states.OnBoth states.IsLocked state.old }
     requires kept { IsSome (last_of loops.old) }
     requires fits { OnLast loops.old (λ s. spec.MayBreak s state.old releases) }
     ensures gives { spec.LeavesLoop releases state.old state.new result }
     ensures kept { OnOk result (spec.JoinsLoop releases state.old loops.old loops.new) }
 {
     state.may_break(releases)?;
-    carry(state, releases);
+    state.carry_out(releases);
     loops.join_top(state);
     state.die();
     Ok(())

@@ -68,9 +68,9 @@ pub fn pass<'a>(walk: &mut Walk<'a>, thread: &Thread, place: usize, stmt: Stmt) 
 {
     match stmt {
         Stmt::Do(_) => transfer(&mut walk.state, &stmt),
-        Stmt::Put(k) => walk.state.put(&thread.lists[k]),
-        Stmt::Lock => walk.state.enter_lock(),
-        Stmt::EndLock(_) => walk.state.release(),
+        Stmt::Put(pool, k) => walk.state.put(pool, &thread.lists[k]),
+        Stmt::Lock(takes) => walk.state.enter_lock(takes),
+        Stmt::EndLock(_, releases) => walk.state.release(releases),
         Stmt::If(test) => enter_if(&mut walk.state, &mut walk.branches, test, &thread.lists),
         Stmt::Else(_) => {
             begin_else(&mut walk.state, &mut walk.branches);

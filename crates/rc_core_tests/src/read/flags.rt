@@ -36,7 +36,7 @@ fn pump_is_read_from_the_second_version_on(rt: HostRuntime) -> Result<(), Fail> 
         ("ringcheck 2\n", when, queue, (0, 0)),
         ("ringcheck 1\n", when, queue, (6, 3)),
         ("ringcheck 3\n", when, queue, (0, 0)),
-        ("ringcheck 4\n", when, queue, (1, 2)),
+        ("ringcheck 4\n", when, queue, (0, 0)),
         ("ringcheck 2\n", when, "loop keeps q:1 when g {\n", (12, 11)),
         ("ringcheck 2\n", when, "loop keeps q:1 when h {\n", (0, 0)),
         (

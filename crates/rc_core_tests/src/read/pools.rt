@@ -10,8 +10,8 @@ const ANY_ORDER: &str =
 // The statement, where it is one of the pool or a loop, and the number of its list.
 fn list_of(stmt: Stmt) -> Option<(u8, usize)> {
     match stmt {
-        Stmt::Put(k) => Some((1, k)),
-        Stmt::If(Test::Take(k)) => Some((2, k)),
+        Stmt::Put(None, k) => Some((1, k)),
+        Stmt::If(Test::Take(None, k)) => Some((2, k)),
         Stmt::Loop(k) => Some((3, k)),
         _ => None,
     }
@@ -89,7 +89,7 @@ fn a_list_of_the_pool_has_its_items(rt: HostRuntime) -> Result<(), Fail> {
 }
 
 #[test]
-fn the_pool_is_of_the_third_version(rt: HostRuntime) {
+fn the_pool_is_there_from_the_third_version_on(rt: HostRuntime) {
     let double = "\nring 1\ntoken 7 nop\nthread t0 holds t:7 {\nlock {\nput t:7\nput t:7\n}\n}\n";
     let queue = "\nring 1\ntoken 7 nop\nthread t0 holds t:7 {\nlock {\nput q:1\nput t:7\n}\n}\n";
     let names = "\nring 1\nthread t0 holds {\nput = 3\ntake = put\n}\n";
@@ -99,7 +99,7 @@ fn the_pool_is_of_the_third_version(rt: HostRuntime) {
         ("ringcheck 3", double, (0, 0)),
         ("ringcheck 2", double, (6, 3)),
         ("ringcheck 1", double, (6, 3)),
-        ("ringcheck 4", double, (1, 2)),
+        ("ringcheck 4", double, (0, 0)),
         ("ringcheck 3", queue, (6, 9)),
         ("ringcheck 1", names, (0, 0)),
         ("ringcheck 2", names, (0, 0)),

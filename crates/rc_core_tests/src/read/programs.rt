@@ -1,19 +1,32 @@
 //! What is in the program of a text.
 
 use super::*;
-use rc_lang::lines::{Comparison, Op, Operand, Stmt, Test};
+use rc_lang::lines::{Comparison, Locks, Op, Operand, Stmt, Test};
 use rc_lang::program::TokenKind;
+
+// Locks by a number of their own.
+fn locks_mark(locks: Locks) -> usize {
+    usize::from(locks.sq) + 2 * usize::from(locks.cq)
+}
+
+// A pool by a number of its own: 0 for the one without a name.
+fn pool_mark(pool: Option<usize>) -> usize {
+    match pool {
+        None => 0,
+        Some(number) => 1 + number % 16,
+    }
+}
 
 // The statements of a thread that are looked at here, by numbers of their own.
 pub fn mark_of(stmt: Stmt) -> (u8, usize, usize) {
     match stmt {
-        Stmt::Lock => (1, 0, 0),
-        Stmt::EndLock(o) => (2, o, 0),
+        Stmt::Lock(locks) => (1, locks_mark(locks), 0),
+        Stmt::EndLock(o, locks) => (2, o, locks_mark(locks)),
         Stmt::Loop(k) => (3, k, 0),
         Stmt::EndLoop(o, k) => (4, o, k),
         Stmt::If(Test::ReadyZero) => (5, 0, 0),
         Stmt::EndIf(o) => (6, o, 0),
-        Stmt::Break(o, releases, leaves) => (7, o, usize::from(releases) + 2 * usize::from(leaves)),
+        Stmt::Break(o, releases, leaves) => (7, o, locks_mark(releases) + 4 * usize::from(leaves)),
         Stmt::Peek(x) => (8, x, 0),
         Stmt::Case(o, u) => (9, o, (u % 100) as usize),
         Stmt::Other(o) => (10, o, 0),
@@ -28,17 +41,23 @@ pub fn mark_of(stmt: Stmt) -> (u8, usize, usize) {
         Stmt::Do(Op::CqeSeen) => (19, 0, 0),
         Stmt::Do(Op::Load(x, b, _)) => (20, x, b),
         Stmt::Do(Op::Print(x)) => (21, x, 0),
+        Stmt::Put(pool, k) => (22, pool_mark(pool), k),
+        Stmt::If(Test::Take(pool, k)) => (23, pool_mark(pool), k),
         _ => (99, 0, 0),
     }
 }
 
-// Whether a place has the line with this number, and a statement of this mark.
-fn stands(program: &Program, row: (usize, u32, (u8, usize, usize))) -> bool {
+// Whether a place of a thread has the line with this number, and a statement of this mark.
+pub fn stands_in(program: &Program, thread: usize, row: (usize, u32, (u8, usize, usize))) -> bool {
     let (place, number, mark) = row;
-    match program.line_at(0, place) {
+    match program.line_at(thread, place) {
         Some(line) => line.number == number && mark_of(line.stmt) == mark,
         None => false,
     }
+}
+
+fn stands(program: &Program, row: (usize, u32, (u8, usize, usize))) -> bool {
+    stands_in(program, 0, row)
 }
 
 #[test]
@@ -47,7 +66,7 @@ fn nop_is_read_with_its_links(rt: HostRuntime) -> Result<(), Fail> {
     assert_eq!(rt; program.entries(), 1);
     assert_eq!(rt; program.completion_entries(), 2);
     for row in [
-        (0, 5, (1, 0, 0)),
+        (0, 5, (1, 3, 0)),
         (1, 6, (14, 0, 0)),
         (2, 7, (16, 0, 0)),
         (3, 8, (17, 7, 0)),
@@ -61,7 +80,7 @@ fn nop_is_read_with_its_links(rt: HostRuntime) -> Result<(), Fail> {
         (11, 16, (11, 5, 0)),
         (12, 17, (12, 5, 0)),
         (13, 18, (13, 5, 0)),
-        (14, 19, (2, 0, 0)),
+        (14, 19, (2, 0, 3)),
     ] {
         assert!(rt; stands(&program, row), "place {}", row.0);
     }
@@ -100,13 +119,13 @@ fn is_block(place: usize, stmt: Stmt) -> bool {
         (13, Stmt::EndIf(12)) => true,
         (14, Stmt::If(Test::SpaceAtLeast(4))) => true,
         (15, Stmt::EndIf(14)) => true,
-        (16, Stmt::Lock) => true,
+        (16, Stmt::Lock(locks)) => locks_mark(locks) == 3,
         (17, Stmt::Loop(0)) => true,
         (18, Stmt::Loop(1)) => true,
-        (19, Stmt::Break(18, false, false)) => true,
+        (19, Stmt::Break(18, locks, false)) => locks_mark(locks) == 0,
         (20, Stmt::EndLoop(18, 1)) => true,
         (21, Stmt::EndLoop(17, 0)) => true,
-        (22, Stmt::EndLock(16)) => true,
+        (22, Stmt::EndLock(16, locks)) => locks_mark(locks) == 3,
         _ => false,
     }
 }

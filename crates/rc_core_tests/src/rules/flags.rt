@@ -3,8 +3,9 @@
 ghost use Rattle.std.specs.Prelude.{◌≡◌, ◌∷◌, [], IfOk};
 ghost use Rattle.rc_core_tests.specs.RulesExample.{share, IsAtMost, IsOfShare};
 ghost use Rattle.rc_lang.specs.Parts.{view_items, view_more};
-ghost use Rattle.rc_lang.specs.Program.{IsList};
-ghost use Rattle.rc_rules.specs.States.{IsLocked, OnBoth};
+ghost use Rattle.rc_lang.specs.Program.{IsList, no_more};
+ghost use Rattle.rc_lang.specs.Locks.{both_locks};
+ghost use Rattle.rc_rules.specs.States.{HasLocks, OnBoth};
 
 use super::{
     Parts, case, credits, entered, expect_held, held, list, locked, number, over, program, started,
@@ -35,7 +36,7 @@ fn looped<'a>(alloc: Global, program: &'a Program, items: &Items) -> Result<Stat
 }
 
 fn token_more(alloc: Global) -> Result<More, AllocError>
-    ensures { IfOk result (λ m. view_more m ≡ record { shares = []; tokens = 9 ∷ []; credits = 0 }) }
+    ensures { IfOk result (λ m. view_more m ≡ record no_more { tokens = 9 ∷ [] }) }
 {
     let tokens = Vec::from_slice(alloc, &[9])?;
     Ok(More {
@@ -53,7 +54,9 @@ fn token_besides(alloc: Global) -> Result<Items, AllocError>
 }
 
 fn share_more(alloc: Global) -> Result<More, AllocError>
-    ensures { IfOk result (λ m. view_more m ≡ record { shares = record { buffer = 0; count = 1 } ∷ []; tokens = []; credits = 0 }) }
+    ensures { IfOk result (λ m. view_more m ≡ record no_more {
+      shares = record { buffer = 0; count = 1 } ∷ [];
+    }) }
 {
     let share = Share {
         buffer: 0,
@@ -254,8 +257,8 @@ fn nothing_changes_where_a_side_refuses(rt: HostRuntime) -> Result<(), Fail> {
 fn met<'a>(state: &mut State<'a>, other: &State<'a>) -> u32
     requires of { IsOfShare state.old }
     requires other { IsOfShare other.now }
-    requires locked { OnBoth IsLocked state.old }
-    requires also { OnBoth IsLocked other.now }
+    requires locked { OnBoth (HasLocks both_locks) state.old }
+    requires also { OnBoth (HasLocks both_locks) other.now }
 {
     number(state.meet(other))
 }

@@ -1,4 +1,4 @@
-//! What goes to the pool, and what comes from it.
+//! What goes to pools, and what comes from them.
 
 ghost use Rattle.std.specs.Prelude.{◌≡◌, ◌≤◌, ◌+◌, ◌∷◌, [], None, IfOk, cond, nat_eq};
 ghost use Rattle.rc_core_tests.specs.RulesExample.{share, IsAtMost, IsOfShare};
@@ -47,7 +47,8 @@ const PEEKED: [Pooled; 4] = [
 ];
 
 fn rows(alloc: Global, count: u32) -> Result<Vec<Share>, AllocError>
-    ensures { IfOk result (λ v. v.items ≡ cond (nat_eq count 0) [] (record { buffer = 0; count = count } ∷ [])) }
+    ensures { IfOk result
+        (λ v. v.items ≡ cond (nat_eq count 0) [] (record { buffer = 0; count = count } ∷ [])) }
 {
     if count == 0 {
         return Ok(Vec::new(alloc));
@@ -81,24 +82,42 @@ fn items(alloc: Global, named: Named) -> Result<Items, AllocError>
     })
 }
 
-// Puts the items: 0, or the number of the cause.
+// Puts the items into the pool without a name, or one with a name: 0, or the number of the cause.
+fn put_into(state: &mut State, pool: Option<usize>, items: &Items, count: u32) -> u32
+    requires of { IsOfShare state.old }
+    requires few { OnBoth (IsAtMost count) state.old }
+    ensures of { IsOfShare state.new }
+    ensures few { OnBoth (IsAtMost count) state.new }
+{
+    number(state.put(pool, items))
+}
+
 fn put(state: &mut State, items: &Items, count: u32) -> u32
     requires of { IsOfShare state.old }
     requires few { OnBoth (IsAtMost count) state.old }
     ensures of { IsOfShare state.new }
     ensures few { OnBoth (IsAtMost count) state.new }
 {
-    number(state.put(items))
+    put_into(state, None, items, count)
 }
 
 // Takes the items.
+fn take_from(state: &mut State, pool: Option<usize>, items: &Items, count: u32) -> u32
+    requires of { IsOfShare state.old }
+    requires named { IsItems share (view_items items.now) }
+    requires few { OnBoth (IsAtMost count) state.old }
+    requires small { count ≤ 10000 }
+{
+    number(state.take(pool, items))
+}
+
 fn take(state: &mut State, items: &Items, count: u32) -> u32
     requires of { IsOfShare state.old }
     requires named { IsItems share (view_items items.now) }
     requires few { OnBoth (IsAtMost count) state.old }
     requires small { count ≤ 10000 }
 {
-    number(state.take(items))
+    take_from(state, None, items, count)
 }
 
 fn expected(named: Option<Named>) -> Option<Parts> {
@@ -152,6 +171,21 @@ fn the_pool_is_under_the_lock(rt: HostRuntime) -> Result<(), Fail> {
     assert_eq!(rt; put(&mut state, &nothing, 100), 1);
     assert_eq!(rt; take(&mut state, &nothing, 100), 1);
     expect_held(&rt, state.on(true), held(2, true, 1));
+    Ok(())
+}
+
+#[test]
+fn a_named_pool_asks_for_no_lock(rt: HostRuntime) -> Result<(), Fail> {
+    let program = program(rt.alloc())?;
+    let share = items(rt.alloc(), (1, false, 0))?;
+    let token = items(rt.alloc(), (0, true, 0))?;
+    let mut state = started(rt.alloc(), &program)?;
+    assert_eq!(rt; put_into(&mut state, Some(0), &token, 100), 0);
+    assert_eq!(rt; put_into(&mut state, Some(1), &token, 100), 19);
+    assert_eq!(rt; put_into(&mut state, Some(1), &share, 100), 0);
+    expect_held(&rt, state.on(true), held(1, false, 1));
+    assert_eq!(rt; take_from(&mut state, Some(0), &token, 100), 0);
+    expect_held(&rt, state.on(true), held(1, true, 1));
     Ok(())
 }
 

@@ -1,5 +1,6 @@
-//! A thread that is stepped to its end, and a nop that completes after it; items that go to the pool and leave it.
+//! A thread that is stepped to its end, and a nop that completes after it; items that go to pools and leave them.
 
+use rc_lang::lines::Locks;
 use rc_lang::program::Program;
 use rc_read::{ReadFault, read_program};
 use rc_world::event::{Action, Completion, Event, Item};
@@ -60,6 +61,36 @@ put t:7
 }
 ";
 
+/// A token that is put into one of two pools, isn't in the other, and is taken from the first.
+const NAMED: &str = "ringcheck 4
+ring 1
+pool free
+pool done
+token 7 nop
+thread t0 holds t:7 {
+put free t:7
+if take done t:7 {
+}
+if take free t:7 {
+}
+}
+";
+
+/// A token that is put into two pools.
+const IN_TWO: &str = "ringcheck 4
+ring 1
+pool free
+pool done
+token 7 nop
+thread t0 holds t:7 {
+put free t:7
+put done t:7
+}
+";
+
+/// Both locks.
+pub const BOTH: Locks = Locks { sq: true, cq: true };
+
 /// The program of the first.
 pub fn program(alloc: Global) -> Result<Program, ReadFault> {
     read_program(alloc, STEPS.as_bytes())
@@ -107,13 +138,13 @@ fn a_thread_is_stepped_to_its_end(rt: HostRuntime) -> Result<(), Fail> {
         (THREAD, by(9, Action::VariableSet(321))),
         (THREAD, by(10, Action::Stored(65))),
         (THREAD, by(11, Action::Loaded(65))),
-        (THREAD, by(12, Action::Locked)),
+        (THREAD, by(12, Action::Locked(BOTH))),
         (THREAD, by(13, Action::EntryOpened)),
         (THREAD, by(14, Action::NopPrepared)),
         (THREAD, by(15, Action::DataSet(7))),
         (THREAD, by(16, Action::Submitted(1))),
         (NOP, Event::ByKernel(completion)),
-        (THREAD, by(17, Action::Released)),
+        (THREAD, by(17, Action::Released(BOTH))),
     ];
     for (item, event) in steps {
         assert_eq!(rt; apply(&rt, &mut world, item), Ok(event));
@@ -157,11 +188,11 @@ fn items_leave_the_pool_once(rt: HostRuntime) -> Result<(), Fail> {
     let program = read_program(rt.alloc(), POOLED.as_bytes())?;
     let mut world = World::start(rt.alloc(), &program)?;
     let steps = [
-        by(4, Action::Locked),
+        by(4, Action::Locked(BOTH)),
         by(5, Action::ItemsPut),
         by(6, Action::Branched(true)),
         by(8, Action::Branched(false)),
-        by(10, Action::Released),
+        by(10, Action::Released(BOTH)),
     ];
     for event in steps {
         assert_eq!(rt; apply(&rt, &mut world, THREAD), Ok(event));
@@ -175,11 +206,43 @@ fn items_leave_the_pool_once(rt: HostRuntime) -> Result<(), Fail> {
 fn a_second_put_is_a_fault(rt: HostRuntime) -> Result<(), Fail> {
     let program = read_program(rt.alloc(), DOUBLE.as_bytes())?;
     let mut world = World::start(rt.alloc(), &program)?;
-    for event in [by(5, Action::Locked), by(6, Action::ItemsPut)] {
+    for event in [by(5, Action::Locked(BOTH)), by(6, Action::ItemsPut)] {
         assert!(rt; world.fault().is_none());
         assert_eq!(rt; apply(&rt, &mut world, THREAD), Ok(event));
     }
     let party = Party::At { thread: 0, line: 7 };
+    let double = Fault {
+        kind: FaultKind::DoublePut,
+        party,
+    };
+    assert_eq!(rt; world.fault(), Some(double));
+    Ok(())
+}
+
+#[test]
+fn items_are_in_the_named_pool_alone(rt: HostRuntime) -> Result<(), Fail> {
+    let program = read_program(rt.alloc(), NAMED.as_bytes())?;
+    let mut world = World::start(rt.alloc(), &program)?;
+    let steps = [
+        by(7, Action::ItemsPut),
+        by(8, Action::Branched(false)),
+        by(10, Action::Branched(true)),
+    ];
+    for event in steps {
+        assert_eq!(rt; apply(&rt, &mut world, THREAD), Ok(event));
+    }
+    assert!(rt; !world.enabled(&THREAD));
+    assert!(rt; world.fault().is_none());
+    Ok(())
+}
+
+#[test]
+fn a_token_is_put_into_one_pool_alone(rt: HostRuntime) -> Result<(), Fail> {
+    let program = read_program(rt.alloc(), IN_TWO.as_bytes())?;
+    let mut world = World::start(rt.alloc(), &program)?;
+    assert!(rt; world.fault().is_none());
+    assert_eq!(rt; apply(&rt, &mut world, THREAD), Ok(by(7, Action::ItemsPut)));
+    let party = Party::At { thread: 0, line: 8 };
     let double = Fault {
         kind: FaultKind::DoublePut,
         party,

@@ -1,6 +1,6 @@
 //! The rules of loops and their breaks, on each side of a state.
 
-ghost use Rattle.std.specs.Prelude.{◌≡◌, ◌∷◌, [], true, false, Some};
+ghost use Rattle.std.specs.Prelude.{◌≡◌, ◌∷◌, [], false, Some};
 ghost use Rattle.rc_lang.specs.Parts.{view_items};
 ghost use Rattle.rc_lang.specs.declared.lines.Stmt.TheVariants as stmts;
 ghost use Rattle.rc_lang.specs.Program.{IsList};
@@ -12,7 +12,7 @@ ghost use Rattle.rc_rules.specs.States as spec;
 use super::State;
 use crate::cause::Cause;
 use crate::mode::Mode;
-use rc_lang::lines::Stmt;
+use rc_lang::lines::{Locks, Stmt};
 use rc_lang::program::Items;
 use std::slice;
 
@@ -57,17 +57,24 @@ impl<'a> State<'a> {
         Ok(())
     }
 
-    /// Whether a `break` may be here, which may release both locks.
-    pub fn may_break(&self, releases: bool) -> Result<(), Cause>
+    /// Whether a `break` may be here, which releases these locks.
+    pub fn may_break(&self, releases: Locks) -> Result<(), Cause>
         ensures { Tests result (spec.asked_alike self.now [] (stmts.Break 0 releases false)) }
     {
         self.checked(&[], Stmt::Break(0, releases, false))
     }
 
-    /// `break`, which may release both locks. The state is dead after it. What goes to the loop's end is made of the
-    /// state before. Unless the state is dead, it has both where they are released.
-    pub fn break_out(&mut self, releases: bool) -> Result<(), Cause>
-        requires { releases ≡ true → spec.OnBoth spec.IsLocked self.old }
+    /// What a `break` that releases these locks takes to the end of its loop: there nothing is peeked.
+    pub fn carry_out(&mut self, releases: Locks)
+        ensures { spec.BecomesEach self.old self.new (rules.broken releases) }
+    {
+        self.zero.carry_out(releases);
+        self.other.carry_out(releases);
+    }
+
+    /// `break`, which releases these locks. The state is dead after it. What goes to the loop's end is made of the
+    /// state before.
+    pub fn break_out(&mut self, releases: Locks) -> Result<(), Cause>
         ensures { spec.Ends self.old self.new result [] (stmts.Break 0 releases false) }
     {
         self.may_break(releases)?;

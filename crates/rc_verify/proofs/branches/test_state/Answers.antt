@@ -12,5 +12,5 @@ returns-in-Compare c = compared _ c.args.state.now c.take_branch.new.state c.arg
 
 pub returns-in-Take : goal.returns-in-Take
 returns-in-Take c =
-    let may : MayTest (program_of c.args.state.now) (map view_items c.args.lists.now) (Take c.in-Take.k) = subst (MayTest (program_of c.args.state.now) (map view_items c.args.lists.now)) c.in-Take.is c.requires.test in
-    taken_from _ c.args.state.now c.take.new.self c.take.result c.args.test c.in-Take.k _ c.in-Take.is (items_here c.args.lists.now c.in-Take.k c.index-lists-k.result may.0 c.index-lists-k.is) c.take.ensures
+    let may : MayTest (program_of c.args.state.now) (map view_items c.args.lists.now) (Take c.in-Take.pool c.in-Take.k) = subst (MayTest (program_of c.args.state.now) (map view_items c.args.lists.now)) c.in-Take.is c.requires.test in
+    taken_from _ c.args.state.now c.take.new.self c.take.result c.args.test c.in-Take.pool c.in-Take.k _ c.in-Take.is (items_here c.args.lists.now c.in-Take.k c.index-lists-k.result may.0 c.index-lists-k.is) c.take.ensures

@@ -4,12 +4,12 @@ use Rattle.rc_lang.specs.Parts.{view_items}
 use Rattle.rc_lang.proofs.Closing.{opens_case, opens_nothing, opens_other}
 use Rattle.rc_verify.proofs.Arming.{arm_stays, case_declared, case_passes, case_some, none_passes, none_some, other_passes, other_some}
 use Rattle.rc_verify.proofs.Branching.{else_passes, else_some, end_alike, end_of, end_passes, end_some, end_stays, if_passes, may_test, room_here}
-use Rattle.rc_verify.proofs.Breaking.{break_locked, break_passes, break_some, may_leave}
+use Rattle.rc_verify.proofs.Breaking.{break_passes, break_some, may_leave}
 use Rattle.rc_verify.proofs.Ending.{arm_alike, arm_end_passes, arm_of, arm_some, end_peek_passes, end_peek_some}
 use Rattle.rc_verify.proofs.Looping.{end_loop_passes, end_loop_some, loop_list, loop_passes, loop_room}
 use Rattle.rc_verify.proofs.Peeking.{peek_passes}
 use Rattle.rc_verify.proofs.Placing.{at, items_here, loop_there}
-use Rattle.rc_verify.proofs.Plainly.{do_passes, lock_passes, locked_here, put_passes, release_passes, small_here, unlocked_here}
+use Rattle.rc_verify.proofs.Plainly.{do_passes, free_here, held_here, lock_passes, put_passes, release_passes, small_here}
 use Rattle.rc_verify.proofs.Standing.{gives_stays}
 use Rattle.rc_verify.proofs.walk.pass.Goals as goal
 
@@ -20,22 +20,22 @@ pub returns-in-Do-clause-passes : goal.returns-in-Do-clause-passes
 returns-in-Do-clause-passes c = do_passes _ _ _ _ c.requires.reaches c.in-Do.field-0 c.transfer.new.state c.transfer.result (at c.requires.here c.in-Do.is) (c.transfer.ensures c.in-Do.field-0 c.in-Do.is)
 
 pub index-requires : goal.index-requires
-index-requires c = omega (arith, c.args.thread.now.lists.ok.0, loop_there c.args.thread.now.lists.items c.in-Put.k (c.requires.reaches.thread.resolved c.args.place (Put c.in-Put.k) (at c.requires.here c.in-Put.is)))
+index-requires c = omega (arith, c.args.thread.now.lists.ok.0, loop_there c.args.thread.now.lists.items c.in-Put.k (c.requires.reaches.thread.resolved c.args.place (Put c.in-Put.pool c.in-Put.k) (at c.requires.here c.in-Put.is)).1)
 
 pub returns-in-Put-clause-passes : goal.returns-in-Put-clause-passes
-returns-in-Put-clause-passes c = put_passes _ _ _ _ c.requires.reaches c.in-Put.k _ c.put.new.self c.put.result (at c.requires.here c.in-Put.is) (items_here c.args.thread.now.lists.items c.in-Put.k c.index.result.now (c.requires.reaches.thread.resolved c.args.place (Put c.in-Put.k) (at c.requires.here c.in-Put.is)) c.index.ensures) c.put.ensures
+returns-in-Put-clause-passes c = put_passes _ _ _ _ c.requires.reaches c.in-Put.pool c.in-Put.k _ c.put.new.self c.put.result (at c.requires.here c.in-Put.is) (items_here c.args.thread.now.lists.items c.in-Put.k c.index.result.now (c.requires.reaches.thread.resolved c.args.place (Put c.in-Put.pool c.in-Put.k) (at c.requires.here c.in-Put.is)).1 c.index.ensures) c.put.ensures
 
 pub enter_lock-requires : goal.enter_lock-requires
-enter_lock-requires c = unlocked_here _ _ _ _ c.requires.reaches (at c.requires.here c.in-Lock.is)
+enter_lock-requires c = free_here _ _ _ _ c.requires.reaches c.in-Lock.takes (at c.requires.here c.in-Lock.is)
 
 pub returns-in-Lock-clause-passes : goal.returns-in-Lock-clause-passes
-returns-in-Lock-clause-passes c = lock_passes _ _ _ _ c.requires.reaches c.enter_lock.new.self c.enter_lock.result (at c.requires.here c.in-Lock.is) c.enter_lock.ensures
+returns-in-Lock-clause-passes c = lock_passes _ _ _ _ c.requires.reaches c.in-Lock.takes c.enter_lock.new.self c.enter_lock.result (at c.requires.here c.in-Lock.is) c.enter_lock.ensures
 
 pub release-requires : goal.release-requires
-release-requires c = locked_here _ _ _ _ c.requires.reaches c.in-EndLock.field-0 (at c.requires.here c.in-EndLock.is)
+release-requires c = held_here _ _ _ _ c.requires.reaches c.in-EndLock.field-0 c.in-EndLock.releases (at c.requires.here c.in-EndLock.is)
 
 pub returns-in-EndLock-clause-passes : goal.returns-in-EndLock-clause-passes
-returns-in-EndLock-clause-passes c = release_passes _ _ _ _ c.requires.reaches c.in-EndLock.field-0 c.release.new.self c.release.result (at c.requires.here c.in-EndLock.is) c.release.ensures
+returns-in-EndLock-clause-passes c = release_passes _ _ _ _ c.requires.reaches c.in-EndLock.field-0 c.in-EndLock.releases c.release.new.self c.release.result (at c.requires.here c.in-EndLock.is) c.release.ensures
 
 pub enter_if-requires-clause-test : goal.enter_if-requires-clause-test
 enter_if-requires-clause-test c = may_test _ _ _ _ c.requires.reaches c.in-If.test _ (at c.requires.here c.in-If.is) (ap (map view_items) c.deref.ensures.value)
@@ -129,9 +129,6 @@ close_loop-requires c = end_loop_some _ _ _ _ c.requires.reaches c.in-EndLoop.fi
 
 pub returns-in-EndLoop-clause-passes : goal.returns-in-EndLoop-clause-passes
 returns-in-EndLoop-clause-passes c = end_loop_passes _ _ _ _ c.requires.reaches c.in-EndLoop.field-0 c.in-EndLoop.k _ c.close_loop.new.state c.close_loop.new.loops c.close_loop.result (at c.requires.here c.in-EndLoop.is) (items_here c.args.thread.now.lists.items c.in-EndLoop.k c.index-in-EndLoop.result.now (c.requires.reaches.thread.resolved c.args.place (EndLoop c.in-EndLoop.field-0 c.in-EndLoop.k) (at c.requires.here c.in-EndLoop.is)) c.index-in-EndLoop.ensures) c.close_loop.ensures.closes
-
-pub leave_loop-requires-clause-locked : goal.leave_loop-requires-clause-locked
-leave_loop-requires-clause-locked c = break_locked _ _ _ _ c.requires.reaches c.in-Break.field-0 c.in-Break.releases c.in-Break.field-2 (at c.requires.here c.in-Break.is)
 
 pub leave_loop-requires-clause-kept : goal.leave_loop-requires-clause-kept
 leave_loop-requires-clause-kept c = break_some _ _ _ _ c.requires.reaches c.in-Break.field-0 c.in-Break.releases c.in-Break.field-2 (at c.requires.here c.in-Break.is)
