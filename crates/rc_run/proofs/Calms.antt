@@ -3,16 +3,18 @@ use Rattle.std.proofs.Common.{◌<◌, List, subst}
 use Rattle.rc_admit.specs.Worlds.{CallsUnderLock, DataIsFresh, DataIsOne, EntrySuits, HasRoom, NoKernelClash, OfSafeWorlds}
 use Rattle.rc_lang.specs.Program.{IsProgram}
 use Rattle.rc_world.specs.declared.event.Event.{Event}
+use Rattle.rc_world.specs.Laws.{NoDeadlock}
 use Rattle.rc_world.specs.Machine.{World, start_world}
 use Rattle.rc_world.specs.Runs.{IsRun, IsSafe}
 use Rattle.rc_world.proofs.LawGoes.{no_harm_hides}
 use Rattle.rc_world.proofs.LawRuns.{run_sound, sound_at_start}
 use Rattle.rc_run.specs.Calm.{IsCalm}
+use Rattle.rc_run.proofs.LockWaits.{holders_go}
 use Rattle.rc_run.proofs.Orders.{orderly_in_order, orderly_plain, run_orderly, start_orderly}
 
 pub calm : (events : List Event) (w : World) → IsProgram w.program → IsSafe w.program → IsRun (start_world w.program) events w
-    → OfSafeWorlds CallsUnderLock → OfSafeWorlds EntrySuits → OfSafeWorlds HasRoom → OfSafeWorlds DataIsFresh → OfSafeWorlds DataIsOne → OfSafeWorlds NoKernelClash → IsCalm w
-calm events w made safe run lock suits room fresh one clash =
+    → OfSafeWorlds CallsUnderLock → OfSafeWorlds EntrySuits → OfSafeWorlds HasRoom → OfSafeWorlds DataIsFresh → OfSafeWorlds DataIsOne → OfSafeWorlds NoKernelClash → NoDeadlock → IsCalm w
+calm events w made safe run lock suits room fresh one clash deadlock =
     let P = w.program in
     let none = safe events w run in
     let harm = no_harm_hides P events w made run none in
@@ -31,4 +33,5 @@ calm events w made safe run lock suits room fresh one clash =
       plain = orderly_plain w orderly;
       in_order = orderly_in_order w orderly;
       no_clash = clash P safe events w run;
+      holders_go = holders_go deadlock events w made run none;
     }

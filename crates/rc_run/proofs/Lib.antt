@@ -4,6 +4,7 @@ mod Starts
 mod Begins
 mod Completes
 mod Orders
+mod LockWaits
 mod Calms
 mod Turns
 mod Lending

@@ -1,5 +1,5 @@
 -- What a turn of a thread asks of the world, and what it makes of a run.
-use Rattle.std.proofs.Common.{◌≡◌, ◌≢◌, ℕ, ℤ, pos, negsuc, ◌≤ℤ◌, zero, suc, ◌≤◌, inl, inr, true, if◌then◌else◌, List, [], ◌∷◌, ◌++◌, length, min, nat_eq, Option, Some, None, slice_get, refl, sym, ap, subst, ◌∙◌, arith, eq-eqb}
+use Rattle.std.proofs.Common.{◌≡◌, ◌≢◌, ℕ, ℤ, pos, negsuc, ◌≤ℤ◌, zero, suc, ◌≤◌, inl, inr, Bool, true, false, if◌then◌else◌, List, [], ◌∷◌, ◌++◌, length, min, nat_eq, Option, Some, None, slice_get, refl, sym, ap, subst, ◌∙◌, arith, eq-eqb}
 use Rattle.std.proofs.lemmas.Bool.{le-leb, lt-ltb}
 use Rattle.std.proofs.lemmas.Int.{ints}
 use Rattle.std.proofs.lemmas.Option.{same_Some, slice_get_past}
@@ -9,9 +9,10 @@ use Rattle.rc_lang.specs.declared.lines.Stmt.{Stmt}
 use Rattle.rc_lang.specs.declared.lines.Stmt.TheVariants.{Do, Lock, Else, EndIf, Case, Other, Nothing, EndArm, EndPeek}
 use Rattle.rc_lang.specs.declared.request.Request.{Request}
 use Rattle.rc_lang.specs.Program.{Program, lines_of}
+use Rattle.rc_world.specs.declared.controls.Holders.{Holders}
 use Rattle.rc_world.specs.declared.controls.Next.TheVariants.{Ready, TakenLock}
 use Rattle.rc_world.specs.declared.event.Event.{Event}
-use Rattle.rc_world.specs.Controls.{next_at, next_line}
+use Rattle.rc_world.specs.Controls.{are_free, next_at, next_line}
 use Rattle.rc_world.specs.Faults.{count_of, fault_of}
 use Rattle.rc_world.specs.Items.{next_by, next_of, ready_or_taken}
 use Rattle.rc_world.specs.Laws.{GoesOn, HasStep}
@@ -28,9 +29,12 @@ use Rattle.rc_world.proofs.LawFaultless.{standing_within}
 same_ready : (x l : Line) → Ready x ≡ Ready l → x ≡ l
 same_ready x l e = cc
 
-ready_same : (h : Option ℕ) (x l : Line) (s : Stmt) → ready_or_taken h x s ≡ Ready l → x ≡ l
-ready_same None x l Lock e = same_ready x l e
-ready_same (Some j) x l Lock e = absurd (cc)
+ready_same : (h : Holders) (x l : Line) (s : Stmt) → ready_or_taken h x s ≡ Ready l → x ≡ l
+ready_same h x l (Lock wanted) e = taken_or (are_free wanted h) e
+  where
+    taken_or : (free : Bool) → (if free then Ready x else TakenLock wanted) ≡ Ready l → x ≡ l
+    taken_or true q = same_ready x l q
+    taken_or false q = absurd (cc)
 ready_same h x l (Else o) e = absurd (cc)
 ready_same h x l (EndIf o) e = absurd (cc)
 ready_same h x l (Case o u) e = absurd (cc)
@@ -40,12 +44,12 @@ ready_same h x l (EndArm o) e = absurd (cc)
 ready_same h x l (EndPeek o) e = absurd (cc)
 ready_same h x l _ e = same_ready x l e
 
-ready_by : (h : Option ℕ) (o : Option Line) (l : Line) → next_by h o ≡ Ready l → o ≡ Some l
+ready_by : (h : Holders) (o : Option Line) (l : Line) → next_by h o ≡ Ready l → o ≡ Some l
 ready_by h None l e = absurd (cc)
 ready_by h (Some x) l e = ap Some (ready_same h x l x.stmt e)
 
 pub ready_line : (w : World) (i : ℕ) (l : Line) → next_of w.program w.controls i ≡ Ready l → next_line w.program w.controls i ≡ Some l
-ready_line w i l e = ready_by w.controls.holder (next_line w.program w.controls i) l e
+ready_line w i l e = ready_by w.controls.holders (next_line w.program w.controls i) l e
 
 -- a thread that is ready has a step
 pub has_step : (w : World) → IsCalm w → (i : ℕ) (l : Line) → next_of w.program w.controls i ≡ Ready l → HasStep w i
@@ -60,8 +64,8 @@ has_step w c i l e = go (c.goes_on i (standing_within w i l next))
         ap (next_at w.program i) z.1 ∙ slice_get_past (lines_of w.program i) z.0.place (let q : z.0.place ≡ length (lines_of w.program i) = z.2 in omega arith) in
         absurd (cc)
     go (inr (inl z)) =
-        let taken : next_of w.program w.controls i ≡ TakenLock =
-        ap (next_by w.controls.holder) z.2 ∙ ap (ready_or_taken w.controls.holder z.0) z.3 ∙ ap (λ h. ready_or_taken h z.0 Lock) z.4 in
+        let taken : next_of w.program w.controls i ≡ TakenLock z.1 =
+        ap (next_by w.controls.holders) z.2 ∙ ap (ready_or_taken w.controls.holders z.0) z.3 ∙ ap (λ free. if free then Ready z.0 else TakenLock z.1) z.4 in
         absurd (cc)
     go (inr (inr step)) = step
 
@@ -75,8 +79,8 @@ pub closed_at : (w : World) → IsCalm w → (i : ℕ) (l : Line) → next_line 
 closed_at w c i l next = go l.stmt refl
   where
     go : (s : Stmt) → l.stmt ≡ s → IsClosedAt w.slot s
-    go (Do (Submit x)) is = c.entry_suits i (Do (Submit x)) (c.under_lock i (Do (Submit x)) (l, next, is) tt) (l, next, is)
-    go (Do (SubmitAndWait x n)) is = c.entry_suits i (Do (SubmitAndWait x n)) (c.under_lock i (Do (SubmitAndWait x n)) (l, next, is) tt) (l, next, is)
+    go (Do (Submit x)) is = c.entry_suits i (Do (Submit x)) ((c.under_lock i (Do (Submit x)) (l, next, is)).0 tt) (l, next, is)
+    go (Do (SubmitAndWait x n)) is = c.entry_suits i (Do (SubmitAndWait x n)) ((c.under_lock i (Do (SubmitAndWait x n)) (l, next, is)).0 tt) (l, next, is)
     go _ is = tt
 
 -- ---- user data

@@ -4,7 +4,7 @@ use Rattle.rc_admit.specs.Worlds.{CallsUnderLock, DataIsFresh, DataIsOne, EntryS
 use Rattle.rc_lang.specs.declared.request.Request.{Request}
 use Rattle.rc_world.specs.Faults.{fault_of, has_buffer}
 use Rattle.rc_world.specs.Kept.{IsKept}
-use Rattle.rc_run.specs.Lives.{IsInOrder}
+use Rattle.rc_run.specs.Lives.{HoldersGo, IsInOrder}
 use Rattle.rc_world.specs.Laws.{CompletesFreely, GoesOn}
 use Rattle.rc_world.specs.Machine.{Pending, World}
 
@@ -25,3 +25,4 @@ pub record IsCalm (w : World) : Type 0 where
   pub plain : (k : ℕ) (p : Pending) → slice_get w.pending k ≡ Some p → IsPlain p.request
   pub in_order : IsInOrder w.pending
   pub no_clash : NoKernelClash w
+  pub holders_go : HoldersGo w

@@ -10,6 +10,10 @@ pub record Job : Type 0 where
   pub bytes : List ℕ
   pub starved : Bool
 
+-- the job of these parts
+abbrev pub job_of : Request → List ℕ → Bool → Job
+job_of request bytes starved = record { request = request; bytes = bytes; starved = starved }
+
 -- A job has as many bytes as its request moves, unless it is starved: then it has none, and its request is a write.
 pub record IsJob (job : Job) : Type 0 where
   pub small : job.request.len ≤ 4096

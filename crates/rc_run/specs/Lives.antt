@@ -1,5 +1,5 @@
 -- A run under way: what its calls answer and leave.
-use Rattle.std.specs.Prelude.{ℕ, ◌≡◌, ◌<◌, ◌%◌, ℤ, Bool, true, false, not, List, [], ◌∷◌, ◌++◌, filter, length, nat_eq, Some, slice_get, unwrap_or}
+use Rattle.std.specs.Prelude.{ℕ, ◌≡◌, ◌<◌, ◌%◌, ℤ, Bool, true, false, ◌||◌, not, List, [], ◌∷◌, ◌++◌, filter, length, nat_eq, Some, slice_get, unwrap_or}
 use Rattle.std.specs.List.{list_any}
 use Rattle.rc_lang.specs.declared.request.Kind.{Kind}
 use Rattle.rc_lang.specs.declared.request.Kind.TheVariants.{Nop, Fsync, Read, Write}
@@ -14,7 +14,9 @@ use Rattle.rc_world.specs.declared.controls.Next.{Next}
 use Rattle.rc_world.specs.declared.controls.Next.TheVariants as next
 use Rattle.rc_world.specs.declared.event.Event.{Event}
 use Rattle.rc_world.specs.Controls.{next_line}
+use Rattle.rc_world.specs.Faults.{is_holder}
 use Rattle.rc_world.specs.Items.{next_of}
+use Rattle.rc_world.specs.Laws.{HoldsLock}
 use Rattle.rc_world.specs.Machine.{Pending, World, bytes_of, start_world, thread_step, without}
 
 -- The events so far, the world to which they lead, whether the open entry is an fsync that asks for fdatasync(2), which
@@ -36,23 +38,22 @@ grown s e w datasync = record { history = s.history ++ e ∷ []; world = w; data
 abbrev pub datasync_next : Live → ℕ → Bool
 datasync_next s i = datasync_after (next_line s.world.program s.world.controls i) s.datasync
 
--- A turn of a thread whose submit is granted t.
-abbrev pub Turned : Live → ℕ → ℤ → Turn → Live → Type 0
-Turned s i t (Done e) v = (thread_step s.world i (submit_answer s.world t) ≡ Some (e, v.world)) × (v ≡ grown s e v.world (datasync_next s i))
-Turned s i t Waits v = (next_of s.world.program s.world.controls i ≡ next.TakenLock) × (v ≡ s)
-Turned s i t Ended v = (next_of s.world.program s.world.controls i ≡ next.Ended) × (v ≡ s)
-
 -- ---- who can make an event
 
 -- a next that isn't a taken lock
 abbrev pub is_ready : Next → Bool
 is_ready (next.Ready line) = true
-is_ready next.TakenLock = false
+is_ready (next.TakenLock wanted) = false
 is_ready next.Ended = false
+
+abbrev pub is_taken_lock : Next → Bool
+is_taken_lock (next.Ready line) = false
+is_taken_lock (next.TakenLock wanted) = true
+is_taken_lock next.Ended = false
 
 abbrev pub is_end : Next → Bool
 is_end (next.Ready line) = false
-is_end next.TakenLock = false
+is_end (next.TakenLock wanted) = false
 is_end next.Ended = true
 
 -- The i-th thread has ended.
@@ -62,6 +63,26 @@ has_ended w i = is_end (next_of w.program w.controls i)
 -- The i-th thread can make an event.
 abbrev pub can_move : World → ℕ → Bool
 can_move w i = is_ready (next_of w.program w.controls i)
+
+-- The i-th thread is at a taken lock.
+abbrev pub is_at_taken_lock : World → ℕ → Bool
+is_at_taken_lock w i = is_taken_lock (next_of w.program w.controls i)
+
+-- The i-th thread holds a lock of the program.
+abbrev pub holds_lock : World → ℕ → Bool
+holds_lock w i = is_holder w.controls.holders.sq i || is_holder w.controls.holders.cq i
+
+-- Where a thread is at a taken lock, a thread that holds a lock can make an event.
+abbrev pub HoldersGo : World → Type 0
+HoldersGo w = (i : ℕ) → is_at_taken_lock w i ≡ true → (j : ℕ) × HoldsLock w j × (can_move w j ≡ true)
+
+-- ---- turns
+
+-- A turn of a thread whose submit is granted t.
+abbrev pub Turned : Live → ℕ → ℤ → Turn → Live → Type 0
+Turned s i t (Done e) v = (thread_step s.world i (submit_answer s.world t) ≡ Some (e, v.world)) × (v ≡ grown s e v.world (datasync_next s i))
+Turned s i t Waits v = (is_at_taken_lock s.world i ≡ true) × (v ≡ s)
+Turned s i t Ended v = (next_of s.world.program s.world.controls i ≡ next.Ended) × (v ≡ s)
 
 -- ---- jobs
 

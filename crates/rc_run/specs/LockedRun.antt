@@ -17,6 +17,10 @@ pub record LockedRun : Type 0 where
   pub limit : ℕ
   pub memory : Bool
 
+-- what lies under the lock, of these parts
+abbrev pub locked_run : Live → ℕ → ℕ → Bool → LockedRun
+locked_run run turns limit memory = record { run = run; turns = turns; limit = limit; memory = memory }
+
 -- Memory was refused, or the limit is reached.
 abbrev pub is_stopped : LockedRun → Bool
 is_stopped t = t.memory || nat_le t.limit t.turns
@@ -34,6 +38,10 @@ abbrev pub with_turn : LockedRun → Live → Turn → LockedRun
 with_turn t run (turn.Done e) = record t { run = run; turns = t.turns + 1 }
 with_turn t run turn.Waits = record t { run = run }
 with_turn t run turn.Ended = record t { run = run }
+
+-- All but the run is as it was.
+abbrev pub KeepsRest : LockedRun → LockedRun → Type 0
+KeepsRest old new = new ≡ record old { run = new.run }
 
 -- No job is lent: there is none, or memory was refused.
 abbrev pub LendsNone : LockedRun → LockedRun → Type 0

@@ -16,8 +16,8 @@ use Rattle.std.specs.Vec.{vec_capacity, vec_len}
 use Rattle.rc_run.specs.Held.{AreDistinct}
 use Rattle.rc_run.specs.Requests.{data_of}
 use Rattle.rc_world.specs.Changes.{standing_at}
-use Rattle.rc_world.specs.Controls.{Controls, controls_step}
-use Rattle.rc_world.specs.Machine.{Pending, World, bytes_brought, bytes_of, fills, in_rings, kernel_step, stores}
+use Rattle.rc_world.specs.Controls.{Controls, controls_step, next_line}
+use Rattle.rc_world.specs.Machine.{Pending, World, bytes_brought, bytes_of, fills, in_rings, kernel_step, reaps_front, stores, thread_step}
 use Rattle.rc_world.specs.WorldParts.{view_bytes}
 use Rattle.rc_run.specs.declared.machine.Machine.{Machine}
 use Rattle.rc_run.specs.declared.machine.Pending.{Pending as PendingPart}
@@ -116,6 +116,22 @@ fill_step m buffer byte = fills (world_of m) buffer byte (bytes_of (world_of m) 
 
 abbrev pub control_step : Machine → ℕ → Answer → Option (Event × Controls)
 control_step m i answer = controls_step (arc_value m.admitted) m.controls i answer
+
+-- what taking the front completion away makes of the rings
+abbrev pub reap_step : Machine → Option World
+reap_step m = reaps_front (world_of m) m.ring.completions
+
+-- what a result and bytes make of the world, for the pending request at a place
+abbrev pub job_step : Machine → ℕ → ℤ → List ℕ → Option (Event × World)
+job_step m place res bytes = completed_by (world_of m) place res bytes
+
+-- the next line of a thread
+abbrev pub next_line_of : Machine → ℕ → Option Line
+next_line_of m i = next_line (arc_value m.admitted) m.controls i
+
+-- A thread makes its step, where a submit is answered this: this is its event, and this the machine after it.
+abbrev pub Stepped : Machine → ℕ → ℤ → Event → Machine → Type 0
+Stepped old i taken e new = thread_step (world_of old) i taken ≡ Some (e, world_of new)
 
 -- It holds of the pending request at this place.
 abbrev pub AtPlace : Machine → ℕ → (Pending → Type 0) → Type 0

@@ -39,7 +39,7 @@ with_state q i state = record q { states = slice_set q.states i state }
 
 -- A thread is running that can make an event.
 abbrev pub AnyRuns : Live → RunQueue → Type 0
-AnyRuns s q = (j : ℕ) × (slice_get q.states j ≡ Some Running) × (can_move s.world j ≡ true)
+AnyRuns s q = (j : ℕ) × (state_at q.states j ≡ Running) × (can_move s.world j ≡ true)
 
 abbrev pub is_case_for : ℕ → Stmt → Bool
 is_case_for u (Case other v) = nat_eq v u
@@ -54,8 +54,8 @@ awaits lines (Some c) = list_any (λ (l : Line). is_case_for c.user_data l.stmt)
 abbrev pub awaits_front : Live → ℕ → Bool
 awaits_front s i = awaits (lines_of s.world.program i) (slice_get s.world.completions 0)
 
--- A thread that waits is to run again if no request is pending, items were put into the pool since, 1,000 events were
--- made since, or it has a case for the completion that is reaped next.
+-- A thread that waits is to run again if no request is pending, items were put into a pool since, 1,000 events were made
+-- since, or it has a case for the completion that is reaped next.
 abbrev pub is_due : Live → ℕ → ℕ → State → Bool
 is_due s put i Running = false
 is_due s put i Ready = true
@@ -94,18 +94,18 @@ pub record Scheduler : Type 0 where
 abbrev pub RunsNext : RunQueue → Option ℕ → Scheduler → Type 0
 RunsNext q next s = Dispatches s.run.run q next s.queue
 
--- The i-th thread isn't running, and could make an event.
+-- The i-th thread isn't running, and hasn't ended.
 abbrev pub is_held_back : Scheduler → ℕ → Bool
-is_held_back s i = not (is_running (state_at s.queue.states i)) && can_move s.run.run.world i
+is_held_back s i = not (is_running (state_at s.queue.states i)) && not (has_ended s.run.run.world i)
 
--- A thread is held back only while another one is running that can make an event, a request is pending, or the run is to
--- stop.
+-- A thread is held back, at a taken lock too, only while another one is running that can make an event, or a request is
+-- pending.
 abbrev pub MovesOn : Scheduler → Type 0
-MovesOn s = (i : ℕ) → is_held_back s i ≡ true → AnyRuns s.run.run s.queue ⊎ ((0 < length s.run.run.world.pending) ⊎ (is_stopped s.run ≡ true))
+MovesOn s = (i : ℕ) → is_held_back s i ≡ true → AnyRuns s.run.run s.queue ⊎ (0 < length s.run.run.world.pending)
 
--- The i-th thread isn't running, the run goes on, and the thread hasn't ended.
+-- The i-th thread is held back, and the run goes on.
 abbrev pub waits : Scheduler → ℕ → Bool
-waits s i = not (is_running (state_at s.queue.states i)) && (not (is_stopped s.run) && not (has_ended s.run.run.world i))
+waits s i = is_held_back s i && not (is_stopped s.run)
 
 -- the queue after a turn in this run: a put is noted, with how many events there are
 abbrev pub with_put : Option Turn → Live → RunQueue → RunQueue

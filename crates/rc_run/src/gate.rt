@@ -2,7 +2,7 @@
 
 /// What each thread calls before a turn and after it. It may hold a thread back.
 ///
-/// Turns are counted from 1 for each thread. One that waits for the lock of the program keeps its number, and isn't
+/// Turns are counted from 1 for each thread. One that waits for a lock of the program keeps its number, and isn't
 /// answered. No lock is held meanwhile.
 pub trait Gate {
     /// Called before a turn of a thread.

@@ -4,7 +4,7 @@ ghost use Rattle.std.specs.Prelude.{◌≡◌, ◌≤◌, false, true, length};
 ghost use Rattle.std.specs.Borrow.{sem};
 ghost use Rattle.rc_lang.specs.declared.request.Kind.TheVariants.{Write};
 ghost use Rattle.rc_lang.specs.Requests.{may_complete};
-ghost use Rattle.rc_run.specs.Jobs.{IsJob, allows};
+ghost use Rattle.rc_run.specs.Jobs.{IsJob, allows, job_of};
 ghost use Rattle.rc_run.specs.Lending.{LendsBytes};
 
 use rc_lang::request::Request;
@@ -24,18 +24,18 @@ impl Model for Job {
 
     ghost Value = { jobs.Job };
 
-    ghost use Rattle.rc_run.specs.Jobs.{IsJob};
+    ghost use Rattle.rc_run.specs.Jobs.{IsJob, job_of};
 
-    ghost view = { λ j. record { request = j.request; bytes = j.bytes.items; starved = j.starved } };
+    ghost view = { λ j. job_of j.request j.bytes.items j.starved };
 
-    ghost invariant = { λ j. IsJob (record { request = j.request; bytes = j.bytes.items; starved = j.starved }) };
+    ghost invariant = { λ j. IsJob (job_of j.request j.bytes.items j.starved) };
 }
 
 impl Job {
     // A job of these parts.
     pub(crate) fn new(request: Request, bytes: Vec<u8>, starved: bool) -> Job
-        requires { IsJob (record { request = request; bytes = bytes.items; starved = starved }) }
-        ensures { result ≡ record { request = request; bytes = bytes.items; starved = starved } }
+        requires { IsJob (job_of request bytes.items starved) }
+        ensures { result ≡ job_of request bytes.items starved }
     {
         Job {
             request,

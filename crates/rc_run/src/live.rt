@@ -2,13 +2,14 @@
 
 ghost use Rattle.std.specs.Prelude.{◌≡◌, ◌≢◌, ◌≤◌, ◌<◌, ◌↔◌, ℕ, negsuc, ◌≤ℤ◌, [], not, None, IsTrue, IfOk, IfErr, IfSome, IfNone, OnOk, OnErr, Some, true, length, slice_get};
 ghost use Rattle.std.specs.Arc.{arc_value};
+ghost use Rattle.rc_world.specs.Faults.{is_holder};
 ghost use Rattle.rc_world.specs.Items.{next_of};
 ghost use Rattle.rc_world.specs.Machine.{start_world};
 ghost use Rattle.rc_world.specs.Runs.{IsRun, IsSafe};
 ghost use Rattle.rc_run.specs.Calm.{IsCalm};
 ghost use Rattle.rc_run.specs.Jobs.{allows};
 ghost use Rattle.rc_run.specs.LiveParts.{free_parts};
-ghost use Rattle.rc_run.specs.Lives.{IsInOrder, IsNotOut, IsOut, IsPendingAt, Lent, Posted, Turned, begun, can_move, free, has_ended, is_free};
+ghost use Rattle.rc_run.specs.Lives.{IsInOrder, IsNotOut, IsOut, IsPendingAt, Lent, Posted, Turned, begun, can_move, free, has_ended, holds_lock, is_free};
 
 use crate::job::Job;
 use crate::machine::{Machine, Pending};
@@ -17,6 +18,7 @@ use rc_admit::laws::safe_worlds;
 use rc_lang::request::Request;
 use rc_world::controls::Next;
 use rc_world::event::{Completion, Event};
+use rc_world::laws::no_deadlock;
 use std::alloc::{AllocError, Global};
 use std::marker::Model;
 use std::sync::Arc;
@@ -26,7 +28,7 @@ use std::sync::Arc;
 pub enum Turn {
     /// The thread made its next step.
     Done(Event),
-    /// Its next statement takes the lock, which somebody holds.
+    /// It is about to take a lock that another thread holds.
     Waits,
     /// It has ended, or there is no such thread.
     Ended,
@@ -137,11 +139,12 @@ impl Live {
         }
     }
 
-    /// Which thread holds the lock of the program.
-    pub fn holder(&self) -> Option<u32>
-        ensures { result ≡ self.now.world.controls.holder }
+    /// Whether a thread holds a lock of the program.
+    pub fn holds_lock(&self, thread: u32) -> bool
+        ensures { result ≡ holds_lock self.now.world thread }
     {
-        self.machine.controls.holder()
+        let holders = self.machine.controls.holders();
+        is_holder(holders.sq, thread) || is_holder(holders.cq, thread)
     }
 
     /// The events so far.
@@ -180,12 +183,13 @@ impl Live {
     }
 
     // What holds where the run is.
-    fn look(&self)
+    pub(crate) fn look(&self)
         ensures { IsCalm self.now.world }
     {
         self.machine.program();
         self.promise();
         safe_worlds();
+        no_deadlock();
     }
 
     /// The next step of a thread; a submit takes as many as are queued, at most `take`, or fails with a negative one.
@@ -197,7 +201,7 @@ impl Live {
         self.look();
         let line = match self.machine.next(thread) {
             Next::Ended => return Ok(Turn::Ended),
-            Next::TakenLock => return Ok(Turn::Waits),
+            Next::TakenLock(_) => return Ok(Turn::Waits),
             Next::Ready(line) => line,
         };
         self.history.reserve(self.out.len() + 1)?;
@@ -277,6 +281,16 @@ impl Live {
     }
 }
 
+// Whether the thread is the holder of a lock.
+fn is_holder(holder: Option<u32>, thread: u32) -> bool
+    ensures { result ≡ is_holder holder thread }
+{
+    match holder {
+        Some(holder) => holder == thread,
+        None => false,
+    }
+}
+
 // Whether a job of the request is out.
 fn is_out(out: &[u64], request: Request) -> bool
     ensures { result ≡ not (is_free out.now request) }
@@ -297,7 +311,8 @@ fn free_count(pending: &[Pending], out: &[u64]) -> usize
 // The place of a free request, by its place among the free ones.
 fn free_place(pending: &[Pending], out: &[u64], n: usize) -> Option<usize>
     ensures within { IfSome result (λ k. k < length pending.now) }
-    ensures some { IfSome result (λ k. slice_get pending.now k ≡ slice_get (free_parts out.now pending.now) n) }
+    ensures some { IfSome result
+        (λ k. slice_get pending.now k ≡ slice_get (free_parts out.now pending.now) n) }
     ensures none { IfNone result (slice_get (free_parts out.now pending.now) n ≡ None) }
 {
     let mut left = n;

@@ -4,7 +4,7 @@ ghost use Rattle.std.specs.Prelude.{◌≡◌, ◌⊎◌, ◌↔◌, ◌<◌, �
 ghost use Rattle.rc_run.specs.Jobs.{allows};
 ghost use Rattle.rc_run.specs.Reports.{AllEnded, IsUnended};
 ghost use Rattle.rc_run.specs.Lives.{IsNotOut, Lent, Posted, Turned, begun, free};
-ghost use Rattle.rc_run.specs.LockedRun.{EndsAs, IsLockedRun, IsOver, LendsNone, after_no_turn, after_refusal, is_stopped, with_turn};
+ghost use Rattle.rc_run.specs.LockedRun.{EndsAs, IsLockedRun, IsOver, KeepsRest, LendsNone, after_no_turn, after_refusal, is_stopped, with_turn};
 ghost use Rattle.rc_world.specs.Runs.{IsSafe};
 
 use crate::job::Job;
@@ -32,7 +32,17 @@ pub trait RunConfig {
 impl RunConfig for Brand {
     ghost use Rattle.std.specs.Prelude.{[]};
 
-    ghost program = { record { version = 1; entries = 0; completion_entries = 0; left = 0; files = []; buffers = []; tokens = []; threads = [] } };
+    ghost program = { record {
+      version = 1;
+      entries = 0;
+      completion_entries = 0;
+      left = 0;
+      files = [];
+      buffers = [];
+      tokens = [];
+      pools = [];
+      threads = [];
+    } };
 
     ghost limit = { 0 };
 }
@@ -76,9 +86,10 @@ impl<D: Device, L: Ledger + RunConfig> Model for LockedRun<D, L> {
 
     ghost Value = { locked.LockedRun };
 
-    ghost view = { λ s. record { run = s.live; turns = s.turns; limit = s.limit; memory = s.memory } };
+    ghost view = { λ s. locked.locked_run s.live s.turns s.limit s.memory };
 
-    ghost invariant = { λ s. locked.IsLockedRun D.gives L.program L.limit s.events.total (record { run = s.live; turns = s.turns; limit = s.limit; memory = s.memory }) };
+    ghost invariant = { λ s. locked.IsLockedRun D.gives L.program L.limit s.events.total
+        (locked.locked_run s.live s.turns s.limit s.memory) };
 }
 
 impl<D: Device, L: Ledger + RunConfig> LockedRun<D, L> {
@@ -109,7 +120,8 @@ impl<D: Device, L: Ledger + RunConfig> LockedRun<D, L> {
 
     /// How many workers to wake: for each job one, unless four completions wait to be reaped.
     pub fn workers(&self) -> usize
-        ensures few { length self.now.run.world.completed < 4 → result ≡ length (free self.now.run) }
+        ensures few { length self.now.run.world.completed < 4
+            → result ≡ length (free self.now.run) }
         ensures enough { 4 ≤ length self.now.run.world.completed → result ≡ 0 }
     {
         if self.live.completed() < ENOUGH {
@@ -155,7 +167,7 @@ impl<D: Device, L: Ledger + RunConfig> LockedRun<D, L> {
     /// Lends a job, if there is one. Refused memory is noted.
     pub fn take_job(&mut self, choice: u32) -> Option<Job>
         ensures some { IfSome result (λ j. Lent self.old.run choice j self.new.run) }
-        ensures rest { OnSome result (self.new ≡ record self.old { run = self.new.run }) }
+        ensures rest { OnSome result (KeepsRest self.old self.new) }
         ensures none { IfNone result (LendsNone self.old self.new) }
     {
         match self.live.take_job(choice) {
@@ -172,7 +184,7 @@ impl<D: Device, L: Ledger + RunConfig> LockedRun<D, L> {
         requires allowed { allows job res ≡ true }
         requires given { D.gives job.request.user_data res ⊎ (res ≡ negsuc 11) }
         ensures ok { OnOk result (Posted self.old.run job res self.new.run) }
-        ensures rest { OnOk result (self.new ≡ record self.old { run = self.new.run }) }
+        ensures rest { OnOk result (KeepsRest self.old self.new) }
         ensures back { IfErr result (λ j. j ≡ job) }
         ensures same { OnErr result (self.new ≡ self.old) }
         ensures not_out { OnErr result (IsNotOut self.old.run job.request) }
@@ -257,7 +269,7 @@ pub fn unended(live: &Live) -> Option<u32>
     for thread in 0..live.admitted().program().threads().len() as u32 {
         match live.next(thread) {
             Next::Ready(_) => return Some(thread),
-            Next::TakenLock => return Some(thread),
+            Next::TakenLock(_) => return Some(thread),
             Next::Ended => {}
         }
     }

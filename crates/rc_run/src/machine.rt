@@ -3,11 +3,10 @@
 ghost use Rattle.std.specs.Prelude.{◌≡◌, ◌+◌, ◌<◌, ◌^◌, IfOk, IsSome, OnErr, OnOk, Some, map, replicate};
 ghost use Rattle.std.specs.Arc.{arc_value};
 ghost use Rattle.rc_lang.specs.Program.{IsProgram};
-ghost use Rattle.rc_world.specs.Controls.{next_line};
 ghost use Rattle.rc_world.specs.Items.{next_of};
 ghost use Rattle.rc_world.specs.Kept.{IsKept};
 ghost use Rattle.rc_world.specs.Machine as machine;
-ghost use Rattle.rc_run.specs.Machine.{IsClosedAt, IsFreshAt, IsSameRest, IsSized, control_step, datasync_by, submit_answer, views, world_of};
+ghost use Rattle.rc_run.specs.Machine.{IsClosedAt, IsFreshAt, IsSameRest, IsSized, Stepped, control_step, datasync_by, next_line_of, submit_answer, views, world_of};
 
 mod jobs;
 mod rings;
@@ -81,17 +80,18 @@ impl Machine {
 
     /// The step of the thread, whose next line this is, where a submit is answered this.
     pub fn step(&mut self, thread: u32, line: Line, taken: i32) -> Result<Event, AllocError>
-        requires line { next_line (arc_value self.old.admitted) self.old.controls thread ≡ Some line }
+        requires line { next_line_of self.old thread ≡ Some line }
         requires kept { IsKept (world_of self.old) }
         requires sized { IsSized self.old }
         requires step { IsSome (machine.thread_step (world_of self.old) thread taken) }
         requires suits { IsClosedAt self.old.ring.slot line.stmt }
         requires fresh { IsFreshAt (world_of self.old) line.stmt }
         requires room { self.old.ring.made + 1 < 2 ^ 64 }
-        ensures ok { IfOk result (λ e. machine.thread_step (world_of self.old) thread taken ≡ Some (e, world_of self.new)) }
+        ensures ok { IfOk result (λ e. Stepped self.old thread taken e self.new) }
         ensures err { OnErr result (world_of self.new ≡ world_of self.old) }
         ensures flag_kept { OnErr result (self.new.ring.datasync ≡ self.old.ring.datasync) }
-        ensures flag { OnOk result (self.new.ring.datasync ≡ datasync_by line.stmt self.old.ring.datasync) }
+        ensures flag { OnOk result
+            (self.new.ring.datasync ≡ datasync_by line.stmt self.old.ring.datasync) }
         ensures rest { IsSameRest self.old self.new }
     {
         let answer = self.answer(taken, line.stmt);
@@ -149,7 +149,7 @@ impl Machine {
         match test {
             Test::ReadyZero => Answer::Number(self.ring.used() as i32),
             Test::SpaceAtLeast(_) => Answer::Number((entries - self.ring.used()) as i32),
-            Test::Compare(_, _, _) | Test::Take(_) => Answer::Plain,
+            Test::Compare(_, _, _) | Test::Take(_, _) => Answer::Plain,
         }
     }
 

@@ -121,7 +121,8 @@ impl RequestRing {
         requires prepared { (q : SpecRequest) × (self.old.slot ≡ Prepared q) }
         requires fresh { AreDistinct (data_of self.old.queued ++ user_data ∷ []) }
         requires room { self.old.made + 1 < 2 ^ 64 }
-        ensures ok { OnOk result ((q : SpecRequest) → self.old.slot ≡ Prepared q → self.new ≡ after_data self.old user_data q) }
+        ensures ok { OnOk result ((q : SpecRequest) → self.old.slot ≡ Prepared q
+            → self.new ≡ after_data self.old user_data q) }
         ensures err { OnErr result (self.new ≡ self.old) }
     {
         let _held = self.ring.queued_sqe(0);
@@ -160,7 +161,9 @@ impl RequestRing {
     /// Adds a completion, for which there is room.
     pub fn post(&mut self, completion: Completion)
         requires { length self.old.completions < self.old.completion_entries }
-        ensures { self.new ≡ record self.old { completions = self.old.completions ++ completion ∷ [] } }
+        ensures { self.new ≡ record self.old {
+          completions = self.old.completions ++ completion ∷ [];
+        } }
     {
         let Completion { user_data, res } = completion;
         self.ring.post(Cqe { user_data, res }).unwrap();

@@ -4,8 +4,8 @@ ghost use Rattle.std.specs.Prelude.{◌≡◌, ◌↔◌, ◌⊎◌, ◌+◌, �
 ghost use Rattle.std.specs.List.{list_any};
 ghost use Rattle.rc_lang.specs.Program.{lines_of};
 ghost use Rattle.rc_run.specs.Jobs.{allows};
-ghost use Rattle.rc_run.specs.Lives.{IsNotOut, Lent, Posted, Turned};
-ghost use Rattle.rc_run.specs.LockedRun.{LendsNone, after_no_turn, after_refusal, is_stopped, with_turn};
+ghost use Rattle.rc_run.specs.Lives.{HoldersGo, IsNotOut, Lent, Posted, Turned};
+ghost use Rattle.rc_run.specs.LockedRun.{KeepsRest, LendsNone, after_no_turn, after_refusal, is_stopped, with_turn};
 ghost use Rattle.rc_run.specs.Scheduler.{AnyRuns, Dispatches, IsFirstIn, IsNextDue, NobodyIn, RunsNext, awaits_front, due, is_case_for, new_queue, state_at, waits, with_put, with_state};
 
 use crate::job::Job;
@@ -39,7 +39,7 @@ pub struct RunQueue {
     states: Vec<State>,
     // Where the search for the next one begins: round robin.
     next: usize,
-    // How many events there were when items were put into the pool last.
+    // How many events there were when items were put into a pool last.
     last_put: usize,
 }
 
@@ -88,8 +88,10 @@ impl RunQueue {
 
     // Has the next thread run that is due, unless one is running that can make an event.
     fn dispatch(&mut self, live: &Live) -> Option<usize>
-        ensures { Dispatches live.now self.old result self.new }
+        ensures next { Dispatches live.now self.old result self.new }
+        ensures holders_go { HoldersGo live.now.world }
     {
+        live.look();
         if self.any_runs(live) {
             return None;
         }
@@ -103,8 +105,8 @@ impl RunQueue {
     fn any_runs(&self, live: &Live) -> bool
         ensures { IsTrue result ↔ AnyRuns live.now self.now }
     {
-        for thread in 0..self.states.len() {
-            if matches!(self.states[thread], State::Running) && live.can_move(thread) {
+        for thread in 0..live.admitted().program().threads().len() {
+            if matches!(self.state(thread), State::Running) && live.can_move(thread) {
                 return true;
             }
         }
@@ -186,8 +188,8 @@ fn first_due(queue: &RunQueue, live: &Live, from: usize, to: usize) -> Option<us
     None
 }
 
-/// A run, and the states of its threads. A thread that could make an event waits only while another one is running that
-/// can, a request is pending, or the run is to stop.
+/// A run, and the states of its threads. A thread that hasn't ended waits, for a lock too, only while another one is
+/// running that can make an event, or a request is pending.
 #[derive(Drop)]
 pub struct Scheduler<D: Device, L: Ledger + RunConfig> {
     run: LockedRun<D, L>,
@@ -237,11 +239,14 @@ impl<D: Device, L: Ledger + RunConfig> Scheduler<D, L> {
         mine: &mut Counted<L>,
     ) -> (Option<Turn>, Option<usize>)
         requires { negsuc 4094 ≤ℤ take }
-        ensures some { IfSome result.0 (λ t. Turned self.old.run.run thread take t self.new.run.run) }
+        ensures some { IfSome result.0
+            (λ t. Turned self.old.run.run thread take t self.new.run.run) }
         ensures goes_on { OnSome result.0 (is_stopped self.old.run ≡ false) }
-        ensures rest { IfSome result.0 (λ t. self.new.run ≡ with_turn self.old.run self.new.run.run t) }
+        ensures rest { IfSome result.0
+            (λ t. self.new.run ≡ with_turn self.old.run self.new.run.run t) }
         ensures none { IfNone result.0 (self.new.run ≡ after_no_turn self.old.run) }
-        ensures next { RunsNext (with_put result.0 self.new.run.run self.old.queue) result.1 self.new }
+        ensures next { let queue = with_put result.0 self.new.run.run self.old.queue in
+            RunsNext queue result.1 self.new }
     {
         let turn = self.run.turn(thread, take, mine);
         self.queue.note(turn, self.run.live());
@@ -257,19 +262,19 @@ impl<D: Device, L: Ledger + RunConfig> Scheduler<D, L> {
         self.queue.dispatch(self.run.live())
     }
 
-    /// Whether a thread waits: it isn't running, the run goes on, and it hasn't ended.
+    /// Whether a thread waits: it isn't running and hasn't ended, and the run goes on.
     pub fn waits(&self, thread: usize) -> bool
         ensures { result ≡ waits self.now thread }
     {
         !matches!(self.queue.state(thread), State::Running)
-            && !self.run.is_stopped()
             && !self.run.live().has_ended(thread)
+            && !self.run.is_stopped()
     }
 
     /// Lends a job, if there is one. Refused memory is noted.
     pub fn take_job(&mut self, choice: u32) -> Option<Job>
         ensures some { IfSome result (λ j. Lent self.old.run.run choice j self.new.run.run) }
-        ensures rest { OnSome result (self.new.run ≡ record self.old.run { run = self.new.run.run }) }
+        ensures rest { OnSome result (KeepsRest self.old.run self.new.run) }
         ensures none { IfNone result (LendsNone self.old.run self.new.run) }
         ensures queue { self.new.queue ≡ self.old.queue }
     {
@@ -286,7 +291,7 @@ impl<D: Device, L: Ledger + RunConfig> Scheduler<D, L> {
         requires allowed { allows job res ≡ true }
         requires given { D.gives job.request.user_data res ⊎ (res ≡ negsuc 11) }
         ensures ok { OnOk result.0 (Posted self.old.run.run job res self.new.run.run) }
-        ensures rest { OnOk result.0 (self.new.run ≡ record self.old.run { run = self.new.run.run }) }
+        ensures rest { OnOk result.0 (KeepsRest self.old.run self.new.run) }
         ensures back { IfErr result.0 (λ j. j ≡ job) }
         ensures same { OnErr result.0 (self.new.run ≡ self.old.run) }
         ensures not_out { OnErr result.0 (IsNotOut self.old.run.run job.request) }

@@ -7,7 +7,7 @@ ghost use Rattle.rc_world.specs.Machine.{bytes_brought};
 ghost use Rattle.rc_world.specs.WorldParts.{view_bytes};
 ghost use Rattle.rc_run.specs.Calm.{IsCalm};
 ghost use Rattle.rc_run.specs.Lives.{IsJobOf, bytes_for};
-ghost use Rattle.rc_run.specs.Machine.{AtPlace, IsSized, completed_by, given_to, views, world_of};
+ghost use Rattle.rc_run.specs.Machine.{AtPlace, IsSized, given_to, job_step, views, world_of};
 
 use super::{Machine, Pending};
 use crate::job::Job;
@@ -35,7 +35,8 @@ impl Machine {
     // A copy of the bytes for the pending request at this place.
     fn bytes_for(&self, alloc: Global, place: usize) -> Result<Vec<u8>, AllocError>
         requires { place < length self.now.pending.items }
-        ensures { IfOk result (λ v. AtPlace self.now place (λ p. v.items ≡ bytes_for (world_of self.now) p)) }
+        ensures { IfOk result
+            (λ v. AtPlace self.now place (λ p. v.items ≡ bytes_for (world_of self.now) p)) }
     {
         let pending = &self.pending[place];
         match pending.request.kind {
@@ -53,12 +54,12 @@ impl Machine {
     pub fn complete(&mut self, place: usize, res: i32, bytes: &[u8]) -> Event
         requires sized { IsSized self.old }
         requires place { place < length self.old.pending.items }
-        requires step { IsSome (completed_by (world_of self.old) place res bytes.now) }
+        requires step { IsSome (job_step self.old place res bytes.now) }
         requires kept { IsKept (world_of self.old) }
         requires ring { length self.old.ring.completions < self.old.ring.completion_entries }
         requires enough { AtPlace self.old place (λ p. bytes_brought p.request ≤ length bytes.now) }
         requires room { vec_len self.old.completed < vec_capacity self.old.completed }
-        ensures step { completed_by (world_of self.old) place res bytes.now ≡ Some (result, world_of self.new) }
+        ensures step { job_step self.old place res bytes.now ≡ Some (result, world_of self.new) }
         ensures sized { IsSized self.new }
         ensures admitted { self.new.admitted ≡ self.old.admitted }
         ensures made { self.new.ring.made ≡ self.old.ring.made }

@@ -6,10 +6,10 @@ ghost use Rattle.std.specs.Vec.{vec_capacity, vec_len};
 ghost use Rattle.rc_world.specs.Changes.{CallIsSmall, StmtIsSmall};
 ghost use Rattle.rc_lang.specs.declared.lines.Stmt.TheVariants.{Do};
 ghost use Rattle.rc_world.specs.declared.world.Slot.TheVariants.{Closed};
-ghost use Rattle.rc_world.specs.Machine.{count_in, hands_over, is_take, reaps_front, taken_bytes, without_taken};
+ghost use Rattle.rc_world.specs.Machine.{count_in, hands_over, is_take, taken_bytes, without_taken};
 ghost use Rattle.rc_world.specs.WorldParts.{begun_buffers, begun_pending, view_bytes};
 ghost use Rattle.rc_run.specs.Held.{AreDistinct};
-ghost use Rattle.rc_run.specs.Machine.{IsClosedAt, IsFreshAt, IsSameRest, IsSized, datasync_by, datasync_by_op, fill_step, pending_of, ring_step, store_step, views, world_of};
+ghost use Rattle.rc_run.specs.Machine.{IsClosedAt, IsFreshAt, IsSameRest, IsSized, datasync_by, datasync_by_op, fill_step, pending_of, reap_step, ring_step, store_step, views, world_of};
 ghost use Rattle.rc_run.specs.Requests.{data_of};
 
 use super::{Machine, Pending};
@@ -32,7 +32,8 @@ impl Machine {
         ensures ok { OnOk result (ring_step self.old thread taken stmt ≡ Some (world_of self.new)) }
         ensures err { OnErr result (world_of self.new ≡ world_of self.old) }
         ensures flag_kept { OnErr result (self.new.ring.datasync ≡ self.old.ring.datasync) }
-        ensures flag { OnOk result (self.new.ring.datasync ≡ datasync_by stmt self.old.ring.datasync) }
+        ensures flag { OnOk result
+            (self.new.ring.datasync ≡ datasync_by stmt self.old.ring.datasync) }
         ensures rest { IsSameRest self.old self.new }
     {
         match stmt {
@@ -50,10 +51,12 @@ impl Machine {
         requires suits { IsClosedAt self.old.ring.slot (Do op) }
         requires fresh { IsFreshAt (world_of self.old) (Do op) }
         requires room { self.old.ring.made + 1 < 2 ^ 64 }
-        ensures ok { OnOk result (ring_step self.old thread taken (Do op) ≡ Some (world_of self.new)) }
+        ensures ok { OnOk result
+            (ring_step self.old thread taken (Do op) ≡ Some (world_of self.new)) }
         ensures err { OnErr result (world_of self.new ≡ world_of self.old) }
         ensures flag_kept { OnErr result (self.new.ring.datasync ≡ self.old.ring.datasync) }
-        ensures flag { OnOk result (self.new.ring.datasync ≡ datasync_by_op op self.old.ring.datasync) }
+        ensures flag { OnOk result
+            (self.new.ring.datasync ≡ datasync_by_op op self.old.ring.datasync) }
         ensures rest { IsSameRest self.old self.new }
     {
         match op {
@@ -112,7 +115,8 @@ impl Machine {
         requires closed { self.old.ring.slot ≡ Closed }
         requires distinct { AreDistinct (data_of self.old.ring.queued) }
         requires sized { IsSized self.old }
-        ensures ok { OnOk result (world_of self.new ≡ hands_over (world_of self.old) (count_in taken)) }
+        ensures ok { OnOk result
+            (world_of self.new ≡ hands_over (world_of self.old) (count_in taken)) }
         ensures err { OnErr result (world_of self.new ≡ world_of self.old) }
         ensures datasync { self.new.ring.datasync ≡ self.old.ring.datasync }
         ensures rest { IsSameRest self.old self.new }
@@ -127,9 +131,9 @@ impl Machine {
 
     // The front completion goes, and its request is no longer in flight.
     fn reap(&mut self)
-        requires step { IsSome (reaps_front (world_of self.old) self.old.ring.completions) }
+        requires step { IsSome (reap_step self.old) }
         requires sized { IsSized self.old }
-        ensures step { reaps_front (world_of self.old) self.old.ring.completions ≡ Some (world_of self.new) }
+        ensures step { reap_step self.old ≡ Some (world_of self.new) }
         ensures datasync { self.new.ring.datasync ≡ self.old.ring.datasync }
         ensures rest { IsSameRest self.old self.new }
         ensures controls { self.new.controls ≡ self.old.controls }
@@ -152,8 +156,10 @@ fn begin_all(
     requires room { vec_len pending.old + count ≤ vec_capacity pending.old }
     requires queued { count ≤ length ring.now.queued }
     ensures pending { map pending_of pending.new.items
-        ≡ begun_pending (map pending_of pending.old.items) (views buffers.old) (take count ring.now.queued) }
-    ensures buffers { views buffers.new ≡ begun_buffers (views buffers.old) (take count ring.now.queued) }
+        ≡ begun_pending (map pending_of pending.old.items) (views buffers.old)
+        (take count ring.now.queued) }
+    ensures buffers { views buffers.new
+        ≡ begun_buffers (views buffers.old) (take count ring.now.queued) }
 {
     for i in 0..count {
         let Some(request) = ring.request(i) else {

@@ -16,8 +16,8 @@ use std::sync::Wait;
 use std::sync::ledger::Ledger;
 use std::thread;
 
-// After how many events a thread lets the others run, if the lock of the program is free; after twice as many it does so
-// in any case.
+// After how many events a thread lets the others run, if it holds no lock of the program; after twice as many it does
+// so in any case.
 const SLICE: u32 = 128;
 
 /// Runs a thread of the program to its end, or until the run is to stop.
@@ -95,14 +95,14 @@ fn take_turn<D: Device, C: Chooser, L: Ledger + RunConfig, R: Wait>(
     let mut guard = shared.hold(rt);
     let queued = guard.run().live().queued();
     let take = draw_take(rt, shared, queued);
-    let is_take = is_take(guard.run().live().next(thread));
+    let step = Step::of(guard.run().live().next(thread));
     let (made, mut next) = guard.turn(thread, take, mine);
     let Some(turn) = made else {
         return (None, Pause::None);
     };
     let mut workers = workers_after(guard.run(), turn);
     let mut pause = Pause::None;
-    if let Some(state) = slice.after(turn, is_take, queued > 0, guard.run().live()) {
+    if let Some(state) = slice.after(turn, step, queued > 0, guard.run().live()) {
         next = next.or(guard.suspend(thread as usize, state));
         pause = Pause::Wait;
         if next == Some(thread as usize) {
@@ -119,11 +119,11 @@ fn take_turn<D: Device, C: Chooser, L: Ledger + RunConfig, R: Wait>(
 
 // How many workers a turn wakes: as many as there are jobs, if its thread may wait for them.
 fn workers_after<D: Device, L: Ledger + RunConfig>(run: &LockedRun<D, L>, turn: Turn) -> usize {
-    let Turn::Done(Event::ByThread { action, .. }) = turn else {
+    let Turn::Done(Event::ByThread { thread, action, .. }) = turn else {
         return 0;
     };
     let may_wait = match action {
-        Action::Released | Action::LoopLeft => run.live().holder().is_none(),
+        Action::Released(_) | Action::LoopLeft => !run.live().holds_lock(thread),
         Action::Submitted(taken) => taken > 0,
         Action::PeekedNone => true,
         _ => false,
@@ -131,19 +131,33 @@ fn workers_after<D: Device, L: Ledger + RunConfig>(run: &LockedRun<D, L>, turn: 
     if may_wait { run.workers() } else { 0 }
 }
 
-// Whether a thread is about to take items from the pool.
-fn is_take(next: Next) -> bool {
-    match next {
-        Next::Ready(line) => matches!(line.stmt, Stmt::If(Test::Take(_))),
-        Next::TakenLock | Next::Ended => false,
+// What a thread is about to do, as far as its event doesn't tell.
+#[derive(Clone, Copy)]
+enum Step {
+    // It asks a pool for items.
+    Take,
+    // It returns to the top of a loop.
+    Return,
+    Other,
+}
+
+impl Step {
+    fn of(next: Next) -> Step {
+        match next {
+            Next::Ready(line) => match line.stmt {
+                Stmt::If(Test::Take(_, _)) => Step::Take,
+                Stmt::EndLoop(_, _) => Step::Return,
+                _ => Step::Other,
+            },
+            Next::TakenLock(_) | Next::Ended => Step::Other,
+        }
     }
 }
 
 // The time slice of a thread.
 #[derive(Drop)]
 struct TimeSlice {
-    // Whether the thread has moved nothing since it took the lock of the program.
-    is_idle: bool,
+    round: Round,
     // How many events are left of it.
     left: u32,
 }
@@ -151,29 +165,27 @@ struct TimeSlice {
 impl TimeSlice {
     fn new() -> TimeSlice {
         TimeSlice {
-            is_idle: false,
+            round: Round {
+                in_lock: None,
+                in_loop: Looks::NoneYet,
+            },
             left: 2 * SLICE,
         }
     }
 
-    // The state of a thread after a turn, if it doesn't run on: ready if it is at the taken lock or its slice is over,
-    // waiting if it moved nothing while it held the lock.
-    fn after(&mut self, turn: Turn, is_take: bool, is_queued: bool, live: &Live) -> Option<State> {
-        let action = match turn {
+    // The state of a thread after a turn, if it doesn't run on: ready if it is at a taken lock or its slice is over,
+    // waiting if a round is over in which it moved nothing.
+    fn after(&mut self, turn: Turn, step: Step, is_queued: bool, live: &Live) -> Option<State> {
+        let (thread, action) = match turn {
             Turn::Waits => return self.end(State::Ready),
-            Turn::Done(Event::ByThread { action, .. }) => action,
+            Turn::Done(Event::ByThread { thread, action, .. }) => (thread, action),
             Turn::Done(Event::ByKernel(_)) | Turn::Ended => return None,
         };
-        let is_free = live.holder().is_none();
+        let is_free = !live.holds_lock(thread);
         self.left = self.left.saturating_sub(1);
-        match action {
-            Action::Locked => self.is_idle = true,
-            Action::Released | Action::LoopLeft if self.is_idle && is_free => {
-                self.is_idle = false;
-                return self.end(State::Waiting(live.history().len()));
-            }
-            _ if moves(action, is_take, is_queued) => self.is_idle = false,
-            _ => {}
+        self.round.note(action, step, is_queued);
+        if self.round.ends_idle(action, step, is_free) {
+            return self.end(State::Waiting(live.history().len()));
         }
         if self.left == 0 || (self.left <= SLICE && is_free) {
             return self.end(State::Ready);
@@ -187,13 +199,80 @@ impl TimeSlice {
     }
 }
 
-// Whether an event moves something: an entry is queued or the next submit may take it, requests become pending, a completion
-// is reaped, or items go into the pool or come from it.
-fn moves(action: Action, is_take: bool, is_queued: bool) -> bool {
+// What came of a thread's looks for completions and for items in pools.
+#[derive(Clone, Copy)]
+enum Looks {
+    NoneYet,
+    InVain,
+    // It moved something, by a look or otherwise.
+    Moved,
+}
+
+// What a thread does while it holds locks, and between two returns to the top of a loop.
+#[derive(Drop)]
+struct Round {
+    // Whether it has moved something since it took a lock, if it holds one.
+    in_lock: Option<bool>,
+    in_loop: Looks,
+}
+
+impl Round {
+    // Notes an event.
+    fn note(&mut self, action: Action, step: Step, is_queued: bool) {
+        if moves(action, step, is_queued) {
+            self.in_loop = Looks::Moved;
+            if self.in_lock.is_some() {
+                self.in_lock = Some(true);
+            }
+        } else if matches!(action, Action::Locked(_)) && self.in_lock.is_none() {
+            self.in_lock = Some(false);
+        } else if is_vain(action, step) && matches!(self.in_loop, Looks::NoneYet) {
+            self.in_loop = Looks::InVain;
+        }
+    }
+
+    // Whether a round ends by an event, in which the thread moved nothing: it releases the last lock that it holds, or
+    // returns to the top of a loop in which it looked in vain.
+    fn ends_idle(&mut self, action: Action, step: Step, is_free: bool) -> bool {
+        match action {
+            Action::Released(_) | Action::LoopLeft if is_free => self.ends_lock(),
+            Action::Looped if matches!(step, Step::Return) => self.ends_loop(),
+            _ => false,
+        }
+    }
+
+    fn ends_lock(&mut self) -> bool {
+        let is_idle = matches!(self.in_lock, Some(false));
+        self.in_lock = None;
+        if is_idle {
+            self.in_loop = Looks::NoneYet;
+        }
+        is_idle
+    }
+
+    fn ends_loop(&mut self) -> bool {
+        let is_idle = matches!(self.in_loop, Looks::InVain);
+        self.in_loop = Looks::NoneYet;
+        is_idle
+    }
+}
+
+// Whether an event is a look that finds nothing.
+fn is_vain(action: Action, step: Step) -> bool {
+    match action {
+        Action::PeekedNone => true,
+        Action::Branched(yes) => !yes && matches!(step, Step::Take),
+        _ => false,
+    }
+}
+
+// Whether an event moves something: an entry is queued or the next submit may take it, requests become pending, a
+// completion is reaped, or items go into a pool or come from it.
+fn moves(action: Action, step: Step, is_queued: bool) -> bool {
     match action {
         Action::DataSet(_) | Action::Reaped(_) | Action::ItemsPut => true,
         Action::Submitted(taken) => taken > 0 || is_queued,
-        Action::Branched(yes) => yes && is_take,
+        Action::Branched(yes) => yes && matches!(step, Step::Take),
         _ => false,
     }
 }
