@@ -4,4 +4,5 @@ mod examples;
 mod fair;
 mod live;
 mod runner;
+mod sides;
 mod stepping;

@@ -4,8 +4,47 @@ use rc_examples::programs::{HAND_BACK, HANDOFF, NOP};
 use rc_report::streams::WriteSink;
 use rc_state::state_engine::show_bytes;
 
+/// Two threads have a side of the ring each, and a third wants both.
+const SIDES: &str = "ringcheck 4
+ring 1
+pool free
+buffer a 16 2
+thread t0 holds a:2 {
+put free a:1
+lock sq {
+}
+}
+thread t1 holds {
+lock cq {
+}
+}
+thread t2 holds {
+lock {
+}
+}
+";
+
 /// A program, a schedule, and what is written.
 const SHOWN: &[(&str, &str, &str)] = &[
+    (
+        SIDES,
+        "t0,t0,t1",
+        "1 t0 6 put
+2 t0 7 lock sq
+3 t1 11 lock cq
+stopped after 3 events
+thread t0: line 8, }
+  variables:
+thread t1: line 12, }
+  variables:
+thread t2: waits for the lock at line 15, lock {; t0 has sq; t1 has cq
+  variables:
+entry: none
+pool:
+pool free: a:1
+enabled: t0 t1
+",
+    ),
     (
         NOP,
         "",

@@ -1,6 +1,7 @@
 -- What is known on a side of a line, in words.
 use Rattle.std.specs.List.{flat_map}
-use Rattle.std.specs.Prelude.{ℕ, ◌||◌, cond, nat_eq, List, [], ◌∷◌, ◌++◌, Option, Some, None, is_some, codes, decimal}
+use Rattle.std.specs.Prelude.{ℕ, ◌||◌, cond, nat_eq, List, [], ◌∷◌, ◌++◌, Option, Some, None, codes, decimal}
+use Rattle.rc_lang.specs.declared.lines.Locks.{Locks}
 use Rattle.rc_lang.specs.declared.program.Token.{Token}
 use Rattle.rc_lang.specs.declared.program.TokenKind.{TokenKind}
 use Rattle.rc_lang.specs.declared.program.TokenKind.TheVariants.{Read, Write, Fsync, Nop}
@@ -12,10 +13,10 @@ use Rattle.rc_rules.specs.declared.mode.Slot.{Slot}
 use Rattle.rc_rules.specs.declared.mode.Slot.TheVariants.{Closed, Vacant, Prepared}
 use Rattle.rc_rules.specs.declared.mode.Submitting.{Submitting}
 use Rattle.rc_rules.specs.Labels.{Label, Dead, Live}
-use Rattle.rc_rules.specs.Rules.{peeked_of}
+use Rattle.rc_rules.specs.Rules.{locks_of, peeked_of}
 use Rattle.rc_rules.specs.States.{Side, held_at, side_label}
 use Rattle.rc_split.specs.Bags.{Part, ShareOf, TokenOf, Credit}
-use Rattle.rc_report.specs.Printed.{buffer_name, placed}
+use Rattle.rc_report.specs.Printed.{buffer_name, joined, placed, side_text}
 
 -- how many of each part are held on a side
 abbrev pub bag_on : Side → (Part → ℕ)
@@ -76,8 +77,12 @@ abbrev pub sq_text : Program → Option Submitting → List ℕ
 sq_text program None = []
 sq_text program (Some s) = submitting_text program s
 
+-- which locks are held
+abbrev pub locks_text : Locks → List ℕ
+locks_text l = cond (l.sq || l.cq) (joined (codes "; locked" ∷ side_text l ∷ [])) (codes "; unlocked")
+
 abbrev pub lock_text : Mode → List ℕ
-lock_text m = cond (is_some m.sq || is_some m.cq) (codes "; locked") (codes "; unlocked")
+lock_text m = locks_text (locks_of m)
 
 abbrev pub mode_text : Program → Mode → List ℕ
 mode_text program m = lock_text m ++ (sq_text program m.sq ++ peeked_text (peeked_of m))

@@ -75,12 +75,22 @@ pub fn line_need(
         Some(Asks::Agreeing) => put_ends(&mut need.asks, labels, thread, line.stmt, place)?,
         Some(asks) => {
             let state = labels.state();
+            let asks = lock_asked(thread as usize, state, asks);
             put_asked(&mut need.asks, thread as usize, state, asks)?;
             need.missing = missing_of(thread as usize, state, asks);
         }
         None => {}
     }
     Ok(need)
+}
+
+/// What is asked for: of a line that asks for both locks the one that isn't there.
+fn lock_asked(thread: usize, state: &State, asks: Asks) -> Asks {
+    let is_there = |zero: bool| !is_short(state.on(zero), thread, zero, Asks::SqLock);
+    match asks {
+        Asks::SqLock if is_there(true) && is_there(false) => Asks::CqLock,
+        _ => asks,
+    }
 }
 
 /// The part that is asked for of a state and that is missing on a side, the zero one first.

@@ -63,7 +63,7 @@ fn sentence_of_read(cause: ReadCause) -> &'static str {
         ReadCause::TooLarge =>
             "There is a fixed amount of room for each kind of thing, and this is one more than that.",
         ReadCause::BadNesting =>
-            "There is one lock, an arm knows only what its own peek saw, and `q` is known only in the lock.",
+            "A lock in a lock may wait for ever, an arm knows only what its own peek saw, and `q` is known only under the submission side's lock.",
         ReadCause::BadCase =>
             "A peek may see no completion or any request's, so it has an arm for each of these, and each arm once.",
         ReadCause::OtherFlag =>
@@ -126,7 +126,7 @@ fn mend_of_read(cause: ReadCause) -> &'static str {
         ReadCause::BadNumber =>
             "Write a number within the range; a small buffer can model a large one.",
         ReadCause::UnknownName =>
-            "Declare the file, the buffer or the token above this line, or mend the name.",
+            "Declare the file, the buffer, the token or the pool above this line, or mend the name.",
         ReadCause::DoubleName =>
             "Give the second another name or number; in a list of items write the sum.",
         ReadCause::Braces => "End each thread, lock, `if`, peek, arm and loop with its own `}`.",

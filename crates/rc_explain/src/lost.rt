@@ -6,7 +6,7 @@ pub mod ways;
 
 use crate::asks::Missing;
 use crate::parts::{put_part, shares_of};
-use rc_lang::lines::{Op, Stmt};
+use rc_lang::lines::{Locks, Op, Stmt};
 use rc_lang::program::{Items, Program};
 use rc_report::source::{Lines, put_line_words};
 use rc_report::text::{put_counted, put_number, put_piece, put_pieces};
@@ -103,7 +103,7 @@ fn put_line(text: &mut Vec<u8>, page: Page, place: usize) -> Result<(), AllocErr
 fn stmt_at(page: Page, place: usize) -> Stmt {
     match page.program.line_at(page.thread, place) {
         Some(line) => line.stmt,
-        None => Stmt::Lock,
+        None => Stmt::Lock(Locks { sq: true, cq: true }),
     }
 }
 
@@ -151,7 +151,8 @@ fn put_how(text: &mut Vec<u8>, page: Page, place: usize) -> Result<(), AllocErro
             }
         }
         Stmt::Do(Op::SetData64(_)) => put_piece(text, b"given to the request"),
-        Stmt::Put(_) => put_piece(text, b"put into the pool"),
+        Stmt::Put(None, _) => put_piece(text, b"put into the pool"),
+        Stmt::Put(Some(_), _) => put_piece(text, b"put into a pool"),
         Stmt::Loop(_) => put_piece(text, b"the loop doesn't keep it"),
         Stmt::If(_) => put_piece(text, b"it isn't held with the flag of this branch"),
         _ => put_piece(

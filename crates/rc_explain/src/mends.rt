@@ -12,9 +12,9 @@ use crate::lost::request_of;
 use crate::lost::ways::{Loss, Point, loss_of};
 use crate::parts::put_part;
 use crate::spot::Spot;
-use rc_lang::lines::Stmt;
+use rc_lang::lines::{Locks, Stmt};
 use rc_lang::program::Program;
-use rc_report::text::{put_counted, put_piece};
+use rc_report::text::{put_counted, put_piece, put_pieces};
 use rc_rules::cause::Cause;
 use rc_split::part::Part;
 use std::alloc::{AllocError, Global};
@@ -32,7 +32,7 @@ impl Refused<'_> {
     fn stmt(self, place: usize) -> Stmt {
         match self.program.line_at(self.thread, place) {
             Some(line) => line.stmt,
-            None => Stmt::Lock,
+            None => Stmt::Lock(Locks { sq: true, cq: true }),
         }
     }
 
@@ -44,11 +44,11 @@ impl Refused<'_> {
         }
     }
 
-    /// The place at which the lock is taken that is held at the refused line.
+    /// The place at which the submission side is taken that is held at the refused line.
     fn lock(self) -> usize {
         let mut lock = 0;
         for place in 0..self.place {
-            if let Stmt::Lock = self.stmt(place) {
+            if let Stmt::Lock(Locks { sq: true, .. }) = self.stmt(place) {
                 lock = place;
             }
         }
@@ -111,7 +111,9 @@ fn put_for_loss(
         }
         Loss::At(point, _) => match refused.stmt(point.place) {
             Stmt::Loop(list) => loops::put_kept(text, refused, point, list, missing.part),
-            Stmt::Put(_) if uses(cause) => put_taken(text, refused, missing.part, point.place),
+            Stmt::Put(pool, _) if uses(cause) => {
+                put_taken(text, refused, pool, missing.part, point.place)
+            }
             Stmt::Do(_) if uses(cause) => put_reaped(text, refused, cause, missing.part, point),
             _ => Ok(()),
         },
@@ -128,14 +130,18 @@ fn put_for_loss(
     }
 }
 
-/// Adds that a part is to be taken which is put into the pool at a place.
+/// Adds that a part is to be taken which is put into a pool at a place.
 fn put_taken(
     text: &mut Vec<u8>,
     refused: Refused,
+    pool: Option<usize>,
     part: Part,
     place: usize,
 ) -> Result<(), AllocError> {
     put_piece(text, b"Take it first, by `if take ")?;
+    if let Some(name) = pool.and_then(|pool| refused.program.pools().get(pool)) {
+        put_pieces(text, &[name, b" "])?;
+    }
     put_part(text, refused.program, part)?;
     put_counted(
         text,

@@ -3,20 +3,22 @@
 use crate::parts::{put_part, shares_of};
 use rc_lang::lines::{Stmt, Test};
 use rc_lang::program::{Items, Program, Thread};
+use rc_report::printed::pool_name;
 use rc_report::source::{Lines, opening_words};
 use rc_report::text::{put_counted, put_piece, put_pieces};
 use rc_split::part::Part;
 use std::alloc::{AllocError, Global};
 
-/// A part that is taken, and how many of it all lines of the program put, which are fewer.
+/// A part that is taken from a pool, and how many of it all lines of the program put there, which are fewer.
 #[derive(Clone, Copy)]
 struct Shortage {
     part: Part,
     put: u32,
+    pool: Option<usize>,
 }
 
-/// A note on each `if take` that asks for more than the lines of the program put, in text order: its first branch is never
-/// taken, since the pool starts empty.
+/// A note on each `if take` that asks for more than the lines of the program put into its pool, in text order: its first
+/// branch is never taken, since each pool starts empty.
 pub fn notes_on(
     alloc: Global,
     lines: &Lines,
@@ -33,35 +35,35 @@ pub fn notes_on(
     Ok(notes)
 }
 
-/// The first part that a statement takes although no lines put enough of it, if there is one.
+/// The first part that a statement takes although no lines put enough of it there, if there is one.
 fn shortage_at(program: &Program, thread: &Thread, stmt: Stmt) -> Option<Shortage> {
-    let Stmt::If(Test::Take(list)) = stmt else {
+    let Stmt::If(Test::Take(pool, list)) = stmt else {
         return None;
     };
     let items = thread.lists.get(list)?;
     for share in &items.shares {
-        let shortage = shortage_of(program, Part::Shares(share.buffer, share.count));
+        let shortage = shortage_of(program, pool, Part::Shares(share.buffer, share.count));
         if shortage.is_some() {
             return shortage;
         }
     }
     for token in &items.tokens {
-        let shortage = shortage_of(program, Part::Token(*token));
+        let shortage = shortage_of(program, pool, Part::Token(*token));
         if shortage.is_some() {
             return shortage;
         }
     }
-    shortage_of(program, Part::Credits(items.credits))
+    shortage_of(program, pool, Part::Credits(items.credits))
 }
 
-/// How many of a part are put, if fewer than that.
-fn shortage_of(program: &Program, part: Part) -> Option<Shortage> {
+/// How many of a part are put into a pool, if fewer than that.
+fn shortage_of(program: &Program, pool: Option<usize>, part: Part) -> Option<Shortage> {
     let mut put: u32 = 0;
     for thread in program.threads() {
-        put = put.saturating_add(put_by(thread, part));
+        put = put.saturating_add(put_by(thread, pool, part));
     }
     if put < count_of(part) {
-        Some(Shortage { part, put })
+        Some(Shortage { part, put, pool })
     } else {
         None
     }
@@ -75,15 +77,15 @@ fn count_of(part: Part) -> u32 {
     }
 }
 
-/// How many of a part the lines of a thread put at most. A line in a loop may put as many as one likes.
-fn put_by(thread: &Thread, part: Part) -> u32 {
+/// How many of a part the lines of a thread put into a pool at most. A line in a loop may put as many as one likes.
+fn put_by(thread: &Thread, pool: Option<usize>, part: Part) -> u32 {
     let mut put: u32 = 0;
     let mut loops: u32 = 0;
     for line in &thread.lines {
         match line.stmt {
             Stmt::Loop(_) => loops = loops.saturating_add(1),
             Stmt::EndLoop(_, _) => loops = loops.saturating_sub(1),
-            Stmt::Put(list) => {
+            Stmt::Put(into, list) if into == pool => {
                 let count = thread
                     .lists
                     .get(list)
@@ -129,14 +131,19 @@ fn put_shortage(
     program: &Program,
     shortage: Shortage,
 ) -> Result<(), AllocError> {
-    let Shortage { part, put } = shortage;
+    let Shortage { part, put, pool } = shortage;
     if put == 0 {
         put_piece(text, b"nothing puts ")?;
-        return put_part(text, program, part);
+        put_part(text, program, part)?;
+    } else {
+        put_piece(text, b"no more than ")?;
+        put_part(text, program, with_count(part, put))?;
+        put_piece(text, b" is put")?;
     }
-    put_piece(text, b"no more than ")?;
-    put_part(text, program, with_count(part, put))?;
-    put_piece(text, b" is put")
+    match pool {
+        Some(pool) => put_pieces(text, &[b" into ", pool_name(program, pool)]),
+        None => Ok(()),
+    }
 }
 
 /// So many of the same.

@@ -1,14 +1,16 @@
 //! What is known on a side of a line, in words.
 
-ghost use Rattle.std.specs.Prelude.{map};
+ghost use Rattle.std.specs.Prelude.{◌≡◌, map};
 ghost use Rattle.rc_explain.specs.StateText as spec;
 ghost use Rattle.rc_explain.specs.StateText.{bag_on, share_text, shares_text};
 ghost use Rattle.rc_lang.specs.Parts.{view_buffer as view};
 ghost use Rattle.rc_report.specs.Text.{Puts};
+ghost use Rattle.rc_rules.specs.Rules.{locks_of};
 ghost use Rattle.rc_rules.specs.States.{side_label};
 
+use rc_lang::lines::Locks;
 use rc_lang::program::{Buffer, Program, Token, TokenKind};
-use rc_report::printed::buffer_name;
+use rc_report::printed::{buffer_name, side_of};
 use rc_report::text::{put_number, put_piece, put_pieces};
 use rc_rules::mode::{Mode, Peeked, Slot, Submitting, peeked_of};
 use rc_rules::side::Side;
@@ -153,15 +155,32 @@ fn put_sq(text: &mut Vec<u8>, program: &Program, sq: Option<Submitting>) -> Resu
     }
 }
 
-/// Adds whether a lock is held.
-fn put_lock(text: &mut Vec<u8>, mode: Mode) -> Result<(), AllocError>
-    ensures { Puts text.old text.new (spec.lock_text mode) result }
+/// Which locks are held.
+fn locks_of(mode: Mode) -> Locks
+    ensures { result ≡ locks_of mode }
 {
-    if mode.sq.is_some() || mode.cq.is_some() {
-        put_piece(text, b"; locked")
+    Locks {
+        sq: mode.sq.is_some(),
+        cq: mode.cq.is_some(),
+    }
+}
+
+/// Adds locks that are held.
+fn put_locks(text: &mut Vec<u8>, locks: Locks) -> Result<(), AllocError>
+    ensures { Puts text.old text.new (spec.locks_text locks) result }
+{
+    if locks.sq || locks.cq {
+        put_pieces(text, &[b"; locked", side_of(locks).as_bytes()])
     } else {
         put_piece(text, b"; unlocked")
     }
+}
+
+/// Adds which locks are held.
+fn put_lock(text: &mut Vec<u8>, mode: Mode) -> Result<(), AllocError>
+    ensures { Puts text.old text.new (spec.lock_text mode) result }
+{
+    put_locks(text, locks_of(mode))
 }
 
 /// Adds what is known of the ring.

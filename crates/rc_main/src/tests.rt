@@ -12,6 +12,7 @@ mod pool;
 mod programs;
 mod refused;
 mod runs;
+mod sides;
 mod step_faults;
 mod steps;
 mod summaries;

@@ -2,3 +2,4 @@ pub mod Answered
 pub mod Counted
 pub mod Reading
 pub mod Repeats
+pub mod Waits

@@ -1,12 +1,16 @@
 -- Why an item isn't enabled.
-use Rattle.std.specs.Prelude.{ℕ, ℤ, ◌≡◌, ◌<◌, ◌≤ℤ◌, ◌≢◌, true, false, length, Option, Some, None, pos, negsuc}
+use Rattle.std.specs.Prelude.{ℕ, ℤ, ◌≡◌, ◌<◌, ◌≤ℤ◌, ◌≢◌, ◌&&◌, true, false, length, Option, Some, None, pos, negsuc}
 use Rattle.rc_lang.specs.declared.lines.Line.{Line}
+use Rattle.rc_lang.specs.declared.lines.Locks.{Locks}
 use Rattle.rc_lang.specs.Requests.{most_moved}
+use Rattle.rc_world.specs.declared.controls.Holders.{Holders}
 use Rattle.rc_world.specs.declared.controls.Next.TheVariants.{Ready, TakenLock, Ended as HasEnded}
 use Rattle.rc_world.specs.declared.event.Item.{Item}
 use Rattle.rc_world.specs.declared.event.Item.TheVariants.{Thread, Kernel}
+use Rattle.rc_world.specs.Faults.{is_holder}
 use Rattle.rc_world.specs.Items.{is_enabled, is_submit, next_of, pending_at, pending_place, takes}
 use Rattle.rc_world.specs.Machine.{Pending, World, is_read}
+use Rattle.rc_world.specs.Readers.{taken_by}
 use Rattle.rc_moves.specs.declared.why.Reason.{Reason}
 use Rattle.rc_moves.specs.declared.why.Reason.TheVariants.{LockTaken, Ended, NoSubmit, TooMany, NoErrno, NotPending, TooManyBytes, NoRead}
 
@@ -22,10 +26,14 @@ KeepsAnswer w l r (TooMany n) = (k : ℕ) × (r ≡ pos k) × (n ≡ length w.qu
 KeepsAnswer w l r (NoErrno s) = (s ≡ r) × IsNoErrno r
 KeepsAnswer w l r _ = ⊥
 
--- The reason holds of a thread's item with an answer or without: another thread has the lock, the thread has ended, or its
--- next line can't be answered so.
+-- which of the wanted locks a thread has
+abbrev pub taken_of : Locks → Holders → ℕ → Locks
+taken_of wanted h i = record { sq = wanted.sq && is_holder h.sq i; cq = wanted.cq && is_holder h.cq i }
+
+-- The reason holds of a thread's item with an answer or without: a thread has one of the locks that its next line wants, it
+-- has ended, or its next line can't be answered so.
 abbrev pub KeepsThread : World → ℕ → Option ℤ → Reason → Type 0
-KeepsThread w i take (LockTaken j) = (next_of w.program w.controls i ≡ TakenLock) × (w.controls.holder ≡ Some j)
+KeepsThread w i take (LockTaken j taken) = (wanted : Locks) × (next_of w.program w.controls i ≡ TakenLock wanted) × (taken_by wanted w.controls.holders ≡ Some j) × (taken ≡ taken_of wanted w.controls.holders j)
 KeepsThread w i take (Ended j) = (next_of w.program w.controls i ≡ HasEnded) × (j ≡ i)
 KeepsThread w i take reason = (l : Line) × (r : ℤ) × (next_of w.program w.controls i ≡ Ready l) × (take ≡ Some r) × KeepsAnswer w l r reason
 

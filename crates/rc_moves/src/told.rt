@@ -8,7 +8,7 @@ use crate::spelling::move_of_item;
 use crate::steps::Moved;
 use crate::why::{Reason, reason_of};
 use rc_lang::program::Program;
-use rc_report::printed::thread_name;
+use rc_report::printed::{side_of, thread_name};
 use rc_report::step_engine::Unread;
 use rc_report::text::{put_counted, put_number, put_piece, put_pieces, put_signed};
 use rc_report::trace::End;
@@ -199,8 +199,9 @@ fn put_named(
 // Adds why an item isn't enabled.
 fn put_reason(text: &mut Vec<u8>, program: &Program, reason: Reason) -> Result<(), AllocError> {
     match reason {
-        Reason::LockTaken(holder) => {
-            put_pieces(text, &[thread_name(program, holder), b" has the lock"])
+        Reason::LockTaken { holder, taken } => {
+            put_pieces(text, &[thread_name(program, holder), b" has the lock"])?;
+            put_piece(text, side_of(taken).as_bytes())
         }
         Reason::Ended(thread) => put_pieces(text, &[thread_name(program, thread), b" has ended"]),
         Reason::NoSubmit(line) => put_counted(text, b"line ", u64::from(line), b" is no submit"),

@@ -1,10 +1,14 @@
 //! Why an item isn't enabled.
 
-ghost use Rattle.rc_moves.specs.Reasons.{IsReason, IsReasonAt};
+ghost use Rattle.std.specs.Prelude.{◌≡◌, Option, ℤ};
+ghost use Rattle.rc_moves.specs.Reasons.{IsReason, IsReasonAt, taken_of};
+ghost use Rattle.rc_world.specs.declared.controls.Next.TheVariants.{TakenLock};
 ghost use Rattle.rc_world.specs.declared.event.Item.TheVariants as items;
+ghost use Rattle.rc_world.specs.Faults.{is_holder};
+ghost use Rattle.rc_world.specs.Items.{next_of};
 
-use rc_lang::lines::{Line, Op, Stmt};
-use rc_world::controls::Next;
+use rc_lang::lines::{Line, Locks, Op, Stmt};
+use rc_world::controls::{Holders, Next};
 use rc_world::event::Item;
 use rc_world::world::World;
 use rc_world::world::requests::{is_read, may_complete, most_moved};
@@ -12,8 +16,8 @@ use rc_world::world::requests::{is_read, may_complete, most_moved};
 /// Why an item isn't enabled in a world.
 #[derive(Clone, Copy, PartialEq, Eq, Debug)]
 pub enum Reason {
-    /// The thread with this number has the lock, which the item's thread takes next.
-    LockTaken(u32),
+    /// The thread with this number has these of the locks that the item's thread takes next.
+    LockTaken { holder: u32, taken: Locks },
     /// The thread with this number has ended, or the program has no such thread.
     Ended(u32),
     /// The item has an answer, and the next line of its thread, with this number, is no submit.
@@ -49,11 +53,39 @@ fn thread_reason(world: &World<'_>, thread: u32, take: Option<i32>) -> Option<Re
 {
     match world.next(thread) {
         Next::Ready(line) => take_reason(world, line, take?),
-        Next::TakenLock => match world.holder() {
-            Some(holder) => Some(Reason::LockTaken(holder)),
-            None => unreachable!(),
-        },
+        Next::TakenLock(wanted) => lock_reason(world, thread, wanted),
         Next::Ended => Some(Reason::Ended(thread)),
+    }
+}
+
+// Why a thread that waits for these locks can't go on.
+fn lock_reason(world: &World<'_>, thread: u32, wanted: Locks) -> Option<Reason>
+    requires { next_of world.now.program world.now.controls thread ≡ TakenLock wanted }
+    ensures { (take : Option ℤ) → IsReason world.now (items.Thread thread take) result }
+{
+    let holders = world.holders();
+    let holder = holders.taken_by(wanted)?;
+    let taken = taken_of(holders, wanted, holder);
+    Some(Reason::LockTaken { holder, taken })
+}
+
+// Which of the wanted locks a thread has.
+fn taken_of(holders: Holders, wanted: Locks, thread: u32) -> Locks
+    ensures { result ≡ taken_of wanted holders thread }
+{
+    Locks {
+        sq: wanted.sq && is_holder(holders.sq, thread),
+        cq: wanted.cq && is_holder(holders.cq, thread),
+    }
+}
+
+// Whether the thread is the holder of a lock.
+fn is_holder(holder: Option<u32>, thread: u32) -> bool
+    ensures { result ≡ is_holder holder thread }
+{
+    match holder {
+        Some(holder) => holder == thread,
+        None => false,
     }
 }
 

@@ -102,9 +102,9 @@ op_grows w t r CqeSeen = reaps_grow w w.completions
 
 rings_grow : (w : World) (t : Standing) (r : ℤ) (s : Stmt) → IfWorld w (in_rings w t r s)
 rings_grow w t r (Do op) = op_grows w t r op
-rings_grow w t r (Put k) = stays w
-rings_grow w t r Lock = stays w
-rings_grow w t r (EndLock o) = stays w
+rings_grow w t r (Put pool k) = stays w
+rings_grow w t r (Lock l) = stays w
+rings_grow w t r (EndLock o l) = stays w
 rings_grow w t r (If test) = stays w
 rings_grow w t r (Else o) = stays w
 rings_grow w t r (EndIf o) = stays w

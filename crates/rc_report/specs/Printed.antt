@@ -1,7 +1,8 @@
 -- The printed forms of events and faults.
-use Rattle.std.specs.Prelude.{ℕ, ◌+◌, List, [], ◌∷◌, ◌++◌, codes, true, false, Option, Some, None, decimal, slice_get}
+use Rattle.std.specs.Prelude.{ℕ, ◌+◌, cond, List, [], ◌∷◌, ◌++◌, codes, true, false, Option, Some, None, decimal, slice_get}
 use Rattle.std.specs.Fmt.{signed_decimal}
 use Rattle.std.specs.List.{flat_map}
+use Rattle.rc_lang.specs.declared.lines.Locks.{Locks}
 use Rattle.rc_lang.specs.Program.{Buffer, Program, Thread}
 use Rattle.rc_world.specs.declared.event.Action.{Action}
 use Rattle.rc_world.specs.declared.event.Action.TheVariants.{VariableSet, Loaded, Stored, Filled, Printed, Locked, Released, EntryOpened, ReadPrepared, WritePrepared, FsyncPrepared, NopPrepared, DataSet, Submitted, Peeked, PeekedNone, Reaped, ItemsPut, Branched, Looped, LoopLeft}
@@ -38,9 +39,21 @@ name_of_buffer (Some buffer) = buffer.name
 abbrev pub buffer_name : Program → ℕ → List ℕ
 buffer_name program b = name_of_buffer (slice_get program.buffers b)
 
+-- the name of a pool
+abbrev pub name_of_pool : Option (List ℕ) → List ℕ
+name_of_pool None = []
+name_of_pool (Some name) = name
+
+abbrev pub pool_name : Program → ℕ → List ℕ
+pool_name program n = name_of_pool (slice_get program.pools n)
+
 -- a word, with its blanks, and a value
 abbrev pub valued : List ℕ → List ℕ → List ℕ
 valued word value = joined (word ∷ value ∷ [])
+
+-- the side of some locks, after a blank, and nothing of both
+abbrev pub side_text : Locks → List ℕ
+side_text l = cond l.sq (cond l.cq [] (codes " sq")) (cond l.cq (codes " cq") [])
 
 -- the user data and the result of a completion
 abbrev pub completion_text : Completion → List ℕ
@@ -53,8 +66,8 @@ action_text (Loaded b) = valued (codes " load ") (decimal b)
 action_text (Stored b) = valued (codes " store ") (decimal b)
 action_text (Filled b) = valued (codes " fill ") (decimal b)
 action_text (Printed v) = valued (codes " print ") (signed_decimal v)
-action_text Locked = codes " lock"
-action_text Released = codes " release"
+action_text (Locked l) = valued (codes " lock") (side_text l)
+action_text (Released l) = valued (codes " release") (side_text l)
 action_text EntryOpened = codes " get_sqe"
 action_text ReadPrepared = codes " prep_read"
 action_text WritePrepared = codes " prep_write"

@@ -4,13 +4,14 @@ ghost use Rattle.std.specs.Prelude.{◌≡◌, [], ◌∷◌};
 ghost use Rattle.std.specs.List.{flat_map};
 ghost use Rattle.rc_lang.specs.Program.{IsProgram};
 ghost use Rattle.rc_report.specs.Pieces.{line_text, words_text};
-ghost use Rattle.rc_report.specs.Printed.{action_text, buffer_name, completion_text, event_line, joined, thread_line, thread_name};
+ghost use Rattle.rc_report.specs.Printed.{action_text, buffer_name, completion_text, event_line, joined, pool_name, side_text, thread_line, thread_name};
 ghost use Rattle.rc_report.specs.Streams.{CanWrite, Writes};
 
 use crate::engine_fault::EngineFault;
 use crate::streams::Sink;
 use crate::writing::write_pieces;
 use itoa::Buffer;
+use rc_lang::lines::Locks;
 use rc_lang::program::Program;
 use rc_world::event::{Action, Completion, Event};
 
@@ -57,6 +58,16 @@ pub fn buffer_name(program: &Program, buffer: usize) -> &[u8]
     }
 }
 
+/// The name of a pool, by its number, and nothing where the program has no such pool.
+pub fn pool_name(program: &Program, pool: usize) -> &[u8]
+    ensures { result.now ≡ pool_name program.now pool }
+{
+    match program.pools().get(pool) {
+        Some(name) => name,
+        None => &[],
+    }
+}
+
 /// The words of a step: a word, with its blanks, and the values after it.
 pub struct Words<'a> {
     pub word: &'a [u8],
@@ -94,6 +105,25 @@ fn completed<'a>(
     }
 }
 
+/// The side of some locks, after a blank, and nothing of both.
+pub fn side_of(locks: Locks) -> &'static str
+    ensures { result.now ≡ side_text locks }
+{
+    match (locks.sq, locks.cq) {
+        (true, false) => " sq",
+        (false, true) => " cq",
+        _ => "",
+    }
+}
+
+/// A word with the side of some locks.
+fn sided<'a>(word: &'a [u8], locks: Locks) -> Words<'a>
+    ensures { words_text result ≡ joined (word.now ∷ side_text locks ∷ []) }
+{
+    let side: &'a str = side_of(locks);
+    valued(word, side)
+}
+
 /// The words of a step, after a blank.
 fn words_of<'a>(action: Action, first: &'a mut Buffer, second: &'a mut Buffer) -> Words<'a>
     ensures { words_text result ≡ action_text action }
@@ -104,8 +134,8 @@ fn words_of<'a>(action: Action, first: &'a mut Buffer, second: &'a mut Buffer) -
         Action::Stored(byte) => valued(b" store ", first.format(byte)),
         Action::Filled(byte) => valued(b" fill ", first.format(byte)),
         Action::Printed(value) => valued(b" print ", first.format(value)),
-        Action::Locked => valued(b" lock", ""),
-        Action::Released => valued(b" release", ""),
+        Action::Locked(locks) => sided(b" lock", locks),
+        Action::Released(locks) => sided(b" release", locks),
         Action::EntryOpened => valued(b" get_sqe", ""),
         Action::ReadPrepared => valued(b" prep_read", ""),
         Action::WritePrepared => valued(b" prep_write", ""),

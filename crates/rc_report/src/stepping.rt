@@ -126,7 +126,7 @@ fn has_ended(world: &World<'_>) -> bool
         match world.next(thread) {
             Next::Ended => {}
             Next::Ready(_) => return false,
-            Next::TakenLock => return false,
+            Next::TakenLock(_) => return false,
         }
     }
     true

@@ -11,6 +11,7 @@ use Rattle.rc_lang.specs.Requests.{most_moved}
 use Rattle.rc_world.specs.declared.controls.Next.{Next}
 use Rattle.rc_world.specs.declared.controls.Next.TheVariants.{Ready, TakenLock, Ended}
 use Rattle.rc_world.specs.declared.event.Item.TheVariants.{Thread, Kernel}
+use Rattle.rc_world.specs.declared.controls.Holders.{Holders}
 use Rattle.rc_world.specs.Controls.{Standing, next_at}
 use Rattle.rc_world.specs.Faults.{has_data}
 use Rattle.rc_world.specs.Items.{is_enabled, is_ready, is_submit, kernel_may, next_by, next_of, pending_at, pending_place, takes}
@@ -67,7 +68,7 @@ ready_at w i l (Some r) p = ready_by w i (is_submit l.stmt) (Some r) p
 
 thread_at : (w : World) (i : ℕ) (take : Option ℤ) (next : Next) → IsCountIfAny take → any_stands_for (choice_by w i next) (Thread i take) ≡ is_ready w take next
 thread_at w i take (Ready l) p = sym (ready_at w i l take p)
-thread_at w i take TakenLock p = refl
+thread_at w i take (TakenLock wanted) p = refl
 thread_at w i take Ended p = refl
 
 other_by : (b : Bool) (k i q : ℕ) (take : Option ℤ) → eqb k i ≡ false → stands_for (cond b (Take k q) (Step k)) (Thread i take) ≡ false
@@ -76,13 +77,13 @@ other_by false k i q take e = rw e refl
 
 other_thread : (w : World) (k i : ℕ) (take : Option ℤ) (next : Next) → (k ≡ i → ⊥) → any_stands_for (choice_by w k next) (Thread i take) ≡ false
 other_thread w k i take (Ready l) differ = other_by (is_submit l.stmt) k i (length w.queued) take (ne_eqb k i differ)
-other_thread w k i take TakenLock differ = refl
+other_thread w k i take (TakenLock wanted) differ = refl
 other_thread w k i take Ended differ = refl
 
-no_next_by : (program : Program) (i : ℕ) (holder : Option ℕ) (o : Option Standing) → slice_get program.threads i ≡ None → next_by holder (next_at program i o) ≡ Ended
-no_next_by program i holder None e = refl
-no_next_by program i holder (Some t) e =
-    ap (λ x. next_by holder (slice_get (lines_in x) t.place)) e ∙ ap (next_by holder) (slice_get_past [] t.place (omega arith))
+no_next_by : (program : Program) (i : ℕ) (h : Holders) (o : Option Standing) → slice_get program.threads i ≡ None → next_by h (next_at program i o) ≡ Ended
+no_next_by program i h None e = refl
+no_next_by program i h (Some t) e =
+    ap (λ x. next_by h (slice_get (lines_in x) t.place)) e ∙ ap (next_by h) (slice_get_past [] t.place (omega arith))
 
 no_completion_by : (c : Bool) (v most i : ℕ) (take : Option ℤ) → any_stands_for (cond c (Some (Complete v most)) None) (Thread i take) ≡ false
 no_completion_by true v most i take = refl
@@ -105,7 +106,7 @@ thread_by w i take p (inr (le, none)) =
     let f : ℕ → Bool = λ k. any_stands_for (thread_choice w k) (Thread i take) in
     or_left _ _ _
     (none_below (length w.program.threads) f (λ k lt. other_thread w k i take (next_of w.program w.controls k) (λ same. omega (arith, le, lt, same)))
-    ∙ sym (ap (is_ready w take) (no_next_by w.program i w.controls.holder (slice_get w.controls.threads i) none)))
+    ∙ sym (ap (is_ready w take) (no_next_by w.program i w.controls.holders (slice_get w.controls.threads i) none)))
     (no_pending w i take)
 
 -- ---- completions
@@ -116,7 +117,7 @@ no_step_by false i q u res = refl
 
 no_step : (w : World) (i u : ℕ) (res : ℤ) (next : Next) → any_stands_for (choice_by w i next) (Kernel u res 0) ≡ false
 no_step w i u res (Ready l) = no_step_by (is_submit l.stmt) i (length w.queued) u res
-no_step w i u res TakenLock = refl
+no_step w i u res (TakenLock wanted) = refl
 no_step w i u res Ended = refl
 
 no_thread : (w : World) (u : ℕ) (res : ℤ) → any_below (length w.program.threads) (λ i. any_stands_for (thread_choice w i) (Kernel u res 0)) ≡ false

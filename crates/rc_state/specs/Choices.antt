@@ -18,7 +18,7 @@ pub data Choice : Type 0 where
 -- the choice of a thread that has this next
 abbrev pub choice_by : World → ℕ → Next → Option Choice
 choice_by w i (Ready l) = Some (if is_submit l.stmt then Take i (length w.queued) else Step i)
-choice_by w i TakenLock = None
+choice_by w i (TakenLock wanted) = None
 choice_by w i Ended = None
 
 abbrev pub thread_choice : World → ℕ → Option Choice

@@ -1,19 +1,20 @@
--- The text of a world: each thread, the open entry, the requests, the pool, and what is enabled. A list has a blank
+-- The text of a world: each thread, the open entry, the requests, the pools, and what is enabled. A list has a blank
 -- before each of its words, so that nothing follows its heading where it is empty.
-use Rattle.std.specs.Prelude.{ℕ, if◌then◌else◌, List, [], ◌∷◌, ◌++◌, codes, length, Option, Some, None, decimal, nat_eq, nat_le, option_map, slice_get, ℤ, pos}
+use Rattle.std.specs.Prelude.{ℕ, Bool, false, if◌then◌else◌, List, [], ◌∷◌, ◌++◌, codes, length, Option, Some, None, decimal, nat_eq, nat_le, option_map, slice_get, ℤ, pos}
 use Rattle.std.specs.Fmt.{signed_decimal}
 use Rattle.std.specs.List.{flat_map}
 use Rattle.std.specs.Ordering.{int_eq}
 use Rattle.rc_lang.specs.declared.lines.Line.{Line}
+use Rattle.rc_lang.specs.declared.lines.Locks.{Locks}
 use Rattle.rc_lang.specs.declared.program.Token.{Token}
 use Rattle.rc_lang.specs.declared.request.Kind.{Kind}
 use Rattle.rc_lang.specs.declared.request.Kind.TheVariants.{Nop, Fsync, Read, Write}
 use Rattle.rc_lang.specs.declared.request.Request.{Request}
 use Rattle.rc_lang.specs.Program.{Program, Thread}
-use Rattle.rc_report.specs.Printed.{joined, name_of_buffer, thread_name}
+use Rattle.rc_report.specs.Printed.{joined, name_of_buffer, pool_name, thread_name}
 use Rattle.rc_report.specs.Source.{line_words}
 use Rattle.rc_split.specs.Bags.{ShareOf, TokenOf, Credit}
-use Rattle.rc_split.specs.Pools.{pooled}
+use Rattle.rc_split.specs.Pools.{Pool, pooled}
 use Rattle.rc_world.specs.declared.controls.Next.{Next}
 use Rattle.rc_world.specs.declared.controls.Next.TheVariants.{Ready, TakenLock, Ended}
 use Rattle.rc_world.specs.declared.event.Completion.{Completion}
@@ -22,7 +23,7 @@ use Rattle.rc_world.specs.declared.world.Slot.TheVariants.{Closed, Vacant, Prepa
 use Rattle.rc_world.specs.Controls.{next_line}
 use Rattle.rc_world.specs.Items.{next_of}
 use Rattle.rc_world.specs.Machine.{Pending, World}
-use Rattle.rc_world.specs.Readers.{variable_in}
+use Rattle.rc_world.specs.Readers.{if_wanted, variable_in}
 use Rattle.rc_state.specs.Choices.{Choice, Complete, Step, Take, pending_choice, thread_choice}
 use Rattle.rc_state.specs.Parts.{each}
 
@@ -34,16 +35,34 @@ line_with_words text None = []
 line_with_words text (Some l) =
     joined (codes "line " ∷ decimal l.number ∷ codes ", " ∷ []) ++ line_words text l.number
 
-abbrev pub holder_text : Program → Option ℕ → List ℕ
-holder_text program None = []
-holder_text program (Some i) = joined (codes "; " ∷ thread_name program i ∷ codes " has it" ∷ [])
+-- who has something, and nothing where nobody has it
+abbrev pub has_text : Program → Option ℕ → List ℕ → List ℕ
+has_text program None what = []
+has_text program (Some i) what = joined (codes "; " ∷ thread_name program i ∷ codes " has " ∷ what ∷ [])
+
+-- who has each side of the ring: both of one thread are the lock
+abbrev pub is_same : Option ℕ → Option ℕ → Bool
+is_same None cq = false
+is_same (Some i) None = false
+is_same (Some i) (Some j) = nat_eq i j
+
+abbrev pub sides_text : Program → Option ℕ → Option ℕ → List ℕ
+sides_text program sq cq =
+    if is_same sq cq then has_text program sq (codes "it") else has_text program sq (codes "sq") ++ has_text program cq (codes "cq")
+
+-- who has the locks that a thread waits for
+abbrev pub holders_text : World → Locks → List ℕ
+holders_text w wanted =
+    sides_text w.program
+    (if_wanted wanted.sq w.controls.holders.sq)
+    (if_wanted wanted.cq w.controls.holders.cq)
 
 -- what a thread has next
 abbrev pub thread_next_text : List ℕ → World → ℕ → Next → List ℕ
 thread_next_text text w i (Ready l) = line_with_words text (Some l)
-thread_next_text text w i TakenLock =
+thread_next_text text w i (TakenLock wanted) =
     codes "waits for the lock at "
-    ++ (line_with_words text (next_line w.program w.controls i) ++ holder_text w.program w.controls.holder)
+    ++ (line_with_words text (next_line w.program w.controls i) ++ holders_text w wanted)
 thread_next_text text w i Ended = codes "ended"
 
 abbrev pub next_text : List ℕ → World → ℕ → List ℕ
@@ -136,7 +155,7 @@ completions_text cs = flat_map (λ c. completion_text c) cs
 abbrev pub requests_text : World → List ℕ
 requests_text w = queued_text w ++ (pending_text w ++ completions_text w.completions)
 
--- ---- the pool
+-- ---- the pools
 
 abbrev pub pool_share_text : List ℕ → ℕ → List ℕ
 pool_share_text name count =
@@ -145,25 +164,43 @@ pool_share_text name count =
 abbrev pub pool_token_text : ℕ → ℕ → List ℕ
 pool_token_text u count = if nat_le 1 count then joined (codes " t:" ∷ decimal u ∷ []) else []
 
-abbrev pub token_in_pool : World → Token → List ℕ
-token_in_pool w t = pool_token_text t.user_data (pooled w.program w.controls.pool (TokenOf t.user_data))
+abbrev pub token_in_pool : Program → Pool → Token → List ℕ
+token_in_pool program pool t = pool_token_text t.user_data (pooled program pool (TokenOf t.user_data))
 
--- the pool, as items: shares and tokens in the order of their declarations
-abbrev pub share_in_pool : World → ℕ → List ℕ
-share_in_pool w b =
-    pool_share_text (name_of_buffer (slice_get w.program.buffers b)) (pooled w.program w.controls.pool (ShareOf b))
+-- what is in a pool, as items: shares and tokens in the order of their declarations
+abbrev pub share_in_pool : Program → Pool → ℕ → List ℕ
+share_in_pool program pool b =
+    pool_share_text (name_of_buffer (slice_get program.buffers b)) (pooled program pool (ShareOf b))
 
-abbrev pub shares_text : World → List ℕ
-shares_text w = each (length w.program.buffers) (λ b. share_in_pool w b)
+abbrev pub shares_text : Program → Pool → List ℕ
+shares_text program pool = each (length program.buffers) (λ b. share_in_pool program pool b)
 
-abbrev pub tokens_text : World → List ℕ
-tokens_text w = flat_map (λ t. token_in_pool w t) w.program.tokens
+abbrev pub tokens_text : Program → Pool → List ℕ
+tokens_text program pool = flat_map (λ t. token_in_pool program pool t) program.tokens
 
-abbrev pub credits_text : World → List ℕ
-credits_text w = pool_share_text (codes "c") (pooled w.program w.controls.pool Credit)
+abbrev pub credits_text : Program → Pool → List ℕ
+credits_text program pool = pool_share_text (codes "c") (pooled program pool Credit)
 
-abbrev pub pool_text : World → List ℕ
-pool_text w = codes "pool:" ++ (shares_text w ++ (tokens_text w ++ (credits_text w ++ codes "\n")))
+-- the items of a pool, to its line's end
+abbrev pub pooled_text : Program → Pool → List ℕ
+pooled_text program pool =
+    codes ":"
+    ++ (shares_text program pool ++ (tokens_text program pool ++ (credits_text program pool ++ codes "\n")))
+
+-- a pool with a name, by its number
+abbrev pub named_text : Program → ℕ → Option Pool → List ℕ
+named_text program n None = []
+named_text program n (Some pool) = codes "pool " ++ (pool_name program n ++ pooled_text program pool)
+
+abbrev pub named_pool_text : World → ℕ → List ℕ
+named_pool_text w n = named_text w.program n (slice_get w.controls.pools.named n)
+
+-- the pool without a name, and those with one in the order of their declarations
+abbrev pub pools_text : World → List ℕ
+pools_text w =
+    codes "pool"
+    ++ (pooled_text w.program w.controls.pools.unnamed
+    ++ each (length w.controls.pools.named) (named_pool_text w))
 
 -- ---- what is enabled
 
@@ -203,4 +240,4 @@ choices_text w =
 abbrev pub world_text : List ℕ → World → List ℕ
 world_text text w =
     threads_text text w
-    ++ (open_entry_text w.program w.slot ++ (requests_text w ++ (pool_text w ++ choices_text w)))
+    ++ (open_entry_text w.program w.slot ++ (requests_text w ++ (pools_text w ++ choices_text w)))

@@ -4,8 +4,9 @@ ghost use Rattle.std.specs.Prelude.{◌≡◌, Some, length, slice_get};
 ghost use Rattle.rc_lang.specs.Parts.{view_thread};
 ghost use Rattle.rc_report.specs.Text.{Puts};
 ghost use Rattle.rc_state.specs.State as spec;
+ghost use Rattle.rc_world.specs.Readers.{if_wanted};
 
-use rc_lang::lines::Line;
+use rc_lang::lines::{Line, Locks};
 use rc_lang::program::{Program, Thread};
 use rc_report::printed::thread_name;
 use rc_report::source::{Lines, put_line_words};
@@ -56,10 +57,10 @@ fn put_next(
 {
     match world.next(thread) {
         Next::Ready(line) => put_line(text, lines, Some(line)),
-        Next::TakenLock => {
+        Next::TakenLock(wanted) => {
             put_piece(text, b"waits for the lock at ")?;
             put_line(text, lines, world.line(thread))?;
-            put_holder(text, world.program(), world.holder())
+            put_holders(text, world, wanted)
         }
         Next::Ended => put_piece(text, b"ended"),
     }
@@ -78,12 +79,63 @@ fn put_line(text: &mut Vec<u8>, lines: &Lines<'_>, line: Option<Line>) -> Result
     put_line_words(text, lines, line.number)
 }
 
-/// Adds who holds the lock.
-fn put_holder(text: &mut Vec<u8>, program: &Program, holder: Option<u32>) -> Result<(), AllocError>
-    ensures { Puts text.old text.new (spec.holder_text program.now holder) result }
+/// Adds who has the locks that a thread waits for.
+fn put_holders(text: &mut Vec<u8>, world: &World<'_>, wanted: Locks) -> Result<(), AllocError>
+    ensures { Puts text.old text.new (spec.holders_text world.now wanted) result }
+{
+    let holders = world.holders();
+    let sq = if_wanted(wanted.sq, holders.sq);
+    let cq = if_wanted(wanted.cq, holders.cq);
+    put_sides(text, world.program(), sq, cq)
+}
+
+/// Who holds a lock, if it is wanted.
+fn if_wanted(wanted: bool, holder: Option<u32>) -> Option<u32>
+    ensures { result ≡ if_wanted wanted holder }
+{
+    if wanted { holder } else { None }
+}
+
+/// Adds who has each side of the ring.
+fn put_sides(
+    text: &mut Vec<u8>,
+    program: &Program,
+    sq: Option<u32>,
+    cq: Option<u32>,
+) -> Result<(), AllocError>
+    ensures { Puts text.old text.new (spec.sides_text program.now sq cq) result }
+{
+    if is_same(sq, cq) {
+        return put_has(text, program, sq, b"it");
+    }
+    put_has(text, program, sq, b"sq")?;
+    put_has(text, program, cq, b"cq")
+}
+
+/// Whether one thread has both sides.
+fn is_same(sq: Option<u32>, cq: Option<u32>) -> bool
+    ensures { result ≡ spec.is_same sq cq }
+{
+    match (sq, cq) {
+        (Some(holder), Some(other)) => holder == other,
+        _ => false,
+    }
+}
+
+/// Adds who has something, if somebody has it.
+fn put_has(
+    text: &mut Vec<u8>,
+    program: &Program,
+    holder: Option<u32>,
+    what: &[u8],
+) -> Result<(), AllocError>
+    ensures { Puts text.old text.new (spec.has_text program.now holder what.now) result }
 {
     match holder {
-        Some(holder) => put_pieces(text, &[b"; ", thread_name(program, holder), b" has it"]),
+        Some(holder) => {
+            let name = thread_name(program, holder);
+            put_pieces(text, &[b"; ", name, b" has ", what])
+        }
         None => Ok(()),
     }
 }

@@ -1,6 +1,7 @@
 //! Lines of events and of ends.
 
 use rc_examples::programs::EMPTY_THREAD;
+use rc_lang::lines::Locks;
 use rc_lang::program::Program;
 use rc_read::read_program;
 use rc_report::streams::WriteSink;
@@ -11,8 +12,20 @@ use std::alloc::Global;
 use std::process::Abort;
 use std::test::Fail;
 
+const BOTH: Locks = Locks { sq: true, cq: true };
+
+const SQ: Locks = Locks {
+    sq: true,
+    cq: false,
+};
+
+const CQ: Locks = Locks {
+    sq: false,
+    cq: true,
+};
+
 /// The words of each step of a thread.
-const STEPS: [(Action, &str); 22] = [
+const STEPS: [(Action, &str); 26] = [
     (
         Action::VariableSet(-9_223_372_036_854_775_808),
         "set -9223372036854775808",
@@ -21,8 +34,12 @@ const STEPS: [(Action, &str); 22] = [
     (Action::Stored(255), "store 255"),
     (Action::Filled(7), "fill 7"),
     (Action::Printed(-11), "print -11"),
-    (Action::Locked, "lock"),
-    (Action::Released, "release"),
+    (Action::Locked(BOTH), "lock"),
+    (Action::Locked(SQ), "lock sq"),
+    (Action::Locked(CQ), "lock cq"),
+    (Action::Released(BOTH), "release"),
+    (Action::Released(SQ), "release sq"),
+    (Action::Released(CQ), "release cq"),
     (Action::EntryOpened, "get_sqe"),
     (Action::ReadPrepared, "prep_read"),
     (Action::WritePrepared, "prep_write"),

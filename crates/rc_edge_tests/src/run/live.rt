@@ -5,11 +5,24 @@ ghost use Rattle.std.specs.Prelude.{pos, negsuc, ◌≤ℤ◌};
 use crate::run::examples::{HANDOFF, SHARE, admitted};
 use crate::run::stepping::is_run;
 use rc_device::disk::Disk;
+use rc_lang::lines::Locks;
 use rc_run::job::Job;
 use rc_run::live::{Live, Turn};
 use rc_world::event::{Action, Completion, Event};
 use std::alloc::Global;
 use std::test::*;
+
+const BOTH: Locks = Locks { sq: true, cq: true };
+
+const SQ: Locks = Locks {
+    sq: true,
+    cq: false,
+};
+
+const CQ: Locks = Locks {
+    sq: false,
+    cq: true,
+};
 
 fn live(alloc: Global, text: &str) -> Result<Live, Fail> {
     Ok(Live::start(alloc, admitted(alloc, text)?)?)
@@ -61,11 +74,62 @@ fn makes(live: &mut Live, thread: u32, take: i32, turn: Turn) -> bool
 #[test]
 fn a_thread_waits_for_the_lock_that_another_took(rt: HostRuntime) -> Result<(), Fail> {
     let mut live = live(rt.alloc(), HANDOFF)?;
-    assert!(rt; makes(&mut live, 0, 0, turn_at(0, 7, Action::Locked)));
+    assert!(rt; makes(&mut live, 0, 0, turn_at(0, 7, Action::Locked(BOTH))));
     assert!(rt; makes(&mut live, 1, 0, turn_at(1, 20, Action::Looped)));
     assert!(rt; makes(&mut live, 1, 0, Turn::Waits));
     assert!(rt; makes(&mut live, 2, 0, Turn::Ended));
     assert_eq!(rt; live.history().len(), 2);
+    Ok(())
+}
+
+/// One thread takes the lock of the submission side, one that of the completion side and in it the other, and one both at
+/// once.
+const SIDES: &str = "ringcheck 4
+ring 1
+thread t0 holds {
+lock sq {
+}
+}
+thread t1 holds {
+lock cq {
+lock sq {
+}
+}
+}
+thread t2 holds {
+lock {
+}
+}
+";
+
+// A run of SIDES in which the first thread has the one side and the second the other.
+fn taken_apart(alloc: Global) -> Result<Live, Fail> {
+    let mut live = live(alloc, SIDES)?;
+    live.turn(0, 0)?;
+    live.turn(1, 0)?;
+    Ok(live)
+}
+
+#[test]
+fn a_thread_waits_for_the_side_that_another_took(rt: HostRuntime) -> Result<(), Fail> {
+    let mut live = taken_apart(rt.alloc())?;
+    assert!(rt; live.holds_lock(0) && live.holds_lock(1) && !live.holds_lock(2));
+    assert!(rt; makes(&mut live, 1, 0, Turn::Waits));
+    assert!(rt; makes(&mut live, 2, 0, Turn::Waits));
+    assert!(rt; makes(&mut live, 0, 0, turn_at(0, 5, Action::Released(SQ))));
+    assert!(rt; makes(&mut live, 1, 0, turn_at(1, 9, Action::Locked(SQ))));
+    Ok(())
+}
+
+#[test]
+fn a_thread_that_takes_both_locks_waits_for_each(rt: HostRuntime) -> Result<(), Fail> {
+    let mut live = taken_apart(rt.alloc())?;
+    assert!(rt; makes(&mut live, 0, 0, turn_at(0, 5, Action::Released(SQ))));
+    assert!(rt; makes(&mut live, 2, 0, Turn::Waits));
+    make_turns(&mut live, 1, 2)?;
+    assert!(rt; makes(&mut live, 2, 0, Turn::Waits));
+    assert!(rt; makes(&mut live, 1, 0, turn_at(1, 11, Action::Released(CQ))));
+    assert!(rt; makes(&mut live, 2, 0, turn_at(2, 14, Action::Locked(BOTH))));
     Ok(())
 }
 

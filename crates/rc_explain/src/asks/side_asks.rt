@@ -153,8 +153,8 @@ pub fn put_side(
 ) -> Result<(), AllocError> {
     let program = side.program();
     match asks {
-        Asks::SqLock => put_piece(text, b"asks for the lock; it isn't held"),
-        Asks::CqLock => put_piece(text, b"asks for the lock; it isn't held"),
+        Asks::SqLock => put_lock(text, program, b" sq"),
+        Asks::CqLock => put_lock(text, program, b" cq"),
         Asks::Part(part) => put_part_asked(text, side, part),
         Asks::Whole(buffer) => put_whole(text, side, buffer),
         Asks::Items(list) => {
@@ -196,12 +196,25 @@ pub fn put_side(
     }
 }
 
+/// Adds which lock is asked for. Before version 4 there is one for both sides.
+fn put_lock(text: &mut Vec<u8>, program: &Program, side: &[u8]) -> Result<(), AllocError> {
+    let side = if program.version() < 4 { b"" } else { side };
+    put_pieces(text, &[b"asks for the lock", side, b"; it isn't held"])
+}
+
+/// Adds how many entries may be queued, and from version 4 on how many tokens may be those of queued requests.
 fn put_room(text: &mut Vec<u8>, side: &Side) -> Result<(), AllocError> {
+    let program = side.program();
     put_piece(text, b"asks for room in the queue; q is ")?;
     put_number(text, u64::from(sq_on(side).queued))?;
     put_piece(text, b" of ")?;
-    put_number(text, u64::from(side.program().entries()))?;
-    put_piece(text, b" entries")
+    put_number(text, u64::from(program.entries()))?;
+    put_piece(text, b" entries")?;
+    if program.version() < 4 {
+        return Ok(());
+    }
+    put_piece(text, b", tokens not held: ")?;
+    put_number(text, u64::from(side.lacking()))
 }
 
 fn put_left(text: &mut Vec<u8>, side: &Side) -> Result<(), AllocError> {

@@ -1,7 +1,9 @@
 //! What is declared or named twice.
 
 use super::lines::{between, column_of, place_of, word_at};
-use super::places::{Kind, Place, has_buffer, has_file, has_thread, has_token, put_place, word_of};
+use super::places::{
+    Kind, Place, has_buffer, has_file, has_pool, has_thread, has_token, put_place, word_of,
+};
 use super::wording::{put_column, put_word};
 use rc_read::parts::Parts;
 use rc_read::table::Part;
@@ -15,6 +17,7 @@ fn known_at(parts: &Parts, place: Place) -> Option<Kind> {
         Part::NewFile => has_file(parts, place.word).then_some(Kind::File),
         Part::NewBuffer => has_buffer(parts, place.word).then_some(Kind::Buffer),
         Part::NewToken => has_token(parts, place.word).then_some(Kind::Token),
+        Part::NewPool => has_pool(parts, place.word).then_some(Kind::Pool),
         Part::NewThread => has_thread(parts, place.word).then_some(Kind::Thread),
         _ => None,
     }

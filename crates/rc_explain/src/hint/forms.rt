@@ -39,6 +39,7 @@ fn choice_of(next: Option<Part>) -> Choice {
         },
         Part::Variable | Part::Flag => named(b"a variable"),
         Part::Buffer | Part::NewBuffer | Part::NewThread => named(b"a name"),
+        Part::Pool | Part::NewPool => named(b"a name"),
         Part::Operand => named(b"a variable or a number"),
         Part::Comparison => named(b"a comparison"),
         Part::Items => named(b"items"),
@@ -220,10 +221,27 @@ fn put_longest(
     Ok(())
 }
 
-/// What a whole form says that may not be here, or not yet.
-fn refused_form(alloc: Global, words: &[&[u8]]) -> Result<Option<Row>, AllocError> {
+/// What a whole form says that may not be here, or not yet: one of this version, or else of the last.
+fn refused_form(alloc: Global, version: u32, words: &[&[u8]]) -> Result<Option<Row>, AllocError> {
     let mut spots = Vec::new(alloc);
-    put_spots(3, &mut spots, words)
+    if let Some(row) = put_spots(version, &mut spots, words)? {
+        return Ok(Some(row));
+    }
+    put_spots(4, &mut spots, words)
+}
+
+/// Why a form that a word begins may not be here: it is of a later version, or it is elsewhere.
+fn put_begun(
+    text: &mut Vec<u8>,
+    parts: &Parts,
+    line: &[u8],
+    word: &[u8],
+    row: Row,
+) -> Result<(), AllocError> {
+    if may_be(version_of(row), parts.region, row) {
+        return put_version(text, parts.head.version, line, word, row);
+    }
+    put_stand(text, line, word, stand_of(row))
 }
 
 /// Adds the hint for a line whose words are no form that may be there.
@@ -236,7 +254,7 @@ pub fn put_form(
 ) -> Result<(), AllocError> {
     let version = parts.head.version;
     let first = word_at(words, 0);
-    if let Some(row) = refused_form(alloc, words)? {
+    if let Some(row) = refused_form(alloc, version, words)? {
         if version_of(row) > version {
             return put_version(text, version, line, first, row);
         }
@@ -251,7 +269,7 @@ pub fn put_form(
     let most = longest(version, &forms, words);
     if most == 0 {
         if let Some(row) = begun(first) {
-            return put_stand(text, line, first, stand_of(row));
+            return put_begun(text, parts, line, first, row);
         }
     }
     let nearest = near_first(alloc, &forms, first)?;

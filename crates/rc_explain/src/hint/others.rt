@@ -5,7 +5,7 @@ use super::wording::{put_column, put_word};
 use rc_lang::lines::Block;
 use rc_read::parts::{Parts, Region};
 use rc_read::words::is;
-use rc_report::text::{put_number, put_piece};
+use rc_report::text::{put_number, put_piece, put_pieces};
 use std::alloc::AllocError;
 
 fn is_strange(b: u8) -> bool {
@@ -38,7 +38,7 @@ pub fn put_head(text: &mut Vec<u8>, parts: &Parts, words: &[&[u8]]) -> Result<()
         ),
         Region::Start => put_piece(
             text,
-            b"the first line with words is 'ringcheck 1', 'ringcheck 2' or 'ringcheck 3'",
+            b"the first line with words is 'ringcheck 1', 'ringcheck 2', 'ringcheck 3' or 'ringcheck 4'",
         ),
         _ => put_piece(
             text,
@@ -49,14 +49,14 @@ pub fn put_head(text: &mut Vec<u8>, parts: &Parts, words: &[&[u8]]) -> Result<()
 
 fn place_of_block(block: Block) -> usize {
     match block {
-        Block::InLock(place) | Block::InIf(place) | Block::InElse(place) => place,
+        Block::InLock(place, _) | Block::InIf(place) | Block::InElse(place) => place,
         Block::InPeek(place) | Block::InArm(place) | Block::InLoop(place, _) => place,
     }
 }
 
 fn kind_of(block: Block) -> &'static [u8] {
     match block {
-        Block::InLock(_) => b"lock",
+        Block::InLock(_, _) => b"lock",
         Block::InIf(_) => b"'if'",
         Block::InElse(_) => b"'else'",
         Block::InPeek(_) => b"peek",
@@ -90,18 +90,33 @@ fn put_open(text: &mut Vec<u8>, parts: &Parts) -> Result<(), AllocError> {
     put_piece(text, b" is open")
 }
 
-/// Adds which block is open that keeps a line out: a peek or an arm, and of a lock also a lock; else the innermost.
-fn put_outer(text: &mut Vec<u8>, parts: &Parts, is_lock: bool) -> Result<(), AllocError> {
-    let mut found = None;
-    for block in &parts.draft.blocks {
-        found = match *block {
-            Block::InPeek(_) | Block::InArm(_) => Some(*block),
-            Block::InLock(_) if is_lock => Some(*block),
-            _ => found,
-        };
+/// Which blocks keep a line out.
+#[derive(Clone, Copy)]
+enum Keeps {
+    /// A peek and an arm do.
+    Peeks,
+    /// These and a lock do.
+    PeeksAndLocks,
+    /// A lock of the submission side does.
+    SqLocks,
+}
+
+/// Whether a block keeps a line out.
+fn keeps_out(keeps: Keeps, block: Block) -> bool {
+    match (keeps, block) {
+        (Keeps::SqLocks, Block::InLock(_, locks)) => locks.sq,
+        (Keeps::SqLocks, _) => false,
+        (_, Block::InPeek(_) | Block::InArm(_)) => true,
+        (Keeps::PeeksAndLocks, Block::InLock(_, _)) => true,
+        _ => false,
     }
-    match found {
-        Some(block) => put_block(text, parts, block),
+}
+
+/// Adds which block is open that keeps a line out, the innermost of those; else the innermost of all.
+fn put_outer(text: &mut Vec<u8>, parts: &Parts, keeps: Keeps) -> Result<(), AllocError> {
+    let blocks = parts.draft.blocks.iter();
+    match blocks.rev().find(|block| keeps_out(keeps, **block)) {
+        Some(block) => put_block(text, parts, *block),
         None => put_open(text, parts),
     }
 }
@@ -166,6 +181,8 @@ pub fn put_too_large(
         put_of(text, parts.files.len(), 16, b"files")
     } else if is(first, b"buffer") {
         put_of(text, parts.buffers.len(), 64, b"buffers")
+    } else if is(first, b"pool") && matches!(parts.region, Region::Declarations) {
+        put_of(text, parts.pools.len(), 16, b"pools")
     } else if is(first, b"token") {
         put_of(text, parts.tokens.len(), 256, b"tokens")
     } else if is(first, b"thread") {
@@ -185,6 +202,15 @@ pub fn put_too_large(
     }
 }
 
+/// The lock under which it is known how many entries are queued.
+fn lock_of_queue(parts: &Parts) -> &'static [u8] {
+    if parts.head.version < 4 {
+        b"a lock"
+    } else {
+        b"'lock {' or 'lock sq {'"
+    }
+}
+
 /// Adds the hint for a block or a word that may not be in the open one.
 pub fn put_nesting(text: &mut Vec<u8>, parts: &Parts, words: &[&[u8]]) -> Result<(), AllocError> {
     let first = word_at(words, 0);
@@ -195,16 +221,23 @@ pub fn put_nesting(text: &mut Vec<u8>, parts: &Parts, words: &[&[u8]]) -> Result
     if is(first, b"put") || is(first, b"if") {
         put_piece(text, b": 'q:' may not be there")
     } else if is(first, b"thread") {
-        put_piece(text, b": 'q:' may only be in a lock")
-    } else if is(first, b"lock") || is(first, b"peek_cqe") {
+        put_pieces(text, &[b": 'q:' may only be in ", lock_of_queue(parts)])
+    } else if is(first, b"lock") && is(word_at(words, 1), b"sq") {
         put_piece(text, b" may not be here: ")?;
-        put_outer(text, parts, is(first, b"lock"))
+        put_outer(text, parts, Keeps::SqLocks)
+    } else if is(first, b"lock") {
+        put_piece(text, b" may not be here: ")?;
+        put_outer(text, parts, Keeps::PeeksAndLocks)
+    } else if is(first, b"peek_cqe") {
+        put_piece(text, b" may not be here: ")?;
+        put_outer(text, parts, Keeps::Peeks)
     } else {
         put_piece(
             text,
-            b": a loop may not be in a peek, and 'q:' may only be in a lock, before 'when'; ",
+            b": a loop may not be in a peek, and 'q:' may only be in ",
         )?;
-        put_outer(text, parts, false)
+        put_pieces(text, &[lock_of_queue(parts), b", before 'when'; "])?;
+        put_outer(text, parts, Keeps::Peeks)
     }
 }
 

@@ -2,7 +2,7 @@
 
 use super::fitting::items_in_front;
 use super::lines::{column_of, from, word_at};
-use super::near::{nearer, none_near};
+use super::near::{Nearest, nearer, none_near};
 use super::wording::{put_column, put_word};
 use rc_lang::numbers::{is_number, number_of, signed_number_of};
 use rc_read::parts::Parts;
@@ -268,6 +268,11 @@ pub fn has_buffer(parts: &Parts, word: &[u8]) -> bool {
     parts.buffers.iter().any(|b| is(&b.name, word))
 }
 
+/// Whether the pool with this name is declared.
+pub fn has_pool(parts: &Parts, word: &[u8]) -> bool {
+    parts.pools.iter().any(|name| is(name, word))
+}
+
 /// Whether the thread with this name is above, or is the open one. Where none is open the draft has no name.
 pub fn has_thread(parts: &Parts, word: &[u8]) -> bool {
     is(&parts.draft.name, word) || parts.threads.iter().any(|t| is(&t.name, word))
@@ -297,11 +302,32 @@ fn put_buffers(
         }
         nearest = nearer(alloc, word, nearest, &buffer.name)?;
     }
+    put_nearest(text, nearest)
+}
+
+/// Adds the nearest spelling, if one is near.
+fn put_nearest(text: &mut Vec<u8>, nearest: Nearest) -> Result<(), AllocError> {
     if nearest.distance < 3 {
         put_piece(text, b"; the nearest is ")?;
         put_word(text, nearest.word)?;
     }
     Ok(())
+}
+
+fn put_pools(
+    alloc: Global,
+    text: &mut Vec<u8>,
+    parts: &Parts,
+    word: &[u8],
+) -> Result<(), AllocError> {
+    let mut nearest = none_near();
+    for (i, name) in parts.pools.iter().enumerate() {
+        if put_between(text, i)? {
+            put_piece(text, name)?;
+        }
+        nearest = nearer(alloc, word, nearest, name)?;
+    }
+    put_nearest(text, nearest)
 }
 
 fn put_files(text: &mut Vec<u8>, parts: &Parts) -> Result<(), AllocError> {
@@ -328,6 +354,7 @@ pub enum Kind {
     File,
     Buffer,
     Token,
+    Pool,
     Thread,
 }
 
@@ -337,6 +364,7 @@ pub fn word_of(kind: Kind) -> &'static [u8] {
         Kind::File => b"file",
         Kind::Buffer => b"buffer",
         Kind::Token => b"token",
+        Kind::Pool => b"pool",
         Kind::Thread => b"thread",
     }
 }
@@ -347,6 +375,7 @@ fn unknown_at(parts: &Parts, place: Place) -> Option<Kind> {
         Part::File => (!has_file(parts, place.word)).then_some(Kind::File),
         Part::Buffer => (!has_buffer(parts, place.word)).then_some(Kind::Buffer),
         Part::Token | Part::HeldToken => (!has_token(parts, place.word)).then_some(Kind::Token),
+        Part::Pool => (!has_pool(parts, place.word)).then_some(Kind::Pool),
         _ => None,
     }
 }
@@ -356,6 +385,7 @@ fn count_of(parts: &Parts, kind: Kind) -> usize {
         Kind::File => parts.files.len(),
         Kind::Buffer => parts.buffers.len(),
         Kind::Token => parts.tokens.len(),
+        Kind::Pool => parts.pools.len(),
         Kind::Thread => parts.threads.len(),
     }
 }
@@ -381,11 +411,12 @@ fn put_unknown(
         Kind::File => put_files(text, parts),
         Kind::Buffer => put_buffers(alloc, text, parts, place.word),
         Kind::Token => put_tokens(text, parts),
+        Kind::Pool => put_pools(alloc, text, parts, place.word),
         Kind::Thread => Ok(()),
     }
 }
 
-/// Adds the hint for a file, a buffer or a token that isn't declared.
+/// Adds the hint for a file, a buffer, a token or a pool that isn't declared.
 pub fn put_unknown_name(
     alloc: Global,
     text: &mut Vec<u8>,

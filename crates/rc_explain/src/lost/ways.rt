@@ -3,7 +3,7 @@
 ghost use Rattle.std.specs.Prelude.{◌<◌, length};
 
 use crate::asks::Missing;
-use rc_lang::lines::{Op, Stmt, Test};
+use rc_lang::lines::{Locks, Op, Stmt, Test};
 use rc_lang::program::{Program, Thread, TokenKind};
 use rc_rules::mode::{Peeked, peeked_of, unlocked};
 use rc_rules::needs::kind_of;
@@ -201,7 +201,7 @@ impl Ways<'_> {
     fn stmt(&self, place: usize) -> Stmt {
         match self.thread.lines.get(place) {
             Some(line) => line.stmt,
-            None => Stmt::Lock,
+            None => Stmt::Lock(Locks { sq: true, cq: true }),
         }
     }
 

@@ -2,7 +2,7 @@
 
 use super::Refused;
 use rc_lang::lines::{Op, Stmt, Test};
-use rc_report::text::{put_counted, put_number, put_piece};
+use rc_report::text::{put_counted, put_number, put_piece, put_pieces};
 use std::alloc::AllocError;
 
 /// Where the bound on the queue comes from that is known at a `get_sqe`: a place, and how many calls of `get_sqe` there
@@ -49,7 +49,7 @@ fn is_emptied(refused: Refused) -> bool {
         place = place.saturating_add(1);
         match refused.stmt(place) {
             Stmt::If(Test::ReadyZero) => return true,
-            Stmt::Lock | Stmt::EndLock(_) => return false,
+            Stmt::Lock(_) | Stmt::EndLock(_, _) => return false,
             _ => {}
         }
     }
@@ -102,8 +102,18 @@ pub fn put_space(text: &mut Vec<u8>, refused: Refused) -> Result<(), AllocError>
         text,
         b", and `}` behind the request, since up to ",
         u64::from(left),
-        b" may be queued where the lock is taken (left).",
-    )
+        b" may be queued where the ",
+    )?;
+    put_pieces(text, &[lock_of_queue(refused), b" is taken (left)."])
+}
+
+/// The lock under which it is known how many entries are queued. Before version 4 there is one for both sides.
+fn lock_of_queue(refused: Refused) -> &'static [u8] {
+    if refused.program.version() < 4 {
+        b"lock"
+    } else {
+        b"lock sq"
+    }
 }
 
 fn put_test(text: &mut Vec<u8>, room: u32) -> Result<(), AllocError> {

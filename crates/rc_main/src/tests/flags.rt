@@ -23,12 +23,12 @@ fn other_flags_are_refused(rt: HostRuntime) -> Result<(), Fail> {
 fn flags_that_no_text_may_have_are_told(rt: HostRuntime) -> Result<(), Fail> {
     let alloc = rt.alloc();
     let first = PUMP.replacen(alloc, "ringcheck 2", "ringcheck 1", 1)?;
-    let fourth = PUMP.replacen(alloc, "ringcheck 2", "ringcheck 4", 1)?;
+    let fifth = PUMP.replacen(alloc, "ringcheck 2", "ringcheck 5", 1)?;
     let other = PUMP.replacen(alloc, "keeps q:1 {", "keeps q:1 when g {", 1)?;
     let twice = PUMP.replacen(alloc, "keeps when h t:7", "keeps t:7 when h t:7", 1)?;
     let rows = [
         (first.as_str(), 6, 3, "BadLine"),
-        (fourth.as_str(), 1, 2, "BadHead"),
+        (fifth.as_str(), 1, 2, "BadHead"),
         (other.as_str(), 12, 11, "OtherFlag"),
         (twice.as_str(), 6, 6, "DoubleName"),
     ];

@@ -24,7 +24,7 @@ pub fn step_all(rt: &(impl Abort + Threads + Wait + Sync), alloc: Global, rows: 
 }
 
 /// Steps a text, where this is told on standard error.
-fn step_told<'a>(
+pub fn step_told<'a>(
     rt: &(impl Abort + Threads + Wait + Sync),
     alloc: Global,
     row: Stepped<'a>,

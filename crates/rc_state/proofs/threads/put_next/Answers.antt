@@ -1,5 +1,5 @@
-use Rattle.std.proofs.Common.{◌∙◌, ap}
-use Rattle.rc_state.specs.State.{holder_text, thread_next_text}
+use Rattle.std.proofs.Common.{ap}
+use Rattle.rc_state.specs.State.{thread_next_text}
 use Rattle.rc_report.proofs.Texts.{puts_after, puts_along}
 use Rattle.rc_state.proofs.threads.put_next.Goals as goal
 
@@ -8,11 +8,9 @@ returns-in_ok-put_line-in-TakenLock c =
     let text = c.args.text.now in
     let head = c.put_piece.new.text in
     let line = c.put_line-in-TakenLock.new.text in
-    let last = c.put_holder in
+    let last = c.put_holders in
     let is = ap (λ n. thread_next_text c.args.lines.now c.args.world.now c.args.thread n) c.in-TakenLock.ensures in
     let put = rw c.line.ensures at c.in_ok-put_line-in-TakenLock.ensures in
-    let holder = ap (λ p. holder_text p c.holder.result) c.program.ensures ∙ ap (λ h. holder_text c.args.world.now.program h) c.holder.ensures in
     puts_along text last.new.text _ _ last.result is
     (puts_after text head last.new.text _ _ last.result c.in_ok-put_piece-in-TakenLock.ensures
-    (puts_after head line last.new.text _ _ last.result put
-    (puts_along line last.new.text _ _ last.result holder last.ensures)))
+    (puts_after head line last.new.text _ _ last.result put last.ensures))
