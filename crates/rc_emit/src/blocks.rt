@@ -5,23 +5,24 @@ ghost use Rattle.rc_emit.specs.Text.{Grows};
 use crate::lines::{
     put_closing, put_comment, put_event, put_indentation, put_line, put_source, put_text,
 };
+use crate::locks::{put_end_lock, put_lock, put_unlock};
 use crate::operations::put_op;
 use crate::place::Place;
-use crate::pool::{put_put, put_take};
+use crate::pool::{put_pool_unlock, put_put, put_take};
 use crate::terms::operator;
-use rc_lang::lines::{Comparison, Stmt, Test};
+use rc_lang::lines::{Comparison, Locks, Stmt, Test};
 use std::alloc::AllocError;
 
 /// How many blocks of C are open after a line, of so many before it.
 pub fn depth_after(stmt: Stmt, depth: usize) -> usize {
     match stmt {
-        Stmt::Lock
+        Stmt::Lock(_)
         | Stmt::If(_)
         | Stmt::Case(_, _)
         | Stmt::Other(_)
         | Stmt::Nothing(_)
         | Stmt::Loop(_) => depth.saturating_add(1),
-        Stmt::EndLock(_) | Stmt::EndIf(_) | Stmt::EndArm(_) | Stmt::EndLoop(_, _) => {
+        Stmt::EndLock(_, _) | Stmt::EndIf(_) | Stmt::EndArm(_) | Stmt::EndLoop(_, _) => {
             depth.saturating_sub(1)
         }
         _ => depth,
@@ -31,8 +32,8 @@ pub fn depth_after(stmt: Stmt, depth: usize) -> usize {
 /// How many blocks of C are open around a line itself, of so many before it.
 pub fn depth_of(stmt: Stmt, depth: usize) -> usize {
     match stmt {
-        Stmt::EndLock(_) | Stmt::Else(_) | Stmt::EndIf(_) | Stmt::EndArm(_) | Stmt::EndLoop(_, _) =>
-            depth.saturating_sub(1),
+        Stmt::EndLock(_, _) | Stmt::Else(_) | Stmt::EndIf(_) => depth.saturating_sub(1),
+        Stmt::EndArm(_) | Stmt::EndLoop(_, _) => depth.saturating_sub(1),
         _ => depth,
     }
 }
@@ -43,9 +44,9 @@ pub fn put_stmt(text: &mut Vec<u8>, place: Place<'_>, stmt: Stmt) -> Result<(), 
 {
     match stmt {
         Stmt::Do(op) => put_op(text, place, op),
-        Stmt::Put(list) => put_put(text, place, list),
-        Stmt::Lock => put_lock(text, place),
-        Stmt::EndLock(_) => put_end_lock(text, place),
+        Stmt::Put(pool, list) => put_put(text, place, pool, list),
+        Stmt::Lock(takes) => put_lock(text, place, takes),
+        Stmt::EndLock(_, releases) => put_end_lock(text, place, releases),
         Stmt::If(test) => put_if(text, place, test),
         Stmt::Else(_) => put_else(text, place),
         Stmt::EndIf(_) | Stmt::EndArm(_) | Stmt::EndLoop(_, _) => put_closing(text, place),
@@ -59,43 +60,6 @@ pub fn put_stmt(text: &mut Vec<u8>, place: Place<'_>, stmt: Stmt) -> Result<(), 
     }
 }
 
-/// Adds that the lock is taken.
-fn put_lock(text: &mut Vec<u8>, place: Place<'_>) -> Result<(), AllocError>
-    ensures { Grows text.old text.new result }
-{
-    let number = place.decimal(u64::from(place.number))?;
-    put_source(text, place)?;
-    put_line(
-        text,
-        place,
-        &[b"MUST(", &number, b", pthread_mutex_lock(&ring_lock));"],
-    )?;
-    put_event(text, place, &[b"lock\""])?;
-    put_line(text, place, &[b"SEE_COMPLETIONS();"])?;
-    put_line(text, place, &[b"{"])
-}
-
-/// Adds that the lock is released.
-fn put_unlock(text: &mut Vec<u8>, place: Place<'_>) -> Result<(), AllocError>
-    ensures { Grows text.old text.new result }
-{
-    let number = place.decimal(u64::from(place.number))?;
-    put_line(
-        text,
-        place,
-        &[b"MUST(", &number, b", pthread_mutex_unlock(&ring_lock));"],
-    )
-}
-
-/// Adds the end of a lock.
-fn put_end_lock(text: &mut Vec<u8>, place: Place<'_>) -> Result<(), AllocError>
-    ensures { Grows text.old text.new result }
-{
-    put_closing(text, place)?;
-    put_event(text, place, &[b"release\""])?;
-    put_unlock(text, place)
-}
-
 /// Adds what an if asks.
 fn put_test(text: &mut Vec<u8>, place: Place<'_>, test: Test) -> Result<(), AllocError>
     ensures { Grows text.old text.new result }
@@ -104,7 +68,7 @@ fn put_test(text: &mut Vec<u8>, place: Place<'_>, test: Test) -> Result<(), Allo
         Test::Compare(x, comparison, number) => put_comparison(text, place, x, comparison, number),
         Test::ReadyZero => put_line(text, place, &[b"yes = io_uring_sq_ready(&ring) == 0;"]),
         Test::SpaceAtLeast(count) => put_space(text, place, count),
-        Test::Take(list) => put_take(text, place, list),
+        Test::Take(pool, list) => put_take(text, place, pool, list),
     }
 }
 
@@ -154,7 +118,18 @@ fn put_if(text: &mut Vec<u8>, place: Place<'_>, test: Test) -> Result<(), AllocE
     put_source(text, place)?;
     put_test(text, place, test)?;
     put_event(text, place, &[b"if %s\", yes ? \"yes\" : \"no\""])?;
+    put_after_test(text, place, test)?;
     put_line(text, place, &[b"if (yes) {"])
+}
+
+/// Adds that the mutex of a pool that was asked is released.
+fn put_after_test(text: &mut Vec<u8>, place: Place<'_>, test: Test) -> Result<(), AllocError>
+    ensures { Grows text.old text.new result }
+{
+    match test {
+        Test::Take(pool, _) => put_pool_unlock(text, place, pool),
+        Test::Compare(_, _, _) | Test::ReadyZero | Test::SpaceAtLeast(_) => Ok(()),
+    }
 }
 
 /// Adds the beginning of a second branch.
@@ -298,13 +273,11 @@ fn put_loop(text: &mut Vec<u8>, place: Place<'_>) -> Result<(), AllocError>
 }
 
 /// Adds a break. The blocks that it leaves are none from which C would break.
-fn put_break(text: &mut Vec<u8>, place: Place<'_>, releases: bool) -> Result<(), AllocError>
+fn put_break(text: &mut Vec<u8>, place: Place<'_>, releases: Locks) -> Result<(), AllocError>
     ensures { Grows text.old text.new result }
 {
     put_source(text, place)?;
     put_event(text, place, &[b"break\""])?;
-    if releases {
-        put_unlock(text, place)?;
-    }
+    put_unlock(text, place, releases)?;
     put_line(text, place, &[b"break;"])
 }

@@ -2,11 +2,16 @@
 
 ghost use Rattle.rc_emit.specs.Text.{Grows};
 
+use crate::fixed::{LOCK_OPENED, MUTEX_OPENED};
 use crate::lines::put_text;
+use crate::locks::Guards;
 use crate::terms::{data, number};
 use rc_lang::program::{Program, TokenKind};
 use rc_report::printed::buffer_name;
 use std::alloc::AllocError;
+
+// The calls that open the mutexes of both sides.
+const SIDES_OPENED: &[u8] = b"    open_mutex(&cq_lock);\n    open_mutex(&sq_lock);\n";
 
 const FILES: &str = "
 /* The files, and what is made where the command line names none. */
@@ -28,6 +33,12 @@ const POOL: &str = "
 /* What is in the pool: shares of buffers, tokens, credits. */
 ";
 
+const TABLES: &str = "
+/* A pool with a name: the mutex that guards it, and what is in it. */
+struct table {
+    pthread_mutex_t lock;
+";
+
 const FILLINGS: &str = "
 #ifdef RINGCHECK_LOG
 /* The buffers that reads fill, by their user data. */
@@ -44,7 +55,7 @@ pub fn put_declared(text: &mut Vec<u8>, program: &Program) -> Result<(), AllocEr
     put_sizes(text, program)?;
     put_files(text, program)?;
     put_buffers(text, program)?;
-    put_pool(text, program)?;
+    put_pools(text, program)?;
     put_fillings(text, program)
 }
 
@@ -99,23 +110,90 @@ fn put_buffers(text: &mut Vec<u8>, program: &Program) -> Result<(), AllocError>
     Ok(())
 }
 
-/// Adds the counters of the pool, in a program that may have one.
+/// Adds the pools.
+fn put_pools(text: &mut Vec<u8>, program: &Program) -> Result<(), AllocError>
+    ensures { Grows text.old text.new result }
+{
+    put_pool(text, program)?;
+    put_tables(text, program)
+}
+
+/// Adds the counters of the pool without a name, in a program that may have one.
 fn put_pool(text: &mut Vec<u8>, program: &Program) -> Result<(), AllocError>
     ensures { Grows text.old text.new result }
 {
     if program.version() < 3 {
         return Ok(());
     }
-    let alloc = *text.allocator();
     put_text(text, &[POOL.as_bytes()])?;
+    put_counters(text, program, b"unsigned pool_")
+}
+
+/// Adds a counter for each part, with this before its name.
+fn put_counters(text: &mut Vec<u8>, program: &Program, before: &[u8]) -> Result<(), AllocError>
+    ensures { Grows text.old text.new result }
+{
+    let alloc = *text.allocator();
     for buffer in program.buffers() {
-        put_text(text, &[b"unsigned pool_buffer_", &buffer.name, b";\n"])?;
+        put_text(text, &[before, b"buffer_", &buffer.name, b";\n"])?;
     }
     for token in program.tokens() {
         let token = number(alloc, token.user_data)?;
-        put_text(text, &[b"unsigned pool_token_", &token, b";\n"])?;
+        put_text(text, &[before, b"token_", &token, b";\n"])?;
     }
-    put_text(text, &[b"unsigned pool_credits;\n"])
+    put_text(text, &[before, b"credits;\n"])
+}
+
+/// Adds the pools with a name.
+fn put_tables(text: &mut Vec<u8>, program: &Program) -> Result<(), AllocError>
+    ensures { Grows text.old text.new result }
+{
+    if program.pools().is_empty() {
+        return Ok(());
+    }
+    put_text(text, &[TABLES.as_bytes()])?;
+    put_counters(text, program, b"    unsigned ")?;
+    put_text(text, &[b"};\n"])?;
+    put_each_table(text, program, b"static struct table ", b";\n")
+}
+
+/// Adds the name of each pool that has one, between two texts.
+fn put_each_table(
+    text: &mut Vec<u8>,
+    program: &Program,
+    before: &[u8],
+    after: &[u8],
+) -> Result<(), AllocError>
+    ensures { Grows text.old text.new result }
+{
+    for name in program.pools() {
+        put_text(text, &[before, b"table_", name, after])?;
+    }
+    Ok(())
+}
+
+/// Adds what opens the mutexes, once the files are open.
+pub fn put_open_lock(
+    text: &mut Vec<u8>,
+    program: &Program,
+    guards: Guards,
+) -> Result<(), AllocError>
+    ensures { Grows text.old text.new result }
+{
+    match guards {
+        Guards::Ring if program.pools().is_empty() => put_text(text, &[LOCK_OPENED.as_bytes()]),
+        Guards::Ring => put_open_mutexes(text, program, b"    open_mutex(&ring_lock);\n"),
+        Guards::Sides => put_open_mutexes(text, program, SIDES_OPENED),
+    }
+}
+
+/// Adds what opens the mutexes of the ring, by these calls, and those of the pools.
+fn put_open_mutexes(text: &mut Vec<u8>, program: &Program, ring: &[u8]) -> Result<(), AllocError>
+    ensures { Grows text.old text.new result }
+{
+    put_text(text, &[MUTEX_OPENED.as_bytes(), ring])?;
+    put_each_table(text, program, b"    open_mutex(&", b".lock);\n")?;
+    put_text(text, &[b"}\n\n"])
 }
 
 /// Adds which buffer the read of a token fills, for what is logged.

@@ -25,10 +25,27 @@ _Static_assert(EAGAIN == 11, \"the text has -11 where no completion is there\");
 #define SUM(a, b) ((int64_t)((uint64_t)(a) + (uint64_t)(b)))
 #define DIFFERENCE(a, b) ((int64_t)((uint64_t)(a) - (uint64_t)(b)))
 
+";
+
+/// The ring, and its one lock.
+pub const RING_LOCK: &str = "\
 /* The ring, and the lock that guards it and the pool. */
 static struct io_uring ring;
 static pthread_mutex_t ring_lock;
 
+";
+
+/// The ring, and the locks of its sides.
+pub const SIDE_LOCKS: &str = "\
+/* The ring, and the locks of its sides: who takes both takes that of the completion side first. */
+static struct io_uring ring;
+static pthread_mutex_t cq_lock;
+static pthread_mutex_t sq_lock;
+
+";
+
+/// What the calls of its statements are made of.
+pub const CALLS: &str = "\
 /* Ends the program if a call of this line of the text answers what it never does in an accepted program. */
 __attribute__((unused)) _Noreturn static void stop(int line, const char *call, long answer)
 {
@@ -141,8 +158,8 @@ pub const THREADS: &str = "
 static void *(*const bodies[])(void *) = {
 ";
 
-/// Its end: what opens the files and the ring, and starts the threads.
-pub const END: &str = "
+/// What opens the files.
+pub const FILES_OPENED: &str = "
 /* A file that is opened for reading and writing, or only for reading if it can't be written. */
 static int open_path(const char *path)
 {
@@ -195,6 +212,10 @@ static void open_files(char **words)
             *file->opened = open_new(file->length);
 }
 
+";
+
+/// What opens the one lock.
+pub const LOCK_OPENED: &str = "\
 static void open_lock(void)
 {
     pthread_mutexattr_t kind;
@@ -208,6 +229,29 @@ static void open_lock(void)
         fail(\"pthread_mutex_init\", error);
 }
 
+";
+
+/// What opens a mutex, and the head of what opens all.
+pub const MUTEX_OPENED: &str = "\
+static void open_mutex(pthread_mutex_t *mutex)
+{
+    pthread_mutexattr_t kind;
+    int error = pthread_mutexattr_init(&kind);
+
+    if (error == 0)
+        error = pthread_mutexattr_settype(&kind, PTHREAD_MUTEX_ERRORCHECK);
+    if (error == 0)
+        error = pthread_mutex_init(mutex, &kind);
+    if (error != 0)
+        fail(\"pthread_mutex_init\", error);
+}
+
+static void open_lock(void)
+{
+";
+
+/// The end of a program: what opens the ring, and starts the threads.
+pub const END: &str = "\
 static void open_ring(void)
 {
     struct io_uring_params params;

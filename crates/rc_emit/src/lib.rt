@@ -6,6 +6,7 @@ mod complete;
 mod declared;
 mod fixed;
 mod lines;
+mod locks;
 mod operations;
 mod place;
 mod pool;

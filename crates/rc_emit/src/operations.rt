@@ -3,6 +3,7 @@
 ghost use Rattle.rc_emit.specs.Text.{Grows};
 
 use crate::lines::{put_event, put_indentation, put_line, put_source, put_text};
+use crate::locks::put_seen_after_submit;
 use crate::place::Place;
 use rc_lang::lines::{Op, Operand};
 use std::alloc::AllocError;
@@ -251,7 +252,7 @@ fn put_submitted(text: &mut Vec<u8>, place: Place<'_>, x: &[u8]) -> Result<(), A
     ensures { Grows text.old text.new result }
 {
     put_event(text, place, &[b"submit %\" PRId64, ", x])?;
-    put_line(text, place, &[b"SEE_COMPLETIONS();"])
+    put_seen_after_submit(text, place)
 }
 
 /// Adds that the peeked completion is taken away.

@@ -1,5 +1,6 @@
 //! Where a statement of a thread is.
 
+use crate::locks::Guards;
 use crate::terms::{data, number, signed};
 use rc_lang::lines::{Line, Operand};
 use rc_lang::program::{Program, Thread};
@@ -12,6 +13,8 @@ use std::alloc::{AllocError, Global};
 pub struct Place<'a> {
     pub alloc: Global,
     pub program: &'a Program,
+    /// The mutexes of the ring.
+    pub guards: Guards,
     pub thread: &'a Thread,
     /// Its line's place among those of its thread.
     pub at: usize,
@@ -28,12 +31,14 @@ impl<'a> Place<'a> {
     pub fn new(
         alloc: Global,
         program: &'a Program,
+        guards: Guards,
         thread: &'a Thread,
         source: &'a [u8],
     ) -> Place<'a> {
         Place {
             alloc,
             program,
+            guards,
             thread,
             at: 0,
             number: thread.line,
@@ -73,6 +78,27 @@ impl<'a> Place<'a> {
     pub fn buffer(self, buffer: usize) -> Result<Vec<u8>, AllocError> {
         let mut term = Vec::from_slice(self.alloc, b"buffer_")?;
         put_piece(&mut term, buffer_name(self.program, buffer))?;
+        Ok(term)
+    }
+
+    /// What C has before the name of a pool's counter.
+    pub fn pool(self, pool: Option<usize>) -> Result<Vec<u8>, AllocError> {
+        match pool {
+            None => Vec::from_slice(self.alloc, b"pool_"),
+            Some(pool) => {
+                let mut term = self.table(pool)?;
+                put_piece(&mut term, b".")?;
+                Ok(term)
+            }
+        }
+    }
+
+    /// A pool with a name, as C has it.
+    pub fn table(self, pool: usize) -> Result<Vec<u8>, AllocError> {
+        let mut term = Vec::from_slice(self.alloc, b"table_")?;
+        if let Some(name) = self.program.pools().get(pool) {
+            put_piece(&mut term, name)?;
+        }
         Ok(term)
     }
 

@@ -1,16 +1,20 @@
-//! The pool: plain counters that the lock guards.
+//! The pools: plain counters. The ring's locks guard those of the pool without a name. A pool with a name has a mutex of
+//! its own, which is held for one step.
 
 ghost use Rattle.rc_emit.specs.Text.{Grows};
 
 use crate::lines::{put_event, put_indentation, put_line, put_source, put_text};
+use crate::locks::put_mutex;
 use crate::place::Place;
 use rc_lang::program::Items;
 use std::alloc::AllocError;
 
-/// Adds that the items of a list, so many of each, are put into the pool or leave it.
+/// Adds that the items of a list, so many of each, are put into a pool or leave it. The pool's counters have this before
+/// their names.
 fn put_moved(
     text: &mut Vec<u8>,
     place: Place<'_>,
+    pool: &[u8],
     items: &Items,
     operator: &[u8],
 ) -> Result<(), AllocError>
@@ -19,69 +23,134 @@ fn put_moved(
     for share in &items.shares {
         let buffer = place.buffer(share.buffer)?;
         let count = place.decimal(u64::from(share.count))?;
-        put_line(text, place, &[b"pool_", &buffer, operator, &count, b";"])?;
+        put_line(text, place, &[pool, &buffer, operator, &count, b";"])?;
     }
     for token in &items.tokens {
         let token = place.decimal(*token)?;
-        put_line(text, place, &[b"pool_token_", &token, operator, b"1;"])?;
+        put_line(text, place, &[pool, b"token_", &token, operator, b"1;"])?;
     }
     if items.credits > 0 {
         let count = place.decimal(u64::from(items.credits))?;
-        put_line(text, place, &[b"pool_credits", operator, &count, b";"])?;
+        put_line(text, place, &[pool, b"credits", operator, &count, b";"])?;
     }
     Ok(())
 }
 
-/// Adds that items are put into the pool.
-pub fn put_put(text: &mut Vec<u8>, place: Place<'_>, list: usize) -> Result<(), AllocError>
+/// Adds a call of the mutex of a pool with a name.
+fn put_pool_call(
+    text: &mut Vec<u8>,
+    place: Place<'_>,
+    call: &[u8],
+    pool: Option<usize>,
+) -> Result<(), AllocError>
     ensures { Grows text.old text.new result }
 {
-    put_source(text, place)?;
-    if let Some(items) = place.thread.lists.get(list) {
-        put_moved(text, place, items, b" += ")?;
-    }
-    put_event(text, place, &[b"put\""])
+    let Some(pool) = pool else {
+        return Ok(());
+    };
+    let mut mutex = place.table(pool)?;
+    put_text(&mut mutex, &[b".lock"])?;
+    put_mutex(text, place, call, &mutex)
 }
 
-/// Adds the tests that the pool has the items of a list.
-fn put_has(text: &mut Vec<u8>, place: Place<'_>, items: &Items) -> Result<(), AllocError>
+/// Adds that the mutex of a pool with a name is released.
+pub fn put_pool_unlock(
+    text: &mut Vec<u8>,
+    place: Place<'_>,
+    pool: Option<usize>,
+) -> Result<(), AllocError>
+    ensures { Grows text.old text.new result }
+{
+    put_pool_call(text, place, b"unlock", pool)
+}
+
+/// Adds that items are put into a pool.
+pub fn put_put(
+    text: &mut Vec<u8>,
+    place: Place<'_>,
+    pool: Option<usize>,
+    list: usize,
+) -> Result<(), AllocError>
+    ensures { Grows text.old text.new result }
+{
+    let counters = place.pool(pool)?;
+    put_source(text, place)?;
+    put_pool_call(text, place, b"lock", pool)?;
+    if let Some(items) = place.thread.lists.get(list) {
+        put_moved(text, place, &counters, items, b" += ")?;
+    }
+    put_event(text, place, &[b"put\""])?;
+    put_pool_unlock(text, place, pool)
+}
+
+/// Adds the tests that a pool has the items of a list.
+fn put_has(
+    text: &mut Vec<u8>,
+    place: Place<'_>,
+    pool: &[u8],
+    items: &Items,
+) -> Result<(), AllocError>
     ensures { Grows text.old text.new result }
 {
     for share in &items.shares {
         let buffer = place.buffer(share.buffer)?;
         let count = place.decimal(u64::from(share.count))?;
-        put_text(text, &[b" && pool_", &buffer, b" >= ", &count])?;
+        put_text(text, &[b" && ", pool, &buffer, b" >= ", &count])?;
     }
     for token in &items.tokens {
         let token = place.decimal(*token)?;
-        put_text(text, &[b" && pool_token_", &token, b" >= 1"])?;
+        put_text(text, &[b" && ", pool, b"token_", &token, b" >= 1"])?;
     }
     if items.credits > 0 {
         let count = place.decimal(u64::from(items.credits))?;
-        put_text(text, &[b" && pool_credits >= ", &count])?;
+        put_text(text, &[b" && ", pool, b"credits >= ", &count])?;
     }
     Ok(())
 }
 
-/// Adds that items leave the pool where it has them.
-pub fn put_take(text: &mut Vec<u8>, place: Place<'_>, list: usize) -> Result<(), AllocError>
+/// Adds that items leave a pool where it has them. The mutex of one with a name is still held after it.
+pub fn put_take(
+    text: &mut Vec<u8>,
+    place: Place<'_>,
+    pool: Option<usize>,
+    list: usize,
+) -> Result<(), AllocError>
     ensures { Grows text.old text.new result }
 {
-    let Some(items) = place.thread.lists.get(list) else {
-        return put_line(text, place, &[b"yes = true;"]);
-    };
-    put_has_line(text, place, items)?;
+    let counters = place.pool(pool)?;
+    put_pool_call(text, place, b"lock", pool)?;
+    match place.thread.lists.get(list) {
+        Some(items) => put_taken(text, place, &counters, items),
+        None => put_line(text, place, &[b"yes = true;"]),
+    }
+}
+
+/// Adds that the items of a list leave a pool where it has them.
+fn put_taken(
+    text: &mut Vec<u8>,
+    place: Place<'_>,
+    pool: &[u8],
+    items: &Items,
+) -> Result<(), AllocError>
+    ensures { Grows text.old text.new result }
+{
+    put_has_line(text, place, pool, items)?;
     put_line(text, place, &[b"if (yes) {"])?;
-    put_moved(text, place.deeper(), items, b" -= ")?;
+    put_moved(text, place.deeper(), pool, items, b" -= ")?;
     put_line(text, place, &[b"}"])
 }
 
-/// Adds the line that asks whether the pool has the items of a list.
-fn put_has_line(text: &mut Vec<u8>, place: Place<'_>, items: &Items) -> Result<(), AllocError>
+/// Adds the line that asks whether a pool has the items of a list.
+fn put_has_line(
+    text: &mut Vec<u8>,
+    place: Place<'_>,
+    pool: &[u8],
+    items: &Items,
+) -> Result<(), AllocError>
     ensures { Grows text.old text.new result }
 {
     put_indentation(text, place.depth)?;
     put_text(text, &[b"yes = true"])?;
-    put_has(text, place, items)?;
+    put_has(text, place, pool, items)?;
     put_text(text, &[b";\n"])
 }

@@ -5,6 +5,7 @@ ghost use Rattle.rc_emit.specs.Text.{Grows};
 use crate::blocks::{depth_after, depth_of, put_stmt};
 use crate::fixed::{THREAD_BEGINNING, THREAD_BODY, THREAD_END, THREADS};
 use crate::lines::{put_comment, put_line, put_text};
+use crate::locks::Guards;
 use crate::place::Place;
 use crate::variables::has_variable;
 use rc_lang::program::Program;
@@ -68,13 +69,14 @@ fn put_declarations(text: &mut Vec<u8>, place: Place<'_>) -> Result<(), AllocErr
 pub fn put_threads(
     text: &mut Vec<u8>,
     program: &Program,
+    guards: Guards,
     lines: &Lines<'_>,
 ) -> Result<(), AllocError>
     ensures { Grows text.old text.new result }
 {
     let alloc = *text.allocator();
     for thread in program.threads() {
-        let place = Place::new(alloc, program, thread, lines.line(thread.line));
+        let place = Place::new(alloc, program, guards, thread, lines.line(thread.line));
         put_thread(text, place, lines)?;
     }
     put_text(text, &[THREADS.as_bytes()])?;

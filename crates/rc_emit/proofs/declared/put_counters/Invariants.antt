@@ -1,5 +1,5 @@
 use Rattle.rc_emit.specs.Text.{Extends}
-use Rattle.rc_emit.proofs.declared.put_pool.Given as goal
+use Rattle.rc_emit.proofs.declared.put_counters.Given as goal
 
 abbrev pub invariant-loop-buffer : goal.invariant-loop-buffer
 invariant-loop-buffer l = Extends l.fn.text.items l.text.items
