@@ -3,7 +3,7 @@ autocmd BufNewFile,BufRead *.rc call s:look()
 
 function! s:look() abort
     for line in getline(1, 50)
-        if line =~# '^\s*ringcheck\s\+[1-3]\>'
+        if line =~# '^\s*ringcheck\s\+[1-4]\>'
             set filetype=ringcheck
             return
         elseif line !~# '^\s*\(#.*\)\?$'

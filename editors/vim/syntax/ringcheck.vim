@@ -11,11 +11,12 @@ syntax case match
 syntax match ringcheckComment /#.*$/ contains=ringcheckTodo
 syntax keyword ringcheckTodo TODO FIXME XXX contained
 
-syntax keyword ringcheckHead ringcheck ring cq left
-syntax keyword ringcheckDeclaration file buffer token
+syntax keyword ringcheckHead ringcheck ring left
+syntax keyword ringcheckDeclaration file buffer token pool
 syntax keyword ringcheckKind read write fsync nop
 syntax keyword ringcheckThread thread holds
 syntax keyword ringcheckBlock lock peek_cqe
+syntax keyword ringcheckSide sq cq
 syntax keyword ringcheckArm case other none
 syntax keyword ringcheckBranch if else
 syntax keyword ringcheckLoop loop keeps when break
@@ -24,6 +25,8 @@ syntax keyword ringcheckCall submit submit_and_wait cqe_seen sq_ready sq_space_l
 syntax keyword ringcheckPool put take
 syntax keyword ringcheckByte load store fill print
 
+" Behind `put` and `take` the pool, where there is no colon.
+syntax match ringcheckPoolName /\(\<\(put\|take\)\s\+\)\@<=[a-z][a-z0-9_]*\(:\|[a-z0-9_]\)\@!/
 syntax match ringcheckNumber /\(^\|\s\)\@1<=-\?\(0\|[1-9][0-9]*\)\(\s\|$\)\@=/
 syntax match ringcheckItem /\<[a-z][a-z0-9_]*:[0-9]\+\>/ contains=ringcheckCount
 syntax match ringcheckCount /:[0-9]\+/hs=s+1 contained
@@ -42,6 +45,8 @@ highlight default link ringcheckBranch Conditional
 highlight default link ringcheckLoop Repeat
 highlight default link ringcheckCall Function
 highlight default link ringcheckPool Function
+highlight default link ringcheckSide Special
+highlight default link ringcheckPoolName Type
 highlight default link ringcheckByte Statement
 highlight default link ringcheckNumber Number
 highlight default link ringcheckItem Identifier
