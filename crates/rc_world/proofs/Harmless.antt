@@ -3,9 +3,7 @@ use Rattle.std.proofs.Common.{◌≡◌, ℕ, ◌+◌, ◌<◌, ◌≤◌, Bool,
 use Rattle.std.proofs.lemmas.Bool.{or_parts, and_left, and_right, cases_lt}
 use Rattle.std.proofs.lemmas.Option.{same_Some, slice_get_within}
 use Rattle.rc_lang.specs.declared.lines.Line.{Line}
-use Rattle.rc_lang.specs.declared.lines.Locks.{Locks}
 use Rattle.rc_lang.specs.declared.lines.Stmt.{Stmt}
-use Rattle.rc_lang.specs.declared.lines.Stmt.TheVariants.{Lock}
 use Rattle.rc_lang.specs.Program.{Thread, lines_in}
 use Rattle.rc_world.specs.declared.fault.FaultKind.{FaultKind}
 use Rattle.rc_world.specs.declared.fault.FaultKind.TheVariants.{WriteOfPending, ReadOfFilling, KernelClash, ThreadRace, RingFull, Overflow, AmbiguousData, UnknownReap, NoLock, RawEntry, OutOfBuffer, DoublePut}
@@ -87,17 +85,6 @@ module _ (w : World) (i : ℕ) (s : Stmt) (e : is_harmful w i s ≡ false) where
   harmless RawEntry = submits.raw
   harmless OutOfBuffer = places.1
   harmless DoublePut = pool.1
-
--- ---- a lock
-
-neither : (b c : Bool) → (((if b then false else false) || (if c then false else false)) || false) ≡ false
-neither true true = refl
-neither true false = refl
-neither false true = refl
-neither false false = refl
-
-pub lock_harmless : (w : World) (i : ℕ) (wanted : Locks) → is_harmful w i (Lock wanted) ≡ false
-lock_harmless w i wanted = neither (has_sq w i) (has_cq w i)
 
 -- ---- the pass
 

@@ -1,13 +1,11 @@
 //! The least fault of a world.
 
 ghost use Rattle.std.specs.Prelude.{◌≡◌, ◌+◌, ◌&&◌, ◌<◌, ◌≤◌, ℕ, None, map, option_map, slice_get, true};
-ghost use Rattle.std.specs.Bool.{OnFalse};
 ghost use Rattle.std.specs.List.{list_any};
-ghost use Rattle.rc_lang.specs.Program.{items_at, lines_of, lists_of};
+ghost use Rattle.rc_lang.specs.Program.{items_at, lists_of};
 ghost use Rattle.rc_split.specs.Pools.{all_pooled, overfills};
 ghost use Rattle.rc_world.specs.Faults as spec;
-ghost use Rattle.rc_world.specs.Harm as harm;
-ghost use Rattle.rc_world.specs.Harm.{line_of};
+ghost use Rattle.rc_world.specs.Harm.{is_pending, line_of};
 ghost use Rattle.rc_world.specs.WorldParts.{view_access, view_pending};
 
 use self::statements::{
@@ -16,9 +14,10 @@ use self::statements::{
 use super::requests::is_read;
 use super::{Pending, World};
 use crate::fault::{Fault, FaultKind, Party};
-use rc_lang::lines::{Line, Op, Stmt};
+use rc_lang::lines::{Op, Stmt};
 use rc_lang::request::{Kind, Request};
 
+mod harm;
 mod statements;
 
 impl<'a> World<'a> {
@@ -30,91 +29,6 @@ impl<'a> World<'a> {
             self.first_fault(&FaultKind::ALL)
         } else {
             None
-        }
-    }
-
-    // Whether there may be a fault at all, by one pass over the threads.
-    fn has_harm(&self) -> bool
-        ensures { OnFalse result (spec.fault_of self.now ≡ None) }
-    {
-        self.has_clash || self.overflows() || self.has_harmful_thread()
-    }
-
-    // A thread that the program hasn't got has no next statement.
-    fn has_harmful_thread(&self) -> bool
-        ensures { OnFalse result ((thread : ℕ) → harm.IsHarmless self.now thread) }
-    {
-        for (thread, part) in self.program.threads().iter().enumerate() {
-            if self.harms_next(thread as u32, &part.lines) {
-                return true;
-            }
-        }
-        false
-    }
-
-    // Whether the next statement of a thread, which has these lines, is harmful.
-    fn harms_next(&self, thread: u32, lines: &[Line]) -> bool
-        requires few { thread ≤ 16 }
-        requires lines { lines.now ≡ lines_of self.now.program thread }
-        ensures { OnFalse result (harm.IsHarmless self.now thread) }
-    {
-        match self.controls.line_in(lines, thread) {
-            Some(line) => self.is_harmful(thread, line.stmt),
-            None => false,
-        }
-    }
-
-    fn is_harmful(&self, thread: u32, stmt: Stmt) -> bool
-        requires { thread ≤ 16 }
-        ensures { result ≡ harm.is_harmful self.now thread stmt }
-    {
-        match stmt {
-            // Most threads are before a lock.
-            Stmt::Lock(_) => false,
-            _ => {
-                self.harms_buffer(thread, access_of(stmt))
-                    || is_out_at(self.program, stmt)
-                    || self.harms_sq(thread, stmt)
-                    || self.harms_cq(thread, stmt)
-                    || self.is_double_at(thread, stmt)
-            }
-        }
-    }
-
-    // Whether it is harmful what the next statement of a thread does with a buffer.
-    fn harms_buffer(&self, thread: u32, access: Option<Access>) -> bool
-        requires { thread ≤ 16 }
-        ensures { result ≡ harm.harms_buffer self.now thread (option_map view_access access) }
-    {
-        match access {
-            Some(_) => {
-                self.writes_pending(access)
-                    || self.reads_filling(access)
-                    || self.races(thread, access)
-            }
-            None => false,
-        }
-    }
-
-    // Whether it is harmful what the next statement of a thread does on the submission side.
-    fn harms_sq(&self, thread: u32, stmt: Stmt) -> bool
-        ensures { result ≡ harm.harms_sq self.now thread stmt }
-    {
-        if self.controls.has_sq(thread) {
-            self.is_full_at(stmt) || self.is_ambiguous_at(stmt) || is_raw_at(self.slot, stmt)
-        } else {
-            is_sq_call(stmt)
-        }
-    }
-
-    // Whether it is harmful what the next statement of a thread does on the completion side.
-    fn harms_cq(&self, thread: u32, stmt: Stmt) -> bool
-        ensures { result ≡ harm.harms_cq self.now thread stmt }
-    {
-        if self.controls.has_cq(thread) {
-            self.is_unknown_at(stmt)
-        } else {
-            is_cq_call(stmt)
         }
     }
 
@@ -397,7 +311,7 @@ fn any_has_data(requests: &[Request], user_data: u64) -> bool
 }
 
 fn any_pending_has_data(pending: &[Pending], user_data: u64) -> bool
-    ensures { result ≡ harm.is_pending user_data (map view_pending pending.now) }
+    ensures { result ≡ is_pending user_data (map view_pending pending.now) }
 {
     for pending in pending {
         if pending.request.user_data == user_data {

@@ -1,0 +1,132 @@
+//! Whether a world may have a fault at all: one pass over the threads, before the least fault is looked for.
+
+ghost use Rattle.std.specs.Prelude.{◌≡◌, ◌||◌, ◌<◌, ◌≤◌, ℕ, None, option_map};
+ghost use Rattle.std.specs.Bool.{OnFalse};
+ghost use Rattle.rc_lang.specs.declared.lines.Stmt.TheVariants.{Do};
+ghost use Rattle.rc_lang.specs.Program.{lines_of};
+ghost use Rattle.rc_world.specs.Faults as spec;
+ghost use Rattle.rc_world.specs.Harm as harm;
+ghost use Rattle.rc_world.specs.WorldParts.{view_access};
+
+use super::statements::{Access, access_of, is_cq_call, is_out_at, is_raw_at, is_sq_call};
+use crate::world::World;
+use rc_lang::lines::{Line, Op, Stmt, Test};
+
+impl<'a> World<'a> {
+    // Whether there may be a fault at all, by one pass over the threads.
+    pub(super) fn has_harm(&self) -> bool
+        ensures { OnFalse result (spec.fault_of self.now ≡ None) }
+    {
+        self.has_clash || self.overflows() || self.has_harmful_thread()
+    }
+
+    // A thread that the program hasn't got has no next statement.
+    fn has_harmful_thread(&self) -> bool
+        ensures { OnFalse result ((thread : ℕ) → harm.IsHarmless self.now thread) }
+    {
+        for (thread, part) in self.program.threads().iter().enumerate() {
+            if self.harms_next(thread as u32, &part.lines) {
+                return true;
+            }
+        }
+        false
+    }
+
+    // Whether the next statement of a thread, which has these lines, is harmful.
+    fn harms_next(&self, thread: u32, lines: &[Line]) -> bool
+        requires few { thread ≤ 16 }
+        requires lines { lines.now ≡ lines_of self.now.program thread }
+        ensures { OnFalse result (harm.IsHarmless self.now thread) }
+    {
+        match self.controls.line_in(lines, thread) {
+            Some(line) => self.is_harmful(thread, line.stmt),
+            None => false,
+        }
+    }
+
+    // A statement is asked only what it can do: most can do no harm.
+    fn is_harmful(&self, thread: u32, stmt: Stmt) -> bool
+        requires { thread ≤ 16 }
+        ensures { result ≡ harm.is_harmful self.now thread stmt }
+    {
+        match stmt {
+            Stmt::Do(op) => self.is_harmful_op(thread, op),
+            Stmt::If(Test::Compare(_, _, _)) => false,
+            Stmt::If(_) => self.harms_sq(thread, stmt) || self.harms_cq(thread, stmt),
+            Stmt::Peek(_) => self.harms_cq(thread, stmt),
+            Stmt::EndLock(_, _) => self.harms_sq(thread, stmt),
+            Stmt::Break(_, _, _) => self.harms_sq(thread, stmt),
+            Stmt::Put(_, _) => {
+                self.harms_sq(thread, stmt)
+                    || self.harms_cq(thread, stmt)
+                    || self.is_double_at(thread, stmt)
+            }
+            _ => false,
+        }
+    }
+
+    fn is_harmful_op(&self, thread: u32, op: Op) -> bool
+        requires { thread ≤ 16 }
+        ensures { result ≡ harm.is_harmful self.now thread (Do op) }
+    {
+        let stmt = Stmt::Do(op);
+        match op {
+            Op::Set(_, _) => false,
+            Op::Assign(_, _) => false,
+            Op::Add(_, _, _) => false,
+            Op::Subtract(_, _, _) => false,
+            Op::Print(_) => false,
+            Op::Load(_, _, _) => self.harms_bytes(thread, stmt),
+            Op::Store(_, _, _) => self.harms_bytes(thread, stmt),
+            Op::Fill(_, _) => self.harms_bytes(thread, stmt),
+            Op::CqeSeen => self.harms_cq(thread, stmt),
+            _ => is_out_at(self.program, stmt) || self.harms_sq(thread, stmt),
+        }
+    }
+
+    // Whether a load, a store or a fill is harmful.
+    fn harms_bytes(&self, thread: u32, stmt: Stmt) -> bool
+        requires { thread ≤ 16 }
+        ensures { result ≡ harm.harms_buffer self.now thread (spec.access_of stmt)
+            || spec.is_out_at self.now.program stmt }
+    {
+        self.harms_buffer(thread, access_of(stmt)) || is_out_at(self.program, stmt)
+    }
+
+    // Whether it is harmful what the next statement of a thread does with a buffer.
+    fn harms_buffer(&self, thread: u32, access: Option<Access>) -> bool
+        requires { thread ≤ 16 }
+        ensures { result ≡ harm.harms_buffer self.now thread (option_map view_access access) }
+    {
+        match access {
+            Some(_) => {
+                self.writes_pending(access)
+                    || self.reads_filling(access)
+                    || self.races(thread, access)
+            }
+            None => false,
+        }
+    }
+
+    // Whether it is harmful what the next statement of a thread does on the submission side.
+    fn harms_sq(&self, thread: u32, stmt: Stmt) -> bool
+        ensures { result ≡ harm.harms_sq self.now thread stmt }
+    {
+        if self.controls.has_sq(thread) {
+            self.is_full_at(stmt) || self.is_ambiguous_at(stmt) || is_raw_at(self.slot, stmt)
+        } else {
+            is_sq_call(stmt)
+        }
+    }
+
+    // Whether it is harmful what the next statement of a thread does on the completion side.
+    fn harms_cq(&self, thread: u32, stmt: Stmt) -> bool
+        ensures { result ≡ harm.harms_cq self.now thread stmt }
+    {
+        if self.controls.has_cq(thread) {
+            self.is_unknown_at(stmt)
+        } else {
+            is_cq_call(stmt)
+        }
+    }
+}
