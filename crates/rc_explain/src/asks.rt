@@ -7,10 +7,12 @@ mod over;
 mod side_asks;
 
 use ends::put_ends;
+use rc_lang::lines::{Stmt, Test};
 use rc_lang::program::Program;
-use rc_report::text::put_piece;
+use rc_report::text::{put_piece, put_pieces};
 use rc_rules::asks::asks_of;
 use rc_rules::cause::Cause;
+use rc_rules::mode::unlocked;
 use rc_rules::needs::Asks;
 use rc_rules::state::State;
 use rc_split::part::Part;
@@ -73,9 +75,11 @@ pub fn line_need(
     };
     match asks_of(line.stmt, cause) {
         Some(Asks::Agreeing) => put_ends(&mut need.asks, labels, thread, line.stmt, place)?,
+        Some(Asks::SqLock) if is_of_both(labels.program(), line.stmt) => {
+            put_both(&mut need.asks, labels.state())?
+        }
         Some(asks) => {
             let state = labels.state();
-            let asks = lock_asked(thread as usize, state, asks);
             put_asked(&mut need.asks, thread as usize, state, asks)?;
             need.missing = missing_of(thread as usize, state, asks);
         }
@@ -84,13 +88,26 @@ pub fn line_need(
     Ok(need)
 }
 
-/// What is asked for: of a line that asks for both locks the one that isn't there.
-fn lock_asked(thread: usize, state: &State, asks: Asks) -> Asks {
-    let is_there = |zero: bool| !is_short(state.on(zero), thread, zero, Asks::SqLock);
-    match asks {
-        Asks::SqLock if is_there(true) && is_there(false) => Asks::CqLock,
-        _ => asks,
-    }
+/// Whether a line puts into the pool without a name or takes from it, in a program with a lock for each side.
+pub fn is_of_both(program: &Program, stmt: Stmt) -> bool {
+    let is_unnamed = match stmt {
+        Stmt::Put(None, _) => true,
+        Stmt::If(Test::Take(None, _)) => true,
+        _ => false,
+    };
+    is_unnamed && program.version() >= 4
+}
+
+/// Adds that both sides of the ring are asked for, and which one is held.
+fn put_both(text: &mut Vec<u8>, state: &State) -> Result<(), AllocError> {
+    let zero = state.on(true).is_live();
+    let mode = state.on(zero).mode().unwrap_or(unlocked());
+    let held: &[u8] = match (mode.sq.is_some(), mode.cq.is_some()) {
+        (true, _) => b"sq",
+        (_, true) => b"cq",
+        _ => b"none",
+    };
+    put_pieces(text, &[b"asks for both sides of the ring; held: ", held])
 }
 
 /// The part that is asked for of a state and that is missing on a side, the zero one first.

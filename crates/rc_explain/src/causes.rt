@@ -115,6 +115,11 @@ fn sentence_of_rule(cause: Cause) -> &'static str {
     }
 }
 
+/// Why a line that puts into the pool without a name or takes from it asks for both locks.
+pub fn why_of_pool() -> &'static str {
+    "The pool without a name is one table under the locks of both sides, and two threads in it at once may take the same items."
+}
+
 /// How a line that can't be read is mended.
 fn mend_of_read(cause: ReadCause) -> &'static str {
     match cause {

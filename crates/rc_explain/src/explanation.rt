@@ -4,10 +4,10 @@ ghost use Rattle.std.specs.Prelude.{◌<◌, length};
 
 use crate::asks::{Need, header_need, line_need};
 use crate::causes::{Advice, advice_on_read, advice_on_rule};
-use crate::hint::put_hint;
+use crate::hint::{mend_of_line, put_hint};
 use crate::listing::put_listing;
 use crate::lost::put_lost;
-use crate::mends::mend_of;
+use crate::mends::{mend_of, why_of};
 use crate::notes::notes_on;
 use crate::spot::{Spot, spot_of};
 use rc_admit::admitted::Judged;
@@ -43,9 +43,11 @@ pub fn explanation(
             }
         }
         Judged::Unread { line, cause, above } => {
-            put_hint(&mut text, lines.line(*line), *line, *cause, above)?;
+            let words = lines.line(*line);
+            put_hint(&mut text, words, *line, *cause, above)?;
             put_piece(&mut text, b"\n")?;
-            put_advice(&mut text, advice_on_read(*cause), b"")?;
+            let mend = mend_of_line(alloc, words, *cause, above)?;
+            put_advice(&mut text, advice_on_read(*cause), &mend)?;
         }
     }
     Ok(text)
@@ -98,6 +100,7 @@ fn put_refused(
     let Refusal { line, cause } = refusal;
     let mut listing = Vec::new(alloc);
     let mut mend = Vec::new(alloc);
+    let mut advice = advice_on_rule(cause);
     if let Some(spot) = spot_of(program, line) {
         let need = put_spot(alloc, &mut listing, lines, program, spot, cause)?;
         put_pieces(text, &[&need.asks, b"\n"])?;
@@ -106,8 +109,11 @@ fn put_refused(
             put_piece(text, b"\n")?;
         }
         mend = mend_of(alloc, program, spot, cause, need.missing)?;
+        if let Some(why) = why_of(program, spot, cause) {
+            advice.why = why;
+        }
     }
-    put_advice(text, advice_on_rule(cause), &mend)?;
+    put_advice(text, advice, &mend)?;
     put_notes(alloc, text, lines, program)?;
     Ok(listing)
 }

@@ -4,6 +4,7 @@ mod doubles;
 mod fitting;
 mod forms;
 mod lines;
+mod locks;
 mod near;
 mod others;
 mod places;
@@ -11,13 +12,18 @@ mod slips;
 mod wording;
 
 use doubles::put_double_name;
-use forms::put_form;
-use others::{put_braces, put_case, put_flag, put_head, put_nesting, put_strange, put_too_large};
+use forms::{needed_version, put_form};
+use lines::word_at;
+use others::{
+    has_two_locks, put_braces, put_case, put_flag, put_head, put_nesting, put_strange,
+    put_too_large,
+};
 use places::{places_of, put_bad_number, put_unknown_name};
 use rc_read::ReadCause;
 use rc_read::parts::Parts;
-use rc_read::words::put_words;
-use std::alloc::AllocError;
+use rc_read::words::{is, put_words};
+use rc_report::text::put_counted;
+use std::alloc::{AllocError, Global};
 
 /// Adds what could be in a line that can't be read, by its number, from 1, its cause, and what was read above it: one line
 /// of text, without its line feed. At the text's end all lines were read, also that one.
@@ -44,5 +50,43 @@ pub fn put_hint(
         ReadCause::BadNesting => put_nesting(text, above, &words),
         ReadCause::BadCase => put_case(text, above, &words),
         ReadCause::OtherFlag => put_flag(text, above),
+    }
+}
+
+/// How a line that can't be read is mended, in one sentence; nothing where its words show no more than the cause does.
+pub fn mend_of_line(
+    alloc: Global,
+    line: &[u8],
+    cause: ReadCause,
+    above: &Parts,
+) -> Result<Vec<u8>, AllocError> {
+    let mut mend = Vec::new(alloc);
+    let mut words = Vec::new(alloc);
+    put_words(&mut words, line)?;
+    match cause {
+        ReadCause::BadLine => put_version(alloc, &mut mend, above, &words)?,
+        ReadCause::BadNesting if has_two_locks(above) && is(word_at(&words, 0), b"lock") => {
+            locks::put_mend(&mut mend, above, &words)?
+        }
+        _ => {}
+    }
+    Ok(mend)
+}
+
+/// Adds with which version a text is to begin that has a form of a later one.
+fn put_version(
+    alloc: Global,
+    text: &mut Vec<u8>,
+    above: &Parts,
+    words: &[&[u8]],
+) -> Result<(), AllocError> {
+    match needed_version(alloc, above, words)? {
+        Some(version) => put_counted(
+            text,
+            b"Begin the text with `ringcheck ",
+            u64::from(version),
+            b"`.",
+        ),
+        None => Ok(()),
     }
 }

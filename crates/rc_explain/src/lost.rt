@@ -8,6 +8,7 @@ use crate::asks::Missing;
 use crate::parts::{put_part, shares_of};
 use rc_lang::lines::{Locks, Op, Stmt};
 use rc_lang::program::{Items, Program};
+use rc_report::printed::pool_name;
 use rc_report::source::{Lines, put_line_words};
 use rc_report::text::{put_counted, put_number, put_piece, put_pieces};
 use rc_split::part::Part;
@@ -152,7 +153,9 @@ fn put_how(text: &mut Vec<u8>, page: Page, place: usize) -> Result<(), AllocErro
         }
         Stmt::Do(Op::SetData64(_)) => put_piece(text, b"given to the request"),
         Stmt::Put(None, _) => put_piece(text, b"put into the pool"),
-        Stmt::Put(Some(_), _) => put_piece(text, b"put into a pool"),
+        Stmt::Put(Some(pool), _) => {
+            put_pieces(text, &[b"put into ", pool_name(page.program, pool)])
+        }
         Stmt::Loop(_) => put_piece(text, b"the loop doesn't keep it"),
         Stmt::If(_) => put_piece(text, b"it isn't held with the flag of this branch"),
         _ => put_piece(

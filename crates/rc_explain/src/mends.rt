@@ -4,17 +4,20 @@ ghost use Rattle.std.specs.Prelude.{◌<◌, length};
 
 mod flags;
 mod headers;
+mod locks;
 mod loops;
+mod pools;
 mod room;
 
-use crate::asks::Missing;
+use crate::asks::{Missing, is_of_both};
+use crate::causes::why_of_pool;
 use crate::lost::request_of;
 use crate::lost::ways::{Loss, Point, loss_of};
 use crate::parts::put_part;
 use crate::spot::Spot;
 use rc_lang::lines::{Locks, Stmt};
 use rc_lang::program::Program;
-use rc_report::text::{put_counted, put_piece, put_pieces};
+use rc_report::text::{put_counted, put_piece};
 use rc_rules::cause::Cause;
 use rc_split::part::Part;
 use std::alloc::{AllocError, Global};
@@ -56,7 +59,7 @@ impl Refused<'_> {
     }
 }
 
-/// How a refused line is mended, in one sentence; nothing where the program shows no more than the cause does.
+/// How a refused line is mended, in a sentence or two; nothing where the program shows no more than the cause does.
 pub fn mend_of(
     alloc: Global,
     program: &Program,
@@ -76,6 +79,7 @@ pub fn mend_of(
         place,
     };
     match (cause, missing) {
+        (Cause::Unlocked, _) => locks::put_lock(&mut mend, refused)?,
         (Cause::QueueLeft, _) => loops::put_queue(&mut mend, refused)?,
         (Cause::QueueFull, _) => room::put_space(&mut mend, refused)?,
         (_, Some(missing)) => {
@@ -85,6 +89,15 @@ pub fn mend_of(
         _ => {}
     }
     Ok(mend)
+}
+
+/// Why a refused line is a mistake, where that is another sentence than that of its cause.
+pub fn why_of(program: &Program, spot: Spot, cause: Cause) -> Option<&'static str> {
+    let line = program.line_at(spot.thread as usize, spot.place?)?;
+    if matches!(cause, Cause::Unlocked) && is_of_both(program, line.stmt) {
+        return Some(why_of_pool());
+    }
+    None
 }
 
 /// Whether a line that misses a part is one that uses it, and no list of what is kept.
@@ -109,39 +122,60 @@ fn put_for_loss(
             put_part(text, refused.program, part)?;
             put_piece(text, b" back.")
         }
-        Loss::At(point, _) => match refused.stmt(point.place) {
-            Stmt::Loop(list) => loops::put_kept(text, refused, point, list, missing.part),
-            Stmt::Put(pool, _) if uses(cause) => {
-                put_taken(text, refused, pool, missing.part, point.place)
-            }
-            Stmt::Do(_) if uses(cause) => put_reaped(text, refused, cause, missing.part, point),
-            _ => Ok(()),
-        },
+        Loss::At(point, _) => put_for_line(text, refused, cause, missing.part, point),
         Loss::Ends(lacking, _, holding) if uses(cause) => {
             if flags::put_when(text, refused, holding)? {
                 return Ok(());
             }
             put_moved(text, refused, missing.part, lacking.place)
         }
-        Loss::Never if uses(cause) && !missing.on_other => {
-            headers::put_move(text, refused, missing.part)
+        Loss::Ends(lacking, _, _) if matches!(cause, Cause::NotHeld) => {
+            pools::put_in_branch(text, refused, missing.part, lacking.place)
         }
+        Loss::Never if uses(cause) && !missing.on_other => put_never(text, refused, missing.part),
         _ => Ok(()),
     }
 }
 
-/// Adds that a part is to be taken which is put into a pool at a place.
+/// Adds how a line is mended that misses a part which the line at a place gave away.
+fn put_for_line(
+    text: &mut Vec<u8>,
+    refused: Refused,
+    cause: Cause,
+    part: Part,
+    point: Point,
+) -> Result<(), AllocError> {
+    let place = point.place;
+    match refused.stmt(place) {
+        Stmt::Loop(list) => loops::put_kept(text, refused, point, list, part),
+        Stmt::Put(Some(pool), list) if uses(cause) => {
+            pools::put_above(text, refused, pool, list, place)
+        }
+        Stmt::Put(None, _) if uses(cause) => put_taken(text, refused, part, place),
+        Stmt::Put(_, list) if matches!(cause, Cause::NotHeld) => {
+            pools::put_twice(text, refused, part, list, place)
+        }
+        Stmt::Do(_) if uses(cause) => put_reaped(text, refused, cause, part, point),
+        _ => Ok(()),
+    }
+}
+
+/// Adds where a part is to come from that isn't held on any way to a line.
+fn put_never(text: &mut Vec<u8>, refused: Refused, part: Part) -> Result<(), AllocError> {
+    if !matches!(part, Part::Credits(_)) && pools::put_found(text, refused, part)? {
+        return Ok(());
+    }
+    headers::put_move(text, refused, part)
+}
+
+/// Adds that a part is to be taken which is put into the pool without a name at a place.
 fn put_taken(
     text: &mut Vec<u8>,
     refused: Refused,
-    pool: Option<usize>,
     part: Part,
     place: usize,
 ) -> Result<(), AllocError> {
     put_piece(text, b"Take it first, by `if take ")?;
-    if let Some(name) = pool.and_then(|pool| refused.program.pools().get(pool)) {
-        put_pieces(text, &[name, b" "])?;
-    }
     put_part(text, refused.program, part)?;
     put_counted(
         text,

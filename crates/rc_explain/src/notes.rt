@@ -11,7 +11,7 @@ use std::alloc::{AllocError, Global};
 
 /// A part that is taken from a pool, and how many of it all lines of the program put there, which are fewer.
 #[derive(Clone, Copy)]
-struct Shortage {
+pub struct Shortage {
     part: Part,
     put: u32,
     pool: Option<usize>,
@@ -57,7 +57,7 @@ fn shortage_at(program: &Program, thread: &Thread, stmt: Stmt) -> Option<Shortag
 }
 
 /// How many of a part are put into a pool, if fewer than that.
-fn shortage_of(program: &Program, pool: Option<usize>, part: Part) -> Option<Shortage> {
+pub fn shortage_of(program: &Program, pool: Option<usize>, part: Part) -> Option<Shortage> {
     let mut put: u32 = 0;
     for thread in program.threads() {
         put = put.saturating_add(put_by(thread, pool, part));
@@ -100,7 +100,7 @@ fn put_by(thread: &Thread, pool: Option<usize>, part: Part) -> u32 {
 }
 
 /// How many of a part items have.
-fn count_in(items: &Items, part: Part) -> u32 {
+pub fn count_in(items: &Items, part: Part) -> u32 {
     match part {
         Part::Shares(buffer, _) => shares_of(&items.shares, buffer),
         Part::Token(user_data) => u32::from(items.tokens.contains(&user_data)),
@@ -147,7 +147,7 @@ fn put_shortage(
 }
 
 /// So many of the same.
-fn with_count(part: Part, count: u32) -> Part {
+pub fn with_count(part: Part, count: u32) -> Part {
     match part {
         Part::Shares(buffer, _) => Part::Shares(buffer, count),
         Part::Token(user_data) => Part::Token(user_data),

@@ -10,9 +10,9 @@ ghost use Rattle.rc_report.specs.declared.verdict.Verdict.TheVariants.{Accepted,
 
 use crate::asks::{Need, header_need, line_need};
 use crate::causes::{Advice, advice_on_read, advice_on_rule};
-use crate::hint::put_hint;
+use crate::hint::{mend_of_line, put_hint};
 use crate::lost::put_lost;
-use crate::mends::mend_of;
+use crate::mends::{mend_of, why_of};
 use crate::notes::notes_on;
 use crate::spot::{Spot, spot_of};
 use crate::state_text::put_state;
@@ -198,6 +198,9 @@ fn put_spot(
     if !mend.is_empty() {
         put_bytes(alloc, members, "mend", &mend)?;
     }
+    if let Some(why) = why_of(program, spot, cause) {
+        put_text(alloc, members, "why", why)?;
+    }
     let name = &program.threads()[spot.thread as usize].name;
     put_bytes(alloc, members, "thread", name)?;
     put(alloc, members, "threads", Value::Array(threads))
@@ -239,6 +242,10 @@ fn unreadable_members(
     put_hint(&mut hint, words, line, cause, above)?;
     put_bytes(alloc, &mut members, "hint", &hint)?;
     put_advice(alloc, &mut members, advice_on_read(cause))?;
+    let mend = mend_of_line(alloc, words, cause, above)?;
+    if !mend.is_empty() {
+        put_bytes(alloc, &mut members, "mend", &mend)?;
+    }
     put_line(
         alloc,
         &mut members,

@@ -4,7 +4,7 @@ use crate::parts::{Claim, Counted, first_missing, put_parts, said};
 use crate::state_text::put_kind;
 use rc_lang::program::Program;
 use rc_report::printed::buffer_name;
-use rc_report::text::{put_number, put_piece, put_pieces};
+use rc_report::text::{put_counted, put_number, put_piece, put_pieces};
 use rc_rules::mode::{Slot, Submitting, sq_of, unlocked};
 use rc_rules::needs::{Asks, kind_of};
 use rc_rules::side::Side;
@@ -213,8 +213,31 @@ fn put_room(text: &mut Vec<u8>, side: &Side) -> Result<(), AllocError> {
     if program.version() < 4 {
         return Ok(());
     }
-    put_piece(text, b", tokens not held: ")?;
-    put_number(text, u64::from(side.lacking()))
+    put_out(text, program, side.lacking())
+}
+
+/// Adds how many tokens aren't held, and how few may be so where the ring has room for certain.
+fn put_out(text: &mut Vec<u8>, program: &Program, lacking: u32) -> Result<(), AllocError> {
+    let tokens = program.tokens().len();
+    if lacking as usize >= tokens {
+        put_piece(text, b", and no token is held")?;
+    } else {
+        put_counted(text, b", and ", u64::from(lacking), b" of the ")?;
+        put_number(text, tokens as u64)?;
+        put_piece(
+            text,
+            if lacking == 1 {
+                b" tokens isn't held"
+            } else {
+                b" tokens aren't held"
+            },
+        )?;
+    }
+    put_piece(text, b": room is known where ")?;
+    match program.entries() {
+        1 => put_piece(text, b"none is out"),
+        entries => put_counted(text, b"fewer than ", u64::from(entries), b" are out"),
+    }
 }
 
 fn put_left(text: &mut Vec<u8>, side: &Side) -> Result<(), AllocError> {

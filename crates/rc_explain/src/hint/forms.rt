@@ -230,6 +230,36 @@ fn refused_form(alloc: Global, version: u32, words: &[&[u8]]) -> Result<Option<R
     put_spots(4, &mut spots, words)
 }
 
+/// The version that a line needs whose words are no form that may be there, where a later one has it.
+pub fn needed_version(
+    alloc: Global,
+    parts: &Parts,
+    words: &[&[u8]],
+) -> Result<Option<u32>, AllocError> {
+    let version = parts.head.version;
+    let row = match refused_form(alloc, version, words)? {
+        Some(row) => Some(row),
+        None => begun_alone(alloc, parts, words)?,
+    };
+    match row {
+        Some(row) if version_of(row) > version => Ok(Some(version_of(row))),
+        _ => Ok(None),
+    }
+}
+
+/// The form that the first word of a line begins, where none of its version does, and that may be here in a later one.
+fn begun_alone(alloc: Global, parts: &Parts, words: &[&[u8]]) -> Result<Option<Row>, AllocError> {
+    let version = parts.head.version;
+    let forms = forms_of(alloc, version, parts.region)?;
+    if longest(version, &forms, words) > 0 {
+        return Ok(None);
+    }
+    match begun(word_at(words, 0)) {
+        Some(row) if may_be(version_of(row), parts.region, row) => Ok(Some(row)),
+        _ => Ok(None),
+    }
+}
+
 /// Why a form that a word begins may not be here: it is of a later version, or it is elsewhere.
 fn put_begun(
     text: &mut Vec<u8>,

@@ -1,6 +1,7 @@
 //! Hints for the other faults: strange bytes, heads, blocks, limits and nesting.
 
 use super::lines::word_at;
+use super::locks::put_inner;
 use super::wording::{put_column, put_word};
 use rc_lang::lines::Block;
 use rc_read::parts::{Parts, Region};
@@ -97,15 +98,11 @@ enum Keeps {
     Peeks,
     /// These and a lock do.
     PeeksAndLocks,
-    /// A lock of the submission side does.
-    SqLocks,
 }
 
 /// Whether a block keeps a line out.
 fn keeps_out(keeps: Keeps, block: Block) -> bool {
     match (keeps, block) {
-        (Keeps::SqLocks, Block::InLock(_, locks)) => locks.sq,
-        (Keeps::SqLocks, _) => false,
         (_, Block::InPeek(_) | Block::InArm(_)) => true,
         (Keeps::PeeksAndLocks, Block::InLock(_, _)) => true,
         _ => false,
@@ -202,12 +199,17 @@ pub fn put_too_large(
     }
 }
 
+/// Whether a text has a lock for each side of the ring.
+pub fn has_two_locks(parts: &Parts) -> bool {
+    parts.head.version >= 4
+}
+
 /// The lock under which it is known how many entries are queued.
 fn lock_of_queue(parts: &Parts) -> &'static [u8] {
-    if parts.head.version < 4 {
-        b"a lock"
-    } else {
+    if has_two_locks(parts) {
         b"'lock {' or 'lock sq {'"
+    } else {
+        b"a lock"
     }
 }
 
@@ -217,14 +219,14 @@ pub fn put_nesting(text: &mut Vec<u8>, parts: &Parts, words: &[&[u8]]) -> Result
     if is(first, b"break") {
         return put_piece(text, b"'break' may only be in a loop, and no loop is open");
     }
+    if has_two_locks(parts) && is(first, b"lock") && put_inner(text, parts, words)? {
+        return Ok(());
+    }
     put_word(text, first)?;
     if is(first, b"put") || is(first, b"if") {
         put_piece(text, b": 'q:' may not be there")
     } else if is(first, b"thread") {
         put_pieces(text, &[b": 'q:' may only be in ", lock_of_queue(parts)])
-    } else if is(first, b"lock") && is(word_at(words, 1), b"sq") {
-        put_piece(text, b" may not be here: ")?;
-        put_outer(text, parts, Keeps::SqLocks)
     } else if is(first, b"lock") {
         put_piece(text, b" may not be here: ")?;
         put_outer(text, parts, Keeps::PeeksAndLocks)

@@ -1,7 +1,8 @@
 //! Tests of how much room is left in the submission ring.
 
 use super::Refused;
-use rc_lang::lines::{Op, Stmt, Test};
+use rc_lang::lines::{Locks, Op, Stmt, Test};
+use rc_lang::program::Program;
 use rc_report::text::{put_counted, put_number, put_piece, put_pieces};
 use std::alloc::AllocError;
 
@@ -68,51 +69,125 @@ fn asked(refused: Refused, calls: u32) -> u32 {
     }
 }
 
-/// Adds the test of the room in the ring that makes it certain at a refused `get_sqe`.
+/// Adds what makes it certain at a refused `get_sqe` that there is room: from version 4 on a ring with an entry for each
+/// token, where it has fewer; and a test.
 pub fn put_space(text: &mut Vec<u8>, refused: Refused) -> Result<(), AllocError> {
-    let Some(
-        Bound {
-            place,
-            calls,
-            first,
-        },
-    ) = bound_at(refused)
-    else {
-        return Ok(());
+    let program = refused.program;
+    let is_small = program.version() >= 4 && program.tokens().len() > program.entries() as usize;
+    if is_small {
+        put_ring(text, program)?;
+    }
+    let Some(bound) = bound_at(refused) else {
+        return put_other(text, is_small);
     };
-    let left = refused.program.left();
-    let is_tested = matches!(refused.stmt(place), Stmt::If(_));
-    if calls > refused.program.entries() || !is_tested && left == 0 {
-        return Ok(());
+    let is_tested = matches!(refused.stmt(bound.place), Stmt::If(_));
+    if bound.calls > program.entries() || !is_tested && program.left() == 0 {
+        return put_other(text, is_small);
     }
+    put_piece(text, if is_small { b" Or " } else { b"" })?;
     if is_tested {
-        put_counted(text, b"Let line ", refused.number(place), b" be ")?;
-        put_test(text, asked(refused, calls))?;
-        return put_counted(
-            text,
-            b", since ",
-            u64::from(calls),
-            b" entries are opened behind it.",
-        );
+        return put_wider(text, refused, bound, is_small);
     }
-    put_piece(text, b"Write ")?;
-    put_test(text, asked(refused, calls))?;
-    put_counted(text, b" above line ", refused.number(first), b"")?;
-    put_counted(
-        text,
-        b", and `}` behind the request, since up to ",
-        u64::from(left),
-        b" may be queued where the ",
-    )?;
-    put_pieces(text, &[lock_of_queue(refused), b" is taken (left)."])
+    put_piece(text, if is_small { b"write " } else { b"Write " })?;
+    put_new_test(text, refused, bound)
 }
 
-/// The lock under which it is known how many entries are queued. Before version 4 there is one for both sides.
-fn lock_of_queue(refused: Refused) -> &'static [u8] {
+/// How many entries the ring is to have, so that there is one for each token: a power of two.
+fn wide_enough(program: &Program) -> u32 {
+    let tokens = program.tokens().len();
+    let mut entries = program.entries();
+    for _ in 0..10 {
+        if (entries as usize) < tokens {
+            entries = entries.saturating_mul(2);
+        }
+    }
+    entries
+}
+
+/// Adds with which line the ring has an entry for each token. Where all may stay queued, all may then, too.
+fn put_ring(text: &mut Vec<u8>, program: &Program) -> Result<(), AllocError> {
+    let entries = program.entries();
+    let wide = wide_enough(program);
+    put_piece(text, b"Let the ring have an entry for each token, by ")?;
+    put_counted(text, b"`ring ", u64::from(wide), b"")?;
+    let completions = program.completion_entries();
+    if completions != entries.saturating_mul(2) {
+        put_counted(text, b" cq ", u64::from(completions.max(wide)), b"")?;
+    }
+    match program.left() {
+        0 => {}
+        left => {
+            let left = if left == entries { wide } else { left };
+            put_counted(text, b" left ", u64::from(left), b"")?;
+        }
+    }
+    put_piece(
+        text,
+        b"`: then a thread with the request's token needs no test.",
+    )
+}
+
+/// Adds what else makes it certain, behind how many entries the ring should have.
+fn put_other(text: &mut Vec<u8>, is_small: bool) -> Result<(), AllocError> {
+    if is_small {
+        return put_piece(
+            text,
+            b" Or submit until `sq_ready == 0` first, or ask `if sq_space_left >= 1 {` around the call.",
+        );
+    }
+    Ok(())
+}
+
+/// Adds for how much room the test is to ask that is around the call.
+fn put_wider(
+    text: &mut Vec<u8>,
+    refused: Refused,
+    bound: Bound,
+    is_small: bool,
+) -> Result<(), AllocError> {
+    put_piece(text, if is_small { b"let" } else { b"Let" })?;
+    put_counted(text, b" line ", refused.number(bound.place), b" be ")?;
+    put_test(text, asked(refused, bound.calls))?;
+    put_counted(
+        text,
+        b", since ",
+        u64::from(bound.calls),
+        b" entries are opened behind it.",
+    )
+}
+
+/// Adds the test that is to be around the call, and where. From version 4 on it has an else.
+fn put_new_test(text: &mut Vec<u8>, refused: Refused, bound: Bound) -> Result<(), AllocError> {
+    put_test(text, asked(refused, bound.calls))?;
+    put_counted(text, b" above line ", refused.number(bound.first), b"")?;
     if refused.program.version() < 4 {
-        b"lock"
+        put_piece(text, b", and `}` behind the request")?;
     } else {
-        b"lock sq"
+        put_piece(
+            text,
+            b", and behind the request `} else {`, what becomes of its items then, and `}`",
+        )?;
+    }
+    put_counted(
+        text,
+        b", since up to ",
+        u64::from(refused.program.left()),
+        b" may be queued where the ",
+    )?;
+    put_pieces(
+        text,
+        &[
+            lock_of_queue(refused.stmt(bound.place)),
+            b" is taken (left).",
+        ],
+    )
+}
+
+/// The lock that a line takes under which it is known how many entries are queued: that of both sides, or of one.
+fn lock_of_queue(stmt: Stmt) -> &'static [u8] {
+    match stmt {
+        Stmt::Lock(Locks { cq: false, .. }) => b"lock sq",
+        _ => b"lock",
     }
 }
 
