@@ -1,10 +1,10 @@
 -- A thread whose next statement does no harm has no fault of any kind.
-use Rattle.std.proofs.Common.{◌≡◌, ℕ, ◌+◌, ◌<◌, ◌≤◌, Bool, true, false, ◌&&◌, ◌||◌, not, if◌then◌else◌, drop, length, Option, Some, None, refl, ◌∙◌, subst, inl, inr, slice_get, ap, arith}
+use Rattle.std.proofs.Common.{◌≡◌, ℕ, ◌+◌, ◌<◌, ◌≤◌, Bool, true, false, ◌&&◌, ◌||◌, not, if◌then◌else◌, drop, length, Option, Some, None, option_map, refl, sym, ◌∙◌, subst, inl, inr, slice_get, ap, arith}
 use Rattle.std.proofs.lemmas.Bool.{or_parts, and_left, and_right, cases_lt}
 use Rattle.std.proofs.lemmas.Option.{same_Some, slice_get_within}
 use Rattle.rc_lang.specs.declared.lines.Line.{Line}
 use Rattle.rc_lang.specs.declared.lines.Stmt.{Stmt}
-use Rattle.rc_lang.specs.Program.{Thread, lines_in}
+use Rattle.rc_lang.specs.Program.{Thread, lines_in, lines_of}
 use Rattle.rc_world.specs.declared.fault.FaultKind.{FaultKind}
 use Rattle.rc_world.specs.declared.fault.FaultKind.TheVariants.{WriteOfPending, ReadOfFilling, KernelClash, ThreadRace, RingFull, Overflow, AmbiguousData, UnknownReap, NoLock, RawEntry, OutOfBuffer, DoublePut}
 use Rattle.rc_world.specs.Controls.{Standing, next_at, next_line}
@@ -90,6 +90,17 @@ module _ (w : World) (i : ℕ) (s : Stmt) (e : is_harmful w i s ≡ false) where
 
 pub harmless_next : (w : World) (i : ℕ) (line : Line) → Some line ≡ next_line w.program w.controls i → is_harmful w i line.stmt ≡ false → IsHarmless w i
 harmless_next w i line n e kind l m = subst (λ (x : Line). has_fault w kind i x.stmt ≡ false) (same_Some line l (n ∙ m)) (harmless w i line.stmt e kind)
+
+-- the line at the place of the thread
+place_at : (w : World) (i p : ℕ) (t : Option Standing) → Some p ≡ option_map (λ (s : Standing). s.place) t → slice_get (lines_of w.program i) p ≡ next_at w.program i t
+place_at w i p None e = absurd (cc)
+place_at w i p (Some t) e = ap (slice_get (lines_of w.program i)) (same_Some p t.place e)
+
+pub line_at_place : (w : World) (i p : ℕ) → Some p ≡ option_map (λ (s : Standing). s.place) (slice_get w.controls.threads i) → slice_get (lines_of w.program i) p ≡ line_of w i
+line_at_place w i p = place_at w i p (slice_get w.controls.threads i)
+
+pub harmless_past : (w : World) (i : ℕ) → line_of w i ≡ None → IsHarmless w i
+harmless_past w i n kind l e = let none : Some l ≡ None = sym e ∙ n in absurd (cc)
 
 pub harmless_more : (w : World) (n : ℕ) → ((i : ℕ) → i < n → IsHarmless w i) → IsHarmless w n → (i : ℕ) → i < n + 1 → IsHarmless w i
 harmless_more w n h here i lt = elim (cases_lt i n) [

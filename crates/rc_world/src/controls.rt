@@ -212,15 +212,6 @@ impl Controls {
         program.line_at(thread as usize, place)
     }
 
-    /// The line that the thread has next, where these are its lines.
-    pub(crate) fn line_in(&self, lines: &[Line], thread: u32) -> Option<Line>
-        ensures { (program : SpecProgram) → lines.now ≡ lines_of program thread
-            → result ≡ spec.next_line program self.now thread }
-    {
-        let place = self.place(thread)?;
-        lines.get(place).copied()
-    }
-
     /// What a store or a fill of a variable writes: the low eight bits of its value.
     pub fn byte(&self, thread: u32, x: usize) -> u8
         requires exists { thread < length self.now.threads }
@@ -250,7 +241,7 @@ impl Controls {
     }
 
     // The place of the thread's next line.
-    fn place(&self, thread: u32) -> Option<usize>
+    pub(crate) fn place(&self, thread: u32) -> Option<usize>
         ensures { result ≡ option_map (λ t. t.place) (slice_get self.now.threads thread) }
     {
         let control = self.threads.get(thread as usize)?;

@@ -38,28 +38,31 @@ impl<'a> World<'a> {
         requires lines { lines.now ≡ lines_of self.now.program thread }
         ensures { OnFalse result (harm.IsHarmless self.now thread) }
     {
-        match self.controls.line_in(lines, thread) {
-            Some(line) => self.is_harmful(thread, line.stmt),
+        let Some(place) = self.controls.place(thread) else {
+            return false;
+        };
+        match lines.get(place) {
+            Some(line) => self.is_harmful(thread, &line.stmt),
             None => false,
         }
     }
 
-    // A statement is asked only what it can do: most can do no harm.
-    fn is_harmful(&self, thread: u32, stmt: Stmt) -> bool
+    // A statement is asked only what it can do: most can do no harm, and aren't copied.
+    fn is_harmful(&self, thread: u32, stmt: &Stmt) -> bool
         requires { thread ≤ 16 }
-        ensures { result ≡ harm.is_harmful self.now thread stmt }
+        ensures { result ≡ harm.is_harmful self.now thread stmt.now }
     {
-        match stmt {
+        match *stmt {
             Stmt::Do(op) => self.is_harmful_op(thread, op),
             Stmt::If(Test::Compare(_, _, _)) => false,
-            Stmt::If(_) => self.harms_sq(thread, stmt) || self.harms_cq(thread, stmt),
-            Stmt::Peek(_) => self.harms_cq(thread, stmt),
-            Stmt::EndLock(_, _) => self.harms_sq(thread, stmt),
-            Stmt::Break(_, _, _) => self.harms_sq(thread, stmt),
+            Stmt::If(_) => self.harms_sq(thread, *stmt) || self.harms_cq(thread, *stmt),
+            Stmt::Peek(_) => self.harms_cq(thread, *stmt),
+            Stmt::EndLock(_, _) => self.harms_sq(thread, *stmt),
+            Stmt::Break(_, _, _) => self.harms_sq(thread, *stmt),
             Stmt::Put(_, _) => {
-                self.harms_sq(thread, stmt)
-                    || self.harms_cq(thread, stmt)
-                    || self.is_double_at(thread, stmt)
+                self.harms_sq(thread, *stmt)
+                    || self.harms_cq(thread, *stmt)
+                    || self.is_double_at(thread, *stmt)
             }
             _ => false,
         }
