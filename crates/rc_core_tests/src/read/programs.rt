@@ -1,12 +1,30 @@
 //! What is in the program of a text.
 
+ghost use Rattle.std.specs.Prelude.{◌≤◌};
+
 use super::*;
 use rc_lang::lines::{Comparison, Locks, Op, Operand, Stmt, Test};
 use rc_lang::program::TokenKind;
 
 // Locks by a number of their own.
-fn locks_mark(locks: Locks) -> usize {
-    usize::from(locks.sq) + 2 * usize::from(locks.cq)
+fn locks_mark(locks: Locks) -> usize
+    ensures { result ≤ 3 }
+{
+    match (locks.sq, locks.cq) {
+        (false, false) => 0,
+        (true, false) => 1,
+        (false, true) => 2,
+        (true, true) => 3,
+    }
+}
+
+// The locks that a break releases, by a number of their own, and another where it leaves an arm.
+fn break_mark(releases: Locks, leaves: bool) -> usize {
+    if leaves {
+        locks_mark(releases) + 4
+    } else {
+        locks_mark(releases)
+    }
 }
 
 // A pool by a number of its own: 0 for the one without a name.
@@ -26,7 +44,7 @@ pub fn mark_of(stmt: Stmt) -> (u8, usize, usize) {
         Stmt::EndLoop(o, k) => (4, o, k),
         Stmt::If(Test::ReadyZero) => (5, 0, 0),
         Stmt::EndIf(o) => (6, o, 0),
-        Stmt::Break(o, releases, leaves) => (7, o, locks_mark(releases) + 4 * usize::from(leaves)),
+        Stmt::Break(o, releases, leaves) => (7, o, break_mark(releases, leaves)),
         Stmt::Peek(x) => (8, x, 0),
         Stmt::Case(o, u) => (9, o, (u % 100) as usize),
         Stmt::Other(o) => (10, o, 0),
