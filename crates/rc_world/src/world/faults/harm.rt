@@ -1,8 +1,7 @@
 //! Whether a world may have a fault at all: one pass over the threads, before the least fault is looked for.
 
-ghost use Rattle.std.specs.Prelude.{◌≡◌, ◌||◌, ◌<◌, ◌≤◌, ℕ, None, option_map};
+ghost use Rattle.std.specs.Prelude.{◌≡◌, ◌≤◌, ℕ, None, option_map};
 ghost use Rattle.std.specs.Bool.{OnFalse};
-ghost use Rattle.rc_lang.specs.declared.lines.Stmt.TheVariants.{Do};
 ghost use Rattle.rc_lang.specs.Program.{lines_of};
 ghost use Rattle.rc_world.specs.Faults as spec;
 ghost use Rattle.rc_world.specs.Harm as harm;
@@ -47,53 +46,39 @@ impl<'a> World<'a> {
         }
     }
 
-    // A statement is asked only what it can do: most can do no harm, and aren't copied.
+    // Most statements can do no harm: they are told by their kind, and aren't copied.
     fn is_harmful(&self, thread: u32, stmt: &Stmt) -> bool
         requires { thread ≤ 16 }
         ensures { result ≡ harm.is_harmful self.now thread stmt.now }
     {
         match *stmt {
-            Stmt::Do(op) => self.is_harmful_op(thread, op),
+            Stmt::Do(Op::Set(_, _)) => false,
+            Stmt::Do(Op::Assign(_, _)) => false,
+            Stmt::Do(Op::Add(_, _, _)) => false,
+            Stmt::Do(Op::Subtract(_, _, _)) => false,
+            Stmt::Do(Op::Print(_)) => false,
+            Stmt::Do(_) => self.harms(thread, stmt),
             Stmt::If(Test::Compare(_, _, _)) => false,
-            Stmt::If(_) => self.harms_sq(thread, *stmt) || self.harms_cq(thread, *stmt),
-            Stmt::Peek(_) => self.harms_cq(thread, *stmt),
-            Stmt::EndLock(_, _) => self.harms_sq(thread, *stmt),
-            Stmt::Break(_, _, _) => self.harms_sq(thread, *stmt),
-            Stmt::Put(_, _) => {
-                self.harms_sq(thread, *stmt)
-                    || self.harms_cq(thread, *stmt)
-                    || self.is_double_at(thread, *stmt)
-            }
+            Stmt::If(_) => self.harms(thread, stmt),
+            Stmt::Peek(_) => self.harms(thread, stmt),
+            Stmt::EndLock(_, _) => self.harms(thread, stmt),
+            Stmt::Break(_, _, _) => self.harms(thread, stmt),
+            Stmt::Put(_, _) => self.harms(thread, stmt),
             _ => false,
         }
     }
 
-    fn is_harmful_op(&self, thread: u32, op: Op) -> bool
+    // It is no part of its caller, so that nothing is made ready for it where a statement can do no harm.
+    #[inline(never)]
+    fn harms(&self, thread: u32, stmt: &Stmt) -> bool
         requires { thread ≤ 16 }
-        ensures { result ≡ harm.is_harmful self.now thread (Do op) }
+        ensures { result ≡ harm.is_harmful self.now thread stmt.now }
     {
-        let stmt = Stmt::Do(op);
-        match op {
-            Op::Set(_, _) => false,
-            Op::Assign(_, _) => false,
-            Op::Add(_, _, _) => false,
-            Op::Subtract(_, _, _) => false,
-            Op::Print(_) => false,
-            Op::Load(_, _, _) => self.harms_bytes(thread, stmt),
-            Op::Store(_, _, _) => self.harms_bytes(thread, stmt),
-            Op::Fill(_, _) => self.harms_bytes(thread, stmt),
-            Op::CqeSeen => self.harms_cq(thread, stmt),
-            _ => is_out_at(self.program, stmt) || self.harms_sq(thread, stmt),
-        }
-    }
-
-    // Whether a load, a store or a fill is harmful.
-    fn harms_bytes(&self, thread: u32, stmt: Stmt) -> bool
-        requires { thread ≤ 16 }
-        ensures { result ≡ harm.harms_buffer self.now thread (spec.access_of stmt)
-            || spec.is_out_at self.now.program stmt }
-    {
-        self.harms_buffer(thread, access_of(stmt)) || is_out_at(self.program, stmt)
+        self.harms_buffer(thread, access_of(*stmt))
+            || is_out_at(self.program, *stmt)
+            || self.harms_sq(thread, *stmt)
+            || self.harms_cq(thread, *stmt)
+            || self.is_double_at(thread, *stmt)
     }
 
     // Whether it is harmful what the next statement of a thread does with a buffer.
