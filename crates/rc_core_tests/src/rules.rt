@@ -135,6 +135,11 @@ const CQ: Locks = Locks {
     cq: true,
 };
 
+const NEITHER: Locks = Locks {
+    sq: false,
+    cq: false,
+};
+
 // The state of the thread's beginning, with these locks.
 fn taken(alloc: Global, program: &Program, locks: Locks) -> Result<State<'_>, AllocError>
     requires { program.now ≡ share }
@@ -399,7 +404,8 @@ fn a_loop_keeps_exactly_its_items(rt: HostRuntime) -> Result<(), Fail> {
     assert_eq!(rt; number(state.loop_end(&credits(rt.alloc(), 2, 0))), 14);
     assert_eq!(rt; number(state.loop_end(&credits(rt.alloc(), 1, 0))), 0);
     assert!(rt; !is_live(&state));
-    assert_eq!(rt; number(other.break_out(SQ)), 0);
+    assert_eq!(rt; number(other.break_out(SQ)), 12);
+    assert_eq!(rt; number(other.break_out(NEITHER)), 0);
     assert!(rt; !is_live(&other));
     Ok(())
 }
