@@ -35,7 +35,7 @@ fn takes_a_side(thread: &Thread) -> bool {
     )
 }
 
-/// The name of a lock behind `lock` and `release` in a trace.
+/// The name of a lock after `lock` and `release` in a trace.
 fn name(locks: Locks) -> &'static [u8] {
     match (locks.sq, locks.cq) {
         (true, false) => b" sq\"",

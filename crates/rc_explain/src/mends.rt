@@ -196,7 +196,7 @@ fn put_moved(
         put_counted(text, b"Leave the loop at line ", refused.number(place), b"")?;
         put_piece(text, b" only with ")?;
         put_part(text, refused.program, part)?;
-        return put_piece(text, b", or reap the request behind the loop, too.");
+        return put_piece(text, b", or reap the request after the loop, too.");
     }
     put_piece(text, b"Move this line to where ")?;
     put_part(text, refused.program, part)?;

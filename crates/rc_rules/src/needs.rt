@@ -286,7 +286,7 @@ pub fn is_met(holding: &Holding, lists: &[Items], zero: bool, mode: Mode, asks: 
     }
 }
 
-/// Whether behind so many queued entries there is room for one more. From version 4 on the tokens that aren't held say it
+/// Whether after so many queued entries there is room for one more. From version 4 on the tokens that aren't held say it
 /// too: each queued entry owns one of them.
 fn can_queue(holding: &Holding, queued: u32) -> bool
     ensures { result ≡ rules.can_queue holding.now.program (bag holding.now) queued }

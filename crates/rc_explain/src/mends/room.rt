@@ -127,7 +127,7 @@ fn put_ring(text: &mut Vec<u8>, program: &Program) -> Result<(), AllocError> {
     )
 }
 
-/// Adds what else makes it certain, behind how many entries the ring should have.
+/// Adds what else makes it certain, after how many entries the ring should have.
 fn put_other(text: &mut Vec<u8>, is_small: bool) -> Result<(), AllocError> {
     if is_small {
         return put_piece(
@@ -152,7 +152,7 @@ fn put_wider(
         text,
         b", since ",
         u64::from(bound.calls),
-        b" entries are opened behind it.",
+        b" entries are opened after it.",
     )
 }
 
@@ -161,11 +161,11 @@ fn put_new_test(text: &mut Vec<u8>, refused: Refused, bound: Bound) -> Result<()
     put_test(text, asked(refused, bound.calls))?;
     put_counted(text, b" above line ", refused.number(bound.first), b"")?;
     if refused.program.version() < 4 {
-        put_piece(text, b", and `}` behind the request")?;
+        put_piece(text, b", and `}` after the request")?;
     } else {
         put_piece(
             text,
-            b", and behind the request `} else {`, what becomes of its items then, and `}`",
+            b", and after the request `} else {`, what becomes of its items then, and `}`",
         )?;
     }
     put_counted(
