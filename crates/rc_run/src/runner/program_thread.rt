@@ -52,10 +52,22 @@ pub fn run_thread<D: Device, C: Chooser, G: Gate, L: Ledger + RunConfig, R: Wait
 #[derive(Clone, Copy)]
 enum Pause {
     None,
-    // It yields the processor: no other thread could go on.
+    // It yields the processor to the workers: no other thread of the program could go on.
     Yield,
     // It waits until it runs again.
     Wait,
+}
+
+impl Pause {
+    // That of a thread that is itself the next to run. If no request is pending, the workers have nothing to do, and to
+    // yield would only let other programs of the machine run, for a whole time slice of theirs.
+    fn of_next(live: &Live) -> Pause {
+        if live.pending() == 0 {
+            Pause::None
+        } else {
+            Pause::Yield
+        }
+    }
 }
 
 // Waits until the thread runs again, or the run is to stop.
@@ -107,7 +119,7 @@ fn take_turn<D: Device, C: Chooser, L: Ledger + RunConfig, R: Wait>(
         pause = Pause::Wait;
         if next == Some(thread as usize) {
             next = None;
-            pause = Pause::Yield;
+            pause = Pause::of_next(guard.run().live());
         } else if next.is_none() {
             workers = guard.run().live().free();
         }
