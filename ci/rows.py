@@ -23,7 +23,7 @@ begins with `#` is a comment.
     ! ringcheck: no                  standard error, line by line; nothing where no line says anything
     status 1
 
-    table locks_nest_in_one_order    a line each: what more the text has, and the one line of output after `=>`
+    table locks_nest_in_one_order    a line each: what more the text has, and after `=>` the lines of output
     $ check
     $ check --json                   the same as an object
     < SIDES
@@ -31,6 +31,11 @@ begins with `#` is a comment.
     + lock sq { / lock sq {          => unreadable line 9 P9 BadNesting
     ~ ring 2 => ring x               => unreadable line 2 P4 BadNumber
     cut 17                           => unreadable line 2 P2 BadHead
+
+    table a_step_follows_another
+    $ step --schedule t0
+    < SIDES
+    + thread t0 holds { / x = 1 / }  => 1 t0 4 set 1 / ended after 1 events
 
 These lines make a text, one after another:
 
@@ -46,8 +51,9 @@ words `\\x20` is a blank, and {NAME} the text of that name.
 Lines of output are bytes as they are. Besides `> LINE` there are `>> NAME`, which is a whole text as of `<`; `>^ LINE`,
 a line that begins so; and `>..`, any lines.
 
-In a table the status follows from the first word: accepted, stopped and ended 0, refused and fault 1, unreadable 2. `cut
-N` stands for each beginning of the text, up to N bytes, that isn't in a line above; the last N is the whole text.
+In a table the status follows from the first word of the last line of output: accepted, stopped and ended 0, refused and
+fault 1, unreadable 2. `cut N` stands for each beginning of the text, up to N bytes, that isn't in a line above; the last
+N is the whole text.
 
 Names of tables and rows are unique in the folder, and each text and file of it is used. A file of rows that isn't so is
 told, with its line, and the status is 2. Otherwise each difference is printed, and how many rows there are; the status is
@@ -152,11 +158,11 @@ def as_object(verdict):
     return f'{{"cause":"{cause}","code":{code},"line":{line},"verdict":"{word}"}}'
 
 
-def status_of(output):
-    """The status that goes with an output of one line."""
-    word = output.split(" ")[0]
+def status_of(last):
+    """The status that goes with the last line of an output."""
+    word = last.split(" ")[0]
     if word not in STATUSES:
-        raise Wrong(f"no status goes with this: {output}")
+        raise Wrong(f"no status goes with this: {last}")
     return STATUSES[word]
 
 
@@ -331,9 +337,10 @@ class File:
         if not asked:
             raise Wrong("this table has no words")
         for words in asked:
-            told = as_object(output) if "--json" in words else output
+            told = [as_object(output)] if "--json" in words else output.split(" / ")
             place = f"{self.path}:{self.at}: {name}"
-            self.rows.append(Row(place, words, text, [told + "\n"], "", status_of(output)))
+            status = status_of(output.split(" / ")[-1])
+            self.rows.append(Row(place, words, text, [line + "\n" for line in told], "", status))
 
 
 def fits(output, wanted):
