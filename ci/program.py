@@ -6,8 +6,9 @@ usage: ci/program.py PROGRAM
 Of each command it sees each exit status that the command has, 0 to 3, with what is on standard output and what is on
 standard error, apart. It names several files, one that isn't there, a folder, one that may not be read, and standard
 input; it closes the standard streams, and gives a full device, a pipe that nobody reads and an input without an end; it
-gives texts with carriage returns and a text at the limits of the notation. A run makes the choices of its seed, and one
-whose threads can't be made is out of memory. What a file may be and how many processes there may be is no obstacle for
+gives texts with carriage returns and a text at the limits of the notation. A run makes the choices of its seed, is made
+again by the schedule of its events, and has each of them in its summary; one whose threads can't be made is out of
+memory. What a file may be and how many processes there may be is no obstacle for
 root: for that the program is run as a user that has nothing.
 
 A line is printed for each answer that isn't as it should be, and for each part that was left out; then how many there
@@ -388,6 +389,68 @@ def hold_seeds(bench):
         bench.hold(f"run --seed {seed}", (f"these aren't the choices of the seed: {answers[1:]}", right))
 
 
+def item_of(event):
+    """The item of a schedule that makes the event of a trace's line again, where reads bring zeros."""
+    words = event.split(" ")[1:]
+    if words[0] == "kernel":
+        return f"k:{words[1]}={words[2]}"
+    return f"{words[0]}={words[3]}" if words[2] == "submit" else words[0]
+
+
+def hold_run(bench, name, seed):
+    """A run to its end, which counts its events, and whose events are stepped again."""
+    text = (TOP / "examples" / name).read_bytes()
+    status, trace, told = bench.ran(("run", "--seed", str(seed), "--limit", "1000000"), text)
+    *events, end = trace.splitlines() or [""]
+    right = (status, end, told) == (0, f"ended after {len(events)} events", "")
+    bench.hold(f"run of {name}, seed {seed}", (f"it ends with {status}, {end!r} and {told!r}", right))
+    words = ("step", "--schedule", ",".join(map(item_of, events)))
+    status, again, told = bench.ran(words, text)
+    right = (status, again, told) == (0, trace, "")
+    bench.hold(f"run of {name}, seed {seed}, again", (f"{status}, {again[-200:]!r} and {told!r}", right))
+    if name == "handoff.rc":
+        count = sum(event.endswith(" print 0") for event in events)
+        bench.hold(f"run of {name}, seed {seed}, what it prints", (f"it prints 0 {count} times", count == 1))
+
+
+def hold_runs(bench):
+    """Runs of texts, whatever the order in which their threads run."""
+    for seed in range(1, 6):
+        for name in ("handoff.rc", "share.rc", "gather.rc", "hand_back.rc", "pool.rc"):
+            hold_run(bench, name, seed)
+    text = (TOP / "examples/pump.rc").read_bytes()
+    status, trace, told = bench.ran(("run", "--seed", "1", "--limit", "50"), text)
+    found = re.search(r"^limit after (\d+) events\n\Z", trace, re.MULTILINE)
+    right = (status, told) == (3, "") and found and int(found[1]) >= 50
+    bench.hold("run of pump.rc to its limit", (f"{status}, {trace[-200:]!r} and {told!r}", right))
+
+
+def hold_first_submits(bench):
+    """The first submit of a run, of one entry, which fails, takes nothing or takes it: each of that comes with some seed."""
+    seen = set()
+    for seed in range(30):
+        status, trace, told = bench.ran(("run", "--seed", str(seed), "--limit", "1000000"), SENDING)
+        found = re.search(r" submit (\S+)$", trace, re.MULTILINE)
+        seen.add(found[1] if found else "none")
+        bench.hold(f"run of handoff.rc, seed {seed}", (f"{status} and {told!r}", (status, told) == (0, "")))
+    bench.hold("first submits of handoff.rc", (f"they answer {sorted(seen)}", seen == {"-11", "0", "1"}))
+
+
+def hold_summaries(bench):
+    """Summaries, which count each event for its thread or for its token, whatever the order in which threads run."""
+    for name in ("handoff.rc", "share.rc"):
+        text = (TOP / "examples" / name).read_bytes()
+        status, summary, told = bench.ran(("run", "--seed", "1", "--limit", "1000000", "--summary"), text)
+        counts = re.findall(r"^(?:thread|completions) .*?: (\d+)", summary, re.MULTILINE)
+        end = re.search(r"^ended after (\d+) events\n\Z", summary, re.MULTILINE)
+        right = end and int(end[1]) == sum(map(int, counts)) > 0 and " of " in summary
+        bench.hold(f"summary of {name}", (f"{status} and {told!r}", (status, told) == (0, "")), (summary, right))
+        if name == "handoff.rc":
+            # A request that is reaped once has its arm counted once.
+            right = "line 22, peek_cqe r: case 7: 1, other 0, none " in summary
+            bench.hold(f"summary of {name}, its arm", (summary, right))
+
+
 def hold_threads(bench, how):
     """Runs whose threads can't all be made. There are four: for two threads of the text, and two workers."""
     for most in range(1, 5 if how else 2):
@@ -445,6 +508,9 @@ def main():
         hold_streams(bench)
         hold_large(bench)
         hold_seeds(bench)
+        hold_first_submits(bench)
+        hold_runs(bench)
+        hold_summaries(bench)
         how = other_user(bench) if os.geteuid() == 0 else {}
         if how is None:
             print("left out, since root can't run the program as another user: files that may not be read, and threads")
