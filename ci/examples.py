@@ -3,11 +3,13 @@
 
 usage: ci/examples.py [--write]
 
-rc_examples has a constant for each program of examples/, named as its file. Without --write nothing is changed, and the
-status is 1 where a text of the crate differs from its file by so much as a byte, or one is missing on either side.
+rc_examples has a constant for each program of examples/ that a test names, named as its file. Without --write nothing is
+changed, and the status is 1 where a text of the crate differs from its file by so much as a byte, one is missing, or one
+is there that no test names.
 """
 
 import difflib
+import re
 import sys
 from pathlib import Path
 
@@ -38,9 +40,17 @@ def constants(paths):
     return "".join(f"\npub const {path.stem.upper()}: &str = {literal(path)};\n" for path in sorted(paths))
 
 
+def named():
+    """The words of capitals in the files that use the crate."""
+    texts = [path.read_text() for path in CRATES.glob("*/src/**/*.rt")]
+    return {word for text in texts if "rc_examples::" in text for word in re.findall(r"\b[A-Z_]+\b", text)}
+
+
 def programs():
     """The file of the crate with the programs."""
-    return "//! The programs of examples/, each as its file has it.\n" + constants(EXAMPLES.glob("*.rc"))
+    words = named()
+    paths = [path for path in EXAMPLES.glob("*.rc") if path.stem.upper() in words]
+    return "//! The programs of examples/ that tests use, each as its file has it.\n" + constants(paths)
 
 
 def wanted_files():

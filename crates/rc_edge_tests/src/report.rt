@@ -2,9 +2,9 @@
 
 mod checks;
 mod engines;
-mod readers;
+pub mod readers;
 mod traces;
-mod writers;
+pub mod writers;
 
 use rc_read::ReadCause;
 use rc_report::streams::WriteSink;

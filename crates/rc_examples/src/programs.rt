@@ -1,9 +1,4 @@
-//! The programs of examples/, each as its file has it.
-
-pub const BAD_RING: &str = "\
-ringcheck 1 # Its second line has a word in the place of a number.
-ring x
-";
+//! The programs of examples/ that tests use, each as its file has it.
 
 pub const DEAD: &str = "\
 ringcheck 1
@@ -100,30 +95,6 @@ pub const EMPTY_THREAD: &str = "\
 ringcheck 1 # A thread without a statement has ended at the start.
 ring 1
 thread t0 holds {
-}
-";
-
-pub const FLOOD: &str = "\
-ringcheck 1
-ring 1
-token 1 nop
-token 2 nop
-token 3 nop
-thread t0 holds t:1 t:2 t:3 c:3 {
-lock {
-get_sqe
-prep_nop
-set_data64 1
-r = submit
-get_sqe
-prep_nop
-set_data64 2
-r = submit
-get_sqe
-prep_nop
-set_data64 3
-r = submit
-}
 }
 ";
 
@@ -287,62 +258,6 @@ print v
 }
 ";
 
-pub const KEEPS: &str = "\
-ringcheck 1
-ring 1
-buffer a 1 1
-thread t0 holds {
-loop keeps a:1 {
-break
-}
-}
-";
-
-pub const KERNEL_CLASH: &str = "\
-ringcheck 1
-ring 2
-file 3 0
-buffer a 4 1
-token 1 read a
-token 2 read a
-thread t0 holds {
-lock {
-get_sqe
-prep_read 3 a 4 0
-set_data64 1
-get_sqe
-prep_read 3 a 4 0
-set_data64 2
-r = submit
-}
-}
-";
-
-pub const LOSES: &str = "\
-ringcheck 1
-ring 2
-file 3 0
-buffer a 1 1
-token 7 read a
-thread t0 holds a:1 t:7 c:1 {
-lock {
-loop keeps a:1 t:7 c:1 q:0 {
-get_sqe
-prep_read 3 a 1 0
-set_data64 7
-}
-}
-}
-";
-
-pub const NO_LOCK: &str = "\
-ringcheck 1
-ring 1
-thread t0 holds {
-get_sqe
-}
-";
-
 pub const NOP: &str = "\
 ringcheck 1 # One thread submits a nop and reaps its completion.
 ring 1
@@ -363,39 +278,6 @@ none {
 }
 }
 }
-}
-";
-
-pub const NOP_SEEN_TWICE: &str = "\
-ringcheck 1 # One completion is reaped twice: the second is a fault.
-ring 1
-token 7 nop
-thread t0 holds t:7 c:1 {
-lock {
-get_sqe
-prep_nop
-set_data64 7
-r = submit
-peek_cqe r {
-case 7 {
-cqe_seen
-cqe_seen
-}
-other {
-}
-none {
-}
-}
-}
-}
-";
-
-pub const OUT_OF_BUFFER: &str = "\
-ringcheck 1
-ring 1
-buffer a 4 1
-thread t0 holds a:1 {
-v = load a 4
 }
 ";
 
@@ -582,17 +464,6 @@ none {
 }
 ";
 
-pub const RAW_ENTRY: &str = "\
-ringcheck 1
-ring 2
-thread t0 holds c:1 {
-lock {
-get_sqe
-r = submit
-}
-}
-";
-
 pub const SHARE: &str = "\
 ringcheck 1
 ring 2
@@ -612,89 +483,6 @@ break
 }
 }
 v = load a 3
-}
-";
-
-pub const SHARE_STORED: &str = "\
-ringcheck 1
-ring 2
-file 3 64
-buffer a 16 2
-token 9 write a 1
-thread t0 holds a:2 t:9 c:1 {
-lock {
-get_sqe
-prep_write 3 a 16 0 1
-set_data64 9
-loop keeps a:1 q:1 {
-r = submit
-if sq_ready == 0 {
-break
-}
-}
-}
-store a 3 v
-}
-";
-
-pub const SHORT: &str = "\
-ringcheck 1
-ring 1
-token 7 nop
-token 8 nop
-thread t0 holds t:7 c:1 {
-lock {
-get_sqe
-prep_nop
-set_data64 7
-r = submit
-}
-}
-thread t1 holds t:8 c:1 {
-lock {
-get_sqe
-prep_nop
-set_data64 8
-r = submit
-}
-}
-";
-
-pub const THREAD_RACE: &str = "\
-ringcheck 1
-ring 1
-buffer a 4 2
-thread t0 holds a:1 {
-v = load a 0
-}
-thread t1 holds a:1 {
-store a 0 w
-}
-";
-
-pub const TWICE: &str = "\
-ringcheck 1
-ring 2
-token 7 nop
-thread t0 holds t:7 c:1 {
-lock {
-get_sqe
-prep_nop
-set_data64 7
-loop keeps q:1 {
-r = submit
-if sq_ready == 0 {
-break
-}
-}
-}
-}
-thread t1 holds t:7 c:1 {
-lock {
-get_sqe
-prep_nop
-set_data64 7
-}
 }
 ";
 

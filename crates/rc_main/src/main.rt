@@ -1,28 +1,20 @@
 //! The program `ringcheck`: checks programs of liburing calls, and steps them through schedules.
 #![tactic(auto)]
 
-pub mod command;
-pub mod emitting;
-pub mod fault;
-pub mod files;
-pub mod keeping;
-mod output;
-pub mod running;
-#[cfg(test)]
-mod tests;
-mod usage;
-pub mod words;
+ghost use Rattle.std.specs.Prelude.{◌≤◌, IfOk};
 
-use command::{command_over, tell};
-use fault::CommandFault;
-use files::SystemTexts;
+use rc_command::command::{command_over, tell};
+use rc_command::fault::CommandFault;
+use rc_command::files::SystemTexts;
+use rc_command::words::{WordsFault, given_words};
 use std::process::ExitCode;
 use std::sync::Wait;
 use std::thread::Threads;
-use words::{WordsFault, given_words};
 
-/// Does what the command line says, with the threads of a handle.
-fn run<R: Threads + Wait + Sync>(rt: &HostRuntime, handle: &R) -> Result<u8, WordsFault> {
+/// Does what the command line says, with the threads of a handle, and answers the exit status.
+fn run<R: Threads + Wait + Sync>(rt: &HostRuntime, handle: &R) -> Result<u8, WordsFault>
+    ensures { IfOk result (λ status. status ≤ 3) }
+{
     let alloc = rt.alloc();
     let words = given_words(rt)?;
     let mut list = Vec::new(alloc);

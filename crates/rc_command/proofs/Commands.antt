@@ -1,0 +1,194 @@
+-- What commands say and leave.
+use Rattle.std.proofs.Common.{◌≡◌, ◌≤◌, inl, inr, ℕ, List, [], ◌++◌, Result, Ok, Err, refl, sym, ap, subst, ◌∙◌, arith}
+use Rattle.std.specs.Global.{Global, Vec}
+use Rattle.std.specs.Prelude.{IfOk, IsErrAnd, String, string_bytes}
+use Rattle.rc_report.specs.declared.engine_fault.EngineFault.{EngineFault}
+use Rattle.rc_report.specs.declared.engine_fault.EngineFault.TheVariants.{Read, Write, OutOfMemory}
+use Rattle.rc_report.specs.declared.step_engine.StepEnd.{StepEnd}
+use Rattle.rc_report.specs.declared.step_engine.StepEnd.TheVariants.{Unreadable, Schedule, Trace}
+use Rattle.rc_report.specs.declared.trace.End.{End}
+use Rattle.rc_report.specs.declared.trace.End.TheVariants.{Fault, NotEnabled, Ended, Stopped, Limit, Memory}
+use Rattle.rc_report.specs.declared.verdict.Verdict.{Verdict}
+use Rattle.rc_report.specs.declared.verdict.Verdict.TheVariants.{Accepted, Refused, Unreadable as NoProgram}
+use Rattle.rc_lang.specs.Program.{Program}
+use Rattle.rc_read.specs.Answer.{answer_of}
+use Rattle.rc_keeps.specs.Keeps.{GivesKept}
+use Rattle.rc_report.specs.Checks.{GivesVerdict}
+use Rattle.rc_report.specs.Verdicts.{verdict_text}
+use Rattle.rc_report.specs.Statuses.{status_of_end, status_of_step, status_of_verdict}
+use Rattle.rc_report.specs.Streams.{Began, CountsReads, Given, ReadsText, Taken}
+use Rattle.rc_report.proofs.Answered.{of_any, of_text}
+use Rattle.rc_command.specs.declared.fault.CommandFault.{CommandFault}
+use Rattle.rc_command.specs.declared.fault.CommandFault.TheVariants.{Words, Engine, OtherProgram}
+use Rattle.rc_command.specs.declared.words.Command.{Command}
+use Rattle.rc_command.specs.declared.words.Command.TheVariants.{Check, Explain, Keeps, Step, State, Moves, Find, Run, Emit, Show}
+use Rattle.rc_command.specs.Answers.{Does, DoesWith, Fails, ReadsAsAsked, ReadsOnce, Says, SaysAdmitted, SaysKept, SaysVerdict}
+
+-- ---- statuses are 3 at most
+
+verdict_within : (v : Verdict) (s : ℕ) → s ≡ status_of_verdict v → s ≤ 3
+verdict_within Accepted s e = omega (arith, e)
+verdict_within (Refused r) s e = omega (arith, e)
+verdict_within (NoProgram line cause) s e = omega (arith, e)
+
+end_within : (end : End) (s : ℕ) → s ≡ status_of_end end → s ≤ 3
+end_within (Fault f) s e = omega (arith, e)
+end_within (NotEnabled i) s e = omega (arith, e)
+end_within Ended s e = omega (arith, e)
+end_within Stopped s e = omega (arith, e)
+end_within Limit s e = omega (arith, e)
+end_within Memory s e = omega (arith, e)
+
+step_within : (end : StepEnd) (s : ℕ) → s ≡ status_of_step end → s ≤ 3
+step_within (Unreadable fault) s e = omega (arith, e)
+step_within (Schedule i) s e = omega (arith, e)
+step_within (Trace end) s e = end_within end s e
+
+pub within : (command : Command) (bytes : List ℕ) (s : ℕ) (text : List ℕ) → Says command bytes s text → s ≤ 3
+within (Check json) bytes s text h = verdict_within h.0 s h.2
+within (Explain form) bytes s text h = verdict_within h.0 s h.2
+within Keeps bytes s text h = elim h [
+  | inl (kept, given, is, status) ↦ omega (arith, status)
+  | inr (verdict, given, is, status) ↦ verdict_within verdict s status
+]
+within (Step schedule) bytes s text h = step_within h.0 s h.3
+within (State schedule) bytes s text h = step_within h.0 s h.3
+within (Moves moves state) bytes s text h = step_within h.0 s h.3
+within (Find seed walks json) bytes s text h = verdict_within h.0 s h.2
+within (Run seed limit summary) bytes s text h = elim h [
+  | inl (program, given, run) ↦ end_within run.1 s run.4
+  | inr (verdict, given, is, status) ↦ verdict_within verdict s status
+]
+within Emit bytes s text h = elim h [
+  | inl (program, given, status) ↦ omega (arith, status)
+  | inr (verdict, given, is, status) ↦ verdict_within verdict s status
+]
+within (Show shown) bytes s text h = omega (arith, h.1)
+
+pub all_within : {S : Type 0} (command : Command) (bytes : List ℕ) (state : S → Taken) (old new : S) (r : Result ℕ CommandFault) → Does (Says command bytes) state old new r → IfOk r (λ status. status ≤ 3)
+all_within command bytes state old new (Ok s) h = within command bytes s h.0 h.1
+all_within command bytes state old new (Err e) h = tt
+
+-- ---- what is written
+
+module _ {S : Type 0} (state : S → Taken) (old new : S) where
+  -- A `?` returns a fault.
+  pub does_fault : (says : ℕ → List ℕ → Type 0) (text : List ℕ) (e : EngineFault) (r : Result ℕ CommandFault) → IsErrAnd r (λ y. y ≡ Engine e) → ¬ (e ≡ Read) → Began (state old) (state new) text e → Does says state old new r
+  does_fault says text e (Ok s) is no_read h = absurd is
+  does_fault says text e (Err y) is no_read h = subst (λ (z : CommandFault). Fails (state old) (state new) z) (sym is) (failed e no_read h)
+    where
+      failed : (e : EngineFault) → ¬ (e ≡ Read) → Began (state old) (state new) text e → Fails (state old) (state new) (Engine e)
+      failed Read no_read h = absurd (no_read refl)
+      failed Write no_read h = h.failures
+      failed OutOfMemory no_read h = omega (arith, h.failures)
+
+  pub write_fault : (says : ℕ → List ℕ → Type 0) (text : List ℕ) (e : EngineFault) (r : Result ℕ CommandFault) → IsErrAnd r (λ y. y ≡ Engine e) → (e ≡ Write) × Began (state old) (state new) text e → Does says state old new r
+  write_fault says text e r is h = does_fault says text e r is (λ read. absurd (cc (h.0, read))) h.1
+
+  pub steps_fault : (says : ℕ → List ℕ → Type 0) (text : List ℕ) (e : EngineFault) (r : Result ℕ CommandFault) → IsErrAnd r (λ y. y ≡ Engine e) → ¬ (e ≡ Read) × Began (state old) (state new) text e → Does says state old new r
+  steps_fault says text e r is h = does_fault says text e r is h.0 h.1
+
+  -- Memory ran out before anything was written.
+  pub does_nothing : (says : ℕ → List ℕ → Type 0) (r : Result ℕ CommandFault) → IsErrAnd r (λ y. y ≡ Engine OutOfMemory) → state new ≡ state old → Does says state old new r
+  does_nothing says (Ok s) is same = absurd is
+  does_nothing says (Err y) is same = subst (λ (z : CommandFault). Fails (state old) (state new) z) (sym is) (ap (λ (t : Taken). t.failures) same)
+
+  -- This says that.
+  pub does_as : (says others : ℕ → List ℕ → Type 0) (r : Result ℕ CommandFault) → ((s : ℕ) (text : List ℕ) → says s text → others s text) → Does says state old new r → Does others state old new r
+  does_as says others (Ok s) by (text, said, w) = (text, by s text said, w)
+  does_as says others (Err e) by h = h
+
+  -- The text that was made is written.
+  pub does_made : (says : ℕ → List ℕ → Type 0) (first made : List ℕ) (status : ℕ) (r : Result ℕ CommandFault) → first ≡ [] → (text : List ℕ) × says status text × (made ≡ first ++ text) → Does (λ s text. (s ≡ status) × (text ≡ made)) state old new r → Does says state old new r
+  does_made says first made status r none (text, said, is) h =
+      let same : made ≡ text = is ∙ ap (λ us. us ++ text) none in
+      does_as (λ s text. (s ≡ status) × (text ≡ made)) says r (λ s t both. subst (λ u. says s u) (sym (both.1 ∙ same)) (subst (λ n. says n text) (sym both.0) said)) h
+
+  -- That of a verdict.
+  pub does_verdict : (told : Verdict → List ℕ → Type 0) (v : Verdict) (first made : List ℕ) (status : ℕ) (r : Result ℕ CommandFault) → first ≡ [] → status ≡ status_of_verdict v →
+      (text : List ℕ) × told v text × (made ≡ first ++ text) → Does (λ s text. (s ≡ status) × (text ≡ made)) state old new r → Does (SaysVerdict told) state old new r
+  does_verdict told v first made status r none is (text, tells, made_is) h = does_made (SaysVerdict told) first made status r none (text, (v, tells, is), made_is) h
+
+  -- An accepted program is answered, or the verdict on another text.
+  pub does_admitted : (bytes : List ℕ) (of : Program → ℕ → List ℕ → Type 0) (program : Program) (r : Result ℕ CommandFault) → GivesVerdict (answer_of bytes) (Ok program) → Does (of program) state old new r → Does (SaysAdmitted bytes of) state old new r
+  does_admitted bytes of program r given h = does_as (of program) (SaysAdmitted bytes of) r (λ s text said. inl (program, given, said)) h
+
+  pub does_refused : (bytes : List ℕ) (of : Program → ℕ → List ℕ → Type 0) (v : Verdict) (r : Result ℕ CommandFault) → GivesVerdict (answer_of bytes) (Err v) →
+      Does (λ status text. (text ≡ verdict_text v) × (status ≡ status_of_verdict v)) state old new r → Does (SaysAdmitted bytes of) state old new r
+  does_refused bytes of v r given h = does_as (λ status text. (text ≡ verdict_text v) × (status ≡ status_of_verdict v)) (SaysAdmitted bytes of) r (λ s text said. inr (v, given, said.0, said.1)) h
+
+  -- What is kept in a text is answered, or the verdict on one that can't be read.
+  pub does_kept : (bytes : List ℕ) (kept : Vec ℕ) (r : Result ℕ CommandFault) → GivesKept bytes (Ok kept) → Does (λ s text. (s ≡ 0) × (text ≡ kept.items)) state old new r → Does (SaysKept bytes) state old new r
+  does_kept bytes kept r given h = does_as (λ s text. (s ≡ 0) × (text ≡ kept.items)) (SaysKept bytes) r (λ s text said. inl (kept, given, said.1, said.0)) h
+
+  pub does_unread : (bytes : List ℕ) (v : Verdict) (r : Result ℕ CommandFault) → GivesKept bytes (Err v) →
+      Does (λ status text. (text ≡ verdict_text v) × (status ≡ status_of_verdict v)) state old new r → Does (SaysKept bytes) state old new r
+  does_unread bytes v r given h = does_as (λ status text. (text ≡ verdict_text v) × (status ≡ status_of_verdict v)) (SaysKept bytes) r (λ s text said. inr (v, given, said.0, said.1)) h
+
+-- ---- what is read
+
+module _ {S : Type 0} (state : S → Taken) (old new : S) (source : Given) where
+  -- Help and the version are shown whatever the bytes are.
+  pub shows : (command : Command) (shown : String Global) (r : Result ℕ CommandFault) → command ≡ Show shown → Does (λ s text. (s ≡ 0) × (text ≡ string_bytes shown)) state old new r → DoesWith source command state old new r
+  shows command shown r is h = subst (λ (c : Command). DoesWith source c state old new r) (sym is) (by r h)
+    where
+      by : (r : Result ℕ CommandFault) → Does (λ s text. (s ≡ 0) × (text ≡ string_bytes shown)) state old new r → DoesWith source (Show shown) state old new r
+      by (Ok s) (text, said, w) = (text, of_any source.remaining (λ bytes. Says (Show shown) bytes s text) (λ bytes. (said.1, said.0)), w)
+      by (Err (Words e)) h = h
+      by (Err (Engine Read)) h = absurd h
+      by (Err (Engine Write)) h = h
+      by (Err (Engine OutOfMemory)) h = h
+      by (Err OtherProgram) h = h
+
+  -- The source failed, or memory ran out.
+  pub input_failed : (command : Command) (e : EngineFault) (r : Result ℕ CommandFault) → IsErrAnd r (λ y. y ≡ Engine e) → ¬ (e ≡ Write) → state new ≡ state old → DoesWith source command state old new r
+  input_failed command e (Ok s) is no_write same = absurd is
+  input_failed command e (Err y) is no_write same = subst (λ (z : CommandFault). DoesWith source command state old new (Err z)) (sym is) (by e no_write)
+    where
+      by : (e : EngineFault) → ¬ (e ≡ Write) → DoesWith source command state old new (Err (Engine e))
+      by Read no_write = same
+      by Write no_write = absurd (no_write refl)
+      by OutOfMemory no_write = ap (λ (t : Taken). t.failures) same
+
+  -- The text was read.
+  pub input_done : (command : Command) (left : Given) (text : Vec ℕ) (r : Result ℕ CommandFault) → ReadsText source left (Ok text) → Does (Says command text.items) state old new r → DoesWith source command state old new r
+  input_done command left text (Ok s) read (told, h, w) = (told, of_text source.remaining left.remaining text.items (λ bytes. Says command bytes s told) read.0 read.1 h, w)
+  input_done command left text (Err (Words e)) read h = h
+  input_done command left text (Err (Engine Read)) read h = absurd h
+  input_done command left text (Err (Engine Write)) read h = h
+  input_done command left text (Err (Engine OutOfMemory)) read h = h
+  input_done command left text (Err OtherProgram) read h = h
+
+asked : (command : Command) (old new : Given) (r : Result ℕ CommandFault) → ReadsOnce old new r → ReadsAsAsked command old new r
+asked (Check json) old new r h = h
+asked (Explain form) old new r h = h
+asked Keeps old new r h = h
+asked (Step schedule) old new r h = h
+asked (State schedule) old new r h = h
+asked (Moves moves state) old new r h = h
+asked (Find seed walks json) old new r h = h
+asked (Run seed limit summary) old new r h = h
+asked Emit old new r h = h
+asked (Show text) old new r h = tt
+
+-- a failure of the source
+failed : (X : Type 0) (old new : Given) (e : EngineFault) → CountsReads {X = X} old new (Err e) → ReadsOnce old new (Err (Engine e))
+failed X old new Read h = h
+failed X old new Write h = h
+failed X old new OutOfMemory h = h
+
+pub source_failed : (X : Type 0) (command : Command) (old new : Given) (r : Result ℕ CommandFault) (e : EngineFault) → IsErrAnd r (λ y. y ≡ Engine e) → CountsReads {X = X} old new (Err e) → ReadsAsAsked command old new r
+source_failed X command old new (Ok s) e h c = absurd h
+source_failed X command old new (Err y) e h c = asked command old new (Err y) (subst (λ z. ReadsOnce old new (Err z)) (sym h) (failed X old new e c))
+
+-- The text was read, and what followed reads nothing.
+was_read : {X S : Type 0} (says : ℕ → List ℕ → Type 0) (state : S → Taken) (a b : S) (old new : Given) (x : X) (r : Result ℕ CommandFault) → CountsReads old new (Ok x) → Does says state a b r → ReadsOnce old new r
+was_read says state a b old new x (Ok s) c h = c
+was_read says state a b old new x (Err (Words e)) c h = absurd h
+was_read says state a b old new x (Err (Engine Read)) c h = absurd h
+was_read says state a b old new x (Err (Engine Write)) c h = c
+was_read says state a b old new x (Err (Engine OutOfMemory)) c h = (c.0, omega (arith, c.1), c.2)
+was_read says state a b old new x (Err OtherProgram) c h = c
+
+pub text_was_read : {X S : Type 0} (command : Command) (says : ℕ → List ℕ → Type 0) (state : S → Taken) (a b : S) (old new : Given) (x : X) (r : Result ℕ CommandFault) → CountsReads old new (Ok x) → Does says state a b r → ReadsAsAsked command old new r
+text_was_read command says state a b old new x r c h = asked command old new r (was_read says state a b old new x r c h)

@@ -1,0 +1,139 @@
+-- What the program answers: of each command the exit status, and what it writes.
+use Rattle.std.specs.Global.{Vec}
+use Rattle.std.specs.Prelude.{ℕ, ℤ, ◌≡◌, ◌≤ℤ◌, pos, negsuc, ◌+◌, ◌⊎◌, Bool, true, false, List, None, Result, Ok, Err, string_bytes}
+use Rattle.rc_lang.specs.Program.{Program}
+use Rattle.rc_read.specs.Answer.{answer_of}
+use Rattle.rc_world.specs.declared.event.Event.{Event}
+use Rattle.rc_run.specs.declared.report.RunFault.TheVariants as fault
+use Rattle.rc_run.specs.declared.report.RunReport.{RunReport}
+use Rattle.rc_run.specs.Reports.{Tells}
+use Rattle.rc_report.specs.declared.engine_fault.EngineFault.TheVariants.{Read, Write, OutOfMemory}
+use Rattle.rc_report.specs.declared.step_engine.StepEnd.{StepEnd}
+use Rattle.rc_report.specs.declared.trace.End.{End}
+use Rattle.rc_report.specs.declared.trace.End.TheVariants as end
+use Rattle.rc_report.specs.declared.verdict.Verdict.{Verdict}
+use Rattle.rc_report.specs.Checks.{GivesVerdict, TellsVerdict}
+use Rattle.rc_report.specs.Engine.{EndsBy, stepped_text}
+use Rattle.rc_report.specs.Statuses.{status_of_end, status_of_step, status_of_verdict}
+use Rattle.rc_report.specs.Streams.{CountsReads, Given, OfBytes, Taken, Wrote}
+use Rattle.rc_report.specs.Summaries.{summary_text}
+use Rattle.rc_report.specs.Traces.{trace_text}
+use Rattle.rc_report.specs.Verdicts.{verdict_text}
+use Rattle.rc_explain.specs.Explains.{Explains}
+use Rattle.rc_find.specs.Finds.{Finds}
+use Rattle.rc_keeps.specs.Keeps.{GivesKept}
+use Rattle.rc_moves.specs.Moved.{EndsMoves, moved_text}
+use Rattle.rc_moves.specs.Stepping.{traced_by}
+use Rattle.rc_state.specs.Engine.{stepped_with_state}
+use Rattle.rc_command.specs.declared.fault.CommandFault.{CommandFault}
+use Rattle.rc_command.specs.declared.fault.CommandFault.TheVariants.{Words, Engine, OtherProgram}
+use Rattle.rc_command.specs.declared.words.Command.{Command}
+use Rattle.rc_command.specs.declared.words.Command.TheVariants.{Check, Explain, Keeps, Step, State, Moves, Find, Run, Emit, Show}
+
+-- ---- what each command says of the bytes of a text: the status, and the text that is written
+
+-- The status of `check` is that of the verdict on the bytes, which is written. `--explain` writes what explains it too, and
+-- `find` a run of a refused program into a fault, where it was found.
+abbrev pub SaysVerdict : (Verdict → List ℕ → Type 0) → ℕ → List ℕ → Type 0
+SaysVerdict told status text = (verdict : Verdict) × told verdict text × (status ≡ status_of_verdict verdict)
+
+-- The status of `step` is that of the end to which the program is stepped, and the trace or the verdict is written; with
+-- `--state` also the world in which the trace ends.
+abbrev pub SaysSteps : (List ℕ → List ℕ → List ℕ) → List ℕ → List ℕ → ℕ → List ℕ → Type 0
+SaysSteps stepped bytes schedule status text =
+    (end : StepEnd) × EndsBy (answer_of bytes) schedule end × (text ≡ stepped bytes schedule) × (status ≡ status_of_step end)
+
+-- The same where moves are given: they are stepped as the schedule that they spell.
+abbrev pub SaysMoves : List ℕ → List ℕ → Bool → ℕ → List ℕ → Type 0
+SaysMoves bytes moves state status text =
+    (end : StepEnd) × EndsMoves (answer_of bytes) moves end × (text ≡ moved_text (traced_by state bytes) (answer_of bytes) moves) × (status ≡ status_of_step end)
+
+-- The disk gives any result that a request may have.
+abbrev pub DiskGives : ℕ → ℤ → Type 0
+DiskGives user_data res = (negsuc 4094 ≤ℤ res) × (res ≤ℤ pos 4096)
+
+-- A run with this report ended so.
+abbrev pub EndsRun : Program → ℕ → RunReport → End → Type 0
+EndsRun program limit report (end.Fault f) = ⊥
+EndsRun program limit report (end.NotEnabled i) = ⊥
+EndsRun program limit report end.Ended = Tells DiskGives program limit (Ok report)
+EndsRun program limit report end.Stopped = ⊥
+EndsRun program limit report end.Limit = Tells DiskGives program limit (Err (fault.Limit report))
+EndsRun program limit report end.Memory = Tells DiskGives program limit (Err (fault.OutOfMemory report))
+
+-- what is written of a run: a summary, or the trace
+abbrev pub summary_or_trace : Bool → List ℕ → Program → List Event → End → List ℕ
+summary_or_trace true bytes program events end = summary_text bytes program events end
+summary_or_trace false bytes program events end = trace_text program events end
+
+-- The program of these bytes ran, and what happened is written.
+abbrev pub SaysRun : List ℕ → Program → ℕ → Bool → ℕ → List ℕ → Type 0
+SaysRun bytes program limit summary status text =
+    (report : RunReport) × (end : End) × EndsRun program limit report end
+    × (text ≡ summary_or_trace summary bytes program report.history.items end) × (status ≡ status_of_end end)
+
+-- An accepted program is answered so; and another text with the verdict that says why it isn't one.
+abbrev pub SaysAdmitted : List ℕ → (Program → ℕ → List ℕ → Type 0) → ℕ → List ℕ → Type 0
+SaysAdmitted bytes says status text =
+    ((program : Program) × GivesVerdict (answer_of bytes) (Ok program) × says program status text)
+    ⊎ ((verdict : Verdict) × GivesVerdict (answer_of bytes) (Err verdict) × (text ≡ verdict_text verdict) × (status ≡ status_of_verdict verdict))
+
+-- A text that can be read is answered with what is kept in it, and another with its verdict.
+abbrev pub SaysKept : List ℕ → ℕ → List ℕ → Type 0
+SaysKept bytes status text =
+    ((kept : Vec ℕ) × GivesKept bytes (Ok kept) × (text ≡ kept.items) × (status ≡ 0))
+    ⊎ ((verdict : Verdict) × GivesKept bytes (Err verdict)
+    × (text ≡ verdict_text verdict) × (status ≡ status_of_verdict verdict))
+
+-- What the C of a program is no contract says.
+abbrev pub Says : Command → List ℕ → ℕ → List ℕ → Type 0
+Says (Check json) bytes status text = SaysVerdict (TellsVerdict bytes json) status text
+Says (Explain form) bytes status text = SaysVerdict (Explains bytes None form) status text
+Says Keeps bytes status text = SaysKept bytes status text
+Says (Step schedule) bytes status text = SaysSteps stepped_text bytes schedule.now status text
+Says (State schedule) bytes status text = SaysSteps stepped_with_state bytes schedule.now status text
+Says (Find seed walks json) bytes status text = SaysVerdict (Finds bytes walks json) status text
+Says (Moves moves state) bytes status text = SaysMoves bytes moves.items state status text
+Says (Run seed limit summary) bytes status text =
+    SaysAdmitted bytes (λ program. SaysRun bytes program limit summary) status text
+Says Emit bytes status text = SaysAdmitted bytes (λ program status text. status ≡ 0) status text
+Says (Show shown) bytes status text = (text ≡ string_bytes shown) × (status ≡ 0)
+
+-- ---- what a command leaves
+
+-- Where there is no status, a failed write is answered, which counts, and only that.
+abbrev pub Fails : Taken → Taken → CommandFault → Type 0
+Fails old new (Words e) = ⊥
+Fails old new (Engine Read) = ⊥
+Fails old new (Engine Write) = new.failures ≡ old.failures + 1
+Fails old new (Engine OutOfMemory) = new.failures ≡ old.failures
+Fails old new OtherProgram = new.failures ≡ old.failures
+
+-- Such a status is answered, and such a text is written whole.
+abbrev pub Does : {S : Type 0} → (ℕ → List ℕ → Type 0) → (S → Taken) → S → S → Result ℕ CommandFault → Type 0
+Does says state old new (Ok status) = (text : List ℕ) × says status text × Wrote (state old) (state new) text
+Does says state old new (Err e) = Fails (state old) (state new) e
+
+-- The same with the bytes of a source. Where they can't be read nothing is written.
+abbrev pub SaysOf : Given → Command → ℕ → List ℕ → Type 0
+SaysOf source command status text = OfBytes source.remaining (λ bytes. Says command bytes status text)
+
+abbrev pub DoesWith : {S : Type 0} → Given → Command → (S → Taken) → S → S → Result ℕ CommandFault → Type 0
+DoesWith source command state old new (Ok status) = Does (SaysOf source command) state old new (Ok status)
+DoesWith source command state old new (Err (Words e)) = ⊥
+DoesWith source command state old new (Err (Engine Read)) = state new ≡ state old
+DoesWith source command state old new (Err (Engine Write)) = Fails (state old) (state new) (Engine Write)
+DoesWith source command state old new (Err (Engine OutOfMemory)) = Fails (state old) (state new) (Engine OutOfMemory)
+DoesWith source command state old new (Err OtherProgram) = Fails (state old) (state new) OtherProgram
+
+-- A failure of the source is answered, or that it has no end, and only these; nothing is read after the end.
+abbrev pub ReadsOnce : Given → Given → Result ℕ CommandFault → Type 0
+ReadsOnce old new (Ok status) = CountsReads {X = ℕ} old new (Ok status)
+ReadsOnce old new (Err (Words e)) = ⊥
+ReadsOnce old new (Err (Engine e)) = CountsReads {X = ℕ} old new (Err e)
+ReadsOnce old new (Err OtherProgram) = CountsReads {X = ℕ} old new (Ok 3)
+
+-- The same of each command that reads.
+abbrev pub ReadsAsAsked : Command → Given → Given → Result ℕ CommandFault → Type 0
+ReadsAsAsked (Show text) old new r = Unit {0}
+ReadsAsAsked command old new r = ReadsOnce old new r

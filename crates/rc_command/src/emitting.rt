@@ -1,0 +1,29 @@
+//! An accepted text is written as a C program over liburing.
+
+ghost use Rattle.std.specs.Prelude.{◌≡◌};
+ghost use Rattle.rc_command.specs.Answers.{Does, SaysAdmitted};
+ghost use Rattle.rc_report.specs.Streams.{CanWrite};
+
+use crate::fault::CommandFault;
+use crate::output::write_answer;
+use crate::running::tell_verdict;
+use rc_emit::put_c;
+use rc_report::check_engine::judged;
+use rc_report::status::GOOD_STATUS;
+use rc_report::streams::Sink;
+use std::alloc::Global;
+
+/// Writes the accepted program of a text in C. A text that can't be read or is refused is answered with its verdict.
+pub fn emit_text<S: Sink>(alloc: Global, text: &[u8], sink: &mut S) -> Result<u8, CommandFault>
+    requires { CanWrite (S.state sink.old) }
+    ensures { Does (SaysAdmitted text.now (λ program status text. status ≡ 0)) S.state sink.old sink.new result }
+{
+    match judged(alloc, text)? {
+        Ok(admitted) => {
+            let mut answer = Vec::new(alloc);
+            put_c(&mut answer, text, admitted.program())?;
+            write_answer(sink, &answer, GOOD_STATUS)
+        }
+        Err(verdict) => tell_verdict(alloc, verdict, sink),
+    }
+}

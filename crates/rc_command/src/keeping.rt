@@ -1,0 +1,24 @@
+//! A text is printed with the items that its loops can keep.
+
+ghost use Rattle.rc_command.specs.Answers.{Does, SaysKept};
+ghost use Rattle.rc_report.specs.Streams.{CanWrite};
+
+use crate::fault::CommandFault;
+use crate::output::write_answer;
+use crate::running::tell_verdict;
+use rc_keeps::engine::kept_text;
+use rc_report::status::GOOD_STATUS;
+use rc_report::streams::Sink;
+use std::alloc::Global;
+
+/// Writes a text with the items of its loops as large as the loops can keep them. A text that can't be read is answered
+/// with its verdict.
+pub fn keep_text<S: Sink>(alloc: Global, text: &[u8], sink: &mut S) -> Result<u8, CommandFault>
+    requires { CanWrite (S.state sink.old) }
+    ensures { Does (SaysKept text.now) S.state sink.old sink.new result }
+{
+    match kept_text(alloc, text)? {
+        Ok(kept) => write_answer(sink, &kept, GOOD_STATUS),
+        Err(verdict) => tell_verdict(alloc, verdict, sink),
+    }
+}

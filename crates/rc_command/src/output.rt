@@ -1,0 +1,52 @@
+//! Standard output.
+
+ghost use Rattle.std.specs.Prelude.{◌≡◌};
+ghost use Rattle.rc_command.specs.Answers.{Does};
+ghost use Rattle.rc_report.specs.Streams.{CanWrite};
+
+use crate::fault::CommandFault;
+use rc_report::streams::Sink;
+use rc_report::writing::write_piece;
+use std::io::{self, ErrorKind, Write};
+
+/// A writer that notes whether nobody reads what it writes any more, as after `head` has ended (`pipe(7)`).
+#[derive(Drop)]
+pub struct Output<'a, W> {
+    /// What is written to.
+    pub writer: W,
+    /// Whether a write failed since nobody reads.
+    pub is_closed: &'a mut bool,
+}
+
+impl<'a, W: Write> Write for Output<'a, W> {
+    ghost contents = { λ output. W.contents output.writer };
+
+    fn write(&mut self, piece: &[u8]) -> io::Result<usize> {
+        match self.writer.write(piece) {
+            Ok(count) => Ok(count),
+            Err(error) => {
+                *self.is_closed = error.kind() == ErrorKind::BrokenPipe;
+                Err(error)
+            }
+        }
+    }
+
+    fn flush(&mut self) -> io::Result<()> {
+        match self.writer.flush() {
+            Ok(()) => Ok(()),
+            Err(error) => {
+                *self.is_closed = error.kind() == ErrorKind::BrokenPipe;
+                Err(error)
+            }
+        }
+    }
+}
+
+/// Writes the text of an answer, and answers its status.
+pub fn write_answer<S: Sink>(sink: &mut S, answer: &[u8], status: u8) -> Result<u8, CommandFault>
+    requires { CanWrite (S.state sink.old) }
+    ensures { Does (λ s text. (s ≡ status) × (text ≡ answer.now)) S.state sink.old sink.new result }
+{
+    write_piece(sink, answer)?;
+    Ok(status)
+}

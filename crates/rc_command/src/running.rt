@@ -1,0 +1,120 @@
+//! A text is run on threads, and the trace of the run is written.
+
+ghost use Rattle.std.specs.Prelude.{◌≡◌, IfErr, IfOk};
+ghost use Rattle.std.specs.Arc.{arc_value};
+ghost use Rattle.rc_command.specs.Answers.{Does, EndsRun, SaysAdmitted, SaysRun};
+ghost use Rattle.rc_command.specs.declared.fault.CommandFault.TheVariants.{OtherProgram};
+ghost use Rattle.rc_report.specs.Statuses.{status_of_verdict};
+ghost use Rattle.rc_report.specs.Streams.{CanWrite};
+ghost use Rattle.rc_report.specs.Verdicts.{verdict_text};
+
+use crate::fault::CommandFault;
+use crate::output::write_answer;
+use rc_admit::admitted::Admitted;
+use rc_device::chooser::Seeded;
+use rc_device::disk::Disk;
+use rc_report::check_engine::judged;
+use rc_report::source::Lines;
+use rc_report::streams::Sink;
+use rc_report::summary::put_summary;
+use rc_report::trace::{End, trace_text};
+use rc_report::verdict::{Verdict, put_verdict};
+use rc_run::gate::OpenGate;
+use rc_run::report::{RunFault, RunReport};
+use rc_run::runner::run;
+use std::alloc::{AllocError, Global};
+use std::sync::{Arc, Wait};
+use std::thread::Threads;
+
+/// Runs the program of a text, over files in memory, with the choices of a seed. A text that can't be read or is refused
+/// is answered with its verdict.
+pub fn run_text<R: Threads + Wait + Sync, S: Sink>(
+    rt: &R,
+    alloc: Global,
+    text: &[u8],
+    seed: u32,
+    limit: u32,
+    summary: bool,
+    sink: &mut S,
+) -> Result<u8, CommandFault>
+    requires { CanWrite (S.state sink.old) }
+    ensures { Does (SaysAdmitted text.now (λ program. SaysRun text.now program limit summary))
+        S.state sink.old sink.new result }
+{
+    match judged(alloc, text)? {
+        Ok(admitted) => run_admitted(rt, alloc, text, admitted, seed, limit, summary, sink),
+        Err(verdict) => tell_verdict(alloc, verdict, sink),
+    }
+}
+
+/// Writes a verdict, and answers its status.
+pub fn tell_verdict<S: Sink>(
+    alloc: Global,
+    verdict: Verdict,
+    sink: &mut S,
+) -> Result<u8, CommandFault>
+    requires { CanWrite (S.state sink.old) }
+    ensures { Does (λ status text. (text ≡ verdict_text verdict) × (status ≡ status_of_verdict verdict)) S.state sink.old sink.new result }
+{
+    let mut answer = Vec::new(alloc);
+    put_verdict(&mut answer, &verdict)?;
+    write_answer(sink, &answer, verdict.status())
+}
+
+/// Runs the admitted program of a text, and writes the trace or the summary.
+fn run_admitted<R: Threads + Wait + Sync, S: Sink>(
+    rt: &R,
+    alloc: Global,
+    text: &[u8],
+    admitted: Admitted,
+    seed: u32,
+    limit: u32,
+    summary: bool,
+    sink: &mut S,
+) -> Result<u8, CommandFault>
+    requires { CanWrite (S.state sink.old) }
+    ensures { Does (SaysRun text.now admitted limit summary) S.state sink.old sink.new result }
+{
+    let disk = Disk::new(alloc, admitted.program())?;
+    let admitted = Arc::new(alloc, admitted).map_err(|_| AllocError)?;
+    let theirs = Arc::try_clone(&admitted)?;
+    let (report, end) = played(rt, alloc, theirs, disk, seed, limit)?;
+    if summary {
+        let mut answer = Vec::new(alloc);
+        let lines = Lines::of(alloc, text)?;
+        let program = admitted.program();
+        put_summary(&mut answer, alloc, &lines, program, &report.history, end)?;
+        return write_answer(sink, &answer, end.status());
+    }
+    trace_text(admitted.program(), &report.history, end, sink)?;
+    Ok(end.status())
+}
+
+/// What a run did, and how it ended.
+fn played<R: Threads + Wait + Sync>(
+    rt: &R,
+    alloc: Global,
+    admitted: Arc<Admitted, Global>,
+    disk: Disk,
+    seed: u32,
+    limit: u32,
+) -> Result<(RunReport, End), CommandFault>
+    ensures end { IfOk result (λ r. EndsRun (arc_value admitted) limit r.0 r.1) }
+    ensures fault { IfErr result (λ e. e ≡ OtherProgram) }
+{
+    let chooser = Seeded::new(u64::from(seed));
+    match run(
+        rt,
+        alloc,
+        admitted,
+        disk,
+        chooser,
+        OpenGate,
+        u64::from(limit),
+    ) {
+        Ok(report) => Ok((report, End::Ended)),
+        Err(RunFault::Limit(report)) => Ok((report, End::Limit)),
+        Err(RunFault::OutOfMemory(report)) => Ok((report, End::Memory)),
+        Err(RunFault::OtherProgram) => Err(CommandFault::OtherProgram),
+    }
+}
