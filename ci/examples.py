@@ -3,9 +3,9 @@
 
 usage: ci/examples.py [--write]
 
-rc_examples has a constant for each program of examples/ that a test names, named as its file. Without --write nothing is
-changed, and the status is 1 where a text of the crate differs from its file by so much as a byte, one is missing, or one
-is there that no test names.
+rc_examples has a constant for each program of examples/ that a test names, named as its file. Without --write nothing
+is changed, and the status is 1 where a text of the crate differs from its file by so much as a byte, one is missing, or
+one is there that no test names.
 """
 
 import difflib

@@ -45,19 +45,19 @@ These lines make a text, one after another:
     * 300 LINE       adds a line, or several with ` / ` between them, so often; % is the number of the turn, from 0
     ~ OLD => NEW     replaces what stands there exactly once
 
-In these, and in words, `\\n`, `\\r`, `\\t`, `\\\\` and `\\xHH` are bytes. No line feed follows a line that ends with `\\`. In
-words `\\x20` is a blank, and {NAME} the text of that name.
+In these, and in words, `\\n`, `\\r`, `\\t`, `\\\\` and `\\xHH` are bytes. No line feed follows a line that ends with
+`\\`. In words `\\x20` is a blank, and {NAME} the text of that name.
 
 Lines of output are bytes as they are. Besides `> LINE` there are `>> NAME`, which is a whole text as of `<`; `>^ LINE`,
 a line that begins so; and `>..`, any lines.
 
-In a table the status follows from the first word of the last line of output: accepted, stopped and ended 0, refused and
-fault 1, unreadable 2. `cut N` stands for each beginning of the text, up to N bytes, that isn't in a line above; the last
-N is the whole text.
+In a table the output has one line, or several with ` / ` between them, and the status follows from the first word of
+the last: accepted, stopped and ended 0, refused and fault 1, unreadable 2. `cut N` stands for each beginning of the
+text, up to N bytes, that isn't in a line above; the last N is the whole text.
 
-Names of tables and rows are unique in the folder, and each text and file of it is used. A file of rows that isn't so is
-told, with its line, and the status is 2. Otherwise each difference is printed, and how many rows there are; the status is
-1 where one is wrong.
+Names of tables and rows are unique in the folder, and each text and file is used. A file of rows that isn't so is told,
+with its line, and the status is 2. Otherwise each difference is printed, and how many rows there are; the status is 1
+where one is wrong.
 """
 
 import difflib
