@@ -9,7 +9,7 @@ ghost use Rattle.rc_report.specs.Streams.{CanWrite, Writes};
 
 use crate::engine_fault::EngineFault;
 use crate::streams::Sink;
-use crate::writing::write_pieces;
+use crate::writing::{write_piece, write_pieces};
 use itoa::Buffer;
 use rc_lang::lines::Locks;
 use rc_lang::program::Program;
@@ -176,7 +176,7 @@ pub fn write_event_line<W: Sink>(
             let name = thread_name(program, thread);
             let line = at.format(line).as_bytes();
             let words = words_of(action, &mut first, &mut second);
-            write_pieces(writer, &thread_pieces(number, name, line, words))
+            write_thread_line(writer, number, name, line, words)
         }
         Event::ByKernel(completion) => {
             let user_data = first.format(completion.user_data).as_bytes();
@@ -186,14 +186,17 @@ pub fn write_event_line<W: Sink>(
     }
 }
 
-/// The pieces of the line of a thread's event.
-fn thread_pieces<'a>(
-    number: &'a [u8],
-    name: &'a [u8],
-    line: &'a [u8],
-    words: Words<'a>,
-) -> [&'a [u8]; 10]
-    ensures { flat_map (λ p. p.now) result ≡ thread_line number.now name.now line.now (words_text words.entry) }
+/// Writes the line of a thread's event. Each piece is a call of its own, so that those that never change are stored
+/// where they are written.
+fn write_thread_line<W: Sink>(
+    writer: &mut W,
+    number: &[u8],
+    name: &[u8],
+    line: &[u8],
+    words: Words<'_>,
+) -> Result<(), EngineFault>
+    requires { CanWrite (W.state writer.old) }
+    ensures { Writes W.state writer.old writer.new (thread_line number.now name.now line.now (words_text words.entry)) result }
 {
     let Words {
         word,
@@ -201,7 +204,11 @@ fn thread_pieces<'a>(
         between,
         second,
     } = words;
-    [
-        number, b" ", name, b" ", line, word, first, between, second, b"\n",
-    ]
+    write_piece(writer, number)?;
+    write_piece(writer, b" ")?;
+    write_piece(writer, name)?;
+    write_piece(writer, b" ")?;
+    write_piece(writer, line)?;
+    write_pieces(writer, &[word, first, between, second])?;
+    write_piece(writer, b"\n")
 }

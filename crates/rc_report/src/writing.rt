@@ -7,7 +7,9 @@ ghost use Rattle.rc_report.specs.Streams.{CanWrite, Writes};
 use crate::engine_fault::EngineFault;
 use crate::streams::Sink;
 
-/// Writes a piece, in as many writes as it takes.
+/// Writes a piece, in as many writes as it takes. It is a part of its callers, so that a buffer stores a piece of known
+/// length where it is written.
+#[inline(always)]
 pub fn write_piece<W: Sink>(writer: &mut W, piece: &[u8]) -> Result<(), EngineFault>
     requires { CanWrite (W.state writer.old) }
     ensures { Writes W.state writer.old writer.new piece.now result }
@@ -23,6 +25,7 @@ pub fn write_piece<W: Sink>(writer: &mut W, piece: &[u8]) -> Result<(), EngineFa
 }
 
 /// Writes these pieces one after another.
+#[inline(always)]
 pub fn write_pieces<W: Sink>(writer: &mut W, pieces: &[&[u8]]) -> Result<(), EngineFault>
     requires { CanWrite (W.state writer.old) }
     ensures { Writes W.state writer.old writer.new (flat_map (λ p. p.now) pieces.now) result }
