@@ -137,7 +137,9 @@ impl Controls {
         })
     }
 
-    /// What the thread with this number has next.
+    /// What the thread with this number has next. It is a part of its callers, most of which look at its kind alone, so
+    /// that the line isn't copied for them.
+    #[inline(always)]
     pub fn next(&self, program: &Program, thread: u32) -> Next
         ensures { result ≡ next_of program.now self.now thread }
     {

@@ -133,6 +133,7 @@ impl<'a> World<'a> {
     }
 
     /// What the thread with this number has next.
+    #[inline(always)]
     pub fn next(&self, thread: u32) -> Next
         ensures { result ≡ items.next_of self.now.program self.now.controls thread }
     {

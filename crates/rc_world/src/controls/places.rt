@@ -11,6 +11,7 @@ use rc_lang::lines::{Line, Stmt};
 use rc_lang::program::Program;
 
 // What a thread has next that is at this line.
+#[inline(always)]
 pub(super) fn ready_or_taken(holders: Holders, line: Line) -> Next
     ensures { result ≡ ready_or_taken holders line line.stmt }
 {

@@ -9,7 +9,7 @@ ghost use Rattle.rc_world.specs.WorldParts.{view_access};
 
 use super::statements::{Access, access_of, is_cq_call, is_out_at, is_raw_at, is_sq_call};
 use crate::world::World;
-use rc_lang::lines::{Line, Op, Stmt, Test};
+use rc_lang::lines::{Line, Op, Stmt};
 
 impl<'a> World<'a> {
     // Whether there may be a fault at all, by one pass over the threads.
@@ -58,12 +58,8 @@ impl<'a> World<'a> {
             Stmt::Do(Op::Subtract(_, _, _)) => false,
             Stmt::Do(Op::Print(_)) => false,
             Stmt::Do(_) => self.harms(thread, stmt),
-            Stmt::If(Test::Compare(_, _, _)) => false,
-            Stmt::If(_) => self.harms(thread, stmt),
-            Stmt::Peek(_) => self.harms(thread, stmt),
-            Stmt::EndLock(_, _) => self.harms(thread, stmt),
-            Stmt::Break(_, _, _) => self.harms(thread, stmt),
-            Stmt::Put(_, _) => self.harms(thread, stmt),
+            Stmt::Put(_, _) | Stmt::EndLock(_, _) | Stmt::If(_) => self.harms(thread, stmt),
+            Stmt::Peek(_) | Stmt::Break(_, _, _) => self.harms(thread, stmt),
             _ => false,
         }
     }
