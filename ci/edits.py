@@ -4,8 +4,8 @@
 usage: ci/edits.py
 
 An edit is a file of crates/NAME/must-fail or of audit/rules. After lines that begin with '#' it has pairs of lines
-'old: TEXT' and 'new: TEXT' for the file that the last line 'file: PATH' named. Each old TEXT stands there exactly once,
-as the pairs before it left the file. The edits of a crate name its files, each TEXT as it stands; a wrong rule names
+'old: TEXT' and 'new: TEXT' for the file that the last line 'file: PATH' named. Each old TEXT is there exactly once,
+as the pairs before it left the file. The edits of a crate name its files, each TEXT as it is; a wrong rule names
 files below crates/, and a \\n in its TEXT is a line's end. The status is 1 where an edit doesn't apply.
 """
 

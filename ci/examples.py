@@ -30,7 +30,7 @@ def written(character):
 def literal(path):
     """The bytes of a file as a text of the crate. Its lines begin at the left, as in the file."""
     text = path.read_bytes().decode()
-    # Behind a backslash at a line's end blanks are no part of a text.
+    # After a backslash at a line's end blanks are no part of a text.
     start = "" if text[:1].isspace() else "\\\n"
     return '"' + start + "".join(map(written, text)) + '"'
 

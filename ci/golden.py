@@ -3,15 +3,15 @@
 
 usage: ci/golden.py PROGRAM [--write]
 
-Beside each text NAME.rc stands its record NAME.out. It has blocks: a line `$ WORDS`, what the program prints for these
+Beside each text NAME.rc is its record NAME.out. It has blocks: a line `$ WORDS`, what the program prints for these
 words with the text as its input, and a line `status S`. Most have `check --explain`, as lines and as JSON; some have
 `--listing` too, `c` or `step --state`. Each fault of examples/causes, and each broken.rc of the gallery, has `find` with three seeds. An
-object stands on several lines there: a comma begins one, but within what is said of a line.
+object has several lines there: a comma begins one, but within what is said of a line.
 
 Each file NAME.c of examples/c is what `PROGRAM c` prints for NAME.rc there, or for examples/NAME.rc.
 
-The file hints of examples/explained has many short texts. Behind each of them stand, after `=> `, the verdict and the
-hint, and the object of --json has to say the same. In these texts `\\xHH` is a byte.
+The file hints of examples/explained has many short texts. Each is followed by lines that begin with `=> `, the verdict
+and the hint, and the object of --json has to say the same. In these texts `\\xHH` is a byte.
 
 --write takes what is printed into the records, for the words that stand there, and for a text without a record for
 `check --explain`: read what it wrote. Without it the status is 1 where a record differs by so much as a byte. The test
@@ -39,7 +39,7 @@ SHOWN = 12
 
 
 def text_of(file):
-    """What stands in a file, a character for each byte."""
+    """What is in a file, a character for each byte."""
     return file.read_bytes().decode("latin-1")
 
 
@@ -100,7 +100,7 @@ def c_programs(program):
 
 
 def records(program):
-    """Each record: its file, what stands there, and what should."""
+    """Each record: its file, what is there, and what should be."""
     yield from c_programs(program)
     texts = sorted(path for folder in FOLDERS for path in folder.glob("*.rc"))
     for path in [*texts, *sorted(TOP.glob(f"{TWINS}.rc"))]:

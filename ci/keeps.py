@@ -5,7 +5,7 @@ usage: ci/keeps.py PROGRAM
 
 Each text is tried as it is, and with the lists of its loops empty. What is printed has to be accepted, to differ in the
 lists of loops alone, to keep at least what the author's lists keep, and to be printed again as it is. Empty lists are
-tried in four layouts too: indented by tabs, with a comment behind each brace, with carriage returns, and without a last
+tried in four layouts too: indented by tabs, with a comment after each brace, with carriage returns, and without a last
 line feed. Then come texts with the lists that their loops get: most have a loop that no list helps, or not far. A line
 is printed for each text that isn't as it should be. The status is 1 where one isn't.
 """
@@ -85,7 +85,7 @@ LISTS = [
     ),
     (
         "a list that doesn't fit its line",
-        LONG + f"thread t0 holds{MOST} {{; loop keeps c:1 {{  # with a comment behind the brace; }}; }}",
+        LONG + f"thread t0 holds{MOST} {{; loop keeps c:1 {{  # with a comment after the brace; }}; }}",
         [" c:1 "],
     ),
     (

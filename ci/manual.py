@@ -4,7 +4,7 @@
 usage: ci/manual.py [PROGRAM]
 
 Without PROGRAM the words are those of the source, crates/rc_command/src/usage.rt; with it those that its --help tells. The
-status is 1 where a command or an option stands on one side alone, or where mandoc, if it is there, warns of the page.
+status is 1 where a command or an option is on one side alone, or where mandoc, if it is there, warns of the page.
 """
 
 import re
@@ -57,7 +57,7 @@ def of_program(program):
 
 
 def differences(page, program):
-    """What stands on one side alone."""
+    """What is on one side alone."""
     for name in sorted(page.keys() | program.keys()):
         if name not in program:
             yield f"the manual page has the command {name}, and the program hasn't"
