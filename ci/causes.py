@@ -1,5 +1,5 @@
 #!/usr/bin/env python3
-"""Holds what the crate rc_explain says of each cause against docs/causes.md, or writes it there.
+"""Holds what the crate rc_sentences says of each cause against docs/causes.md, or writes it there.
 
 usage: ci/causes.py [--write]
 
@@ -16,7 +16,7 @@ from pathlib import Path
 
 TOP = Path(__file__).resolve().parent.parent
 DOCUMENT = TOP / "docs" / "causes.md"
-SOURCE = TOP / "crates" / "rc_explain" / "src" / "causes.rt"
+SOURCE = TOP / "crates" / "rc_sentences" / "src" / "causes.rt"
 FUNCTION = re.compile(r"^fn (sentence|mend)_of_(read|rule)\b.*?^}", re.M | re.S)
 ARM = re.compile(r'\w+::(\w+) =>\s*\{?\s*"((?:[^"\\]|\\.)*)"')
 HEADING = re.compile(r"^### [PV]\d+ (\w+)\n\n(.*(?:\n.+)*)\n", re.M)

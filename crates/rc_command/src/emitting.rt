@@ -7,7 +7,7 @@ ghost use Rattle.rc_report.specs.Streams.{CanWrite};
 use crate::fault::CommandFault;
 use crate::output::write_answer;
 use crate::running::tell_verdict;
-use rc_emit::put_c;
+use rc_emit::c_text;
 use rc_report::check_engine::judged;
 use rc_report::status::GOOD_STATUS;
 use rc_report::streams::Sink;
@@ -20,8 +20,7 @@ pub fn emit_text<S: Sink>(alloc: Global, text: &[u8], sink: &mut S) -> Result<u8
 {
     match judged(alloc, text)? {
         Ok(admitted) => {
-            let mut answer = Vec::new(alloc);
-            put_c(&mut answer, text, admitted.program())?;
+            let answer = c_text(alloc, text, admitted.program())?;
             write_answer(sink, &answer, GOOD_STATUS)
         }
         Err(verdict) => tell_verdict(alloc, verdict, sink),

@@ -1,7 +1,7 @@
 //! Hints on texts that are long, and on one that is short; `examples/explained/hints` has those of each cause.
 
 use rc_admit::admitted::{Judged, judge};
-use rc_explain::hint::put_hint;
+use rc_hints::hint::put_hint;
 use rc_report::source::Lines;
 use std::alloc::{AllocError, Global};
 

@@ -1,16 +1,13 @@
 //! Blocks of statements.
 
-ghost use Rattle.rc_emit.specs.Text.{Grows};
-
-use crate::lines::{
-    put_closing, put_comment, put_event, put_indentation, put_line, put_source, put_text,
-};
+use crate::lines::{put_closing, put_comment, put_event, put_indentation, put_line, put_source};
 use crate::locks::{put_end_lock, put_lock, put_unlock};
 use crate::operations::put_op;
 use crate::place::Place;
 use crate::pool::{put_pool_unlock, put_put, put_take};
 use crate::terms::operator;
 use rc_lang::lines::{Comparison, Locks, Stmt, Test};
+use rc_report::text::{put_piece, put_pieces};
 use std::alloc::AllocError;
 
 /// How many blocks of C are open after a line, of so many before it.
@@ -39,9 +36,7 @@ pub fn depth_of(stmt: Stmt, depth: usize) -> usize {
 }
 
 /// Adds a statement.
-pub fn put_stmt(text: &mut Vec<u8>, place: Place<'_>, stmt: Stmt) -> Result<(), AllocError>
-    ensures { Grows text.old text.new result }
-{
+pub fn put_stmt(text: &mut Vec<u8>, place: Place<'_>, stmt: Stmt) -> Result<(), AllocError> {
     match stmt {
         Stmt::Do(op) => put_op(text, place, op),
         Stmt::Put(pool, list) => put_put(text, place, pool, list),
@@ -61,9 +56,7 @@ pub fn put_stmt(text: &mut Vec<u8>, place: Place<'_>, stmt: Stmt) -> Result<(), 
 }
 
 /// Adds what an if asks.
-fn put_test(text: &mut Vec<u8>, place: Place<'_>, test: Test) -> Result<(), AllocError>
-    ensures { Grows text.old text.new result }
-{
+fn put_test(text: &mut Vec<u8>, place: Place<'_>, test: Test) -> Result<(), AllocError> {
     match test {
         Test::Compare(x, comparison, number) => put_comparison(text, place, x, comparison, number),
         Test::ReadyZero => put_line(text, place, &[b"yes = io_uring_sq_ready(&ring) == 0;"]),
@@ -78,9 +71,7 @@ fn put_comparison(
     x: usize,
     comparison: Comparison,
     number: i64,
-) -> Result<(), AllocError>
-    ensures { Grows text.old text.new result }
-{
+) -> Result<(), AllocError> {
     let x = place.variable(x)?;
     let number = place.signed(number)?;
     put_line(
@@ -99,9 +90,7 @@ fn put_comparison(
 }
 
 // As a comparison of unsigned numbers a compiler may find it to be always true.
-fn put_space(text: &mut Vec<u8>, place: Place<'_>, count: u32) -> Result<(), AllocError>
-    ensures { Grows text.old text.new result }
-{
+fn put_space(text: &mut Vec<u8>, place: Place<'_>, count: u32) -> Result<(), AllocError> {
     let count = place.decimal(u64::from(count))?;
     put_line(
         text,
@@ -112,9 +101,7 @@ fn put_space(text: &mut Vec<u8>, place: Place<'_>, count: u32) -> Result<(), All
 }
 
 /// Adds the beginning of an if.
-fn put_if(text: &mut Vec<u8>, place: Place<'_>, test: Test) -> Result<(), AllocError>
-    ensures { Grows text.old text.new result }
-{
+fn put_if(text: &mut Vec<u8>, place: Place<'_>, test: Test) -> Result<(), AllocError> {
     put_source(text, place)?;
     put_test(text, place, test)?;
     put_event(text, place, &[b"if %s\", yes ? \"yes\" : \"no\""])?;
@@ -123,9 +110,7 @@ fn put_if(text: &mut Vec<u8>, place: Place<'_>, test: Test) -> Result<(), AllocE
 }
 
 /// Adds that the mutex of a pool that was asked is released.
-fn put_after_test(text: &mut Vec<u8>, place: Place<'_>, test: Test) -> Result<(), AllocError>
-    ensures { Grows text.old text.new result }
-{
+fn put_after_test(text: &mut Vec<u8>, place: Place<'_>, test: Test) -> Result<(), AllocError> {
     match test {
         Test::Take(pool, _) => put_pool_unlock(text, place, pool),
         Test::Compare(_, _, _) | Test::ReadyZero | Test::SpaceAtLeast(_) => Ok(()),
@@ -133,18 +118,14 @@ fn put_after_test(text: &mut Vec<u8>, place: Place<'_>, test: Test) -> Result<()
 }
 
 /// Adds the beginning of a second branch.
-fn put_else(text: &mut Vec<u8>, place: Place<'_>) -> Result<(), AllocError>
-    ensures { Grows text.old text.new result }
-{
+fn put_else(text: &mut Vec<u8>, place: Place<'_>) -> Result<(), AllocError> {
     put_indentation(text, place.depth)?;
-    put_text(text, &[b"} else { "])?;
+    put_piece(text, b"} else { ")?;
     put_comment(text, place)
 }
 
 /// Adds a peek before its arms: its answer, and what is logged of it.
-fn put_peek(text: &mut Vec<u8>, place: Place<'_>, x: usize) -> Result<(), AllocError>
-    ensures { Grows text.old text.new result }
-{
+fn put_peek(text: &mut Vec<u8>, place: Place<'_>, x: usize) -> Result<(), AllocError> {
     let x = place.variable(x)?;
     put_source(text, place)?;
     put_line(text, place, &[b"answer = io_uring_peek_cqe(&ring, &cqe);"])?;
@@ -154,9 +135,7 @@ fn put_peek(text: &mut Vec<u8>, place: Place<'_>, x: usize) -> Result<(), AllocE
 }
 
 /// Adds what a peek does that finds a completion.
-fn put_found(text: &mut Vec<u8>, place: Place<'_>, x: &[u8]) -> Result<(), AllocError>
-    ensures { Grows text.old text.new result }
-{
+fn put_found(text: &mut Vec<u8>, place: Place<'_>, x: &[u8]) -> Result<(), AllocError> {
     let deeper = place.deeper();
     put_line(text, place, &[b"if (answer == 0) {"])?;
     put_line(text, deeper, &[x, b" = cqe->res;"])?;
@@ -172,9 +151,7 @@ fn put_found(text: &mut Vec<u8>, place: Place<'_>, x: &[u8]) -> Result<(), Alloc
 }
 
 /// Adds what a peek does that finds none.
-fn put_none_found(text: &mut Vec<u8>, place: Place<'_>, x: &[u8]) -> Result<(), AllocError>
-    ensures { Grows text.old text.new result }
-{
+fn put_none_found(text: &mut Vec<u8>, place: Place<'_>, x: &[u8]) -> Result<(), AllocError> {
     let deeper = place.deeper();
     put_line(text, place, &[b"} else if (answer == -EAGAIN) {"])?;
     put_line(text, deeper, &[b"cqe = NULL;"])?;
@@ -184,9 +161,7 @@ fn put_none_found(text: &mut Vec<u8>, place: Place<'_>, x: &[u8]) -> Result<(), 
 }
 
 /// Adds that the program stops where a peek answers anything else.
-fn put_failed_peek(text: &mut Vec<u8>, place: Place<'_>) -> Result<(), AllocError>
-    ensures { Grows text.old text.new result }
-{
+fn put_failed_peek(text: &mut Vec<u8>, place: Place<'_>) -> Result<(), AllocError> {
     let number = place.decimal(u64::from(place.number))?;
     put_line(text, place, &[b"} else {"])?;
     put_line(
@@ -207,9 +182,12 @@ fn test_beginning(place: Place<'_>, peek: usize) -> &'static [u8] {
 }
 
 /// Adds the beginning of the arm of a user data.
-fn put_case(text: &mut Vec<u8>, place: Place<'_>, peek: usize, data: u64) -> Result<(), AllocError>
-    ensures { Grows text.old text.new result }
-{
+fn put_case(
+    text: &mut Vec<u8>,
+    place: Place<'_>,
+    peek: usize,
+    data: u64,
+) -> Result<(), AllocError> {
     let beginning = test_beginning(place, peek);
     let data = place.data(data)?;
     put_source(text, place)?;
@@ -226,14 +204,12 @@ fn put_case(text: &mut Vec<u8>, place: Place<'_>, peek: usize, data: u64) -> Res
 }
 
 /// Adds the tests that no later arm of the peek is that of the completion.
-fn put_later_cases(text: &mut Vec<u8>, place: Place<'_>, peek: usize) -> Result<(), AllocError>
-    ensures { Grows text.old text.new result }
-{
+fn put_later_cases(text: &mut Vec<u8>, place: Place<'_>, peek: usize) -> Result<(), AllocError> {
     for line in place.lines_from_here() {
         if let Stmt::Case(of, data) = line.stmt {
             if of == peek {
                 let data = place.data(data)?;
-                put_text(text, &[b" && cqe->user_data != ", &data])?;
+                put_pieces(text, &[b" && cqe->user_data != ", &data])?;
             }
         }
     }
@@ -241,20 +217,16 @@ fn put_later_cases(text: &mut Vec<u8>, place: Place<'_>, peek: usize) -> Result<
 }
 
 /// Adds the beginning of the arm of any other user data. Those of the arms before it were tested there.
-fn put_other(text: &mut Vec<u8>, place: Place<'_>, peek: usize) -> Result<(), AllocError>
-    ensures { Grows text.old text.new result }
-{
+fn put_other(text: &mut Vec<u8>, place: Place<'_>, peek: usize) -> Result<(), AllocError> {
     put_source(text, place)?;
     put_indentation(text, place.depth)?;
-    put_text(text, &[test_beginning(place, peek), b"cqe != NULL"])?;
+    put_pieces(text, &[test_beginning(place, peek), b"cqe != NULL"])?;
     put_later_cases(text, place, peek)?;
-    put_text(text, &[b") {\n"])
+    put_piece(text, b") {\n")
 }
 
 /// Adds the beginning of the arm of no completion.
-fn put_nothing(text: &mut Vec<u8>, place: Place<'_>, peek: usize) -> Result<(), AllocError>
-    ensures { Grows text.old text.new result }
-{
+fn put_nothing(text: &mut Vec<u8>, place: Place<'_>, peek: usize) -> Result<(), AllocError> {
     put_source(text, place)?;
     put_line(
         text,
@@ -264,18 +236,14 @@ fn put_nothing(text: &mut Vec<u8>, place: Place<'_>, peek: usize) -> Result<(), 
 }
 
 /// Adds the beginning of a loop.
-fn put_loop(text: &mut Vec<u8>, place: Place<'_>) -> Result<(), AllocError>
-    ensures { Grows text.old text.new result }
-{
+fn put_loop(text: &mut Vec<u8>, place: Place<'_>) -> Result<(), AllocError> {
     put_source(text, place)?;
     put_line(text, place, &[b"for (;;) {"])?;
     put_event(text, place.deeper(), &[b"loop\""])
 }
 
 /// Adds a break. The blocks that it leaves are none from which C would break.
-fn put_break(text: &mut Vec<u8>, place: Place<'_>, releases: Locks) -> Result<(), AllocError>
-    ensures { Grows text.old text.new result }
-{
+fn put_break(text: &mut Vec<u8>, place: Place<'_>, releases: Locks) -> Result<(), AllocError> {
     put_source(text, place)?;
     put_event(text, place, &[b"break\""])?;
     put_unlock(text, place, releases)?;

@@ -1,40 +1,41 @@
 //! A whole program in C.
 
-ghost use Rattle.rc_emit.specs.Text.{Grows};
-
 use crate::declared::{put_declared, put_open_lock};
 use crate::fixed::{BEGINNING, CALLS, END, FILES_OPENED, LOG, RING_LOCK, SIDE_LOCKS};
-use crate::lines::put_text;
 use crate::locks::Guards;
 use crate::threads::put_threads;
 use rc_lang::program::Program;
 use rc_report::source::Lines;
-use std::alloc::AllocError;
+use rc_report::text::{put_piece, put_pieces};
+use std::alloc::{AllocError, Global};
 
-/// Adds a complete C program over liburing that does, statement by statement, what a program does. The source is the text
-/// that the program was read from: its words are in comments.
-pub fn put_c(text: &mut Vec<u8>, source: &[u8], program: &Program) -> Result<(), AllocError>
-    ensures { Grows text.old text.new result }
-{
-    let lines = Lines::of(*text.allocator(), source)?;
+/// A complete C program over liburing that does, statement by statement, what a program does. The source is the text that
+/// the program was read from: its words are in comments.
+pub fn c_text(alloc: Global, source: &[u8], program: &Program) -> Result<Vec<u8>, AllocError> {
+    let mut text = Vec::new(alloc);
+    let lines = Lines::of(alloc, source)?;
+    put_program(&mut text, program, &lines)?;
+    Ok(text)
+}
+
+/// Adds the C program of a program, with the lines of its text.
+fn put_program(text: &mut Vec<u8>, program: &Program, lines: &Lines) -> Result<(), AllocError> {
     let guards = Guards::of(program);
-    put_text(
+    put_pieces(
         text,
         &[BEGINNING.as_bytes(), ring(guards), CALLS.as_bytes()],
     )?;
     put_declared(text, program)?;
-    put_text(text, &[LOG.as_bytes()])?;
-    put_threads(text, program, guards, &lines)?;
+    put_piece(text, LOG.as_bytes())?;
+    put_threads(text, program, guards, lines)?;
     put_end(text, program, guards)
 }
 
 /// Adds the end of a program: what opens the files, the mutexes and the ring, and starts the threads.
-fn put_end(text: &mut Vec<u8>, program: &Program, guards: Guards) -> Result<(), AllocError>
-    ensures { Grows text.old text.new result }
-{
-    put_text(text, &[FILES_OPENED.as_bytes()])?;
+fn put_end(text: &mut Vec<u8>, program: &Program, guards: Guards) -> Result<(), AllocError> {
+    put_piece(text, FILES_OPENED.as_bytes())?;
     put_open_lock(text, program, guards)?;
-    put_text(text, &[END.as_bytes()])
+    put_piece(text, END.as_bytes())
 }
 
 // The ring, and its mutexes.

@@ -1,13 +1,11 @@
 //! What a program declares.
 
-ghost use Rattle.rc_emit.specs.Text.{Grows};
-
 use crate::fixed::{LOCK_OPENED, MUTEX_OPENED};
-use crate::lines::put_text;
 use crate::locks::Guards;
 use crate::terms::{data, number};
 use rc_lang::program::{Program, TokenKind};
 use rc_report::printed::buffer_name;
+use rc_report::text::{put_piece, put_pieces};
 use std::alloc::AllocError;
 
 // The calls that open the mutexes of both sides.
@@ -49,9 +47,7 @@ static const struct filling {
 ";
 
 /// Adds what a program declares.
-pub fn put_declared(text: &mut Vec<u8>, program: &Program) -> Result<(), AllocError>
-    ensures { Grows text.old text.new result }
-{
+pub fn put_declared(text: &mut Vec<u8>, program: &Program) -> Result<(), AllocError> {
     put_sizes(text, program)?;
     put_files(text, program)?;
     put_buffers(text, program)?;
@@ -60,100 +56,86 @@ pub fn put_declared(text: &mut Vec<u8>, program: &Program) -> Result<(), AllocEr
 }
 
 /// Adds the sizes of the rings.
-fn put_sizes(text: &mut Vec<u8>, program: &Program) -> Result<(), AllocError>
-    ensures { Grows text.old text.new result }
-{
+fn put_sizes(text: &mut Vec<u8>, program: &Program) -> Result<(), AllocError> {
     let alloc = *text.allocator();
     let entries = number(alloc, u64::from(program.entries()))?;
     let completions = number(alloc, u64::from(program.completion_entries()))?;
-    put_text(text, &[b"\n/* How many entries the rings have. */\n"])?;
-    put_text(text, &[b"enum { ENTRIES = ", &entries])?;
-    put_text(text, &[b", COMPLETION_ENTRIES = ", &completions, b" };\n"])
+    put_piece(text, b"\n/* How many entries the rings have. */\n")?;
+    put_pieces(text, &[b"enum { ENTRIES = ", &entries])?;
+    put_pieces(text, &[b", COMPLETION_ENTRIES = ", &completions, b" };\n"])
 }
 
 /// Adds the files, and the list of them.
-fn put_files(text: &mut Vec<u8>, program: &Program) -> Result<(), AllocError>
-    ensures { Grows text.old text.new result }
-{
+fn put_files(text: &mut Vec<u8>, program: &Program) -> Result<(), AllocError> {
     let alloc = *text.allocator();
-    put_text(text, &[FILES.as_bytes()])?;
+    put_piece(text, FILES.as_bytes())?;
     for file in program.files() {
         let name = number(alloc, u64::from(file.number))?;
-        put_text(text, &[b"static int file_", &name, b";\n"])?;
+        put_pieces(text, &[b"static int file_", &name, b";\n"])?;
     }
-    put_text(text, &[NAMED_FILES.as_bytes()])?;
+    put_piece(text, NAMED_FILES.as_bytes())?;
     for file in program.files() {
         let name = number(alloc, u64::from(file.number))?;
         let len = number(alloc, u64::from(file.len))?;
-        put_text(
+        put_pieces(
             text,
             &[b"    {&file_", &name, b", ", &name, b", ", &len, b"},\n"],
         )?;
     }
-    put_text(text, &[b"    {NULL, 0, 0},\n};\n"])
+    put_piece(text, b"    {NULL, 0, 0},\n};\n")
 }
 
 /// Adds the buffers.
-fn put_buffers(text: &mut Vec<u8>, program: &Program) -> Result<(), AllocError>
-    ensures { Grows text.old text.new result }
-{
+fn put_buffers(text: &mut Vec<u8>, program: &Program) -> Result<(), AllocError> {
     let alloc = *text.allocator();
-    put_text(text, &[BUFFERS.as_bytes()])?;
+    put_piece(text, BUFFERS.as_bytes())?;
     for buffer in program.buffers() {
         let bytes = number(alloc, u64::from(buffer.bytes))?;
-        put_text(
+        put_pieces(
             text,
             &[b"_Alignas(4096) unsigned char buffer_", &buffer.name],
         )?;
-        put_text(text, &[b"[", &bytes, b"];\n"])?;
+        put_pieces(text, &[b"[", &bytes, b"];\n"])?;
     }
     Ok(())
 }
 
 /// Adds the pools.
-fn put_pools(text: &mut Vec<u8>, program: &Program) -> Result<(), AllocError>
-    ensures { Grows text.old text.new result }
-{
+fn put_pools(text: &mut Vec<u8>, program: &Program) -> Result<(), AllocError> {
     put_pool(text, program)?;
     put_tables(text, program)
 }
 
 /// Adds the counters of the pool without a name, in a program that may have one.
-fn put_pool(text: &mut Vec<u8>, program: &Program) -> Result<(), AllocError>
-    ensures { Grows text.old text.new result }
-{
+fn put_pool(text: &mut Vec<u8>, program: &Program) -> Result<(), AllocError> {
     if program.version() < 3 {
         return Ok(());
     }
-    put_text(text, &[POOL.as_bytes()])?;
+    put_piece(text, POOL.as_bytes())?;
     put_counters(text, program, b"unsigned pool_")
 }
 
 /// Adds a counter for each part, with this before its name.
-fn put_counters(text: &mut Vec<u8>, program: &Program, before: &[u8]) -> Result<(), AllocError>
-    ensures { Grows text.old text.new result }
-{
+fn put_counters(text: &mut Vec<u8>, program: &Program, before: &[u8]) -> Result<(), AllocError> {
     let alloc = *text.allocator();
     for buffer in program.buffers() {
-        put_text(text, &[before, b"buffer_", &buffer.name, b";\n"])?;
+        put_pieces(text, &[before, b"buffer_", &buffer.name, b";\n"])?;
     }
     for token in program.tokens() {
         let token = number(alloc, token.user_data)?;
-        put_text(text, &[before, b"token_", &token, b";\n"])?;
+        put_pieces(text, &[before, b"token_", &token, b";\n"])?;
     }
-    put_text(text, &[before, b"credits;\n"])
+    put_pieces(text, &[before, b"credits;\n"])
 }
 
 /// Adds the pools with a name.
-fn put_tables(text: &mut Vec<u8>, program: &Program) -> Result<(), AllocError>
-    ensures { Grows text.old text.new result }
-{
+fn put_tables(text: &mut Vec<u8>, program: &Program) -> Result<(), AllocError> {
     if program.pools().is_empty() {
         return Ok(());
     }
-    put_text(text, &[TABLES.as_bytes()])?;
+    put_piece(text, TABLES.as_bytes())?;
     put_counters(text, program, b"    unsigned ")?;
-    put_text(text, &[b"};\n"])?;
+    put_piece(text, b"};\n")?;
     put_each_table(text, program, b"static struct table ", b";\n")
 }
 
@@ -163,11 +145,9 @@ fn put_each_table(
     program: &Program,
     before: &[u8],
     after: &[u8],
-) -> Result<(), AllocError>
-    ensures { Grows text.old text.new result }
-{
+) -> Result<(), AllocError> {
     for name in program.pools() {
-        put_text(text, &[before, b"table_", name, after])?;
+        put_pieces(text, &[before, b"table_", name, after])?;
     }
     Ok(())
 }
@@ -177,41 +157,33 @@ pub fn put_open_lock(
     text: &mut Vec<u8>,
     program: &Program,
     guards: Guards,
-) -> Result<(), AllocError>
-    ensures { Grows text.old text.new result }
-{
+) -> Result<(), AllocError> {
     match guards {
-        Guards::Ring if program.pools().is_empty() => put_text(text, &[LOCK_OPENED.as_bytes()]),
+        Guards::Ring if program.pools().is_empty() => put_piece(text, LOCK_OPENED.as_bytes()),
         Guards::Ring => put_open_mutexes(text, program, b"    open_mutex(&ring_lock);\n"),
         Guards::Sides => put_open_mutexes(text, program, SIDES_OPENED),
     }
 }
 
 /// Adds what opens the mutexes of the ring, by these calls, and those of the pools.
-fn put_open_mutexes(text: &mut Vec<u8>, program: &Program, ring: &[u8]) -> Result<(), AllocError>
-    ensures { Grows text.old text.new result }
-{
-    put_text(text, &[MUTEX_OPENED.as_bytes(), ring])?;
+fn put_open_mutexes(text: &mut Vec<u8>, program: &Program, ring: &[u8]) -> Result<(), AllocError> {
+    put_pieces(text, &[MUTEX_OPENED.as_bytes(), ring])?;
     put_each_table(text, program, b"    open_mutex(&", b".lock);\n")?;
-    put_text(text, &[b"}\n\n"])
+    put_piece(text, b"}\n\n")
 }
 
 /// Adds which buffer the read of a token fills, for what is logged.
-fn put_fillings(text: &mut Vec<u8>, program: &Program) -> Result<(), AllocError>
-    ensures { Grows text.old text.new result }
-{
-    put_text(text, &[FILLINGS.as_bytes()])?;
+fn put_fillings(text: &mut Vec<u8>, program: &Program) -> Result<(), AllocError> {
+    put_piece(text, FILLINGS.as_bytes())?;
     for token in program.tokens() {
         if let TokenKind::Read(buffer) = token.kind {
             put_filling(text, token.user_data, buffer_name(program, buffer))?;
         }
     }
-    put_text(text, &[b"    {0, NULL},\n};\n"])
+    put_piece(text, b"    {0, NULL},\n};\n")
 }
 
-fn put_filling(text: &mut Vec<u8>, user_data: u64, buffer: &[u8]) -> Result<(), AllocError>
-    ensures { Grows text.old text.new result }
-{
+fn put_filling(text: &mut Vec<u8>, user_data: u64, buffer: &[u8]) -> Result<(), AllocError> {
     let user_data = data(*text.allocator(), user_data)?;
-    put_text(text, &[b"    {", &user_data, b", buffer_", buffer, b"},\n"])
+    put_pieces(text, &[b"    {", &user_data, b", buffer_", buffer, b"},\n"])
 }

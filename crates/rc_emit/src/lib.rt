@@ -1,5 +1,8 @@
 //! Accepted programs as C: a complete program over liburing that does on a real io_uring what the text says.
-#![tactic(auto, using(crate::proofs::Texts::extends_both, crate::proofs::Texts::extends_self))]
+//!
+//! No contract says what the C is: each function is safe, and the records of the examples have it. So this crate has no
+//! edits that must fail.
+#![tactic(auto)]
 
 mod blocks;
 mod complete;
@@ -14,4 +17,4 @@ mod terms;
 mod threads;
 mod variables;
 
-pub use complete::put_c;
+pub use complete::c_text;

@@ -1,87 +1,64 @@
 //! Lines of C.
 
-ghost use Rattle.rc_emit.specs.Text.{Grows};
-
 use crate::place::Place;
 use rc_report::source::first_word;
-use rc_report::text::put_pieces;
+use rc_report::text::{put_piece, put_pieces};
 use std::alloc::AllocError;
 
-/// Adds these pieces, one after another.
-pub fn put_text(text: &mut Vec<u8>, pieces: &[&[u8]]) -> Result<(), AllocError>
-    ensures { Grows text.old text.new result }
-{
-    put_pieces(text, pieces)
-}
-
 /// Adds the blanks before a line.
-pub fn put_indentation(text: &mut Vec<u8>, depth: usize) -> Result<(), AllocError>
-    ensures { Grows text.old text.new result }
-{
+pub fn put_indentation(text: &mut Vec<u8>, depth: usize) -> Result<(), AllocError> {
     for _ in 0..depth {
-        put_text(text, &[b"    "])?;
+        put_piece(text, b"    ")?;
     }
     Ok(())
 }
 
 /// Adds a line of these pieces.
-pub fn put_line(text: &mut Vec<u8>, place: Place<'_>, pieces: &[&[u8]]) -> Result<(), AllocError>
-    ensures { Grows text.old text.new result }
-{
+pub fn put_line(text: &mut Vec<u8>, place: Place<'_>, pieces: &[&[u8]]) -> Result<(), AllocError> {
     put_indentation(text, place.depth)?;
-    put_text(text, pieces)?;
-    put_text(text, &[b"\n"])
+    put_pieces(text, pieces)?;
+    put_piece(text, b"\n")
 }
 
 /// Adds a line that logs the event of the statement: its words, and what they are filled with.
-pub fn put_event(text: &mut Vec<u8>, place: Place<'_>, pieces: &[&[u8]]) -> Result<(), AllocError>
-    ensures { Grows text.old text.new result }
-{
+pub fn put_event(text: &mut Vec<u8>, place: Place<'_>, pieces: &[&[u8]]) -> Result<(), AllocError> {
     let number = place.decimal(u64::from(place.number))?;
     put_indentation(text, place.depth)?;
-    put_text(
+    put_pieces(
         text,
         &[b"EVENT(\"", &place.thread.name, b" ", &number, b" "],
     )?;
-    put_text(text, pieces)?;
-    put_text(text, &[b");\n"])
+    put_pieces(text, pieces)?;
+    put_piece(text, b");\n")
 }
 
 /// Adds the statement's line of the text as a comment, to the end of the line.
-pub fn put_comment(text: &mut Vec<u8>, place: Place<'_>) -> Result<(), AllocError>
-    ensures { Grows text.old text.new result }
-{
+pub fn put_comment(text: &mut Vec<u8>, place: Place<'_>) -> Result<(), AllocError> {
     let number = place.decimal(u64::from(place.number))?;
-    put_text(text, &[b"/* ", &number, b":"])?;
+    put_pieces(text, &[b"/* ", &number, b":"])?;
     put_words(text, place.source)?;
-    put_text(text, &[b" */\n"])
+    put_piece(text, b" */\n")
 }
 
 /// Adds the words of a line of the text, with a blank before each.
-fn put_words(text: &mut Vec<u8>, line: &[u8]) -> Result<(), AllocError>
-    ensures { Grows text.old text.new result }
-{
+fn put_words(text: &mut Vec<u8>, line: &[u8]) -> Result<(), AllocError> {
     let mut rest = line;
     while let Some((word, after)) = first_word(rest) {
-        put_text(text, &[b" ", word])?;
+        put_pieces(text, &[b" ", word])?;
         rest = after;
     }
     Ok(())
 }
 
 /// Adds the statement's line of the text as a comment in a line of its own.
-pub fn put_source(text: &mut Vec<u8>, place: Place<'_>) -> Result<(), AllocError>
-    ensures { Grows text.old text.new result }
-{
+pub fn put_source(text: &mut Vec<u8>, place: Place<'_>) -> Result<(), AllocError> {
     put_indentation(text, place.depth)?;
     put_comment(text, place)
 }
 
 /// Adds the end of a block of C, with the line of the text that ends it.
-pub fn put_closing(text: &mut Vec<u8>, place: Place<'_>) -> Result<(), AllocError>
-    ensures { Grows text.old text.new result }
-{
+pub fn put_closing(text: &mut Vec<u8>, place: Place<'_>) -> Result<(), AllocError> {
     put_indentation(text, place.depth)?;
-    put_text(text, &[b"} "])?;
+    put_piece(text, b"} ")?;
     put_comment(text, place)
 }

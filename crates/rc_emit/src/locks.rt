@@ -1,7 +1,5 @@
 //! The mutexes that guard the ring.
 
-ghost use Rattle.rc_emit.specs.Text.{Grows};
-
 use crate::lines::{put_closing, put_event, put_line, put_source};
 use crate::place::Place;
 use rc_lang::lines::{Locks, Stmt};
@@ -50,9 +48,7 @@ pub fn put_mutex(
     place: Place<'_>,
     call: &[u8],
     mutex: &[u8],
-) -> Result<(), AllocError>
-    ensures { Grows text.old text.new result }
-{
+) -> Result<(), AllocError> {
     let number = place.decimal(u64::from(place.number))?;
     put_line(
         text,
@@ -76,9 +72,7 @@ fn put_mutex_if(
     is_wanted: bool,
     call: &[u8],
     mutex: &[u8],
-) -> Result<(), AllocError>
-    ensures { Grows text.old text.new result }
-{
+) -> Result<(), AllocError> {
     if is_wanted {
         put_mutex(text, place, call, mutex)
     } else {
@@ -87,9 +81,7 @@ fn put_mutex_if(
 }
 
 /// Adds that mutexes are locked, that of the completion side first: so no two threads wait for each other.
-fn put_locked(text: &mut Vec<u8>, place: Place<'_>, takes: Locks) -> Result<(), AllocError>
-    ensures { Grows text.old text.new result }
-{
+fn put_locked(text: &mut Vec<u8>, place: Place<'_>, takes: Locks) -> Result<(), AllocError> {
     match place.guards {
         Guards::Ring => put_mutex(text, place, b"lock", b"ring_lock"),
         Guards::Sides => {
@@ -100,9 +92,7 @@ fn put_locked(text: &mut Vec<u8>, place: Place<'_>, takes: Locks) -> Result<(), 
 }
 
 /// Adds that locks are taken. Who has the completion side sees what completed.
-pub fn put_lock(text: &mut Vec<u8>, place: Place<'_>, takes: Locks) -> Result<(), AllocError>
-    ensures { Grows text.old text.new result }
-{
+pub fn put_lock(text: &mut Vec<u8>, place: Place<'_>, takes: Locks) -> Result<(), AllocError> {
     put_source(text, place)?;
     put_locked(text, place, takes)?;
     put_event(text, place, &[b"lock", name(takes)])?;
@@ -110,9 +100,7 @@ pub fn put_lock(text: &mut Vec<u8>, place: Place<'_>, takes: Locks) -> Result<()
     put_line(text, place, &[b"{"])
 }
 
-fn put_seen_if(text: &mut Vec<u8>, place: Place<'_>, is_seen: bool) -> Result<(), AllocError>
-    ensures { Grows text.old text.new result }
-{
+fn put_seen_if(text: &mut Vec<u8>, place: Place<'_>, is_seen: bool) -> Result<(), AllocError> {
     if is_seen {
         put_line(text, place, &[b"SEE_COMPLETIONS();"])
     } else {
@@ -122,16 +110,12 @@ fn put_seen_if(text: &mut Vec<u8>, place: Place<'_>, is_seen: bool) -> Result<()
 
 /// Adds that completions are seen after a submit. Where the completion side has a mutex of its own, the thread may not
 /// have it.
-pub fn put_seen_after_submit(text: &mut Vec<u8>, place: Place<'_>) -> Result<(), AllocError>
-    ensures { Grows text.old text.new result }
-{
+pub fn put_seen_after_submit(text: &mut Vec<u8>, place: Place<'_>) -> Result<(), AllocError> {
     put_seen_if(text, place, matches!(place.guards, Guards::Ring))
 }
 
 /// Adds that locks are released, if any.
-pub fn put_unlock(text: &mut Vec<u8>, place: Place<'_>, releases: Locks) -> Result<(), AllocError>
-    ensures { Grows text.old text.new result }
-{
+pub fn put_unlock(text: &mut Vec<u8>, place: Place<'_>, releases: Locks) -> Result<(), AllocError> {
     match place.guards {
         Guards::Ring => {
             let is_held = releases.sq || releases.cq;
@@ -145,9 +129,11 @@ pub fn put_unlock(text: &mut Vec<u8>, place: Place<'_>, releases: Locks) -> Resu
 }
 
 /// Adds the end of a lock.
-pub fn put_end_lock(text: &mut Vec<u8>, place: Place<'_>, releases: Locks) -> Result<(), AllocError>
-    ensures { Grows text.old text.new result }
-{
+pub fn put_end_lock(
+    text: &mut Vec<u8>,
+    place: Place<'_>,
+    releases: Locks,
+) -> Result<(), AllocError> {
     put_closing(text, place)?;
     put_event(text, place, &[b"release", name(releases)])?;
     put_unlock(text, place, releases)

@@ -1,17 +1,14 @@
 //! Statements without a block.
 
-ghost use Rattle.rc_emit.specs.Text.{Grows};
-
-use crate::lines::{put_event, put_indentation, put_line, put_source, put_text};
+use crate::lines::{put_event, put_indentation, put_line, put_source};
 use crate::locks::put_seen_after_submit;
 use crate::place::Place;
 use rc_lang::lines::{Op, Operand};
+use rc_report::text::put_pieces;
 use std::alloc::AllocError;
 
 /// Adds a statement without a block.
-pub fn put_op(text: &mut Vec<u8>, place: Place<'_>, op: Op) -> Result<(), AllocError>
-    ensures { Grows text.old text.new result }
-{
+pub fn put_op(text: &mut Vec<u8>, place: Place<'_>, op: Op) -> Result<(), AllocError> {
     put_source(text, place)?;
     match op {
         Op::Set(x, number) => put_set(text, place, x, Operand::Number(number)),
@@ -39,16 +36,17 @@ pub fn put_op(text: &mut Vec<u8>, place: Place<'_>, op: Op) -> Result<(), AllocE
 }
 
 /// Adds the event of a variable that was set.
-fn put_set_event(text: &mut Vec<u8>, place: Place<'_>, x: &[u8]) -> Result<(), AllocError>
-    ensures { Grows text.old text.new result }
-{
+fn put_set_event(text: &mut Vec<u8>, place: Place<'_>, x: &[u8]) -> Result<(), AllocError> {
     put_event(text, place, &[b"set %\" PRId64, ", x])
 }
 
 /// Adds that a variable becomes what another is, or a number.
-fn put_set(text: &mut Vec<u8>, place: Place<'_>, x: usize, value: Operand) -> Result<(), AllocError>
-    ensures { Grows text.old text.new result }
-{
+fn put_set(
+    text: &mut Vec<u8>,
+    place: Place<'_>,
+    x: usize,
+    value: Operand,
+) -> Result<(), AllocError> {
     let x = place.variable(x)?;
     let value = place.operand(value)?;
     put_line(text, place, &[&x, b" = ", &value, b";"])?;
@@ -63,9 +61,7 @@ fn put_sum(
     call: &[u8],
     a: Operand,
     b: Operand,
-) -> Result<(), AllocError>
-    ensures { Grows text.old text.new result }
-{
+) -> Result<(), AllocError> {
     let x = place.variable(x)?;
     let a = place.operand(a)?;
     let b = place.operand(b)?;
@@ -80,9 +76,7 @@ fn put_load(
     x: usize,
     buffer: usize,
     index: u32,
-) -> Result<(), AllocError>
-    ensures { Grows text.old text.new result }
-{
+) -> Result<(), AllocError> {
     let x = place.variable(x)?;
     let byte = place.byte(buffer, index)?;
     put_line(text, place, &[&x, b" = ", &byte, b";"])?;
@@ -96,9 +90,7 @@ fn put_store(
     buffer: usize,
     index: u32,
     x: usize,
-) -> Result<(), AllocError>
-    ensures { Grows text.old text.new result }
-{
+) -> Result<(), AllocError> {
     let byte = place.byte(buffer, index)?;
     let x = place.variable(x)?;
     put_line(text, place, &[&byte, b" = (unsigned char)", &x, b";"])?;
@@ -106,30 +98,29 @@ fn put_store(
 }
 
 /// Adds that each byte of a buffer becomes the low eight bits of a variable.
-fn put_fill(text: &mut Vec<u8>, place: Place<'_>, buffer: usize, x: usize) -> Result<(), AllocError>
-    ensures { Grows text.old text.new result }
-{
+fn put_fill(
+    text: &mut Vec<u8>,
+    place: Place<'_>,
+    buffer: usize,
+    x: usize,
+) -> Result<(), AllocError> {
     let name = place.buffer(buffer)?;
     let x = place.variable(x)?;
     put_indentation(text, place.depth)?;
-    put_text(text, &[b"memset(", &name, b", (unsigned char)", &x])?;
-    put_text(text, &[b", sizeof ", &name, b");\n"])?;
+    put_pieces(text, &[b"memset(", &name, b", (unsigned char)", &x])?;
+    put_pieces(text, &[b", sizeof ", &name, b");\n"])?;
     put_event(text, place, &[b"fill %d\", ", &name, b"[0]"])
 }
 
 /// Adds that a variable is printed.
-fn put_print(text: &mut Vec<u8>, place: Place<'_>, x: usize) -> Result<(), AllocError>
-    ensures { Grows text.old text.new result }
-{
+fn put_print(text: &mut Vec<u8>, place: Place<'_>, x: usize) -> Result<(), AllocError> {
     let x = place.variable(x)?;
     put_line(text, place, &[b"printf(\"%\" PRId64 \"\\n\", ", &x, b");"])?;
     put_event(text, place, &[b"print %\" PRId64, ", &x])
 }
 
 /// Adds that the next entry is opened. One is free in a program that is accepted.
-fn put_get_sqe(text: &mut Vec<u8>, place: Place<'_>) -> Result<(), AllocError>
-    ensures { Grows text.old text.new result }
-{
+fn put_get_sqe(text: &mut Vec<u8>, place: Place<'_>) -> Result<(), AllocError> {
     let number = place.decimal(u64::from(place.number))?;
     put_line(text, place, &[b"sqe = io_uring_get_sqe(&ring);"])?;
     put_line(text, place, &[b"if (sqe == NULL)"])?;
@@ -150,16 +141,14 @@ fn put_transfer(
     buffer: usize,
     len: u32,
     off: u32,
-) -> Result<(), AllocError>
-    ensures { Grows text.old text.new result }
-{
+) -> Result<(), AllocError> {
     let file = place.decimal(u64::from(file))?;
     let buffer = place.buffer(buffer)?;
     let len = place.decimal(u64::from(len))?;
     let off = place.decimal(u64::from(off))?;
     put_indentation(text, place.depth)?;
-    put_text(text, &[b"io_uring_", call, b"(sqe, file_", &file])?;
-    put_text(text, &[b", ", &buffer, b", ", &len, b", ", &off, b");\n"])?;
+    put_pieces(text, &[b"io_uring_", call, b"(sqe, file_", &file])?;
+    put_pieces(text, &[b", ", &buffer, b", ", &len, b", ", &off, b");\n"])?;
     put_event(text, place, &[call, b"\""])
 }
 
@@ -178,9 +167,7 @@ fn put_prep_fsync(
     place: Place<'_>,
     file: u32,
     data_alone: bool,
-) -> Result<(), AllocError>
-    ensures { Grows text.old text.new result }
-{
+) -> Result<(), AllocError> {
     let file = place.decimal(u64::from(file))?;
     let flags = fsync_flags(data_alone);
     put_line(
@@ -198,17 +185,13 @@ fn put_prep_fsync(
 }
 
 /// Adds that the open entry becomes a nop.
-fn put_prep_nop(text: &mut Vec<u8>, place: Place<'_>) -> Result<(), AllocError>
-    ensures { Grows text.old text.new result }
-{
+fn put_prep_nop(text: &mut Vec<u8>, place: Place<'_>) -> Result<(), AllocError> {
     put_line(text, place, &[b"io_uring_prep_nop(sqe);"])?;
     put_event(text, place, &[b"prep_nop\""])
 }
 
 /// Adds that the open entry gets its user data.
-fn put_set_data(text: &mut Vec<u8>, place: Place<'_>, data: u64) -> Result<(), AllocError>
-    ensures { Grows text.old text.new result }
-{
+fn put_set_data(text: &mut Vec<u8>, place: Place<'_>, data: u64) -> Result<(), AllocError> {
     let term = place.data(data)?;
     let digits = place.decimal(data)?;
     put_line(
@@ -220,9 +203,7 @@ fn put_set_data(text: &mut Vec<u8>, place: Place<'_>, data: u64) -> Result<(), A
 }
 
 /// Adds a submit.
-fn put_submit(text: &mut Vec<u8>, place: Place<'_>, x: usize) -> Result<(), AllocError>
-    ensures { Grows text.old text.new result }
-{
+fn put_submit(text: &mut Vec<u8>, place: Place<'_>, x: usize) -> Result<(), AllocError> {
     let x = place.variable(x)?;
     put_line(text, place, &[&x, b" = io_uring_submit(&ring);"])?;
     put_submitted(text, place, &x)
@@ -234,9 +215,7 @@ fn put_submit_and_wait(
     place: Place<'_>,
     x: usize,
     count: u32,
-) -> Result<(), AllocError>
-    ensures { Grows text.old text.new result }
-{
+) -> Result<(), AllocError> {
     let x = place.variable(x)?;
     let count = place.decimal(u64::from(count))?;
     put_line(
@@ -248,17 +227,13 @@ fn put_submit_and_wait(
 }
 
 /// Adds the event of a submit, after which completions may be there.
-fn put_submitted(text: &mut Vec<u8>, place: Place<'_>, x: &[u8]) -> Result<(), AllocError>
-    ensures { Grows text.old text.new result }
-{
+fn put_submitted(text: &mut Vec<u8>, place: Place<'_>, x: &[u8]) -> Result<(), AllocError> {
     put_event(text, place, &[b"submit %\" PRId64, ", x])?;
     put_seen_after_submit(text, place)
 }
 
 /// Adds that the peeked completion is taken away.
-fn put_cqe_seen(text: &mut Vec<u8>, place: Place<'_>) -> Result<(), AllocError>
-    ensures { Grows text.old text.new result }
-{
+fn put_cqe_seen(text: &mut Vec<u8>, place: Place<'_>) -> Result<(), AllocError> {
     put_event(
         text,
         place,

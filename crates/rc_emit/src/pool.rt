@@ -1,12 +1,11 @@
 //! The pools: plain counters. The ring's locks guard those of the pool without a name. A pool with a name has a mutex of
 //! its own, which is held for one step.
 
-ghost use Rattle.rc_emit.specs.Text.{Grows};
-
-use crate::lines::{put_event, put_indentation, put_line, put_source, put_text};
+use crate::lines::{put_event, put_indentation, put_line, put_source};
 use crate::locks::put_mutex;
 use crate::place::Place;
 use rc_lang::program::Items;
+use rc_report::text::{put_piece, put_pieces};
 use std::alloc::AllocError;
 
 /// Adds that the items of a list, so many of each, are put into a pool or leave it. The pool's counters have this before
@@ -17,9 +16,7 @@ fn put_moved(
     pool: &[u8],
     items: &Items,
     operator: &[u8],
-) -> Result<(), AllocError>
-    ensures { Grows text.old text.new result }
-{
+) -> Result<(), AllocError> {
     for share in &items.shares {
         let buffer = place.buffer(share.buffer)?;
         let count = place.decimal(u64::from(share.count))?;
@@ -42,14 +39,12 @@ fn put_pool_call(
     place: Place<'_>,
     call: &[u8],
     pool: Option<usize>,
-) -> Result<(), AllocError>
-    ensures { Grows text.old text.new result }
-{
+) -> Result<(), AllocError> {
     let Some(pool) = pool else {
         return Ok(());
     };
     let mut mutex = place.table(pool)?;
-    put_text(&mut mutex, &[b".lock"])?;
+    put_pieces(&mut mutex, &[b".lock"])?;
     put_mutex(text, place, call, &mutex)
 }
 
@@ -58,9 +53,7 @@ pub fn put_pool_unlock(
     text: &mut Vec<u8>,
     place: Place<'_>,
     pool: Option<usize>,
-) -> Result<(), AllocError>
-    ensures { Grows text.old text.new result }
-{
+) -> Result<(), AllocError> {
     put_pool_call(text, place, b"unlock", pool)
 }
 
@@ -70,9 +63,7 @@ pub fn put_put(
     place: Place<'_>,
     pool: Option<usize>,
     list: usize,
-) -> Result<(), AllocError>
-    ensures { Grows text.old text.new result }
-{
+) -> Result<(), AllocError> {
     let counters = place.pool(pool)?;
     put_source(text, place)?;
     put_pool_call(text, place, b"lock", pool)?;
@@ -89,21 +80,19 @@ fn put_has(
     place: Place<'_>,
     pool: &[u8],
     items: &Items,
-) -> Result<(), AllocError>
-    ensures { Grows text.old text.new result }
-{
+) -> Result<(), AllocError> {
     for share in &items.shares {
         let buffer = place.buffer(share.buffer)?;
         let count = place.decimal(u64::from(share.count))?;
-        put_text(text, &[b" && ", pool, &buffer, b" >= ", &count])?;
+        put_pieces(text, &[b" && ", pool, &buffer, b" >= ", &count])?;
     }
     for token in &items.tokens {
         let token = place.decimal(*token)?;
-        put_text(text, &[b" && ", pool, b"token_", &token, b" >= 1"])?;
+        put_pieces(text, &[b" && ", pool, b"token_", &token, b" >= 1"])?;
     }
     if items.credits > 0 {
         let count = place.decimal(u64::from(items.credits))?;
-        put_text(text, &[b" && ", pool, b"credits >= ", &count])?;
+        put_pieces(text, &[b" && ", pool, b"credits >= ", &count])?;
     }
     Ok(())
 }
@@ -114,9 +103,7 @@ pub fn put_take(
     place: Place<'_>,
     pool: Option<usize>,
     list: usize,
-) -> Result<(), AllocError>
-    ensures { Grows text.old text.new result }
-{
+) -> Result<(), AllocError> {
     let counters = place.pool(pool)?;
     put_pool_call(text, place, b"lock", pool)?;
     match place.thread.lists.get(list) {
@@ -131,9 +118,7 @@ fn put_taken(
     place: Place<'_>,
     pool: &[u8],
     items: &Items,
-) -> Result<(), AllocError>
-    ensures { Grows text.old text.new result }
-{
+) -> Result<(), AllocError> {
     put_has_line(text, place, pool, items)?;
     put_line(text, place, &[b"if (yes) {"])?;
     put_moved(text, place.deeper(), pool, items, b" -= ")?;
@@ -146,11 +131,9 @@ fn put_has_line(
     place: Place<'_>,
     pool: &[u8],
     items: &Items,
-) -> Result<(), AllocError>
-    ensures { Grows text.old text.new result }
-{
+) -> Result<(), AllocError> {
     put_indentation(text, place.depth)?;
-    put_text(text, &[b"yes = true"])?;
+    put_piece(text, b"yes = true")?;
     put_has(text, place, pool, items)?;
-    put_text(text, &[b";\n"])
+    put_piece(text, b";\n")
 }

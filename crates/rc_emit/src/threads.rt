@@ -1,15 +1,14 @@
 //! The functions of threads.
 
-ghost use Rattle.rc_emit.specs.Text.{Grows};
-
 use crate::blocks::{depth_after, depth_of, put_stmt};
 use crate::fixed::{THREAD_BEGINNING, THREAD_BODY, THREAD_END, THREADS};
-use crate::lines::{put_comment, put_line, put_text};
+use crate::lines::{put_comment, put_line};
 use crate::locks::Guards;
 use crate::place::Place;
 use crate::variables::has_variable;
 use rc_lang::program::Program;
 use rc_report::source::Lines;
+use rc_report::text::{put_piece, put_pieces};
 use std::alloc::AllocError;
 
 /// Adds a line for each variable of a thread that C has, between two texts.
@@ -18,9 +17,7 @@ fn put_variables(
     place: Place<'_>,
     before: &[u8],
     after: &[u8],
-) -> Result<(), AllocError>
-    ensures { Grows text.old text.new result }
-{
+) -> Result<(), AllocError> {
     for (variable, name) in place.thread.variables.iter().enumerate() {
         if has_variable(place.thread, variable) {
             put_line(text, place, &[before, b"var_", name, after])?;
@@ -30,9 +27,7 @@ fn put_variables(
 }
 
 /// Adds the statements of a thread.
-fn put_stmts(text: &mut Vec<u8>, place: Place<'_>, lines: &Lines<'_>) -> Result<(), AllocError>
-    ensures { Grows text.old text.new result }
-{
+fn put_stmts(text: &mut Vec<u8>, place: Place<'_>, lines: &Lines<'_>) -> Result<(), AllocError> {
     let mut depth = place.depth;
     for (at, line) in place.thread.lines.iter().enumerate() {
         let source = lines.line(line.number);
@@ -44,24 +39,20 @@ fn put_stmts(text: &mut Vec<u8>, place: Place<'_>, lines: &Lines<'_>) -> Result<
 }
 
 /// Adds the function of a thread.
-fn put_thread(text: &mut Vec<u8>, place: Place<'_>, lines: &Lines<'_>) -> Result<(), AllocError>
-    ensures { Grows text.old text.new result }
-{
-    put_text(text, &[b"\n"])?;
+fn put_thread(text: &mut Vec<u8>, place: Place<'_>, lines: &Lines<'_>) -> Result<(), AllocError> {
+    put_piece(text, b"\n")?;
     put_comment(text, place)?;
     put_declarations(text, place)?;
     put_stmts(text, place, lines)?;
-    put_text(text, &[THREAD_END.as_bytes()])
+    put_piece(text, THREAD_END.as_bytes())
 }
 
 /// Adds the head of a thread's function, and its variables, which may be written and never read.
-fn put_declarations(text: &mut Vec<u8>, place: Place<'_>) -> Result<(), AllocError>
-    ensures { Grows text.old text.new result }
-{
-    put_text(text, &[b"static void *body_", &place.thread.name])?;
-    put_text(text, &[THREAD_BEGINNING.as_bytes()])?;
+fn put_declarations(text: &mut Vec<u8>, place: Place<'_>) -> Result<(), AllocError> {
+    put_pieces(text, &[b"static void *body_", &place.thread.name])?;
+    put_piece(text, THREAD_BEGINNING.as_bytes())?;
     put_variables(text, place, b"int64_t ", b" = 0;")?;
-    put_text(text, &[THREAD_BODY.as_bytes()])?;
+    put_piece(text, THREAD_BODY.as_bytes())?;
     put_variables(text, place, b"(void)", b";")
 }
 
@@ -71,17 +62,15 @@ pub fn put_threads(
     program: &Program,
     guards: Guards,
     lines: &Lines<'_>,
-) -> Result<(), AllocError>
-    ensures { Grows text.old text.new result }
-{
+) -> Result<(), AllocError> {
     let alloc = *text.allocator();
     for thread in program.threads() {
         let place = Place::new(alloc, program, guards, thread, lines.line(thread.line));
         put_thread(text, place, lines)?;
     }
-    put_text(text, &[THREADS.as_bytes()])?;
+    put_piece(text, THREADS.as_bytes())?;
     for thread in program.threads() {
-        put_text(text, &[b"    body_", &thread.name, b",\n"])?;
+        put_pieces(text, &[b"    body_", &thread.name, b",\n"])?;
     }
-    put_text(text, &[b"    NULL,\n};\n"])
+    put_piece(text, b"    NULL,\n};\n")
 }

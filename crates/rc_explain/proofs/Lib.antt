@@ -1,4 +1,2 @@
 pub mod Explained
-pub mod Listed
 pub mod Objects
-pub mod StateText

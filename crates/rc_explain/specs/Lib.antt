@@ -1,5 +1,3 @@
 pub mod Explains
 pub mod Judged
-pub mod Listed
 pub mod Members
-pub mod StateText

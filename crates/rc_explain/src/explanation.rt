@@ -2,20 +2,20 @@
 
 ghost use Rattle.std.specs.Prelude.{◌<◌, length};
 
-use crate::asks::{Need, header_need, line_need};
-use crate::causes::{Advice, advice_on_read, advice_on_rule};
-use crate::hint::{mend_of_line, put_hint};
-use crate::listing::put_listing;
-use crate::lost::put_lost;
-use crate::mends::{mend_of, why_of};
-use crate::notes::notes_on;
-use crate::spot::{Spot, spot_of};
 use rc_admit::admitted::Judged;
+use rc_hints::hint::{mend_of_line, put_hint};
 use rc_lang::program::Program;
+use rc_listing::listing::put_listing;
 use rc_report::source::Lines;
 use rc_report::text::{put_counted, put_piece, put_pieces};
 use rc_report::verdict::Refusal;
 use rc_rules::cause::Cause;
+use rc_sentences::asks::{Need, header_need, line_need};
+use rc_sentences::causes::{Advice, advice_on_read, advice_on_rule};
+use rc_sentences::lost::put_lost;
+use rc_sentences::mends::{mend_of, why_of};
+use rc_sentences::notes::notes_on;
+use rc_sentences::spot::{Spot, spot_of};
 use rc_verify::labels::Labels;
 use std::alloc::{AllocError, Global};
 

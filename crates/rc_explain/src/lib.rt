@@ -2,17 +2,7 @@
 //! can't be read.
 #![tactic(auto)]
 
-mod asks;
-mod causes;
 pub mod engine;
 mod explanation;
-pub mod hint;
 mod judged;
-pub mod listing;
-mod lost;
-mod mends;
-mod notes;
 mod object;
-mod parts;
-mod spot;
-pub mod state_text;

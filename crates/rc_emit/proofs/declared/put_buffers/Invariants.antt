@@ -1,5 +1,0 @@
-use Rattle.rc_emit.specs.Text.{Extends}
-use Rattle.rc_emit.proofs.declared.put_buffers.Given as goal
-
-abbrev pub invariant-loop-buffer : goal.invariant-loop-buffer
-invariant-loop-buffer l = Extends l.fn.text.items l.text.items

@@ -1,5 +1,0 @@
-use Rattle.rc_emit.specs.Text.{Extends}
-use Rattle.rc_emit.proofs.declared.put_fillings.Given as goal
-
-abbrev pub invariant-loop-token : goal.invariant-loop-token
-invariant-loop-token l = Extends l.fn.text.items l.text.items

@@ -1,0 +1,91 @@
+//! What is declared or named twice.
+
+use crate::lines::{between, column_of, place_of, word_at};
+use crate::places::{
+    Kind, Place, has_buffer, has_file, has_pool, has_thread, has_token, put_place, word_of,
+};
+use crate::wording::{put_column, put_framed};
+use rc_read::parts::Parts;
+use rc_read::table::Part;
+use rc_read::words::is;
+use rc_report::text::put_pieces;
+use std::alloc::AllocError;
+
+/// What a place declares that is declared already.
+fn known_at(parts: &Parts, place: Place) -> Option<Kind> {
+    match place.part {
+        Part::NewFile => has_file(parts, place.word).then_some(Kind::File),
+        Part::NewBuffer => has_buffer(parts, place.word).then_some(Kind::Buffer),
+        Part::NewToken => has_token(parts, place.word).then_some(Kind::Token),
+        Part::NewPool => has_pool(parts, place.word).then_some(Kind::Pool),
+        Part::NewThread => has_thread(parts, place.word).then_some(Kind::Thread),
+        _ => None,
+    }
+}
+
+/// Whether two places are of items that name the same.
+fn are_alike(place: &Place, other: &Place) -> bool {
+    match (place.part, other.part) {
+        (Part::Buffer, Part::Buffer) | (Part::HeldToken, Part::HeldToken) => {
+            is(place.word, other.word)
+        }
+        (Part::Credits, Part::Credits) | (Part::Queued, Part::Queued) => true,
+        _ => false,
+    }
+}
+
+/// Whether an item names what one before it does: in its list, or a token in either.
+fn repeats(before: &[Place], place: &Place) -> bool {
+    let mut found = false;
+    for other in before {
+        found = match other.part {
+            Part::Flag => found && matches!(place.part, Part::HeldToken),
+            _ => found || are_alike(place, other),
+        };
+    }
+    found
+}
+
+/// Adds that an item names again what an earlier one does.
+fn put_again(
+    text: &mut Vec<u8>,
+    line: &[u8],
+    place: &Place,
+    item: &[u8],
+) -> Result<(), AllocError> {
+    put_column(text, column_of(line, place.at))?;
+    put_framed(text, b"'", item, b"' names ")?;
+    let name = match place.part {
+        Part::HeldToken => item,
+        _ => between(item, 0, place_of(item, b':').unwrap_or(0)),
+    };
+    put_framed(text, b"'", name, b"' again")
+}
+
+/// Adds that what a place declares is declared already.
+fn put_known(text: &mut Vec<u8>, line: &[u8], place: Place, kind: Kind) -> Result<(), AllocError> {
+    put_place(text, line, place)?;
+    put_pieces(text, &[word_of(kind), b" "])?;
+    put_framed(text, b"'", place.word, b"' is declared above already")
+}
+
+/// Adds the hint for a name that is declared or named twice.
+pub fn put_double_name(
+    text: &mut Vec<u8>,
+    parts: &Parts,
+    places: &[Place],
+    line: &[u8],
+    words: &[&[u8]],
+) -> Result<(), AllocError> {
+    for place in places {
+        if let Some(kind) = known_at(parts, *place) {
+            return put_known(text, line, *place, kind);
+        }
+    }
+    for i in 0..places.len() {
+        if repeats(&places[..i], &places[i]) {
+            return put_again(text, line, &places[i], word_at(words, places[i].at));
+        }
+    }
+    Ok(())
+}
