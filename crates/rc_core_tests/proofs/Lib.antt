@@ -1,4 +1,1 @@
-mod DevicePrograms
 mod Plain
-mod RulesExamples
-mod VerifyExamples

@@ -1,34 +1,21 @@
 //! Requests that a disk answers, and numbers that are chosen.
 
-ghost use Rattle.std.specs.Prelude.{◌≤◌, ◌<◌};
+ghost use Rattle.std.specs.Prelude.{◌<◌};
 
 use rc_device::chooser::{Chooser, Listed, Seeded};
 use rc_device::device::Device;
 use rc_device::disk::Disk;
-use rc_lang::program::{Declarations, File, Head, Program};
 use rc_lang::request::{Kind, Request};
-use std::alloc::{AllocError, Global};
+use rc_read::read_program;
+use std::alloc::Global;
 use std::process::Abort;
 use std::test::Fail;
 
 // A new disk with a file 3 of `len` bytes.
-fn disk(alloc: Global, len: u32) -> Result<Disk, AllocError>
-    requires { len ≤ 65536 }
-{
-    let head = Head {
-        version: 1,
-        entries: 1,
-        completion_entries: 2,
-        left: 0,
-    };
-    let declarations = Declarations {
-        files: Vec::from_array(alloc, [File { number: 3, len }])?,
-        buffers: Vec::new(alloc),
-        tokens: Vec::new(alloc),
-        pools: Vec::new(alloc),
-    };
-    let program = Program::new(head, declarations, Vec::new(alloc));
-    Disk::new(alloc, &program)
+fn disk(alloc: Global, len: u32) -> Result<Disk, Fail> {
+    let text = format!(in alloc; "ringcheck 1\nring 1\nfile 3 {len}\n")?;
+    let program = read_program(alloc, text.as_bytes())?;
+    Ok(Disk::new(alloc, &program)?)
 }
 
 fn request(kind: Kind, fd: i32, off: u64, len: u32) -> Request {
@@ -49,10 +36,6 @@ fn read(fd: i32, off: u64, len: u32) -> Request {
 
 fn write(fd: i32, off: u64, len: u32) -> Request {
     request(Kind::Write, fd, off, len)
-}
-
-fn empty(kind: Kind, fd: i32) -> Request {
-    request(kind, fd, 0, 0)
 }
 
 // Serves a request by any device that threads can share.
@@ -77,32 +60,55 @@ fn end(bytes: &[u8], byte: u8) -> usize {
     bytes.iter().rev().take_while(|b| **b == byte).count()
 }
 
-// 16 bytes 7 are served on a new disk. Of them: how many at the front are 0 afterwards, and how many at the end are 7.
-// Of the file: how many bytes it has afterwards, how many at the front are 0, and how many at the end are 7.
+// How long the file is, a request with its grant, and its result. 16 bytes 7 are served on a new disk. Of them: how many
+// at the front are 0 afterwards, and how many at the end are 7. Of the file: how many bytes it has afterwards, how many at
+// the front are 0, and how many at the end are 7.
+type Served = (u32, Asked, i32, i32, [usize; 2], [usize; 3]);
+
+// What a request asks for: its kind, its file, its place and its length.
+type Asked = (Kind, i32, u64, u32);
+
+const SERVED: [Served; 17] = [
+    (64, (Kind::Read, 3, 60, 16), 16, 4, [4, 12], [64, 64, 0]),
+    (64, (Kind::Read, 3, 64, 16), 16, 0, [0, 16], [64, 64, 0]),
+    (64, (Kind::Read, 3, 0, 16), 5, 5, [5, 11], [64, 64, 0]),
+    (
+        64,
+        (Kind::Read, 3, u64::MAX, 16),
+        16,
+        0,
+        [0, 16],
+        [64, 64, 0],
+    ),
+    (4, (Kind::Write, 3, 8, 2), 2, 2, [0, 16], [10, 8, 2]),
+    (
+        4,
+        (Kind::Write, 3, 65530, 16),
+        16,
+        6,
+        [0, 16],
+        [65536, 65530, 6],
+    ),
+    (4, (Kind::Write, 3, 65536, 1), 0, -28, [0, 16], [4, 4, 0]),
+    (4, (Kind::Write, 3, 70000, 0), 5, 0, [0, 16], [4, 4, 0]),
+    (4, (Kind::Write, 3, 100, 16), 0, 0, [0, 16], [4, 4, 0]),
+    (4, (Kind::Write, 3, 0, 4), -5, -5, [0, 16], [4, 4, 0]),
+    (4, (Kind::Read, 3, 0, 4), -5, -5, [0, 16], [4, 4, 0]),
+    (4, (Kind::Read, 9, 0, 4), 4, -9, [0, 16], [4, 4, 0]),
+    (4, (Kind::Write, 9, 0, 4), 4, -9, [0, 16], [4, 4, 0]),
+    (4, (Kind::Fsync, 9, 0, 0), 0, -9, [0, 16], [4, 4, 0]),
+    (4, (Kind::Fsync, 3, 0, 0), 0, 0, [0, 16], [4, 4, 0]),
+    (4, (Kind::Nop, -1, 0, 0), 0, 0, [0, 16], [4, 4, 0]),
+    (4, (Kind::Nop, -1, 0, 0), -5, -5, [0, 16], [4, 4, 0]),
+];
+
 #[test]
 fn requests_move_what_their_kind_and_grant_say(rt: HostRuntime) -> Result<(), Fail> {
-    for (len, asked, grant, answer, moved, file) in [
-        (64, read(3, 60, 16), 16, 4, [4, 12], [64, 64, 0]),
-        (64, read(3, 64, 16), 16, 0, [0, 16], [64, 64, 0]),
-        (64, read(3, 0, 16), 5, 5, [5, 11], [64, 64, 0]),
-        (64, read(3, u64::MAX, 16), 16, 0, [0, 16], [64, 64, 0]),
-        (4, write(3, 8, 2), 2, 2, [0, 16], [10, 8, 2]),
-        (4, write(3, 65530, 16), 16, 6, [0, 16], [65536, 65530, 6]),
-        (4, write(3, 65536, 1), 0, -28, [0, 16], [4, 4, 0]),
-        (4, write(3, 70000, 0), 5, 0, [0, 16], [4, 4, 0]),
-        (4, write(3, 100, 16), 0, 0, [0, 16], [4, 4, 0]),
-        (4, write(3, 0, 4), -5, -5, [0, 16], [4, 4, 0]),
-        (4, read(3, 0, 4), -5, -5, [0, 16], [4, 4, 0]),
-        (4, read(9, 0, 4), 4, -9, [0, 16], [4, 4, 0]),
-        (4, write(9, 0, 4), 4, -9, [0, 16], [4, 4, 0]),
-        (4, empty(Kind::Fsync, 9), 0, -9, [0, 16], [4, 4, 0]),
-        (4, empty(Kind::Fsync, 3), 0, 0, [0, 16], [4, 4, 0]),
-        (4, empty(Kind::Nop, -1), 0, 0, [0, 16], [4, 4, 0]),
-        (4, empty(Kind::Nop, -1), -5, -5, [0, 16], [4, 4, 0]),
-    ] {
-        assert!(rt; len <= 65536);
+    for (len, asked, grant, answer, moved, file) in SERVED {
         let mut disk = disk(rt.alloc(), len)?;
         let mut bytes = [7; 16];
+        let (kind, fd, off, count) = asked;
+        let asked = request(kind, fd, off, count);
         assert_eq!(rt; serve(&rt, &mut disk, asked, &mut bytes, grant), answer);
         assert_eq!(rt; [front(&bytes, 0), end(&bytes, 7)], moved);
         let content = disk.contents(3);

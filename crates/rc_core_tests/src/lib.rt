@@ -23,6 +23,4 @@ mod rules;
 #[cfg(test)]
 mod split;
 #[cfg(test)]
-mod verify;
-#[cfg(test)]
 mod world;

@@ -51,64 +51,10 @@ none {
 }
 ";
 
-pub const EARLY: &str = "\
-ringcheck 1
-ring 4
-file 3 64
-buffer a 16 1
-token 7 read a
-thread t0 holds a:1 t:7 c:1 {
-lock {
-get_sqe
-prep_read 3 a 16 0
-set_data64 7
-loop keeps q:1 {
-r = submit
-if sq_ready == 0 {
-break
-}
-}
-}
-v = load a 0
-}
-thread t1 holds {
-loop keeps {
-lock {
-peek_cqe r {
-case 7 {
-cqe_seen
-break
-}
-other {
-}
-none {
-}
-}
-}
-}
-v = load a 0
-print v
-}
-";
-
 pub const EMPTY_THREAD: &str = "\
 ringcheck 1 # A thread without a statement has ended at the start.
 ring 1
 thread t0 holds {
-}
-";
-
-pub const FULL: &str = "\
-ringcheck 1
-ring 1
-token 7 nop
-thread t0 holds t:7 c:2 {
-lock {
-get_sqe
-prep_nop
-set_data64 7
-get_sqe
-}
 }
 ";
 

@@ -2,7 +2,7 @@
 
 use super::readers::Slow;
 use super::writers::Narrow;
-use rc_examples::programs::NOP;
+use rc_examples::programs::{DRAIN, NOP};
 use rc_report::check_engine::check_engine;
 use rc_report::engine_fault::EngineFault;
 use rc_report::step_engine::step_engine;
@@ -24,6 +24,19 @@ const TRACE: &[u8] = b"1 t0 5 lock
 9 t0 19 release
 ended after 9 events
 ";
+
+#[test]
+fn a_sink_that_fails_has_a_beginning_of_the_verdict(rt: HostRuntime) {
+    let mut source = ReadSource::new(DRAIN.as_bytes());
+    let mut sink = WriteSink::new(Narrow {
+        written: Vec::new(rt.alloc()),
+        room: 5,
+    });
+    let answer = check_engine(rt.alloc(), &mut source, false, &mut sink);
+    assert!(rt; matches!(answer, Err(EngineFault::Write)));
+    assert_eq!(rt; sink.failures(), 1);
+    assert_eq!(rt; sink.writer.written.as_slice(), b"accep".as_slice());
+}
 
 #[test]
 fn each_sink_that_fails_has_a_beginning_of_the_trace(rt: HostRuntime) {

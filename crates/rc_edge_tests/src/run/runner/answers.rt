@@ -113,14 +113,3 @@ fn the_limit_is_reached(rt: HostRuntime) -> Result<(), Fail> {
     }
     Ok(())
 }
-
-#[test]
-fn run_always_out_of_memory(rt: HostRuntime) -> Result<(), Fail> {
-    let refused = match seeded(&rt, rt.alloc(), HANDOFF, 1, 1000000)? {
-        Err(RunFault::OutOfMemory(_report)) => true,
-        Err(_fault) => false,
-        Ok(_report) => false,
-    };
-    assert!(rt; !refused);
-    Ok(())
-}

@@ -1,2 +1,0 @@
-pub mod RulesExample
-pub mod VerifyExample
