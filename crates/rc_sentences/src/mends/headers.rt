@@ -20,7 +20,7 @@ struct Begun<'a> {
 }
 
 /// What the headers have of a buffer's shares.
-fn begun(refused: Refused<'_>, buffer: usize) -> Begun<'_> {
+fn at_start(refused: Refused<'_>, buffer: usize) -> Begun<'_> {
     let mut given: u32 = 0;
     let mut other = None;
     for (number, thread) in refused.program.threads().iter().enumerate() {
@@ -74,7 +74,7 @@ pub fn put_move(text: &mut Vec<u8>, refused: Refused, part: Part) -> Result<(), 
     let Some(own) = refused.program.threads().get(refused.thread) else {
         return Ok(());
     };
-    let Begun { given, other } = begun(refused, buffer);
+    let Begun { given, other } = at_start(refused, buffer);
     let wanted = count.saturating_sub(shares_in(own, buffer));
     let free = refused.program.shares_at(buffer).saturating_sub(given);
     if wanted > 0 && wanted <= free {

@@ -14,14 +14,14 @@ unfolding in_c
 returns-in_err-admitted g c =
     does_nothing g.S.Sink.state c.args.sink.now c.args.sink.now (SaysAdmitted c.args.text.now in_c) c.from_residual.result c.from_residual.ensures.1 refl
 
-pub returns-in_err-put_c-in-Ok : goal.returns-in_err-put_c-in-Ok
+pub returns-in_err-answer-in-Ok : goal.returns-in_err-answer-in-Ok
 unfolding in_c
-returns-in_err-put_c-in-Ok g c =
-    does_nothing g.S.Sink.state c.args.sink.now c.args.sink.now (SaysAdmitted c.args.text.now in_c) c.from_residual-in_err-put_c-in-Ok.result c.from_residual-in_err-put_c-in-Ok.ensures.1 refl
+returns-in_err-answer-in-Ok g c =
+    does_nothing g.S.Sink.state c.args.sink.now c.args.sink.now (SaysAdmitted c.args.text.now in_c) c.from_residual-in_err-answer-in-Ok.result c.from_residual-in_err-answer-in-Ok.ensures.1 refl
 
-pub returns-in_ok-put_c-in-Ok : goal.returns-in_ok-put_c-in-Ok
+pub returns-in_ok-answer-in-Ok : goal.returns-in_ok-answer-in-Ok
 unfolding in_c
-returns-in_ok-put_c-in-Ok g c =
+returns-in_ok-answer-in-Ok g c =
     let r = c.write_answer.result in
     let given = subst (GivesVerdict (answer_of c.args.text.now)) c.in-Ok.is c.in_ok-admitted.ensures in
     does_admitted g.S.Sink.state c.args.sink.now c.write_answer.new.sink c.args.text.now in_c c.in-Ok.admitted r given
