@@ -1,0 +1,4 @@
+pub mod Bars
+pub mod Head
+pub mod RowMarks
+pub mod Turns

@@ -1,0 +1,5 @@
+pub mod Engine
+pub mod File
+pub mod Legend
+pub mod Red
+pub mod Rings
