@@ -1,3 +1,4 @@
+pub mod Drawn
 pub mod Grows
 pub mod Shown
 pub mod Told

@@ -51,7 +51,7 @@ pub fn harm_of(alloc: Global, program: &Program, found: &Found) -> Result<Option
 }
 
 /// The items of the schedule that moves spell, where they can be read.
-fn spelled_items(
+pub fn spelled_items(
     alloc: Global,
     program: &Program,
     moves: &[u8],

@@ -6,6 +6,7 @@ pub mod find;
 mod harm;
 mod moves_text;
 mod numbers;
+pub mod picture;
 mod replay;
 mod search;
 mod shorten;

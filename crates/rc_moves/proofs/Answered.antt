@@ -23,7 +23,7 @@ pub stopped : (a b : Taken) (t : List ℕ) (r : Result StepEnd EngineFault) (end
 stopped a b t (Ok x) ends is h = absurd is
 stopped a b t (Err e) ends is h = (memory_stops {X = StepEnd} a b t (Err e) is h, tt)
 
-unread_is_told : (traced : Program → Trace → List ℕ) (answer : Result Program (ℕ × ℕ)) (moves : List ℕ) (unread : Unread) → IsUnread answer moves unread → unread_text unread ≡ moved_text traced answer moves
+pub unread_is_told : (traced : Program → Trace → List ℕ) (answer : Result Program (ℕ × ℕ)) (moves : List ℕ) (unread : Unread) → IsUnread answer moves unread → unread_text unread ≡ moved_text traced answer moves
 unread_is_told traced (Ok program) moves (Text line cause) h = absurd h
 unread_is_told traced (Ok program) moves (Schedule i) h = sym (ap (λ read. items_text traced program (spelled_or program read)) h)
 unread_is_told traced (Err (line, number)) moves (Text l cause) h = ap (λ l. unreadable_text l (number_of_cause cause)) h.0 ∙ ap (unreadable_text line) h.1

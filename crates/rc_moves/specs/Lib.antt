@@ -1,3 +1,4 @@
+pub mod Drawing
 pub mod Moved
 pub mod Moves
 pub mod Reasons

@@ -2,6 +2,7 @@
 //! to a line.
 #![tactic(auto)]
 
+pub mod drawing;
 pub mod moves;
 pub mod spelling;
 pub mod stepping;
