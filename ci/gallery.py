@@ -5,7 +5,9 @@ usage: ci/gallery.py PROGRAM [--write]
 
 Of each pattern of examples/gallery that are: NAME.c, which is what `PROGRAM c` prints; and in page.md the verdict on
 broken.rc and why, and the run into its fault, as the command on the first line of the page's second block prints it: the
-moves where it finds them, the last events and the end. Each text of examples/gallery and of examples/causes has a row in
+moves where it finds them, the last events and the end. Beside it stands broken.svg, which is what this command prints
+with --svg; that of a text without a page is what find prints. The pictures of docs/picture.md are what its commands print.
+Each text of examples/gallery and of examples/causes has a row in
 the file expected there, and each row is what is printed. The status is 1 where something differs. The test runs it on
 the program that it has built.
 """
@@ -55,12 +57,34 @@ def why_of(lines):
     return lines[: last + 1]
 
 
-def run_of(program, command):
+def words_of(command):
+    """The words that a command of a page gives the program, whose input is a text of the gallery."""
+    return command.split(" ")[1:-2]
+
+
+def run_of(program, command, path):
     """A command of a page as the page shows it: the moves that are found, and the last lines of the trace."""
-    _, *words, _, path = command.split(" ")
-    lines = printed(program, words, TOP / path)[0].splitlines()
+    lines = printed(program, words_of(command), path)[0].splitlines()
     found = [line for line in lines if line.startswith("found by ")]
     return [command, *found, "..", *lines[-SHOWN:]]
+
+
+def command_of(text):
+    """The command of a page that shows the run into the fault."""
+    return re.split(r"^```\n", text, flags=re.MULTILINE)[3].splitlines()[0]
+
+
+def picture(program, broken):
+    """The picture of the run into the fault of a text."""
+    at = broken.parent / "page.md"
+    words = words_of(command_of(at.read_text())) if at.is_file() else ["find"]
+    return printed(program, [*words, "--svg"], broken)[0]
+
+
+def pictures_of_docs(program):
+    """The pictures that the commands of docs/picture.md write, by their files."""
+    commands = re.findall(r"^\./ringcheck (.+) (\S+) > (\S+)$", (TOP / "docs" / "picture.md").read_text(), flags=re.MULTILINE)
+    return {TOP / to: printed(program, words.split(" "), TOP / path)[0] for words, path, to in commands}
 
 
 def page(program, name, text):
@@ -69,7 +93,7 @@ def page(program, name, text):
     broken = GALLERY / name / "broken.rc"
     refused = why_of(printed(program, ["check", "--explain"], broken)[0].splitlines())
     verdict = [f"ringcheck check --explain < {broken.relative_to(TOP)}", *refused]
-    run = run_of(program, parts[3].splitlines()[0])
+    run = run_of(program, command_of(text), broken)
     parts[1::2] = ["".join(f"{line}\n" for line in block) for block in (verdict, run)]
     return FENCE.join(parts)
 
@@ -79,18 +103,20 @@ def main():
         sys.exit(__doc__)
     program = sys.argv[1]
     found = [line for folder in (GALLERY, CAUSES) for line in wrong_rows(program, folder)]
-    names = sorted(path.parent.name for path in GALLERY.glob("*/page.md") if (path.parent / "broken.rc").is_file())
-    for name in names:
-        at = GALLERY / name
-        wanted = {at / f"{name}.c": printed(program, ["c"], at / f"{name}.rc")[0]}
-        wanted[at / "page.md"] = page(program, name, (at / "page.md").read_text())
-        for path, text in wanted.items():
-            if path.is_file() and path.read_text() == text:
-                continue
-            if sys.argv[2:]:
-                path.write_text(text)
-            else:
-                found.append(f"{path.relative_to(TOP)} isn't what is printed")
+    wanted = pictures_of_docs(program)
+    for broken in sorted(GALLERY.glob("*/broken.rc")):
+        at = broken.parent
+        wanted[at / "broken.svg"] = picture(program, broken)
+        if (at / "page.md").is_file():
+            wanted[at / f"{at.name}.c"] = printed(program, ["c"], at / f"{at.name}.rc")[0]
+            wanted[at / "page.md"] = page(program, at.name, (at / "page.md").read_text())
+    for path, text in wanted.items():
+        if path.is_file() and path.read_text() == text:
+            continue
+        if sys.argv[2:]:
+            path.write_text(text)
+        else:
+            found.append(f"{path.relative_to(TOP)} isn't what is printed")
     for line in found:
         print(line, file=sys.stderr)
     return 1 if found else 0

@@ -21,7 +21,7 @@ use Rattle.rc_report.proofs.Answered.{of_any, of_text}
 use Rattle.rc_command.specs.declared.fault.CommandFault.{CommandFault}
 use Rattle.rc_command.specs.declared.fault.CommandFault.TheVariants.{Words, Engine, OtherProgram}
 use Rattle.rc_command.specs.declared.words.Command.{Command}
-use Rattle.rc_command.specs.declared.words.Command.TheVariants.{Check, Explain, Keeps, Step, State, Moves, Find, Run, Emit, Show}
+use Rattle.rc_command.specs.declared.words.Command.TheVariants.{Check, Explain, Keeps, Step, State, Moves, Draw, DrawMoves, Find, DrawFound, Run, Emit, Show}
 use Rattle.rc_command.specs.Answers.{Does, DoesWith, Fails, ReadsAsAsked, ReadsOnce, Says, SaysAdmitted, SaysKept, SaysVerdict}
 
 -- ---- statuses are 3 at most
@@ -54,6 +54,9 @@ within Keeps bytes s text h = elim h [
 within (Step schedule) bytes s text h = step_within h.0 s h.3
 within (State schedule) bytes s text h = step_within h.0 s h.3
 within (Moves moves state) bytes s text h = step_within h.0 s h.3
+within (Draw schedule from) bytes s text h = step_within h.0 s h.3
+within (DrawMoves moves from) bytes s text h = step_within h.0 s h.3
+within (DrawFound seed walks) bytes s text h = verdict_within h.0 s h.2
 within (Find seed walks json) bytes s text h = verdict_within h.0 s h.2
 within (Run seed limit summary) bytes s text h = elim h [
   | inl (program, given, run) ↦ end_within run.1 s run.4
@@ -166,6 +169,9 @@ asked Keeps old new r h = h
 asked (Step schedule) old new r h = h
 asked (State schedule) old new r h = h
 asked (Moves moves state) old new r h = h
+asked (Draw schedule from) old new r h = h
+asked (DrawMoves moves from) old new r h = h
+asked (DrawFound seed walks) old new r h = h
 asked (Find seed walks json) old new r h = h
 asked (Run seed limit summary) old new r h = h
 asked Emit old new r h = h

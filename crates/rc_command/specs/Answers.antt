@@ -21,14 +21,17 @@ use Rattle.rc_report.specs.Traces.{trace_text}
 use Rattle.rc_report.specs.Verdicts.{verdict_text}
 use Rattle.rc_explain.specs.Explains.{Explains}
 use Rattle.rc_find.specs.Finds.{Finds}
+use Rattle.rc_find.specs.Pictures.{FindsPicture}
 use Rattle.rc_keeps.specs.Keeps.{GivesKept}
+use Rattle.rc_moves.specs.Drawing.{moved_drawn}
 use Rattle.rc_moves.specs.Moved.{EndsMoves, moved_text}
 use Rattle.rc_moves.specs.Stepping.{traced_by}
+use Rattle.rc_picture.specs.Engine.{drawn_text}
 use Rattle.rc_state.specs.Engine.{stepped_with_state}
 use Rattle.rc_command.specs.declared.fault.CommandFault.{CommandFault}
 use Rattle.rc_command.specs.declared.fault.CommandFault.TheVariants.{Words, Engine, OtherProgram}
 use Rattle.rc_command.specs.declared.words.Command.{Command}
-use Rattle.rc_command.specs.declared.words.Command.TheVariants.{Check, Explain, Keeps, Step, State, Moves, Find, Run, Emit, Show}
+use Rattle.rc_command.specs.declared.words.Command.TheVariants.{Check, Explain, Keeps, Step, State, Moves, Draw, DrawMoves, Find, DrawFound, Run, Emit, Show}
 
 -- ---- what each command says of the bytes of a text: the status, and the text that is written
 
@@ -47,6 +50,11 @@ SaysSteps stepped bytes schedule status text =
 abbrev pub SaysMoves : List ℕ → List ℕ → Bool → ℕ → List ℕ → Type 0
 SaysMoves bytes moves state status text =
     (end : StepEnd) × EndsMoves (answer_of bytes) moves end × (text ≡ moved_text (traced_by state bytes) (answer_of bytes) moves) × (status ≡ status_of_step end)
+
+-- With `--svg` a picture of the trace is written in its place, from an event on.
+abbrev pub SaysPicture : List ℕ → List ℕ → ℕ → ℕ → List ℕ → Type 0
+SaysPicture bytes moves from status text =
+    (end : StepEnd) × EndsMoves (answer_of bytes) moves end × (text ≡ moved_drawn from bytes moves) × (status ≡ status_of_step end)
 
 -- The disk gives any result that a request may have.
 abbrev pub DiskGives : ℕ → ℤ → Type 0
@@ -93,7 +101,10 @@ Says Keeps bytes status text = SaysKept bytes status text
 Says (Step schedule) bytes status text = SaysSteps stepped_text bytes schedule.now status text
 Says (State schedule) bytes status text = SaysSteps stepped_with_state bytes schedule.now status text
 Says (Find seed walks json) bytes status text = SaysVerdict (Finds bytes walks json) status text
+Says (DrawFound seed walks) bytes status text = SaysVerdict (FindsPicture bytes walks) status text
 Says (Moves moves state) bytes status text = SaysMoves bytes moves.items state status text
+Says (Draw schedule from) bytes status text = SaysSteps (drawn_text from) bytes schedule.now status text
+Says (DrawMoves moves from) bytes status text = SaysPicture bytes moves.items from status text
 Says (Run seed limit summary) bytes status text =
     SaysAdmitted bytes (λ program. SaysRun bytes program limit summary) status text
 Says Emit bytes status text = SaysAdmitted bytes (λ program status text. status ≡ 0) status text

@@ -3,12 +3,14 @@
 ghost use Rattle.std.specs.Prelude.{◌≡◌, ◌+◌, ◌<◌, ◌≤◌, ◌^◌, IfErr, IfOk, None};
 ghost use Rattle.rc_explain.specs.Explains.{Explains};
 ghost use Rattle.rc_find.specs.Finds.{Finds};
+ghost use Rattle.rc_find.specs.Pictures.{FindsPicture};
 ghost use Rattle.rc_command.specs.declared.fault.CommandFault.TheVariants.{Engine};
-ghost use Rattle.rc_command.specs.Answers.{Does, DoesWith, ReadsAsAsked, Says, SaysMoves, SaysSteps, SaysVerdict};
+ghost use Rattle.rc_command.specs.Answers.{Does, DoesWith, ReadsAsAsked, Says, SaysMoves, SaysPicture, SaysSteps, SaysVerdict};
 ghost use Rattle.rc_command.specs.Files.{AnswersAs, AsksFile};
 ghost use Rattle.rc_report.specs.Checks.{TellsVerdict};
 ghost use Rattle.rc_report.specs.declared.engine_fault.EngineFault.TheVariants.{Write as FailedWrite};
 ghost use Rattle.rc_moves.specs.Stepping.{stepped_by};
+ghost use Rattle.rc_picture.specs.Engine.{drawn_text};
 ghost use Rattle.rc_report.specs.Streams.{CanRead, CanWrite};
 
 use crate::emitting::emit_text;
@@ -22,6 +24,8 @@ use rc_device::device::Device;
 use rc_device::disk::Disk;
 use rc_explain::engine::{Form, put_explained};
 use rc_find::find::put_found;
+use rc_find::picture::put_found_picture;
+use rc_moves::drawing::{draw_items, draw_moves};
 use rc_moves::stepping::{step_items, step_moves};
 use rc_report::buffered::Buffered;
 use rc_report::check_engine::put_checked;
@@ -133,6 +137,7 @@ fn answered<'a, R: Threads + Wait + Sync, T: Texts, I: Read + Drop, O: Write + D
 fn with_moves(command: Command<'_>, moves: Vec<u8>) -> Command<'_> {
     match command {
         Command::Moves { state, .. } => Command::Moves { moves, state },
+        Command::DrawMoves { from, .. } => Command::DrawMoves { moves, from },
         other => other,
     }
 }
@@ -251,7 +256,10 @@ fn performed<R: Threads + Wait + Sync, S: Sink>(
         Command::Step { schedule } => stepped(alloc, &text, schedule, false, sink, notes),
         Command::State { schedule } => stepped(alloc, &text, schedule, true, sink, notes),
         Command::Moves { moves, state } => moved(alloc, &text, &moves, state, sink, notes),
+        Command::Draw { schedule, from } => drawn(alloc, &text, schedule, from, sink, notes),
+        Command::DrawMoves { moves, from } => drawn_moves(alloc, &text, &moves, from, sink, notes),
         Command::Find { seed, walks, json } => found(alloc, &text, seed, walks, json, sink),
+        Command::DrawFound { seed, walks } => drawn_found(alloc, &text, seed, walks, sink, notes),
         Command::Run {
             seed,
             limit,
@@ -339,4 +347,53 @@ fn moved<S: Sink>(
 {
     let end = step_moves(alloc, text, moves, state, notes, sink)?;
     Ok(end.status())
+}
+
+/// Steps the program of a text through a schedule, and draws the trace.
+fn drawn<S: Sink>(
+    alloc: Global,
+    text: &[u8],
+    schedule: &str,
+    from: u64,
+    sink: &mut S,
+    notes: &mut Vec<u8>,
+) -> Result<u8, CommandFault>
+    requires { CanWrite (S.state sink.old) }
+    ensures { Does (SaysSteps (drawn_text from) text.now schedule.now) S.state sink.old sink.new result }
+{
+    let end = draw_items(alloc, text, schedule, from, notes, sink)?;
+    Ok(end.status())
+}
+
+/// Steps the program of a text through the schedule that moves spell, and draws the trace.
+fn drawn_moves<S: Sink>(
+    alloc: Global,
+    text: &[u8],
+    moves: &[u8],
+    from: u64,
+    sink: &mut S,
+    notes: &mut Vec<u8>,
+) -> Result<u8, CommandFault>
+    requires { CanWrite (S.state sink.old) }
+    ensures { Does (SaysPicture text.now moves.now from) S.state sink.old sink.new result }
+{
+    let end = draw_moves(alloc, text, moves, from, notes, sink)?;
+    Ok(end.status())
+}
+
+/// Checks a text, and draws a run of a refused one into a fault.
+fn drawn_found<S: Sink>(
+    alloc: Global,
+    text: &[u8],
+    seed: u32,
+    walks: u32,
+    sink: &mut S,
+    notes: &mut Vec<u8>,
+) -> Result<u8, CommandFault>
+    requires { CanWrite (S.state sink.old) }
+    ensures { Does (SaysVerdict (FindsPicture text.now walks)) S.state sink.old sink.new result }
+{
+    let mut answer = Vec::new(alloc);
+    let verdict = put_found_picture(&mut answer, notes, alloc, text, seed, walks)?;
+    write_answer(sink, &answer, verdict.status())
 }

@@ -84,14 +84,28 @@ fn described_moves<'a>(alloc: Global) -> Result<Arg<'a>, AllocError> {
         .conflicts_with("schedule")
 }
 
+/// The event with which the picture of `step` begins.
+fn described_from<'a>(alloc: Global) -> Result<Arg<'a>, AllocError> {
+    Arg::new(alloc, "from")
+        .long("from")
+        .value_name("N")
+        .action(ArgAction::Set)
+        .value_parser(value_parser!(u64).range(1..=4294967296))
+        .help("The event with which the picture begins, from 1 to 4294967296; without it 1")
+        .requires_arg("svg")
+}
+
 /// The words of `step`.
 fn described_step<'a>(alloc: Global) -> Result<clap::Command<'a>, AllocError> {
     let state = "Print the world in which the trace ends, and what may come next";
+    let svg = "Print a picture of the trace in place of it, as SVG";
     clap::Command::new(alloc, "step")
         .about("Step a program through a schedule, and print the trace")
         .arg(described_schedule(alloc))?
         .arg(described_moves(alloc)?)?
         .arg(described_flag(alloc, "state", state))?
+        .arg(described_flag(alloc, "svg", svg).conflicts_with("state")?)?
+        .arg(described_from(alloc)?)?
         .arg(described_file(alloc))
 }
 
@@ -139,6 +153,7 @@ fn described_choice<'a>(alloc: Global, name: &'a str, default: &'a str) -> Arg<'
 /// The words of `find`.
 fn described_find<'a>(alloc: Global) -> Result<clap::Command<'a>, AllocError> {
     let json = "Print what is found as one JSON object";
+    let svg = "Print a picture of the run in place of the verdict and the trace, as SVG";
     let seed = described_choice(alloc, "seed", "1")
         .value_parser(value_parser!(u32))
         .help("What the choices are made by, from 0 to 4294967295");
@@ -150,6 +165,7 @@ fn described_find<'a>(alloc: Global) -> Result<clap::Command<'a>, AllocError> {
         .arg(seed)?
         .arg(walks)?
         .arg(described_flag(alloc, "json", json))?
+        .arg(described_flag(alloc, "svg", svg).conflicts_with("json")?)?
         .arg(described_file(alloc))
 }
 

@@ -47,12 +47,27 @@ pub enum Command<'a> {
         moves: Vec<u8>,
         state: bool,
     },
+    /// Step the program through this schedule, and draw the trace from the event with this number on, from 1.
+    Draw {
+        schedule: &'a str,
+        from: u64,
+    },
+    /// The same with the schedule that these moves spell.
+    DrawMoves {
+        moves: Vec<u8>,
+        from: u64,
+    },
     /// Find a run of the refused program into a fault: with the choices of this seed, by so many walks at most, from 1. What
     /// is found is written as JSON or as text.
     Find {
         seed: u32,
         walks: u32,
         json: bool,
+    },
+    /// Find a run as above, and draw it.
+    DrawFound {
+        seed: u32,
+        walks: u32,
     },
     /// Run the program on threads: with the choices of this seed, and at most so many events of its threads, from 1.
     /// What happened is written as a summary or as a trace.
@@ -246,6 +261,9 @@ fn check_of<'a>(check: &ArgMatches<'a>) -> Command<'a>
 fn step_of<'a>(alloc: Global, step: &ArgMatches<'a>) -> Result<Command<'a>, AllocError>
     ensures { IfOk result HasRanges }
 {
+    if step.get_flag("svg") {
+        return draw_of(alloc, step);
+    }
     let state = step.get_flag("state");
     if let Some(moves) = step.get_str("moves") {
         let moves = moves.as_bytes().to_vec(alloc)?;
@@ -256,6 +274,19 @@ fn step_of<'a>(alloc: Global, step: &ArgMatches<'a>) -> Result<Command<'a>, Allo
         return Ok(Command::State { schedule });
     }
     Ok(Command::Step { schedule })
+}
+
+/// The command `step --svg`. Moves that are in a file are read later.
+fn draw_of<'a>(alloc: Global, step: &ArgMatches<'a>) -> Result<Command<'a>, AllocError>
+    ensures { IfOk result HasRanges }
+{
+    let from = step.get_one::<u64>("from").unwrap_or(1);
+    if let Some(moves) = step.get_str("moves") {
+        let moves = moves.as_bytes().to_vec(alloc)?;
+        return Ok(Command::DrawMoves { moves, from });
+    }
+    let schedule = step.get_str("schedule").unwrap_or("");
+    Ok(Command::Draw { schedule, from })
 }
 
 /// The file that has the moves of `step`, if they are in one: `--moves @FILE`.
@@ -272,6 +303,9 @@ fn find_of<'a>(alloc: Global, find: &ArgMatches<'a>) -> Result<Command<'a>, Word
     let json = find.get_flag("json");
     if walks < 1 || walks > MOST_WALKS {
         return Err(WordsFault::Wrong(format!(in alloc; "{walks} is no number of walks")?));
+    }
+    if find.get_flag("svg") {
+        return Ok(Command::DrawFound { seed, walks });
     }
     Ok(Command::Find { seed, walks, json })
 }
