@@ -49,7 +49,7 @@ fn credits_are_counted(rt: HostRuntime) -> Result<(), Fail> {
     Ok(())
 }
 
-// Three credits, of which one is taken from a copy.
+// Three credits. One is taken from a copy.
 #[test]
 fn a_copy_is_apart(rt: HostRuntime) -> Result<(), Fail> {
     let program = read_program(rt.alloc(), NOTHING.as_bytes())?;

@@ -599,7 +599,7 @@ pub struct Strip {
     pub first: bool,
 }
 
-/// The strips of all pools, one pool beside the other, of which the first begins here, and where the last ends.
+/// The strips of all pools, one pool beside the other, from here on, and where the last ends.
 pub fn strips_of(
     alloc: Global,
     story: &Story<'_, '_>,

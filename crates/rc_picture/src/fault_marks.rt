@@ -474,7 +474,7 @@ fn put_strips(
     Ok(())
 }
 
-/// The line that joins both touches of a race, of which the other is in the next row.
+/// The line that joins both touches of a race. The other touch is in the next row.
 #[tactic(auto, unfolding(crate::specs::Red::joint))]
 fn put_joint(
     text: &mut Vec<u8>,

@@ -151,7 +151,7 @@ pub fn height_of(picture: &Picture) -> u64
     plus(at.y, 14)
 }
 
-/// Where what comes after these keys would begin, of which the first may begin here.
+/// Where what comes after these keys would begin, if the first of them may begin here.
 fn after_keys(start: Point, width: u64, keys: &[Key]) -> Point
     ensures { result ≡ spec.after_keys start width keys.now }
 {
@@ -180,7 +180,7 @@ pub fn put_legend(text: &mut Vec<u8>, drawn: Layer, picture: &Picture) -> Result
     put_keys(text, drawn, start, picture.width(), keys(picture))
 }
 
-/// Draws these keys, of which the first may begin here.
+/// Draws these keys, the first of them from here on.
 fn put_keys(
     text: &mut Vec<u8>,
     drawn: Layer,

@@ -27,7 +27,7 @@ abbrev pub count_below : ℕ → (ℕ → Bool) → ℕ
 count_below zero f = 0
 count_below (suc n) f = if f n then suc (count_below n f) else count_below n f
 
--- the first from i on, of n, for which it holds; behind them where none is
+-- the first from i on, of n, for which it holds; after them where none is
 abbrev pub first_from : (ℕ → Bool) → (i n : ℕ) → ℕ
 first_from f i zero = i
 first_from f i (suc n) = if f i then i else first_from f (i + 1) n

@@ -1,4 +1,4 @@
--- What is in each pool behind an event: what was put there less what was taken.
+-- What is in each pool after an event: what was put there less what was taken.
 use Rattle.std.specs.Prelude.{ℕ, zero, suc, ◌+◌, ◌-◌, true, if◌then◌else◌, List, [], ◌∷◌, ◌++◌, codes, decimal, length, Option, Some, None, nat_eq, nat_lt, slice_get}
 use Rattle.std.specs.List.{list_any}
 use Rattle.rc_lang.specs.declared.lines.Line.{Line}
@@ -95,7 +95,7 @@ abbrev pub after_event : Program → Stock → ℕ → Option Line → Event →
 after_event program stock n line (ByThread i number a) = after_line program i stock n line a
 after_event program stock n line (ByKernel c) = n
 
--- behind an event before which there were so many
+-- after an event before which there were so many
 unfoldable pub behind : Program → Stock → ℕ → Frame → ℕ
 behind program stock n f = after_event program stock n f.line f.event
 
@@ -103,12 +103,12 @@ abbrev pub behind_if_any : Program → Stock → ℕ → Option Frame → ℕ
 behind_if_any program stock n None = n
 behind_if_any program stock n (Some f) = behind program stock n f
 
--- behind the n-th event
+-- after the n-th event
 unfoldable pub in_pool : Story → Stock → ℕ → ℕ
 in_pool s stock zero = 0
 in_pool s stock (suc n) = behind_if_any s.world.program stock (in_pool s stock n) (slice_get s.frames n)
 
--- behind the n-th event in the first k pools together, and in all
+-- after the n-th event in the first k pools together, and in all
 abbrev pub in_first : Story → Part → (n k : ℕ) → ℕ
 in_first s part n zero = 0
 in_first s part n (suc k) = in_first s part n k ⊕ in_pool s (record { pool = pool_at k; part = part }) n

@@ -9,11 +9,11 @@ use Rattle.rc_story.specs.Parts.{each, when}
 use Rattle.rc_story.specs.Rounds.{repeats, round}
 use Rattle.rc_story.specs.Story.{Story, fault}
 
--- so many events behind the n-th
+-- so many events after the n-th
 abbrev pub told : (n count : ℕ) → List Row
 told n count = each count (λ i. Event (n + i + 1) ∷ [])
 
--- The rows with which the events behind the n-th begin: a round that comes again twice or more is told once, and a row
+-- The rows with which the events after the n-th begin: a round that comes again twice or more is told once, and a row
 -- says how often it comes again; else they are the next event.
 unfoldable pub next_rows : List Frame → (n : ℕ) → List Row
 next_rows frames n =
@@ -28,7 +28,7 @@ next_size frames n =
     let again = repeats (drop n frames) size in
     if nat_le 2 again then size * (again + 1) else 1
 
--- how many events are told when k times more rows were told of those behind the n-th
+-- how many events are told when k times more rows were told of those after the n-th
 abbrev pub told_upto : List Frame → (n k : ℕ) → ℕ
 told_upto frames n zero = n
 told_upto frames n (suc k) =
@@ -38,7 +38,7 @@ told_upto frames n (suc k) =
 abbrev pub rows_behind : List Frame → ℕ → List Row
 rows_behind frames at = when (nat_lt at (length frames)) (next_rows frames at)
 
--- the rows of all events behind the n-th
+-- the rows of all events after the n-th
 unfoldable pub event_rows : List Frame → ℕ → List Row
 event_rows frames n = each (length frames) (λ k. rows_behind frames (told_upto frames n k))
 

@@ -1,4 +1,4 @@
--- What a picture is drawn of: the events of a run, each with the line that it was made at and the world behind it.
+-- What a picture is drawn of: the events of a run, each with the line that it was made at and the world after it.
 use Rattle.std.specs.Prelude.{ℕ, zero, suc, Bool, true, false, ◌&&◌, ◌||◌, if◌then◌else◌, List, [], ◌∷◌, length, Option, Some, None, slice_get, nat_eq, nat_lt, is_none}
 use Rattle.rc_lang.specs.declared.lines.Line.{Line}
 use Rattle.rc_lang.specs.declared.lines.Op.TheVariants.{Load, Store, Fill}
@@ -41,7 +41,7 @@ abbrev pub line_of : World → Item → Option Line
 line_of w (Thread i take) = next_line w.program w.controls i
 line_of w (Kernel u res fill) = None
 
--- an event of a world, and the world behind it
+-- an event of a world, and the world after it
 abbrev pub frame_of : World → Item → Event → World → Frame
 frame_of w item e next = record { event = e; line = line_of w item; after = moment_of next }
 
@@ -59,7 +59,7 @@ frames_from w (item ∷ items) = frames_at w item (λ next. frames_from next ite
 
 -- ---- the story
 
--- The text, the events of its program, the world behind the last of them, how the trace ends, and how many events are
+-- The text, the events of its program, the world after the last of them, how the trace ends, and how many events are
 -- left out above.
 pub record Story : Type 0 where
   pub text : List ℕ
@@ -76,7 +76,7 @@ frame_numbered frames (suc n) = slice_get frames n
 abbrev pub frame : Story → ℕ → Option Frame
 frame s n = frame_numbered s.frames n
 
--- the world behind an event; without one that of the start
+-- the world after an event; without one that of the start
 abbrev pub moment_in : Option Frame → Moment
 moment_in None = record { holders = nobody; slot = Closed; made = 0; queued = 0; completions = 0 }
 moment_in (Some f) = f.after
@@ -84,7 +84,7 @@ moment_in (Some f) = f.after
 abbrev pub moment : Story → ℕ → Moment
 moment s n = moment_in (frame s n)
 
--- ---- lanes: one for each thread, and behind them the kernel's
+-- ---- lanes: one for each thread, and after them the kernel's
 
 abbrev pub kernel : Story → ℕ
 kernel s = length s.world.program.threads
@@ -148,7 +148,7 @@ fault_line s = line_in s.world (culprit s)
 abbrev pub next_touch : World → ℕ → Option Touch
 next_touch w i = touch_at (next_line w.program w.controls i)
 
--- the first behind thread i, of the first n, that races with it
+-- the first after thread i, of the first n, that races with it
 abbrev pub is_rival : World → (i j : ℕ) → Bool
 is_rival w i j = nat_lt i j && races (next_touch w i) (next_touch w j)
 

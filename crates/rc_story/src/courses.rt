@@ -279,7 +279,7 @@ fn data_of(event: Event) -> u64
     }
 }
 
-/// The number of the first event after this one that is sought. After none there is none, which is 0.
+/// The number of the first event after this one that is sought, and 0 if there is none.
 fn next(frames: &[Frame], after: u64, sought: Sought) -> u64
     ensures { result ≡ spec.next frames.now after sought }
 {

@@ -1,4 +1,4 @@
-//! The events of a run, each with the line that it was made at and the world behind it.
+//! The events of a run, each with the line that it was made at and the world after it.
 
 ghost use Rattle.std.specs.Prelude.{◌≡◌, ◌+◌, ◌<◌, ◌≤◌, ◌^◌, IfOk};
 ghost use Rattle.rc_report.specs.Engine.{end_of};
@@ -37,7 +37,7 @@ pub struct Frame {
     pub event: Event,
     /// The line of the thread that made it.
     pub line: Option<Line>,
-    /// The world behind it.
+    /// The world after it.
     pub after: Moment,
 }
 

@@ -99,7 +99,7 @@ fn push_events(rows: &mut Vec<Row>, story: &Story<'_, '_>) -> Result<(), AllocEr
     Ok(())
 }
 
-/// Adds the rows with which the events from this place on begin. Answers the place behind them.
+/// Adds the rows with which the events from this place on begin. Answers the place after them.
 #[tactic(auto, unfolding(crate::specs::Rows::next_rows, crate::specs::Rows::next_size))]
 fn push_next(rows: &mut Vec<Row>, frames: &[Frame], at: usize) -> Result<usize, AllocError>
     requires { at < length frames.now }

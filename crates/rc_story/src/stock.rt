@@ -1,4 +1,4 @@
-//! What is in each pool behind an event: what was put there less what was taken.
+//! What is in each pool after an event: what was put there less what was taken.
 
 ghost use Rattle.std.specs.Prelude.{◌≡◌, nat_eq, option_map, slice_get};
 ghost use Rattle.std.specs.List.{list_any};
@@ -173,7 +173,7 @@ pub fn items_of(program: &Program, thread: u32, list: usize) -> Option<&Items>
     program.lists_of(thread as usize).get(list)
 }
 
-/// How many of a part are in a pool behind an event before which there were so many.
+/// How many of a part are in a pool after an event before which there were so many.
 #[tactic(auto, unfolding(crate::specs::Pool::behind))]
 fn behind(program: &Program, frame: Frame, stock: Stock, count: u64) -> u64
     ensures { result ≡ spec.behind program.now stock count frame }
@@ -187,7 +187,7 @@ fn behind(program: &Program, frame: Frame, stock: Stock, count: u64) -> u64
     }
 }
 
-/// How many of a part are in a pool behind a statement.
+/// How many of a part are in a pool after a statement.
 fn after_stmt(
     program: &Program,
     thread: u32,
@@ -219,7 +219,7 @@ fn moved(program: &Program, thread: u32, stock: Stock, pool: Option<usize>, list
     }
 }
 
-/// How many of a part are in a pool behind the event with this number.
+/// How many of a part are in a pool after the event with this number.
 #[tactic(auto, unfolding(crate::specs::Pool::in_pool))]
 pub fn in_pool(story: &Story<'_, '_>, stock: Stock, number: u64) -> u64
     ensures { result ≡ spec.in_pool story.now stock number }
@@ -231,7 +231,7 @@ pub fn in_pool(story: &Story<'_, '_>, stock: Stock, number: u64) -> u64
     count
 }
 
-/// How many there are behind the event at a place, if there is one.
+/// How many there are after the event at a place, if there is one.
 fn behind_if_any(story: &Story<'_, '_>, stock: Stock, count: u64, place: u64) -> u64
     ensures { result
         ≡ spec.behind_if_any story.now.world.program stock count (slice_get story.now.frames place) }
@@ -242,7 +242,7 @@ fn behind_if_any(story: &Story<'_, '_>, stock: Stock, count: u64, place: u64) ->
     }
 }
 
-/// How many of a part are in all pools behind the event with this number.
+/// How many of a part are in all pools after the event with this number.
 #[tactic(auto, unfolding(crate::specs::Pool::in_pools))]
 pub fn in_pools(story: &Story<'_, '_>, part: Part, number: u64) -> u64
     ensures { result ≡ spec.in_pools story.now part number }

@@ -14,7 +14,7 @@ use rc_world::fault::{Fault, Party};
 use rc_world::world::{Slot, World};
 use std::marker::Model;
 
-/// What a picture is drawn of: the lines of a text, the events of its program, the world behind the last of them, how
+/// What a picture is drawn of: the lines of a text, the events of its program, the world after the last of them, how
 /// the trace ends, and how many events are left out above.
 #[derive(Drop)]
 pub struct Story<'s, 'a> {
@@ -90,7 +90,7 @@ impl<'s, 'a> Story<'s, 'a> {
         self.lines
     }
 
-    /// The world behind the last event.
+    /// The world after the last event.
     pub fn world(&self) -> &'s World<'a>
         ensures { result.now ≡ self.now.world }
     {
@@ -142,7 +142,7 @@ impl<'s, 'a> Story<'s, 'a> {
         self.frames.get(number as usize - 1).copied()
     }
 
-    /// The world behind the event with this number; the start for 0.
+    /// The world after the event with this number; the start for 0.
     pub fn moment(&self, number: u64) -> Moment
         ensures { result ≡ spec.moment self.now number }
     {
@@ -226,7 +226,7 @@ impl<'s, 'a> Story<'s, 'a> {
         }
     }
 
-    // The first thread behind this one that races with it.
+    // The first thread after this one that races with it.
     fn rival_of(&self, culprit: u32) -> Option<u32>
         ensures { result ≡ spec.rival_of self.now.world (Some culprit) }
     {
@@ -239,7 +239,7 @@ impl<'s, 'a> Story<'s, 'a> {
         rival
     }
 
-    // Whether a thread is behind this one and races with it.
+    // Whether a thread is after this one and races with it.
     fn is_rival(&self, culprit: u32, thread: u32) -> bool
         ensures { result ≡ spec.is_rival self.now.world culprit thread }
     {

@@ -70,7 +70,7 @@ text_start at = codes "<text x=\"" ++ decimal at.x ++ codes "\" y=\"" ++ decimal
 unfoldable pub words_in : List ℕ → List ℕ → List ℕ
 words_in words result = codes ">" ++ escaped words ++ result_text result ++ codes "</text>\n"
 
--- words, with a result behind them; no words are no element
+-- words, with a result after them; no words are no element
 unfoldable pub text_tag : Point → Anchor → List ℕ → List ℕ → List ℕ
 text_tag at anchor [] result = []
 text_tag at anchor (b ∷ bs) result = text_start at ++ anchor_text at anchor ++ words_in (b ∷ bs) result

@@ -239,7 +239,7 @@ pub enum Anchor {
     Turned,
 }
 
-/// Words, with a result behind them; no words are no element.
+/// Words, with a result after them; no words are no element.
 #[tactic(auto, unfolding(crate::specs::Elements::text))]
 pub fn put_words(
     text: &mut Vec<u8>,

@@ -179,7 +179,7 @@ name_of_lane s (Some i) = lane_name s i
 unfoldable pub mover_name : Story → Row → List ℕ
 mover_name s row = name_of_lane s (mover s row)
 
--- what a trace says behind the word of a step
+-- what a trace says after the word of a step
 abbrev pub detail : Action → List ℕ
 detail (DataSet u) = decimal u
 detail (Reaped u) = decimal u

@@ -67,7 +67,7 @@ fn rival_line(story: &Story<'_, '_>) -> Option<Line>
 
 // ---- words
 
-/// The words of a row, of which those behind 36 bytes are cut.
+/// The words of a row. What comes after 36 bytes is cut.
 #[tactic(auto, unfolding(crate::specs::Words::words_of_row))]
 pub fn words_of(alloc: Global, story: &Story<'_, '_>, row: Row) -> Result<Vec<u8>, AllocError>
     ensures { IfOk result (λ words. words.items ≡ spec.words_of_row story.now row) }
@@ -428,7 +428,7 @@ fn put_action(text: &mut Vec<u8>, action: Action) -> Result<(), AllocError>
     put_detail(text, action)
 }
 
-/// Adds what a trace says behind the word of a step.
+/// Adds what a trace says after the word of a step.
 fn put_detail(text: &mut Vec<u8>, action: Action) -> Result<(), AllocError>
     ensures { Puts text.old text.new (spec.detail action) result }
 {

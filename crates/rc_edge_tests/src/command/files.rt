@@ -7,7 +7,7 @@ use rc_examples::programs::NOP;
 use rc_report::streams::WriteSink;
 use std::io::{self, ErrorKind, Write};
 
-/// What is told of files of which no row can have one.
+/// What is told of files that no row can have.
 #[test]
 fn files_that_give_no_text_are_told(rt: HostRuntime) {
     for (unread, told) in [

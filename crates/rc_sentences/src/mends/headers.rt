@@ -33,7 +33,7 @@ fn at_start(refused: Refused<'_>, buffer: usize) -> Begun<'_> {
     Begun { given, other }
 }
 
-/// Adds that the header of a thread is to hold a part of which the rest is no header's.
+/// Adds that the header of a thread is to hold a part, since no header has the rest.
 fn put_more(
     text: &mut Vec<u8>,
     refused: Refused,
@@ -46,7 +46,7 @@ fn put_more(
     put_piece(text, b": no header has the rest.")
 }
 
-/// Adds that a thread is to begin with a part of which another one begins with so much.
+/// Adds that a thread is to begin with a part, and that another one now begins with so much of it.
 fn put_other(
     text: &mut Vec<u8>,
     refused: Refused,
