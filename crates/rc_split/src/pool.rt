@@ -42,6 +42,17 @@ impl Pool {
         }
     }
 
+    /// The same pool again.
+    pub fn copy(&self) -> Pool
+        ensures { result ≡ self.now }
+    {
+        Pool {
+            shares: self.shares,
+            marks: self.marks,
+            credits: self.credits,
+        }
+    }
+
     /// How many credits are in the pool.
     pub fn credits(&self) -> u32
         ensures { result ≡ self.now.credits }

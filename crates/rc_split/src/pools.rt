@@ -45,6 +45,20 @@ impl Pools {
         })
     }
 
+    /// The same pools again.
+    pub fn copy(&self, alloc: Global) -> Result<Pools, AllocError>
+        ensures { IfOk result (λ p. p ≡ self.now) }
+    {
+        let mut named = Vec::with_capacity(alloc, self.named.len())?;
+        for pool in &self.named {
+            named.push(pool.copy())?;
+        }
+        Ok(Pools {
+            unnamed: self.unnamed.copy(),
+            named,
+        })
+    }
+
     /// The pool without a name.
     pub fn unnamed(&self) -> &Pool
         ensures { result.now ≡ self.now.unnamed }
