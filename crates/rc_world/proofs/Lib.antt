@@ -15,9 +15,11 @@ pub mod StepParts
 pub mod Cases
 pub mod RingSteps
 pub mod WorldSteps
+mod Straying
 pub mod Kernel
 pub mod Removing
 pub mod Starting
+mod Copying
 pub mod Heads
 pub mod LawFaultless
 pub mod LawGoes

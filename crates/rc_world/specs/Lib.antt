@@ -13,5 +13,7 @@ pub mod Parts
 pub mod Readers
 pub mod Runs
 pub mod Schedule
+pub mod Stray
 pub mod Trace
+pub mod WeakRuns
 pub mod WorldParts

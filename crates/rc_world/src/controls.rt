@@ -18,6 +18,7 @@ use std::marker::Model;
 
 mod places;
 mod steps;
+mod weak;
 
 /// Where a thread is.
 #[derive(Clone, Copy)]

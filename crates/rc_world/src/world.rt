@@ -26,6 +26,7 @@ mod faults;
 mod readers;
 pub mod requests;
 mod rings;
+mod weak;
 
 /// The open submission entry.
 #[derive(Clone, Copy)]
@@ -235,8 +236,8 @@ impl<'a> World<'a> {
         }
     }
 
-    // The entries of the submission ring in use: an open entry counts.
-    fn used_entries(&self) -> usize
+    /// The entries of the submission ring in use: an open entry counts (`io_uring_sq_ready(3)`).
+    pub fn used_entries(&self) -> usize
         ensures value { result ≡ machine.used_entries self.now }
         ensures few { result ≤ 1024 }
         ensures room { result ≤ self.now.program.entries }

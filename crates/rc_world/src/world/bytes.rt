@@ -1,6 +1,6 @@
 //! The bytes of a buffer, which take no memory before the first of them is written.
 
-ghost use Rattle.std.specs.Prelude.{◌≡◌, ◌<◌, ◌≤◌, length, replicate, slice_get, slice_set};
+ghost use Rattle.std.specs.Prelude.{◌≡◌, ◌<◌, ◌≤◌, length, replicate, slice_get, slice_set, IfOk};
 ghost use Rattle.rc_world.specs.Parts.{bytes_in, refilled};
 ghost use Rattle.rc_world.specs.WorldParts.{Becomes};
 
@@ -35,6 +35,16 @@ impl Bytes {
             len,
             written: Vec::new(alloc),
         }
+    }
+
+    // The same bytes again.
+    pub(super) fn copy(&self, alloc: Global) -> Result<Bytes, AllocError>
+        ensures { IfOk result (λ b. b ≡ self.now) }
+    {
+        Ok(Bytes {
+            len: self.len,
+            written: Vec::from_slice(alloc, &self.written)?,
+        })
     }
 
     // The byte at a place.

@@ -21,6 +21,14 @@ impl<'a> World<'a> {
         self.controls.line(self.program, thread)
     }
 
+    /// The place of the line that a thread has next, or the number of its lines where it has ended; none where there is
+    /// no such thread.
+    pub fn place(&self, thread: u32) -> Option<usize>
+        ensures { result ≡ option_map (λ t. t.place) (slice_get self.now.controls.threads thread) }
+    {
+        self.controls.place(thread)
+    }
+
     /// The value of a thread's variable; 0 where there is no such thread or variable.
     pub fn variable(&self, thread: u32, x: usize) -> i64
         ensures { result ≡ variable_in (slice_get self.now.controls.threads thread) x }
@@ -76,6 +84,13 @@ impl<'a> World<'a> {
         ensures { result ≡ items.pending_place self.now user_data }
     {
         place_of_pending(&self.pending, user_data)
+    }
+
+    /// The requests that are completed and not reaped, in the order of their completions.
+    pub fn completed(&self) -> &[Request]
+        ensures { result.now ≡ self.now.completed }
+    {
+        &self.completed
     }
 
     /// The completions that aren't reaped, from the front.

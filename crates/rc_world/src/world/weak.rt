@@ -1,0 +1,80 @@
+//! What weak runs need: worlds again, and stray steps.
+
+ghost use Rattle.std.specs.Prelude.{◌≡◌, true, Some, IfOk};
+ghost use Rattle.rc_world.specs.Stray.{can_stray, stray_step};
+
+use super::bytes::Bytes;
+use super::{Pending, World};
+use crate::event::Event;
+use std::alloc::{AllocError, Global};
+
+impl<'a> World<'a> {
+    /// The same world again; it fails where memory runs out.
+    pub fn copy(&self, alloc: Global) -> Result<World<'a>, AllocError>
+        ensures { IfOk result (λ w. w ≡ self.now) }
+    {
+        Ok(World {
+            program: self.program,
+            controls: self.controls.copy(alloc)?,
+            slot: self.slot,
+            queued: Vec::from_slice(alloc, &self.queued)?,
+            pending: copy_pending(alloc, &self.pending)?,
+            completed: Vec::from_slice(alloc, &self.completed)?,
+            completions: Vec::from_slice(alloc, &self.completions)?,
+            made: self.made,
+            buffers: copy_buffers(alloc, &self.buffers)?,
+            has_clash: self.has_clash,
+        })
+    }
+
+    /// Whether the thread has a stray step: whether it is at an `if take` or at a load.
+    pub fn strays(&self, thread: u32) -> bool
+        ensures { result ≡ can_stray self.now thread }
+    {
+        self.controls.strays(self.program, thread)
+    }
+
+    /// Makes the stray step of the thread, and answers its event: an `if take` goes to its second branch although its
+    /// pool may have all items, and a load gives this byte. It looks for no fault and takes no memory.
+    pub fn stray(&mut self, thread: u32, byte: u8) -> Event
+        requires { can_stray self.old thread ≡ true }
+        ensures { stray_step self.old thread byte ≡ Some (result, self.new) }
+    {
+        self.controls.stray(self.program, thread, byte)
+    }
+}
+
+// The same pending requests again, with their bytes.
+fn copy_pending(alloc: Global, pending: &[Pending]) -> Result<Vec<Pending>, AllocError>
+    ensures { IfOk result (λ v. v.items ≡ pending.now) }
+{
+    let mut copies = Vec::with_capacity(alloc, pending.len())?;
+    for Pending { request, bytes } in pending {
+        copies.push(Pending {
+            request: *request,
+            bytes: copy_bytes(alloc, bytes)?,
+        })?;
+    }
+    Ok(copies)
+}
+
+// The same buffers again.
+fn copy_buffers(alloc: Global, buffers: &[Option<Bytes>]) -> Result<Vec<Option<Bytes>>, AllocError>
+    ensures { IfOk result (λ v. v.items ≡ buffers.now) }
+{
+    let mut copies = Vec::with_capacity(alloc, buffers.len())?;
+    for bytes in buffers {
+        copies.push(copy_bytes(alloc, bytes)?)?;
+    }
+    Ok(copies)
+}
+
+// The same bytes again, where they are there.
+fn copy_bytes(alloc: Global, bytes: &Option<Bytes>) -> Result<Option<Bytes>, AllocError>
+    ensures { IfOk result (λ b. b ≡ bytes.now) }
+{
+    match bytes {
+        Some(bytes) => Ok(Some(bytes.copy(alloc)?)),
+        None => Ok(None),
+    }
+}
