@@ -1,6 +1,6 @@
--- A step of a thread and a step of the kernel keep what is true of each world, and the start world has it.
+-- A step of a thread, also a stray one, and a step of the kernel keep what is true of each world.
 use Rattle.std.proofs.Common.{◌≡◌, ℕ, ◌+◌, ◌≤◌, Bool, true, false, ◌&&◌, List, [], ◌∷◌, ◌++◌, length, Option, Some, None, refl, sym, ap, ◌∙◌, subst, arith}
-use Rattle.std.specs.Prelude.{nat_eq, slice_get, ℤ, if◌then◌else◌}
+use Rattle.std.specs.Prelude.{nat_eq, slice_get, ℤ, pos, if◌then◌else◌}
 use Rattle.rc_lang.specs.declared.lines.Line.{Line}
 use Rattle.rc_lang.specs.declared.request.Request.{Request}
 use Rattle.rc_lang.specs.Program.{IsProgram, Program, lines_of, stmt_of}
@@ -13,11 +13,12 @@ use Rattle.rc_world.specs.declared.event.Event.{Event}
 use Rattle.rc_world.specs.Controls.{Controls, Move, Standing, acts, acts_on, as_event, made, next_at, next_line}
 use Rattle.rc_world.specs.Faults.{is_holder}
 use Rattle.rc_world.specs.Machine.{Pending, World, bytes_brought, completes, completion_of, given_back, in_rings, kernel_event, kernel_step, kernel_step_of, stmt_answer, thread_step, thread_step_at, with_controls, without}
+use Rattle.rc_world.specs.Stray.{stray_step, strays, strays_on}
 use Rattle.rc_admit.proofs.Flight.{agree_more, completed_sum}
 use Rattle.rc_admit.proofs.Lists.{sum_to, sum_over, Each-append, Each-without, Each-get}
 use Rattle.rc_admit.proofs.Ops.{Keeps}
 use Rattle.rc_admit.proofs.Owned.{Stand, HasEdge, EdgeAt, owns, owns_pending, unheld, FrontFits, held, held_map, HasKind, HasKindPending, WellOwned}
-use Rattle.rc_admit.proofs.Steps.{line_keeps}
+use Rattle.rc_admit.proofs.Steps.{line_keeps, stray_keeps}
 
 -- It holds of the world after a step, where that can be made.
 abbrev pub AfterStep : (World → Type 0) → Option (Event × World) → Type 0
@@ -97,3 +98,19 @@ own_step S w i r made edge h = go (slice_get w.controls.threads i) refl (next_li
 
 pub thread_keeps : (P : Program) → IsProgram P → (S : Stand) → HasEdge P S → (w : World) (i : ℕ) (r : ℤ) → WellOwned P S w → AfterStep (WellOwned P S) (thread_step w i r)
 thread_keeps P made S edge w i r h = subst (λ Q. AfterStep (WellOwned Q S) (thread_step w i r)) h.2.of (own_step S w i r (subst IsProgram (sym h.2.of) made) (subst (λ Q. HasEdge Q S) (sym h.2.of) edge) (subst (λ Q. WellOwned Q S w) (sym h.2.of) h))
+
+-- ---- a stray step of a thread
+
+own_stray : (S : Stand) (w : World) (i byte : ℕ) → IsProgram w.program → HasEdge w.program S → WellOwned w.program S w → AfterStep (WellOwned w.program S) (stray_step w i byte)
+own_stray S w i byte made edge h = go (slice_get w.controls.threads i) refl (next_line w.program w.controls i) refl
+  where
+    go : (x : Option Standing) → slice_get w.controls.threads i ≡ x → (y : Option Line) → next_line w.program w.controls i ≡ y → AfterStep (WellOwned w.program S) (with_controls (Some w) (strays_on w.program w.controls i byte x y))
+    go None e y f = tt
+    go (Some t) e None f = tt
+    go (Some t) e (Some l) f =
+        let at : stmt_of (slice_get (lines_of w.program i) t.place) ≡ Some l.stmt = ap stmt_of (ap (λ x. next_at w.program i x) (sym e) ∙ f) in
+        let line = stray_keeps w.program made S edge w h.0 h.1 i t (pos 0) h.2 e byte l.stmt (subst (λ x. EdgeAt w.program S i (h.0 i) (h.1 i) t.variables t.place x) at (edge i (h.0 i) (h.1 i) t.variables t.place (h.2.stands i t e))) in
+        event_keeps w.program S w.controls i l (Some w) (strays w.program w.controls i t byte l.stmt) line
+
+pub stray_step_keeps : (P : Program) → IsProgram P → (S : Stand) → HasEdge P S → (w : World) (i byte : ℕ) → WellOwned P S w → AfterStep (WellOwned P S) (stray_step w i byte)
+stray_step_keeps P made S edge w i byte h = subst (λ Q. AfterStep (WellOwned Q S) (stray_step w i byte)) h.2.of (own_stray S w i byte (subst IsProgram (sym h.2.of) made) (subst (λ Q. HasEdge Q S) (sym h.2.of) edge) (subst (λ Q. WellOwned Q S w) (sym h.2.of) h))

@@ -8,6 +8,7 @@ use Rattle.std.specs.List.{list_any}
 use Rattle.std.proofs.lemmas.Bool.Decides.{Decides-int_eq}
 use Rattle.rc_lang.specs.Comparisons.{compares}
 use Rattle.rc_lang.specs.declared.lines.Locks.{Locks}
+use Rattle.rc_lang.specs.declared.lines.Op.TheVariants.{Load}
 use Rattle.rc_lang.specs.declared.lines.Stmt.{Stmt}
 use Rattle.rc_lang.specs.declared.lines.Stmt.TheVariants.{Do, Put, Lock, EndLock, If, Peek, Loop, EndLoop, Break}
 use Rattle.rc_lang.specs.declared.lines.Test.{Test}
@@ -34,6 +35,7 @@ use Rattle.rc_world.specs.declared.event.Completion.{Completion}
 use Rattle.rc_world.specs.declared.world.Slot.TheVariants as entries
 use Rattle.rc_world.specs.Controls.{Standing, acts, are_free, arm_for, branches, decides, goes_on, held_by, is_free, locks, none_arm, peeks, plainly, puts_items, takes_locks, tries_to_take}
 use Rattle.rc_world.specs.Machine.{World, front_of, in_rings, slot_len, stmt_answer, test_answer, used_entries}
+use Rattle.rc_world.specs.Stray.{strays}
 use Rattle.rc_admit.proofs.Flight.{data_in, front_is}
 use Rattle.rc_admit.proofs.Lists.{sum_to, sum_over, sum_to_one}
 use Rattle.rc_admit.proofs.Moves.{CqPart, Moved, SqPart, moves, put, with_locks, cq_frees, cq_has, cq_step, cq_takes, sq_frees, sq_has, sq_step, sq_still, sq_takes, cq_still, taken}
@@ -312,3 +314,9 @@ module _ (P : Program) (made : IsProgram P) (S : Stand) (edge : HasEdge P S) (w 
   line_keeps (Loop k) h = goes _ _ _ _ _ still h
   line_keeps (Break p releases leaves) h = break_keeps releases leaves (end_at P i p + 1) h.0 h.1 h.2 h.3
   line_keeps _ h = tt
+
+  -- and so does a stray one
+  pub stray_keeps : (byte : ℕ) (s : Stmt) → EdgeAt P S i (bags i) (modes i) t.variables t.place (Some s) → Keeps P S w.controls i (Some w) (strays P w.controls i t byte s)
+  stray_keeps byte (If (Take pool k)) h = goes _ _ _ _ _ still (h.2 tt)
+  stray_keeps byte (Do (Load x b j)) h = goes _ _ _ _ _ still (h.1 _ (pos byte, refl))
+  stray_keeps byte _ h = tt

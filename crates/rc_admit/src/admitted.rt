@@ -2,6 +2,7 @@
 
 ghost use Rattle.std.specs.Prelude.{◌≡◌, IfOk};
 ghost use Rattle.rc_world.specs.Runs.{IsSafe};
+ghost use Rattle.rc_world.specs.WeakRuns.{IsWeaklySafe};
 ghost use Rattle.rc_admit.specs.Answer.{Admits, AdmitsProgram};
 ghost use Rattle.rc_admit.specs.Judged.{IsJudged};
 
@@ -15,7 +16,7 @@ use std::alloc::{AllocError, Global};
 use std::marker::Model;
 
 /// A program that is safe: no world of any run of it has a fault, whatever the order in which its threads and the
-/// kernel make their steps. There is no other `Admitted`.
+/// kernel make their steps, and none of any weak run. There is no other `Admitted`.
 #[derive(Drop)]
 pub struct Admitted {
     program: Program,
@@ -27,11 +28,11 @@ impl Model for Admitted {
 
     ghost Value = { spec.Program };
 
-    ghost use Rattle.rc_world.specs.Runs.{IsSafe};
+    ghost use Rattle.rc_world.specs.WeakRuns.{IsWeaklySafe};
 
     ghost view = { λ a. a.program };
 
-    ghost invariant = { λ a. IsSafe a.program };
+    ghost invariant = { λ a. IsWeaklySafe a.program };
 }
 
 impl Admitted {
@@ -50,6 +51,7 @@ impl Admitted {
     pub fn program(&self) -> &Program
         ensures value { result.now ≡ self.now }
         ensures safe { IsSafe self.now }
+        ensures weakly_safe { IsWeaklySafe self.now }
     {
         &self.program
     }

@@ -1,12 +1,18 @@
 //! What holds of the definitions alone.
 
-ghost use Rattle.rc_admit.specs.Laws.{AcceptedIsSafe};
+ghost use Rattle.rc_admit.specs.Laws.{AcceptedIsSafe, AcceptedIsWeaklySafe};
 ghost use Rattle.rc_admit.specs.Worlds as worlds;
 
 /// An accepted program is safe: no world of any run of it has a fault, whatever the order in which its threads and the
 /// kernel make their steps, whatever its submits are answered and whatever its reads bring.
 pub fn accepted_is_safe()
     ensures { AcceptedIsSafe }
+{}
+
+/// Nor has any world of a weak run of it, in which besides an `if take` may go to its second branch although its pool
+/// has all items, and a load may give any byte.
+pub fn accepted_is_weakly_safe()
+    ensures { AcceptedIsWeaklySafe }
 {}
 
 /// What safe means, of each world of each run of a safe program:
