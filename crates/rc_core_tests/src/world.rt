@@ -1,6 +1,6 @@
 //! What no command shows of worlds and schedules.
 
-use rc_examples::programs::NOP;
+use rc_examples::programs::{NOP, SHARE};
 use rc_read::read_program;
 use rc_world::event::Item;
 use rc_world::schedule::ScheduleFault;
@@ -20,6 +20,27 @@ fn requests_are_counted(rt: HostRuntime) -> Result<(), Fail> {
         assert!(rt; world.made() == made && made < 9 && world.enabled(&step));
         world.apply(&step)?;
     }
+    Ok(())
+}
+
+// A copy is a world of its own. A load that strays gives the byte that is named.
+#[test]
+fn copies_stray_alone(rt: HostRuntime) -> Result<(), Fail> {
+    let program = read_program(rt.alloc(), SHARE.as_bytes())?;
+    let mut world = World::start(rt.alloc(), &program)?;
+    let step = Item::Thread {
+        thread: 0,
+        take: None,
+    };
+    for _step in 0..9 {
+        assert!(rt; !world.strays(0) && world.made() < 9 && world.enabled(&step));
+        world.apply(&step)?;
+    }
+    assert!(rt; world.strays(0));
+    let mut copy = world.copy(rt.alloc())?;
+    copy.stray(0, 7);
+    assert_eq!(rt; copy.variable(0, 1), 7);
+    assert_eq!(rt; world.variable(0, 1), 0);
     Ok(())
 }
 
