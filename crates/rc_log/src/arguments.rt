@@ -1,0 +1,171 @@
+//! Calls, by the words after their first.
+
+ghost use Rattle.std.specs.Prelude.{◌≡◌, option_map};
+ghost use Rattle.rc_log.specs.Cuts.{words_after};
+ghost use Rattle.rc_log.specs.Said as spec;
+
+use crate::call::{Call, Lack};
+use crate::parts::{answer, buffer_of, count, file_of, long};
+use crate::words::{is, is_end, next_word, one_word, two_words};
+use rc_lang::numbers::number_of;
+use rc_lang::program::Program;
+
+/// What a read or a write moves.
+#[derive(Clone, Copy)]
+pub struct Transfer {
+    /// The number of a declared file.
+    pub file: u32,
+    /// The place of a declared buffer.
+    pub buffer: usize,
+    /// How many bytes, in the program of C.
+    pub len: u64,
+}
+
+/// `CALL`.
+pub fn alone(call: Call, rest: Option<&[u8]>) -> Option<Call>
+    ensures { result ≡ spec.alone call (words_after rest) }
+{
+    is_end(rest).then_some(call)
+}
+
+/// `get_sqe N`.
+pub fn get_sqe(rest: Option<&[u8]>) -> Option<Call>
+    ensures { result ≡ spec.get_sqe (words_after rest) }
+{
+    match number_of(0, 1, one_word(rest)?)? {
+        1 => Some(Call::GetSqe),
+        _ => Some(Call::Foreign(Lack::NoEntry)),
+    }
+}
+
+fn moved(file: Result<u32, Lack>, buffer: Result<usize, Lack>, len: u64) -> Result<Transfer, Lack>
+    ensures { result ≡ spec.moved file buffer len }
+{
+    Ok(Transfer {
+        file: file?,
+        buffer: buffer?,
+        len,
+    })
+}
+
+/// `FILE BUFFER LEN OFF`.
+fn transfer_in(program: &Program, rest: Option<&[u8]>) -> Option<Result<Transfer, Lack>>
+    ensures { result ≡ spec.transfer program.now (words_after rest) }
+{
+    let (file, rest) = next_word(rest)?;
+    let (buffer, rest) = next_word(rest)?;
+    let (len, off) = two_words(rest)?;
+    let file = file_of(program, file)?;
+    let buffer = buffer_of(program, buffer)?;
+    let len = long(len)?;
+    let _ = long(off)?;
+    Some(moved(file, buffer, len))
+}
+
+/// `prep_read FILE BUFFER LEN OFF`.
+pub fn prep_read(program: &Program, rest: Option<&[u8]>) -> Option<Call>
+    ensures { result ≡ option_map spec.read_of (spec.transfer program.now (words_after rest)) }
+{
+    match transfer_in(program, rest)? {
+        Ok(Transfer { file, buffer, len }) => Some(Call::PrepRead { file, buffer, len }),
+        Err(lack) => Some(Call::Foreign(lack)),
+    }
+}
+
+/// `prep_write FILE BUFFER LEN OFF`.
+pub fn prep_write(program: &Program, rest: Option<&[u8]>) -> Option<Call>
+    ensures { result ≡ option_map spec.write_of (spec.transfer program.now (words_after rest)) }
+{
+    match transfer_in(program, rest)? {
+        Ok(Transfer { file, buffer, len }) => Some(Call::PrepWrite { file, buffer, len }),
+        Err(lack) => Some(Call::Foreign(lack)),
+    }
+}
+
+fn fsync_of(file: Result<u32, Lack>, flags: u32) -> Call
+    ensures { result ≡ spec.fsync_of file flags }
+{
+    match file {
+        Ok(file) if flags <= 1 => Call::PrepFsync {
+            file,
+            datasync: flags == 1,
+        },
+        Ok(_) => Call::Foreign(Lack::FsyncFlags),
+        Err(lack) => Call::Foreign(lack),
+    }
+}
+
+/// `prep_fsync FILE FLAGS`.
+pub fn prep_fsync(program: &Program, rest: Option<&[u8]>) -> Option<Call>
+    ensures { result ≡ spec.prep_fsync program.now (words_after rest) }
+{
+    let (file, flags) = two_words(rest)?;
+    let file = file_of(program, file)?;
+    Some(fsync_of(file, count(flags)?))
+}
+
+/// `prep_other OPCODE` and `flags N`.
+pub fn foreign(lack: Lack, rest: Option<&[u8]>) -> Option<Call>
+    ensures { result ≡ spec.foreign lack (words_after rest) }
+{
+    let _ = number_of(0, 255, one_word(rest)?)?;
+    Some(Call::Foreign(lack))
+}
+
+/// `set_data64 TOKEN`.
+pub fn set_data64(rest: Option<&[u8]>) -> Option<Call>
+    ensures { result ≡ spec.of_token Call.SetData64 (words_after rest) }
+{
+    Some(Call::SetData64(long(one_word(rest)?)?))
+}
+
+/// `cqe_seen TOKEN`.
+pub fn cqe_seen(rest: Option<&[u8]>) -> Option<Call>
+    ensures { result ≡ spec.of_token Call.CqeSeen (words_after rest) }
+{
+    Some(Call::CqeSeen(long(one_word(rest)?)?))
+}
+
+/// `submit ANSWER`.
+pub fn submit(rest: Option<&[u8]>) -> Option<Call>
+    ensures { result ≡ spec.submit (words_after rest) }
+{
+    Some(Call::Submit(answer(one_word(rest)?)?))
+}
+
+/// `submit_and_wait WANTED ANSWER`.
+pub fn submit_and_wait(rest: Option<&[u8]>) -> Option<Call>
+    ensures { result ≡ spec.submit_and_wait (words_after rest) }
+{
+    let (wanted, taken) = two_words(rest)?;
+    let _ = count(wanted)?;
+    Some(Call::Submit(answer(taken)?))
+}
+
+/// `peek_cqe none` and `peek_cqe TOKEN RES`.
+pub fn peek_cqe(rest: Option<&[u8]>) -> Option<Call>
+    ensures { result ≡ spec.peek_cqe (words_after rest) }
+{
+    let (word, rest) = next_word(rest)?;
+    if is(word, b"none") {
+        return alone(Call::PeekNone, rest);
+    }
+    let user_data = long(word)?;
+    let res = answer(one_word(rest)?)?;
+    Some(Call::Peek { user_data, res })
+}
+
+/// `sq_ready N`.
+pub fn sq_ready(rest: Option<&[u8]>) -> Option<Call>
+    ensures { result ≡ spec.of_count Call.SqReady (words_after rest) }
+{
+    Some(Call::SqReady(count(one_word(rest)?)?))
+}
+
+/// `sq_space_left N`.
+pub fn sq_space_left(rest: Option<&[u8]>) -> Option<Call>
+    ensures { result ≡ spec.of_count (λ n. Call.SqSpaceLeft) (words_after rest) }
+{
+    let _ = count(one_word(rest)?)?;
+    Some(Call::SqSpaceLeft)
+}

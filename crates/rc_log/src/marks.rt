@@ -1,0 +1,94 @@
+//! Mutexes and marks, by the words after their first.
+
+ghost use Rattle.std.specs.Prelude.{◌≡◌};
+ghost use Rattle.rc_log.specs.Cuts.{words_after};
+ghost use Rattle.rc_log.specs.Said as spec;
+
+use crate::call::{Call, Lack};
+use crate::parts::{buffer_of, pool_of};
+use crate::words::{is, is_end, next_word, one_word};
+use rc_lang::lines::Locks;
+use rc_lang::program::Program;
+
+fn side(word: &[u8]) -> Option<Locks>
+    ensures { result ≡ spec.side word.now }
+{
+    if is(word, b"sq") {
+        Some(Locks {
+            sq: true,
+            cq: false,
+        })
+    } else if is(word, b"cq") {
+        Some(Locks {
+            sq: false,
+            cq: true,
+        })
+    } else {
+        None
+    }
+}
+
+// Both sides, `sq` or `cq`.
+fn sides(rest: Option<&[u8]>) -> Option<Locks>
+    ensures { result ≡ spec.sides (words_after rest) }
+{
+    match next_word(rest) {
+        None => Some(Locks { sq: true, cq: true }),
+        Some((word, rest)) if is_end(rest) => side(word),
+        Some(_) => None,
+    }
+}
+
+/// `lock`, `lock sq` and `lock cq`.
+pub fn lock(rest: Option<&[u8]>) -> Option<Call>
+    ensures { result ≡ spec.of_sides Call.Lock (words_after rest) }
+{
+    Some(Call::Lock(sides(rest)?))
+}
+
+/// `unlock`, `unlock sq` and `unlock cq`.
+pub fn unlock(rest: Option<&[u8]>) -> Option<Call>
+    ensures { result ≡ spec.of_sides Call.Unlock (words_after rest) }
+{
+    Some(Call::Unlock(sides(rest)?))
+}
+
+/// `reads BUFFER`.
+pub fn reads(program: &Program, rest: Option<&[u8]>) -> Option<Call>
+    ensures { result ≡ spec.of_buffer Call.Reads program.now (words_after rest) }
+{
+    match buffer_of(program, one_word(rest)?)? {
+        Ok(buffer) => Some(Call::Reads(buffer)),
+        Err(lack) => Some(Call::Foreign(lack)),
+    }
+}
+
+/// `writes BUFFER`.
+pub fn writes(program: &Program, rest: Option<&[u8]>) -> Option<Call>
+    ensures { result ≡ spec.of_buffer Call.Writes program.now (words_after rest) }
+{
+    match buffer_of(program, one_word(rest)?)? {
+        Ok(buffer) => Some(Call::Writes(buffer)),
+        Err(lack) => Some(Call::Foreign(lack)),
+    }
+}
+
+/// `put POOL`.
+pub fn put(program: &Program, rest: Option<&[u8]>) -> Option<Call>
+    ensures { result ≡ spec.of_pool Call.Put program.now (words_after rest) }
+{
+    match pool_of(program, one_word(rest)?)? {
+        Ok(pool) => Some(Call::Put(pool)),
+        Err(lack) => Some(Call::Foreign(lack)),
+    }
+}
+
+/// `take POOL`.
+pub fn take(program: &Program, rest: Option<&[u8]>) -> Option<Call>
+    ensures { result ≡ spec.of_pool Call.Take program.now (words_after rest) }
+{
+    match pool_of(program, one_word(rest)?)? {
+        Ok(pool) => Some(Call::Take(pool)),
+        Err(lack) => Some(Call::Foreign(lack)),
+    }
+}
