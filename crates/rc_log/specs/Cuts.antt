@@ -3,15 +3,15 @@ use Rattle.std.specs.Prelude.{ℕ, ◌≡◌, List, [], ◌∷◌, Option, Some,
 use Rattle.std.specs.Borrow.{Bor}
 use Rattle.rc_log.specs.Said.{words_of}
 
--- The words of what is after a blank; none where there was none.
-abbrev pub words_after : Option (Bor (List ℕ)) → List (List ℕ)
-words_after None = []
-words_after (Some rest) = words_of rest.now
+-- The words of the bytes after a word: none, or those after the blank with which they begin.
+abbrev pub words_after : List ℕ → List (List ℕ)
+words_after [] = []
+words_after (b ∷ bytes) = words_of bytes
 
--- The first of these words, and what is after it.
-abbrev pub Begins : List (List ℕ) → Option (Bor (List ℕ) × Option (Bor (List ℕ))) → Type 0
+-- The first of these words, and the bytes after it.
+abbrev pub Begins : List (List ℕ) → Option (Bor (List ℕ) × Bor (List ℕ)) → Type 0
 Begins ws None = ws ≡ []
-Begins ws (Some (w, rest)) = ws ≡ w.now ∷ words_after rest
+Begins ws (Some (w, rest)) = ws ≡ w.now ∷ words_after rest.now
 
 -- what slices are
 abbrev pub text_of : Option (Bor (List ℕ)) → Option (List ℕ)

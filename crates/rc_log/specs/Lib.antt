@@ -1,3 +1,5 @@
 pub mod Cuts
 pub mod Heads
+pub mod Lines
 pub mod Said
+pub mod Waiting

@@ -27,10 +27,14 @@ is_blank b = b == 32
 abbrev pub words_of : List ℕ → List (List ℕ)
 words_of line = slice_split is_blank line
 
--- where there is one word, two or four
+-- whether there is no word; and where there is one, two or four
+abbrev pub is_end : List (List ℕ) → Bool
+is_end [] = true
+is_end (w ∷ ws) = false
+
 abbrev pub one_of : List (List ℕ) → Option (List ℕ)
-one_of (a ∷ []) = Some a
-one_of _ = None
+one_of [] = None
+one_of (a ∷ ws) = if is_end ws then Some a else None
 
 abbrev pub two_of : List (List ℕ) → Option (List ℕ × List ℕ)
 two_of [] = None
@@ -80,13 +84,15 @@ abbrev pub thread_named : Program → List ℕ → Option ℕ
 thread_named p w = position (λ (t : Thread). bytes_eq t.name w) p.threads
 
 -- The buffer that a word names, or why there is none; nothing where the word is no name.
+abbrev pub named_buffer : Program → List ℕ → Option (Result ℕ Lack)
+named_buffer p w = if is_name w then Some (ok_or (position (λ (b : Buffer). bytes_eq b.name w) p.buffers) NoBuffer) else None
+
 abbrev pub buffer_of : Program → List ℕ → Option (Result ℕ Lack)
 buffer_of p w =
     if bytes_eq w (codes "?") then Some (Err UnsaidBuffer)
-    else (if bytes_eq w (codes "!") then Some (Err PastBuffer)
-    else (if is_name w then Some (ok_or (position (λ (b : Buffer). bytes_eq b.name w) p.buffers) NoBuffer)
-    else None))
+    else (if bytes_eq w (codes "!") then Some (Err PastBuffer) else named_buffer p w)
 
+-- the same of a pool
 abbrev pub pool_of : Program → List ℕ → Option (Result ℕ Lack)
 pool_of p w = if is_name w then Some (ok_or (position (λ n. bytes_eq n w) p.pools) NoPool) else None
 
@@ -104,10 +110,6 @@ of call (Ok n) = call n
 of call (Err lack) = Foreign lack
 
 -- a call without words after it
-abbrev pub is_end : List (List ℕ) → Bool
-is_end [] = true
-is_end (w ∷ ws) = false
-
 abbrev pub alone : Call → List (List ℕ) → Option Call
 alone call ws = if is_end ws then Some call else None
 

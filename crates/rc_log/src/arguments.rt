@@ -22,15 +22,15 @@ pub struct Transfer {
 }
 
 /// `CALL`.
-pub fn alone(call: Call, rest: Option<&[u8]>) -> Option<Call>
-    ensures { result ≡ spec.alone call (words_after rest) }
+pub fn alone(call: Call, rest: &[u8]) -> Option<Call>
+    ensures { result ≡ spec.alone call (words_after rest.now) }
 {
     is_end(rest).then_some(call)
 }
 
 /// `get_sqe N`.
-pub fn get_sqe(rest: Option<&[u8]>) -> Option<Call>
-    ensures { result ≡ spec.get_sqe (words_after rest) }
+pub fn get_sqe(rest: &[u8]) -> Option<Call>
+    ensures { result ≡ spec.get_sqe (words_after rest.now) }
 {
     match number_of(0, 1, one_word(rest)?)? {
         1 => Some(Call::GetSqe),
@@ -49,8 +49,8 @@ fn moved(file: Result<u32, Lack>, buffer: Result<usize, Lack>, len: u64) -> Resu
 }
 
 /// `FILE BUFFER LEN OFF`.
-fn transfer_in(program: &Program, rest: Option<&[u8]>) -> Option<Result<Transfer, Lack>>
-    ensures { result ≡ spec.transfer program.now (words_after rest) }
+fn transfer_in(program: &Program, rest: &[u8]) -> Option<Result<Transfer, Lack>>
+    ensures { result ≡ spec.transfer program.now (words_after rest.now) }
 {
     let (file, rest) = next_word(rest)?;
     let (buffer, rest) = next_word(rest)?;
@@ -63,8 +63,8 @@ fn transfer_in(program: &Program, rest: Option<&[u8]>) -> Option<Result<Transfer
 }
 
 /// `prep_read FILE BUFFER LEN OFF`.
-pub fn prep_read(program: &Program, rest: Option<&[u8]>) -> Option<Call>
-    ensures { result ≡ option_map spec.read_of (spec.transfer program.now (words_after rest)) }
+pub fn prep_read(program: &Program, rest: &[u8]) -> Option<Call>
+    ensures { result ≡ option_map spec.read_of (spec.transfer program.now (words_after rest.now)) }
 {
     match transfer_in(program, rest)? {
         Ok(Transfer { file, buffer, len }) => Some(Call::PrepRead { file, buffer, len }),
@@ -73,8 +73,8 @@ pub fn prep_read(program: &Program, rest: Option<&[u8]>) -> Option<Call>
 }
 
 /// `prep_write FILE BUFFER LEN OFF`.
-pub fn prep_write(program: &Program, rest: Option<&[u8]>) -> Option<Call>
-    ensures { result ≡ option_map spec.write_of (spec.transfer program.now (words_after rest)) }
+pub fn prep_write(program: &Program, rest: &[u8]) -> Option<Call>
+    ensures { result ≡ option_map spec.write_of (spec.transfer program.now (words_after rest.now)) }
 {
     match transfer_in(program, rest)? {
         Ok(Transfer { file, buffer, len }) => Some(Call::PrepWrite { file, buffer, len }),
@@ -96,8 +96,8 @@ fn fsync_of(file: Result<u32, Lack>, flags: u32) -> Call
 }
 
 /// `prep_fsync FILE FLAGS`.
-pub fn prep_fsync(program: &Program, rest: Option<&[u8]>) -> Option<Call>
-    ensures { result ≡ spec.prep_fsync program.now (words_after rest) }
+pub fn prep_fsync(program: &Program, rest: &[u8]) -> Option<Call>
+    ensures { result ≡ spec.prep_fsync program.now (words_after rest.now) }
 {
     let (file, flags) = two_words(rest)?;
     let file = file_of(program, file)?;
@@ -105,37 +105,37 @@ pub fn prep_fsync(program: &Program, rest: Option<&[u8]>) -> Option<Call>
 }
 
 /// `prep_other OPCODE` and `flags N`.
-pub fn foreign(lack: Lack, rest: Option<&[u8]>) -> Option<Call>
-    ensures { result ≡ spec.foreign lack (words_after rest) }
+pub fn foreign(lack: Lack, rest: &[u8]) -> Option<Call>
+    ensures { result ≡ spec.foreign lack (words_after rest.now) }
 {
     let _ = number_of(0, 255, one_word(rest)?)?;
     Some(Call::Foreign(lack))
 }
 
 /// `set_data64 TOKEN`.
-pub fn set_data64(rest: Option<&[u8]>) -> Option<Call>
-    ensures { result ≡ spec.of_token Call.SetData64 (words_after rest) }
+pub fn set_data64(rest: &[u8]) -> Option<Call>
+    ensures { result ≡ spec.of_token Call.SetData64 (words_after rest.now) }
 {
     Some(Call::SetData64(long(one_word(rest)?)?))
 }
 
 /// `cqe_seen TOKEN`.
-pub fn cqe_seen(rest: Option<&[u8]>) -> Option<Call>
-    ensures { result ≡ spec.of_token Call.CqeSeen (words_after rest) }
+pub fn cqe_seen(rest: &[u8]) -> Option<Call>
+    ensures { result ≡ spec.of_token Call.CqeSeen (words_after rest.now) }
 {
     Some(Call::CqeSeen(long(one_word(rest)?)?))
 }
 
 /// `submit ANSWER`.
-pub fn submit(rest: Option<&[u8]>) -> Option<Call>
-    ensures { result ≡ spec.submit (words_after rest) }
+pub fn submit(rest: &[u8]) -> Option<Call>
+    ensures { result ≡ spec.submit (words_after rest.now) }
 {
     Some(Call::Submit(answer(one_word(rest)?)?))
 }
 
 /// `submit_and_wait WANTED ANSWER`.
-pub fn submit_and_wait(rest: Option<&[u8]>) -> Option<Call>
-    ensures { result ≡ spec.submit_and_wait (words_after rest) }
+pub fn submit_and_wait(rest: &[u8]) -> Option<Call>
+    ensures { result ≡ spec.submit_and_wait (words_after rest.now) }
 {
     let (wanted, taken) = two_words(rest)?;
     let _ = count(wanted)?;
@@ -143,8 +143,8 @@ pub fn submit_and_wait(rest: Option<&[u8]>) -> Option<Call>
 }
 
 /// `peek_cqe none` and `peek_cqe TOKEN RES`.
-pub fn peek_cqe(rest: Option<&[u8]>) -> Option<Call>
-    ensures { result ≡ spec.peek_cqe (words_after rest) }
+pub fn peek_cqe(rest: &[u8]) -> Option<Call>
+    ensures { result ≡ spec.peek_cqe (words_after rest.now) }
 {
     let (word, rest) = next_word(rest)?;
     if is(word, b"none") {
@@ -156,15 +156,15 @@ pub fn peek_cqe(rest: Option<&[u8]>) -> Option<Call>
 }
 
 /// `sq_ready N`.
-pub fn sq_ready(rest: Option<&[u8]>) -> Option<Call>
-    ensures { result ≡ spec.of_count Call.SqReady (words_after rest) }
+pub fn sq_ready(rest: &[u8]) -> Option<Call>
+    ensures { result ≡ spec.of_count Call.SqReady (words_after rest.now) }
 {
     Some(Call::SqReady(count(one_word(rest)?)?))
 }
 
 /// `sq_space_left N`.
-pub fn sq_space_left(rest: Option<&[u8]>) -> Option<Call>
-    ensures { result ≡ spec.of_count (λ n. Call.SqSpaceLeft) (words_after rest) }
+pub fn sq_space_left(rest: &[u8]) -> Option<Call>
+    ensures { result ≡ spec.of_count (λ n. Call.SqSpaceLeft) (words_after rest.now) }
 {
     let _ = count(one_word(rest)?)?;
     Some(Call::SqSpaceLeft)

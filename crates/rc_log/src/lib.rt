@@ -7,6 +7,6 @@ pub mod head;
 pub mod line;
 pub mod marks;
 pub mod parts;
-//pub mod pending;
-//pub mod reader;
+pub mod pending;
+pub mod reader;
 pub mod words;

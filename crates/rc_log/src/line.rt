@@ -18,8 +18,8 @@ use rc_lang::program::Program;
 pub const MOST_BYTES: usize = 4096;
 
 // The calls that make an entry.
-fn entry_call(program: &Program, call: &[u8], rest: Option<&[u8]>) -> Option<Option<Call>>
-    ensures { result ≡ spec.entry_call program.now call.now (words_after rest) }
+fn entry_call(program: &Program, call: &[u8], rest: &[u8]) -> Option<Option<Call>>
+    ensures { result ≡ spec.entry_call program.now call.now (words_after rest.now) }
 {
     if is(call, b"get_sqe") {
         Some(get_sqe(rest))
@@ -43,8 +43,8 @@ fn entry_call(program: &Program, call: &[u8], rest: Option<&[u8]>) -> Option<Opt
 }
 
 // The calls on the rings.
-fn ring_call(call: &[u8], rest: Option<&[u8]>) -> Option<Option<Call>>
-    ensures { result ≡ spec.ring_call call.now (words_after rest) }
+fn ring_call(call: &[u8], rest: &[u8]) -> Option<Option<Call>>
+    ensures { result ≡ spec.ring_call call.now (words_after rest.now) }
 {
     if is(call, b"submit") {
         Some(submit(rest))
@@ -64,8 +64,8 @@ fn ring_call(call: &[u8], rest: Option<&[u8]>) -> Option<Option<Call>>
 }
 
 // The mutexes and the marks.
-fn mark(program: &Program, call: &[u8], rest: Option<&[u8]>) -> Option<Option<Call>>
-    ensures { result ≡ spec.mark program.now call.now (words_after rest) }
+fn mark(program: &Program, call: &[u8], rest: &[u8]) -> Option<Option<Call>>
+    ensures { result ≡ spec.mark program.now call.now (words_after rest.now) }
 {
     if is(call, b"lock") {
         Some(lock(rest))
@@ -87,8 +87,8 @@ fn mark(program: &Program, call: &[u8], rest: Option<&[u8]>) -> Option<Option<Ca
 }
 
 // What a word and those after it say: nothing where the word is no call's, and no call where those after it aren't its.
-fn call_of(program: &Program, call: &[u8], rest: Option<&[u8]>) -> Option<Option<Call>>
-    ensures { result ≡ spec.call_of program.now call.now (words_after rest) }
+fn call_of(program: &Program, call: &[u8], rest: &[u8]) -> Option<Option<Call>>
+    ensures { result ≡ spec.call_of program.now call.now (words_after rest.now) }
 {
     if let Some(said) = entry_call(program, call, rest) {
         return Some(said);

@@ -4,7 +4,7 @@ ghost use Rattle.std.specs.Prelude.{◌≡◌};
 ghost use Rattle.rc_log.specs.Cuts.{words_after};
 ghost use Rattle.rc_log.specs.Said as spec;
 
-use crate::call::{Call, Lack};
+use crate::call::Call;
 use crate::parts::{buffer_of, pool_of};
 use crate::words::{is, is_end, next_word, one_word};
 use rc_lang::lines::Locks;
@@ -29,8 +29,8 @@ fn side(word: &[u8]) -> Option<Locks>
 }
 
 // Both sides, `sq` or `cq`.
-fn sides(rest: Option<&[u8]>) -> Option<Locks>
-    ensures { result ≡ spec.sides (words_after rest) }
+fn sides(rest: &[u8]) -> Option<Locks>
+    ensures { result ≡ spec.sides (words_after rest.now) }
 {
     match next_word(rest) {
         None => Some(Locks { sq: true, cq: true }),
@@ -40,22 +40,22 @@ fn sides(rest: Option<&[u8]>) -> Option<Locks>
 }
 
 /// `lock`, `lock sq` and `lock cq`.
-pub fn lock(rest: Option<&[u8]>) -> Option<Call>
-    ensures { result ≡ spec.of_sides Call.Lock (words_after rest) }
+pub fn lock(rest: &[u8]) -> Option<Call>
+    ensures { result ≡ spec.of_sides Call.Lock (words_after rest.now) }
 {
     Some(Call::Lock(sides(rest)?))
 }
 
 /// `unlock`, `unlock sq` and `unlock cq`.
-pub fn unlock(rest: Option<&[u8]>) -> Option<Call>
-    ensures { result ≡ spec.of_sides Call.Unlock (words_after rest) }
+pub fn unlock(rest: &[u8]) -> Option<Call>
+    ensures { result ≡ spec.of_sides Call.Unlock (words_after rest.now) }
 {
     Some(Call::Unlock(sides(rest)?))
 }
 
 /// `reads BUFFER`.
-pub fn reads(program: &Program, rest: Option<&[u8]>) -> Option<Call>
-    ensures { result ≡ spec.of_buffer Call.Reads program.now (words_after rest) }
+pub fn reads(program: &Program, rest: &[u8]) -> Option<Call>
+    ensures { result ≡ spec.of_buffer Call.Reads program.now (words_after rest.now) }
 {
     match buffer_of(program, one_word(rest)?)? {
         Ok(buffer) => Some(Call::Reads(buffer)),
@@ -64,8 +64,8 @@ pub fn reads(program: &Program, rest: Option<&[u8]>) -> Option<Call>
 }
 
 /// `writes BUFFER`.
-pub fn writes(program: &Program, rest: Option<&[u8]>) -> Option<Call>
-    ensures { result ≡ spec.of_buffer Call.Writes program.now (words_after rest) }
+pub fn writes(program: &Program, rest: &[u8]) -> Option<Call>
+    ensures { result ≡ spec.of_buffer Call.Writes program.now (words_after rest.now) }
 {
     match buffer_of(program, one_word(rest)?)? {
         Ok(buffer) => Some(Call::Writes(buffer)),
@@ -74,8 +74,8 @@ pub fn writes(program: &Program, rest: Option<&[u8]>) -> Option<Call>
 }
 
 /// `put POOL`.
-pub fn put(program: &Program, rest: Option<&[u8]>) -> Option<Call>
-    ensures { result ≡ spec.of_pool Call.Put program.now (words_after rest) }
+pub fn put(program: &Program, rest: &[u8]) -> Option<Call>
+    ensures { result ≡ spec.of_pool Call.Put program.now (words_after rest.now) }
 {
     match pool_of(program, one_word(rest)?)? {
         Ok(pool) => Some(Call::Put(pool)),
@@ -84,8 +84,8 @@ pub fn put(program: &Program, rest: Option<&[u8]>) -> Option<Call>
 }
 
 /// `take POOL`.
-pub fn take(program: &Program, rest: Option<&[u8]>) -> Option<Call>
-    ensures { result ≡ spec.of_pool Call.Take program.now (words_after rest) }
+pub fn take(program: &Program, rest: &[u8]) -> Option<Call>
+    ensures { result ≡ spec.of_pool Call.Take program.now (words_after rest.now) }
 {
     match pool_of(program, one_word(rest)?)? {
         Ok(pool) => Some(Call::Take(pool)),

@@ -1,16 +1,15 @@
 //! What a word says: a name, a place, a number, and what the program has of it.
 
-ghost use Rattle.std.specs.Prelude.{◌≡◌, ◌==◌, ◌^◌, ◌-◌, ◌<◌, length, position, IfSome, Option, Some};
-ghost use Rattle.std.specs.List.{list_all, list_any};
+ghost use Rattle.std.specs.Prelude.{◌≡◌, ◌==◌, ◌<◌, length, position, IfSome};
+ghost use Rattle.std.specs.List.{list_any};
 ghost use Rattle.std.specs.Str.{bytes_eq};
 ghost use Rattle.rc_lang.specs.Names as names;
-ghost use Rattle.rc_lang.specs.Parts.{view_buffer, view_thread};
 ghost use Rattle.rc_log.specs.Said as spec;
 
 use crate::call::Lack;
 use crate::words::is;
 use rc_lang::numbers::{number_of, signed_number_of};
-use rc_lang::program::{Buffer, Program, Thread};
+use rc_lang::program::{Buffer, File, Program, Thread};
 
 fn is_name_byte(b: u8) -> bool
     ensures { result ≡ names.is_name_byte b }
@@ -114,18 +113,27 @@ fn place_of_buffer(buffers: &[Buffer], name: &[u8]) -> Option<usize>
         .position(|buffer| buffer.name.as_slice() == name)
 }
 
+fn named_buffer(program: &Program, word: &[u8]) -> Option<Result<usize, Lack>>
+    ensures { result ≡ spec.named_buffer program.now word.now }
+{
+    if is_name(word) {
+        Some(place_of_buffer(program.buffers(), word).ok_or(Lack::NoBuffer))
+    } else {
+        None
+    }
+}
+
 /// The place of the buffer that a word names, or why there is none; nothing where it is no name.
 pub fn buffer_of(program: &Program, word: &[u8]) -> Option<Result<usize, Lack>>
     ensures { result ≡ spec.buffer_of program.now word.now }
 {
     if is(word, b"?") {
-        return Some(Err(Lack::UnsaidBuffer));
+        Some(Err(Lack::UnsaidBuffer))
+    } else if is(word, b"!") {
+        Some(Err(Lack::PastBuffer))
+    } else {
+        named_buffer(program, word)
     }
-    if is(word, b"!") {
-        return Some(Err(Lack::PastBuffer));
-    }
-    let place = place_of_buffer(program.buffers(), word).ok_or(Lack::NoBuffer);
-    is_name(word).then_some(place)
 }
 
 fn place_of_pool(pools: &[Vec<u8>], name: &[u8]) -> Option<usize>
@@ -138,14 +146,23 @@ fn place_of_pool(pools: &[Vec<u8>], name: &[u8]) -> Option<usize>
 pub fn pool_of(program: &Program, word: &[u8]) -> Option<Result<usize, Lack>>
     ensures { result ≡ spec.pool_of program.now word.now }
 {
-    let place = place_of_pool(program.pools(), word).ok_or(Lack::NoPool);
-    is_name(word).then_some(place)
+    if is_name(word) {
+        Some(place_of_pool(program.pools(), word).ok_or(Lack::NoPool))
+    } else {
+        None
+    }
+}
+
+fn has_file(files: &[File], number: u32) -> bool
+    ensures { result ≡ list_any (λ f. f.number == number) files.now }
+{
+    files.iter().any(|file| file.number == number)
 }
 
 fn declared(program: &Program, number: u32) -> Result<u32, Lack>
     ensures { result ≡ spec.declared program.now number }
 {
-    if program.files().iter().any(|file| file.number == number) {
+    if has_file(program.files(), number) {
         Ok(number)
     } else {
         Err(Lack::NoFile)

@@ -1,7 +1,7 @@
 //! The words of a line, as slices of it: between two is one blank.
 
-ghost use Rattle.std.specs.Prelude.{◌≡◌, ◌∷◌, [], ◌<◌, length, position, slice_index_or, IfSome, option_map};
-ghost use Rattle.std.specs.List.{before_first, after_first};
+ghost use Rattle.std.specs.Prelude.{◌≡◌, ◌∷◌, ◌≤◌, [], length, slice_index_or};
+ghost use Rattle.std.specs.List.{position_or_len};
 ghost use Rattle.std.specs.Str.{bytes_eq};
 ghost use Rattle.rc_log.specs.Cuts.{Begins, text_of, texts_of, words_after};
 ghost use Rattle.rc_log.specs.Said as spec;
@@ -13,54 +13,55 @@ pub fn is(word: &[u8], text: &[u8]) -> bool
     word == text
 }
 
-/// The place of the first blank.
-fn blank_in(line: &[u8]) -> Option<usize>
-    ensures value { result ≡ position spec.is_blank line.now }
-    ensures within { IfSome result (λ i. i < length line.now) }
+/// How many bytes are before the first blank.
+fn letters_in_front(line: &[u8]) -> usize
+    ensures value { result ≡ position_or_len spec.is_blank line.now }
+    ensures within { result ≤ length line.now }
 {
-    line.iter().position(|b| *b == b' ')
-}
-
-/// The first word of a line, and what is after the blank at its end, where there is one.
-pub fn cut(line: &[u8]) -> (&[u8], Option<&[u8]>)
-    ensures { spec.words_of line.now ≡ result.0.now ∷ words_after result.1 }
-{
-    match blank_in(line) {
-        Some(i) => (&line[..i], Some(&line[i + 1..])),
-        None => (line, None),
+    for i in 0..line.len() {
+        if line[i] == b' ' {
+            return i;
+        }
     }
+    line.len()
 }
 
-/// The next word, and what is after it.
-pub fn next_word(rest: Option<&[u8]>) -> Option<(&[u8], Option<&[u8]>)>
-    ensures { Begins (words_after rest) result }
+/// The first word of a line, and the bytes after it.
+pub fn cut(line: &[u8]) -> (&[u8], &[u8])
+    ensures { spec.words_of line.now ≡ result.0.now ∷ words_after result.1.now }
+{
+    let end = letters_in_front(line);
+    (&line[..end], &line[end..])
+}
+
+/// The next word after these bytes' first, which is the blank before it, and the bytes after it.
+pub fn next_word(rest: &[u8]) -> Option<(&[u8], &[u8])>
+    ensures { Begins (words_after rest.now) result }
 {
     match rest {
-        Some(rest) => Some(cut(rest)),
-        None => None,
+        [] => None,
+        [_, rest @ ..] => Some(cut(rest)),
     }
 }
 
 /// Whether no word is left.
-pub fn is_end(rest: Option<&[u8]>) -> bool
-    ensures { result ≡ spec.is_end (words_after rest) }
+pub fn is_end(rest: &[u8]) -> bool
+    ensures { result ≡ spec.is_end (words_after rest.now) }
 {
     next_word(rest).is_none()
 }
 
 /// The one word that is left, where it is one.
-pub fn one_word(rest: Option<&[u8]>) -> Option<&[u8]>
-    ensures { text_of result ≡ spec.one_of (words_after rest) }
+pub fn one_word(rest: &[u8]) -> Option<&[u8]>
+    ensures { text_of result ≡ spec.one_of (words_after rest.now) }
 {
-    match next_word(rest)? {
-        (word, None) => Some(word),
-        (_, Some(_)) => None,
-    }
+    let (word, rest) = next_word(rest)?;
+    if is_end(rest) { Some(word) } else { None }
 }
 
 /// The two words that are left, where they are two.
-pub fn two_words(rest: Option<&[u8]>) -> Option<(&[u8], &[u8])>
-    ensures { texts_of result ≡ spec.two_of (words_after rest) }
+pub fn two_words(rest: &[u8]) -> Option<(&[u8], &[u8])>
+    ensures { texts_of result ≡ spec.two_of (words_after rest.now) }
 {
     let (first, rest) = next_word(rest)?;
     let second = one_word(rest)?;
@@ -72,15 +73,15 @@ pub fn two_words(rest: Option<&[u8]>) -> Option<(&[u8], &[u8])>
 pub fn word_at(line: &[u8], number: usize) -> &[u8]
     ensures { result.now ≡ slice_index_or (spec.words_of line.now) number [] }
 {
-    let mut rest = Some(line);
+    let (mut word, mut rest) = cut(line);
     for _ in 0..number {
-        rest = match rest {
-            Some(rest) => cut(rest).1,
+        match next_word(rest) {
+            Some((next, after)) => {
+                word = next;
+                rest = after;
+            }
             None => return &[],
-        };
+        }
     }
-    match rest {
-        Some(rest) => cut(rest).0,
-        None => &[],
-    }
+    word
 }

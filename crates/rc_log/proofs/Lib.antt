@@ -1,0 +1,4 @@
+pub mod Blanks
+pub mod Lists
+pub mod Logs
+pub mod Readers

@@ -1,0 +1,50 @@
+-- The lines of a log, and what is given of them where its bytes come in pieces.
+use Rattle.std.specs.Prelude.{ℕ, ◌≡◌, ◌+◌, ◌<◌, ◌≤◌, ◌||◌, ◌==◌, if◌then◌else◌, List, [], ◌∷◌, ◌++◌, length, take, drop, Bool, true, false, Option, Some, None, Result, Ok, Err, ⊤}
+use Rattle.rc_read.specs.Words.{cut}
+use Rattle.rc_log.specs.declared.pending.Seen.{Seen}
+use Rattle.rc_log.specs.declared.pending.Seen.TheVariants.{Line, More, End, TooLong}
+use Rattle.rc_log.specs.declared.reader.LogFault.{LogFault}
+use Rattle.rc_log.specs.declared.reader.LogFault.TheVariants as fault
+
+-- A log ends at its first byte 0,
+abbrev pub before_nul : List ℕ → List ℕ
+before_nul [] = []
+before_nul (b ∷ bytes) = if b == 0 then [] else b ∷ before_nul bytes
+
+-- and the bytes after its last line feed are no line.
+abbrev pub log_lines : List ℕ → List (List ℕ)
+log_lines bytes = (cut (before_nul bytes)).0
+
+-- The line with which the bytes begin, as far as it is there.
+abbrev pub begun : List ℕ → List ℕ
+begun [] = []
+begun (b ∷ bytes) = if b == 10 || b == 0 then [] else b ∷ begun bytes
+
+-- ---- bytes that wait
+
+-- What bytes begin with, whatever comes after them: a line of so many bytes, nothing that has ended, the log's end, or a
+-- line of more than 4,096 bytes.
+abbrev pub BeginsWith : List ℕ → Seen → Type 0
+BeginsWith bytes (Line n) = (n < length bytes) × (n ≤ 4096) × ((more : List ℕ) → log_lines (bytes ++ more) ≡ take n bytes ∷ log_lines (drop (n + 1) bytes ++ more))
+BeginsWith bytes More = (length bytes ≤ 4096) × (log_lines bytes ≡ [])
+BeginsWith bytes End = (more : List ℕ) → log_lines (bytes ++ more) ≡ []
+BeginsWith bytes TooLong = (more : List ℕ) → 4096 < length (begun (bytes ++ more))
+
+-- ---- what a reader gives
+
+-- This is the log's next line, after which these bytes are left.
+abbrev pub IsNext : List ℕ → Option (List ℕ) → List ℕ → Type 0
+IsNext old None line = ⊥
+IsNext old (Some new) line = (log_lines old ≡ line ∷ log_lines new) × (length line ≤ 4096)
+
+-- A reader with these bytes left gives the next line, says that there is none, or that it is too long.
+abbrev pub GivesOf : List ℕ → Option (List ℕ) → List ℕ → Result Bool LogFault → Type 0
+GivesOf old new line (Ok true) = IsNext old new line
+GivesOf old new line (Ok false) = log_lines old ≡ []
+GivesOf old new line (Err fault.TooLong) = 4096 < length (begun old)
+GivesOf old new line (Err _) = ⊤
+
+-- The same where the bytes that are left may be unknown, and then nothing is said.
+abbrev pub Gives : Option (List ℕ) → Option (List ℕ) → List ℕ → Result Bool LogFault → Type 0
+Gives None new line given = ⊤
+Gives (Some old) new line given = GivesOf old new line given
