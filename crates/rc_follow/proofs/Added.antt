@@ -1,0 +1,93 @@
+-- Worlds that are added to others, and those to which hidden steps lead.
+use Rattle.std.proofs.Common.{◌≡◌, ℕ, List, [], ◌∷◌, ◌++◌, Option, Some, None, refl, sym, ap, inl, inr, true, append_assoc, append-nil, ◌∙◌}
+use Rattle.std.specs.Prelude.{All}
+use Rattle.std.proofs.lemmas.List.Elements.{All-append, All-cons, All-nil, All-same, All-weaker}
+use Rattle.rc_lang.specs.Program.{Program}
+use Rattle.rc_log.specs.declared.call.Call.{Call}
+use Rattle.rc_world.specs.declared.event.Action.TheVariants.{VariableSet, Stored, Filled, Printed, Released, Branched, Looped, LoopLeft}
+use Rattle.rc_world.specs.declared.event.Event.{Event}
+use Rattle.rc_world.specs.declared.event.Event.TheVariants.{ByThread}
+use Rattle.rc_world.specs.declared.event.Item.{Item}
+use Rattle.rc_world.specs.declared.event.Item.TheVariants.{Thread, Kernel}
+use Rattle.rc_world.specs.Items.{item_bytes, item_step, kernel_item, pending_place, take_of}
+use Rattle.std.specs.Prelude.{slice_get}
+use Rattle.rc_world.specs.Machine.{World}
+use Rattle.rc_world.specs.WeakRuns.{IsWeakStep}
+use Rattle.rc_follow.specs.Followed.{Asks, Calls, Noted, is_hidden}
+use Rattle.rc_follow.specs.Follower.{Adds, ComesBy, ComesFrom, IsHiddenStep, Leads, LeadsBy, is_plain}
+use Rattle.rc_follow.specs.Searches.{MayAdd}
+use Rattle.rc_follow.proofs.Runs.{hides_join}
+
+-- ---- steps
+
+pub item_is_weak : (w v : World) (i : Item) (e : Event) → item_step w i ≡ Some (e, v) → IsWeakStep w e v
+item_is_weak w v (Thread i take) e h = inl (i, take_of w take, h)
+item_is_weak w v (Kernel u res fill) e h = at (pending_place w u) h
+  where
+    at : (k : Option ℕ) → kernel_item w res fill k ≡ Some (e, v) → IsWeakStep w e v
+    at None f = absurd (cc)
+    at (Some k) f = inr (inl (k, res, item_bytes res fill (slice_get w.pending k), f))
+
+pub leads_one : (n : Noted) (w v : World) → IsHiddenStep n w v → Leads n w v
+leads_one n w v h = (h.0 ∷ [], (v, h.1, h.2, refl))
+
+pub leads_none : (n : Noted) (w : World) → Leads n w w
+leads_none n w = ([], refl)
+
+pub leads_both : (n : Noted) (w v u : World) → Leads n w v → Leads n v u → Leads n w u
+leads_both n w v u h k = (h.0 ++ k.0, hides_join n w v u h.0 k.0 h.1 k.1)
+
+-- ---- added
+
+pub adds_none : (F : World → Type 0) (ws : List World) → Adds F ws ws
+adds_none F ws = ([], sym (append-nil ws), All-nil F)
+
+pub adds_both : (F : World → Type 0) (a b c : List World) → Adds F a b → Adds F b c → Adds F a c
+adds_both F a b c h k = (h.0 ++ k.0, k.1 ∙ ap (λ (x : List World). x ++ k.0) h.1 ∙ append_assoc a h.0 k.0, All-append F h.0 k.0 h.2 k.2)
+
+pub adds_push : (F : World → Type 0) (w : World) (old new : List World) → F w → new ≡ old ++ w ∷ [] → Adds F old new
+adds_push F w old new f h = (w ∷ [], h, All-cons F w [] f (All-nil F))
+
+pub adds_one : (F : World → Type 0) (w : World) (old new : List World) → F w → MayAdd w old new → Adds F old new
+adds_one F w old new f h = elim h [
+  | inl e ↦ ([], e ∙ sym (append-nil old), All-nil F)
+  | inr e ↦ adds_push F w old new f e
+]
+
+pub adds_weaker : (F G : World → Type 0) → ((w : World) → F w → G w) → (old new : List World) → Adds F old new → Adds G old new
+adds_weaker F G k old new h = (h.0, h.1, All-weaker F G k h.0 h.2)
+
+pub all_added : (F : World → Type 0) (old new : List World) → All F old → Adds F old new → All F new
+all_added F old new a h = All-same F new (old ++ h.0) h.1 (All-append F old h.0 a h.2)
+
+-- ---- where it comes from
+
+pub by_both : (P : Program) (n : Noted) (w v u : World) (i : ℕ) (call : Call) → Leads n w v → LeadsBy P n v i call u → LeadsBy P n w i call u
+by_both P n w v u i call h k = (k.0, leads_both n w v k.0 h k.1, k.2)
+
+pub from_both : (n : Noted) (ws : List World) (v u : World) → ComesFrom n ws v → Leads n v u → ComesFrom n ws u
+from_both n ws v u h k = (h.0, h.1, leads_both n h.0 v u h.2 k)
+
+pub comes_both : (P : Program) (n : Noted) (ws : List World) (v u : World) (i : ℕ) (call : Call) → ComesFrom n ws v → LeadsBy P n v i call u → ComesBy P n ws i call u
+comes_both P n ws v u i call h k = (h.0, h.1, by_both P n h.0 v u i call h.2 k)
+
+-- ---- lines
+
+pub asked : (P : Program) (n : Noted) (w : World) (i : ℕ) (call : Call) → Asks P n w i call → LeadsBy P n w i call w
+asked P n w i call a = (w, leads_none n w, inr (a, refl))
+
+pub is_call : (P : Program) (n : Noted) (w v : World) (i : ℕ) (call : Call) → Calls n w i call v → LeadsBy P n w i call v
+is_call P n w v i call c = (w, leads_none n w, inl c)
+
+-- ---- plain steps
+
+pub plain_hidden : (n : Noted) (w : World) (e : Event) → is_plain e ≡ true → is_hidden n w e ≡ true
+plain_hidden n w (ByThread i line (VariableSet x)) h = refl
+plain_hidden n w (ByThread i line (Stored x)) h = refl
+plain_hidden n w (ByThread i line (Filled x)) h = refl
+plain_hidden n w (ByThread i line (Printed x)) h = refl
+plain_hidden n w (ByThread i line (Released locks)) h = refl
+plain_hidden n w (ByThread i line (Branched x)) h = refl
+plain_hidden n w (ByThread i line Looped) h = refl
+plain_hidden n w (ByThread i line LoopLeft) h = refl
+plain_hidden n w _ h = absurd (cc)

@@ -1,0 +1,4 @@
+pub mod Added
+pub mod Followed
+pub mod Held
+pub mod Runs

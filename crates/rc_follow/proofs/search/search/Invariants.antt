@@ -1,0 +1,18 @@
+use Rattle.std.proofs.Common.{◌≡◌}
+use Rattle.std.specs.Prelude.{All}
+use Rattle.rc_follow.specs.Follower.{ComesBy, ComesFrom}
+use Rattle.rc_follow.proofs.search.search.Given as goal
+
+abbrev pub invariant-loop-world : goal.invariant-loop-world
+invariant-loop-world l = record {
+  same : l.rights ≡ l.fn.rights;
+  found : All (ComesFrom l.fn.ground.noted.now l.fn.worlds.items) l.found.items;
+  kept : All (ComesBy l.fn.rights l.fn.ground.noted.now l.fn.worlds.items l.fn.ground.thread l.fn.ground.call) l.kept.worlds.items;
+}
+
+abbrev pub invariant-loop-place : goal.invariant-loop-place
+invariant-loop-place l = record {
+  same : l.rights ≡ l.fn.rights;
+  found : All (ComesFrom l.fn.ground.noted.now l.fn.worlds.items) l.found.items;
+  kept : All (ComesBy l.fn.rights l.fn.ground.noted.now l.fn.worlds.items l.fn.ground.thread l.fn.ground.call) l.kept.worlds.items;
+}

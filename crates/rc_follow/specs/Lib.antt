@@ -1,0 +1,7 @@
+pub mod Answers
+pub mod Followed
+pub mod Follower
+pub mod Laws
+pub mod Rights
+pub mod RightsKnown
+pub mod Searches

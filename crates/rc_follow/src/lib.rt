@@ -1,0 +1,13 @@
+//! Logs of real programs, held to a text.
+#![tactic(auto)]
+
+mod alike;
+pub mod follower;
+mod hidden;
+pub mod laws;
+mod noted;
+mod reads;
+mod rights;
+mod search;
+mod step;
+mod visible;

@@ -1,0 +1,313 @@
+//! What a log says beside the world.
+
+ghost use Rattle.std.specs.Prelude.{◌≡◌, ◌&&◌, IfOk, Some, nat_eq, position};
+ghost use Rattle.rc_lang.specs.Program.{token_place};
+ghost use Rattle.rc_world.specs.Controls.{held_by};
+ghost use Rattle.rc_world.specs.Faults.{is_holder};
+ghost use Rattle.rc_follow.specs.Followed as spec;
+
+use rc_lang::lines::{Line, Locks, Op, Stmt, Test};
+use rc_lang::program::Program;
+use rc_lang::request::Request;
+use rc_log::call::Call;
+use rc_world::controls::Holders;
+use rc_world::event::{Action, Completion, Event};
+use rc_world::world::World;
+use std::alloc::{AllocError, Global};
+use std::marker::Model;
+
+/// Who has each mutex of the C program, how many bytes the open entry is to move there, where it is a read or a write,
+/// and of each declared token how many its last request was to move.
+#[derive(Drop)]
+pub struct Noted {
+    mutexes: Holders,
+    entry: Option<u64>,
+    lengths: Vec<Option<u64>>,
+}
+
+impl Model for Noted {
+    ghost use Rattle.rc_follow.specs.Followed as spec;
+
+    ghost Value = { spec.Noted };
+
+    ghost view = { λ n. record { mutexes = n.mutexes; entry = n.entry; lengths = n.lengths.items } };
+}
+
+impl Noted {
+    /// Before the first line: nobody has a mutex, and no length is known.
+    pub fn start(alloc: Global, program: &Program) -> Result<Noted, AllocError>
+        ensures { IfOk result (λ n. n ≡ spec.start_noted program.now) }
+    {
+        let mut lengths = Vec::new(alloc);
+        lengths.resize(program.tokens().len(), None)?;
+        Ok(Noted {
+            mutexes: Holders { sq: None, cq: None },
+            entry: None,
+            lengths,
+        })
+    }
+
+    /// Who has each mutex.
+    pub fn mutexes(&self) -> Holders
+        ensures { result ≡ self.now.mutexes }
+    {
+        self.mutexes
+    }
+
+    /// Whether the thread has all these mutexes.
+    pub fn has_mutexes(&self, thread: u32, wanted: Locks) -> bool
+        ensures { result ≡ spec.has_mutexes self.now thread wanted }
+    {
+        let sq = !wanted.sq || is_holder(self.mutexes.sq, thread);
+        let cq = !wanted.cq || is_holder(self.mutexes.cq, thread);
+        sq && cq
+    }
+
+    /// Notes what a call of a thread says.
+    pub fn note(&mut self, program: &Program, thread: u32, call: Call)
+        ensures { self.new ≡ spec.noted_call program.now self.old thread call }
+    {
+        match call {
+            Call::PrepRead { len, .. } => self.entry = Some(len),
+            Call::PrepWrite { len, .. } => self.entry = Some(len),
+            Call::PrepFsync { .. } => self.entry = None,
+            Call::PrepNop => self.entry = None,
+            Call::SetData64(user_data) => self.name_open(program.token_place(user_data)),
+            Call::Lock(wanted) => self.give(Some(thread), wanted),
+            Call::Unlock(released) => self.give(None, released),
+            _ => {}
+        }
+    }
+
+    // The open entry is one of the token at this place.
+    fn name_open(&mut self, place: Option<usize>)
+        ensures { self.new ≡ spec.names_open self.old place }
+    {
+        if let Some(place) = place
+            && let Some(len) = self.lengths.get_mut(place)
+        {
+            *len = self.entry;
+        }
+    }
+
+    // These mutexes have another holder, or none.
+    fn give(&mut self, holder: Option<u32>, mutexes: Locks)
+        ensures { self.new ≡ record self.old { mutexes = held_by holder mutexes self.old.mutexes } }
+    {
+        if mutexes.sq {
+            self.mutexes.sq = holder;
+        }
+        if mutexes.cq {
+            self.mutexes.cq = holder;
+        }
+    }
+
+    /// Whether a step that leads from this world by this event is hidden.
+    pub fn is_hidden(&self, world: &World<'_>, event: Event) -> bool
+        ensures { result ≡ spec.is_hidden self.now world.now event }
+    {
+        match event {
+            Event::ByThread { thread, action, .. } => self.hides(world, thread, action),
+            Event::ByKernel(_) => true,
+        }
+    }
+
+    fn hides(&self, world: &World<'_>, thread: u32, action: Action) -> bool
+        ensures { result ≡ spec.is_hidden_action self.now world.now thread action }
+    {
+        match action {
+            Action::Locked(wanted) => self.has_mutexes(thread, wanted),
+            Action::Submitted(taken) => taken == 0 && world.queued().is_empty(),
+            Action::EntryOpened => false,
+            Action::ReadPrepared => false,
+            Action::WritePrepared => false,
+            Action::FsyncPrepared => false,
+            Action::NopPrepared => false,
+            Action::DataSet(_) => false,
+            Action::Peeked(_) => false,
+            Action::Reaped(_) => false,
+            _ => true,
+        }
+    }
+
+    /// Whether a thread's line, which has this call, is the step that leads from this world by this event; and the line
+    /// of the text that the thread had next.
+    pub fn fits(
+        &self,
+        world: &World<'_>,
+        thread: u32,
+        call: Call,
+        line: Option<Line>,
+        event: Event,
+    ) -> bool
+        ensures { result ≡ spec.fits self.now world.now thread call line event }
+    {
+        match (line, event) {
+            (
+                Some(line),
+                Event::ByThread {
+                    thread: of,
+                    action,
+                    ..
+                },
+            ) => thread == of && self.fits_action(world, call, line.stmt, action),
+            _ => false,
+        }
+    }
+
+    fn fits_action(&self, world: &World<'_>, call: Call, stmt: Stmt, action: Action) -> bool
+        ensures { result ≡ spec.fits_action self.now world.now call stmt action }
+    {
+        match (call, action) {
+            (Call::GetSqe, Action::EntryOpened) => true,
+            (Call::PrepRead { file, buffer, .. }, Action::ReadPrepared) => {
+                is_read_of(file, buffer, stmt)
+            }
+            (Call::PrepWrite { file, buffer, .. }, Action::WritePrepared) => {
+                is_write_of(file, buffer, stmt)
+            }
+            (Call::PrepFsync { file, datasync }, Action::FsyncPrepared) => {
+                is_fsync_of(file, datasync, stmt)
+            }
+            (Call::PrepNop, Action::NopPrepared) => true,
+            (Call::SetData64(wanted), Action::DataSet(given)) => wanted == given,
+            (Call::Submit(wanted), Action::Submitted(given)) => wanted == given,
+            (Call::Peek { user_data, res }, Action::Peeked(completion)) => {
+                self.finds(world, user_data, res, completion)
+            }
+            (Call::CqeSeen(wanted), Action::Reaped(given)) => wanted == given,
+            (Call::Put(pool), Action::ItemsPut) => is_put_into(pool, stmt),
+            (Call::Take(pool), Action::Branched(true)) => is_take_from(pool, stmt),
+            _ => false,
+        }
+    }
+
+    // Whether the text's peek finds this completion where C's finds this result.
+    fn finds(&self, world: &World<'_>, user_data: u64, res: i32, completion: Completion) -> bool
+        ensures { result ≡ spec.same_completion (spec.scaled_peek self.now world.now user_data res) completion }
+    {
+        let most = len_of(user_data, world.completed());
+        let wanted = self.scaled(world.program(), user_data, most, res);
+        user_data == completion.user_data && wanted == i64::from(completion.res)
+    }
+
+    /// What C's result of a request with this user data is in the text, whose request is to move `most` bytes.
+    pub fn scaled(&self, program: &Program, user_data: u64, most: u32, res: i32) -> i64
+        ensures { result ≡ spec.scaled (spec.length_at self.now (token_place program.now.tokens user_data)) most res }
+    {
+        match self.length_of(program.token_place(user_data)) {
+            Some(len) => scaled_by(len, most, res),
+            None => i64::from(res),
+        }
+    }
+
+    fn length_of(&self, place: Option<usize>) -> Option<u64>
+        ensures { result ≡ spec.length_at self.now place }
+    {
+        self.lengths.get(place?).copied().flatten()
+    }
+}
+
+fn is_holder(holder: Option<u32>, thread: u32) -> bool
+    ensures { result ≡ is_holder holder thread }
+{
+    match holder {
+        Some(holder) => holder == thread,
+        None => false,
+    }
+}
+
+// Of a count of C's, which was to move `len` bytes, the one of the text's, which is to move `most`.
+fn scaled_count(len: u64, most: u32, count: u32) -> u32
+    ensures value { result ≡ spec.scaled_count len most count }
+{
+    if count == 0 || len == u64::from(most) {
+        count
+    } else if u64::from(count) == len {
+        most
+    } else {
+        count.min(most.saturating_sub(1))
+    }
+}
+
+// What C's result is of a request that was to move `len` bytes.
+fn scaled_by(len: u64, most: u32, res: i32) -> i64
+    ensures { result ≡ spec.scaled (Some len) most res }
+{
+    match u32::try_from(res) {
+        Ok(count) => i64::from(scaled_count(len, most, count)),
+        Err(_) => i64::from(res),
+    }
+}
+
+fn len_of(user_data: u64, requests: &[Request]) -> u32
+    ensures { result ≡ spec.len_of user_data requests.now }
+{
+    match place_of(requests, user_data) {
+        Some(place) => len_at(requests, place),
+        None => 0,
+    }
+}
+
+// The place of the first request with this user data.
+fn place_of(requests: &[Request], user_data: u64) -> Option<usize>
+    ensures { result ≡ position (λ r. nat_eq r.user_data user_data) requests.now }
+{
+    requests
+        .iter()
+        .position(|request| request.user_data == user_data)
+}
+
+fn len_at(requests: &[Request], place: usize) -> u32
+    ensures { result ≡ spec.len_at requests.now (Some place) }
+{
+    match requests.get(place) {
+        Some(request) => request.len,
+        None => 0,
+    }
+}
+
+fn is_read_of(file: u32, buffer: usize, stmt: Stmt) -> bool
+    ensures { result ≡ spec.is_read_of file buffer stmt }
+{
+    match stmt {
+        Stmt::Do(Op::PrepRead(of, into, _, _)) => of == file && into == buffer,
+        _ => false,
+    }
+}
+
+fn is_write_of(file: u32, buffer: usize, stmt: Stmt) -> bool
+    ensures { result ≡ spec.is_write_of file buffer stmt }
+{
+    match stmt {
+        Stmt::Do(Op::PrepWrite(of, from, _, _, _)) => of == file && from == buffer,
+        _ => false,
+    }
+}
+
+fn is_fsync_of(file: u32, datasync: bool, stmt: Stmt) -> bool
+    ensures { result ≡ spec.is_fsync_of file datasync stmt }
+{
+    match stmt {
+        Stmt::Do(Op::PrepFsync(of, data)) => of == file && data == datasync,
+        _ => false,
+    }
+}
+
+fn is_put_into(pool: usize, stmt: Stmt) -> bool
+    ensures { result ≡ spec.is_put_into pool stmt }
+{
+    match stmt {
+        Stmt::Put(Some(into), _) => into == pool,
+        _ => false,
+    }
+}
+
+fn is_take_from(pool: usize, stmt: Stmt) -> bool
+    ensures { result ≡ spec.is_take_from pool stmt }
+{
+    match stmt {
+        Stmt::If(Test::Take(Some(from), _)) => from == pool,
+        _ => false,
+    }
+}

@@ -1,0 +1,141 @@
+//! The steps and questions that a line of a log is.
+
+ghost use Rattle.std.specs.Prelude.{◌≡◌, IfOk, IfSome, true};
+ghost use Rattle.rc_lang.specs.Program.{Program};
+ghost use Rattle.rc_follow.specs.Followed as spec;
+ghost use Rattle.rc_follow.specs.Follower.{IsHiddenStep};
+
+use crate::noted::Noted;
+use crate::step::step;
+use rc_lang::lines::{Locks, Op, Stmt, Test};
+use rc_log::call::Call;
+use rc_world::event::Item;
+use rc_world::world::World;
+use std::alloc::{AllocError, Global};
+
+const SQ: Locks = Locks {
+    sq: true,
+    cq: false,
+};
+
+const CQ: Locks = Locks {
+    sq: false,
+    cq: true,
+};
+
+/// Whether the line asks something that changes nothing in the world, and the answer is so. Marks of buffers are
+/// asked elsewhere.
+pub fn asks(noted: &Noted, world: &World<'_>, thread: u32, call: Call) -> bool
+    ensures { result ≡ true → (P : Program) → spec.Asks P noted.now world.now thread call }
+{
+    match call {
+        Call::PeekNone => noted.has_mutexes(thread, CQ),
+        Call::SqReady(count) => {
+            noted.has_mutexes(thread, SQ) && world.used_entries() == count as usize
+        }
+        Call::SqSpaceLeft => noted.has_mutexes(thread, SQ),
+        Call::Submit(taken) => {
+            noted.has_mutexes(thread, SQ) && taken == 0 && world.queued().is_empty()
+        }
+        Call::Lock(wanted) => noted.mutexes().are_free(wanted),
+        Call::Unlock(released) => {
+            noted.has_mutexes(thread, released) && holds_none(world, thread, released)
+        }
+        Call::Ends => world.line(thread).is_none(),
+        _ => false,
+    }
+}
+
+/// Whether the thread has none of these locks of the text.
+pub fn holds_none(world: &World<'_>, thread: u32, released: Locks) -> bool
+    ensures { result ≡ spec.holds_none world.now thread released }
+{
+    let holders = world.holders();
+    let has_sq = released.sq && holders.sq == Some(thread);
+    let has_cq = released.cq && holders.cq == Some(thread);
+    !has_sq && !has_cq
+}
+
+/// The world after the thread's step that is the call, if it can make one.
+pub fn called<'a>(
+    alloc: Global,
+    noted: &Noted,
+    world: &World<'a>,
+    thread: u32,
+    call: Call,
+) -> Result<Option<World<'a>>, AllocError>
+    ensures { IfOk result (λ after. IfSome after (λ v. spec.Calls noted.now world.now thread call v)) }
+{
+    let line = world.line(thread);
+    if !line.is_some_and(|line| may_be(call, line.stmt)) {
+        return Ok(None);
+    }
+    let item = Item::Thread {
+        thread,
+        take: take_of(call),
+    };
+    let mut next = world.copy(alloc)?;
+    match step(&mut next, &item)? {
+        Some(event) if noted.fits(world, thread, call, line, event) => Ok(Some(next)),
+        _ => Ok(None),
+    }
+}
+
+/// How many entries a submit takes, where the call is one.
+fn take_of(call: Call) -> Option<i32> {
+    match call {
+        Call::Submit(taken) => Some(taken),
+        _ => None,
+    }
+}
+
+/// Whether the statement may be the call. Where it may not, no copy is made.
+fn may_be(call: Call, stmt: Stmt) -> bool {
+    match (call, stmt) {
+        (Call::GetSqe, Stmt::Do(Op::GetSqe)) => true,
+        (Call::PrepRead { .. }, Stmt::Do(Op::PrepRead(_, _, _, _))) => true,
+        (Call::PrepWrite { .. }, Stmt::Do(Op::PrepWrite(_, _, _, _, _))) => true,
+        (Call::PrepFsync { .. }, Stmt::Do(Op::PrepFsync(_, _))) => true,
+        (Call::PrepNop, Stmt::Do(Op::PrepNop)) => true,
+        (Call::SetData64(given), Stmt::Do(Op::SetData64(user_data))) => given == user_data,
+        (Call::Submit(_), Stmt::Do(Op::Submit(_) | Op::SubmitAndWait(_, _))) => true,
+        (Call::Peek { .. }, Stmt::Peek(_)) => true,
+        (Call::CqeSeen(_), Stmt::Do(Op::CqeSeen)) => true,
+        (Call::Put(_), Stmt::Put(Some(_), _)) => true,
+        (Call::Take(_), Stmt::If(Test::Take(Some(_), _))) => true,
+        _ => false,
+    }
+}
+
+/// The world in which the request with this user data has completed, if it is pending and may have the result that C's
+/// stands for.
+pub fn completed<'a>(
+    alloc: Global,
+    noted: &Noted,
+    world: &World<'a>,
+    user_data: u64,
+    res: i32,
+) -> Result<Option<World<'a>>, AllocError>
+    ensures { IfOk result (λ after. IfSome after (λ v. IsHiddenStep noted.now world.now v)) }
+{
+    let request = world
+        .pending_place(user_data)
+        .and_then(|place| world.pending(place));
+    let Some(request) = request else {
+        return Ok(None);
+    };
+    let res = noted.scaled(world.program(), user_data, request.len, res);
+    let Ok(res) = i32::try_from(res) else {
+        return Ok(None);
+    };
+    let mut next = world.copy(alloc)?;
+    let item = Item::Kernel {
+        user_data,
+        res,
+        fill: 0,
+    };
+    match step(&mut next, &item)? {
+        Some(event) if noted.is_hidden(world, event) => Ok(Some(next)),
+        _ => Ok(None),
+    }
+}
