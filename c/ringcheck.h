@@ -1006,6 +1006,12 @@ RINGCHECK_INSIDE void ringcheck_touch(const char *mark, const void *address, con
 #define RINGCHECK_NOT_LOGGED(text) RINGCHECK_SAYS(GCC error text) 0
 #define io_uring_submit_and_wait_timeout(...)                                                                       \
     RINGCHECK_NOT_LOGGED("ringcheck.h can't log io_uring_submit_and_wait_timeout: call io_uring_submit, then io_uring_wait_cqe_timeout")
+#define io_uring_submit_and_wait_min_timeout(...)                                                                   \
+    RINGCHECK_NOT_LOGGED("ringcheck.h can't log io_uring_submit_and_wait_min_timeout: call io_uring_submit, then io_uring_wait_cqe_timeout")
+#define io_uring_submit_and_wait_reg(...)                                                                           \
+    RINGCHECK_NOT_LOGGED("ringcheck.h can't log io_uring_submit_and_wait_reg: call io_uring_submit, then io_uring_wait_cqe_timeout")
+#define io_uring_wait_cqes_min_timeout(...)                                                                         \
+    RINGCHECK_NOT_LOGGED("ringcheck.h can't log io_uring_wait_cqes_min_timeout: call io_uring_wait_cqes")
 #define io_uring_submit_and_get_events(...)                                                                         \
     RINGCHECK_NOT_LOGGED("ringcheck.h can't log io_uring_submit_and_get_events: call io_uring_submit, then io_uring_peek_cqe")
 #define io_uring_enter(...)                                                                                         \

@@ -1,12 +1,12 @@
 #!/usr/bin/env python3
-"""Says which edits don't apply: those that the prover has to refuse, and the wrong rules.
+"""Says which edits don't apply: those that the prover has to refuse, the wrong rules, and the planted bugs.
 
 usage: ci/edits.py
 
-An edit is a file of crates/NAME/must-fail or of audit/rules. After lines that begin with '#' it has pairs of lines
+An edit is a file of crates/NAME/must-fail, of audit/rules or of audit/bugs. After lines that begin with '#' it has pairs of lines
 'old: TEXT' and 'new: TEXT' for the file that the last line 'file: PATH' named. Each old TEXT is there exactly once,
 as the pairs before it left the file. The edits of a crate name its files, each TEXT as it is; a wrong rule names
-files below crates/, and a \\n in its TEXT is a line's end. The status is 1 where an edit doesn't apply.
+files below crates/, a bug one of examples/follow, and a \\n in their TEXT is a line's end. The status is 1 where an edit doesn't apply.
 """
 
 import sys
@@ -14,6 +14,8 @@ from pathlib import Path
 
 TOP = Path(__file__).resolve().parent.parent
 RULES = TOP / "audit" / "rules"
+BUGS = TOP / "audit" / "bugs"
+FOLLOWED = TOP / "examples" / "follow"
 
 
 class Stale(Exception):
@@ -22,6 +24,10 @@ class Stale(Exception):
 
 def rule_edits():
     return sorted(RULES.glob("*.edit"))
+
+
+def bug_edits():
+    return sorted(BUGS.glob("*.edit"))
 
 
 def changed(edit, folder, unescape=lambda text: text):
@@ -58,18 +64,32 @@ def changed_rule(edit, crates):
     return changed(edit, crates, lambda text: text.replace("\\n", "\n"))
 
 
+def changed_program(edit):
+    """As `changed`, of a planted bug."""
+    return changed_rule(edit, FOLLOWED)
+
+
+def try_edit(edit):
+    if edit.parent == BUGS:
+        changed_program(edit)
+    elif edit.parent == RULES:
+        changed_rule(edit, TOP / "crates")
+    else:
+        changed(edit, edit.parent.parent)
+
+
 def main():
     if len(sys.argv) != 1:
         sys.exit(__doc__)
     stale = 0
     must_fail = sorted((TOP / "crates").glob("*/must-fail/*.edit"))
-    for edit in must_fail + rule_edits():
+    for edit in must_fail + rule_edits() + bug_edits():
         try:
-            changed_rule(edit, TOP / "crates") if edit.parent == RULES else changed(edit, edit.parent.parent)
+            try_edit(edit)
         except Stale as why:
             stale += 1
             print(f"{edit.relative_to(TOP)}: {why}", file=sys.stderr)
-    if stale or not must_fail or not rule_edits():
+    if stale or not must_fail or not rule_edits() or not bug_edits():
         print(f"edits that don't apply: {stale}", file=sys.stderr)
         return 1
     return 0

@@ -168,8 +168,8 @@ static void build(struct wal *wal, const void *bytes, size_t length)
 static int append(struct wal *wal, const void *bytes, size_t length)
 {
     build(wal, bytes, length);
-    write_rest(wal);
     send_record(wal);
+    write_rest(wal);
     if (finish(wal) != 0)
         return wal->error;
     sync_log(wal);

@@ -1,0 +1,185 @@
+/* Makes each call that ringcheck.h logs, as C11 and as C++17. audit/follow compares the log with the comments that begin
+   with a colon. The calls are made in the order of the file. */
+#ifndef _GNU_SOURCE
+#define _GNU_SOURCE
+#endif
+#include <errno.h>
+#include <fcntl.h>
+#include <liburing.h>
+#include <pthread.h>
+#include <stdint.h>
+#include <stdio.h>
+#include <stdlib.h>
+#include <string.h>
+#include <sys/socket.h>
+#include <sys/uio.h>
+#include <time.h>
+#include <unistd.h>
+#include "ringcheck.h"
+
+static struct io_uring ring, other;
+static pthread_mutex_t submitting = PTHREAD_MUTEX_INITIALIZER, another = PTHREAD_MUTEX_INITIALIZER;
+static pthread_cond_t never = PTHREAD_COND_INITIALIZER;
+static char page[256], spare[64];
+static int object, file;
+
+/* The call is expected to answer so. */
+static void must(int line, long answer, long expected)
+{
+    if (answer != expected) {
+        fprintf(stderr, "follow-calls.c:%d: %ld in place of %ld\n", line, answer, expected);
+        exit(2);
+    }
+}
+#define MUST(call, answer) must(__LINE__, (long)(call), (answer))
+
+static struct io_uring_sqe *entry(void)
+{
+    struct io_uring_sqe *sqe = io_uring_get_sqe(&ring);
+
+    MUST(sqe != NULL, 1);
+    return sqe;
+}
+
+static void begin(void)
+{
+    MUST(io_uring_queue_init(8, &ring, 0), 0);
+    MUST(io_uring_queue_init(8, &other, 0), 0);
+    file = 1000000; /* there is none */
+    RINGCHECK_RING_SIDES(&ring, &submitting, NULL);
+    RINGCHECK_THREAD("a_thread");
+    RINGCHECK_FILE(file, 3);
+    RINGCHECK_BUFFER(page, 16, "first");
+    RINGCHECK_BUFFER(page + 8, 16, "second");
+    RINGCHECK_BUFFER(page, sizeof page, "page");
+    RINGCHECK_TOKEN(&object, 7);
+    RINGCHECK_READS(page + 255); /*: reads page */
+    RINGCHECK_WRITES(page); /*: writes page */
+    RINGCHECK_PUT("free"); /*: put free */
+    RINGCHECK_TAKE("free"); /*: take free */
+    RINGCHECK_REAPER(); /*: lock cq */
+}
+
+static void lock(void)
+{
+    struct timespec until;
+
+    memset(&until, 0, sizeof until);
+    MUST(pthread_mutex_lock(&submitting), 0); /*: lock sq */
+    MUST(pthread_mutex_trylock(&submitting), EBUSY);
+    MUST(pthread_mutex_lock(&another), 0);
+    MUST(pthread_mutex_unlock(&another), 0);
+    MUST(pthread_cond_timedwait(&never, &submitting, &until), ETIMEDOUT); /*: unlock sq */ /*: lock sq */
+    MUST(pthread_mutex_unlock(&submitting), 0); /*: unlock sq */
+    MUST(pthread_mutex_timedlock(&submitting, &until), 0); /*: lock sq */
+    RINGCHECK_UNLOCKS(&submitting); /*: unlock sq */
+    RINGCHECK_LOCKED(&submitting); /*: lock sq */
+}
+
+/* Makes no line: it is another ring. */
+static void use_other_ring(void)
+{
+    struct io_uring_cqe *cqe;
+    struct io_uring_sqe *sqe = io_uring_get_sqe(&other);
+
+    io_uring_prep_nop(sqe);
+    io_uring_sqe_set_data64(sqe, 1);
+    MUST(io_uring_submit_and_wait(&other, 1), 1);
+    MUST(io_uring_peek_cqe(&other, &cqe), 0);
+    io_uring_cqe_seen(&other, cqe);
+}
+
+static void queue_nop(uint64_t data)
+{
+    struct io_uring_sqe *sqe = entry();
+
+    io_uring_prep_nop(sqe);
+    io_uring_sqe_set_data64(sqe, data);
+}
+
+static void reap(void)
+{
+    struct __kernel_timespec until;
+    struct io_uring_cqe *cqe, *cqes[4];
+    unsigned head, count = 0;
+
+    memset(&until, 0, sizeof until);
+    MUST(io_uring_peek_cqe(&ring, &cqe), -EAGAIN); /*: peek_cqe none */
+    MUST(io_uring_peek_cqe(&ring, &cqe), -EAGAIN);
+    MUST(io_uring_wait_cqe_timeout(&ring, &cqe, &until), -ETIME);
+    MUST(io_uring_peek_batch_cqe(&ring, cqes, 4), 0);
+    queue_nop(1); /*: get_sqe 1 */ /*: prep_nop */ /*: set_data64 1 */
+    queue_nop(2); /*: get_sqe 1 */ /*: prep_nop */ /*: set_data64 2 */
+    queue_nop(3); /*: get_sqe 1 */ /*: prep_nop */ /*: set_data64 3 */
+    queue_nop(4); /*: get_sqe 1 */ /*: prep_nop */ /*: set_data64 4 */
+    queue_nop(5); /*: get_sqe 1 */ /*: prep_nop */ /*: set_data64 5 */
+    MUST(io_uring_submit_and_wait(&ring, 2), 5); /*: submit_and_wait 2 5 */
+    MUST(io_uring_wait_cqe(&ring, &cqe), 0); /*: peek_cqe 1 0 */
+    io_uring_for_each_cqe(&ring, head, cqe) { /*: cqe_seen 1 */ /*: peek_cqe 2 0 */ /*: cqe_seen 2 */
+        if (++count == 2)
+            break;
+    }
+    io_uring_cq_advance(&ring, count);
+    MUST(io_uring_wait_cqes(&ring, &cqe, 1, &until, NULL), 0); /*: peek_cqe 3 0 */
+    io_uring_cqe_seen(&ring, cqe); /*: cqe_seen 3 */
+    MUST(io_uring_peek_batch_cqe(&ring, cqes, 4), 2); /*: peek_cqe 4 0 */ /*: cqe_seen 4 */ /*: peek_cqe 5 0 */ /*: cqe_seen 5 */
+    io_uring_cqe_seen(&ring, cqes[0]);
+    io_uring_cq_advance(&ring, 1);
+    MUST(io_uring_submit(&ring), 0); /*: submit 0 */
+    queue_nop(6); /*: get_sqe 1 */ /*: prep_nop */ /*: set_data64 6 */
+    MUST(io_uring_submit(&ring), 1); /*: submit 1 */
+    MUST(io_uring_wait_cqe_nr(&ring, &cqe, 1), 0); /*: peek_cqe 6 0 */
+    MUST(io_uring_peek_cqe(&ring, &cqe), 0); /*: peek_cqe 6 0 */
+    io_uring_cq_advance(&ring, 1); /*: cqe_seen 6 */
+    io_uring_for_each_cqe(&ring, head, cqe) /*: peek_cqe none */
+        MUST(0, 1);
+}
+
+static void fill_in(void)
+{
+    static struct iovec pieces[2] = {{page, 8}, {page + 8, 8}};
+    struct io_uring_sqe *sqe;
+
+    sqe = entry(); /*: get_sqe 1 */
+    io_uring_prep_read(sqe, file, page, 256, 0); /*: prep_read 3 page 256 0 */
+    io_uring_sqe_set_data(sqe, &object); /*: set_data64 7 */
+    sqe = entry(); /*: get_sqe 1 */
+    io_uring_prep_write(sqe, file, page + 200, 57, 512); /*: prep_write 3 ! 57 512 */
+    sqe->user_data = 8; /*: set_data64 8 */
+    sqe = entry(); /*: get_sqe 1 */
+    io_uring_sqe_set_data64(sqe, 9);
+    io_uring_prep_writev(sqe, file + 1, pieces, 1, 4); /*: prep_write -1 page 8 4 */
+    /*: set_data64 9 */
+    sqe = entry(); /*: get_sqe 1 */
+    io_uring_prep_readv(sqe, file, pieces, 2, 4); /*: prep_read 3 ? 0 4 */
+    io_uring_sqe_set_data64(sqe, 10); /*: set_data64 10 */
+    io_uring_sqe_set_flags(sqe, IOSQE_ASYNC);
+    sqe = entry(); /*: get_sqe 1 */
+    io_uring_prep_fsync(sqe, file, IORING_FSYNC_DATASYNC); /*: prep_fsync 3 1 */
+    io_uring_sqe_set_data64(sqe, UINT64_MAX); /*: set_data64 18446744073709551615 */
+    io_uring_sqe_set_flags(sqe, IOSQE_IO_LINK); /*: flags 4 */
+    sqe = entry(); /*: get_sqe 1 */
+    io_uring_prep_send(sqe, file, spare, 3, 0); /*: prep_write 3 ? 3 0 */
+    RINGCHECK_READS(spare); /*: reads ? */
+    io_uring_sqe_set_data64(sqe, 11); /*: set_data64 11 */
+    sqe = entry(); /*: get_sqe 1 */
+    io_uring_prep_poll_add(sqe, file, 1); /*: prep_other 6 */
+    sqe->user_data = 12; /*: set_data64 12 */
+    sqe = entry(); /*: get_sqe 1 */
+    io_uring_prep_nop(sqe); /*: prep_nop */
+    io_uring_sqe_set_data64(sqe, 13); /*: set_data64 13 */
+    MUST(io_uring_get_sqe(&ring), 0); /*: get_sqe 0 */
+    MUST(io_uring_sq_ready(&ring), 8); /*: sq_ready 8 */
+    MUST(io_uring_sq_space_left(&ring), 0); /*: sq_space_left 0 */
+}
+
+int main(void)
+{
+    begin();
+    lock();
+    use_other_ring();
+    reap();
+    fill_in();
+    RINGCHECK_ENDS(); /*: ends */
+    return 0;
+}
