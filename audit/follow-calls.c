@@ -1,5 +1,5 @@
-/* Makes each call that ringcheck.h logs, as C11 and as C++17. audit/follow compares the log with the comments that begin
-   with a colon. The calls are made in the order of the file. */
+/* Makes each call that ringcheck.h logs, as C11 and as C++17, and looks at what is poisoned when. audit/follow compares the
+   log with the comments that begin with a colon. The calls are made in the order of the file. */
 #ifndef _GNU_SOURCE
 #define _GNU_SOURCE
 #endif
@@ -173,6 +173,65 @@ static void fill_in(void)
     MUST(io_uring_sq_space_left(&ring), 0); /*: sq_space_left 0 */
 }
 
+static void write_null(int null, int at, uint64_t data)
+{
+    struct io_uring_sqe *sqe = io_uring_get_sqe(&other);
+
+    io_uring_prep_write(sqe, null, page + at, 64, 0);
+    io_uring_sqe_set_data64(sqe, data);
+}
+
+/* Whether the bytes at 16, 48 and 80 are poisoned, in a build that poisons. */
+static void must_be_poisoned(int line, int first, int second, int third)
+{
+#ifdef RINGCHECK_POISON
+    must(line, __asan_address_is_poisoned(page + 16), first);
+    must(line, __asan_address_is_poisoned(page + 48), second);
+    must(line, __asan_address_is_poisoned(page + 80), third);
+#else
+    (void)line, (void)first, (void)second, (void)third;
+#endif
+}
+#define MUST_BE_POISONED(first, second, third) must_be_poisoned(__LINE__, first, second, third)
+
+/* Makes no line: it is another ring. */
+static void poison(void)
+{
+    const int null = open("/dev/null", O_WRONLY);
+    struct io_uring_cqe *cqe;
+    unsigned head;
+    int is_first;
+
+    write_null(null, 0, 1);
+    write_null(null, 32, 2);
+    MUST_BE_POISONED(0, 0, 0);
+    MUST(io_uring_submit_and_wait(&other, 2), 2);
+    MUST_BE_POISONED(1, 1, 1);
+    MUST(io_uring_wait_cqe(&other, &cqe), 0);
+    is_first = io_uring_cqe_get_data64(cqe) == 1;
+    MUST_BE_POISONED(1, 1, 1);
+    io_uring_cqe_seen(&other, cqe);
+    MUST_BE_POISONED(!is_first, 1, is_first);
+    MUST(io_uring_wait_cqe(&other, &cqe), 0);
+    io_uring_cqe_seen(&other, cqe);
+    MUST_BE_POISONED(0, 0, 0);
+
+    write_null(null, 0, 1);
+    MUST(io_uring_submit_and_wait(&other, 1), 1);
+    io_uring_for_each_cqe(&other, head, cqe) {
+        MUST_BE_POISONED(0, 0, 0);
+        write_null(null, 0, 1); /* again, with the same user data */
+        MUST(io_uring_submit(&other), 1);
+        break;
+    }
+    MUST_BE_POISONED(1, 1, 0);
+    io_uring_cq_advance(&other, 1);
+    MUST_BE_POISONED(1, 1, 0);
+    MUST(io_uring_wait_cqe(&other, &cqe), 0);
+    io_uring_cqe_seen(&other, cqe);
+    MUST_BE_POISONED(0, 0, 0);
+}
+
 int main(void)
 {
     begin();
@@ -180,6 +239,7 @@ int main(void)
     use_other_ring();
     reap();
     fill_in();
+    poison();
     RINGCHECK_ENDS(); /*: ends */
     return 0;
 }

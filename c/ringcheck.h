@@ -96,6 +96,9 @@ enum { RINGCHECK_SQ, RINGCHECK_CQ };
 /* A name of the text: a letter, then up to 22 letters, digits or `_`. */
 enum { RINGCHECK_NAME = 24 };
 
+/* The most rings of a program. One is logged. */
+enum { RINGCHECK_RINGS = 16 };
+
 /* What addresses, a descriptor or user data stand for in the text, from `first` up to `last`. */
 struct ringcheck_meaning {
     uint64_t first, last;
@@ -120,6 +123,15 @@ struct ringcheck_piece {
     int is_out; /* submitted */
 };
 
+/* How far the completions of a ring are looked at. */
+struct ringcheck_reaping {
+    const struct io_uring *ring;
+    unsigned seen_to; /* completions below this index count as seen .. */
+    int is_ahead;     /* .. and some of them aren't given back to the kernel yet */
+    unsigned peeked;  /* the index of the completion that is peeked, if it isn't seen */
+    int is_peeked;
+};
+
 struct ringcheck_state {
     char *map;
     size_t size, at;
@@ -134,10 +146,7 @@ struct ringcheck_state {
     struct ringcheck_piece *pieces;
     size_t piece_count, piece_room;
     unsigned request;
-    unsigned seen_to; /* completions below this index of the ring are logged as seen .. */
-    int is_ahead;     /* .. and some of them aren't given back to the kernel yet */
-    unsigned peeked;  /* the index of the completion whose peek is logged, if its `cqe_seen` isn't */
-    int is_peeked;
+    struct ringcheck_reaping reaping[RINGCHECK_RINGS];
 };
 
 /* The entry that this thread has open. */
@@ -361,6 +370,8 @@ RINGCHECK_INSIDE void ringcheck_open_log(const char *form)
     if (ringcheck_state.descriptor < 0)
         ringcheck_stop(path, strerror(errno));
     error = posix_fallocate(ringcheck_state.descriptor, 0, (off_t)ringcheck_state.size);
+    if (error == EOPNOTSUPP || error == EINVAL)
+        error = ftruncate(ringcheck_state.descriptor, (off_t)ringcheck_state.size) == 0 ? 0 : errno;
     if (error != 0)
         ringcheck_stop(path, strerror(error));
     map = mmap(NULL, ringcheck_state.size, PROT_READ | PROT_WRITE, MAP_SHARED, ringcheck_state.descriptor, 0);
@@ -727,10 +738,26 @@ RINGCHECK_INSIDE void ringcheck_submitted(void)
 
 /* ---- Completions ---- */
 
-/* Whether the completion at this index of the ring isn't logged as seen yet. */
-RINGCHECK_INSIDE int ringcheck_is_new(unsigned index)
+RINGCHECK_INSIDE struct ringcheck_reaping *ringcheck_reaping_of(const struct io_uring *ring)
 {
-    return !ringcheck_state.is_ahead || (int)(index - ringcheck_state.seen_to) >= 0;
+    size_t i;
+
+    for (i = 0; i < RINGCHECK_RINGS; i++) {
+        struct ringcheck_reaping *reaping = &ringcheck_state.reaping[i];
+        const struct io_uring *found = NULL;
+
+        if (__atomic_compare_exchange_n(&reaping->ring, &found, ring, 0, __ATOMIC_ACQ_REL, __ATOMIC_ACQUIRE) ||
+            found == ring)
+            return reaping;
+    }
+    ringcheck_stop("a program", "it has more than 16 rings");
+    return NULL;
+}
+
+/* Whether the completion at this index doesn't count as seen yet. */
+RINGCHECK_INSIDE int ringcheck_is_new(const struct ringcheck_reaping *reaping, unsigned index)
+{
+    return !reaping->is_ahead || (int)(index - reaping->seen_to) >= 0;
 }
 
 /* One line for any number of looks in a row. */
@@ -742,49 +769,56 @@ RINGCHECK_INSIDE void ringcheck_none(const char *file, int line)
     ringcheck_is_idle = 1;
 }
 
-RINGCHECK_INSIDE void ringcheck_peeked(unsigned index, const struct io_uring_cqe *cqe, const char *file, int line)
+RINGCHECK_INSIDE void ringcheck_peeked(struct ringcheck_reaping *reaping, unsigned index,
+                                       const struct io_uring_cqe *cqe, const char *file, int line)
 {
+    reaping->peeked = index;
+    reaping->is_peeked = 1;
+    if (!ringcheck_is_logged(reaping->ring))
+        return;
     ringcheck_submitted();
-    ringcheck_state.peeked = index;
-    ringcheck_state.is_peeked = 1;
     ringcheck_line(file, line, "peek_cqe %llu %d", ringcheck_token_of(cqe->user_data), cqe->res);
 }
 
-RINGCHECK_INSIDE void ringcheck_given_back(const struct io_uring_cqe *cqe, const char *file, int line)
+RINGCHECK_INSIDE void ringcheck_given_back(struct ringcheck_reaping *reaping, const struct io_uring_cqe *cqe,
+                                           const char *file, int line)
 {
-    ringcheck_state.is_peeked = 0;
-    ringcheck_line(file, line, "cqe_seen %llu", ringcheck_token_of(cqe->user_data));
+    reaping->is_peeked = 0;
+    if (ringcheck_is_logged(reaping->ring))
+        ringcheck_line(file, line, "cqe_seen %llu", ringcheck_token_of(cqe->user_data));
+    ringcheck_give_back(reaping->ring, cqe->user_data);
 }
 
-/* Of several at once each is logged as peeked, if a wait didn't just do that, and seen. */
-RINGCHECK_INSIDE void ringcheck_taken(struct io_uring *ring, unsigned index, const char *file, int line)
+RINGCHECK_INSIDE struct io_uring_cqe *ringcheck_at(const struct io_uring *ring, unsigned index)
 {
-    const struct io_uring_cqe *cqe = &ring->cq.cqes[io_uring_cqe_index(ring, index, *ring->cq.kring_mask)];
+    return &ring->cq.cqes[io_uring_cqe_index(ring, index, *ring->cq.kring_mask)];
+}
 
-    if (!ringcheck_is_logged(ring)) {
-        ringcheck_give_back(ring, cqe->user_data);
+/* Of several at once each counts as peeked, if a wait didn't just do that, and seen. */
+RINGCHECK_INSIDE void ringcheck_taken(struct ringcheck_reaping *reaping, unsigned index, const char *file, int line)
+{
+    const struct io_uring_cqe *cqe = ringcheck_at(reaping->ring, index);
+
+    if (!ringcheck_is_new(reaping, index))
         return;
-    }
-    if (!ringcheck_is_new(index))
-        return;
-    if (!ringcheck_state.is_peeked || ringcheck_state.peeked != index)
-        ringcheck_peeked(index, cqe, file, line);
-    ringcheck_given_back(cqe, file, line);
-    ringcheck_give_back(ring, cqe->user_data);
-    ringcheck_state.seen_to = index + 1;
-    ringcheck_state.is_ahead = 1;
+    if (!reaping->is_peeked || reaping->peeked != index)
+        ringcheck_peeked(reaping, index, cqe, file, line);
+    ringcheck_given_back(reaping, cqe, file, line);
+    reaping->seen_to = index + 1;
+    reaping->is_ahead = 1;
 }
 
 /* The front completion was looked at, with this answer. */
 RINGCHECK_INSIDE int ringcheck_looked(struct io_uring *ring, int answer, struct io_uring_cqe *const *cqe,
                                       const char *file, int line)
 {
-    if (!ringcheck_begin(ring, RINGCHECK_CQ, file, line))
-        return answer;
-    if (answer == -EAGAIN || answer == -ETIME)
+    struct ringcheck_reaping *reaping = ringcheck_reaping_of(ring);
+    const int is_logged = ringcheck_begin(ring, RINGCHECK_CQ, file, line);
+
+    if (is_logged && (answer == -EAGAIN || answer == -ETIME))
         ringcheck_none(file, line);
-    else if (answer == 0 && *cqe != NULL && ringcheck_is_new(*ring->cq.khead))
-        ringcheck_peeked(*ring->cq.khead, *cqe, file, line);
+    else if (answer == 0 && *cqe != NULL && ringcheck_is_new(reaping, *ring->cq.khead))
+        ringcheck_peeked(reaping, *ring->cq.khead, *cqe, file, line);
     return answer;
 }
 
@@ -806,7 +840,7 @@ RINGCHECK_INSIDE int ringcheck_wait_until(struct io_uring *ring, struct io_uring
 {
     if (ringcheck_begin(ring, RINGCHECK_CQ, file, line) && until != NULL &&
         (ring->features & IORING_FEAT_EXT_ARG) == 0)
-        ringcheck_stop("io_uring_wait_cqe_timeout", "can be logged from Linux 5.11 on");
+        ringcheck_stop("io_uring_wait_cqe_timeout", "it can be logged from Linux 5.11 on");
     return ringcheck_looked(ring, io_uring_wait_cqes(ring, cqe, wanted, until, mask), cqe, file, line);
 }
 
@@ -820,7 +854,7 @@ RINGCHECK_INSIDE unsigned ringcheck_peek_batch(struct io_uring *ring, struct io_
     if (count == 0 && is_logged)
         ringcheck_none(file, line);
     for (i = 0; i < count; i++)
-        ringcheck_taken(ring, *ring->cq.khead + i, file, line);
+        ringcheck_taken(ringcheck_reaping_of(ring), *ring->cq.khead + i, file, line);
     return count;
 }
 
@@ -834,34 +868,35 @@ RINGCHECK_INSIDE struct io_uring_cqe *ringcheck_each(struct io_uring *ring, unsi
             ringcheck_none(file, line);
         return NULL;
     }
-    ringcheck_taken(ring, index, file, line);
-    return &ring->cq.cqes[io_uring_cqe_index(ring, index, *ring->cq.kring_mask)];
+    ringcheck_taken(ringcheck_reaping_of(ring), index, file, line);
+    return ringcheck_at(ring, index);
 }
 
-/* Where all that was logged ahead is given back, the log and the ring are at one place again. */
+/* Where all that counts as seen is given back, the log and the ring are at one place again. */
 RINGCHECK_INSIDE void ringcheck_advance(struct io_uring *ring, unsigned count, const char *file, int line)
 {
-    const int is_logged = ringcheck_begin(ring, RINGCHECK_CQ, file, line);
+    struct ringcheck_reaping *reaping = ringcheck_reaping_of(ring);
     unsigned i;
 
+    ringcheck_begin(ring, RINGCHECK_CQ, file, line);
     for (i = 0; i < count; i++)
-        ringcheck_taken(ring, *ring->cq.khead + i, file, line);
-    if (is_logged && (int)(*ring->cq.khead + count - ringcheck_state.seen_to) >= 0)
-        ringcheck_state.is_ahead = 0;
+        ringcheck_taken(reaping, *ring->cq.khead + i, file, line);
+    if ((int)(*ring->cq.khead + count - reaping->seen_to) >= 0)
+        reaping->is_ahead = 0;
     io_uring_cq_advance(ring, count);
 }
 
 RINGCHECK_INSIDE void ringcheck_seen(struct io_uring *ring, struct io_uring_cqe *cqe, const char *file, int line)
 {
-    const int is_logged = ringcheck_begin(ring, RINGCHECK_CQ, file, line);
+    struct ringcheck_reaping *reaping = ringcheck_reaping_of(ring);
 
+    ringcheck_begin(ring, RINGCHECK_CQ, file, line);
     if (cqe == NULL)
         return;
-    if (is_logged && ringcheck_is_new(*ring->cq.khead))
-        ringcheck_given_back(cqe, file, line);
-    else if (is_logged && *ring->cq.khead + 1 == ringcheck_state.seen_to)
-        ringcheck_state.is_ahead = 0;
-    ringcheck_give_back(ring, cqe->user_data);
+    if (ringcheck_is_new(reaping, *ring->cq.khead))
+        ringcheck_given_back(reaping, cqe, file, line);
+    else if (*ring->cq.khead + 1 == reaping->seen_to)
+        reaping->is_ahead = 0;
     io_uring_cqe_seen(ring, cqe);
 }
 
