@@ -1,7 +1,8 @@
 /*
  * ringcheck.h: logs what a program calls on its io_uring, so that `ringcheck follow` can hold the program to its text.
  *
- * For C11 and C++17 with GCC or Clang, over liburing 2.2 or later. Include it after all other headers.
+ * For C11 and C++17 with GCC or Clang, over liburing 2.2 or later, which wants _GNU_SOURCE. Include it after all other
+ * headers.
  *
  *   -DRINGCHECK_LOG      calls and marks go to the file that the environment's RINGCHECK_LOG_FILE names (%p in it is the
  *                        process's number); without that name nothing is logged. RINGCHECK_LOG_SIZE is the most bytes
@@ -42,7 +43,8 @@
 /* The buffer at this address is read next; it is written, freed or given away next. */
 #define RINGCHECK_READS(address) RINGCHECK_NOT(address)
 #define RINGCHECK_WRITES(address) RINGCHECK_NOT(address)
-/* Something goes into the text's pool NAME next; something was got from it. */
+/* Something goes into the text's pool NAME next, where others can't take it yet: each put needs this. Something was got
+   from it. */
 #define RINGCHECK_PUT(name) RINGCHECK_NOT(name)
 #define RINGCHECK_TAKE(name) RINGCHECK_NOT(name)
 /* This thread makes no more calls: the text's thread has ended. */
