@@ -261,8 +261,15 @@ RINGCHECK_INSIDE void ringcheck_end(void)
 {
     const size_t at = __atomic_fetch_add(&ringcheck_state.at, ringcheck_state.size, __ATOMIC_RELAXED);
 
-    if (at < ringcheck_state.size && ftruncate(ringcheck_state.descriptor, (off_t)at) != 0)
+    if (ringcheck_state.map != NULL && at < ringcheck_state.size && ftruncate(ringcheck_state.descriptor, (off_t)at) != 0)
         perror("ringcheck.h: the log can't be cut to its length");
+}
+
+/* A child process has no log, unless it says which ring is its own. */
+RINGCHECK_INSIDE void ringcheck_forked(void)
+{
+    ringcheck_state.map = NULL;
+    ringcheck_state.ring = NULL;
 }
 
 /* ---- What stands for what ---- */
@@ -384,6 +391,7 @@ RINGCHECK_INSIDE void ringcheck_open_log(const char *form)
                                           *ringcheck_state.ring->cq.kring_entries);
     ringcheck_state.map = (char *)map;
     atexit(ringcheck_end);
+    pthread_atfork(NULL, NULL, ringcheck_forked);
 }
 
 RINGCHECK_INSIDE void ringcheck_ring(const struct io_uring *ring, int has_sides, const void *submitting,
