@@ -51,9 +51,10 @@ In these, and in words, `\\n`, `\\r`, `\\t`, `\\\\` and `\\xHH` are bytes. No li
 Lines of output are bytes as they are. Besides `> LINE` there are `>> NAME`, which is a whole text as of `<`; `>^ LINE`,
 a line that begins so; and `>..`, any lines.
 
-In a table the output has one line, or several with ` / ` between them, and the status follows from the first word of
-the last: accepted, stopped and ended 0, refused and fault 1, unreadable 2. `cut N` stands for each beginning of the
-text, up to N bytes, that isn't in a line above; the last N is the whole text.
+In a table the output has one line, or several with ` / ` between them, where `..` is any lines. The status follows from
+the first word of the last: accepted, stopped and ended 0, refused and fault 1, unreadable 2; or it is that of a line
+`status N` above. `cut N` stands for each beginning of the text, up to N bytes, that isn't in a line above; the last N
+is the whole text.
 
 Names of tables and rows are unique in the folder, and each text and file is used. A file of rows that isn't so is told,
 with its line, and the status is 2. Otherwise each difference is printed, and how many rows there are; the status is 1
@@ -313,18 +314,21 @@ class File:
 
     def read_table(self, name, lines):
         asked, text, cut, count = [], "", -1, len(self.rows)
+        status = None
         for line in self.each(lines):
             step, arrow, output = (part.rstrip(" ") for part in line.rpartition(" => "))
             if line[:2] == "$ " and not text:
                 asked.append(self.words_of(line))
+            elif line in ("status 0", "status 1", "status 2", "status 3"):
+                status = int(line[7:])
             elif arrow and line.startswith("cut "):
                 last = int(step[4:]) if step[4:].isdecimal() else 0
                 if not cut < last <= len(text):
                     raise Wrong(f"no beginning of the text, of {len(text)} bytes, has {step[4:]} and none above")
                 for cut in range(cut + 1, last + 1):
-                    self.add_line(name, asked, text[:cut], output)
+                    self.add_line(name, asked, text[:cut], output, status)
             elif self.is_step(line) and arrow and (line[0] != "~" or "=>" in step):
-                self.add_line(name, asked, self.stepped(text, step), output)
+                self.add_line(name, asked, self.stepped(text, step), output, status)
             elif self.is_step(line) and len(self.rows) == count:
                 text = self.stepped(text, line)
             else:
@@ -332,15 +336,16 @@ class File:
         if len(self.rows) == count or cut not in (-1, len(text)):
             raise Wrong(f"this table has no lines, or the last beginning isn't the whole text, of {len(text)} bytes")
 
-    def add_line(self, name, asked, text, output):
-        """Adds the rows of a table's line."""
+    def add_line(self, name, asked, text, output, status):
+        """Adds the rows of a table's line, with this status if it has one."""
         if not asked:
             raise Wrong("this table has no words")
         for words in asked:
             told = [as_object(output)] if "--json" in words else output.split(" / ")
             place = f"{self.path}:{self.at}: {name}"
-            status = status_of(output.split(" / ")[-1])
-            self.rows.append(Row(place, words, text, [line + "\n" for line in told], "", status))
+            wanted = [ANY_LINES if line == ".." else line + "\n" for line in told]
+            known = status_of(output.split(" / ")[-1]) if status is None else status
+            self.rows.append(Row(place, words, text, wanted, "", known))
 
 
 def fits(output, wanted):
