@@ -1,6 +1,6 @@
 -- What the program answers: of each command the exit status, and what it writes.
 use Rattle.std.specs.Global.{Vec}
-use Rattle.std.specs.Prelude.{ℕ, ℤ, ◌≡◌, ◌≤ℤ◌, pos, negsuc, ◌+◌, ◌⊎◌, Bool, true, false, List, None, Result, Ok, Err, string_bytes}
+use Rattle.std.specs.Prelude.{ℕ, ℤ, ◌≡◌, ◌≤ℤ◌, pos, negsuc, ◌+◌, ◌⊎◌, Bool, true, false, List, [], None, Result, Ok, Err, string_bytes}
 use Rattle.rc_lang.specs.Program.{Program}
 use Rattle.rc_read.specs.Answer.{answer_of}
 use Rattle.rc_world.specs.declared.event.Event.{Event}
@@ -31,7 +31,7 @@ use Rattle.rc_state.specs.Engine.{stepped_with_state}
 use Rattle.rc_command.specs.declared.fault.CommandFault.{CommandFault}
 use Rattle.rc_command.specs.declared.fault.CommandFault.TheVariants.{Words, Engine, OtherProgram}
 use Rattle.rc_command.specs.declared.words.Command.{Command}
-use Rattle.rc_command.specs.declared.words.Command.TheVariants.{Check, Explain, Keeps, Step, State, Moves, Draw, DrawMoves, Find, DrawFound, Run, Emit, Show}
+use Rattle.rc_command.specs.declared.words.Command.TheVariants.{Check, Explain, Keeps, Step, State, Moves, Draw, DrawMoves, Find, DrawFound, Run, Emit, Follow, Show}
 
 -- ---- what each command says of the bytes of a text: the status, and the text that is written
 
@@ -93,7 +93,8 @@ SaysKept bytes status text =
     ⊎ ((verdict : Verdict) × GivesKept bytes (Err verdict)
     × (text ≡ verdict_text verdict) × (status ≡ status_of_verdict verdict))
 
--- What the C of a program is no contract says.
+-- What the C of a program is no contract says. `follow` reads its text and the logs itself, and has nothing to say of
+-- one text.
 abbrev pub Says : Command → List ℕ → ℕ → List ℕ → Type 0
 Says (Check json) bytes status text = SaysVerdict (TellsVerdict bytes json) status text
 Says (Explain form) bytes status text = SaysVerdict (Explains bytes None form) status text
@@ -108,6 +109,7 @@ Says (DrawMoves moves from) bytes status text = SaysPicture bytes moves.items fr
 Says (Run seed limit summary) bytes status text =
     SaysAdmitted bytes (λ program. SaysRun bytes program limit summary) status text
 Says Emit bytes status text = SaysAdmitted bytes (λ program status text. status ≡ 0) status text
+Says (Follow asked) bytes status text = (text ≡ []) × (status ≡ 3)
 Says (Show shown) bytes status text = (text ≡ string_bytes shown) × (status ≡ 0)
 
 -- ---- what a command leaves

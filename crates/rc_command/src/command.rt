@@ -16,10 +16,12 @@ ghost use Rattle.rc_report.specs.Streams.{CanRead, CanWrite};
 use crate::emitting::emit_text;
 use crate::fault::CommandFault;
 use crate::files::{NoTexts, Telling, Texts, check_files, tell_unread};
+use crate::following::follow_logs;
 use crate::keeping::keep_text;
-use crate::output::{Output, write_answer};
+use crate::logs::Logs;
+use crate::output::{Output, tell_notes, write_answer};
 use crate::running::run_text;
-use crate::words::{Asked, Command, read_words};
+use crate::words::{Asked, Command, read_words, with_moves};
 use rc_device::device::Device;
 use rc_device::disk::Disk;
 use rc_explain::engine::{Form, put_explained};
@@ -45,7 +47,7 @@ use std::thread::Threads;
 pub fn command_over<
     'a,
     R: Threads + Wait + Sync,
-    T: Texts,
+    T: Texts + Logs,
     I: Read + Drop,
     O: Write + Drop,
     E: Write + Drop,
@@ -93,7 +95,14 @@ pub fn tell<E: Write + Drop>(alloc: Global, fault: &CommandFault, errors: E) -> 
 }
 
 /// Does what the words say, and sees that the answer is written out. The words are read before the input.
-fn answered<'a, R: Threads + Wait + Sync, T: Texts, I: Read + Drop, O: Write + Drop, E: Sink>(
+fn answered<
+    'a,
+    R: Threads + Wait + Sync,
+    T: Texts + Logs,
+    I: Read + Drop,
+    O: Write + Drop,
+    E: Sink,
+>(
     rt: &R,
     texts: &T,
     alloc: Global,
@@ -119,6 +128,10 @@ fn answered<'a, R: Threads + Wait + Sync, T: Texts, I: Read + Drop, O: Write + D
         },
         None => command,
     };
+    if let Command::Follow(asked) = &command {
+        let status = follow_logs(texts, alloc, reader, asked, &mut sink, errors)?;
+        return written_out(status, &mut sink);
+    }
     let mut notes = Vec::new(alloc);
     let status = if files.is_empty() {
         let mut source = ReadSource::new(reader);
@@ -131,22 +144,6 @@ fn answered<'a, R: Threads + Wait + Sync, T: Texts, I: Read + Drop, O: Write + D
     let status = written_out(status, &mut sink)?;
     tell_notes(&notes, errors);
     Ok(status)
-}
-
-/// The command with moves that were read from a file.
-fn with_moves(command: Command<'_>, moves: Vec<u8>) -> Command<'_> {
-    match command {
-        Command::Moves { state, .. } => Command::Moves { moves, state },
-        Command::DrawMoves { from, .. } => Command::DrawMoves { moves, from },
-        other => other,
-    }
-}
-
-/// Tells what is to be said besides the answer. After a write to `errors` that failed nothing more is told.
-fn tell_notes<E: Sink>(notes: &[u8], errors: &mut E) {
-    if !notes.is_empty() && errors.failures() == 0 {
-        let _ = write_piece(errors, notes);
-    }
 }
 
 /// Does what is asked with the text of a source. Help and the version are shown without reading.
@@ -266,6 +263,7 @@ fn performed<R: Threads + Wait + Sync, S: Sink>(
             summary,
         } => run_text(rt, alloc, &text, seed, limit, summary, sink),
         Command::Emit => emit_text(alloc, &text, sink),
+        Command::Follow(_) => write_answer(sink, b"", DEVICE_STATUS),
         Command::Show(shown) => write_answer(sink, shown.as_bytes(), GOOD_STATUS),
     }
 }

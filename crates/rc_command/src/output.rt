@@ -50,3 +50,10 @@ pub fn write_answer<S: Sink>(sink: &mut S, answer: &[u8], status: u8) -> Result<
     write_piece(sink, answer)?;
     Ok(status)
 }
+
+/// Tells what is to be said besides the answer. After a write to `errors` that failed nothing more is told.
+pub fn tell_notes<E: Sink>(notes: &[u8], errors: &mut E) {
+    if !notes.is_empty() && errors.failures() == 0 {
+        let _ = write_piece(errors, notes);
+    }
+}

@@ -13,6 +13,14 @@ Example: ringcheck check examples/*.rc
 
 docs/causes.md explains the codes of refused and unreadable lines (V1 to V19, P1 to P11).";
 
+/// What is shown after the help of `follow`.
+const FOLLOW_HELP: &str =
+    "Exit status: 0 followed, 1 departs, 2 unreadable, 3 too many candidates or no answer; the greatest of all logs.
+
+Example: ringcheck follow examples/follow/wal.rc wal.log
+
+docs/follow.md says what is logged and what the answers mean.";
+
 /// A flag, which may be left out.
 fn described_flag<'a>(alloc: Global, name: &'a str, help: &'a str) -> Arg<'a> {
     Arg::new(alloc, name)
@@ -176,6 +184,28 @@ fn described_c<'a>(alloc: Global) -> Result<clap::Command<'a>, AllocError> {
         .arg(described_file(alloc))
 }
 
+/// The words of `follow`.
+fn described_follow<'a>(alloc: Global) -> Result<clap::Command<'a>, AllocError> {
+    let json = "Print one JSON object for each line";
+    let text = Arg::new(alloc, "text")
+        .value_name("TEXT")
+        .action(ArgAction::Set)
+        .required(true)
+        .help("A file with the program; - is standard input");
+    let logs = Arg::new(alloc, "log")
+        .value_name("LOG")
+        .num_args(1..)
+        .action(ArgAction::Append)
+        .required(true)
+        .help("Logs to follow, with one answer a line");
+    clap::Command::new(alloc, "follow")
+        .about("Hold logs of C programs to an accepted text, and print where each departs")
+        .after_help(FOLLOW_HELP)
+        .arg(described_flag(alloc, "json", json))?
+        .arg(text)?
+        .arg(logs)
+}
+
 /// The words that the program takes.
 pub fn described<'a>(alloc: Global) -> Result<clap::Command<'a>, AllocError> {
     clap::Command::new(alloc, "ringcheck")
@@ -189,5 +219,6 @@ pub fn described<'a>(alloc: Global) -> Result<clap::Command<'a>, AllocError> {
         .subcommand(described_step(alloc)?)?
         .subcommand(described_find(alloc)?)?
         .subcommand(described_run(alloc)?)?
-        .subcommand(described_c(alloc)?)
+        .subcommand(described_c(alloc)?)?
+        .subcommand(described_follow(alloc)?)
 }

@@ -3,6 +3,7 @@
 ghost use Rattle.std.specs.Prelude.{IfOk};
 ghost use Rattle.rc_command.specs.Words.{HasRanges};
 
+use crate::following::Following;
 use crate::usage::described;
 use clap::ArgMatches;
 use clap::error::ErrorKind;
@@ -78,6 +79,8 @@ pub enum Command<'a> {
     },
     /// Write the program in C.
     Emit,
+    /// Hold logs to the program. Their text is read apart from those of other commands.
+    Follow(Following<'a>),
     /// Show this text: help, or the version.
     Show(String),
 }
@@ -89,6 +92,15 @@ pub struct Asked<'a> {
     pub files: Vec<&'a str>,
     /// The file that has the moves of `step`, if they are in one.
     pub moves: Option<&'a str>,
+}
+
+/// The command with moves that were read from a file.
+pub fn with_moves(command: Command<'_>, moves: Vec<u8>) -> Command<'_> {
+    match command {
+        Command::Moves { state, .. } => Command::Moves { moves, state },
+        Command::DrawMoves { from, .. } => Command::DrawMoves { moves, from },
+        other => other,
+    }
 }
 
 /// Why the words are no command.
@@ -237,6 +249,7 @@ fn command_of<'a>(
         "keeps" => Ok(Command::Keeps),
         "run" => run_of(alloc, given),
         "c" => Ok(Command::Emit),
+        "follow" => Ok(Command::Follow(Following::of(alloc, given)?)),
         _ => Ok(step_of(alloc, given)?),
     }
 }

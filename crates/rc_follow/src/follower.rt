@@ -96,6 +96,28 @@ impl<'a> Follower<'a> {
         self.reached.get(line as usize).copied().unwrap_or(false)
     }
 
+    /// The program.
+    pub fn program(&self) -> &'a Program
+        ensures { result.now ≡ self.now.program }
+    {
+        self.rights.program()
+    }
+
+    // What the log says beside the worlds, for a line of this thread.
+    pub(crate) fn ground(&self, thread: u32, call: Call) -> Ground<'_> {
+        Ground {
+            noted: &self.noted,
+            reads: &self.reads,
+            thread,
+            call,
+        }
+    }
+
+    // The candidate worlds.
+    pub(crate) fn worlds(&self) -> &Vec<World<'a>> {
+        &self.worlds
+    }
+
     /// Holds one more line to the program.
     pub fn follow(&mut self, alloc: Global, said: Said) -> Result<Answer, AllocError>
         ensures answers { IfOk result (Answers self.old said self.new) }

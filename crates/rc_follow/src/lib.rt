@@ -6,6 +6,7 @@ pub mod follower;
 mod hidden;
 pub mod laws;
 mod noted;
+pub mod places;
 mod reads;
 mod rights;
 mod search;

@@ -1,0 +1,165 @@
+//! Logs of C programs, held to an accepted text.
+
+ghost use Rattle.std.specs.Prelude.{◌≤◌, IfOk};
+ghost use Rattle.rc_report.specs.Streams.{CanWrite};
+
+use crate::fault::CommandFault;
+use crate::files::{Texts, Unread, tell_unread};
+use crate::logs::Logs;
+use clap::ArgMatches;
+use rc_departures::following::follow_log;
+use rc_departures::told::{put_ending, put_unmade};
+use rc_follow::follower::Follower;
+use rc_lang::program::Program;
+use rc_log::reader::LogFault;
+use rc_report::check_engine::judged;
+use rc_report::file_verdict::{put_file_object, put_file_verdict};
+use rc_report::reading::read_text;
+use rc_report::source::Lines;
+use rc_report::streams::{ReadSource, Sink};
+use rc_report::verdict::{Verdict, put_verdict, put_verdict_json};
+use rc_report::writing::write_piece;
+use std::alloc::{AllocError, Global};
+use std::io::Read;
+
+/// What `follow` is asked for.
+#[derive(Drop)]
+pub struct Following<'a> {
+    /// Whether its answers are JSON objects.
+    pub json: bool,
+    /// The file with the text; none: standard input.
+    pub text: Option<&'a str>,
+    /// The files with the logs.
+    pub logs: Vec<&'a str>,
+}
+
+impl<'a> Following<'a> {
+    /// What the words after `follow` ask for.
+    pub fn of(alloc: Global, given: &ArgMatches<'a>) -> Result<Following<'a>, AllocError> {
+        let text = match given.get_str("text") {
+            Some("-") => None,
+            text => text,
+        };
+        let mut logs = Vec::new(alloc);
+        for name in given.get_strs("log").unwrap_or(&[]) {
+            logs.push(*name)?;
+        }
+        let json = given.get_flag("json");
+        Ok(Following { json, text, logs })
+    }
+}
+
+/// Holds logs to the program of a text, one after another, and writes how each ends, and then which calls of the text
+/// none of them made. Answers the greatest status of the logs. A text that isn't accepted is answered with its verdict.
+/// A file that can't be read is told on a line of `errors`: where it is a log, those after it are still followed.
+pub fn follow_logs<T: Texts + Logs, I: Read + Drop, S: Sink, E: Sink>(
+    texts: &T,
+    alloc: Global,
+    reader: I,
+    asked: &Following<'_>,
+    sink: &mut S,
+    errors: &mut E,
+) -> Result<u8, CommandFault>
+    requires writes { CanWrite (S.state sink.old) }
+    requires told { (E.state errors.old).failures ≤ 1 }
+    ensures { IfOk result (λ status. status ≤ 3) }
+{
+    let text = match asked.text {
+        Some(name) => match texts.read(alloc, name) {
+            Ok(text) => text,
+            Err(unread) => return Ok(tell_unread(alloc, name, &unread, errors)),
+        },
+        None => read_text(alloc, &mut ReadSource::new(reader))?,
+    };
+    match judged(alloc, &text)? {
+        Ok(admitted) => {
+            let lines = Lines::of(alloc, &text)?;
+            let program = admitted.program();
+            follow_each(texts, alloc, program, &lines, asked, sink, errors)
+        }
+        Err(verdict) => {
+            let mut answer = Vec::new(alloc);
+            put_refused(&mut answer, alloc, asked, &verdict)?;
+            write_piece(sink, &answer)?;
+            Ok(verdict.status())
+        }
+    }
+}
+
+/// Adds the verdict on a text that isn't accepted, as `check` does.
+fn put_refused(
+    answer: &mut Vec<u8>,
+    alloc: Global,
+    asked: &Following<'_>,
+    verdict: &Verdict,
+) -> Result<(), AllocError> {
+    match (asked.text, asked.json) {
+        (Some(name), true) => put_file_object(answer, alloc, name, verdict),
+        (Some(name), false) => put_file_verdict(answer, name, verdict),
+        (None, true) => put_verdict_json(answer, alloc, verdict),
+        (None, false) => put_verdict(answer, verdict),
+    }
+}
+
+/// Follows each log, and answers the greatest status.
+fn follow_each<T: Texts + Logs, S: Sink, E: Sink>(
+    texts: &T,
+    alloc: Global,
+    program: &Program,
+    lines: &Lines<'_>,
+    asked: &Following<'_>,
+    sink: &mut S,
+    errors: &mut E,
+) -> Result<u8, CommandFault>
+    requires writes { CanWrite (S.state sink.old) }
+    requires told { (E.state errors.old).failures ≤ 1 }
+    ensures { IfOk result (λ status. status ≤ 3) }
+{
+    let mut follower = Follower::start(alloc, program)?;
+    let mut answer = Vec::new(alloc);
+    let mut status = 0u8;
+    for name in &asked.logs {
+        let log = follow_one(
+            texts,
+            alloc,
+            lines,
+            &mut follower,
+            name,
+            asked.json,
+            &mut answer,
+        )?;
+        match log {
+            Ok(of) => status = status.max(of),
+            Err(unread) => status = status.max(tell_unread(alloc, name, &unread, errors)),
+        }
+    }
+    put_unmade(&mut answer, alloc, program, &follower, asked.json)?;
+    write_piece(sink, &answer)?;
+    Ok(status)
+}
+
+/// Follows a log, adds how it ends, and answers its status; or why it can't be read.
+fn follow_one<T: Logs>(
+    texts: &T,
+    alloc: Global,
+    lines: &Lines<'_>,
+    follower: &mut Follower<'_>,
+    name: &str,
+    json: bool,
+    answer: &mut Vec<u8>,
+) -> Result<Result<u8, Unread>, AllocError>
+    ensures { IfOk result (λ status. IfOk status (λ s. s ≤ 3)) }
+{
+    let log = match texts.open(name) {
+        Ok(log) => log,
+        Err(unread) => return Ok(Err(unread)),
+    };
+    match follow_log(alloc, lines, follower, log) {
+        Ok(ending) => {
+            put_ending(answer, alloc, name, &ending, json)?;
+            Ok(Ok(ending.status()))
+        }
+        Err(LogFault::Failed(error)) => Ok(Err(Unread::Failed(error))),
+        Err(_) => Ok(Err(Unread::OutOfMemory)),
+    }
+}

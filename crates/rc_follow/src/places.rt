@@ -1,0 +1,243 @@
+//! Why a line of a log departs, and the places of the text where its thread can be.
+
+use crate::alike::are_alike;
+use crate::follower::Follower;
+use crate::hidden::{Ground, push_hidden};
+use rc_lang::lines::{Locks, Op, Stmt, Test};
+use rc_log::call::{Call, Lack, Said};
+use rc_world::event::Completion;
+use rc_world::world::World;
+use std::alloc::{AllocError, Global};
+
+/// How many worlds are looked at, at most.
+const MOST_WORLDS: usize = 1024;
+
+/// Why a line departs.
+#[derive(Drop)]
+pub enum Departure {
+    /// The text has no thread with its name.
+    NoThread,
+    /// No line of a program makes the call.
+    Lacks(Lack),
+    /// It asks what only the holder of the submission mutex may ask.
+    NoSqLock,
+    /// The same of the completion mutex.
+    NoCqLock,
+    /// The text has so many entries in use, and the line says another number.
+    Used(usize),
+    /// The thread can be at these places, and at none of them it makes the call.
+    Elsewhere(Places),
+    /// There are more worlds to look at than are looked at.
+    TooMany,
+}
+
+/// Places where a thread can be.
+#[derive(Drop)]
+pub struct Places {
+    /// The lines, in the order of their numbers, each once.
+    pub lines: Vec<Place>,
+    /// Whether it can have ended.
+    pub ends: bool,
+}
+
+/// A line of the text that a thread can have next.
+#[derive(Clone, Copy, PartialEq, Eq, Debug)]
+pub struct Place {
+    /// Its number in the text, from 1.
+    pub number: u32,
+    /// What the call would have needed there.
+    pub need: Need,
+}
+
+/// What a call would have needed at a place.
+#[derive(Clone, Copy, PartialEq, Eq, Debug)]
+pub enum Need {
+    /// It isn't the place's call.
+    OtherCall,
+    /// An answer that fits so many queued entries.
+    Queued(usize),
+    /// This completion, which is next.
+    Found(Completion),
+    /// The completion with this user data, which is next.
+    Front(u64),
+    /// A request with the user data, and none is out.
+    NotOut,
+    /// A result that the request with the user data can have.
+    OtherResult,
+    /// Items that aren't all in the pool.
+    NotThere,
+}
+
+/// Why the line departs, of which the follower said that it does.
+pub fn why_departs(
+    alloc: Global,
+    follower: &Follower<'_>,
+    said: Said,
+) -> Result<Departure, AllocError> {
+    let Some(thread) = said.thread else {
+        return Ok(Departure::NoThread);
+    };
+    let ground = follower.ground(thread, said.call);
+    let first = follower.worlds().first();
+    match said.call {
+        Call::Foreign(lack) => Ok(Departure::Lacks(lack)),
+        Call::PeekNone => Ok(Departure::NoCqLock),
+        Call::SqSpaceLeft => Ok(Departure::NoSqLock),
+        Call::SqReady(_) if !has_sq(ground) => Ok(Departure::NoSqLock),
+        Call::SqReady(_) => Ok(Departure::Used(first.map_or(0, |world| world.used_entries()))),
+        Call::Submit(0)
+            if !has_sq(ground) && first.is_some_and(|world| world.queued().is_empty()) => {
+            Ok(Departure::NoSqLock)
+        }
+        _ => elsewhere(alloc, ground, follower.worlds()),
+    }
+}
+
+/// Whether the line's thread has the submission mutex.
+fn has_sq(ground: Ground<'_>) -> bool {
+    let sq = Locks {
+        sq: true,
+        cq: false,
+    };
+    ground.noted.has_mutexes(ground.thread, sq)
+}
+
+/// The places of the thread in these worlds, and in those to which its hidden steps lead.
+fn elsewhere<'a>(
+    alloc: Global,
+    ground: Ground<'_>,
+    worlds: &[World<'a>],
+) -> Result<Departure, AllocError> {
+    let mut places = Places {
+        lines: Vec::new(alloc),
+        ends: false,
+    };
+    let mut found = Vec::new(alloc);
+    for world in worlds {
+        look(ground, world, &mut places)?;
+        let fresh = hidden(alloc, ground, world)?;
+        take_in(ground, worlds, fresh, &mut found)?;
+    }
+    for at in 0..MOST_WORLDS {
+        if found.len() > MOST_WORLDS || worlds.len() > MOST_WORLDS - found.len() {
+            return Ok(Departure::TooMany);
+        }
+        let Some(world) = found.get(at) else {
+            return Ok(Departure::Elsewhere(places));
+        };
+        look(ground, world, &mut places)?;
+        let fresh = hidden(alloc, ground, world)?;
+        take_in(ground, worlds, fresh, &mut found)?;
+    }
+    Ok(Departure::TooMany)
+}
+
+/// The worlds to which a hidden step of the thread leads.
+fn hidden<'a>(
+    alloc: Global,
+    ground: Ground<'_>,
+    world: &World<'a>,
+) -> Result<Vec<World<'a>>, AllocError> {
+    let mut fresh = Vec::new(alloc);
+    push_hidden(alloc, ground, world, &mut fresh)?;
+    Ok(fresh)
+}
+
+/// Moves worlds over to those found, but for those that are like one found or like one that the search began from.
+fn take_in<'a>(
+    ground: Ground<'_>,
+    begun: &[World<'a>],
+    fresh: Vec<World<'a>>,
+    found: &mut Vec<World<'a>>,
+) -> Result<(), AllocError> {
+    for world in fresh {
+        if !is_there(ground, &world, begun) && !is_there(ground, &world, found) {
+            found.push(world)?;
+        }
+    }
+    Ok(())
+}
+
+fn is_there(ground: Ground<'_>, world: &World<'_>, worlds: &[World<'_>]) -> bool {
+    worlds
+        .iter()
+        .any(|there| are_alike(ground.reads, there, world))
+}
+
+/// Notes the place where the thread is in a world.
+fn look(ground: Ground<'_>, world: &World<'_>, places: &mut Places) -> Result<(), AllocError> {
+    match world.line(ground.thread) {
+        None => {
+            places.ends = true;
+            Ok(())
+        }
+        Some(line) if is_place(ground, line.stmt) => {
+            let place = Place {
+                number: line.number,
+                need: needed(ground, world, line.stmt),
+            };
+            add(place, &mut places.lines)
+        }
+        Some(_) => Ok(()),
+    }
+}
+
+/// Whether a thread that has this next is told to be there: a call, a lock that it can't take, and, where the line is
+/// one of a pool, a put or a take of a named pool.
+fn is_place(ground: Ground<'_>, stmt: Stmt) -> bool {
+    match stmt {
+        Stmt::Do(
+            Op::GetSqe
+            | Op::PrepRead(_, _, _, _)
+            | Op::PrepWrite(_, _, _, _, _)
+            | Op::PrepFsync(_, _)
+            | Op::PrepNop
+            | Op::SetData64(_)
+            | Op::Submit(_)
+            | Op::SubmitAndWait(_, _)
+            | Op::CqeSeen,
+        ) => true,
+        Stmt::Peek(_) => true,
+        Stmt::Lock(wanted) => !ground.noted.has_mutexes(ground.thread, wanted),
+        Stmt::Put(Some(_), _) | Stmt::If(Test::Take(Some(_), _)) => {
+            matches!(ground.call, Call::Put(_) | Call::Take(_))
+        }
+        _ => false,
+    }
+}
+
+/// Adds a place in its order, if it isn't there.
+fn add(place: Place, lines: &mut Vec<Place>) -> Result<(), AllocError> {
+    let after = lines
+        .iter()
+        .position(|there| there.number >= place.number)
+        .unwrap_or(lines.len());
+    match lines.get(after) {
+        Some(there) if there.number == place.number => Ok(()),
+        _ => Ok(lines.insert(after, place)?),
+    }
+}
+
+/// What the line's call would have needed at this statement.
+fn needed(ground: Ground<'_>, world: &World<'_>, stmt: Stmt) -> Need {
+    match (ground.call, stmt) {
+        (Call::Submit(_), Stmt::Do(Op::Submit(_) | Op::SubmitAndWait(_, _))) => {
+            Need::Queued(world.queued().len())
+        }
+        (Call::Peek { user_data, .. }, Stmt::Peek(_)) => need_of_peek(world, user_data),
+        (Call::CqeSeen(_), Stmt::Do(Op::CqeSeen)) => match world.completions().first() {
+            Some(front) => Need::Front(front.user_data),
+            None => Need::OtherCall,
+        },
+        (Call::Take(pool), Stmt::If(Test::Take(Some(of), _))) if pool == of => Need::NotThere,
+        _ => Need::OtherCall,
+    }
+}
+
+fn need_of_peek(world: &World<'_>, user_data: u64) -> Need {
+    match world.completions().first() {
+        Some(front) => Need::Found(*front),
+        None if world.pending_place(user_data).is_none() => Need::NotOut,
+        None => Need::OtherResult,
+    }
+}
