@@ -40,6 +40,14 @@ FOREVER = b"ringcheck 1\nring 1\n" + b"".join(b"thread t%d holds {\nloop keeps {
 KEEPS = (TOP / "examples/keeps.rc").read_bytes()
 SENDING = (TOP / "examples/handoff.rc").read_bytes()
 SENDING_IN_C = (TOP / "examples/c/handoff.c").read_text()
+SHUT_DOWN = b"".join(
+    b"Content-Length: %d\r\n\r\n" % len(body) + body
+    for body in (
+        b'{"jsonrpc":"2.0","id":1,"method":"initialize","params":{"capabilities":{}}}',
+        b'{"jsonrpc":"2.0","id":2,"method":"shutdown"}',
+        b'{"jsonrpc":"2.0","method":"exit"}',
+    )
+)
 FILES = {
     "good.rc": GOOD,
     "refused.rc": REFUSED,
@@ -68,6 +76,7 @@ NO_OUTPUT = "the output can't be written..."
 NO_INPUT = "the input can't be read..."
 
 ACCEPTED = "accepted\n"
+INDENTED = GOOD.decode().replace("x = 1", "    x = 1")
 FILLED = KEEPING.decode().replace("keeps {", "keeps c:2 {")
 ONE_EVENT = "1 t0 4 set 1\nended after 1 events\n"
 FIVE_EVENTS = "1 t0 4 loop\n2 t0 5 set 1\n3 t0 4 loop\n4 t0 5 set 1\n5 t0 4 loop\nlimit after 5 events\n"
@@ -110,6 +119,13 @@ ROWS = [
     (("keeps",), UNREADABLE, 2, FAULT, ""),
     (("keeps",), b"", 2, "unreadable line 1 P2 BadHead\n", ""),
     (("keeps", "--no"), GOOD, 3, "", UNKNOWN),
+    (("fmt",), GOOD, 0, INDENTED, ""),
+    (("fmt",), UNREADABLE, 0, INDENTED.replace("x = 1", "x = y z"), ""),
+    (("fmt", "--no"), GOOD, 3, "", UNKNOWN),
+    (("lsp",), b"", 1, "", ""),
+    (("lsp",), SHUT_DOWN, 0, "Content-Length: ...", ""),
+    (("lsp",), GOOD, 1, "", "the input ends within a message"),
+    (("lsp", "--no"), GOOD, 3, "", UNKNOWN),
     (("step", "--schedule", "t0"), GOOD, 0, ONE_EVENT, ""),
     (("step",), GOOD, 0, "stopped after 0 events\n", ""),
     (("step",), REFUSED, 1, "fault F9 NoLock t0 line 4\n", ""),
@@ -175,6 +191,8 @@ ROWS = [
     (("check", "--explain", "good.rc", "missing.rc"), b"", 3, "good.rc: accepted\n", f"missing.rc: {MISSING}"),
     (("check", "--explain", "--json", "good.rc"), b"", 0, '{"file":"good.rc","notes":[],...', ""),
     (("check", "--explain", "--json", "refused.rc", "good.rc"), b"", 1, '{"asks":"asks for the lock; it isn\'t held","cause":"Unlocked",...', ""),
+    (("fmt", "good.rc"), UNREADABLE, 0, INDENTED, ""),
+    (("fmt", "missing.rc"), GOOD, 3, "", f"missing.rc: {MISSING}"),
     (("keeps", "good.rc"), UNREADABLE, 0, GOOD.decode(), ""),
     (("keeps", "missing.rc"), GOOD, 3, "", f"missing.rc: {MISSING}"),
     (("keeps", "good.rc", "good.rc"), b"", 3, "", ONE_FILE),
@@ -470,9 +488,9 @@ def hold_threads(bench, how):
 
 
 def left_out():
-    """Commands and statuses of which there is no row. `keeps` says of no text that it is refused."""
-    names = ("check", "keeps", "step", "find", "run", "c")
-    wanted = {(name, status) for name in names for status in range(4)} - {("keeps", 1)}
+    """Commands and statuses of which there is no row. `keeps` says of no text that it is refused, `fmt` and `lsp` nothing."""
+    names = ("check", "keeps", "step", "find", "run", "c", "fmt", "lsp")
+    wanted = {(name, status) for name in names for status in range(4)} - {("keeps", 1), ("fmt", 1), ("fmt", 2), ("lsp", 2)}
     return wanted - {(words[0], status) for words, _, status, *_ in ROWS}
 
 

@@ -21,7 +21,7 @@ use Rattle.rc_report.proofs.Answered.{of_any, of_text}
 use Rattle.rc_command.specs.declared.fault.CommandFault.{CommandFault}
 use Rattle.rc_command.specs.declared.fault.CommandFault.TheVariants.{Words, Engine, OtherProgram}
 use Rattle.rc_command.specs.declared.words.Command.{Command}
-use Rattle.rc_command.specs.declared.words.Command.TheVariants.{Check, Explain, Keeps, Step, State, Moves, Draw, DrawMoves, Find, DrawFound, Run, Emit, Follow, Show}
+use Rattle.rc_command.specs.declared.words.Command.TheVariants.{Check, Explain, Keeps, Step, State, Moves, Draw, DrawMoves, Find, DrawFound, Run, Emit, Follow, Format, Serve, Show}
 use Rattle.rc_command.specs.Answers.{Does, DoesWith, Fails, ReadsAsAsked, ReadsOnce, Says, SaysAdmitted, SaysKept, SaysVerdict}
 
 -- ---- statuses are 3 at most
@@ -67,6 +67,8 @@ within Emit bytes s text h = elim h [
   | inr (verdict, given, is, status) ↦ verdict_within verdict s status
 ]
 within (Follow asked) bytes s text h = omega (arith, h.1)
+within Format bytes s text h = omega (arith, h.1)
+within Serve bytes s text h = omega (arith, h.1)
 within (Show shown) bytes s text h = omega (arith, h.1)
 
 pub all_within : {S : Type 0} (command : Command) (bytes : List ℕ) (state : S → Taken) (old new : S) (r : Result ℕ CommandFault) → Does (Says command bytes) state old new r → IfOk r (λ status. status ≤ 3)
@@ -177,6 +179,8 @@ asked (Find seed walks json) old new r h = h
 asked (Run seed limit summary) old new r h = h
 asked Emit old new r h = h
 asked (Follow asked) old new r h = h
+asked Format old new r h = h
+asked Serve old new r h = h
 asked (Show text) old new r h = tt
 
 -- a failure of the source

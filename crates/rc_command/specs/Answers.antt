@@ -22,6 +22,7 @@ use Rattle.rc_report.specs.Verdicts.{verdict_text}
 use Rattle.rc_explain.specs.Explains.{Explains}
 use Rattle.rc_find.specs.Finds.{Finds}
 use Rattle.rc_find.specs.Pictures.{FindsPicture}
+use Rattle.rc_editor.specs.Layout.{IsLaidOut}
 use Rattle.rc_keeps.specs.Keeps.{GivesKept}
 use Rattle.rc_moves.specs.Drawing.{moved_drawn}
 use Rattle.rc_moves.specs.Moved.{EndsMoves, moved_text}
@@ -31,7 +32,7 @@ use Rattle.rc_state.specs.Engine.{stepped_with_state}
 use Rattle.rc_command.specs.declared.fault.CommandFault.{CommandFault}
 use Rattle.rc_command.specs.declared.fault.CommandFault.TheVariants.{Words, Engine, OtherProgram}
 use Rattle.rc_command.specs.declared.words.Command.{Command}
-use Rattle.rc_command.specs.declared.words.Command.TheVariants.{Check, Explain, Keeps, Step, State, Moves, Draw, DrawMoves, Find, DrawFound, Run, Emit, Follow, Show}
+use Rattle.rc_command.specs.declared.words.Command.TheVariants.{Check, Explain, Keeps, Step, State, Moves, Draw, DrawMoves, Find, DrawFound, Run, Emit, Follow, Format, Serve, Show}
 
 -- ---- what each command says of the bytes of a text: the status, and the text that is written
 
@@ -93,8 +94,12 @@ SaysKept bytes status text =
     ⊎ ((verdict : Verdict) × GivesKept bytes (Err verdict)
     × (text ≡ verdict_text verdict) × (status ≡ status_of_verdict verdict))
 
--- What the C of a program is no contract says. `follow` reads its text and the logs itself, and has nothing to say of
--- one text.
+-- A text is answered with its lines laid out.
+abbrev pub SaysLaidOut : List ℕ → ℕ → List ℕ → Type 0
+SaysLaidOut bytes status text = IsLaidOut bytes text × (status ≡ 0)
+
+-- What the C of a program is no contract says. `follow` reads its text and the logs itself and a server no text, so both
+-- have nothing to say of one text.
 abbrev pub Says : Command → List ℕ → ℕ → List ℕ → Type 0
 Says (Check json) bytes status text = SaysVerdict (TellsVerdict bytes json) status text
 Says (Explain form) bytes status text = SaysVerdict (Explains bytes None form) status text
@@ -110,6 +115,8 @@ Says (Run seed limit summary) bytes status text =
     SaysAdmitted bytes (λ program. SaysRun bytes program limit summary) status text
 Says Emit bytes status text = SaysAdmitted bytes (λ program status text. status ≡ 0) status text
 Says (Follow asked) bytes status text = (text ≡ []) × (status ≡ 3)
+Says Format bytes status text = SaysLaidOut bytes status text
+Says Serve bytes status text = (text ≡ []) × (status ≡ 3)
 Says (Show shown) bytes status text = (text ≡ string_bytes shown) × (status ≡ 0)
 
 -- ---- what a command leaves

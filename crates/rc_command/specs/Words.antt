@@ -1,7 +1,7 @@
 -- What the words of the command line ask for.
 use Rattle.std.specs.Prelude.{◌≤◌}
 use Rattle.rc_command.specs.declared.words.Command.{Command}
-use Rattle.rc_command.specs.declared.words.Command.TheVariants.{Check, Explain, Keeps, Step, State, Moves, Draw, DrawMoves, Find, DrawFound, Run, Emit, Follow, Show}
+use Rattle.rc_command.specs.declared.words.Command.TheVariants.{Check, Explain, Keeps, Step, State, Moves, Draw, DrawMoves, Find, DrawFound, Run, Emit, Follow, Format, Serve, Show}
 
 -- The numbers of a search and of a run are in their ranges; the seed's is that of its type.
 abbrev pub HasRanges : Command → Type 0
@@ -18,4 +18,6 @@ HasRanges (DrawMoves moves from) = Unit {0}
 HasRanges (Run seed limit summary) = (1 ≤ limit) × (limit ≤ 1000000)
 HasRanges Emit = Unit {0}
 HasRanges (Follow asked) = Unit {0}
+HasRanges Format = Unit {0}
+HasRanges Serve = Unit {0}
 HasRanges (Show text) = Unit {0}

@@ -17,10 +17,12 @@ use crate::emitting::emit_text;
 use crate::fault::CommandFault;
 use crate::files::{NoTexts, Telling, Texts, check_files, tell_unread};
 use crate::following::follow_logs;
+use crate::formatting::format_text;
 use crate::keeping::keep_text;
 use crate::logs::Logs;
 use crate::output::{Output, tell_notes, write_answer};
 use crate::running::run_text;
+use crate::serving::serve_editor;
 use crate::words::{Asked, Command, read_words, with_moves};
 use rc_device::device::Device;
 use rc_device::disk::Disk;
@@ -115,6 +117,9 @@ fn answered<
     ensures { IfOk result (λ status. status ≤ 3) }
 {
     let asked = read_words(alloc, words)?;
+    if let Command::Serve = asked.command {
+        return serve_editor(alloc, reader, writer, errors);
+    }
     let mut sink = Buffered::new(alloc, WriteSink::new(writer))?;
     let Asked {
         command,
@@ -263,7 +268,8 @@ fn performed<R: Threads + Wait + Sync, S: Sink>(
             summary,
         } => run_text(rt, alloc, &text, seed, limit, summary, sink),
         Command::Emit => emit_text(alloc, &text, sink),
-        Command::Follow(_) => write_answer(sink, b"", DEVICE_STATUS),
+        Command::Follow(_) | Command::Serve => write_answer(sink, b"", DEVICE_STATUS),
+        Command::Format => format_text(alloc, &text, sink),
         Command::Show(shown) => write_answer(sink, shown.as_bytes(), GOOD_STATUS),
     }
 }

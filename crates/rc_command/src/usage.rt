@@ -206,6 +206,20 @@ fn described_follow<'a>(alloc: Global) -> Result<clap::Command<'a>, AllocError> 
         .arg(logs)
 }
 
+/// The words of `fmt`.
+fn described_fmt<'a>(alloc: Global) -> Result<clap::Command<'a>, AllocError> {
+    clap::Command::new(alloc, "fmt")
+        .about("Print a text with its lines indented by blocks")
+        .arg(described_file(alloc))
+}
+
+/// The words of `lsp`.
+fn described_lsp<'a>(alloc: Global) -> clap::Command<'a> {
+    clap::Command::new(alloc, "lsp").about(
+        "Answer an editor on standard input and output, by the Language Server Protocol",
+    )
+}
+
 /// The words that the program takes.
 pub fn described<'a>(alloc: Global) -> Result<clap::Command<'a>, AllocError> {
     clap::Command::new(alloc, "ringcheck")
@@ -220,5 +234,7 @@ pub fn described<'a>(alloc: Global) -> Result<clap::Command<'a>, AllocError> {
         .subcommand(described_find(alloc)?)?
         .subcommand(described_run(alloc)?)?
         .subcommand(described_c(alloc)?)?
-        .subcommand(described_follow(alloc)?)
+        .subcommand(described_follow(alloc)?)?
+        .subcommand(described_fmt(alloc)?)?
+        .subcommand(described_lsp(alloc))
 }

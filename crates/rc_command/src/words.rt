@@ -81,6 +81,10 @@ pub enum Command<'a> {
     Emit,
     /// Hold logs to the program. Their text is read apart from those of other commands.
     Follow(Following<'a>),
+    /// Print the text with its lines indented by blocks.
+    Format,
+    /// Answer the messages of an editor. This reads no text.
+    Serve,
     /// Show this text: help, or the version.
     Show(String),
 }
@@ -250,6 +254,8 @@ fn command_of<'a>(
         "run" => run_of(alloc, given),
         "c" => Ok(Command::Emit),
         "follow" => Ok(Command::Follow(Following::of(alloc, given)?)),
+        "fmt" => Ok(Command::Format),
+        "lsp" => Ok(Command::Serve),
         _ => Ok(step_of(alloc, given)?),
     }
 }

@@ -61,7 +61,7 @@ fn put_notes(
     program: &Program,
 ) -> Result<(), AllocError> {
     for note in notes_on(alloc, lines, program)? {
-        put_pieces(text, &[b"note: ", &note, b"\n"])?;
+        put_pieces(text, &[b"note: ", &note.text, b"\n"])?;
     }
     Ok(())
 }

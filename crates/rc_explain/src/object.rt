@@ -125,7 +125,7 @@ fn notes_of(alloc: Global, source: &[u8], program: &Program) -> Result<Vec<Value
     let mut notes = Vec::new(alloc);
     let lines = Lines::of(alloc, source)?;
     for note in notes_on(alloc, &lines, program)? {
-        notes.push(Value::String(string_of(alloc, &note)?))?;
+        notes.push(Value::String(string_of(alloc, &note.text)?))?;
     }
     Ok(notes)
 }

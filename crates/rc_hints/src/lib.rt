@@ -5,12 +5,12 @@
 #![tactic(auto)]
 
 mod doubles;
-mod fitting;
+pub mod fitting;
 mod forms;
 pub mod hint;
 mod lines;
 mod locks;
-mod near;
+pub mod near;
 mod others;
 mod places;
 mod slips;

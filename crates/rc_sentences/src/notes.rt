@@ -17,18 +17,29 @@ pub(crate) struct Shortage {
     pool: Option<usize>,
 }
 
+/// A note on a line: its number, from 1, and a sentence, which begins with the line.
+#[derive(Drop)]
+pub struct Note {
+    pub line: u32,
+    pub text: Vec<u8>,
+}
+
 /// A note on each `if take` that asks for more than the lines of the program put into its pool, in text order: its first
 /// branch is never taken, since each pool starts empty.
 pub fn notes_on(
     alloc: Global,
     lines: &Lines,
     program: &Program,
-) -> Result<Vec<Vec<u8>>, AllocError> {
+) -> Result<Vec<Note>, AllocError> {
     let mut notes = Vec::new(alloc);
     for thread in program.threads() {
         for line in &thread.lines {
             if let Some(shortage) = shortage_at(program, thread, line.stmt) {
-                notes.push(note_on(alloc, lines, program, line.number, shortage)?)?;
+                let text = note_on(alloc, lines, program, line.number, shortage)?;
+                notes.push(Note {
+                    line: line.number,
+                    text,
+                })?;
             }
         }
     }

@@ -1,0 +1,20 @@
+//! A text is printed with its lines indented.
+
+ghost use Rattle.rc_command.specs.Answers.{Does, SaysLaidOut};
+ghost use Rattle.rc_report.specs.Streams.{CanWrite};
+
+use crate::fault::CommandFault;
+use crate::output::write_answer;
+use rc_editor::format::format;
+use rc_report::status::GOOD_STATUS;
+use rc_report::streams::Sink;
+use std::alloc::Global;
+
+/// Writes a text with its lines indented by blocks, also one that can't be read.
+pub fn format_text<S: Sink>(alloc: Global, text: &[u8], sink: &mut S) -> Result<u8, CommandFault>
+    requires { CanWrite (S.state sink.old) }
+    ensures { Does (SaysLaidOut text.now) S.state sink.old sink.new result }
+{
+    let laid = format(alloc, text)?;
+    write_answer(sink, &laid, GOOD_STATUS)
+}

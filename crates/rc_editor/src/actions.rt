@@ -1,0 +1,100 @@
+//! Changes of a text that are offered.
+
+use crate::mends::push_mends;
+use crate::place::{Edit, Range, line_at, lines_of, range_in};
+use crate::words::Words;
+use rc_keeps::engine::kept_text;
+use rc_read::words::is;
+use std::alloc::{AllocError, Global};
+
+/// A change: its name, its edits, and whether it mends a line that is refused or can't be read.
+#[derive(Drop)]
+pub struct Action {
+    pub title: Vec<u8>,
+    pub edits: Vec<Edit>,
+    pub mends: bool,
+}
+
+/// The changes that are offered for the lines of a range: those with which a line in it isn't at fault any more, and the
+/// lists of its loops as `ringcheck keeps` fills them.
+pub fn actions(alloc: Global, text: &[u8], range: Range) -> Result<Vec<Action>, AllocError> {
+    let mut actions = Vec::new(alloc);
+    push_mends(alloc, &mut actions, text, range)?;
+    push_fills(alloc, &mut actions, text, range)?;
+    Ok(actions)
+}
+
+/// Whether a line begins a loop.
+fn is_loop(alloc: Global, line: &[u8]) -> Result<bool, AllocError> {
+    Ok(is(Words::of(alloc, line)?.text(0), b"loop"))
+}
+
+/// The lines of loops that other items could be in.
+pub fn fills_of(alloc: Global, text: &[u8]) -> Result<Vec<Edit>, AllocError> {
+    let mut edits = Vec::new(alloc);
+    let Ok(kept) = kept_text(alloc, text)? else {
+        return Ok(edits);
+    };
+    let news = lines_of(alloc, &kept)?;
+    for (number, line) in lines_of(alloc, text)?.iter().enumerate() {
+        let new = line_at(&news, number);
+        if *line != new {
+            edits.push(Edit {
+                range: range_in(line, number, 0, line.len()),
+                text: Vec::from_slice(alloc, new)?,
+            })?;
+        }
+    }
+    Ok(edits)
+}
+
+/// Adds the filling of each loop in a range, and of all loops.
+fn push_fills(
+    alloc: Global,
+    actions: &mut Vec<Action>,
+    text: &[u8],
+    range: Range,
+) -> Result<(), AllocError> {
+    let lines = lines_of(alloc, text)?;
+    let first = range.start.line as usize;
+    if !is_loop(alloc, line_at(&lines, first))? {
+        return Ok(());
+    }
+    let fills = fills_of(alloc, text)?;
+    for fill in &fills {
+        if fill.range.start.line == range.start.line {
+            let mut edits = Vec::new(alloc);
+            edits.push(Edit {
+                range: fill.range,
+                text: fill.text.clone()?,
+            })?;
+            push_action(alloc, actions, b"Fill in this loop's list", edits, false)?;
+        }
+    }
+    if fills.len() > 1 {
+        push_action(
+            alloc,
+            actions,
+            b"Fill in the lists of all loops",
+            fills,
+            false,
+        )?;
+    }
+    Ok(())
+}
+
+/// Adds a change.
+pub fn push_action(
+    alloc: Global,
+    actions: &mut Vec<Action>,
+    title: &[u8],
+    edits: Vec<Edit>,
+    mends: bool,
+) -> Result<(), AllocError> {
+    actions.push(Action {
+        title: Vec::from_slice(alloc, title)?,
+        edits,
+        mends,
+    })?;
+    Ok(())
+}

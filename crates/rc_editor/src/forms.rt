@@ -1,0 +1,149 @@
+//! The forms of the notation, as words.
+
+use crate::words::put_spaced;
+use rc_read::fixed::text_of;
+use rc_read::table::{Part, Range, Row, parts_of};
+use rc_report::text::put_piece;
+use std::alloc::{AllocError, Global};
+
+/// What stands for a number of a range in a form.
+fn range_word(range: Range) -> &'static [u8] {
+    match range {
+        Range::Within(1, 4096) => b"BYTES",
+        Range::Within(1, 16) => b"SHARES",
+        Range::Within(0, 4095) => b"i",
+        Range::Within(0, 1048576) => b"OFF",
+        Range::Within(0, 1) => b"FLAGS",
+        Range::Within(0, 2048) => b"m",
+        Range::Within(_, _) => b"LEN",
+        Range::Size => b"N",
+        Range::CompletionSize => b"M",
+        Range::Rounded => b"Q",
+        Range::Entries => b"m",
+        Range::Shares => b"K",
+    }
+}
+
+/// What stands for a part in a form, as in docs/notation.md; a fixed word stands for itself.
+fn part_word(part: Part) -> &'static [u8] {
+    match part {
+        Part::Fixed(word) => text_of(word),
+        Part::Variable | Part::Flag => b"x",
+        Part::Operand => b"A",
+        Part::Comparison => b"OP",
+        Part::Signed => b"n",
+        Part::Number(range) => range_word(range),
+        Part::File | Part::NewFile => b"F",
+        Part::Buffer => b"B",
+        Part::Pool => b"P",
+        Part::Token | Part::NewToken => b"U",
+        Part::NewBuffer | Part::NewPool | Part::NewThread => b"NAME",
+        Part::Items => b"ITEMS",
+        Part::HeldShares => b"k",
+        Part::HeldToken => b"U",
+        Part::Credits => b"m",
+        Part::Queued => b"k",
+    }
+}
+
+/// Adds a form, with a blank between two words.
+pub fn put_form(text: &mut Vec<u8>, row: Row) -> Result<(), AllocError> {
+    for (place, part) in parts_of(row).iter().enumerate() {
+        put_spaced(text, place == 0, part_word(*part))?;
+    }
+    Ok(())
+}
+
+/// The fixed words with which a form begins, and a blank where more of it is to come.
+pub fn beginning_of(alloc: Global, row: Row) -> Result<Vec<u8>, AllocError> {
+    let mut text = Vec::new(alloc);
+    for part in parts_of(row) {
+        let Part::Fixed(word) = *part else {
+            put_piece(&mut text, b" ")?;
+            return Ok(text);
+        };
+        let is_first = text.is_empty();
+        put_spaced(&mut text, is_first, text_of(word))?;
+    }
+    Ok(text)
+}
+
+/// What a line of a form does, and the page of the manual that says more of it.
+pub fn meaning_of(row: Row) -> &'static str {
+    match row {
+        Row::Version | Row::SecondVersion | Row::ThirdVersion | Row::FourthVersion => {
+            "the version of the notation"
+        }
+        Row::Ring | Row::RingCq | Row::RingLeft | Row::RingCqLeft => {
+            "the entries of the rings, and how many may stay queued where the lock is released: io_uring_setup(2)"
+        }
+        Row::File => "a file that requests may name, and its length in bytes",
+        Row::Buffer => { "a buffer, and its shares: one share allows to read it, all to write it" }
+        Row::TokenRead => "the user data of a read, which owns all shares of B in flight",
+        Row::TokenWrite => "the user data of a write, which owns K shares of B in flight",
+        Row::TokenFsync => "the user data of an fsync",
+        Row::TokenNop => "the user data of a nop",
+        Row::Pool => "a table that threads put items into and take them from",
+        Row::Thread => "a thread, and what it holds at its start",
+        Row::Set => "sets a variable",
+        Row::Add => "the sum, 64 bits, wrapping",
+        Row::Subtract => "the difference, 64 bits, wrapping",
+        Row::Load => "the byte at place i of a buffer",
+        Row::Store => "writes the low eight bits of x at place i",
+        Row::Fill => "writes the low eight bits of x at every place",
+        Row::Print => "shows a variable in the trace",
+        row => meaning_in_thread(row),
+    }
+}
+
+/// The same of the other statements of a thread.
+fn meaning_in_thread(row: Row) -> &'static str {
+    match row {
+        Row::Lock => "takes both locks at once, and releases them at the closing brace",
+        Row::LockSq =>
+            "takes the lock of the submission side, and releases it at the closing brace",
+        Row::LockCq =>
+            "takes the lock of the completion side, and releases it at the closing brace",
+        Row::GetSqe => "opens the next submission entry: io_uring_get_sqe(3)",
+        Row::PrepRead => {
+            "makes the open entry a read of LEN bytes at OFF: io_uring_prep_read(3)"
+        }
+        Row::PrepWrite => {
+            "makes the open entry a write of LEN bytes at OFF, which takes K shares: io_uring_prep_write(3)"
+        }
+        Row::PrepFsync => {
+            "makes the open entry an fsync, with 1 of the data alone: io_uring_prep_fsync(3)"
+        }
+        Row::PrepNop => "makes the open entry a nop: io_uring_prep_nop(3)",
+        Row::SetData64 => {
+            "gives the open entry its user data and queues it: io_uring_sqe_set_data64(3)"
+        }
+        Row::Submit => {
+            "hands queued entries to the kernel; x is how many, or a negative errno: io_uring_submit(3)"
+        }
+        Row::SubmitAndWait => {
+            "the same as a submit, and waits for m completions: io_uring_submit_and_wait(3)"
+        }
+        Row::CqeSeen => "takes the peeked completion away: io_uring_cqe_seen(3)",
+        Row::Peek => {
+            "looks at the oldest completion; x is its result, or -11 if there is none: io_uring_peek_cqe(3)"
+        }
+        Row::Case => "the arm for this user data",
+        Row::Other => "the arm for any other user data",
+        Row::Nothing => "the arm for no completion",
+        Row::If => "compares a variable with a number",
+        Row::IfReady => "whether no entry is queued or open: io_uring_sq_ready(3)",
+        Row::IfSpace => "whether so many entries are free: io_uring_sq_space_left(3)",
+        Row::Put | Row::PutNamed => "gives the items to the pool",
+        Row::IfTake | Row::IfTakeNamed => {
+            "whether the pool has all of the items; if so, the thread gets them in the first branch"
+        }
+        Row::Else => "ends the first branch of an if and begins its second",
+        Row::Loop => "repeats; the items are what the thread holds each time at the top",
+        Row::LoopWhen => {
+            "repeats; the items are what the thread holds at the top, those after when besides wherever x isn't 0"
+        }
+        Row::Break => "leaves the innermost loop, and releases the locks that were taken in it",
+        _ => "ends the innermost block",
+    }
+}

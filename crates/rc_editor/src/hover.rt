@@ -1,0 +1,145 @@
+//! What a word means, and what is known before its line.
+
+use crate::forms::{meaning_of, put_form};
+use crate::known::{program_of, put_known};
+use crate::marks::{Kind, Mark, fit_of};
+use crate::names::{byte_of, declaration_of, mark_at};
+use crate::page::Page;
+use crate::place::{Position, Range, number_of};
+use crate::words::{Word, Words};
+use rc_read::parts::Region;
+use rc_read::words::is;
+use rc_report::text::{put_piece, put_pieces};
+use std::alloc::{AllocError, Global};
+
+/// What is shown of a word, in lines of plain text, and where the word is.
+#[derive(Drop)]
+pub struct Hover {
+    pub text: Vec<u8>,
+    pub range: Range,
+}
+
+/// What is shown of the word at a place: what it means, and what is known before its line. Blanks and comments have
+/// nothing.
+pub fn hover_at(alloc: Global, text: &[u8], at: Position) -> Result<Option<Hover>, AllocError> {
+    let page = Page::of(alloc, text)?;
+    let (line, byte) = byte_of(&page, at);
+    let words = Words::of(alloc, page.line(line))?;
+    let Some(place) = words.place_at(byte) else {
+        return Ok(None);
+    };
+    let word = words.word(place);
+    let mut shown = Vec::new(alloc);
+    match mark_at(&page, at) {
+        Some(mark) => put_mark(alloc, &mut shown, &page, &mark)?,
+        None => put_word(alloc, &mut shown, &page, line, &words, &word)?,
+    }
+    put_before(alloc, &mut shown, text, &page, line)?;
+    Ok(Some(Hover {
+        text: shown,
+        range: page.range(line, &word),
+    }))
+}
+
+/// Adds what is known before a line, if it is one of a thread.
+fn put_before(
+    alloc: Global,
+    shown: &mut Vec<u8>,
+    text: &[u8],
+    page: &Page,
+    line: usize,
+) -> Result<(), AllocError> {
+    let above = page.above(line);
+    let is_inside = matches!(above.region, Region::InThread) && above.scope < line;
+    if !is_inside {
+        return Ok(());
+    }
+    match program_of(alloc, text)? {
+        Some(program) => {
+            let (header, number) = (number_of(above.scope), number_of(line));
+            put_known(
+                shown,
+                &program,
+                header.saturating_add(1),
+                number.saturating_add(1),
+            )
+        }
+        None => Ok(()),
+    }
+}
+
+/// Adds what a word means that is no name: an item, or the form of its line.
+fn put_word(
+    alloc: Global,
+    shown: &mut Vec<u8>,
+    page: &Page,
+    line: usize,
+    words: &Words,
+    word: &Word,
+) -> Result<(), AllocError> {
+    match word.text {
+        [b'c', b':', ..] => put_piece(shown, b"credits: how many completions it may still cause"),
+        [b'q', b':', ..] => put_piece(shown, b"how many entries may be queued there"),
+        _ => put_row(alloc, shown, page, line, words),
+    }
+}
+
+/// Adds the form of a line, and what it does.
+fn put_row(
+    alloc: Global,
+    shown: &mut Vec<u8>,
+    page: &Page,
+    line: usize,
+    words: &Words,
+) -> Result<(), AllocError> {
+    let above = page.above(line);
+    let Some(fit) = fit_of(alloc, above.version, above.region, words)? else {
+        return put_piece(shown, b"no form begins so here");
+    };
+    put_form(shown, fit.row)?;
+    put_pieces(shown, &[b": ", meaning_of(fit.row).as_bytes()])
+}
+
+/// Adds what a name is the name of.
+fn put_mark(
+    alloc: Global,
+    shown: &mut Vec<u8>,
+    page: &Page,
+    mark: &Mark,
+) -> Result<(), AllocError> {
+    if mark.kind == Kind::Variable {
+        let header = Words::of(alloc, page.line(mark.scope))?;
+        let (name, thread) = (mark.name.text, header.text(1));
+        return put_pieces(shown, &[b"variable ", name, b" of thread ", thread]);
+    }
+    let Some(declared) = declaration_of(page, mark) else {
+        return put_pieces(shown, &[mark.name.text, b" isn't declared"]);
+    };
+    let words = Words::of(alloc, page.line(declared.line))?;
+    put_pieces(shown, &[words.text(0), b" ", words.text(1)])?;
+    match mark.kind {
+        Kind::File => put_pieces(shown, &[b": ", words.text(2), b" bytes"]),
+        Kind::Buffer => {
+            let (bytes, shares) = (words.text(2), words.text(3));
+            put_pieces(shown, &[b": bytes ", bytes, b", shares ", shares])
+        }
+        Kind::Token => put_token(shown, &words),
+        _ => Ok(()),
+    }
+}
+
+/// Adds what a token's request is, by the words of its line.
+fn put_token(shown: &mut Vec<u8>, words: &Words) -> Result<(), AllocError> {
+    let (kind, buffer) = (words.text(2), words.text(3));
+    if is(kind, b"read") {
+        return put_pieces(
+            shown,
+            &[b": a read into ", buffer, b", with all its shares"],
+        );
+    }
+    if is(kind, b"write") {
+        let shares = words.text(4);
+        return put_pieces(shown, &[b": a write of ", buffer, b", shares ", shares]);
+    }
+    put_pieces(shown, &[b": ", kind])
+}

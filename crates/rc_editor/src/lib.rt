@@ -1,0 +1,23 @@
+//! What an editor asks of a text: what a word means, where it is named, what could be written there, and how the text is
+//! laid out.
+//!
+//! Each answer is one of the text's bytes alone, and each function answers any bytes, also those that can't be read: it
+//! goes by lines and words, and takes the program where there is one. Of a text with more lines than a program may have
+//! those after are not looked at, but for its layout. Lines end with a line feed alone.
+#![tactic(auto)]
+
+pub mod actions;
+pub mod completion;
+pub mod folding;
+pub mod format;
+mod forms;
+pub mod hover;
+mod known;
+mod marks;
+mod mends;
+pub mod names;
+mod page;
+pub mod place;
+pub mod rename;
+pub mod symbols;
+mod words;

@@ -1,0 +1,190 @@
+//! A text, line by line: the names and the blocks in it, and what its lines may be.
+
+use crate::marks::{Fit, Mark, Spot, fit_of, push_marks};
+use crate::place::{Range, line_at, lines_of, range_in};
+use crate::words::{Word, Words};
+use rc_read::parts::Region;
+use rc_read::table::Row;
+use rc_read::words::is;
+use std::alloc::{AllocError, Global};
+
+/// What is known of a text above a line.
+#[derive(Clone, Copy)]
+pub struct Above {
+    /// The version of the notation. Without a head it is the last one.
+    pub version: u32,
+    pub region: Region,
+    /// The line of the open thread, from 0.
+    pub scope: usize,
+    /// The place of the innermost open block among the blocks.
+    pub block: Option<usize>,
+}
+
+/// A block: its form, the line and the word of its opening brace, and those of its closing brace, if it has one.
+#[derive(Clone, Copy)]
+pub struct Block<'a> {
+    pub row: Option<Row>,
+    pub line: usize,
+    pub brace: Word<'a>,
+    pub close: Option<(usize, Word<'a>)>,
+    /// The place of the block around it.
+    pub outer: Option<usize>,
+}
+
+/// A text, line by line.
+#[derive(Drop)]
+pub struct Page<'a> {
+    pub lines: Vec<&'a [u8]>,
+    pub marks: Vec<Mark<'a>>,
+    pub blocks: Vec<Block<'a>>,
+    above: Vec<Above>,
+    last: Above,
+}
+
+/// Above the first line.
+fn start() -> Above {
+    Above {
+        version: 4,
+        region: Region::Start,
+        scope: 0,
+        block: None,
+    }
+}
+
+/// The version that a form of the head says, and else the last one.
+fn version_in(fit: Option<Fit>) -> u32 {
+    match fit {
+        Some(fit) if fit.words == 2 => match fit.row {
+            Row::Version => 1,
+            Row::SecondVersion => 2,
+            Row::ThirdVersion => 3,
+            _ => 4,
+        },
+        _ => 4,
+    }
+}
+
+impl<'a> Page<'a> {
+    /// Looks at the lines of a text.
+    pub fn of(alloc: Global, text: &'a [u8]) -> Result<Page<'a>, AllocError> {
+        let mut page = Page {
+            lines: Vec::new(alloc),
+            marks: Vec::new(alloc),
+            blocks: Vec::new(alloc),
+            above: Vec::new(alloc),
+            last: start(),
+        };
+        for (number, line) in lines_of(alloc, text)?.iter().enumerate() {
+            let words = Words::of(alloc, line)?;
+            page.lines.push(*line)?;
+            let last = page.last;
+            page.above.push(last)?;
+            page.look_at(alloc, number, &words)?;
+        }
+        Ok(page)
+    }
+
+    /// Notes what a line says.
+    fn look_at(
+        &mut self,
+        alloc: Global,
+        number: usize,
+        words: &Words<'a>,
+    ) -> Result<(), AllocError> {
+        if words.count() == 0 {
+            return Ok(());
+        }
+        let above = self.last;
+        let fit = fit_of(alloc, above.version, above.region, words)?;
+        if is(words.text(0), b"thread") {
+            self.last.scope = number;
+            self.last.block = None;
+        }
+        let spot = Spot {
+            line: number,
+            scope: self.last.scope,
+            version: above.version,
+        };
+        if let Some(fit) = fit {
+            push_marks(&mut self.marks, spot, words, fit)?;
+        }
+        self.note_braces(number, words, fit)?;
+        self.last.region = self.region_after(above.region, words);
+        if let Region::Start = above.region {
+            self.last.version = version_in(fit);
+        }
+        Ok(())
+    }
+
+    /// Notes which blocks a line ends and begins.
+    fn note_braces(
+        &mut self,
+        number: usize,
+        words: &Words<'a>,
+        fit: Option<Fit>,
+    ) -> Result<(), AllocError> {
+        if words.closes() {
+            self.close(number, words.word(0));
+        }
+        if words.opens() {
+            self.blocks.push(Block {
+                row: fit.map(|fit| fit.row),
+                line: number,
+                brace: words.last(),
+                close: None,
+                outer: self.last.block,
+            })?;
+            self.last.block = Some(self.blocks.len().saturating_sub(1));
+        }
+        Ok(())
+    }
+
+    /// Ends the innermost open block.
+    fn close(&mut self, number: usize, brace: Word<'a>) {
+        let Some(place) = self.last.block else {
+            return;
+        };
+        if let Some(block) = self.blocks.get_mut(place) {
+            block.close = Some((number, brace));
+            self.last.block = block.outer;
+        }
+    }
+
+    /// In which part of the text the line is after one with words.
+    fn region_after(&self, region: Region, words: &Words) -> Region {
+        if is(words.text(0), b"thread") {
+            return Region::InThread;
+        }
+        match region {
+            Region::Start => Region::Second,
+            Region::Second => Region::Declarations,
+            Region::InThread if self.last.block.is_none() => Region::Between,
+            _ => region,
+        }
+    }
+
+    /// What is known above a line, from 0; after the last line, what is known at the end.
+    pub fn above(&self, line: usize) -> Above {
+        self.above.get(line).copied().unwrap_or(self.last)
+    }
+
+    /// The version of the notation.
+    pub fn version(&self) -> u32 {
+        self.last.version
+    }
+
+    /// A line, from 0; nothing after the last.
+    pub fn line(&self, number: usize) -> &'a [u8] {
+        line_at(&self.lines, number)
+    }
+
+    /// The range from one byte of a line up to another.
+    pub fn range_from(&self, line: usize, start: usize, end: usize) -> Range {
+        range_in(self.line(line), line, start, end)
+    }
+
+    /// The range of a word of a line.
+    pub fn range(&self, line: usize, word: &Word) -> Range {
+        self.range_from(line, word.start, word.end())
+    }
+}
