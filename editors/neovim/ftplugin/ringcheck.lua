@@ -1,0 +1,2 @@
+-- The language server, for each buffer of the notation.
+require('ringcheck').attach()
