@@ -47,8 +47,11 @@ pub all_indented : (first mid made inner : List ℕ) → HasBlanks first mid →
 all_indented first mid made inner (added, whole, blank) e =
     (added ++ inner, record { indent = added; whole = refl; blank = blank }, rw (e, whole) (simp append_assoc))
 
-pub blanks_before : (bytes : List ℕ) (n : ℕ) → n < length bytes → is_blank (get_or bytes n 0) ≡ true → are_blanks (drop (suc n) bytes) ≡ true → are_blanks (drop n bytes) ≡ true
+blanks_before : (bytes : List ℕ) (n : ℕ) → n < length bytes → is_blank (get_or bytes n 0) ≡ true → are_blanks (drop (suc n) bytes) ≡ true → are_blanks (drop n bytes) ≡ true
 blanks_before bytes n h b rest = rw (drop-cons bytes n 0 h) (both (is_blank (get_or bytes n 0)) (are_blanks (drop (suc n) bytes)) b rest)
+
+pub blanks_back : (bytes : List ℕ) (n end : ℕ) → end ≡ suc n → n < length bytes → is_blank (get_or bytes n 0) ≡ true → are_blanks (drop end bytes) ≡ true → are_blanks (drop n bytes) ≡ true
+blanks_back bytes n end e h b rest = blanks_before bytes n h b (subst (λ (x : ℕ). are_blanks (drop x bytes) ≡ true) e rest)
 
 -- what is between the blanks
 pub between : (bytes : List ℕ) (m n : ℕ) → are_blanks (take m bytes) ≡ true → are_blanks (drop n (drop m bytes)) ≡ true → IsAround bytes (take n (drop m bytes))
@@ -59,6 +62,9 @@ between bytes m n front back = record {
   blank = front;
   blank_after = back;
 }
+
+pub laid_of : (old inner new : List ℕ) → IsAround old inner → IsIndented inner new → IsLineLaidOut old new
+laid_of old inner new around indented = record { inner = inner; around = around; indented = indented }
 
 -- ---- lines
 

@@ -96,11 +96,14 @@ fn put_indented(text: &mut Vec<u8>, inner: &[u8], indent: usize) -> Result<(), A
 }
 
 /// The bytes without the blanks at both ends.
+#[tactic(auto, using(crate::proofs::LaidOut::between))]
 pub fn without_blanks(bytes: &[u8]) -> &[u8]
     ensures { IsAround bytes.now result.now }
 {
-    let rest = &bytes[blanks_in_front(bytes)..];
-    &rest[..end_of(rest)]
+    let start = blanks_in_front(bytes);
+    let rest = &bytes[start..];
+    let end = end_of(rest);
+    &rest[..end]
 }
 
 /// How many blanks the bytes begin with.
@@ -117,6 +120,7 @@ fn blanks_in_front(bytes: &[u8]) -> usize
 }
 
 /// Where the bytes end without the blanks after them.
+#[tactic(auto, using(crate::proofs::LaidOut::blanks_back))]
 fn end_of(bytes: &[u8]) -> usize
     ensures within { result ≤ length bytes.now }
     ensures blank { are_blanks (drop result bytes.now) ≡ true }

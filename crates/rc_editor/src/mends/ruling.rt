@@ -2,8 +2,8 @@
 
 use super::{Sheet, before};
 use crate::actions::{Action, fills_of};
-use crate::known::put_line;
 use crate::format::without_blanks;
+use crate::known::put_line;
 use crate::place::{Edit, edited, line_at, lines_of};
 use rc_keeps::engine::kept_text;
 use rc_report::text::{put_piece, put_pieces};

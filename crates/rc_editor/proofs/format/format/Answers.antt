@@ -10,4 +10,4 @@ loop-line-preserved c =
 pub returns : goal.returns
 returns c =
     let put = c.in_ok-put_line.ensures in
-    last_line c.args.text.now c.loop-line.rest.now c.loop-line.laid.items c.put_line.new.text.items put.0 c.in_default.ensures put.1 put.2 c.loop-line.invariant
+    last_line c.args.text.now c.loop-line.rest.now c.loop-line.laid.items c.put_line-2.new.text.items put.0 c.in_default.ensures put.1 put.2 c.loop-line.invariant
