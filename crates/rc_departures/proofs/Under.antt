@@ -1,14 +1,13 @@
 -- A log under way: its first two lines, one line more, and its end.
 use Rattle.std.proofs.Common.{◌≡◌, ℕ, ◌<◌, Bool, true, false, List, [], ◌∷◌, ◌++◌, length, Option, Some, None, Result, Ok, Err, refl, sym, ap, subst, ◌∙◌, append_assoc, append-nil, arith}
-use Rattle.std.specs.Prelude.{All}
 use Rattle.rc_lang.specs.Program.{Program}
 use Rattle.rc_log.specs.declared.call.Said.{Said}
 use Rattle.rc_log.specs.Heads.{is_head}
 use Rattle.rc_log.specs.Lines.{Gives, log_lines}
 use Rattle.rc_log.specs.Said.{said}
-use Rattle.rc_follow.specs.Followed.{Goes, IsFollowed, start_noted}
+use Rattle.rc_follow.proofs.Followed.{followed_of as followed}
+use Rattle.rc_follow.specs.Followed.{IsFollowed}
 use Rattle.rc_follow.specs.Follower.{Follower, Follows}
-use Rattle.rc_world.specs.Machine.{World, start_world}
 use Rattle.rc_departures.specs.declared.ending.Ending.{Ending}
 use Rattle.rc_departures.specs.declared.ending.Ending.TheVariants.{Followed}
 use Rattle.rc_departures.specs.Logs.{Ends, FollowsLine, HasRoom, Headed, IsFollowedLog, IsLog, IsOther, IsRoomy, IsUnder, Ringed, Say, Under}
@@ -34,6 +33,11 @@ begun p (Some b) None f h s e = absurd h
 begun p (Some b) (Some l) f h s e = (h.0, h.1, [], [], h.2, h.3, h.4, tt, s, e)
 
 -- ---- one line more
+
+pub other_ends : (p : Program) (bytes : Option (List ℕ)) (e : Ending) → IsOther e → Ends p bytes e
+other_ends p None e h = tt
+other_ends p (Some b) (Followed calls) h = absurd h
+other_ends p (Some b) _ h = tt
 
 say_more : (p : Program) (lines : List (List ℕ)) (ss : List Said) (line : List ℕ) (s : Said) → Say p lines ss → said p line ≡ Ok s → Say p (lines ++ line ∷ []) (ss ++ s ∷ [])
 say_more p [] [] line s h e = (e, tt)
@@ -64,17 +68,8 @@ under_line p (Some b) (Some l) (Some n) line f new None u g h = under_more p b l
 
 -- ---- the end
 
-pub other_ends : (p : Program) (bytes : Option (List ℕ)) (e : Ending) → IsOther e → Ends p bytes e
-other_ends p None e h = tt
-other_ends p (Some b) (Followed calls) h = absurd h
-other_ends p (Some b) _ h = tt
-
-some_world : (F : World → Type 0) (ws : List World) → 0 < length ws → All F ws → (w : World) × F w
-some_world F [] l a = absurd (omega (arith, l))
-some_world F (w ∷ ws) l a = (w, ?)
-
 followed_of : (p : Program) (ss : List Said) (f : Follower) → Follows ss f → f.program ≡ p → IsFollowed p ss
-followed_of p ss f h e = subst (λ (q : Program). IsFollowed q ss) e (some_world (Goes f.program (start_noted f.program) (start_world f.program) ss) f.worlds h.some h.worlds)
+followed_of p ss f h e = subst (λ (q : Program). IsFollowed q ss) e (followed ss f h)
 
 ended : (p : Program) (b l : List ℕ) (f : Follower) → IsUnder p b l f → log_lines l ≡ [] → IsFollowedLog p b
 ended p b l f u g =

@@ -85,8 +85,13 @@ fn read_heads<R: Read>(
     ensures { IfOk result (Headed program.now (left R.remaining log.old) (left R.remaining log.new)) }
 {
     match log.next_line() {
-        Ok(true) if is_head(log.line()) => read_rings(alloc, program, log),
-        Ok(_) => Ok(Some(unreadable(alloc, 1, Why::NoHead)?)),
+        Ok(true) => {
+            if !is_head(log.line()) {
+                return Ok(Some(unreadable(alloc, 1, Why::NoHead)?));
+            }
+            read_rings(alloc, program, log)
+        }
+        Ok(false) => Ok(Some(unreadable(alloc, 1, Why::NoHead)?)),
         Err(fault) => Ok(Some(too_long(alloc, 1, fault)?)),
     }
 }
