@@ -245,6 +245,17 @@ pub fn tell_unread<E: Sink>(alloc: Global, name: &str, unread: &Unread, errors: 
     }
 }
 
+/// Adds the line that says why a file can't be read.
+pub fn put_unread(
+    told: &mut Vec<u8>,
+    alloc: Global,
+    name: &str,
+    unread: &Unread,
+) -> Result<(), AllocError> {
+    let why = words_of(alloc, unread)?;
+    put_line(told, name, why.as_str())
+}
+
 /// Why a file can't be read, in the words of the system and without its number of the error.
 fn words_of(alloc: Global, unread: &Unread) -> Result<String, AllocError> {
     let told = format!(in alloc; "{unread}")?;

@@ -4,7 +4,7 @@ ghost use Rattle.std.specs.Prelude.{◌≤◌, IfOk};
 ghost use Rattle.rc_report.specs.Streams.{CanWrite};
 
 use crate::fault::CommandFault;
-use crate::files::{Texts, Unread, tell_unread};
+use crate::files::{Texts, Unread, put_unread, tell_unread};
 use crate::logs::Logs;
 use clap::ArgMatches;
 use rc_departures::following::follow_log;
@@ -16,6 +16,7 @@ use rc_report::check_engine::judged;
 use rc_report::file_verdict::{put_file_object, put_file_verdict};
 use rc_report::reading::read_text;
 use rc_report::source::Lines;
+use rc_report::status::DEVICE_STATUS;
 use rc_report::streams::{ReadSource, Sink};
 use rc_report::verdict::{Verdict, put_verdict, put_verdict_json};
 use rc_report::writing::write_piece;
@@ -101,7 +102,7 @@ fn put_refused(
     }
 }
 
-/// Follows each log, and answers the greatest status.
+/// Follows each log, and answers the greatest status. What can't be read is told after the last.
 fn follow_each<T: Texts + Logs, S: Sink, E: Sink>(
     texts: &T,
     alloc: Global,
@@ -111,34 +112,48 @@ fn follow_each<T: Texts + Logs, S: Sink, E: Sink>(
     sink: &mut S,
     errors: &mut E,
 ) -> Result<u8, CommandFault>
-    requires writes { CanWrite (S.state sink.old) }
-    requires told { (E.state errors.old).failures ≤ 1 }
+    requires { CanWrite (S.state sink.old) }
     ensures { IfOk result (λ status. status ≤ 3) }
 {
     let mut follower = Follower::start(alloc, program)?;
-    let mut answer = Vec::new(alloc);
+    let mut answers = Answers {
+        answer: Vec::new(alloc),
+        told: Vec::new(alloc),
+    };
     let mut status = 0u8;
     for name in &asked.logs {
-        let log = follow_one(
+        let of = follow_one(
             texts,
             alloc,
             lines,
             &mut follower,
             name,
             asked.json,
-            &mut answer,
+            &mut answers,
         )?;
-        match log {
-            Ok(of) => status = status.max(of),
-            Err(unread) => status = status.max(tell_unread(alloc, name, &unread, errors)),
-        }
+        status = status.max(of);
     }
-    put_unmade(&mut answer, alloc, program, &follower, asked.json)?;
-    write_piece(sink, &answer)?;
+    put_unmade(&mut answers.answer, alloc, program, &follower, asked.json)?;
+    write_piece(sink, &answers.answer)?;
+    tell(&answers.told, errors);
     Ok(status)
 }
 
-/// Follows a log, adds how it ends, and answers its status; or why it can't be read.
+/// What is written of the logs, and what is told besides.
+#[derive(Drop)]
+struct Answers {
+    answer: Vec<u8>,
+    told: Vec<u8>,
+}
+
+/// Writes what is told, unless a write failed before.
+fn tell<E: Sink>(told: &[u8], errors: &mut E) {
+    if !told.is_empty() && errors.failures() == 0 {
+        let _ = write_piece(errors, told);
+    }
+}
+
+/// Follows a log, adds how it ends, and answers its status. Where it can't be read that is told.
 fn follow_one<T: Logs>(
     texts: &T,
     alloc: Global,
@@ -146,20 +161,33 @@ fn follow_one<T: Logs>(
     follower: &mut Follower<'_>,
     name: &str,
     json: bool,
-    answer: &mut Vec<u8>,
-) -> Result<Result<u8, Unread>, AllocError>
-    ensures { IfOk result (λ status. IfOk status (λ s. s ≤ 3)) }
+    answers: &mut Answers,
+) -> Result<u8, AllocError>
+    ensures { IfOk result (λ status. status ≤ 3) }
 {
     let log = match texts.open(name) {
         Ok(log) => log,
-        Err(unread) => return Ok(Err(unread)),
+        Err(unread) => return unread_log(alloc, name, &unread, answers),
     };
     match follow_log(alloc, lines, follower, log) {
         Ok(ending) => {
-            put_ending(answer, alloc, name, &ending, json)?;
-            Ok(Ok(ending.status()))
+            put_ending(&mut answers.answer, alloc, name, &ending, json)?;
+            Ok(ending.status())
         }
-        Err(LogFault::Failed(error)) => Ok(Err(Unread::Failed(error))),
-        Err(_) => Ok(Err(Unread::OutOfMemory)),
+        Err(LogFault::Failed(error)) => unread_log(alloc, name, &Unread::Failed(error), answers),
+        Err(_) => Err(AllocError),
     }
+}
+
+/// A log that can't be read is told.
+fn unread_log(
+    alloc: Global,
+    name: &str,
+    unread: &Unread,
+    answers: &mut Answers,
+) -> Result<u8, AllocError>
+    ensures { IfOk result (λ status. status ≤ 3) }
+{
+    put_unread(&mut answers.told, alloc, name, unread)?;
+    Ok(DEVICE_STATUS)
 }
