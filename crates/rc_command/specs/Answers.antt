@@ -22,7 +22,7 @@ use Rattle.rc_report.specs.Verdicts.{verdict_text}
 use Rattle.rc_explain.specs.Explains.{Explains}
 use Rattle.rc_find.specs.Finds.{Finds}
 use Rattle.rc_find.specs.Pictures.{FindsPicture}
-use Rattle.rc_editor.specs.Layout.{IsLaidOut}
+use Rattle.rc_editor.specs.LaidOut.{IsLaidOut}
 use Rattle.rc_keeps.specs.Keeps.{GivesKept}
 use Rattle.rc_moves.specs.Drawing.{moved_drawn}
 use Rattle.rc_moves.specs.Moved.{EndsMoves, moved_text}
