@@ -26,11 +26,7 @@ pub struct Note {
 
 /// A note on each `if take` that asks for more than the lines of the program put into its pool, in text order: its first
 /// branch is never taken, since each pool starts empty.
-pub fn notes_on(
-    alloc: Global,
-    lines: &Lines,
-    program: &Program,
-) -> Result<Vec<Note>, AllocError> {
+pub fn notes_on(alloc: Global, lines: &Lines, program: &Program) -> Result<Vec<Note>, AllocError> {
     let mut notes = Vec::new(alloc);
     for thread in program.threads() {
         for line in &thread.lines {
