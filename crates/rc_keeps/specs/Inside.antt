@@ -14,6 +14,10 @@ pub record IsCutAt (byte : ℕ) (bytes front rest : List ℕ) : Type 0 where
 abbrev pub IsParted : List ℕ → Parted → Type 0
 IsParted line p = IsLoopLine line p.before.now p.items.now p.behind.now
 
+-- No cut of the line is one around the items of a loop.
+abbrev pub OpensNoLoop : List ℕ → Type 0
+OpensNoLoop line = (before items behind : List ℕ) → IsLoopLine line before items behind → ⊥
+
 -- The first word without a colon, and a shorter part that has the others.
 abbrev pub BeginsFlag : List ℕ → List ℕ → List ℕ → Type 0
 BeginsFlag items word after =

@@ -9,7 +9,8 @@ use rc_report::source::first_word;
 
 /// Whether two lists name the same flag, or both none.
 pub fn is_same_flag(items: &[u8], list: &[u8]) -> bool
-    ensures { result ≡ true → flag_words list.now ≡ flag_words items.now }
+    ensures same { result ≡ true → flag_words list.now ≡ flag_words items.now }
+    ensures told { flag_words list.now ≡ flag_words items.now → result ≡ true }
 {
     let Some((word, items)) = flag_word(items) else {
         return flag_word(list).is_none();

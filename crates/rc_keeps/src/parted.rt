@@ -1,7 +1,7 @@
 //! A line that opens a loop, cut around its items.
 
-ghost use Rattle.std.specs.Prelude.{◌≡◌, IfSome, MatchOption, false, true};
-ghost use Rattle.rc_keeps.specs.Inside.{IsCutAt, IsParted};
+ghost use Rattle.std.specs.Prelude.{◌≡◌, MatchOption, false, true};
+ghost use Rattle.rc_keeps.specs.Inside.{IsCutAt, IsParted, OpensNoLoop};
 ghost use Rattle.rc_keeps.specs.Keeps.{OpensLoop, has_byte};
 
 use rc_read::words::is;
@@ -17,7 +17,7 @@ pub struct Parted<'a> {
 
 /// Cuts a line that opens a loop, if it is one.
 pub fn around_items(line: &[u8]) -> Option<Parted<'_>>
-    ensures { IfSome result (IsParted line.now) }
+    ensures { MatchOption result (OpensNoLoop line.now) (IsParted line.now) }
 {
     for end in 0..line.len() {
         let before = &line[..end];
@@ -48,7 +48,8 @@ pub fn cut_at(bytes: &[u8], byte: u8) -> Option<(&[u8], &[u8])>
 
 /// Whether the words are `loop keeps`.
 fn opens_loop(bytes: &[u8]) -> bool
-    ensures { result ≡ true → OpensLoop bytes.now }
+    ensures opens { result ≡ true → OpensLoop bytes.now }
+    ensures told { OpensLoop bytes.now → result ≡ true }
 {
     let Some((first, after)) = first_word(bytes) else {
         return false;
