@@ -1,6 +1,6 @@
 //! Logs of C programs, held to an accepted text.
 
-ghost use Rattle.std.specs.Prelude.{◌≤◌, IfOk};
+ghost use Rattle.std.specs.Prelude.{◌≡◌, ◌≤◌, IfOk};
 ghost use Rattle.rc_report.specs.Streams.{CanWrite};
 
 use crate::fault::CommandFault;
@@ -63,7 +63,8 @@ pub fn follow_logs<T: Texts + Logs, I: Read + Drop, S: Sink, E: Sink>(
 ) -> Result<u8, CommandFault>
     requires writes { CanWrite (S.state sink.old) }
     requires told { (E.state errors.old).failures ≤ 1 }
-    ensures { IfOk result (λ status. status ≤ 3) }
+    ensures status { IfOk result (λ status. status ≤ 3) }
+    ensures failures { IfOk result (λ _. (S.state sink.new).failures ≡ (S.state sink.old).failures) }
 {
     let text = match asked.text {
         Some(name) => match texts.read(alloc, name) {
@@ -76,7 +77,8 @@ pub fn follow_logs<T: Texts + Logs, I: Read + Drop, S: Sink, E: Sink>(
         Ok(admitted) => {
             let lines = Lines::of(alloc, &text)?;
             let program = admitted.program();
-            follow_each(texts, alloc, program, &lines, asked, sink, errors)
+            let status = follow_each(texts, alloc, program, &lines, asked, sink, errors)?;
+            Ok(status)
         }
         Err(verdict) => {
             let mut answer = Vec::new(alloc);
@@ -113,7 +115,8 @@ fn follow_each<T: Texts + Logs, S: Sink, E: Sink>(
     errors: &mut E,
 ) -> Result<u8, CommandFault>
     requires { CanWrite (S.state sink.old) }
-    ensures { IfOk result (λ status. status ≤ 3) }
+    ensures status { IfOk result (λ status. status ≤ 3) }
+    ensures failures { IfOk result (λ _. (S.state sink.new).failures ≡ (S.state sink.old).failures) }
 {
     let mut follower = Follower::start(alloc, program)?;
     let mut answers = Answers {
