@@ -82,7 +82,7 @@ impl Bytes {
         requires { count ≤ length self.old }
         ensures { Becomes result self.old self.new (refilled count fill) }
     {
-        if count == 0 {
+        if count == 0 || fill == 0 && self.written.is_empty() {
             return Ok(());
         }
         grow(&mut self.written, self.len)?;
