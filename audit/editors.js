@@ -169,7 +169,7 @@ class TextDocument {
         this.setText(lines.join('\n'));
     }
 
-    // Applies edits, of which none touches another, from the last on.
+    // Applies edits that don't overlap, last one first.
     apply(edits) {
         const lengths = this.text.split('\n').map((line) => line.length + 1);
         const place = ({ line, character }) => lengths.slice(0, line).reduce((a, b) => a + b, 0) + character;

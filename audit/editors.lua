@@ -40,7 +40,7 @@ local function has(text, part)
   assert(text:find(part, 1, true), vim.inspect(text) .. ' has no ' .. vim.inspect(part))
 end
 
---- Puts the cursor on the n-th column, from 0, of a line, from 1.
+--- Puts the cursor at a column (from 0) of a line (from 1).
 local function go(line, column)
   vim.api.nvim_win_set_cursor(0, { line, column })
 end

@@ -65,7 +65,7 @@ def changed_rule(edit, crates):
 
 
 def changed_program(edit):
-    """As `changed`, of a planted bug."""
+    """As `changed`, for a planted bug."""
     return changed_rule(edit, FOLLOWED)
 
 

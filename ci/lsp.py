@@ -67,7 +67,7 @@ PROBING = {"textDocument": {"uri": PROBE}, "position": {"line": 3, "character": 
 # What is said where the input ends in a message.
 CUT = "ringcheck: the input ends within a message\n"
 
-# Methods of which each variant has a server of its own, and the values that are tried there.
+# Each variant of these methods gets a server of its own. These values are tried there.
 ALONE = ("initialize", "shutdown", "exit")
 ALONE_VALUES = (None, 1, "x", [], {})
 

@@ -488,7 +488,7 @@ def hold_threads(bench, how):
 
 
 def left_out():
-    """Commands and statuses of which there is no row. `keeps` says of no text that it is refused, `fmt` and `lsp` nothing."""
+    """Commands and statuses without a row. `keeps` and `fmt` never answer 1; `fmt` and `lsp` never answer 2."""
     names = ("check", "keeps", "step", "find", "run", "c", "fmt", "lsp")
     wanted = {(name, status) for name in names for status in range(4)} - {("keeps", 1), ("fmt", 1), ("fmt", 2), ("lsp", 2)}
     return wanted - {(words[0], status) for words, _, status, *_ in ROWS}

@@ -4,7 +4,7 @@ RINGCHECK ?= ./ringcheck
 MODEL ?= examples/follow/page_writer.rc
 SOURCES ?= examples/follow/page_writer.c
 # What runs your tests with ./logged. Let some of them fail: a full disk is an error path that you have.
-TESTS ?= ./logged /tmp/pages 100 && { ./logged /dev/full 100 || true; }
+TESTS ?= ./logged pages 100 && { ./logged /dev/full 100 || true; }
 
 logged: $(SOURCES) c/ringcheck.h
 	$(CC) -O2 -DRINGCHECK_LOG -Ic $(SOURCES) -o $@ -luring -lpthread

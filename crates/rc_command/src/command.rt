@@ -1,14 +1,12 @@
 //! The whole program, over any reader and writers.
 
-ghost use Rattle.std.specs.Prelude.{◌≡◌, ◌+◌, ◌<◌, ◌≤◌, ◌^◌, IfErr, IfOk, None};
+ghost use Rattle.std.specs.Prelude.{◌≡◌, ◌≤◌, IfOk, None};
 ghost use Rattle.rc_explain.specs.Explains.{Explains};
 ghost use Rattle.rc_find.specs.Finds.{Finds};
 ghost use Rattle.rc_find.specs.Pictures.{FindsPicture};
-ghost use Rattle.rc_command.specs.declared.fault.CommandFault.TheVariants.{Engine};
 ghost use Rattle.rc_command.specs.Answers.{Does, DoesWith, ReadsAsAsked, Says, SaysMoves, SaysPicture, SaysSteps, SaysVerdict};
 ghost use Rattle.rc_command.specs.Files.{AnswersAs, AsksFile};
 ghost use Rattle.rc_report.specs.Checks.{TellsVerdict};
-ghost use Rattle.rc_report.specs.declared.engine_fault.EngineFault.TheVariants.{Write as FailedWrite};
 ghost use Rattle.rc_moves.specs.Stepping.{stepped_by};
 ghost use Rattle.rc_picture.specs.Engine.{drawn_text};
 ghost use Rattle.rc_report.specs.Streams.{CanRead, CanWrite};
@@ -20,7 +18,7 @@ use crate::following::follow_logs;
 use crate::formatting::format_text;
 use crate::keeping::keep_text;
 use crate::logs::Logs;
-use crate::output::{Output, tell_notes, write_answer};
+use crate::output::{Output, tell_notes, write_answer, written_out};
 use crate::running::run_text;
 use crate::serving::serve_editor;
 use crate::words::{Asked, Command, read_words, with_moves};
@@ -36,7 +34,7 @@ use rc_report::check_engine::put_checked;
 use rc_report::engine_fault::EngineFault;
 use rc_report::reading::read_text;
 use rc_report::status::{DEVICE_STATUS, GOOD_STATUS};
-use rc_report::streams::{DeviceFailed, ReadSource, Sink, Source, WriteSink};
+use rc_report::streams::{ReadSource, Sink, Source, WriteSink};
 use rc_report::writing::write_piece;
 use std::alloc::Global;
 use std::io::{Read, Write};
@@ -221,21 +219,6 @@ fn on_file<R: Threads + Wait + Sync, T: Texts, S: Sink, E: Sink>(
     match texts.read(alloc, name) {
         Ok(text) => performed(rt, alloc, command, text, sink, notes),
         Err(unread) => Ok(tell_unread(alloc, name, &unread, errors)),
-    }
-}
-
-/// Answers this status where the whole answer is written out.
-fn written_out<O: Write + Drop>(
-    status: u8,
-    sink: &mut Buffered<WriteSink<O>>,
-) -> Result<u8, CommandFault>
-    requires { sink.old.sink.failures + 1 < 2 ^ 64 }
-    ensures status { IfOk result (λ s. (s ≡ status) × (sink.new.sink.failures ≡ sink.old.sink.failures)) }
-    ensures fault { IfErr result (λ e. (e ≡ Engine FailedWrite) × (sink.new.sink.failures ≡ sink.old.sink.failures + 1)) }
-{
-    match sink.finish() {
-        Ok(()) => Ok(status),
-        Err(DeviceFailed) => Err(CommandFault::Engine(EngineFault::Write)),
     }
 }
 

@@ -6,6 +6,7 @@ ghost use Rattle.rc_report.specs.Streams.{CanWrite};
 use crate::fault::CommandFault;
 use crate::files::{Texts, Unread, put_unread, tell_unread};
 use crate::logs::Logs;
+use crate::output::tell_notes;
 use clap::ArgMatches;
 use rc_departures::following::follow_log;
 use rc_departures::told::{put_ending, put_unmade};
@@ -138,7 +139,7 @@ fn follow_each<T: Texts + Logs, S: Sink, E: Sink>(
     }
     put_unmade(&mut answers.answer, alloc, program, &follower, asked.json)?;
     write_piece(sink, &answers.answer)?;
-    tell(&answers.told, errors);
+    tell_notes(&answers.told, errors);
     Ok(status)
 }
 
@@ -147,13 +148,6 @@ fn follow_each<T: Texts + Logs, S: Sink, E: Sink>(
 struct Answers {
     answer: Vec<u8>,
     told: Vec<u8>,
-}
-
-/// Writes what is told, unless a write failed before.
-fn tell<E: Sink>(told: &[u8], errors: &mut E) {
-    if !told.is_empty() && errors.failures() == 0 {
-        let _ = write_piece(errors, told);
-    }
 }
 
 /// Follows a log, adds how it ends, and answers its status. Where it can't be read that is told.

@@ -1,11 +1,15 @@
 //! Standard output.
 
-ghost use Rattle.std.specs.Prelude.{◌≡◌};
+ghost use Rattle.std.specs.Prelude.{◌≡◌, ◌+◌, ◌<◌, ◌^◌, IfErr, IfOk};
+ghost use Rattle.rc_command.specs.declared.fault.CommandFault.TheVariants.{Engine};
 ghost use Rattle.rc_command.specs.Answers.{Does};
+ghost use Rattle.rc_report.specs.declared.engine_fault.EngineFault.TheVariants.{Write as FailedWrite};
 ghost use Rattle.rc_report.specs.Streams.{CanWrite};
 
 use crate::fault::CommandFault;
-use rc_report::streams::Sink;
+use rc_report::buffered::Buffered;
+use rc_report::engine_fault::EngineFault;
+use rc_report::streams::{DeviceFailed, Sink, WriteSink};
 use rc_report::writing::write_piece;
 use std::io::{self, ErrorKind, Write};
 
@@ -49,6 +53,21 @@ pub fn write_answer<S: Sink>(sink: &mut S, answer: &[u8], status: u8) -> Result<
 {
     write_piece(sink, answer)?;
     Ok(status)
+}
+
+/// Answers this status where the whole answer is written out.
+pub fn written_out<O: Write + Drop>(
+    status: u8,
+    sink: &mut Buffered<WriteSink<O>>,
+) -> Result<u8, CommandFault>
+    requires { sink.old.sink.failures + 1 < 2 ^ 64 }
+    ensures status { IfOk result (λ s. (s ≡ status) × (sink.new.sink.failures ≡ sink.old.sink.failures)) }
+    ensures fault { IfErr result (λ e. (e ≡ Engine FailedWrite) × (sink.new.sink.failures ≡ sink.old.sink.failures + 1)) }
+{
+    match sink.finish() {
+        Ok(()) => Ok(status),
+        Err(DeviceFailed) => Err(CommandFault::Engine(EngineFault::Write)),
+    }
 }
 
 /// Tells what is to be said besides the answer. After a write to `errors` that failed nothing more is told.

@@ -32,7 +32,7 @@ IsLog p (head ∷ rings ∷ lines) ss = (is_head head ≡ true) × HasRoom p (ri
 abbrev pub IsFollowedLog : Program → List ℕ → Type 0
 IsFollowedLog p bytes = (ss : List Said) × IsLog p (log_lines bytes) ss × IsFollowed p ss
 
--- A log of which it is told that it is followed is. Where its bytes are unknown nothing is said.
+-- If the answer is `Followed`, the log is followed. Nothing is said where its bytes aren't known.
 abbrev pub Ends : Program → Option (List ℕ) → Ending → Type 0
 Ends p (Some bytes) (Followed calls) = IsFollowedLog p bytes
 Ends p _ _ = Unit {0}

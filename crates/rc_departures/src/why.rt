@@ -77,7 +77,7 @@ fn put_lack(text: &mut Vec<u8>, line: &[u8], lack: Lack) -> Result<(), AllocErro
     }
 }
 
-/// The word of a line that names a buffer: of a mark the first after it, of a call the second.
+/// The word that names the line's buffer: the first one after a mark, the second one after a call.
 fn buffer_word(line: &[u8]) -> &[u8] {
     if is_mark(word_at(line, 2)) {
         word_at(line, 3)

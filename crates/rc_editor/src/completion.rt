@@ -179,7 +179,7 @@ impl Choices<'_> {
         Ok(())
     }
 
-    /// Adds a form, of which the fixed words with which it begins are written.
+    /// Adds a form. It inserts the fixed words that the form begins with.
     fn push_row(&mut self, row: Row) -> Result<(), AllocError> {
         let alloc = self.alloc;
         let mut label = Vec::new(alloc);

@@ -28,7 +28,7 @@ pub struct Mark<'a> {
     /// The line, from 0.
     pub line: usize,
     pub name: Word<'a>,
-    /// The word of which the name is a part: an item, or the name itself.
+    /// The whole word that has the name: an item, or the name itself.
     pub around: Word<'a>,
     pub declares: bool,
     /// Whether the line gives a variable a value, or declares what it names.

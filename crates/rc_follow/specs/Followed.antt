@@ -95,8 +95,8 @@ Hides n w (e ∷ es) after = (next : World) × IsWeakStep w e next × (is_hidden
 
 -- ---- lines that are steps
 
--- A result of C's, of a request that was to move so many bytes, as one of the text's, which is to move `most`: all, some
--- or none. Where the lengths are the same, or one isn't known, it is the same.
+-- C's result as one of the text. C asked for `len` bytes, and the text asks for `most`: all stays all, some stays some,
+-- and none stays none. Where the lengths are the same, or one isn't known, the result stays as it is.
 abbrev pub scaled_count : (len most r : ℕ) → ℕ
 scaled_count len most r =
     if nat_eq r 0 || nat_eq len most then r else if nat_eq r len then most else min r (most - 1)

@@ -24,7 +24,7 @@ IsHiddenStep n w v = (e : Event) × IsWeakStep w e v × (is_hidden n w e ≡ tru
 abbrev pub Leads : Noted → World → World → Type 0
 Leads n w v = (es : List Event) × Hides n w es v
 
--- Worlds of which this holds are added.
+-- Worlds are added, and F holds of each.
 abbrev pub Adds : (World → Type 0) → List World → List World → Type 0
 Adds F old new = (more : List World) × (new ≡ old ++ more) × All F more
 
@@ -64,7 +64,7 @@ abbrev pub noted_lines : Program → Noted → List Said → Noted
 noted_lines P n [] = n
 noted_lines P n (l ∷ ls) = noted_lines P (noted_line P n l) ls
 
--- The lines can have led to each of its worlds, of which there is one.
+-- It has at least one world, and the lines can have led to each.
 pub record Follows (ls : List Said) (f : Follower) : Type 0 where
   pub some : 0 < length f.worlds
   pub noted : f.noted ≡ noted_lines f.program (start_noted f.program) ls

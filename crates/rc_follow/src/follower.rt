@@ -32,8 +32,8 @@ pub enum Answer {
     NotHeld,
 }
 
-/// The lines so far, held to a program: what they say beside the world, and the candidate worlds, to each of which a run
-/// leads that makes them.
+/// A log that is followed so far: what its lines say beside the world, and the candidate worlds. A run that makes the
+/// lines leads to each candidate.
 #[derive(Drop)]
 pub struct Follower<'a> {
     noted: Noted,

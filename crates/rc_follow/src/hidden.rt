@@ -109,7 +109,7 @@ fn push_stray<'a>(
     }
 }
 
-/// Adds the worlds after both branches of a take, of which the second is always there.
+/// Adds the worlds after both branches of a take. The second branch can always be taken.
 fn push_take<'a>(
     alloc: Global,
     ground: Ground<'_>,

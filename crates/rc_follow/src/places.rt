@@ -68,7 +68,7 @@ pub enum Need {
     NotThere,
 }
 
-/// Why the line departs, of which the follower said that it does.
+/// Why a line departs, once the follower has said that it does.
 pub fn why_departs(
     alloc: Global,
     follower: &Follower<'_>,

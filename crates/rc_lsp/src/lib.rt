@@ -1,7 +1,7 @@
 //! A server of the Language Server Protocol 3.17: it answers the messages of an editor over any streams.
 //!
-//! What is published of a text is promised by `rc_publish`, which this crate calls at each change. Of the other answers a
-//! contract says that they are safe, and rows have them. So this crate has no edits that must fail.
+//! `rc_publish`, which this crate calls at each change, promises what is published of a text. The other answers are proved
+//! safe only; recorded messages pin them.
 #![tactic(auto)]
 
 mod asks;

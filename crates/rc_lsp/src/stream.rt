@@ -62,7 +62,7 @@ pub fn serve<I: Source, O: Write>(
     Err(EngineFault::Read)
 }
 
-/// How a server ends with its input, of which these bytes are left.
+/// How a server ends when its input ends, with these bytes not answered yet.
 fn end_of(server: &Server, bytes: &[u8]) -> Ended {
     if bytes.is_empty() {
         let is_clean = server.is_shut_down();

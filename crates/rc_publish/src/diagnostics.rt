@@ -124,7 +124,7 @@ fn message_of(
     }
 }
 
-/// The line before which a missing part is held last, as related information; nothing where there is none.
+/// The last line before which the missing part was held, as related information; an empty list if there is none.
 fn related_of(alloc: Global, place: Place<'_>, words: &Option<Words>) -> Result<Value, AllocError> {
     let Some(
         Words {
