@@ -16,8 +16,8 @@ use rc_world::world::World;
 use std::alloc::{AllocError, Global};
 use std::marker::Model;
 
-/// Who has each mutex of the C program, how many bytes the open entry is to move there, where it is a read or a write,
-/// and of each declared token how many its last request was to move.
+/// Who has each mutex of the C program, how many bytes C's open entry asks for if it is a read or a write, and how many
+/// the last request of each declared token asked for.
 #[derive(Drop)]
 pub struct Noted {
     mutexes: Holders,
@@ -191,7 +191,7 @@ impl Noted {
         user_data == completion.user_data && wanted == i64::from(completion.res)
     }
 
-    /// What C's result of a request with this user data is in the text, whose request is to move `most` bytes.
+    /// C's result of the request with this user data, scaled to the text's request, which asks for `most` bytes.
     pub fn scaled(&self, program: &Program, user_data: u64, most: u32, res: i32) -> i64
         ensures { result ≡ spec.scaled (spec.length_at self.now (token_place program.now.tokens user_data)) most res }
     {

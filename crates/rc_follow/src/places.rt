@@ -182,8 +182,8 @@ fn look(ground: Ground<'_>, world: &World<'_>, places: &mut Places) -> Result<()
     }
 }
 
-/// Whether a thread that has this next is told to be there: a call, a lock that it can't take, and, where the line is
-/// one of a pool, a put or a take of a named pool.
+/// Whether this next line is named as the thread's place: a call, a lock that it can't take, and a put or a take of a
+/// named pool where the log's line is one too.
 fn is_place(ground: Ground<'_>, stmt: Stmt) -> bool {
     match stmt {
         Stmt::Do(

@@ -8,8 +8,8 @@ use std::alloc::{AllocError, Global};
 /// How many variables a thread has at most.
 const VARIABLES: usize = 64;
 
-/// Of a thread: on which variables its ifs depend, also by way of others, and the bytes that a load of one of them is
-/// tried with.
+/// The variables that a thread's ifs depend on, directly or through others, and the bytes that a load of one is tried
+/// with.
 #[derive(Drop)]
 struct Depends {
     variables: [bool; 64],
@@ -52,7 +52,7 @@ impl Reads {
     }
 }
 
-/// The same of one thread.
+/// The same for one thread.
 fn is_same(thread: usize, depends: &Depends, one: &World<'_>, other: &World<'_>) -> bool {
     let Ok(thread) = u32::try_from(thread) else {
         return true;

@@ -150,7 +150,7 @@ fn visit_question<'a>(
     Ok(is)
 }
 
-/// A mark of a buffer is asked of the first worlds on each way in which the thread has the right.
+/// On each way a mark of a buffer leads to the first world in which the thread has the right.
 fn visit_mark<'a>(
     alloc: Global,
     ground: Ground<'_>,
@@ -303,7 +303,7 @@ fn is_there(reads: &Reads, world: &World<'_>, worlds: &Vec<World<'_>>) -> bool {
     worlds.iter().any(|there| are_alike(reads, there, world))
 }
 
-/// Moves worlds over to those found, but for those that are like one found or like one that the search began from.
+/// Moves worlds to those found, except those like one found or like one that the search began from.
 fn take_in<'a>(
     reads: &Reads,
     begun: &Vec<World<'a>>,
