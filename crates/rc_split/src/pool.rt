@@ -15,7 +15,7 @@ use std::marker::Model;
 
 /// What is in the pool: shares of buffers, tokens and credits. In a program of liburing it is a table of flags, which a
 /// thread sets and tests while it holds the lock.
-#[derive(Drop)]
+#[derive(Clone, Copy)]
 pub struct Pool {
     shares: [u32; 64],
     marks: [bool; 256],
@@ -28,6 +28,8 @@ impl Model for Pool {
     ghost Value = { spec.Pool };
 
     ghost view = { λ p. record { shares = p.shares; marks = p.marks; credits = p.credits } };
+
+    ghost inverse = { λ d. record { shares = d.shares; marks = d.marks; credits = d.credits } };
 }
 
 impl Pool {
@@ -39,17 +41,6 @@ impl Pool {
             shares: [0; 64],
             marks: [false; 256],
             credits: 0,
-        }
-    }
-
-    /// The same pool again.
-    pub fn copy(&self) -> Pool
-        ensures { result ≡ self.now }
-    {
-        Pool {
-            shares: self.shares,
-            marks: self.marks,
-            credits: self.credits,
         }
     }
 

@@ -45,18 +45,14 @@ impl Pools {
         })
     }
 
-    /// The same pools again.
-    pub fn copy(&self, alloc: Global) -> Result<Pools, AllocError>
-        ensures { IfOk result (λ p. p ≡ self.now) }
+    /// Becomes the same as other pools, in the memory that it has. Where memory runs out, what was in it is lost.
+    pub fn copy_from(&mut self, other: &Pools) -> Result<(), AllocError>
+        ensures { IfOk result (λ _. self.new ≡ other.now) }
     {
-        let mut named = Vec::with_capacity(alloc, self.named.len())?;
-        for pool in &self.named {
-            named.push(pool.copy())?;
-        }
-        Ok(Pools {
-            unnamed: self.unnamed.copy(),
-            named,
-        })
+        self.named.clear();
+        self.named.extend_from_slice(&other.named)?;
+        self.unnamed = other.unnamed;
+        Ok(())
     }
 
     /// The pool without a name.

@@ -19,7 +19,6 @@ mod Straying
 pub mod Kernel
 pub mod Removing
 pub mod Starting
-mod Copying
 pub mod Heads
 pub mod LawFaultless
 pub mod LawGoes

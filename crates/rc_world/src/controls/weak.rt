@@ -10,19 +10,28 @@ use super::{Answer, Controls};
 use crate::event::{Action, Event};
 use rc_lang::lines::{Op, Stmt, Test};
 use rc_lang::program::Program;
-use std::alloc::{AllocError, Global};
+use std::alloc::AllocError;
 
 impl Controls {
-    /// The same controls again.
-    pub(crate) fn copy(&self, alloc: Global) -> Result<Controls, AllocError>
+    /// The same controls again, in the memory of these spare ones.
+    pub(crate) fn copy_into(&self, spare: Controls) -> Result<Controls, AllocError>
         ensures { IfOk result (λ c. c ≡ self.now) }
     {
-        Ok(Controls {
-            threads: Vec::from_slice(alloc, &self.threads)?,
-            holders: self.holders,
-            peeked: self.peeked,
-            pools: self.pools.copy(alloc)?,
-        })
+        let mut copy = spare;
+        copy.copy_from(self)?;
+        Ok(copy)
+    }
+
+    // Becomes the same as other controls.
+    fn copy_from(&mut self, other: &Controls) -> Result<(), AllocError>
+        ensures { IfOk result (λ _. self.new ≡ other.now) }
+    {
+        self.threads.clear();
+        self.threads.extend_from_slice(&other.threads)?;
+        self.pools.copy_from(&other.pools)?;
+        self.holders = other.holders;
+        self.peeked = other.peeked;
+        Ok(())
     }
 
     /// Whether the thread has a stray step.
