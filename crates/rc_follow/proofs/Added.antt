@@ -1,21 +1,20 @@
 -- Worlds that are added to others, and those to which hidden steps lead.
-use Rattle.std.proofs.Common.{◌≡◌, ℕ, List, [], ◌∷◌, ◌++◌, Option, Some, None, refl, sym, ap, inl, inr, true, append_assoc, append-nil, ◌∙◌}
+use Rattle.std.proofs.Common.{get_or, ◌≡◌, ℕ, List, [], ◌∷◌, ◌++◌, Option, Some, None, refl, sym, ap, inl, inr, append_assoc, append-nil, ◌∙◌}
 use Rattle.std.specs.Prelude.{All}
-use Rattle.std.proofs.lemmas.List.Elements.{All-append, All-cons, All-nil, All-same, All-weaker}
+use Rattle.std.proofs.lemmas.List.Elements.{Contains-get_or, All-append, All-cons, All-nil, All-same, All-weaker}
 use Rattle.rc_lang.specs.Program.{Program}
 use Rattle.rc_log.specs.declared.call.Call.{Call}
-use Rattle.rc_world.specs.declared.event.Action.TheVariants.{VariableSet, Stored, Filled, Printed, Released, Branched, Looped, LoopLeft}
 use Rattle.rc_world.specs.declared.event.Event.{Event}
-use Rattle.rc_world.specs.declared.event.Event.TheVariants.{ByThread}
 use Rattle.rc_world.specs.declared.event.Item.{Item}
 use Rattle.rc_world.specs.declared.event.Item.TheVariants.{Thread, Kernel}
 use Rattle.rc_world.specs.Items.{item_bytes, item_step, kernel_item, pending_place, take_of}
 use Rattle.std.specs.Prelude.{slice_get}
 use Rattle.rc_world.specs.Machine.{World}
 use Rattle.rc_world.specs.WeakRuns.{IsWeakStep}
-use Rattle.rc_follow.specs.Followed.{Asks, Calls, Noted, is_hidden}
-use Rattle.rc_follow.specs.Follower.{Adds, ComesBy, ComesFrom, IsHiddenStep, Leads, LeadsBy, is_plain}
-use Rattle.rc_follow.specs.Searches.{MayAdd}
+use Rattle.rc_follow.specs.declared.kept.Found.{Found}
+use Rattle.rc_follow.specs.Followed.{Asks, Calls, Noted}
+use Rattle.rc_follow.specs.Follower.{Adds, ComesBy, ComesFrom, IsHiddenStep, Leads, LeadsBy}
+use Rattle.rc_follow.specs.Searches.{AsksIn, MayAdd, Visits}
 use Rattle.rc_follow.proofs.Runs.{hides_join}
 
 -- ---- steps
@@ -41,6 +40,9 @@ leads_both n w v u h k = (h.0 ++ k.0, hides_join n w v u h.0 k.0 h.1 k.1)
 
 pub adds_none : (F : World → Type 0) (ws : List World) → Adds F ws ws
 adds_none F ws = ([], sym (append-nil ws), All-nil F)
+
+pub adds_same : (F : World → Type 0) (old new : List World) → new ≡ old → Adds F old new
+adds_same F old new e = ([], e ∙ sym (append-nil old), All-nil F)
 
 pub adds_both : (F : World → Type 0) (a b c : List World) → Adds F a b → Adds F b c → Adds F a c
 adds_both F a b c h k = (h.0 ++ k.0, k.1 ∙ ap (λ (x : List World). x ++ k.0) h.1 ∙ append_assoc a h.0 k.0, All-append F h.0 k.0 h.2 k.2)
@@ -79,15 +81,37 @@ asked P n w i call a = (w, leads_none n w, inr (a, refl))
 pub is_call : (P : Program) (n : Noted) (w v : World) (i : ℕ) (call : Call) → Calls n w i call v → LeadsBy P n w i call v
 is_call P n w v i call c = (w, leads_none n w, inl c)
 
--- ---- plain steps
+-- ---- visits
 
-pub plain_hidden : (n : Noted) (w : World) (e : Event) → is_plain e ≡ true → is_hidden n w e ≡ true
-plain_hidden n w (ByThread i line (VariableSet x)) h = refl
-plain_hidden n w (ByThread i line (Stored x)) h = refl
-plain_hidden n w (ByThread i line (Filled x)) h = refl
-plain_hidden n w (ByThread i line (Printed x)) h = refl
-plain_hidden n w (ByThread i line (Released locks)) h = refl
-plain_hidden n w (ByThread i line (Branched x)) h = refl
-plain_hidden n w (ByThread i line Looped) h = refl
-plain_hidden n w (ByThread i line LoopLeft) h = refl
-plain_hidden n w _ h = absurd (cc)
+pub visits_none : (P : Program) (n : Noted) (w : World) (i : ℕ) (call : Call) (f : Found) → Visits P n w i call f f
+visits_none P n w i call f = (adds_none (LeadsBy P n w i call) f.worlds.items, adds_none (Leads n w) f.todo.items)
+
+pub visits_both : (P : Program) (n : Noted) (w : World) (i : ℕ) (call : Call) (a b c : Found) → Visits P n w i call a b → Visits P n w i call b c → Visits P n w i call a c
+visits_both P n w i call a b c h k = (adds_both (LeadsBy P n w i call) a.worlds.items b.worlds.items c.worlds.items h.0 k.0, adds_both (Leads n w) a.todo.items b.todo.items c.todo.items h.1 k.1)
+
+pub visits_from : (P : Program) (n : Noted) (w v : World) (i : ℕ) (call : Call) (a b : Found) → Leads n w v → Visits P n v i call a b → Visits P n w i call a b
+visits_from P n w v i call a b l h = (
+  adds_weaker (LeadsBy P n v i call) (LeadsBy P n w i call) (λ u k. by_both P n w v u i call l k) a.worlds.items b.worlds.items h.0,
+  adds_weaker (Leads n v) (Leads n w) (λ u k. leads_both n w v u l k) a.todo.items b.todo.items h.1,
+)
+
+pub visits_one : (P : Program) (n : Noted) (w v : World) (i : ℕ) (call : Call) (a b : Found) → LeadsBy P n w i call v → MayAdd v a.worlds.items b.worlds.items → b.todo.items ≡ a.todo.items → Visits P n w i call a b
+visits_one P n w v i call a b l h e =
+    (adds_one (LeadsBy P n w i call) v a.worlds.items b.worlds.items l h, ([], e ∙ sym (append-nil a.todo.items), All-nil (Leads n w)))
+
+pub visits_todo : (P : Program) (n : Noted) (w : World) (i : ℕ) (call : Call) (a b : Found) → b.worlds.items ≡ a.worlds.items → Adds (Leads n w) a.todo.items b.todo.items → Visits P n w i call a b
+visits_todo P n w i call a b e h = (([], e ∙ sym (append-nil a.worlds.items), All-nil (LeadsBy P n w i call)), h)
+
+-- ---- searches
+
+-- a world that comes from these is looked at
+pub found_more : (P : Program) (n : Noted) (ws : List World) (w : World) (i : ℕ) (call : Call) (a b : Found) → ComesFrom n ws w → Visits P n w i call a b → All (ComesBy P n ws i call) a.worlds.items → All (ComesBy P n ws i call) b.worlds.items
+found_more P n ws w i call a b f h k =
+    all_added (ComesBy P n ws i call) a.worlds.items b.worlds.items k (adds_weaker (LeadsBy P n w i call) (ComesBy P n ws i call) (λ u l. comes_both P n ws w u i call f l) a.worlds.items b.worlds.items h.0)
+
+pub todo_more : (P : Program) (n : Noted) (ws : List World) (w : World) (i : ℕ) (call : Call) (a b : Found) → ComesFrom n ws w → Visits P n w i call a b → All (ComesFrom n ws) a.todo.items → All (ComesFrom n ws) b.todo.items
+todo_more P n ws w i call a b f h k =
+    all_added (ComesFrom n ws) a.todo.items b.todo.items k (adds_weaker (Leads n w) (ComesFrom n ws) (λ u l. from_both n ws w u f l) a.todo.items b.todo.items h.1)
+
+pub stay_found : (P : Program) (n : Noted) (ws : List World) (i : ℕ) (call : Call) → All (AsksIn P n i call) ws → All (ComesBy P n ws i call) ws
+stay_found P n ws i call h k d lt = (get_or ws k d, Contains-get_or ws k d lt, asked P n (get_or ws k d) i call (h k d lt))

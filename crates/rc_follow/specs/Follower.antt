@@ -1,11 +1,9 @@
 -- What a follower has after some lines of a log, and what one more line makes of it.
-use Rattle.std.specs.Prelude.{ℕ, ◌≡◌, ◌<◌, ◌++◌, length, Bool, true, false, All, Contains, List, [], ◌∷◌, Some}
+use Rattle.std.specs.Prelude.{ℕ, ◌≡◌, ◌<◌, ◌++◌, length, true, All, Contains, List, [], ◌∷◌, Some}
 use Rattle.rc_lang.specs.Program.{Program}
 use Rattle.rc_log.specs.declared.call.Said.{Said}
 use Rattle.rc_log.specs.declared.call.Call.{Call}
-use Rattle.rc_world.specs.declared.event.Action.TheVariants.{VariableSet, Stored, Filled, Printed, Released, Branched, Looped, LoopLeft}
 use Rattle.rc_world.specs.declared.event.Event.{Event}
-use Rattle.rc_world.specs.declared.event.Event.TheVariants.{ByThread}
 use Rattle.rc_world.specs.Machine.{World, start_world}
 use Rattle.rc_world.specs.WeakRuns.{IsWeakStep}
 use Rattle.rc_follow.specs.Followed.{Goes, Hides, Noted, Says, is_hidden, noted_line, start_noted}
@@ -27,18 +25,6 @@ Leads n w v = (es : List Event) × Hides n w es v
 -- Worlds are added, and F holds of each.
 abbrev pub Adds : (World → Type 0) → List World → List World → Type 0
 Adds F old new = (more : List World) × (new ≡ old ++ more) × All F more
-
--- The step is hidden in each world.
-abbrev pub is_plain : Event → Bool
-is_plain (ByThread i line (VariableSet x)) = true
-is_plain (ByThread i line (Stored x)) = true
-is_plain (ByThread i line (Filled x)) = true
-is_plain (ByThread i line (Printed x)) = true
-is_plain (ByThread i line (Released locks)) = true
-is_plain (ByThread i line (Branched x)) = true
-is_plain (ByThread i line Looped) = true
-is_plain (ByThread i line LoopLeft) = true
-is_plain _ = false
 
 -- Hidden steps lead from one world to another, and the line from there.
 abbrev pub LeadsBy : Program → Noted → World → ℕ → Call → World → Type 0

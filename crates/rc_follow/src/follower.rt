@@ -7,15 +7,18 @@ ghost use Rattle.rc_follow.specs.Follower.{Follows};
 ghost use Rattle.rc_follow.specs.Searches.{Finds};
 
 use crate::hidden::Ground;
+use crate::kept::Found;
 use crate::noted::Noted;
 use crate::reads::Reads;
 use crate::rights::Rights;
-use crate::search::{Kept, search};
+use crate::room::Room;
+use crate::search::{search, stay};
 use rc_lang::program::Program;
 use rc_log::call::{Call, Said};
 use rc_world::world::World;
 use std::alloc::{AllocError, Global};
 use std::marker::Model;
+use std::mem::swap;
 
 /// What a line is to the lines before it.
 #[derive(Clone, Copy, PartialEq, Eq, Debug)]
@@ -44,6 +47,9 @@ pub struct Follower<'a> {
     reached: Vec<bool>,
     // How many lines of the log were steps.
     calls: u64,
+    // What a line's search found, and its room. They are kept for their memory alone.
+    found: Found<'a>,
+    room: Room<'a>,
 }
 
 impl<'a> Model for Follower<'a> {
@@ -69,6 +75,8 @@ impl<'a> Follower<'a> {
             rights: Rights::new(alloc, program),
             reached: vec![in alloc; false; 4097]?,
             calls: 0,
+            found: Found::new(alloc),
+            room: Room::new(alloc),
         })
     }
 
@@ -104,8 +112,9 @@ impl<'a> Follower<'a> {
     }
 
     // What the log says beside the worlds, for a line of this thread.
-    pub(crate) fn ground(&self, thread: u32, call: Call) -> Ground<'_> {
+    pub(crate) fn ground(&self, alloc: Global, thread: u32, call: Call) -> Ground<'_> {
         Ground {
+            alloc,
             noted: &self.noted,
             reads: &self.reads,
             thread,
@@ -129,16 +138,8 @@ impl<'a> Follower<'a> {
         if let Some(misuse) = self.misuse(thread, said.call) {
             return Ok(misuse);
         }
-        let ground = Ground {
-            noted: &self.noted,
-            reads: &self.reads,
-            thread,
-            call: said.call,
-        };
-        match search(alloc, ground, &mut self.rights, &self.worlds)? {
-            Some(kept) => Ok(self.take(thread, said.call, kept)),
-            None => Ok(Answer::TooMany),
-        }
+        let answer = self.follow_line(alloc, thread, said.call)?;
+        Ok(answer)
     }
 
     // A mutex that somebody has is locked, or one that the thread hasn't is unlocked.
@@ -157,20 +158,40 @@ impl<'a> Follower<'a> {
         }
     }
 
-    // Goes on with the worlds that were kept, if there are any.
-    fn take(&mut self, thread: u32, call: Call, kept: Kept<'a>) -> Answer
-        requires { Finds self.old.program self.old.noted self.old.worlds thread call (Some kept) }
-        ensures { Answers self.old (record { thread = Some thread; call = call }) self.new result }
+    // Holds one more line of the thread to the program, which misuses no mutex.
+    fn follow_line(&mut self, alloc: Global, thread: u32, call: Call) -> Result<Answer, AllocError>
+        ensures { IfOk result (Answers self.old (record { thread = Some thread; call = call }) self.new) }
     {
-        reach(&mut self.reached, &kept.lines);
-        if kept.worlds.is_empty() {
-            return Answer::Departs;
+        let ground = Ground {
+            alloc,
+            noted: &self.noted,
+            reads: &self.reads,
+            thread,
+            call,
+        };
+        let worlds = &self.worlds;
+        if stay(ground, &mut self.rights, worlds)? {
+            self.noted.note(self.rights.program(), thread, call);
+            return Ok(Answer::Followed);
         }
-        let is_step = !kept.lines.is_empty();
+        if !search(
+            ground,
+            &mut self.rights,
+            worlds,
+            &mut self.found,
+            &mut self.room,
+        )? {
+            return Ok(Answer::TooMany);
+        }
+        reach(&mut self.reached, &self.found.lines);
+        if self.found.worlds.is_empty() {
+            return Ok(Answer::Departs);
+        }
+        let is_step = !self.found.lines.is_empty();
         self.calls = self.calls.saturating_add(u64::from(is_step));
         self.noted.note(self.rights.program(), thread, call);
-        self.worlds = kept.worlds;
-        Answer::Followed
+        swap(&mut self.worlds, &mut self.found.worlds);
+        Ok(Answer::Followed)
     }
 }
 

@@ -1,56 +1,80 @@
 //! The hidden steps of a thread.
 
 ghost use Rattle.std.specs.Prelude.{◌≡◌, IfOk, true};
-ghost use Rattle.rc_follow.specs.Follower.{Adds, Leads, is_plain};
+ghost use Rattle.rc_follow.specs.Followed.{is_empty};
+ghost use Rattle.rc_follow.specs.Follower.{Adds, IsHiddenStep, Leads};
 
 use crate::noted::Noted;
 use crate::reads::Reads;
+use crate::room::Room;
 use crate::step::{step, stray};
 use rc_lang::lines::{Op, Stmt, Test};
 use rc_log::call::Call;
 use rc_world::controls::Next;
-use rc_world::event::{Action, Event, Item};
+use rc_world::event::Item;
 use rc_world::world::World;
 use std::alloc::{AllocError, Global};
-
-/// How many plain steps are made at once.
-const MOST_PLAIN: u32 = 64;
 
 /// What a search is for: what the log says beside the worlds, and the thread and the call of the line.
 #[derive(Clone, Copy)]
 pub struct Ground<'g> {
+    pub alloc: Global,
     pub noted: &'g Noted,
     pub reads: &'g Reads,
     pub thread: u32,
     pub call: Call,
 }
 
-/// Whether plain steps are made at once, since no place between them matters.
-fn is_far(call: Call) -> bool {
-    !matches!(call, Call::Reads(_) | Call::Writes(_) | Call::Unlock(_))
+/// How a thread goes on by a hidden step.
+#[derive(Clone, Copy)]
+pub enum Way {
+    /// It doesn't.
+    None,
+    /// By the only step of this statement.
+    On(Stmt),
+    /// By the only step of this statement, which leads back to the top of a loop.
+    Back(Stmt),
+    /// By the step of this `if take`, which finds its items, or to its second branch.
+    Take(Stmt),
+    /// By a load into this variable, which is tried with several bytes.
+    Load(usize),
 }
 
-/// Adds the worlds to which a hidden step of the thread leads, or such a step and plain ones after it.
-pub fn push_hidden<'a>(
-    alloc: Global,
-    ground: Ground<'_>,
-    world: &World<'a>,
-    fresh: &mut Vec<World<'a>>,
-) -> Result<(), AllocError>
-    ensures { IfOk result (λ _. Adds (Leads ground.entry.noted.now world.now) fresh.old.items fresh.new.items) }
-{
+/// How the line's thread goes on by a hidden step.
+pub fn way_on(ground: Ground<'_>, world: &World<'_>) -> Way {
     let Next::Ready(line) = world.next(ground.thread) else {
-        return Ok(());
+        return Way::None;
     };
     match line.stmt {
-        Stmt::Do(Op::Load(variable, _, _)) => push_loads(alloc, ground, world, variable, fresh),
-        Stmt::If(Test::Take(_, _)) => push_take(alloc, ground, world, fresh),
-        stmt if may_hide(ground, world, stmt) => push_step(alloc, ground, world, fresh),
-        _ => Ok(()),
+        Stmt::EndLoop(_, _) => Way::Back(line.stmt),
+        Stmt::Do(Op::Load(variable, _, _)) if ground.bytes_for(variable).len() > 1 => {
+            Way::Load(variable)
+        }
+        Stmt::If(Test::Take(pool, list)) if has_items(ground, world, pool, list) => {
+            Way::Take(line.stmt)
+        }
+        stmt if may_hide(ground, world, stmt) => Way::On(stmt),
+        _ => Way::None,
     }
 }
 
-/// Whether the statement's step may be hidden. Where it isn't, no copy is made for it.
+impl<'g> Ground<'g> {
+    // The bytes that a load of the line's thread is tried with.
+    fn bytes_for(self, variable: usize) -> &'g [u8] {
+        self.reads.bytes_for(self.thread, variable)
+    }
+}
+
+/// Whether a take would find its items.
+fn has_items(ground: Ground<'_>, world: &World<'_>, pool: Option<usize>, list: usize) -> bool {
+    let program = world.program();
+    match program.lists_of(ground.thread as usize).get(list) {
+        Some(items) => world.pools().includes(pool, program, items),
+        None => false,
+    }
+}
+
+/// Whether the statement's step may be hidden.
 fn may_hide(ground: Ground<'_>, world: &World<'_>, stmt: Stmt) -> bool {
     match stmt {
         Stmt::Do(
@@ -69,159 +93,155 @@ fn may_hide(ground: Ground<'_>, world: &World<'_>, stmt: Stmt) -> bool {
     }
 }
 
+/// Makes the only step of the statement, and answers whether it was made and is hidden.
+pub fn go(ground: Ground<'_>, world: &mut World<'_>, stmt: Stmt) -> Result<bool, AllocError>
+    ensures { IfOk result (λ is. is ≡ true → IsHiddenStep ground.entry.noted.now world.old world.new) }
+{
+    match stmt {
+        Stmt::Do(Op::Load(_, _, _)) => Ok(hide_stray(ground, world, 0)),
+        _ => hide(ground, world),
+    }
+}
+
+/// Makes a step of the thread, and answers whether it was made and is hidden.
+fn hide(ground: Ground<'_>, world: &mut World<'_>) -> Result<bool, AllocError>
+    ensures { IfOk result (λ is. is ≡ true → IsHiddenStep ground.entry.noted.now world.old world.new) }
+{
+    let thread = ground.thread;
+    let is_idle = has_nothing_queued(world);
+    match step(world, &Item::Thread { thread, take: None })? {
+        Some(event) => Ok(ground.noted.is_hidden(is_idle, event)),
+        None => Ok(false),
+    }
+}
+
+/// Makes a step of the thread that the machine may not have, and answers whether it was made and is hidden.
+fn hide_stray(ground: Ground<'_>, world: &mut World<'_>, byte: u8) -> bool
+    ensures { result ≡ true → IsHiddenStep ground.entry.noted.now world.old world.new }
+{
+    let is_idle = has_nothing_queued(world);
+    match stray(world, ground.thread, byte) {
+        Some(event) => ground.noted.is_hidden(is_idle, event),
+        None => false,
+    }
+}
+
+/// Whether nothing is queued.
+pub fn has_nothing_queued(world: &World<'_>) -> bool
+    ensures { result ≡ is_empty world.now.queued }
+{
+    world.queued().is_empty()
+}
+
+/// Goes on from a world by each hidden step of the thread, and adds the worlds after them.
+pub fn push_hidden<'a>(
+    ground: Ground<'_>,
+    world: World<'a>,
+    room: &mut Room<'a>,
+    fresh: &mut Vec<World<'a>>,
+) -> Result<(), AllocError>
+    ensures { IfOk result (λ _. Adds (Leads ground.entry.noted.now world.entry) fresh.old.items fresh.new.items) }
+{
+    match way_on(ground, &world) {
+        Way::None => room.give(world)?,
+        Way::On(stmt) | Way::Back(stmt) => push_gone(ground, world, stmt, room, fresh)?,
+        Way::Take(stmt) => {
+            push_step(ground, &world, stmt, room, fresh)?;
+            push_past(ground, world, room, fresh)?;
+        }
+        Way::Load(variable) => {
+            push_loads(ground, &world, variable, room, fresh)?;
+            room.give(world)?;
+        }
+    }
+    Ok(())
+}
+
+/// Adds a world, once it has made the step of the statement, if that is hidden.
+fn push_gone<'a>(
+    ground: Ground<'_>,
+    mut world: World<'a>,
+    stmt: Stmt,
+    room: &mut Room<'a>,
+    fresh: &mut Vec<World<'a>>,
+) -> Result<(), AllocError>
+    ensures { IfOk result (λ _. Adds (Leads ground.entry.noted.now world.entry) fresh.old.items fresh.new.items) }
+{
+    if go(ground, &mut world, stmt)? {
+        fresh.push(world)?;
+    } else {
+        room.give(world)?;
+    }
+    Ok(())
+}
+
+/// Adds a world, once it has gone to the second branch of an `if take`.
+fn push_past<'a>(
+    ground: Ground<'_>,
+    mut world: World<'a>,
+    room: &mut Room<'a>,
+    fresh: &mut Vec<World<'a>>,
+) -> Result<(), AllocError>
+    ensures { IfOk result (λ _. Adds (Leads ground.entry.noted.now world.entry) fresh.old.items fresh.new.items) }
+{
+    if hide_stray(ground, &mut world, 0) {
+        fresh.push(world)?;
+    } else {
+        room.give(world)?;
+    }
+    Ok(())
+}
+
 /// Adds the world after a step of the thread, if it is hidden.
 fn push_step<'a>(
-    alloc: Global,
     ground: Ground<'_>,
     world: &World<'a>,
+    stmt: Stmt,
+    room: &mut Room<'a>,
     fresh: &mut Vec<World<'a>>,
 ) -> Result<(), AllocError>
     ensures { IfOk result (λ _. Adds (Leads ground.entry.noted.now world.now) fresh.old.items fresh.new.items) }
 {
-    let thread = ground.thread;
-    let mut next = world.copy(alloc)?;
-    match step(&mut next, &Item::Thread { thread, take: None })? {
-        Some(event) if ground.noted.is_hidden(world, event) => {
-            go_on(ground, next, fresh)?;
-            Ok(())
-        }
-        _ => Ok(()),
+    let mut next = room.copy(ground.alloc, world)?;
+    if go(ground, &mut next, stmt)? {
+        fresh.push(next)?;
+    } else {
+        room.give(next)?;
     }
+    Ok(())
 }
 
-/// Adds the world after a step of the thread that the machine may not have.
+/// Adds the world after a step of the thread that the machine may not have, if it is hidden.
 fn push_stray<'a>(
-    alloc: Global,
     ground: Ground<'_>,
     world: &World<'a>,
     byte: u8,
+    room: &mut Room<'a>,
     fresh: &mut Vec<World<'a>>,
 ) -> Result<(), AllocError>
     ensures { IfOk result (λ _. Adds (Leads ground.entry.noted.now world.now) fresh.old.items fresh.new.items) }
 {
-    let mut next = world.copy(alloc)?;
-    match stray(&mut next, ground.thread, byte) {
-        Some(event) if ground.noted.is_hidden(world, event) => {
-            go_on(ground, next, fresh)?;
-            Ok(())
-        }
-        _ => Ok(()),
+    let mut next = room.copy(ground.alloc, world)?;
+    if hide_stray(ground, &mut next, byte) {
+        fresh.push(next)?;
+    } else {
+        room.give(next)?;
     }
-}
-
-/// Adds the worlds after both branches of a take. The second branch can always be taken.
-fn push_take<'a>(
-    alloc: Global,
-    ground: Ground<'_>,
-    world: &World<'a>,
-    fresh: &mut Vec<World<'a>>,
-) -> Result<(), AllocError>
-    ensures { IfOk result (λ _. Adds (Leads ground.entry.noted.now world.now) fresh.old.items fresh.new.items) }
-{
-    push_step(alloc, ground, world, fresh)?;
-    push_stray(alloc, ground, world, 0, fresh)?;
     Ok(())
 }
 
 /// Adds a world for each byte that a load is tried with.
 fn push_loads<'a>(
-    alloc: Global,
     ground: Ground<'_>,
     world: &World<'a>,
     variable: usize,
+    room: &mut Room<'a>,
     fresh: &mut Vec<World<'a>>,
 ) -> Result<(), AllocError>
     ensures { IfOk result (λ _. Adds (Leads ground.entry.noted.now world.now) fresh.old.items fresh.new.items) }
 {
-    for byte in ground.reads.bytes_for(ground.thread, variable) {
-        push_stray(alloc, ground, world, *byte, fresh)?;
+    for byte in ground.bytes_for(variable) {
+        push_stray(ground, world, *byte, room, fresh)?;
     }
     Ok(())
-}
-
-/// Adds the world after plain steps, if they are to be made.
-fn go_on<'a>(
-    ground: Ground<'_>,
-    world: World<'a>,
-    fresh: &mut Vec<World<'a>>,
-) -> Result<(), AllocError>
-    ensures { IfOk result (λ _. Adds (Leads ground.entry.noted.now world.entry) fresh.old.items fresh.new.items) }
-{
-    if is_far(ground.call) {
-        push_far(ground, world, fresh)
-    } else {
-        fresh.push(world)?;
-        Ok(())
-    }
-}
-
-/// Adds the world after plain steps.
-fn push_far<'a>(
-    ground: Ground<'_>,
-    world: World<'a>,
-    fresh: &mut Vec<World<'a>>,
-) -> Result<(), AllocError>
-    ensures { IfOk result (λ _. Adds (Leads ground.entry.noted.now world.entry) fresh.old.items fresh.new.items) }
-{
-    let mut world = world;
-    if make_plain(ground, &mut world)? {
-        fresh.push(world)?;
-    }
-    Ok(())
-}
-
-/// Makes plain steps of the thread as long as it has one next. Answers false where one wasn't as it should be.
-fn make_plain(ground: Ground<'_>, world: &mut World<'_>) -> Result<bool, AllocError>
-    ensures { IfOk result (λ is. is ≡ true → Leads ground.entry.noted.now world.old world.new) }
-{
-    let thread = ground.thread;
-    for _step in 0..MOST_PLAIN {
-        match world.next(thread) {
-            Next::Ready(line) if is_plain(line.stmt) => {}
-            _ => return Ok(true),
-        }
-        match step(world, &Item::Thread { thread, take: None })? {
-            Some(event) if is_plain_event(event) => {}
-            _ => return Ok(false),
-        }
-    }
-    Ok(true)
-}
-
-/// Whether the statement's only step is hidden, wherever it is made.
-fn is_plain(stmt: Stmt) -> bool {
-    match stmt {
-        Stmt::Do(
-            Op::Set(_, _)
-            | Op::Assign(_, _)
-            | Op::Add(_, _, _)
-            | Op::Subtract(_, _, _)
-            | Op::Store(_, _, _)
-            | Op::Fill(_, _)
-            | Op::Print(_),
-        ) => true,
-        Stmt::If(Test::Compare(_, _, _) | Test::ReadyZero | Test::SpaceAtLeast(_)) => true,
-        Stmt::Loop(_) | Stmt::EndLock(_, _) | Stmt::Break(_, _, _) => true,
-        _ => false,
-    }
-}
-
-/// Whether the event is that of a step that is hidden in each world.
-fn is_plain_event(event: Event) -> bool
-    ensures { result ≡ is_plain event }
-{
-    match event {
-        Event::ByThread { action, .. } => match action {
-            Action::VariableSet(_) => true,
-            Action::Stored(_) => true,
-            Action::Filled(_) => true,
-            Action::Printed(_) => true,
-            Action::Released(_) => true,
-            Action::Branched(_) => true,
-            Action::Looped => true,
-            Action::LoopLeft => true,
-            _ => false,
-        },
-        Event::ByKernel(_) => false,
-    }
 }

@@ -4,11 +4,13 @@
 mod alike;
 pub mod follower;
 mod hidden;
+mod kept;
 pub mod laws;
 mod noted;
 pub mod places;
 mod reads;
 mod rights;
+mod room;
 mod search;
 mod step;
 mod visible;

@@ -5,13 +5,15 @@ ghost use Rattle.rc_lang.specs.Program.{token_place};
 ghost use Rattle.rc_world.specs.Controls.{held_by};
 ghost use Rattle.rc_world.specs.Faults.{is_holder};
 ghost use Rattle.rc_follow.specs.Followed as spec;
+ghost use Rattle.rc_follow.specs.Searches.{wanted_res};
+ghost use Rattle.rc_world.specs.Machine.{World};
 
 use rc_lang::lines::{Line, Locks, Op, Stmt, Test};
 use rc_lang::program::Program;
 use rc_lang::request::Request;
 use rc_log::call::Call;
 use rc_world::controls::Holders;
-use rc_world::event::{Action, Completion, Event};
+use rc_world::event::{Action, Event};
 use rc_world::world::World;
 use std::alloc::{AllocError, Global};
 use std::marker::Model;
@@ -102,22 +104,22 @@ impl Noted {
         }
     }
 
-    /// Whether a step that leads from this world by this event is hidden.
-    pub fn is_hidden(&self, world: &World<'_>, event: Event) -> bool
-        ensures { result ≡ spec.is_hidden self.now world.now event }
+    /// Whether a step by this event is hidden, from a world in which nothing is queued or something is.
+    pub fn is_hidden(&self, is_idle: bool, event: Event) -> bool
+        ensures { (w : World) → is_idle ≡ spec.is_empty w.queued → result ≡ spec.is_hidden self.now w event }
     {
         match event {
-            Event::ByThread { thread, action, .. } => self.hides(world, thread, action),
+            Event::ByThread { thread, action, .. } => self.hides(is_idle, thread, action),
             Event::ByKernel(_) => true,
         }
     }
 
-    fn hides(&self, world: &World<'_>, thread: u32, action: Action) -> bool
-        ensures { result ≡ spec.is_hidden_action self.now world.now thread action }
+    fn hides(&self, is_idle: bool, thread: u32, action: Action) -> bool
+        ensures { (w : World) → is_idle ≡ spec.is_empty w.queued → result ≡ spec.is_hidden_action self.now w thread action }
     {
         match action {
             Action::Locked(wanted) => self.has_mutexes(thread, wanted),
-            Action::Submitted(taken) => taken == 0 && world.queued().is_empty(),
+            Action::Submitted(taken) => taken == 0 && is_idle,
             Action::EntryOpened => false,
             Action::ReadPrepared => false,
             Action::WritePrepared => false,
@@ -130,17 +132,30 @@ impl Noted {
         }
     }
 
-    /// Whether a thread's line, which has this call, is the step that leads from this world by this event; and the line
-    /// of the text that the thread had next.
+    /// The result that the text's peek finds in a world where C's is this call; 0 where the call is another.
+    pub fn wanted(&self, world: &World<'_>, call: Call) -> i64
+        ensures { result ≡ wanted_res self.now world.now call }
+    {
+        match call {
+            Call::Peek { user_data, res } => {
+                let most = len_of(user_data, world.completed());
+                self.scaled(world.program(), user_data, most, res)
+            }
+            _ => 0,
+        }
+    }
+
+    /// Whether a thread's line, which has this call, is the step by this event, from a world where the text's peek is to
+    /// find this result; and the line of the text that the thread had next.
     pub fn fits(
         &self,
-        world: &World<'_>,
+        wanted: i64,
         thread: u32,
         call: Call,
         line: Option<Line>,
         event: Event,
     ) -> bool
-        ensures { result ≡ spec.fits self.now world.now thread call line event }
+        ensures { (w : World) → wanted ≡ wanted_res self.now w call → result ≡ spec.fits self.now w thread call line event }
     {
         match (line, event) {
             (
@@ -150,13 +165,13 @@ impl Noted {
                     action,
                     ..
                 },
-            ) => thread == of && self.fits_action(world, call, line.stmt, action),
+            ) => thread == of && self.fits_action(wanted, call, line.stmt, action),
             _ => false,
         }
     }
 
-    fn fits_action(&self, world: &World<'_>, call: Call, stmt: Stmt, action: Action) -> bool
-        ensures { result ≡ spec.fits_action self.now world.now call stmt action }
+    fn fits_action(&self, wanted: i64, call: Call, stmt: Stmt, action: Action) -> bool
+        ensures { (w : World) → wanted ≡ wanted_res self.now w call → result ≡ spec.fits_action self.now w call stmt action }
     {
         match (call, action) {
             (Call::GetSqe, Action::EntryOpened) => true,
@@ -172,23 +187,14 @@ impl Noted {
             (Call::PrepNop, Action::NopPrepared) => true,
             (Call::SetData64(wanted), Action::DataSet(given)) => wanted == given,
             (Call::Submit(wanted), Action::Submitted(given)) => wanted == given,
-            (Call::Peek { user_data, res }, Action::Peeked(completion)) => {
-                self.finds(world, user_data, res, completion)
+            (Call::Peek { user_data, .. }, Action::Peeked(completion)) => {
+                user_data == completion.user_data && wanted == i64::from(completion.res)
             }
             (Call::CqeSeen(wanted), Action::Reaped(given)) => wanted == given,
             (Call::Put(pool), Action::ItemsPut) => is_put_into(pool, stmt),
             (Call::Take(pool), Action::Branched(true)) => is_take_from(pool, stmt),
             _ => false,
         }
-    }
-
-    // Whether the text's peek finds this completion where C's finds this result.
-    fn finds(&self, world: &World<'_>, user_data: u64, res: i32, completion: Completion) -> bool
-        ensures { result ≡ spec.same_completion (spec.scaled_peek self.now world.now user_data res) completion }
-    {
-        let most = len_of(user_data, world.completed());
-        let wanted = self.scaled(world.program(), user_data, most, res);
-        user_data == completion.user_data && wanted == i64::from(completion.res)
     }
 
     /// C's result of the request with this user data, scaled to the text's request, which asks for `most` bytes.

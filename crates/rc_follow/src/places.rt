@@ -1,8 +1,8 @@
 //! Why a line of a log departs, and the places of the text where its thread can be.
 
-use crate::alike::are_alike;
 use crate::follower::Follower;
-use crate::hidden::{Ground, push_hidden};
+use crate::hidden::{Ground, Way, go, push_hidden, way_on};
+use crate::room::{Room, is_there};
 use rc_lang::lines::{Locks, Op, Stmt, Test};
 use rc_log::call::{Call, Lack, Said};
 use rc_world::event::Completion;
@@ -11,6 +11,9 @@ use std::alloc::{AllocError, Global};
 
 /// How many worlds are looked at, at most.
 const MOST_WORLDS: usize = 1024;
+
+/// How many plain steps are made at once.
+const MOST_PLAIN: u32 = 64;
 
 /// Why a line departs.
 #[derive(Drop)]
@@ -77,7 +80,7 @@ pub fn why_departs(
     let Some(thread) = said.thread else {
         return Ok(Departure::NoThread);
     };
-    let ground = follower.ground(thread, said.call);
+    let ground = follower.ground(alloc, thread, said.call);
     let first = follower.worlds().first();
     match said.call {
         Call::Foreign(lack) => Ok(Departure::Lacks(lack)),
@@ -89,7 +92,7 @@ pub fn why_departs(
             if !has_sq(ground) && first.is_some_and(|world| world.queued().is_empty()) => {
             Ok(Departure::NoSqLock)
         }
-        _ => elsewhere(alloc, ground, follower.worlds()),
+        _ => elsewhere(ground, follower.worlds()),
     }
 }
 
@@ -103,19 +106,15 @@ fn has_sq(ground: Ground<'_>) -> bool {
 }
 
 /// The places of the thread in these worlds, and in those to which its hidden steps lead.
-fn elsewhere<'a>(
-    alloc: Global,
-    ground: Ground<'_>,
-    worlds: &[World<'a>],
-) -> Result<Departure, AllocError> {
+fn elsewhere<'a>(ground: Ground<'_>, worlds: &[World<'a>]) -> Result<Departure, AllocError> {
     let mut places = Places {
-        lines: Vec::new(alloc),
+        lines: Vec::new(ground.alloc),
         ends: false,
     };
-    let mut found = Vec::new(alloc);
+    let mut found = Vec::new(ground.alloc);
     for world in worlds {
         look(ground, world, &mut places)?;
-        let fresh = hidden(alloc, ground, world)?;
+        let fresh = hidden(ground, world)?;
         take_in(ground, worlds, fresh, &mut found)?;
     }
     for at in 0..MOST_WORLDS {
@@ -126,21 +125,60 @@ fn elsewhere<'a>(
             return Ok(Departure::Elsewhere(places));
         };
         look(ground, world, &mut places)?;
-        let fresh = hidden(alloc, ground, world)?;
+        let fresh = hidden(ground, world)?;
         take_in(ground, worlds, fresh, &mut found)?;
     }
     Ok(Departure::TooMany)
 }
 
-/// The worlds to which a hidden step of the thread leads.
-fn hidden<'a>(
-    alloc: Global,
-    ground: Ground<'_>,
-    world: &World<'a>,
-) -> Result<Vec<World<'a>>, AllocError> {
-    let mut fresh = Vec::new(alloc);
-    push_hidden(alloc, ground, world, &mut fresh)?;
+/// The worlds to which a hidden step of the thread leads, or such a step and plain ones after it.
+fn hidden<'a>(ground: Ground<'_>, world: &World<'a>) -> Result<Vec<World<'a>>, AllocError> {
+    let mut room = Room::new(ground.alloc);
+    let mut fresh = Vec::new(ground.alloc);
+    let again = world.copy(ground.alloc)?;
+    push_hidden(ground, again, &mut room, &mut fresh)?;
+    if is_far(ground.call) {
+        for world in &mut fresh {
+            make_plain(ground, world)?;
+        }
+    }
     Ok(fresh)
+}
+
+/// Whether plain steps are made at once, since no place between them matters.
+fn is_far(call: Call) -> bool {
+    !matches!(call, Call::Reads(_) | Call::Writes(_) | Call::Unlock(_))
+}
+
+/// Makes plain steps of the thread as long as it has one next.
+fn make_plain(ground: Ground<'_>, world: &mut World<'_>) -> Result<(), AllocError> {
+    for _step in 0..MOST_PLAIN {
+        match way_on(ground, world) {
+            Way::On(stmt) if is_plain(stmt) => {
+                go(ground, world, stmt)?;
+            }
+            _ => return Ok(()),
+        }
+    }
+    Ok(())
+}
+
+/// Whether the statement's only step is hidden, wherever it is made.
+fn is_plain(stmt: Stmt) -> bool {
+    match stmt {
+        Stmt::Do(
+            Op::Set(_, _)
+            | Op::Assign(_, _)
+            | Op::Add(_, _, _)
+            | Op::Subtract(_, _, _)
+            | Op::Store(_, _, _)
+            | Op::Fill(_, _)
+            | Op::Print(_),
+        ) => true,
+        Stmt::If(Test::Compare(_, _, _) | Test::ReadyZero | Test::SpaceAtLeast(_)) => true,
+        Stmt::Loop(_) | Stmt::EndLock(_, _) | Stmt::Break(_, _, _) => true,
+        _ => false,
+    }
 }
 
 /// Moves worlds over to those found, but for those that are like one found or like one that the search began from.
@@ -151,17 +189,11 @@ fn take_in<'a>(
     found: &mut Vec<World<'a>>,
 ) -> Result<(), AllocError> {
     for world in fresh {
-        if !is_there(ground, &world, begun) && !is_there(ground, &world, found) {
+        if !is_there(ground.reads, &world, begun) && !is_there(ground.reads, &world, found) {
             found.push(world)?;
         }
     }
     Ok(())
-}
-
-fn is_there(ground: Ground<'_>, world: &World<'_>, worlds: &[World<'_>]) -> bool {
-    worlds
-        .iter()
-        .any(|there| are_alike(ground.reads, there, world))
 }
 
 /// Notes the place where the thread is in a world.

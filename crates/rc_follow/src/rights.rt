@@ -2,12 +2,14 @@
 
 ghost use Rattle.std.specs.Prelude.{◌≡◌, All, IfOk, IfSome, slice_get, Some, true};
 ghost use Rattle.rc_lang.specs.Program.{Program as SpecProgram};
+ghost use Rattle.rc_follow.specs.Followed.{Asks, Noted};
 ghost use Rattle.rc_follow.specs.Rights.{HasShares, flag_is_zero};
 ghost use Rattle.rc_follow.specs.RightsKnown.{IsHeld, IsHeldAt};
 ghost use Rattle.rc_lang.specs.Parts.{view_thread};
 ghost use Rattle.rc_world.specs.Controls.{Standing};
 
 use rc_lang::program::{Program, Thread};
+use rc_log::call::Call;
 use rc_verify::labels::Labels;
 use rc_world::world::World;
 use std::alloc::{AllocError, Global};
@@ -108,6 +110,26 @@ impl<'a> Rights<'a> {
         };
         know(&mut self.known, Held { spot, shares })?;
         Ok(Some(shares))
+    }
+}
+
+/// Whether the thread stands where it has the right that a mark asks for.
+pub fn is_right(
+    rights: &mut Rights<'_>,
+    world: &World<'_>,
+    thread: u32,
+    call: Call,
+) -> Result<bool, AllocError>
+    ensures same { rights.new ≡ rights.old }
+    ensures right { IfOk result (λ is. is ≡ true → (n : Noted) → Asks rights.old n world.now thread call) }
+{
+    match call {
+        Call::Reads(buffer) => rights.has_shares(world, thread, buffer, 1),
+        Call::Writes(buffer) => {
+            let all = rights.program().shares_at(buffer);
+            rights.has_shares(world, thread, buffer, all)
+        }
+        _ => Ok(false),
     }
 }
 

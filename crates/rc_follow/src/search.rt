@@ -1,334 +1,329 @@
 //! The worlds to which one line of a log leads.
 
-ghost use Rattle.std.specs.Prelude.{◌≡◌, All, Contains, IfOk, true};
+ghost use Rattle.std.specs.Prelude.{◌≡◌, ◌<◌, [], length, All, IfOk, true};
 ghost use Rattle.rc_lang.specs.Program.{Program};
-ghost use Rattle.rc_follow.specs.Followed.{Asks, Noted};
-ghost use Rattle.rc_follow.specs.Follower.{Adds, Leads, LeadsBy};
-ghost use Rattle.rc_follow.specs.Searches.{Finds, MayAdd};
+ghost use Rattle.rc_follow.specs.Searches.{AsksIn, Finds, Visits};
 
-use crate::alike::are_alike;
-use crate::hidden::{Ground, push_hidden};
-use crate::reads::Reads;
-use crate::rights::Rights;
-use crate::visible::{asks, called, completed, holds_none};
-use rc_lang::lines::{Line, Locks};
+use crate::hidden::{Ground, Way, go, push_hidden, way_on};
+use crate::kept::{Found, keep, keep_made};
+use crate::rights::{Rights, is_right};
+use crate::room::{Room, is_there};
+use crate::visible::{asks, holds_none, may_be_next};
+use rc_lang::lines::Locks;
 use rc_log::call::Call;
 use rc_world::world::World;
-use std::alloc::{AllocError, Global};
+use std::alloc::AllocError;
 
-/// How many worlds one search finds at most, with those that it begins from.
+/// How many worlds a search begins from and sees, at most.
 const MOST_WORLDS: usize = 1024;
 
-/// What a search keeps: the worlds to which the line leads, and the lines of the text whose steps it was.
-#[derive(Drop)]
-pub struct Kept<'a> {
-    pub worlds: Vec<World<'a>>,
-    pub lines: Vec<u32>,
-}
+/// How many worlds it looks at, at most.
+const MOST_VISITS: usize = 1 << 20;
 
-/// Finds the worlds to which the line leads from these, by hidden steps of its thread and then the line. None: there
-/// are more worlds than are looked at.
-pub fn search<'a>(
-    alloc: Global,
+/// How many steps are made at once.
+const MOST_STEPS: u32 = 64;
+
+/// How many worlds there are still to be looked at where a search is small: it keeps in mind only where it went back to
+/// the top of a loop.
+const FEW_WORLDS: usize = 8;
+
+/// Whether there are worlds, and the line asks what is so in each of them: they stay as they are.
+pub fn stay<'a>(
     ground: Ground<'_>,
     rights: &mut Rights<'_>,
     worlds: &Vec<World<'a>>,
-) -> Result<Option<Kept<'a>>, AllocError>
+) -> Result<bool, AllocError>
     ensures same { rights.new ≡ rights.old }
-    ensures found { IfOk result (Finds rights.old ground.entry.noted.now worlds.now.items ground.entry.thread ground.entry.call) }
+    ensures some { IfOk result (λ is. is ≡ true → 0 < length worlds.now.items) }
+    ensures asks { IfOk result (λ is. is ≡ true → All (AsksIn rights.old ground.entry.noted.now ground.entry.thread ground.entry.call) worlds.now.items) }
 {
-    let mut kept = Kept {
-        worlds: Vec::new(alloc),
-        lines: Vec::new(alloc),
-    };
-    let mut found = Vec::new(alloc);
     for world in worlds {
-        let fresh = visit_first(alloc, ground, rights, world, &mut kept)?;
-        take_in(ground.reads, worlds, fresh, &mut found)?;
-    }
-    for place in 0..MOST_WORLDS {
-        if found.len() > MOST_WORLDS || worlds.len() > MOST_WORLDS - found.len() {
-            return Ok(None);
+        if !stays(ground, rights, world)? {
+            return Ok(false);
         }
-        if place >= found.len() {
-            return Ok(Some(kept));
-        }
-        let fresh = visit(alloc, ground, rights, &found[place], &mut kept)?;
-        take_in(ground.reads, worlds, fresh, &mut found)?;
     }
-    Ok(None)
+    Ok(!worlds.is_empty() && worlds.len() <= MOST_WORLDS)
+}
+
+/// Whether the line asks what is so in the world. An unlock may come after hidden steps too.
+fn stays(ground: Ground<'_>, rights: &mut Rights<'_>, world: &World<'_>) -> Result<bool, AllocError>
+    ensures same { rights.new ≡ rights.old }
+    ensures asks { IfOk result (λ is. is ≡ true → AsksIn rights.old ground.entry.noted.now ground.entry.thread ground.entry.call world.now) }
+{
+    match ground.call {
+        Call::Unlock(_) => Ok(false),
+        Call::Reads(_) | Call::Writes(_) => {
+            let is = is_right(rights, world, ground.thread, ground.call)?;
+            Ok(is)
+        }
+        _ => Ok(asks(ground.noted, world, ground.thread, ground.call)),
+    }
+}
+
+/// Finds the worlds to which the line leads from these, by hidden steps of its thread and then the line. Answers false
+/// where there are more worlds than are looked at.
+pub fn search<'a>(
+    ground: Ground<'_>,
+    rights: &mut Rights<'_>,
+    worlds: &Vec<World<'a>>,
+    found: &mut Found<'a>,
+    room: &mut Room<'a>,
+) -> Result<bool, AllocError>
+    ensures same { rights.new ≡ rights.old }
+    ensures found { IfOk result (λ is. is ≡ true → Finds rights.old ground.entry.noted.now worlds.now.items ground.entry.thread ground.entry.call found.new.worlds.items) }
+{
+    begin(found, room)?;
+    if worlds.len() > MOST_WORLDS {
+        return Ok(false);
+    }
+    for world in worlds {
+        visit_first(ground, rights, world, found, room)?;
+    }
+    for _visit in 0..MOST_VISITS {
+        if room.seen() > MOST_WORLDS - worlds.len() {
+            return Ok(false);
+        }
+        let Some(world) = found.todo.pop() else {
+            return Ok(true);
+        };
+        visit(ground, rights, world, found, room)?;
+    }
+    Ok(false)
+}
+
+/// Nothing is found and nothing seen.
+fn begin<'a>(found: &mut Found<'a>, room: &mut Room<'a>) -> Result<(), AllocError>
+    ensures worlds { IfOk result (λ _. found.new.worlds.items ≡ []) }
+    ensures todo { IfOk result (λ _. found.new.todo.items ≡ []) }
+{
+    found.lines.clear();
+    room.give_all(&mut found.worlds)?;
+    room.give_all(&mut found.todo)?;
+    room.forget()
 }
 
 /// A world that the search begins from: an unlock leaves it as it is where the thread has let go of the locks.
 fn visit_first<'a>(
-    alloc: Global,
     ground: Ground<'_>,
     rights: &mut Rights<'_>,
     world: &World<'a>,
-    kept: &mut Kept<'a>,
-) -> Result<Vec<World<'a>>, AllocError>
+    found: &mut Found<'a>,
+    room: &mut Room<'a>,
+) -> Result<(), AllocError>
     ensures same { rights.new ≡ rights.old }
-    ensures fresh { IfOk result (λ fresh. All (Leads ground.entry.noted.now world.now) fresh.items) }
-    ensures kept { IfOk result (λ _. Adds (LeadsBy rights.old ground.entry.noted.now world.now ground.entry.thread ground.entry.call) kept.old.worlds.items kept.new.worlds.items) }
+    ensures visits { IfOk result (λ _. Visits rights.old ground.entry.noted.now world.now ground.entry.thread ground.entry.call found.old found.new) }
 {
-    keep_unlocked(alloc, ground, world, kept)?;
-    let fresh = visit(alloc, ground, rights, world, kept)?;
-    Ok(fresh)
+    keep_unlocked(ground, world, found, room)?;
+    let again = room.copy(ground.alloc, world)?;
+    visit(ground, rights, again, found, room)?;
+    Ok(())
 }
 
 fn keep_unlocked<'a>(
-    alloc: Global,
     ground: Ground<'_>,
     world: &World<'a>,
-    kept: &mut Kept<'a>,
+    found: &mut Found<'a>,
+    room: &mut Room<'a>,
 ) -> Result<(), AllocError>
-    ensures { IfOk result (λ _. (P : Program) → Adds (LeadsBy P ground.entry.noted.now world.now ground.entry.thread ground.entry.call) kept.old.worlds.items kept.new.worlds.items) }
+    ensures { IfOk result (λ _. (P : Program) → Visits P ground.entry.noted.now world.now ground.entry.thread ground.entry.call found.old found.new) }
 {
     match ground.call {
-        Call::Unlock(released) if holds_none(world, ground.thread, released) => {
-            visit_question(alloc, ground, world, kept)?;
+        Call::Unlock(_) => {
+            keep_asked(ground, false, world, found, room)?;
             Ok(())
         }
         _ => Ok(()),
     }
 }
 
-/// Keeps the worlds to which the line leads from this world, and answers those to which a hidden step does.
+/// Looks at a world before the line: keeps the worlds to which the line leads from it by the one way on, and leaves
+/// those after several ways to be looked at.
 fn visit<'a>(
-    alloc: Global,
     ground: Ground<'_>,
     rights: &mut Rights<'_>,
-    world: &World<'a>,
-    kept: &mut Kept<'a>,
-) -> Result<Vec<World<'a>>, AllocError>
+    world: World<'a>,
+    found: &mut Found<'a>,
+    room: &mut Room<'a>,
+) -> Result<(), AllocError>
     ensures same { rights.new ≡ rights.old }
-    ensures fresh { IfOk result (λ fresh. All (Leads ground.entry.noted.now world.now) fresh.items) }
-    ensures kept { IfOk result (λ _. Adds (LeadsBy rights.old ground.entry.noted.now world.now ground.entry.thread ground.entry.call) kept.old.worlds.items kept.new.worlds.items) }
+    ensures visits { IfOk result (λ _. Visits rights.old ground.entry.noted.now world.entry ground.entry.thread ground.entry.call found.old found.new) }
 {
     match ground.call {
-        Call::Unlock(released) => visit_unlock(alloc, ground, world, released, kept),
-        Call::Reads(_) | Call::Writes(_) => visit_mark(alloc, ground, rights, world, kept),
+        Call::Unlock(released) => visit_unlock(ground, world, released, found, room)?,
+        Call::Reads(_) | Call::Writes(_) => visit_mark(ground, rights, world, found, room)?,
         Call::PeekNone | Call::SqReady(_) | Call::SqSpaceLeft | Call::Lock(_) => {
-            visit_question(alloc, ground, world, kept)?;
-            Ok(Vec::new(alloc))
+            visit_question(ground, world, found, room)?;
         }
-        Call::Ends => {
-            visit_question(alloc, ground, world, kept)?;
-            let fresh = hidden(alloc, ground, world)?;
-            Ok(fresh)
-        }
-        _ => visit_call(alloc, ground, world, kept),
+        _ => visit_call(ground, world, found, room)?,
     }
+    Ok(())
 }
 
-/// The worlds to which a hidden step of the thread leads.
-fn hidden<'a>(
-    alloc: Global,
-    ground: Ground<'_>,
-    world: &World<'a>,
-) -> Result<Vec<World<'a>>, AllocError>
-    ensures { IfOk result (λ fresh. All (Leads ground.entry.noted.now world.now) fresh.items) }
-{
-    let mut fresh = Vec::new(alloc);
-    push_hidden(alloc, ground, world, &mut fresh)?;
-    Ok(fresh)
-}
-
-/// A line that asks. Answers whether it does, and the answer is so.
+/// A line that asks.
 fn visit_question<'a>(
-    alloc: Global,
     ground: Ground<'_>,
-    world: &World<'a>,
-    kept: &mut Kept<'a>,
-) -> Result<bool, AllocError>
-    ensures { IfOk result (λ _. (P : Program) → Adds (LeadsBy P ground.entry.noted.now world.now ground.entry.thread ground.entry.call) kept.old.worlds.items kept.new.worlds.items) }
+    world: World<'a>,
+    found: &mut Found<'a>,
+    room: &mut Room<'a>,
+) -> Result<(), AllocError>
+    ensures { IfOk result (λ _. (P : Program) → Visits P ground.entry.noted.now world.entry ground.entry.thread ground.entry.call found.old found.new) }
 {
-    let is = asks(ground.noted, world, ground.thread, ground.call);
-    if is {
-        keep(ground.reads, world.copy(alloc)?, &mut kept.worlds)?;
+    if asks(ground.noted, &world, ground.thread, ground.call) {
+        keep(ground.reads, world, found, room)?;
+    } else {
+        room.give(world)?;
     }
-    Ok(is)
+    Ok(())
 }
 
-/// On each way a mark of a buffer leads to the first world in which the thread has the right.
+/// A mark of a buffer leads to the first world on each way in which the thread has the right.
 fn visit_mark<'a>(
-    alloc: Global,
     ground: Ground<'_>,
     rights: &mut Rights<'_>,
-    world: &World<'a>,
-    kept: &mut Kept<'a>,
-) -> Result<Vec<World<'a>>, AllocError>
+    mut world: World<'a>,
+    found: &mut Found<'a>,
+    room: &mut Room<'a>,
+) -> Result<(), AllocError>
     ensures same { rights.new ≡ rights.old }
-    ensures fresh { IfOk result (λ fresh. All (Leads ground.entry.noted.now world.now) fresh.items) }
-    ensures kept { IfOk result (λ _. Adds (LeadsBy rights.old ground.entry.noted.now world.now ground.entry.thread ground.entry.call) kept.old.worlds.items kept.new.worlds.items) }
+    ensures visits { IfOk result (λ _. Visits rights.old ground.entry.noted.now world.entry ground.entry.thread ground.entry.call found.old found.new) }
 {
-    if is_right(rights, world, ground.thread, ground.call)? {
-        keep(ground.reads, world.copy(alloc)?, &mut kept.worlds)?;
-        return Ok(Vec::new(alloc));
-    }
-    hidden(alloc, ground, world)
-}
-
-/// Whether the thread stands where it has the right that a mark asks for.
-pub fn is_right(
-    rights: &mut Rights<'_>,
-    world: &World<'_>,
-    thread: u32,
-    call: Call,
-) -> Result<bool, AllocError>
-    ensures same { rights.new ≡ rights.old }
-    ensures right { IfOk result (λ is. is ≡ true → (n : Noted) → Asks rights.old n world.now thread call) }
-{
-    match call {
-        Call::Reads(buffer) => rights.has_shares(world, thread, buffer, 1),
-        Call::Writes(buffer) => {
-            let all = rights.program().shares_at(buffer);
-            rights.has_shares(world, thread, buffer, all)
+    for _step in 0..MOST_STEPS {
+        if is_right(rights, &world, ground.thread, ground.call)? {
+            keep(ground.reads, world, found, room)?;
+            return Ok(());
         }
-        _ => Ok(false),
+        let Way::On(stmt) = way_on(ground, &world) else {
+            look_on(ground, world, found, room)?;
+            return Ok(());
+        };
+        if !go(ground, &mut world, stmt)? {
+            room.give(world)?;
+            return Ok(());
+        }
     }
+    look_on(ground, world, found, room)?;
+    Ok(())
 }
 
 /// An unlock leads to the worlds directly after a step by which the thread lets go of the locks.
 fn visit_unlock<'a>(
-    alloc: Global,
     ground: Ground<'_>,
-    world: &World<'a>,
+    mut world: World<'a>,
     released: Locks,
-    kept: &mut Kept<'a>,
-) -> Result<Vec<World<'a>>, AllocError>
-    ensures fresh { IfOk result (λ fresh. All (Leads ground.entry.noted.now world.now) fresh.items) }
-    ensures kept { IfOk result (λ _. (P : Program) → Adds (LeadsBy P ground.entry.noted.now world.now ground.entry.thread ground.entry.call) kept.old.worlds.items kept.new.worlds.items) }
+    found: &mut Found<'a>,
+    room: &mut Room<'a>,
+) -> Result<(), AllocError>
+    ensures { IfOk result (λ _. (P : Program) → Visits P ground.entry.noted.now world.entry ground.entry.thread ground.entry.call found.old found.new) }
 {
-    let fresh = hidden(alloc, ground, world)?;
-    if holds_none(world, ground.thread, released) {
-        return Ok(fresh);
+    for _step in 0..MOST_STEPS {
+        let Way::On(stmt) = way_on(ground, &world) else {
+            look_on(ground, world, found, room)?;
+            return Ok(());
+        };
+        let was_free = holds_none(&world, ground.thread, released);
+        if !go(ground, &mut world, stmt)? {
+            room.give(world)?;
+            return Ok(());
+        }
+        if !keep_asked(ground, was_free, &world, found, room)? {
+            room.give(world)?;
+            return Ok(());
+        }
     }
-    for next in &fresh {
-        visit_question(alloc, ground, next, kept)?;
+    look_on(ground, world, found, room)?;
+    Ok(())
+}
+
+/// Keeps a world in which the line asks what is so, unless the world before it was one. Answers false where one that is
+/// like it is there.
+fn keep_asked<'a>(
+    ground: Ground<'_>,
+    was_free: bool,
+    world: &World<'a>,
+    found: &mut Found<'a>,
+    room: &mut Room<'a>,
+) -> Result<bool, AllocError>
+    ensures { IfOk result (λ _. (P : Program) → Visits P ground.entry.noted.now world.now ground.entry.thread ground.entry.call found.old found.new) }
+{
+    if was_free {
+        return Ok(true);
     }
-    Ok(fresh)
+    if !asks(ground.noted, world, ground.thread, ground.call) {
+        return Ok(true);
+    }
+    if is_there(ground.reads, world, &found.worlds) {
+        return Ok(false);
+    }
+    let again = room.copy(ground.alloc, world)?;
+    found.worlds.push(again)?;
+    Ok(true)
 }
 
 /// A call leads to the world after the thread's step that is it, where it can make one.
 fn visit_call<'a>(
-    alloc: Global,
     ground: Ground<'_>,
-    world: &World<'a>,
-    kept: &mut Kept<'a>,
-) -> Result<Vec<World<'a>>, AllocError>
-    ensures fresh { IfOk result (λ fresh. All (Leads ground.entry.noted.now world.now) fresh.items) }
-    ensures kept { IfOk result (λ _. (P : Program) → Adds (LeadsBy P ground.entry.noted.now world.now ground.entry.thread ground.entry.call) kept.old.worlds.items kept.new.worlds.items) }
-{
-    if visit_question(alloc, ground, world, kept)? {
-        return Ok(Vec::new(alloc));
-    }
-    make(alloc, ground, world, kept)?;
-    let fresh = hidden(alloc, ground, world)?;
-    Ok(fresh)
-}
-
-/// Keeps the world after the call. A peek may find what completes now.
-fn make<'a>(
-    alloc: Global,
-    ground: Ground<'_>,
-    world: &World<'a>,
-    kept: &mut Kept<'a>,
+    mut world: World<'a>,
+    found: &mut Found<'a>,
+    room: &mut Room<'a>,
 ) -> Result<(), AllocError>
-    ensures { IfOk result (λ _. (P : Program) → Adds (LeadsBy P ground.entry.noted.now world.now ground.entry.thread ground.entry.call) kept.old.worlds.items kept.new.worlds.items) }
+    ensures { IfOk result (λ _. (P : Program) → Visits P ground.entry.noted.now world.entry ground.entry.thread ground.entry.call found.old found.new) }
 {
-    match ground.call {
-        Call::Peek { user_data, res } if world.completions().is_empty() => {
-            make_peek(alloc, ground, world, user_data, res, kept)
+    for _step in 0..MOST_STEPS {
+        if asks(ground.noted, &world, ground.thread, ground.call) {
+            keep(ground.reads, world, found, room)?;
+            return Ok(());
         }
-        _ => make_call(alloc, ground, world, kept),
-    }
-}
-
-/// Keeps the world after the request with this user data has completed and the thread has peeked.
-fn make_peek<'a>(
-    alloc: Global,
-    ground: Ground<'_>,
-    world: &World<'a>,
-    user_data: u64,
-    res: i32,
-    kept: &mut Kept<'a>,
-) -> Result<(), AllocError>
-    ensures { IfOk result (λ _. (P : Program) → Adds (LeadsBy P ground.entry.noted.now world.now ground.entry.thread ground.entry.call) kept.old.worlds.items kept.new.worlds.items) }
-{
-    match completed(alloc, ground.noted, world, user_data, res)? {
-        Some(completed) => {
-            make_call(alloc, ground, &completed, kept)?;
-            Ok(())
+        if may_be_next(ground, &world) {
+            visit_made(ground, world, found, room)?;
+            return Ok(());
         }
-        None => Ok(()),
+        let Way::On(stmt) = way_on(ground, &world) else {
+            look_on(ground, world, found, room)?;
+            return Ok(());
+        };
+        if !go(ground, &mut world, stmt)? {
+            room.give(world)?;
+            return Ok(());
+        }
     }
+    look_on(ground, world, found, room)?;
+    Ok(())
 }
 
-/// Keeps the world after the thread's step that is the call.
-fn make_call<'a>(
-    alloc: Global,
+/// A world in which the thread's next step may be the call. It may also be hidden.
+fn visit_made<'a>(
     ground: Ground<'_>,
-    world: &World<'a>,
-    kept: &mut Kept<'a>,
-) -> Result<(), AllocError>
-    ensures { IfOk result (λ _. (P : Program) → Adds (LeadsBy P ground.entry.noted.now world.now ground.entry.thread ground.entry.call) kept.old.worlds.items kept.new.worlds.items) }
-{
-    let Some(after) = called(alloc, ground.noted, world, ground.thread, ground.call)? else {
-        return Ok(());
-    };
-    push_line(&mut kept.lines, world.line(ground.thread))?;
-    keep(ground.reads, after, &mut kept.worlds)?;
-    Ok(())
-}
-
-fn push_line(lines: &mut Vec<u32>, line: Option<Line>) -> Result<(), AllocError> {
-    if let Some(line) = line {
-        lines.push(line.number)?;
-    }
-    Ok(())
-}
-
-/// Adds a world, unless one that is like it is there.
-fn keep<'a>(reads: &Reads, world: World<'a>, worlds: &mut Vec<World<'a>>) -> Result<(), AllocError>
-    ensures { IfOk result (λ _. MayAdd world.entry worlds.old.items worlds.new.items) }
-{
-    if !is_there(reads, &world, worlds) {
-        worlds.push(world)?;
-    }
-    Ok(())
-}
-
-fn is_there(reads: &Reads, world: &World<'_>, worlds: &Vec<World<'_>>) -> bool {
-    worlds.iter().any(|there| are_alike(reads, there, world))
-}
-
-/// Moves worlds to those found, except those like one found or like one that the search began from.
-fn take_in<'a>(
-    reads: &Reads,
-    begun: &Vec<World<'a>>,
-    fresh: Vec<World<'a>>,
-    found: &mut Vec<World<'a>>,
-) -> Result<(), AllocError>
-    ensures { IfOk result (λ _. Adds (Contains fresh.entry.items) found.old.items found.new.items) }
-{
-    let mut fresh = fresh;
-    while let Some(world) = fresh.pop() {
-        take_one(reads, begun, world, found)?;
-    }
-    Ok(())
-}
-
-fn take_one<'a>(
-    reads: &Reads,
-    begun: &Vec<World<'a>>,
     world: World<'a>,
-    found: &mut Vec<World<'a>>,
+    found: &mut Found<'a>,
+    room: &mut Room<'a>,
 ) -> Result<(), AllocError>
-    ensures { IfOk result (λ _. MayAdd world.entry found.old.items found.new.items) }
+    ensures { IfOk result (λ _. (P : Program) → Visits P ground.entry.noted.now world.entry ground.entry.thread ground.entry.call found.old found.new) }
 {
-    if is_there(reads, &world, begun) {
+    if let Way::None = way_on(ground, &world) {
+        keep_made(ground, world, found, room)?;
         return Ok(());
     }
-    keep(reads, world, found)
+    let again = room.copy(ground.alloc, &world)?;
+    keep_made(ground, again, found, room)?;
+    look_on(ground, world, found, room)?;
+    Ok(())
+}
+
+/// Goes on from a world by each hidden step of the thread, unless the search has gone on from one that is like it.
+fn look_on<'a>(
+    ground: Ground<'_>,
+    world: World<'a>,
+    found: &mut Found<'a>,
+    room: &mut Room<'a>,
+) -> Result<(), AllocError>
+    ensures { IfOk result (λ _. (P : Program) → Visits P ground.entry.noted.now world.entry ground.entry.thread ground.entry.call found.old found.new) }
+{
+    let way = way_on(ground, &world);
+    let is_small = found.todo.len() < FEW_WORLDS && !matches!(way, Way::Back(_));
+    if !is_small && room.has_seen(ground.reads, ground.alloc, &world)? {
+        room.give(world)?;
+    } else {
+        push_hidden(ground, world, room, &mut found.todo)?;
+    }
+    Ok(())
 }

@@ -1,4 +1,4 @@
-//! Steps of weak runs, made on copies of worlds.
+//! Steps of weak runs.
 
 ghost use Rattle.std.specs.Prelude.{◌≡◌, IfOk, IfSome};
 ghost use Rattle.rc_world.specs.WeakRuns.{IsWeakStep};

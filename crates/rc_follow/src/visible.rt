@@ -1,17 +1,18 @@
 //! The steps and questions that a line of a log is.
 
-ghost use Rattle.std.specs.Prelude.{◌≡◌, IfOk, IfSome, true};
+ghost use Rattle.std.specs.Prelude.{◌≡◌, IfOk, true};
 ghost use Rattle.rc_lang.specs.Program.{Program};
 ghost use Rattle.rc_follow.specs.Followed as spec;
 ghost use Rattle.rc_follow.specs.Follower.{IsHiddenStep};
 
+use crate::hidden::{Ground, has_nothing_queued};
 use crate::noted::Noted;
 use crate::step::step;
 use rc_lang::lines::{Locks, Op, Stmt, Test};
 use rc_log::call::Call;
 use rc_world::event::Item;
 use rc_world::world::World;
-use std::alloc::{AllocError, Global};
+use std::alloc::AllocError;
 
 const SQ: Locks = Locks {
     sq: true,
@@ -56,28 +57,31 @@ pub fn holds_none(world: &World<'_>, thread: u32, released: Locks) -> bool
     !has_sq && !has_cq
 }
 
-/// The world after the thread's step that is the call, if it can make one.
-pub fn called<'a>(
-    alloc: Global,
-    noted: &Noted,
-    world: &World<'a>,
-    thread: u32,
-    call: Call,
-) -> Result<Option<World<'a>>, AllocError>
-    ensures { IfOk result (λ after. IfSome after (λ v. spec.Calls noted.now world.now thread call v)) }
-{
-    let line = world.line(thread);
-    if !line.is_some_and(|line| may_be(call, line.stmt)) {
-        return Ok(None);
+/// Whether the thread's next statement may be the call.
+pub fn may_be_next(ground: Ground<'_>, world: &World<'_>) -> bool {
+    match world.line(ground.thread) {
+        Some(line) => may_be(ground.call, line.stmt),
+        None => false,
     }
+}
+
+/// Makes a step of the thread, and answers whether it was made and is the call.
+pub fn make(ground: Ground<'_>, world: &mut World<'_>) -> Result<bool, AllocError>
+    ensures { IfOk result (λ is. is ≡ true → spec.Calls ground.entry.noted.now world.old ground.entry.thread ground.entry.call world.new) }
+{
     let item = Item::Thread {
-        thread,
-        take: take_of(call),
+        thread: ground.thread,
+        take: take_of(ground.call),
     };
-    let mut next = world.copy(alloc)?;
-    match step(&mut next, &item)? {
-        Some(event) if noted.fits(world, thread, call, line, event) => Ok(Some(next)),
-        _ => Ok(None),
+    let line = world.line(ground.thread);
+    let wanted = ground.noted.wanted(world, ground.call);
+    match step(world, &item)? {
+        Some(event) => Ok(
+            ground
+                .noted
+                .fits(wanted, ground.thread, ground.call, line, event),
+        ),
+        None => Ok(false),
     }
 }
 
@@ -89,7 +93,7 @@ fn take_of(call: Call) -> Option<i32> {
     }
 }
 
-/// Whether the statement may be the call. Where it may not, no copy is made.
+/// Whether the statement may be the call.
 fn may_be(call: Call, stmt: Stmt) -> bool {
     match (call, stmt) {
         (Call::GetSqe, Stmt::Do(Op::GetSqe)) => true,
@@ -107,35 +111,35 @@ fn may_be(call: Call, stmt: Stmt) -> bool {
     }
 }
 
-/// The world in which the request with this user data has completed, if it is pending and may have the result that C's
-/// stands for.
-pub fn completed<'a>(
-    alloc: Global,
-    noted: &Noted,
-    world: &World<'a>,
+/// Completes the request with this user data with the result that C's stands for, and answers whether it could.
+pub fn complete(
+    ground: Ground<'_>,
+    world: &mut World<'_>,
     user_data: u64,
     res: i32,
-) -> Result<Option<World<'a>>, AllocError>
-    ensures { IfOk result (λ after. IfSome after (λ v. IsHiddenStep noted.now world.now v)) }
+) -> Result<bool, AllocError>
+    ensures { IfOk result (λ is. is ≡ true → IsHiddenStep ground.entry.noted.now world.old world.new) }
 {
     let request = world
         .pending_place(user_data)
         .and_then(|place| world.pending(place));
     let Some(request) = request else {
-        return Ok(None);
+        return Ok(false);
     };
-    let res = noted.scaled(world.program(), user_data, request.len, res);
+    let res = ground
+        .noted
+        .scaled(world.program(), user_data, request.len, res);
     let Ok(res) = i32::try_from(res) else {
-        return Ok(None);
+        return Ok(false);
     };
-    let mut next = world.copy(alloc)?;
     let item = Item::Kernel {
         user_data,
         res,
         fill: 0,
     };
-    match step(&mut next, &item)? {
-        Some(event) if noted.is_hidden(world, event) => Ok(Some(next)),
-        _ => Ok(None),
+    let is_idle = has_nothing_queued(world);
+    match step(world, &item)? {
+        Some(event) => Ok(ground.noted.is_hidden(is_idle, event)),
+        None => Ok(false),
     }
 }

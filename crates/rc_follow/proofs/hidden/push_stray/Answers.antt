@@ -1,14 +1,11 @@
-use Rattle.std.proofs.Common.{subst}
+use Rattle.std.proofs.Common.{subst, refl}
 use Rattle.rc_world.specs.Machine.{World}
-use Rattle.rc_world.specs.WeakRuns.{IsWeakStep}
 use Rattle.rc_follow.specs.Follower.{Leads}
-use Rattle.rc_follow.proofs.Added.{adds_weaker, leads_both, leads_one}
+use Rattle.rc_follow.proofs.Added.{adds_push, leads_one}
 use Rattle.rc_follow.proofs.hidden.push_stray.Goals as goal
 
-pub returns-in_ok-go_on-in-Some : goal.returns-in_ok-go_on-in-Some
-returns-in_ok-go_on-in-Some c =
-    adds_weaker (Leads c.args.ground.noted.now c.stray.new.world) (Leads c.args.ground.noted.now c.args.world.now)
-    (λ u h. leads_both c.args.ground.noted.now c.args.world.now c.stray.new.world u
-    (leads_one c.args.ground.noted.now c.args.world.now c.stray.new.world
-    (c.in-Some.event, subst (λ (w : World). IsWeakStep w c.in-Some.event c.stray.new.world) c.in_ok-next.ensures c.in-Some.ensures, cc)) h)
-    _ _ c.in_ok-go_on-in-Some.ensures
+pub returns-in_ok-push : goal.returns-in_ok-push
+returns-in_ok-push c =
+    adds_push (Leads c.args.ground.noted.now c.args.world.now) c.hide_stray.new.world c.args.fresh.now.items c.push.new.self.items
+    (subst (λ (w : World). Leads c.args.ground.noted.now w c.hide_stray.new.world) c.in_ok-next.ensures (leads_one c.args.ground.noted.now c.in_ok-next.next c.hide_stray.new.world (c.if-hide_stray.ensures refl)))
+    c.in_ok-push.ensures.items

@@ -6,13 +6,13 @@ use Rattle.rc_follow.proofs.search.search.Given as goal
 abbrev pub invariant-loop-world : goal.invariant-loop-world
 invariant-loop-world l = record {
   same : l.rights ≡ l.fn.rights;
-  found : All (ComesFrom l.fn.ground.noted.now l.fn.worlds.items) l.found.items;
-  kept : All (ComesBy l.fn.rights l.fn.ground.noted.now l.fn.worlds.items l.fn.ground.thread l.fn.ground.call) l.kept.worlds.items;
+  found : All (ComesBy l.fn.rights l.fn.ground.noted.now l.fn.worlds.items l.fn.ground.thread l.fn.ground.call) l.found.worlds.items;
+  todo : All (ComesFrom l.fn.ground.noted.now l.fn.worlds.items) l.found.todo.items;
 }
 
-abbrev pub invariant-loop-place : goal.invariant-loop-place
-invariant-loop-place l = record {
+abbrev pub invariant-loop-visit : goal.invariant-loop-visit
+invariant-loop-visit l = record {
   same : l.rights ≡ l.fn.rights;
-  found : All (ComesFrom l.fn.ground.noted.now l.fn.worlds.items) l.found.items;
-  kept : All (ComesBy l.fn.rights l.fn.ground.noted.now l.fn.worlds.items l.fn.ground.thread l.fn.ground.call) l.kept.worlds.items;
+  found : All (ComesBy l.fn.rights l.fn.ground.noted.now l.fn.worlds.items l.fn.ground.thread l.fn.ground.call) l.found.worlds.items;
+  todo : All (ComesFrom l.fn.ground.noted.now l.fn.worlds.items) l.found.todo.items;
 }

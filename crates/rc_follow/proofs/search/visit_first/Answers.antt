@@ -1,8 +1,10 @@
-use Rattle.rc_follow.specs.Follower.{LeadsBy}
-use Rattle.rc_follow.proofs.Added.{adds_both}
+use Rattle.std.proofs.Common.{subst}
+use Rattle.rc_world.specs.Machine.{World}
+use Rattle.rc_follow.specs.Searches.{Visits}
+use Rattle.rc_follow.proofs.Added.{visits_both}
 use Rattle.rc_follow.proofs.search.visit_first.Goals as goal
 
-pub returns-clause-kept : goal.returns-clause-kept
-returns-clause-kept c =
-    adds_both (LeadsBy c.args.rights.now c.args.ground.noted.now c.args.world.now c.args.ground.thread c.args.ground.call) c.args.kept.now.worlds.items c.keep_unlocked.new.kept.worlds.items c.visit.new.kept.worlds.items
-    (c.in_ok-keep_unlocked.ensures c.args.rights.now) c.in_ok-fresh.ensures.kept
+pub returns-clause-visits : goal.returns-clause-visits
+returns-clause-visits c =
+    visits_both c.args.rights.now c.args.ground.noted.now c.args.world.now c.args.ground.thread c.args.ground.call c.args.found.now c.keep_unlocked.new.found c.visit.new.found (c.in_ok-keep_unlocked.ensures c.args.rights.now)
+    (subst (λ (v : World). Visits c.args.rights.now c.args.ground.noted.now v c.args.ground.thread c.args.ground.call c.keep_unlocked.new.found c.visit.new.found) c.in_ok-again.ensures c.in_ok-visit.ensures.visits)

@@ -1,12 +1,8 @@
-use Rattle.std.proofs.Common.{sym, subst}
-use Rattle.rc_world.specs.Machine.{World}
-use Rattle.rc_follow.specs.Follower.{LeadsBy}
-use Rattle.rc_follow.proofs.Added.{adds_one, asked}
+use Rattle.rc_follow.proofs.Added.{asked, visits_none, visits_one}
 use Rattle.rc_follow.proofs.search.visit_question.Goals as goal
 
 pub returns-in_ok-keep : goal.returns-in_ok-keep
-returns-in_ok-keep c P =
-    adds_one (LeadsBy P c.args.ground.noted.now c.args.world.now c.args.ground.thread c.args.ground.call) c.in_ok-copy.field-0 _ _
-    (subst (λ (v : World). LeadsBy P c.args.ground.noted.now c.args.world.now c.args.ground.thread c.args.ground.call v) (sym c.in_ok-copy.ensures)
-    (asked P c.args.ground.noted.now c.args.world.now c.args.ground.thread c.args.ground.call (c.asks-is.ensures c.if-is.true P)))
-    c.in_ok-keep.ensures
+returns-in_ok-keep c P = visits_one P c.args.ground.noted.now c.args.world c.args.world c.args.ground.thread c.args.ground.call c.args.found.now c.keep.new.found (asked P c.args.ground.noted.now c.args.world c.args.ground.thread c.args.ground.call (c.asks.ensures c.if-asks.true P)) c.in_ok-keep.ensures.worlds c.in_ok-keep.ensures.todo
+
+pub returns-in_ok-give : goal.returns-in_ok-give
+returns-in_ok-give c P = visits_none P c.args.ground.noted.now c.args.world c.args.ground.thread c.args.ground.call c.args.found.now

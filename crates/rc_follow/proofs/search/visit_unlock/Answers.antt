@@ -1,19 +1,33 @@
-use Rattle.std.proofs.Common.{sym, subst}
-use Rattle.std.proofs.lemmas.List.Elements.{All-get_or, All-same}
-use Rattle.rc_world.specs.Machine.{World}
-use Rattle.rc_follow.specs.Follower.{Leads, LeadsBy}
-use Rattle.rc_follow.proofs.Added.{adds_both, adds_none, adds_weaker, by_both}
+use Rattle.rc_follow.proofs.Added.{leads_both, leads_none, leads_one, visits_both, visits_from, visits_none}
 use Rattle.rc_follow.proofs.search.visit_unlock.Goals as goal
 
-pub loop-next-init : goal.loop-next-init
-loop-next-init c P = adds_none (LeadsBy P c.args.ground.noted.now c.args.world.now c.args.ground.thread c.args.ground.call) c.args.kept.now.worlds.items
+pub loop-step-init : goal.loop-step-init
+loop-step-init c = record {
+  leads = leads_none c.args.ground.noted.now c.args.world;
+  visits = λ P. visits_none P c.args.ground.noted.now c.args.world c.args.ground.thread c.args.ground.call c.args.found.now;
+}
 
-pub loop-next-preserved : goal.loop-next-preserved
-loop-next-preserved c P =
-    let leads : Leads c.args.ground.noted.now c.args.world.now c.next-item.result =
-    subst (λ (v : World). Leads c.args.ground.noted.now c.args.world.now v) (sym c.next-item.is)
-    (All-get_or (Leads c.args.ground.noted.now c.args.world.now) c.deref-next-items.result.now c.loop-next.next-index c.next-item.result c.loop-next-test.true
-    (All-same (Leads c.args.ground.noted.now c.args.world.now) c.deref-next-items.result.now c.in_ok-fresh.fresh.items c.deref-next-items.ensures.value c.in_ok-fresh.ensures)) in
-    adds_both (LeadsBy P c.args.ground.noted.now c.args.world.now c.args.ground.thread c.args.ground.call) c.args.kept.now.worlds.items c.loop-next.kept.worlds.items c.visit_question.new.kept.worlds.items (c.loop-next.invariant P)
-    (adds_weaker (LeadsBy P c.args.ground.noted.now c.next-item.result c.args.ground.thread c.args.ground.call) (LeadsBy P c.args.ground.noted.now c.args.world.now c.args.ground.thread c.args.ground.call)
-    (λ u h. by_both P c.args.ground.noted.now c.args.world.now c.next-item.result u c.args.ground.thread c.args.ground.call leads h) _ _ (c.in_ok-visit_question.ensures P))
+pub returns-in_default : goal.returns-in_default
+returns-in_default c P =
+    visits_both P c.args.ground.noted.now c.args.world c.args.ground.thread c.args.ground.call c.args.found.now c.loop-step.found c.look_on.new.found (c.loop-step.invariant.visits P)
+    (visits_from P c.args.ground.noted.now c.args.world c.loop-step.world c.args.ground.thread c.args.ground.call c.loop-step.found c.look_on.new.found c.loop-step.invariant.leads (c.in_ok-look_on.ensures P))
+
+pub returns-then-not-branch : goal.returns-then-not-branch
+returns-then-not-branch c P = c.loop-step.invariant.visits P
+
+pub returns-then-not-branch-2 : goal.returns-then-not-branch-2
+returns-then-not-branch-2 c P =
+    visits_both P c.args.ground.noted.now c.args.world c.args.ground.thread c.args.ground.call c.args.found.now c.loop-step.found c.keep_asked.new.found (c.loop-step.invariant.visits P)
+    (visits_from P c.args.ground.noted.now c.args.world c.go.new.world c.args.ground.thread c.args.ground.call c.loop-step.found c.keep_asked.new.found (leads_both c.args.ground.noted.now c.args.world c.loop-step.world c.go.new.world c.loop-step.invariant.leads (leads_one c.args.ground.noted.now c.loop-step.world c.go.new.world (c.in_ok-go.ensures (cc)))) (c.in_ok-keep_asked.ensures P))
+
+pub loop-step-preserved : goal.loop-step-preserved
+loop-step-preserved c = record {
+  leads = leads_both c.args.ground.noted.now c.args.world c.loop-step.world c.go.new.world c.loop-step.invariant.leads (leads_one c.args.ground.noted.now c.loop-step.world c.go.new.world (c.in_ok-go.ensures (cc)));
+  visits = λ P. visits_both P c.args.ground.noted.now c.args.world c.args.ground.thread c.args.ground.call c.args.found.now c.loop-step.found c.keep_asked.new.found (c.loop-step.invariant.visits P)
+      (visits_from P c.args.ground.noted.now c.args.world c.go.new.world c.args.ground.thread c.args.ground.call c.loop-step.found c.keep_asked.new.found (leads_both c.args.ground.noted.now c.args.world c.loop-step.world c.go.new.world c.loop-step.invariant.leads (leads_one c.args.ground.noted.now c.loop-step.world c.go.new.world (c.in_ok-go.ensures (cc)))) (c.in_ok-keep_asked.ensures P));
+}
+
+pub returns : goal.returns
+returns c P =
+    visits_both P c.args.ground.noted.now c.args.world c.args.ground.thread c.args.ground.call c.args.found.now c.loop-step.found c.look_on-2.new.found (c.loop-step.invariant.visits P)
+    (visits_from P c.args.ground.noted.now c.args.world c.loop-step.world c.args.ground.thread c.args.ground.call c.loop-step.found c.look_on-2.new.found c.loop-step.invariant.leads (c.in_ok-look_on-2.ensures P))

@@ -1,6 +1,10 @@
 use Rattle.rc_lang.specs.Program.{Program}
-use Rattle.rc_follow.specs.Follower.{Adds, LeadsBy}
+use Rattle.rc_follow.specs.Follower.{Leads}
+use Rattle.rc_follow.specs.Searches.{Visits}
 use Rattle.rc_follow.proofs.search.visit_unlock.Given as goal
 
-abbrev pub invariant-loop-next : goal.invariant-loop-next
-invariant-loop-next l = (P : Program) → Adds (LeadsBy P l.fn.ground.noted.now l.fn.world l.fn.ground.thread l.fn.ground.call) l.fn.kept.worlds.items l.kept.worlds.items
+abbrev pub invariant-loop-step : goal.invariant-loop-step
+invariant-loop-step l = record {
+  leads : Leads l.fn.ground.noted.now l.fn.world l.world;
+  visits : (P : Program) → Visits P l.fn.ground.noted.now l.fn.world l.fn.ground.thread l.fn.ground.call l.fn.found l.found;
+}

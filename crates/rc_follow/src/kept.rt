@@ -1,0 +1,116 @@
+//! The worlds to which a line leads, and those that are still to be looked at.
+
+ghost use Rattle.std.specs.Prelude.{◌≡◌, IfOk};
+ghost use Rattle.rc_lang.specs.Program.{Program};
+ghost use Rattle.rc_follow.specs.Searches.{MayAdd, Visits};
+
+use crate::hidden::Ground;
+use crate::reads::Reads;
+use crate::room::{Room, is_there};
+use crate::visible::{complete, make};
+use rc_lang::lines::Line;
+use rc_log::call::Call;
+use rc_world::world::World;
+use std::alloc::{AllocError, Global};
+
+/// What a search finds.
+#[derive(Drop)]
+pub struct Found<'a> {
+    /// The worlds to which the line leads.
+    pub worlds: Vec<World<'a>>,
+    /// The lines of the text whose steps it was.
+    pub lines: Vec<u32>,
+    /// Worlds before the line that aren't looked at yet.
+    pub todo: Vec<World<'a>>,
+}
+
+impl<'a> Found<'a> {
+    /// Nothing.
+    pub fn new(alloc: Global) -> Found<'a> {
+        Found {
+            worlds: Vec::new(alloc),
+            lines: Vec::new(alloc),
+            todo: Vec::new(alloc),
+        }
+    }
+}
+
+/// Keeps the world after the call. A peek may find what completes now.
+pub fn keep_made<'a>(
+    ground: Ground<'_>,
+    world: World<'a>,
+    found: &mut Found<'a>,
+    room: &mut Room<'a>,
+) -> Result<(), AllocError>
+    ensures { IfOk result (λ _. (P : Program) → Visits P ground.entry.noted.now world.entry ground.entry.thread ground.entry.call found.old found.new) }
+{
+    match ground.call {
+        Call::Peek { user_data, res } if world.completions().is_empty() => {
+            keep_peeked(ground, world, user_data, res, found, room)
+        }
+        _ => keep_called(ground, world, found, room),
+    }
+}
+
+/// Keeps the world after the request with this user data has completed and the thread has peeked.
+fn keep_peeked<'a>(
+    ground: Ground<'_>,
+    mut world: World<'a>,
+    user_data: u64,
+    res: i32,
+    found: &mut Found<'a>,
+    room: &mut Room<'a>,
+) -> Result<(), AllocError>
+    ensures { IfOk result (λ _. (P : Program) → Visits P ground.entry.noted.now world.entry ground.entry.thread ground.entry.call found.old found.new) }
+{
+    if complete(ground, &mut world, user_data, res)? {
+        keep_called(ground, world, found, room)?;
+    } else {
+        room.give(world)?;
+    }
+    Ok(())
+}
+
+/// Keeps the world after the thread's step that is the call.
+fn keep_called<'a>(
+    ground: Ground<'_>,
+    mut world: World<'a>,
+    found: &mut Found<'a>,
+    room: &mut Room<'a>,
+) -> Result<(), AllocError>
+    ensures { IfOk result (λ _. (P : Program) → Visits P ground.entry.noted.now world.entry ground.entry.thread ground.entry.call found.old found.new) }
+{
+    let line = world.line(ground.thread);
+    if make(ground, &mut world)? {
+        push_line(&mut found.lines, line)?;
+        keep(ground.reads, world, found, room)?;
+    } else {
+        room.give(world)?;
+    }
+    Ok(())
+}
+
+fn push_line(lines: &mut Vec<u32>, line: Option<Line>) -> Result<(), AllocError> {
+    if let Some(line) = line {
+        lines.push(line.number)?;
+    }
+    Ok(())
+}
+
+/// Adds a world, unless one that is like it is there.
+pub fn keep<'a>(
+    reads: &Reads,
+    world: World<'a>,
+    found: &mut Found<'a>,
+    room: &mut Room<'a>,
+) -> Result<(), AllocError>
+    ensures worlds { IfOk result (λ _. MayAdd world.entry found.old.worlds.items found.new.worlds.items) }
+    ensures todo { found.new.todo.items ≡ found.old.todo.items }
+{
+    if is_there(reads, &world, &found.worlds) {
+        room.give(world)?;
+    } else {
+        found.worlds.push(world)?;
+    }
+    Ok(())
+}
