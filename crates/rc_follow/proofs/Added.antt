@@ -99,9 +99,6 @@ pub visits_one : (P : Program) (n : Noted) (w v : World) (i : ℕ) (call : Call)
 visits_one P n w v i call a b l h e =
     (adds_one (LeadsBy P n w i call) v a.worlds.items b.worlds.items l h, ([], e ∙ sym (append-nil a.todo.items), All-nil (Leads n w)))
 
-pub visits_todo : (P : Program) (n : Noted) (w : World) (i : ℕ) (call : Call) (a b : Found) → b.worlds.items ≡ a.worlds.items → Adds (Leads n w) a.todo.items b.todo.items → Visits P n w i call a b
-visits_todo P n w i call a b e h = (([], e ∙ sym (append-nil a.worlds.items), All-nil (LeadsBy P n w i call)), h)
-
 -- ---- searches
 
 -- a world that comes from these is looked at

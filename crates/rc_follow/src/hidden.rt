@@ -146,8 +146,9 @@ pub fn push_hidden<'a>(
         Way::None => room.give(world)?,
         Way::On(stmt) | Way::Back(stmt) => push_gone(ground, world, stmt, room, fresh)?,
         Way::Take(stmt) => {
-            push_step(ground, &world, stmt, room, fresh)?;
-            push_past(ground, world, room, fresh)?;
+            let again = room.copy(ground.alloc, &world)?;
+            push_gone(ground, again, stmt, room, fresh)?;
+            push_astray(ground, world, 0, room, fresh)?;
         }
         Way::Load(variable) => {
             push_loads(ground, &world, variable, room, fresh)?;
@@ -175,57 +176,20 @@ fn push_gone<'a>(
     Ok(())
 }
 
-/// Adds a world, once it has gone to the second branch of an `if take`.
-fn push_past<'a>(
+/// Adds a world, once it has made the step of the thread that the machine may not have, if that is hidden.
+fn push_astray<'a>(
     ground: Ground<'_>,
     mut world: World<'a>,
+    byte: u8,
     room: &mut Room<'a>,
     fresh: &mut Vec<World<'a>>,
 ) -> Result<(), AllocError>
     ensures { IfOk result (λ _. Adds (Leads ground.entry.noted.now world.entry) fresh.old.items fresh.new.items) }
 {
-    if hide_stray(ground, &mut world, 0) {
+    if hide_stray(ground, &mut world, byte) {
         fresh.push(world)?;
     } else {
         room.give(world)?;
-    }
-    Ok(())
-}
-
-/// Adds the world after a step of the thread, if it is hidden.
-fn push_step<'a>(
-    ground: Ground<'_>,
-    world: &World<'a>,
-    stmt: Stmt,
-    room: &mut Room<'a>,
-    fresh: &mut Vec<World<'a>>,
-) -> Result<(), AllocError>
-    ensures { IfOk result (λ _. Adds (Leads ground.entry.noted.now world.now) fresh.old.items fresh.new.items) }
-{
-    let mut next = room.copy(ground.alloc, world)?;
-    if go(ground, &mut next, stmt)? {
-        fresh.push(next)?;
-    } else {
-        room.give(next)?;
-    }
-    Ok(())
-}
-
-/// Adds the world after a step of the thread that the machine may not have, if it is hidden.
-fn push_stray<'a>(
-    ground: Ground<'_>,
-    world: &World<'a>,
-    byte: u8,
-    room: &mut Room<'a>,
-    fresh: &mut Vec<World<'a>>,
-) -> Result<(), AllocError>
-    ensures { IfOk result (λ _. Adds (Leads ground.entry.noted.now world.now) fresh.old.items fresh.new.items) }
-{
-    let mut next = room.copy(ground.alloc, world)?;
-    if hide_stray(ground, &mut next, byte) {
-        fresh.push(next)?;
-    } else {
-        room.give(next)?;
     }
     Ok(())
 }
@@ -241,7 +205,8 @@ fn push_loads<'a>(
     ensures { IfOk result (λ _. Adds (Leads ground.entry.noted.now world.now) fresh.old.items fresh.new.items) }
 {
     for byte in ground.bytes_for(variable) {
-        push_stray(ground, world, *byte, room, fresh)?;
+        let again = room.copy(ground.alloc, world)?;
+        push_astray(ground, again, *byte, room, fresh)?;
     }
     Ok(())
 }

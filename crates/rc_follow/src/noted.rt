@@ -104,7 +104,7 @@ impl Noted {
         }
     }
 
-    /// Whether a step by this event is hidden, from a world in which nothing is queued or something is.
+    /// Whether a step by this event is hidden. `is_idle` says whether nothing was queued before it.
     pub fn is_hidden(&self, is_idle: bool, event: Event) -> bool
         ensures { (w : World) → is_idle ≡ spec.is_empty w.queued → result ≡ spec.is_hidden self.now w event }
     {
@@ -145,8 +145,8 @@ impl Noted {
         }
     }
 
-    /// Whether a thread's line, which has this call, is the step by this event, from a world where the text's peek is to
-    /// find this result; and the line of the text that the thread had next.
+    /// Whether this call of a thread is the step by this event. The thread had this line of the text next, and a peek is
+    /// to find the wanted result.
     pub fn fits(
         &self,
         wanted: i64,

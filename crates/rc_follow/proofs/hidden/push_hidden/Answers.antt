@@ -1,7 +1,11 @@
-use Rattle.rc_follow.specs.Follower.{Leads}
+use Rattle.std.proofs.Common.{subst}
+use Rattle.rc_world.specs.Machine.{World}
+use Rattle.rc_follow.specs.Follower.{Adds, Leads}
 use Rattle.rc_follow.proofs.Added.{adds_both}
 use Rattle.rc_follow.proofs.hidden.push_hidden.Goals as goal
 
-pub returns-in_ok-push_past-in-Take : goal.returns-in_ok-push_past-in-Take
-returns-in_ok-push_past-in-Take c =
-    adds_both (Leads c.args.ground.noted.now c.args.world) c.args.fresh.now.items c.push_step.new.fresh.items c.push_past.new.fresh.items c.in_ok-push_step-in-Take.ensures c.in_ok-push_past-in-Take.ensures
+pub returns-in_ok-push_astray-in-Take : goal.returns-in_ok-push_astray-in-Take
+returns-in_ok-push_astray-in-Take c =
+    adds_both (Leads c.args.ground.noted.now c.args.world) c.args.fresh.now.items c.push_gone.new.fresh.items c.push_astray.new.fresh.items
+    (subst (λ (w : World). Adds (Leads c.args.ground.noted.now w) c.args.fresh.now.items c.push_gone.new.fresh.items) c.in_ok-again-in-Take.ensures c.in_ok-push_gone-in-Take.ensures)
+    c.in_ok-push_astray-in-Take.ensures

@@ -1,4 +1,6 @@
-use Rattle.rc_follow.specs.Follower.{Leads}
+use Rattle.std.proofs.Common.{subst}
+use Rattle.rc_world.specs.Machine.{World}
+use Rattle.rc_follow.specs.Follower.{Adds, Leads}
 use Rattle.rc_follow.proofs.Added.{adds_both, adds_none}
 use Rattle.rc_follow.proofs.hidden.push_loads.Goals as goal
 
@@ -6,4 +8,6 @@ pub loop-byte-init : goal.loop-byte-init
 loop-byte-init c = adds_none (Leads c.args.ground.noted.now c.args.world.now) c.args.fresh.now.items
 
 pub loop-byte-preserved : goal.loop-byte-preserved
-loop-byte-preserved c = adds_both (Leads c.args.ground.noted.now c.args.world.now) _ _ _ c.loop-byte.invariant c.in_ok-push_stray.ensures
+loop-byte-preserved c =
+    adds_both (Leads c.args.ground.noted.now c.args.world.now) c.args.fresh.now.items c.loop-byte.fresh.items c.push_astray.new.fresh.items c.loop-byte.invariant
+    (subst (λ (w : World). Adds (Leads c.args.ground.noted.now w) c.loop-byte.fresh.items c.push_astray.new.fresh.items) c.in_ok-again.ensures c.in_ok-push_astray.ensures)

@@ -1,7 +1,7 @@
 use Rattle.std.proofs.Common.{refl}
 use Rattle.rc_follow.specs.Follower.{Leads}
 use Rattle.rc_follow.proofs.Added.{adds_push, leads_one}
-use Rattle.rc_follow.proofs.hidden.push_past.Goals as goal
+use Rattle.rc_follow.proofs.hidden.push_astray.Goals as goal
 
 pub returns-in_ok-push : goal.returns-in_ok-push
 returns-in_ok-push c =
