@@ -6,11 +6,22 @@ use rc_lang::program::Program;
 use rc_lang::request::Request;
 use rc_split::pool::Pool;
 use rc_world::world::{Slot, World};
+use std::ops::Range;
 
 /// Whether two worlds of the same program are alike.
 pub fn are_alike(reads: &Reads, one: &World<'_>, other: &World<'_>) -> bool {
-    stand_alike(one, other)
-        && one.holders().sq == other.holders().sq
+    stand_alike(one, other) && hold_alike(reads, one, other)
+}
+
+/// Whether they are alike but for the place of this thread.
+pub fn are_alike_beside(reads: &Reads, thread: u32, one: &World<'_>, other: &World<'_>) -> bool {
+    threads_of(one).all(|of| of == thread || one.place(of) == other.place(of))
+        && hold_alike(reads, one, other)
+}
+
+/// Whether all but the places of the threads is alike.
+fn hold_alike(reads: &Reads, one: &World<'_>, other: &World<'_>) -> bool {
+    one.holders().sq == other.holders().sq
         && one.holders().cq == other.holders().cq
         && slots_alike(one.slot(), other.slot())
         && lists_alike(one.queued(), other.queued())
@@ -22,7 +33,11 @@ pub fn are_alike(reads: &Reads, one: &World<'_>, other: &World<'_>) -> bool {
 
 /// Whether each thread is at the same place.
 fn stand_alike(one: &World<'_>, other: &World<'_>) -> bool {
-    (0..one.program().threads().len() as u32).all(|thread| one.place(thread) == other.place(thread))
+    threads_of(one).all(|thread| one.place(thread) == other.place(thread))
+}
+
+fn threads_of(world: &World<'_>) -> Range<u32> {
+    0..world.program().threads().len() as u32
 }
 
 fn slots_alike(one: Slot, other: Slot) -> bool {

@@ -8,14 +8,15 @@ ghost use Rattle.rc_follow.specs.Searches.{Finds};
 
 use crate::hidden::Ground;
 use crate::kept::Found;
+use crate::node::Node;
 use crate::noted::Noted;
+use crate::reach::{AT_ANY_PLACE, Calls, Reach};
 use crate::reads::Reads;
 use crate::rights::Rights;
 use crate::room::Room;
 use crate::search::{search, stay};
 use rc_lang::program::Program;
 use rc_log::call::{Call, Said};
-use rc_world::world::World;
 use std::alloc::{AllocError, Global};
 use std::marker::Model;
 use std::mem::swap;
@@ -40,8 +41,9 @@ pub enum Answer {
 #[derive(Drop)]
 pub struct Follower<'a> {
     noted: Noted,
-    worlds: Vec<World<'a>>,
+    worlds: Vec<Node<'a>>,
     reads: Reads,
+    reach: Reach,
     rights: Rights<'a>,
     // Of each line of the text whether its step was a line of the log.
     reached: Vec<bool>,
@@ -67,11 +69,12 @@ impl<'a> Follower<'a> {
         ensures follows { IfOk result (Follows []) }
     {
         let mut worlds = Vec::new(alloc);
-        worlds.push(World::start(alloc, program)?)?;
+        worlds.push(Node::start(alloc, program)?)?;
         Ok(Follower {
             noted: Noted::start(alloc, program)?,
             worlds,
             reads: Reads::new(alloc, program)?,
+            reach: Reach::new(alloc, program)?,
             rights: Rights::new(alloc, program),
             reached: vec![in alloc; false; 4097]?,
             calls: 0,
@@ -86,7 +89,7 @@ impl<'a> Follower<'a> {
         ensures follows { IfOk result (λ _. Follows [] self.new) }
     {
         let program = self.rights.program();
-        let start = World::start(alloc, program)?;
+        let start = Node::start(alloc, program)?;
         self.noted = Noted::start(alloc, program)?;
         self.worlds.clear();
         self.worlds.push(start)?;
@@ -111,20 +114,18 @@ impl<'a> Follower<'a> {
         self.rights.program()
     }
 
-    // What the log says beside the worlds, for a line of this thread.
-    pub(crate) fn ground(&self, alloc: Global, thread: u32, call: Call) -> Ground<'_> {
+    // What the log says beside the worlds, for a line of this thread, where all hidden steps are sought.
+    pub(crate) fn ground(&self, alloc: Global, thread: u32, call: Call) -> Ground<'_, 'a> {
         Ground {
             alloc,
+            begun: &self.worlds,
             noted: &self.noted,
             reads: &self.reads,
+            reach: &self.reach,
             thread,
             call,
+            sought: AT_ANY_PLACE,
         }
-    }
-
-    // The candidate worlds.
-    pub(crate) fn worlds(&self) -> &Vec<World<'a>> {
-        &self.worlds
     }
 
     /// Holds one more line to the program.
@@ -164,26 +165,22 @@ impl<'a> Follower<'a> {
     {
         let ground = Ground {
             alloc,
+            begun: &self.worlds,
             noted: &self.noted,
             reads: &self.reads,
+            reach: &self.reach,
             thread,
             call,
+            sought: Calls::of(call),
         };
-        let worlds = &self.worlds;
-        if stay(ground, &mut self.rights, worlds)? {
+        if stay(ground, &mut self.rights)? {
             self.noted.note(self.rights.program(), thread, call);
             return Ok(Answer::Followed);
         }
-        if !search(
-            ground,
-            &mut self.rights,
-            worlds,
-            &mut self.found,
-            &mut self.room,
-        )? {
+        if !search(ground, &mut self.rights, &mut self.found, &mut self.room)? {
             return Ok(Answer::TooMany);
         }
-        reach(&mut self.reached, &self.found.lines);
+        note_lines(&mut self.reached, &self.found.lines);
         if self.found.worlds.is_empty() {
             return Ok(Answer::Departs);
         }
@@ -196,7 +193,7 @@ impl<'a> Follower<'a> {
 }
 
 // These lines of the text were lines of a log.
-fn reach(reached: &mut Vec<bool>, lines: &Vec<u32>) {
+fn note_lines(reached: &mut Vec<bool>, lines: &Vec<u32>) {
     for line in lines {
         if let Some(is) = reached.get_mut(*line as usize) {
             *is = true;

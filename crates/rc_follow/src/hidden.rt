@@ -4,10 +4,11 @@ ghost use Rattle.std.specs.Prelude.{◌≡◌, IfOk, true};
 ghost use Rattle.rc_follow.specs.Followed.{is_empty};
 ghost use Rattle.rc_follow.specs.Follower.{Adds, IsHiddenStep, Leads};
 
+use crate::node::Node;
 use crate::noted::Noted;
+use crate::reach::{Calls, Reach};
 use crate::reads::Reads;
 use crate::room::Room;
-use crate::step::{step, stray};
 use rc_lang::lines::{Op, Stmt, Test};
 use rc_log::call::Call;
 use rc_world::controls::Next;
@@ -15,50 +16,90 @@ use rc_world::event::Item;
 use rc_world::world::World;
 use std::alloc::{AllocError, Global};
 
-/// What a search is for: what the log says beside the worlds, and the thread and the call of the line.
+/// What a search is for: the worlds before the line, what the log says beside them, and the line's thread and call.
 #[derive(Clone, Copy)]
-pub struct Ground<'g> {
+pub struct Ground<'g, 'a> {
     pub alloc: Global,
+    /// The worlds that it begins from.
+    pub begun: &'g Vec<Node<'a>>,
     pub noted: &'g Noted,
     pub reads: &'g Reads,
+    pub reach: &'g Reach,
     pub thread: u32,
     pub call: Call,
+    /// What hidden steps are to lead to.
+    pub sought: Calls,
+}
+
+/// A step of a thread.
+#[derive(Clone, Copy)]
+pub enum Step {
+    /// The machine's.
+    Own,
+    /// One that the machine may not have: an `if take` goes to its second branch, or a load gives 0.
+    Stray,
 }
 
 /// How a thread goes on by a hidden step.
 #[derive(Clone, Copy)]
 pub enum Way {
-    /// It doesn't.
+    /// It doesn't, or not to what is sought.
     None,
-    /// By the only step of this statement.
-    On(Stmt),
-    /// By the only step of this statement, which leads back to the top of a loop.
-    Back(Stmt),
-    /// By the step of this `if take`, which finds its items, or to its second branch.
-    Take(Stmt),
+    /// By this step alone.
+    On(Step),
+    /// By its only step, which leads back into the loop at this place.
+    Back(usize),
+    /// By the step of an `if take`, which finds its items, or to its second branch.
+    Take,
     /// By a load into this variable, which is tried with several bytes.
     Load(usize),
 }
 
-/// How the line's thread goes on by a hidden step.
-pub fn way_on(ground: Ground<'_>, world: &World<'_>) -> Way {
-    let Next::Ready(line) = world.next(ground.thread) else {
+/// How the line's thread goes on by a hidden step to what is sought.
+pub fn way_on(ground: Ground<'_, '_>, world: &World<'_>) -> Way {
+    let Some(place) = world.place(ground.thread) else {
         return Way::None;
     };
-    match line.stmt {
-        Stmt::EndLoop(_, _) => Way::Back(line.stmt),
-        Stmt::Do(Op::Load(variable, _, _)) if ground.bytes_for(variable).len() > 1 => {
-            Way::Load(variable)
-        }
-        Stmt::If(Test::Take(pool, list)) if has_items(ground, world, pool, list) => {
-            Way::Take(line.stmt)
-        }
-        stmt if may_hide(ground, world, stmt) => Way::On(stmt),
+    if !ground.reach.leads_on(ground.thread, place, ground.sought) {
+        return Way::None;
+    }
+    match world.next(ground.thread) {
+        Next::Ready(line) => way_at(ground, world, place, line.stmt),
         _ => Way::None,
     }
 }
 
-impl<'g> Ground<'g> {
+/// How the thread goes on at this statement.
+fn way_at(ground: Ground<'_, '_>, world: &World<'_>, place: usize, stmt: Stmt) -> Way {
+    match stmt {
+        Stmt::EndLoop(top, _) => Way::Back(top),
+        Stmt::Do(Op::Load(variable, _, _)) => match ground.bytes_for(variable) {
+            [_] => Way::On(Step::Stray),
+            _ => Way::Load(variable),
+        },
+        Stmt::If(Test::Take(pool, list)) => {
+            let reach = ground.reach;
+            let takes = reach.leads_into(ground.thread, place, ground.sought)
+                && has_items(ground, world, pool, list);
+            let passes = reach.leads_past(ground.thread, place, ground.sought);
+            way_at_take(takes, passes)
+        }
+        stmt if may_hide(ground, world, stmt) => Way::On(Step::Own),
+        _ => Way::None,
+    }
+}
+
+/// How it goes on at an `if take`, where it may take or may pass.
+fn way_at_take(takes: bool, passes: bool) -> Way {
+    match (takes, passes) {
+        (true, true) => Way::Take,
+        (true, false) => Way::On(Step::Own),
+        (false, true) => Way::On(Step::Stray),
+        (false, false) => Way::None,
+    }
+}
+
+impl<'g, 'a> Ground<'g, 'a> {
     // The bytes that a load of the line's thread is tried with.
     fn bytes_for(self, variable: usize) -> &'g [u8] {
         self.reads.bytes_for(self.thread, variable)
@@ -66,7 +107,7 @@ impl<'g> Ground<'g> {
 }
 
 /// Whether a take would find its items.
-fn has_items(ground: Ground<'_>, world: &World<'_>, pool: Option<usize>, list: usize) -> bool {
+fn has_items(ground: Ground<'_, '_>, world: &World<'_>, pool: Option<usize>, list: usize) -> bool {
     let program = world.program();
     match program.lists_of(ground.thread as usize).get(list) {
         Some(items) => world.pools().includes(pool, program, items),
@@ -75,7 +116,7 @@ fn has_items(ground: Ground<'_>, world: &World<'_>, pool: Option<usize>, list: u
 }
 
 /// Whether the statement's step may be hidden.
-fn may_hide(ground: Ground<'_>, world: &World<'_>, stmt: Stmt) -> bool {
+fn may_hide(ground: Ground<'_, '_>, world: &World<'_>, stmt: Stmt) -> bool {
     match stmt {
         Stmt::Do(
             Op::GetSqe
@@ -93,119 +134,121 @@ fn may_hide(ground: Ground<'_>, world: &World<'_>, stmt: Stmt) -> bool {
     }
 }
 
-/// Makes the only step of the statement, and answers whether it was made and is hidden.
-pub fn go(ground: Ground<'_>, world: &mut World<'_>, stmt: Stmt) -> Result<bool, AllocError>
-    ensures { IfOk result (λ is. is ≡ true → IsHiddenStep ground.entry.noted.now world.old world.new) }
+/// Makes the thread's step, and answers whether it was made and is hidden.
+pub fn go(ground: Ground<'_, '_>, node: &mut Node<'_>, step: Step) -> Result<bool, AllocError>
+    ensures { IfOk result (λ is. is ≡ true → IsHiddenStep ground.entry.noted.now node.old node.new) }
 {
-    match stmt {
-        Stmt::Do(Op::Load(_, _, _)) => Ok(hide_stray(ground, world, 0)),
-        _ => hide(ground, world),
+    match step {
+        Step::Own => hide(ground, node),
+        Step::Stray => Ok(hide_stray(ground, node, 0)),
     }
 }
 
 /// Makes a step of the thread, and answers whether it was made and is hidden.
-fn hide(ground: Ground<'_>, world: &mut World<'_>) -> Result<bool, AllocError>
-    ensures { IfOk result (λ is. is ≡ true → IsHiddenStep ground.entry.noted.now world.old world.new) }
+fn hide(ground: Ground<'_, '_>, node: &mut Node<'_>) -> Result<bool, AllocError>
+    ensures { IfOk result (λ is. is ≡ true → IsHiddenStep ground.entry.noted.now node.old node.new) }
 {
     let thread = ground.thread;
-    let is_idle = has_nothing_queued(world);
-    match step(world, &Item::Thread { thread, take: None })? {
+    let is_idle = has_nothing_queued(node);
+    match node.step(&Item::Thread { thread, take: None })? {
         Some(event) => Ok(ground.noted.is_hidden(is_idle, event)),
         None => Ok(false),
     }
 }
 
 /// Makes a step of the thread that the machine may not have, and answers whether it was made and is hidden.
-fn hide_stray(ground: Ground<'_>, world: &mut World<'_>, byte: u8) -> bool
-    ensures { result ≡ true → IsHiddenStep ground.entry.noted.now world.old world.new }
+fn hide_stray(ground: Ground<'_, '_>, node: &mut Node<'_>, byte: u8) -> bool
+    ensures { result ≡ true → IsHiddenStep ground.entry.noted.now node.old node.new }
 {
-    let is_idle = has_nothing_queued(world);
-    match stray(world, ground.thread, byte) {
+    let is_idle = has_nothing_queued(node);
+    match node.stray(ground.thread, byte) {
         Some(event) => ground.noted.is_hidden(is_idle, event),
         None => false,
     }
 }
 
 /// Whether nothing is queued.
-pub fn has_nothing_queued(world: &World<'_>) -> bool
-    ensures { result ≡ is_empty world.now.queued }
+pub fn has_nothing_queued(node: &Node<'_>) -> bool
+    ensures { result ≡ is_empty node.now.queued }
 {
-    world.queued().is_empty()
+    node.world().queued().is_empty()
 }
 
-/// Goes on from a world by each hidden step of the thread, and adds the worlds after them.
+/// Goes on from a world by each hidden step of the thread, where this is its way, and adds the worlds after them.
 pub fn push_hidden<'a>(
-    ground: Ground<'_>,
-    world: World<'a>,
+    ground: Ground<'_, '_>,
+    node: Node<'a>,
+    way: Way,
     room: &mut Room<'a>,
-    fresh: &mut Vec<World<'a>>,
+    fresh: &mut Vec<Node<'a>>,
 ) -> Result<(), AllocError>
-    ensures { IfOk result (λ _. Adds (Leads ground.entry.noted.now world.entry) fresh.old.items fresh.new.items) }
+    ensures { IfOk result (λ _. Adds (Leads ground.entry.noted.now node.entry) fresh.old.items fresh.new.items) }
 {
-    match way_on(ground, &world) {
-        Way::None => room.give(world)?,
-        Way::On(stmt) | Way::Back(stmt) => push_gone(ground, world, stmt, room, fresh)?,
-        Way::Take(stmt) => {
-            let again = room.copy(ground.alloc, &world)?;
-            push_gone(ground, again, stmt, room, fresh)?;
-            push_astray(ground, world, 0, room, fresh)?;
+    match way {
+        Way::None => room.give(node)?,
+        Way::On(step) => push_gone(ground, node, step, room, fresh)?,
+        Way::Back(_) => push_gone(ground, node, Step::Own, room, fresh)?,
+        Way::Take => {
+            let again = room.copy(ground.alloc, &node)?;
+            push_gone(ground, again, Step::Own, room, fresh)?;
+            push_gone(ground, node, Step::Stray, room, fresh)?;
         }
         Way::Load(variable) => {
-            push_loads(ground, &world, variable, room, fresh)?;
-            room.give(world)?;
+            push_loads(ground, &node, variable, room, fresh)?;
+            room.give(node)?;
         }
     }
     Ok(())
 }
 
-/// Adds a world, once it has made the step of the statement, if that is hidden.
+/// Adds a world, once its thread has made the step, if that is hidden.
 fn push_gone<'a>(
-    ground: Ground<'_>,
-    mut world: World<'a>,
-    stmt: Stmt,
+    ground: Ground<'_, '_>,
+    mut node: Node<'a>,
+    step: Step,
     room: &mut Room<'a>,
-    fresh: &mut Vec<World<'a>>,
+    fresh: &mut Vec<Node<'a>>,
 ) -> Result<(), AllocError>
-    ensures { IfOk result (λ _. Adds (Leads ground.entry.noted.now world.entry) fresh.old.items fresh.new.items) }
+    ensures { IfOk result (λ _. Adds (Leads ground.entry.noted.now node.entry) fresh.old.items fresh.new.items) }
 {
-    if go(ground, &mut world, stmt)? {
-        fresh.push(world)?;
+    if go(ground, &mut node, step)? {
+        fresh.push(node)?;
     } else {
-        room.give(world)?;
+        room.give(node)?;
     }
     Ok(())
 }
 
 /// Adds a world, once it has made the step of the thread that the machine may not have, if that is hidden.
 fn push_astray<'a>(
-    ground: Ground<'_>,
-    mut world: World<'a>,
+    ground: Ground<'_, '_>,
+    mut node: Node<'a>,
     byte: u8,
     room: &mut Room<'a>,
-    fresh: &mut Vec<World<'a>>,
+    fresh: &mut Vec<Node<'a>>,
 ) -> Result<(), AllocError>
-    ensures { IfOk result (λ _. Adds (Leads ground.entry.noted.now world.entry) fresh.old.items fresh.new.items) }
+    ensures { IfOk result (λ _. Adds (Leads ground.entry.noted.now node.entry) fresh.old.items fresh.new.items) }
 {
-    if hide_stray(ground, &mut world, byte) {
-        fresh.push(world)?;
+    if hide_stray(ground, &mut node, byte) {
+        fresh.push(node)?;
     } else {
-        room.give(world)?;
+        room.give(node)?;
     }
     Ok(())
 }
 
 /// Adds a world for each byte that a load is tried with.
 fn push_loads<'a>(
-    ground: Ground<'_>,
-    world: &World<'a>,
+    ground: Ground<'_, '_>,
+    node: &Node<'a>,
     variable: usize,
     room: &mut Room<'a>,
-    fresh: &mut Vec<World<'a>>,
+    fresh: &mut Vec<Node<'a>>,
 ) -> Result<(), AllocError>
-    ensures { IfOk result (λ _. Adds (Leads ground.entry.noted.now world.now) fresh.old.items fresh.new.items) }
+    ensures { IfOk result (λ _. Adds (Leads ground.entry.noted.now node.now) fresh.old.items fresh.new.items) }
 {
     for byte in ground.bytes_for(variable) {
-        let again = room.copy(ground.alloc, world)?;
+        let again = room.copy(ground.alloc, node)?;
         push_astray(ground, again, *byte, room, fresh)?;
     }
     Ok(())

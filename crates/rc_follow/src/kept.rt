@@ -5,23 +5,23 @@ ghost use Rattle.rc_lang.specs.Program.{Program};
 ghost use Rattle.rc_follow.specs.Searches.{MayAdd, Visits};
 
 use crate::hidden::Ground;
+use crate::node::Node;
 use crate::reads::Reads;
 use crate::room::{Room, is_there};
 use crate::visible::{complete, make};
 use rc_lang::lines::Line;
 use rc_log::call::Call;
-use rc_world::world::World;
 use std::alloc::{AllocError, Global};
 
 /// What a search finds.
 #[derive(Drop)]
 pub struct Found<'a> {
     /// The worlds to which the line leads.
-    pub worlds: Vec<World<'a>>,
+    pub worlds: Vec<Node<'a>>,
     /// The lines of the text whose steps it was.
     pub lines: Vec<u32>,
     /// Worlds before the line that aren't looked at yet.
-    pub todo: Vec<World<'a>>,
+    pub todo: Vec<Node<'a>>,
 }
 
 impl<'a> Found<'a> {
@@ -37,55 +37,55 @@ impl<'a> Found<'a> {
 
 /// Keeps the world after the call. A peek may find what completes now.
 pub fn keep_made<'a>(
-    ground: Ground<'_>,
-    world: World<'a>,
+    ground: Ground<'_, '_>,
+    node: Node<'a>,
     found: &mut Found<'a>,
     room: &mut Room<'a>,
 ) -> Result<(), AllocError>
-    ensures { IfOk result (λ _. (P : Program) → Visits P ground.entry.noted.now world.entry ground.entry.thread ground.entry.call found.old found.new) }
+    ensures { IfOk result (λ _. (P : Program) → Visits P ground.entry.noted.now node.entry ground.entry.thread ground.entry.call found.old found.new) }
 {
     match ground.call {
-        Call::Peek { user_data, res } if world.completions().is_empty() => {
-            keep_peeked(ground, world, user_data, res, found, room)
+        Call::Peek { user_data, res } if node.world().completions().is_empty() => {
+            keep_peeked(ground, node, user_data, res, found, room)
         }
-        _ => keep_called(ground, world, found, room),
+        _ => keep_called(ground, node, found, room),
     }
 }
 
 /// Keeps the world after the request with this user data has completed and the thread has peeked.
 fn keep_peeked<'a>(
-    ground: Ground<'_>,
-    mut world: World<'a>,
+    ground: Ground<'_, '_>,
+    mut node: Node<'a>,
     user_data: u64,
     res: i32,
     found: &mut Found<'a>,
     room: &mut Room<'a>,
 ) -> Result<(), AllocError>
-    ensures { IfOk result (λ _. (P : Program) → Visits P ground.entry.noted.now world.entry ground.entry.thread ground.entry.call found.old found.new) }
+    ensures { IfOk result (λ _. (P : Program) → Visits P ground.entry.noted.now node.entry ground.entry.thread ground.entry.call found.old found.new) }
 {
-    if complete(ground, &mut world, user_data, res)? {
-        keep_called(ground, world, found, room)?;
+    if complete(ground, &mut node, user_data, res)? {
+        keep_called(ground, node, found, room)?;
     } else {
-        room.give(world)?;
+        room.give(node)?;
     }
     Ok(())
 }
 
 /// Keeps the world after the thread's step that is the call.
 fn keep_called<'a>(
-    ground: Ground<'_>,
-    mut world: World<'a>,
+    ground: Ground<'_, '_>,
+    mut node: Node<'a>,
     found: &mut Found<'a>,
     room: &mut Room<'a>,
 ) -> Result<(), AllocError>
-    ensures { IfOk result (λ _. (P : Program) → Visits P ground.entry.noted.now world.entry ground.entry.thread ground.entry.call found.old found.new) }
+    ensures { IfOk result (λ _. (P : Program) → Visits P ground.entry.noted.now node.entry ground.entry.thread ground.entry.call found.old found.new) }
 {
-    let line = world.line(ground.thread);
-    if make(ground, &mut world)? {
+    let line = node.world().line(ground.thread);
+    if make(ground, &mut node)? {
         push_line(&mut found.lines, line)?;
-        keep(ground.reads, world, found, room)?;
+        keep(ground.reads, node, found, room)?;
     } else {
-        room.give(world)?;
+        room.give(node)?;
     }
     Ok(())
 }
@@ -100,17 +100,17 @@ fn push_line(lines: &mut Vec<u32>, line: Option<Line>) -> Result<(), AllocError>
 /// Adds a world, unless one that is like it is there.
 pub fn keep<'a>(
     reads: &Reads,
-    world: World<'a>,
+    node: Node<'a>,
     found: &mut Found<'a>,
     room: &mut Room<'a>,
 ) -> Result<(), AllocError>
-    ensures worlds { IfOk result (λ _. MayAdd world.entry found.old.worlds.items found.new.worlds.items) }
+    ensures worlds { IfOk result (λ _. MayAdd node.entry found.old.worlds.items found.new.worlds.items) }
     ensures todo { found.new.todo.items ≡ found.old.todo.items }
 {
-    if is_there(reads, &world, &found.worlds) {
-        room.give(world)?;
+    if is_there(reads, &node, &found.worlds) {
+        room.give(node)?;
     } else {
-        found.worlds.push(world)?;
+        found.worlds.push(node)?;
     }
     Ok(())
 }

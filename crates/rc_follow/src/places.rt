@@ -2,6 +2,7 @@
 
 use crate::follower::Follower;
 use crate::hidden::{Ground, Way, go, push_hidden, way_on};
+use crate::node::Node;
 use crate::room::{Room, is_there};
 use rc_lang::lines::{Locks, Op, Stmt, Test};
 use rc_log::call::{Call, Lack, Said};
@@ -81,23 +82,26 @@ pub fn why_departs(
         return Ok(Departure::NoThread);
     };
     let ground = follower.ground(alloc, thread, said.call);
-    let first = follower.worlds().first();
+    let first = ground.begun.first();
     match said.call {
         Call::Foreign(lack) => Ok(Departure::Lacks(lack)),
         Call::PeekNone => Ok(Departure::NoCqLock),
         Call::SqSpaceLeft => Ok(Departure::NoSqLock),
         Call::SqReady(_) if !has_sq(ground) => Ok(Departure::NoSqLock),
-        Call::SqReady(_) => Ok(Departure::Used(first.map_or(0, |world| world.used_entries()))),
+        Call::SqReady(_) => Ok(Departure::Used(first.map_or(
+            0,
+            |node| node.world().used_entries(),
+        ))),
         Call::Submit(0)
-            if !has_sq(ground) && first.is_some_and(|world| world.queued().is_empty()) => {
+            if !has_sq(ground) && first.is_some_and(|node| node.world().queued().is_empty()) => {
             Ok(Departure::NoSqLock)
         }
-        _ => elsewhere(ground, follower.worlds()),
+        _ => elsewhere(ground),
     }
 }
 
 /// Whether the line's thread has the submission mutex.
-fn has_sq(ground: Ground<'_>) -> bool {
+fn has_sq(ground: Ground<'_, '_>) -> bool {
     let sq = Locks {
         sq: true,
         cq: false,
@@ -105,41 +109,42 @@ fn has_sq(ground: Ground<'_>) -> bool {
     ground.noted.has_mutexes(ground.thread, sq)
 }
 
-/// The places of the thread in these worlds, and in those to which its hidden steps lead.
-fn elsewhere<'a>(ground: Ground<'_>, worlds: &[World<'a>]) -> Result<Departure, AllocError> {
+/// The places of the thread in the worlds before the line, and in those to which its hidden steps lead.
+fn elsewhere(ground: Ground<'_, '_>) -> Result<Departure, AllocError> {
     let mut places = Places {
         lines: Vec::new(ground.alloc),
         ends: false,
     };
     let mut found = Vec::new(ground.alloc);
-    for world in worlds {
-        look(ground, world, &mut places)?;
-        let fresh = hidden(ground, world)?;
-        take_in(ground, worlds, fresh, &mut found)?;
+    for node in ground.begun {
+        look(ground, node.world(), &mut places)?;
+        let fresh = hidden(ground, node)?;
+        take_in(ground, fresh, &mut found)?;
     }
     for at in 0..MOST_WORLDS {
-        if found.len() > MOST_WORLDS || worlds.len() > MOST_WORLDS - found.len() {
+        if found.len() > MOST_WORLDS || ground.begun.len() > MOST_WORLDS - found.len() {
             return Ok(Departure::TooMany);
         }
-        let Some(world) = found.get(at) else {
+        let Some(node) = found.get(at) else {
             return Ok(Departure::Elsewhere(places));
         };
-        look(ground, world, &mut places)?;
-        let fresh = hidden(ground, world)?;
-        take_in(ground, worlds, fresh, &mut found)?;
+        look(ground, node.world(), &mut places)?;
+        let fresh = hidden(ground, node)?;
+        take_in(ground, fresh, &mut found)?;
     }
     Ok(Departure::TooMany)
 }
 
 /// The worlds to which a hidden step of the thread leads, or such a step and plain ones after it.
-fn hidden<'a>(ground: Ground<'_>, world: &World<'a>) -> Result<Vec<World<'a>>, AllocError> {
+fn hidden<'a>(ground: Ground<'_, '_>, node: &Node<'a>) -> Result<Vec<Node<'a>>, AllocError> {
     let mut room = Room::new(ground.alloc);
     let mut fresh = Vec::new(ground.alloc);
-    let again = world.copy(ground.alloc)?;
-    push_hidden(ground, again, &mut room, &mut fresh)?;
+    let again = node.copy(ground.alloc)?;
+    let way = way_on(ground, again.world());
+    push_hidden(ground, again, way, &mut room, &mut fresh)?;
     if is_far(ground.call) {
-        for world in &mut fresh {
-            make_plain(ground, world)?;
+        for node in &mut fresh {
+            make_plain(ground, node)?;
         }
     }
     Ok(fresh)
@@ -151,16 +156,24 @@ fn is_far(call: Call) -> bool {
 }
 
 /// Makes plain steps of the thread as long as it has one next.
-fn make_plain(ground: Ground<'_>, world: &mut World<'_>) -> Result<(), AllocError> {
+fn make_plain(ground: Ground<'_, '_>, node: &mut Node<'_>) -> Result<(), AllocError> {
     for _step in 0..MOST_PLAIN {
-        match way_on(ground, world) {
-            Way::On(stmt) if is_plain(stmt) => {
-                go(ground, world, stmt)?;
+        match way_on(ground, node.world()) {
+            Way::On(step) if is_next_plain(ground, node) => {
+                go(ground, node, step)?;
             }
             _ => return Ok(()),
         }
     }
     Ok(())
+}
+
+/// Whether the thread's next statement is plain.
+fn is_next_plain(ground: Ground<'_, '_>, node: &Node<'_>) -> bool {
+    match node.world().line(ground.thread) {
+        Some(line) => is_plain(line.stmt),
+        None => false,
+    }
 }
 
 /// Whether the statement's only step is hidden, wherever it is made.
@@ -183,21 +196,20 @@ fn is_plain(stmt: Stmt) -> bool {
 
 /// Moves worlds over to those found, but for those that are like one found or like one that the search began from.
 fn take_in<'a>(
-    ground: Ground<'_>,
-    begun: &[World<'a>],
-    fresh: Vec<World<'a>>,
-    found: &mut Vec<World<'a>>,
+    ground: Ground<'_, '_>,
+    fresh: Vec<Node<'a>>,
+    found: &mut Vec<Node<'a>>,
 ) -> Result<(), AllocError> {
-    for world in fresh {
-        if !is_there(ground.reads, &world, begun) && !is_there(ground.reads, &world, found) {
-            found.push(world)?;
+    for node in fresh {
+        if !is_there(ground.reads, &node, ground.begun) && !is_there(ground.reads, &node, found) {
+            found.push(node)?;
         }
     }
     Ok(())
 }
 
 /// Notes the place where the thread is in a world.
-fn look(ground: Ground<'_>, world: &World<'_>, places: &mut Places) -> Result<(), AllocError> {
+fn look(ground: Ground<'_, '_>, world: &World<'_>, places: &mut Places) -> Result<(), AllocError> {
     match world.line(ground.thread) {
         None => {
             places.ends = true;
@@ -216,7 +228,7 @@ fn look(ground: Ground<'_>, world: &World<'_>, places: &mut Places) -> Result<()
 
 /// Whether this next line is named as the thread's place: a call, a lock that it can't take, and a put or a take of a
 /// named pool where the log's line is one too.
-fn is_place(ground: Ground<'_>, stmt: Stmt) -> bool {
+fn is_place(ground: Ground<'_, '_>, stmt: Stmt) -> bool {
     match stmt {
         Stmt::Do(
             Op::GetSqe
@@ -251,7 +263,7 @@ fn add(place: Place, lines: &mut Vec<Place>) -> Result<(), AllocError> {
 }
 
 /// What the line's call would have needed at this statement.
-fn needed(ground: Ground<'_>, world: &World<'_>, stmt: Stmt) -> Need {
+fn needed(ground: Ground<'_, '_>, world: &World<'_>, stmt: Stmt) -> Need {
     match (ground.call, stmt) {
         (Call::Submit(_), Stmt::Do(Op::Submit(_) | Op::SubmitAndWait(_, _))) => {
             Need::Queued(world.queued().len())

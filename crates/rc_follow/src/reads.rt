@@ -12,7 +12,7 @@ const VARIABLES: usize = 64;
 /// with.
 #[derive(Drop)]
 struct Depends {
-    variables: [bool; 64],
+    variables: Vec<usize>,
     bytes: Vec<u8>,
 }
 
@@ -38,7 +38,7 @@ impl Reads {
     /// The bytes that a load into a variable is tried with.
     pub fn bytes_for(&self, thread: u32, variable: usize) -> &[u8] {
         match self.threads.get(thread as usize) {
-            Some(depends) if is_in(&depends.variables, variable) => &depends.bytes,
+            Some(depends) if depends.variables.contains(&variable) => &depends.bytes,
             _ => ANY_BYTE,
         }
     }
@@ -57,9 +57,8 @@ fn is_same(thread: usize, depends: &Depends, one: &World<'_>, other: &World<'_>)
     let Ok(thread) = u32::try_from(thread) else {
         return true;
     };
-    depends.variables.iter().enumerate().all(|(variable, is)| {
-        !*is || one.variable(thread, variable) == other.variable(thread, variable)
-    })
+    depends.variables.iter().all(|variable| one.variable(thread, *variable)
+        == other.variable(thread, *variable))
 }
 
 fn is_in(variables: &[bool; 64], variable: usize) -> bool {
@@ -67,6 +66,19 @@ fn is_in(variables: &[bool; 64], variable: usize) -> bool {
 }
 
 fn depends_of(alloc: Global, thread: &Thread) -> Result<Depends, AllocError> {
+    let bytes = tried_bytes(alloc, thread)?;
+    let marked = marked_variables(thread);
+    let mut variables = Vec::new(alloc);
+    for variable in 0..VARIABLES {
+        if is_in(&marked, variable) {
+            variables.push(variable)?;
+        }
+    }
+    Ok(Depends { variables, bytes })
+}
+
+/// Of each variable whether an if depends on it.
+fn marked_variables(thread: &Thread) -> [bool; 64] {
     let mut variables = [false; 64];
     if let Some(flag) = thread.flag() {
         mark(&mut variables, flag);
@@ -82,8 +94,7 @@ fn depends_of(alloc: Global, thread: &Thread) -> Result<Depends, AllocError> {
             mark_sources(&mut variables, line.stmt);
         }
     }
-    let bytes = tried_bytes(alloc, thread)?;
-    Ok(Depends { variables, bytes })
+    variables
 }
 
 fn mark(variables: &mut [bool; 64], variable: usize) {

@@ -8,6 +8,7 @@ ghost use Rattle.rc_follow.specs.RightsKnown.{IsHeld, IsHeldAt};
 ghost use Rattle.rc_lang.specs.Parts.{view_thread};
 ghost use Rattle.rc_world.specs.Controls.{Standing};
 
+use crate::node::Node;
 use rc_lang::program::{Program, Thread};
 use rc_log::call::Call;
 use rc_verify::labels::Labels;
@@ -71,14 +72,15 @@ impl<'a> Rights<'a> {
     /// Whether the thread stands where it holds at least so many shares of the buffer.
     pub fn has_shares(
         &mut self,
-        world: &World<'_>,
+        node: &Node<'_>,
         thread: u32,
         buffer: usize,
         count: u32,
     ) -> Result<bool, AllocError>
         ensures same { self.new ≡ self.old }
-        ensures right { IfOk result (λ is. is ≡ true → HasShares self.old world.now thread buffer count) }
+        ensures right { IfOk result (λ is. is ≡ true → HasShares self.old node.now thread buffer count) }
     {
+        let world = node.world();
         let Some(place) = world.place(thread) else {
             return Ok(false);
         };
@@ -116,18 +118,18 @@ impl<'a> Rights<'a> {
 /// Whether the thread stands where it has the right that a mark asks for.
 pub fn is_right(
     rights: &mut Rights<'_>,
-    world: &World<'_>,
+    node: &Node<'_>,
     thread: u32,
     call: Call,
 ) -> Result<bool, AllocError>
     ensures same { rights.new ≡ rights.old }
-    ensures right { IfOk result (λ is. is ≡ true → (n : Noted) → Asks rights.old n world.now thread call) }
+    ensures right { IfOk result (λ is. is ≡ true → (n : Noted) → Asks rights.old n node.now thread call) }
 {
     match call {
-        Call::Reads(buffer) => rights.has_shares(world, thread, buffer, 1),
+        Call::Reads(buffer) => rights.has_shares(node, thread, buffer, 1),
         Call::Writes(buffer) => {
             let all = rights.program().shares_at(buffer);
-            rights.has_shares(world, thread, buffer, all)
+            rights.has_shares(node, thread, buffer, all)
         }
         _ => Ok(false),
     }

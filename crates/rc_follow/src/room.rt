@@ -3,15 +3,15 @@
 ghost use Rattle.std.specs.Prelude.{◌≡◌, [], IfOk};
 
 use crate::alike::are_alike;
+use crate::node::Node;
 use crate::reads::Reads;
-use rc_world::world::World;
 use std::alloc::{AllocError, Global};
 
 /// The worlds that a search has seen, as far as it keeps them in mind, and spare worlds.
 #[derive(Drop)]
 pub struct Room<'a> {
-    seen: Vec<World<'a>>,
-    spare: Vec<World<'a>>,
+    seen: Vec<Node<'a>>,
+    spare: Vec<Node<'a>>,
 }
 
 impl<'a> Room<'a> {
@@ -24,26 +24,29 @@ impl<'a> Room<'a> {
     }
 
     /// The same world again.
-    pub fn copy(&mut self, alloc: Global, world: &World<'a>) -> Result<World<'a>, AllocError>
-        ensures { IfOk result (λ w. w ≡ world.now) }
+    pub fn copy(&mut self, alloc: Global, node: &Node<'a>) -> Result<Node<'a>, AllocError>
+        ensures { IfOk result (λ n. n ≡ node.now) }
     {
         match self.spare.pop() {
-            Some(spare) => world.copy_into(alloc, spare),
-            None => world.copy(alloc),
+            Some(mut spare) => {
+                spare.copy_from(alloc, node)?;
+                Ok(spare)
+            }
+            None => node.copy(alloc),
         }
     }
 
     /// Takes a world that is needed no more.
-    pub fn give(&mut self, world: World<'a>) -> Result<(), AllocError> {
-        self.spare.push(world)?;
+    pub fn give(&mut self, node: Node<'a>) -> Result<(), AllocError> {
+        self.spare.push(node)?;
         Ok(())
     }
 
     /// Takes worlds that are needed no more.
-    pub fn give_all(&mut self, worlds: &mut Vec<World<'a>>) -> Result<(), AllocError>
-        ensures { IfOk result (λ _. worlds.new.items ≡ []) }
+    pub fn give_all(&mut self, nodes: &mut Vec<Node<'a>>) -> Result<(), AllocError>
+        ensures { IfOk result (λ _. nodes.new.items ≡ []) }
     {
-        self.spare.append(worlds)
+        self.spare.append(nodes)
     }
 
     /// Whether the search has seen a world that is like this one. It has from now on.
@@ -51,12 +54,12 @@ impl<'a> Room<'a> {
         &mut self,
         reads: &Reads,
         alloc: Global,
-        world: &World<'a>,
+        node: &Node<'a>,
     ) -> Result<bool, AllocError> {
-        if is_there(reads, world, &self.seen) {
+        if is_there(reads, node, &self.seen) {
             return Ok(true);
         }
-        let again = self.copy(alloc, world)?;
+        let again = self.copy(alloc, node)?;
         self.seen.push(again)?;
         Ok(false)
     }
@@ -73,6 +76,8 @@ impl<'a> Room<'a> {
 }
 
 /// Whether one of these worlds is like this one.
-pub fn is_there(reads: &Reads, world: &World<'_>, worlds: &[World<'_>]) -> bool {
-    worlds.iter().any(|there| are_alike(reads, there, world))
+pub fn is_there(reads: &Reads, node: &Node<'_>, nodes: &[Node<'_>]) -> bool {
+    nodes
+        .iter()
+        .any(|there| are_alike(reads, there.world(), node.world()))
 }

@@ -6,8 +6,8 @@ ghost use Rattle.rc_follow.specs.Followed as spec;
 ghost use Rattle.rc_follow.specs.Follower.{IsHiddenStep};
 
 use crate::hidden::{Ground, has_nothing_queued};
+use crate::node::Node;
 use crate::noted::Noted;
-use crate::step::step;
 use rc_lang::lines::{Locks, Op, Stmt, Test};
 use rc_log::call::Call;
 use rc_world::event::Item;
@@ -26,9 +26,10 @@ const CQ: Locks = Locks {
 
 /// Whether the line asks something that changes nothing in the world, and the answer is so. Marks of buffers are
 /// asked elsewhere.
-pub fn asks(noted: &Noted, world: &World<'_>, thread: u32, call: Call) -> bool
-    ensures { result ≡ true → (P : Program) → spec.Asks P noted.now world.now thread call }
+pub fn asks(noted: &Noted, node: &Node<'_>, thread: u32, call: Call) -> bool
+    ensures { result ≡ true → (P : Program) → spec.Asks P noted.now node.now thread call }
 {
+    let world = node.world();
     match call {
         Call::PeekNone => noted.has_mutexes(thread, CQ),
         Call::SqReady(count) => {
@@ -40,7 +41,7 @@ pub fn asks(noted: &Noted, world: &World<'_>, thread: u32, call: Call) -> bool
         }
         Call::Lock(wanted) => noted.mutexes().are_free(wanted),
         Call::Unlock(released) => {
-            noted.has_mutexes(thread, released) && holds_none(world, thread, released)
+            noted.has_mutexes(thread, released) && holds_none(node, thread, released)
         }
         Call::Ends => world.line(thread).is_none(),
         _ => false,
@@ -48,17 +49,17 @@ pub fn asks(noted: &Noted, world: &World<'_>, thread: u32, call: Call) -> bool
 }
 
 /// Whether the thread has none of these locks of the text.
-pub fn holds_none(world: &World<'_>, thread: u32, released: Locks) -> bool
-    ensures { result ≡ spec.holds_none world.now thread released }
+pub fn holds_none(node: &Node<'_>, thread: u32, released: Locks) -> bool
+    ensures { result ≡ spec.holds_none node.now thread released }
 {
-    let holders = world.holders();
+    let holders = node.world().holders();
     let has_sq = released.sq && holders.sq == Some(thread);
     let has_cq = released.cq && holders.cq == Some(thread);
     !has_sq && !has_cq
 }
 
 /// Whether the thread's next statement may be the call.
-pub fn may_be_next(ground: Ground<'_>, world: &World<'_>) -> bool {
+pub fn may_be_next(ground: Ground<'_, '_>, world: &World<'_>) -> bool {
     match world.line(ground.thread) {
         Some(line) => may_be(ground.call, line.stmt),
         None => false,
@@ -66,16 +67,16 @@ pub fn may_be_next(ground: Ground<'_>, world: &World<'_>) -> bool {
 }
 
 /// Makes a step of the thread, and answers whether it was made and is the call.
-pub fn make(ground: Ground<'_>, world: &mut World<'_>) -> Result<bool, AllocError>
-    ensures { IfOk result (λ is. is ≡ true → spec.Calls ground.entry.noted.now world.old ground.entry.thread ground.entry.call world.new) }
+pub fn make(ground: Ground<'_, '_>, node: &mut Node<'_>) -> Result<bool, AllocError>
+    ensures { IfOk result (λ is. is ≡ true → spec.Calls ground.entry.noted.now node.old ground.entry.thread ground.entry.call node.new) }
 {
     let item = Item::Thread {
         thread: ground.thread,
         take: take_of(ground.call),
     };
-    let line = world.line(ground.thread);
-    let wanted = ground.noted.wanted(world, ground.call);
-    match step(world, &item)? {
+    let line = node.world().line(ground.thread);
+    let wanted = ground.noted.wanted(node.world(), ground.call);
+    match node.step(&item)? {
         Some(event) => Ok(
             ground
                 .noted
@@ -97,29 +98,34 @@ fn take_of(call: Call) -> Option<i32> {
 fn may_be(call: Call, stmt: Stmt) -> bool {
     match (call, stmt) {
         (Call::GetSqe, Stmt::Do(Op::GetSqe)) => true,
-        (Call::PrepRead { .. }, Stmt::Do(Op::PrepRead(_, _, _, _))) => true,
-        (Call::PrepWrite { .. }, Stmt::Do(Op::PrepWrite(_, _, _, _, _))) => true,
+        (Call::PrepRead { file, buffer, .. }, Stmt::Do(Op::PrepRead(of, into, _, _))) => {
+            file == of && buffer == into
+        }
+        (Call::PrepWrite { file, buffer, .. }, Stmt::Do(Op::PrepWrite(of, from, _, _, _))) => {
+            file == of && buffer == from
+        }
         (Call::PrepFsync { .. }, Stmt::Do(Op::PrepFsync(_, _))) => true,
         (Call::PrepNop, Stmt::Do(Op::PrepNop)) => true,
         (Call::SetData64(given), Stmt::Do(Op::SetData64(user_data))) => given == user_data,
         (Call::Submit(_), Stmt::Do(Op::Submit(_) | Op::SubmitAndWait(_, _))) => true,
         (Call::Peek { .. }, Stmt::Peek(_)) => true,
         (Call::CqeSeen(_), Stmt::Do(Op::CqeSeen)) => true,
-        (Call::Put(_), Stmt::Put(Some(_), _)) => true,
-        (Call::Take(_), Stmt::If(Test::Take(Some(_), _))) => true,
+        (Call::Put(pool), Stmt::Put(Some(into), _)) => pool == into,
+        (Call::Take(pool), Stmt::If(Test::Take(Some(from), _))) => pool == from,
         _ => false,
     }
 }
 
 /// Completes the request with this user data with the result that C's stands for, and answers whether it could.
 pub fn complete(
-    ground: Ground<'_>,
-    world: &mut World<'_>,
+    ground: Ground<'_, '_>,
+    node: &mut Node<'_>,
     user_data: u64,
     res: i32,
 ) -> Result<bool, AllocError>
-    ensures { IfOk result (λ is. is ≡ true → IsHiddenStep ground.entry.noted.now world.old world.new) }
+    ensures { IfOk result (λ is. is ≡ true → IsHiddenStep ground.entry.noted.now node.old node.new) }
 {
+    let world = node.world();
     let request = world
         .pending_place(user_data)
         .and_then(|place| world.pending(place));
@@ -137,8 +143,8 @@ pub fn complete(
         res,
         fill: 0,
     };
-    let is_idle = has_nothing_queued(world);
-    match step(world, &item)? {
+    let is_idle = has_nothing_queued(node);
+    match node.step(&item)? {
         Some(event) => Ok(ground.noted.is_hidden(is_idle, event)),
         None => Ok(false),
     }

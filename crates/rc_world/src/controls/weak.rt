@@ -13,17 +13,8 @@ use rc_lang::program::Program;
 use std::alloc::AllocError;
 
 impl Controls {
-    /// The same controls again, in the memory of these spare ones.
-    pub(crate) fn copy_into(&self, spare: Controls) -> Result<Controls, AllocError>
-        ensures { IfOk result (λ c. c ≡ self.now) }
-    {
-        let mut copy = spare;
-        copy.copy_from(self)?;
-        Ok(copy)
-    }
-
-    // Becomes the same as other controls.
-    fn copy_from(&mut self, other: &Controls) -> Result<(), AllocError>
+    /// Becomes the same as other controls.
+    pub(crate) fn copy_from(&mut self, other: &Controls) -> Result<(), AllocError>
         ensures { IfOk result (λ _. self.new ≡ other.now) }
     {
         self.threads.clear();

@@ -37,16 +37,13 @@ impl Bytes {
         }
     }
 
-    // The same bytes again, in the memory of these spare ones.
-    pub(super) fn copy_into(&self, spare: Bytes) -> Result<Bytes, AllocError>
+    // The same bytes again.
+    pub(super) fn copy(&self, alloc: Global) -> Result<Bytes, AllocError>
         ensures { IfOk result (λ b. b ≡ self.now) }
     {
-        let mut written = spare.written;
-        written.clear();
-        written.extend_from_slice(&self.written)?;
         Ok(Bytes {
             len: self.len,
-            written,
+            written: Vec::from_slice(alloc, &self.written)?,
         })
     }
 

@@ -5,6 +5,6 @@ use Rattle.rc_follow.proofs.hidden.push_astray.Goals as goal
 
 pub returns-in_ok-push : goal.returns-in_ok-push
 returns-in_ok-push c =
-    adds_push (Leads c.args.ground.noted.now c.args.world) c.hide_stray.new.world c.args.fresh.now.items c.push.new.self.items
-    (leads_one c.args.ground.noted.now c.args.world c.hide_stray.new.world (c.if-hide_stray.ensures refl))
+    adds_push (Leads c.args.ground.noted.now c.args.node) c.hide_stray.new.node c.args.fresh.now.items c.push.new.self.items
+    (leads_one c.args.ground.noted.now c.args.node c.hide_stray.new.node (c.if-hide_stray.ensures refl))
     c.in_ok-push.ensures.items

@@ -4,8 +4,8 @@ use Rattle.rc_follow.specs.Follower.{Adds, Leads}
 use Rattle.rc_follow.proofs.Added.{adds_both}
 use Rattle.rc_follow.proofs.hidden.push_hidden.Goals as goal
 
-pub returns-in_ok-push_astray-in-Take : goal.returns-in_ok-push_astray-in-Take
-returns-in_ok-push_astray-in-Take c =
-    adds_both (Leads c.args.ground.noted.now c.args.world) c.args.fresh.now.items c.push_gone.new.fresh.items c.push_astray.new.fresh.items
-    (subst (λ (w : World). Adds (Leads c.args.ground.noted.now w) c.args.fresh.now.items c.push_gone.new.fresh.items) c.in_ok-again-in-Take.ensures c.in_ok-push_gone-in-Take.ensures)
-    c.in_ok-push_astray-in-Take.ensures
+pub returns-in_ok-push_gone-in-Take-2 : goal.returns-in_ok-push_gone-in-Take-2
+returns-in_ok-push_gone-in-Take-2 c =
+    adds_both (Leads c.args.ground.noted.now c.args.node) c.args.fresh.now.items c.push_gone-in-Take.new.fresh.items c.push_gone-in-Take-2.new.fresh.items
+    (subst (λ (w : World). Adds (Leads c.args.ground.noted.now w) c.args.fresh.now.items c.push_gone-in-Take.new.fresh.items) c.in_ok-again-in-Take.ensures c.in_ok-push_gone-in-Take.ensures)
+    c.in_ok-push_gone-in-Take-2.ensures

@@ -1,0 +1,78 @@
+//! How a search goes on from a world by hidden steps.
+
+ghost use Rattle.std.specs.Prelude.{◌≡◌, IfOk};
+ghost use Rattle.rc_lang.specs.Program.{Program};
+ghost use Rattle.rc_follow.specs.Searches.{Visits};
+
+use crate::alike::are_alike_beside;
+use crate::hidden::{Ground, Way, push_hidden, way_on};
+use crate::kept::Found;
+use crate::node::Node;
+use crate::room::Room;
+use rc_log::call::Call;
+use std::alloc::AllocError;
+
+/// How many worlds there are still to be looked at where a search is small: it keeps in mind only where it went back to
+/// the top of a loop.
+const FEW_WORLDS: usize = 8;
+
+/// Goes on from a world after many steps, so that the search looks at other worlds too.
+pub fn look_further<'a>(
+    ground: Ground<'_, 'a>,
+    node: Node<'a>,
+    found: &mut Found<'a>,
+    room: &mut Room<'a>,
+) -> Result<(), AllocError>
+    ensures { IfOk result (λ _. (P : Program) → Visits P ground.entry.noted.now node.entry ground.entry.thread ground.entry.call found.old found.new) }
+{
+    let way = way_on(ground, node.world());
+    look_on(ground, node, way, found, room)?;
+    Ok(())
+}
+
+/// Goes on from a world by each hidden step of the thread, which has this way, unless the search has gone on from one
+/// that is like it, or comes to the same in another way.
+pub fn look_on<'a>(
+    ground: Ground<'_, 'a>,
+    node: Node<'a>,
+    way: Way,
+    found: &mut Found<'a>,
+    room: &mut Room<'a>,
+) -> Result<(), AllocError>
+    ensures { IfOk result (λ _. (P : Program) → Visits P ground.entry.noted.now node.entry ground.entry.thread ground.entry.call found.old found.new) }
+{
+    let is_known = match way {
+        Way::Back(top) => {
+            comes_to_it(ground, top, &node, found)
+                || room.has_seen(ground.reads, ground.alloc, &node)?
+        }
+        _ => { found.todo.len() >= FEW_WORLDS && room.has_seen(ground.reads, ground.alloc, &node)? }
+    };
+    if is_known {
+        room.give(node)?;
+    } else {
+        push_hidden(ground, node, way, room, &mut found.todo)?;
+    }
+    Ok(())
+}
+
+/// Whether the search goes on anyway from the first line of the loop at this place, to which the thread goes back: from a
+/// world that it begins from, or after an unlock.
+fn comes_to_it(ground: Ground<'_, '_>, top: usize, node: &Node<'_>, found: &Found<'_>) -> bool {
+    is_in_loop(ground, top, node, ground.begun)
+        || matches!(ground.call, Call::Unlock(_)) && is_in_loop(ground, top, node, &found.worlds)
+}
+
+/// Whether this world will be like one of these once the thread is at the first line of the loop at this place.
+fn is_in_loop(ground: Ground<'_, '_>, top: usize, node: &Node<'_>, nodes: &[Node<'_>]) -> bool {
+    nodes.iter().any(|there| is_at_top(ground.thread, top, there)
+        && are_alike_beside(ground.reads, ground.thread, there.world(), node.world()))
+}
+
+/// Whether the thread is at the top of the loop at this place, or at its first line.
+fn is_at_top(thread: u32, top: usize, node: &Node<'_>) -> bool {
+    match node.world().place(thread) {
+        Some(place) => place == top || place == top.saturating_add(1),
+        None => false,
+    }
+}
