@@ -107,7 +107,12 @@ impl<'g, 'a> Ground<'g, 'a> {
 }
 
 /// Whether a take would find its items.
-fn has_items(ground: Ground<'_, '_>, world: &World<'_>, pool: Option<usize>, list: usize) -> bool {
+pub fn has_items(
+    ground: Ground<'_, '_>,
+    world: &World<'_>,
+    pool: Option<usize>,
+    list: usize,
+) -> bool {
     let program = world.program();
     match program.lists_of(ground.thread as usize).get(list) {
         Some(items) => world.pools().includes(pool, program, items),

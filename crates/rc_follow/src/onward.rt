@@ -8,7 +8,7 @@ use crate::alike::are_alike_beside;
 use crate::hidden::{Ground, Way, push_hidden, way_on};
 use crate::kept::Found;
 use crate::node::Node;
-use crate::room::Room;
+use crate::room::{Room, is_there};
 use rc_log::call::Call;
 use std::alloc::AllocError;
 
@@ -26,24 +26,27 @@ pub fn look_further<'a>(
     ensures { IfOk result (λ _. (P : Program) → Visits P ground.entry.noted.now node.entry ground.entry.thread ground.entry.call found.old found.new) }
 {
     let way = way_on(ground, node.world());
-    look_on(ground, node, way, found, room)?;
+    look_on(ground, node, way, false, found, room)?;
     Ok(())
 }
 
-/// Goes on from a world by each hidden step of the thread, which has this way, unless the search has gone on from one
-/// that is like it, or comes to the same in another way.
+/// Goes on from a world by each hidden step of the thread, which has this way, unless the search goes on from one that is
+/// like it, or comes to the same in another way. `is_begun` says whether the search begins from it.
 pub fn look_on<'a>(
     ground: Ground<'_, 'a>,
     node: Node<'a>,
     way: Way,
+    is_begun: bool,
     found: &mut Found<'a>,
     room: &mut Room<'a>,
 ) -> Result<(), AllocError>
     ensures { IfOk result (λ _. (P : Program) → Visits P ground.entry.noted.now node.entry ground.entry.thread ground.entry.call found.old found.new) }
 {
     let is_known = match way {
+        Way::Back(_) if is_begun => false,
         Way::Back(top) => {
-            comes_to_it(ground, top, &node, found)
+            is_there(ground.reads, &node, ground.begun)
+                || comes_to_it(ground, top, &node, found)
                 || room.has_seen(ground.reads, ground.alloc, &node)?
         }
         _ => { found.todo.len() >= FEW_WORLDS && room.has_seen(ground.reads, ground.alloc, &node)? }

@@ -82,7 +82,7 @@ pub fn search<'a>(
         let Some(node) = found.todo.pop() else {
             return Ok(true);
         };
-        visit(ground, rights, node, found, room)?;
+        visit(ground, rights, node, false, found, room)?;
     }
     Ok(false)
 }
@@ -114,7 +114,7 @@ fn visit_first<'a>(
         return Ok(());
     }
     let again = room.copy(ground.alloc, node)?;
-    visit(ground, rights, again, found, room)?;
+    visit(ground, rights, again, true, found, room)?;
     Ok(())
 }
 
@@ -150,11 +150,12 @@ fn keep_unlocked<'a>(
 }
 
 /// Looks at a world before the line: keeps the worlds to which the line leads from it by the one way on, and leaves
-/// those after several ways to be looked at.
+/// those after several ways to be looked at. `is_begun` says whether the search begins from it.
 fn visit<'a>(
     ground: Ground<'_, 'a>,
     rights: &mut Rights<'_>,
     node: Node<'a>,
+    is_begun: bool,
     found: &mut Found<'a>,
     room: &mut Room<'a>,
 ) -> Result<(), AllocError>
@@ -162,12 +163,14 @@ fn visit<'a>(
     ensures visits { IfOk result (λ _. Visits rights.old ground.entry.noted.now node.entry ground.entry.thread ground.entry.call found.old found.new) }
 {
     match ground.call {
-        Call::Unlock(released) => visit_unlock(ground, node, released, found, room)?,
-        Call::Reads(_) | Call::Writes(_) => visit_mark(ground, rights, node, found, room)?,
+        Call::Unlock(released) => visit_unlock(ground, node, is_begun, released, found, room)?,
+        Call::Reads(_) | Call::Writes(_) => visit_mark(
+            ground, rights, node, is_begun, found, room,
+        )?,
         Call::PeekNone | Call::SqReady(_) | Call::SqSpaceLeft | Call::Lock(_) => {
             visit_question(ground, node, found, room)?;
         }
-        _ => visit_call(ground, node, found, room)?,
+        _ => visit_call(ground, node, is_begun, found, room)?,
     }
     Ok(())
 }
@@ -194,23 +197,24 @@ fn visit_mark<'a>(
     ground: Ground<'_, 'a>,
     rights: &mut Rights<'_>,
     mut node: Node<'a>,
+    is_begun: bool,
     found: &mut Found<'a>,
     room: &mut Room<'a>,
 ) -> Result<(), AllocError>
     ensures same { rights.new ≡ rights.old }
     ensures visits { IfOk result (λ _. Visits rights.old ground.entry.noted.now node.entry ground.entry.thread ground.entry.call found.old found.new) }
 {
-    for _step in 0..MOST_STEPS {
+    for step in 0..MOST_STEPS {
         if is_right(rights, &node, ground.thread, ground.call)? {
             keep(ground.reads, node, found, room)?;
             return Ok(());
         }
         let way = way_on(ground, node.world());
-        let Way::On(step) = way else {
-            look_on(ground, node, way, found, room)?;
+        let Way::On(next) = way else {
+            look_on(ground, node, way, is_begun && step == 0, found, room)?;
             return Ok(());
         };
-        if !go(ground, &mut node, step)? {
+        if !go(ground, &mut node, next)? {
             room.give(node)?;
             return Ok(());
         }
@@ -223,20 +227,21 @@ fn visit_mark<'a>(
 fn visit_unlock<'a>(
     ground: Ground<'_, 'a>,
     mut node: Node<'a>,
+    is_begun: bool,
     released: Locks,
     found: &mut Found<'a>,
     room: &mut Room<'a>,
 ) -> Result<(), AllocError>
     ensures { IfOk result (λ _. (P : Program) → Visits P ground.entry.noted.now node.entry ground.entry.thread ground.entry.call found.old found.new) }
 {
-    for _step in 0..MOST_STEPS {
+    for step in 0..MOST_STEPS {
         let way = way_on(ground, node.world());
-        let Way::On(step) = way else {
-            look_on(ground, node, way, found, room)?;
+        let Way::On(next) = way else {
+            look_on(ground, node, way, is_begun && step == 0, found, room)?;
             return Ok(());
         };
         let was_free = holds_none(&node, ground.thread, released);
-        if !go(ground, &mut node, step)? {
+        if !go(ground, &mut node, next)? {
             room.give(node)?;
             return Ok(());
         }
@@ -278,26 +283,27 @@ fn keep_asked<'a>(
 fn visit_call<'a>(
     ground: Ground<'_, 'a>,
     mut node: Node<'a>,
+    is_begun: bool,
     found: &mut Found<'a>,
     room: &mut Room<'a>,
 ) -> Result<(), AllocError>
     ensures { IfOk result (λ _. (P : Program) → Visits P ground.entry.noted.now node.entry ground.entry.thread ground.entry.call found.old found.new) }
 {
-    for _step in 0..MOST_STEPS {
+    for step in 0..MOST_STEPS {
         if asks(ground.noted, &node, ground.thread, ground.call) {
             keep(ground.reads, node, found, room)?;
             return Ok(());
         }
         if may_be_next(ground, node.world()) {
-            visit_made(ground, node, found, room)?;
+            visit_made(ground, node, is_begun && step == 0, found, room)?;
             return Ok(());
         }
         let way = way_on(ground, node.world());
-        let Way::On(step) = way else {
-            look_on(ground, node, way, found, room)?;
+        let Way::On(next) = way else {
+            look_on(ground, node, way, is_begun && step == 0, found, room)?;
             return Ok(());
         };
-        if !go(ground, &mut node, step)? {
+        if !go(ground, &mut node, next)? {
             room.give(node)?;
             return Ok(());
         }
@@ -310,6 +316,7 @@ fn visit_call<'a>(
 fn visit_made<'a>(
     ground: Ground<'_, 'a>,
     node: Node<'a>,
+    is_begun: bool,
     found: &mut Found<'a>,
     room: &mut Room<'a>,
 ) -> Result<(), AllocError>
@@ -322,6 +329,6 @@ fn visit_made<'a>(
     }
     let again = room.copy(ground.alloc, &node)?;
     keep_made(ground, again, found, room)?;
-    look_on(ground, node, way, found, room)?;
+    look_on(ground, node, way, is_begun, found, room)?;
     Ok(())
 }

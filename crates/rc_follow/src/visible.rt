@@ -5,7 +5,7 @@ ghost use Rattle.rc_lang.specs.Program.{Program};
 ghost use Rattle.rc_follow.specs.Followed as spec;
 ghost use Rattle.rc_follow.specs.Follower.{IsHiddenStep};
 
-use crate::hidden::{Ground, has_nothing_queued};
+use crate::hidden::{Ground, has_items, has_nothing_queued};
 use crate::node::Node;
 use crate::noted::Noted;
 use rc_lang::lines::{Locks, Op, Stmt, Test};
@@ -61,8 +61,20 @@ pub fn holds_none(node: &Node<'_>, thread: u32, released: Locks) -> bool
 /// Whether the thread's next statement may be the call.
 pub fn may_be_next(ground: Ground<'_, '_>, world: &World<'_>) -> bool {
     match world.line(ground.thread) {
-        Some(line) => may_be(ground.call, line.stmt),
+        Some(line) => may_be(ground.call, line.stmt) && has_what_it_needs(ground, world, line.stmt),
         None => false,
+    }
+}
+
+/// Whether a take finds its items, and a peek the completion of the call, or the request that can complete.
+fn has_what_it_needs(ground: Ground<'_, '_>, world: &World<'_>, stmt: Stmt) -> bool {
+    match (ground.call, stmt) {
+        (Call::Take(_), Stmt::If(Test::Take(pool, list))) => has_items(ground, world, pool, list),
+        (Call::Peek { user_data, .. }, Stmt::Peek(_)) => match world.completions().first() {
+            Some(front) => front.user_data == user_data,
+            None => world.pending_place(user_data).is_some(),
+        },
+        _ => true,
     }
 }
 
