@@ -36,8 +36,8 @@ pub struct Ground<'g, 'a> {
 pub enum Step {
     /// The machine's.
     Own,
-    /// One that the machine may not have: an `if take` goes to its second branch, or a load gives 0.
-    Stray,
+    /// One that the machine may not have: an `if take` goes to its second branch, or a load gives this byte.
+    Stray(u8),
 }
 
 /// How a thread goes on by a hidden step.
@@ -74,7 +74,7 @@ fn way_at(ground: Ground<'_, '_>, world: &World<'_>, place: usize, stmt: Stmt) -
     match stmt {
         Stmt::EndLoop(top, _) => Way::Back(top),
         Stmt::Do(Op::Load(variable, _, _)) => match ground.bytes_for(variable) {
-            [_] => Way::On(Step::Stray),
+            [byte] => Way::On(Step::Stray(*byte)),
             _ => Way::Load(variable),
         },
         Stmt::If(Test::Take(pool, list)) => {
@@ -94,7 +94,7 @@ fn way_at_take(takes: bool, passes: bool) -> Way {
     match (takes, passes) {
         (true, true) => Way::Take,
         (true, false) => Way::On(Step::Own),
-        (false, true) => Way::On(Step::Stray),
+        (false, true) => Way::On(Step::Stray(0)),
         (false, false) => Way::None,
     }
 }
@@ -145,7 +145,7 @@ pub fn go(ground: Ground<'_, '_>, node: &mut Node<'_>, step: Step) -> Result<boo
 {
     match step {
         Step::Own => hide(ground, node),
-        Step::Stray => Ok(hide_stray(ground, node, 0)),
+        Step::Stray(byte) => Ok(hide_stray(ground, node, byte)),
     }
 }
 
@@ -196,7 +196,7 @@ pub fn push_hidden<'a>(
         Way::Take => {
             let again = room.copy(ground.alloc, &node)?;
             push_gone(ground, again, Step::Own, room, fresh)?;
-            push_gone(ground, node, Step::Stray, room, fresh)?;
+            push_gone(ground, node, Step::Stray(0), room, fresh)?;
         }
         Way::Load(variable) => {
             push_loads(ground, &node, variable, room, fresh)?;
@@ -224,24 +224,6 @@ fn push_gone<'a>(
     Ok(())
 }
 
-/// Adds a world, once it has made the step of the thread that the machine may not have, if that is hidden.
-fn push_astray<'a>(
-    ground: Ground<'_, '_>,
-    mut node: Node<'a>,
-    byte: u8,
-    room: &mut Room<'a>,
-    fresh: &mut Vec<Node<'a>>,
-) -> Result<(), AllocError>
-    ensures { IfOk result (λ _. Adds (Leads ground.entry.noted.now node.entry) fresh.old.items fresh.new.items) }
-{
-    if hide_stray(ground, &mut node, byte) {
-        fresh.push(node)?;
-    } else {
-        room.give(node)?;
-    }
-    Ok(())
-}
-
 /// Adds a world for each byte that a load is tried with.
 fn push_loads<'a>(
     ground: Ground<'_, '_>,
@@ -254,7 +236,7 @@ fn push_loads<'a>(
 {
     for byte in ground.bytes_for(variable) {
         let again = room.copy(ground.alloc, node)?;
-        push_astray(ground, again, *byte, room, fresh)?;
+        push_gone(ground, again, Step::Stray(*byte), room, fresh)?;
     }
     Ok(())
 }

@@ -9,5 +9,5 @@ loop-byte-init c = adds_none (Leads c.args.ground.noted.now c.args.node.now) c.a
 
 pub loop-byte-preserved : goal.loop-byte-preserved
 loop-byte-preserved c =
-    adds_both (Leads c.args.ground.noted.now c.args.node.now) c.args.fresh.now.items c.loop-byte.fresh.items c.push_astray.new.fresh.items c.loop-byte.invariant
-    (subst (λ (w : World). Adds (Leads c.args.ground.noted.now w) c.loop-byte.fresh.items c.push_astray.new.fresh.items) c.in_ok-again.ensures c.in_ok-push_astray.ensures)
+    adds_both (Leads c.args.ground.noted.now c.args.node.now) c.args.fresh.now.items c.loop-byte.fresh.items c.push_gone.new.fresh.items c.loop-byte.invariant
+    (subst (λ (w : World). Adds (Leads c.args.ground.noted.now w) c.loop-byte.fresh.items c.push_gone.new.fresh.items) c.in_ok-again.ensures c.in_ok-push_gone.ensures)
