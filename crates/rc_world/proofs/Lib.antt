@@ -5,6 +5,7 @@ pub mod Lists
 pub mod Requests
 pub mod Memory
 pub mod Beginning
+mod Bytes
 pub mod Keeping
 pub mod Writing
 pub mod Laid

@@ -10,9 +10,9 @@ view_control t = record { place = t.place; variables = t.variables }
 abbrev pub at_first_line : Control
 at_first_line = record { place = 0; variables = replicate 64 (pos 0) }
 
--- so many bytes, which begin with these; all after them are 0
-abbrev pub bytes_in : ℕ → List ℕ → List ℕ
-bytes_in len written = written ++ replicate (len - length written) 0
+-- so many bytes, which begin with these; each after them is the same
+abbrev pub bytes_in : (len rest : ℕ) → List ℕ → List ℕ
+bytes_in len rest first = first ++ replicate (len - length first) rest
 
 -- the bytes, where the first ones are the fill byte
 abbrev pub refilled : (count fill : ℕ) → List ℕ → List ℕ

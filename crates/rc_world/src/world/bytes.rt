@@ -1,4 +1,4 @@
-//! The bytes of a buffer, which take no memory before the first of them is written.
+//! The bytes of a buffer, which take no memory while all are the same.
 
 ghost use Rattle.std.specs.Prelude.{◌≡◌, ◌<◌, ◌≤◌, length, replicate, slice_get, slice_set, IfOk};
 ghost use Rattle.rc_world.specs.Parts.{bytes_in, refilled};
@@ -11,8 +11,10 @@ use std::marker::Model;
 #[derive(Drop)]
 pub(super) struct Bytes {
     len: usize,
-    // The first of them; all after these are 0.
-    written: Vec<u8>,
+    // The first of them.
+    first: Vec<u8>,
+    // Each byte after these.
+    rest: u8,
 }
 
 impl Model for Bytes {
@@ -21,9 +23,9 @@ impl Model for Bytes {
 
     ghost Value = { List ℕ };
 
-    ghost view = { λ b. bytes_in b.len b.written.items };
+    ghost view = { λ b. bytes_in b.len b.rest b.first.items };
 
-    ghost invariant = { λ b. length b.written.items ≤ b.len };
+    ghost invariant = { λ b. length b.first.items ≤ b.len };
 }
 
 impl Bytes {
@@ -33,7 +35,8 @@ impl Bytes {
     {
         Bytes {
             len,
-            written: Vec::new(alloc),
+            first: Vec::new(alloc),
+            rest: 0,
         }
     }
 
@@ -43,7 +46,8 @@ impl Bytes {
     {
         Ok(Bytes {
             len: self.len,
-            written: Vec::from_slice(alloc, &self.written)?,
+            first: Vec::from_slice(alloc, &self.first)?,
+            rest: self.rest,
         })
     }
 
@@ -51,9 +55,9 @@ impl Bytes {
     pub(super) fn get(&self, i: usize) -> Option<u8>
         ensures { result ≡ slice_get self.now i }
     {
-        match self.written.get(i) {
+        match self.first.get(i) {
             Some(byte) => Some(*byte),
-            None if i < self.len => Some(0),
+            None if i < self.len => Some(self.rest),
             None => None,
         }
     }
@@ -63,18 +67,17 @@ impl Bytes {
         requires { i < length self.old }
         ensures { Becomes result self.old self.new (λ bytes. slice_set bytes i byte) }
     {
-        grow(&mut self.written, self.len)?;
-        self.written[i] = byte;
+        grow(&mut self.first, i + 1, self.rest)?;
+        self.first[i] = byte;
         Ok(())
     }
 
     // A byte is written at every place.
-    pub(super) fn fill(&mut self, byte: u8) -> Result<(), AllocError>
-        ensures { Becomes result self.old self.new (λ bytes. replicate (length bytes) byte) }
+    pub(super) fn fill(&mut self, byte: u8)
+        ensures { self.new ≡ replicate (length self.old) byte }
     {
-        grow(&mut self.written, self.len)?;
-        self.written.fill(byte);
-        Ok(())
+        self.first.clear();
+        self.rest = byte;
     }
 
     // A byte is written at the first places, so many of them.
@@ -82,21 +85,24 @@ impl Bytes {
         requires { count ≤ length self.old }
         ensures { Becomes result self.old self.new (refilled count fill) }
     {
-        if count == 0 || fill == 0 && self.written.is_empty() {
+        if count == self.len {
+            self.fill(fill);
             return Ok(());
         }
-        grow(&mut self.written, self.len)?;
-        fill_first(&mut self.written, count, fill);
+        grow(&mut self.first, count, self.rest)?;
+        fill_first(&mut self.first, count, fill);
         Ok(())
     }
 }
 
-// The bytes after the written ones are written too, as 0.
-fn grow(written: &mut Vec<u8>, len: usize) -> Result<(), AllocError>
-    requires { length written.old.items ≤ len }
-    ensures { Becomes result written.old.items written.new.items (bytes_in len) }
+// The first bytes are so many, or more: those that are added are the rest's.
+fn grow(first: &mut Vec<u8>, count: usize, rest: u8) -> Result<(), AllocError>
+    ensures { Becomes result first.old.items first.new.items (bytes_in count rest) }
 {
-    written.resize(len, 0)
+    if first.len() < count {
+        first.resize(count, rest)?;
+    }
+    Ok(())
 }
 
 // The first bytes, so many of them, become the fill byte.

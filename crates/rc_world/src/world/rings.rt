@@ -53,7 +53,7 @@ impl<'a> World<'a> {
             }
             Op::Fill(buffer, x) => {
                 let byte = self.controls.byte(thread, x);
-                self.fill(buffer, byte)?;
+                self.fill(buffer, byte);
             }
             Op::GetSqe => self.open(),
             Op::PrepRead(fd, buffer, len, off) => {
@@ -85,15 +85,14 @@ impl<'a> World<'a> {
     }
 
     // A byte is written at every place of a buffer.
-    fn fill(&mut self, buffer: usize, byte: u8) -> Result<(), AllocError>
+    fn fill(&mut self, buffer: usize, byte: u8)
         requires { IsSome (fills self.old buffer byte (bytes_of self.old buffer)) }
-        ensures { Tries result self.old self.new (λ w. fills w buffer byte (bytes_of w buffer)) }
+        ensures { fills self.old buffer byte (bytes_of self.old buffer) ≡ Some self.new }
     {
         match &mut self.buffers[buffer] {
-            Some(bytes) => bytes.fill(byte)?,
+            Some(bytes) => bytes.fill(byte),
             None => unreachable!(),
         }
-        Ok(())
     }
 
     // An entry is opened.
