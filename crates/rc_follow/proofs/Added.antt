@@ -1,7 +1,8 @@
 -- Worlds that are added to others, and those to which hidden steps lead.
-use Rattle.std.proofs.Common.{get_or, ◌≡◌, ℕ, List, [], ◌∷◌, ◌++◌, Option, Some, None, refl, sym, ap, inl, inr, append_assoc, append-nil, ◌∙◌}
-use Rattle.std.specs.Prelude.{All}
-use Rattle.std.proofs.lemmas.List.Elements.{Contains-get_or, All-append, All-cons, All-nil, All-same, All-weaker}
+use Rattle.std.proofs.Common.{get_or, drop, suc, take, ◌≡◌, ℕ, List, [], ◌∷◌, ◌++◌, Option, Some, None, refl, sym, ap, inl, inr, append_assoc, append-nil, ◌∙◌}
+use Rattle.std.specs.Prelude.{All, Contains}
+use Rattle.std.specs.List.{remove}
+use Rattle.std.proofs.lemmas.List.Elements.{Contains-get_or, All-append, All-cons, All-contains, All-drop, All-nil, All-same, All-take, All-weaker}
 use Rattle.rc_lang.specs.Program.{Program}
 use Rattle.rc_log.specs.declared.call.Call.{Call}
 use Rattle.rc_world.specs.declared.event.Event.{Event}
@@ -61,6 +62,13 @@ adds_weaker F G k old new h = (h.0, h.1, All-weaker F G k h.0 h.2)
 
 pub all_added : (F : World → Type 0) (old new : List World) → All F old → Adds F old new → All F new
 all_added F old new a h = All-same F new (old ++ h.0) h.1 (All-append F old h.0 a h.2)
+
+-- one is taken away
+pub all_without : (F : World → Type 0) (old new : List World) (i : ℕ) → new ≡ remove old i → All F old → All F new
+all_without F old new i e h = All-same F new (remove old i) e (All-append F (take i old) (drop (suc i) old) (All-take F i old h) (All-drop F (suc i) old h))
+
+pub all_of : (F : World → Type 0) (old new : List World) → All (Contains old) new → All F old → All F new
+all_of F old new h k = All-weaker (Contains old) F (λ w at. All-contains F old w k at) new h
 
 -- ---- where it comes from
 

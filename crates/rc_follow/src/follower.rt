@@ -8,6 +8,7 @@ ghost use Rattle.rc_follow.specs.Searches.{Finds};
 
 use crate::hidden::Ground;
 use crate::kept::Found;
+use crate::loops::Loops;
 use crate::node::Node;
 use crate::noted::Noted;
 use crate::reach::{AT_ANY_PLACE, Calls, Reach};
@@ -44,6 +45,7 @@ pub struct Follower<'a> {
     worlds: Vec<Node<'a>>,
     reads: Reads,
     reach: Reach,
+    loops: Loops,
     rights: Rights<'a>,
     // Of each line of the text whether its step was a line of the log.
     reached: Vec<bool>,
@@ -75,6 +77,7 @@ impl<'a> Follower<'a> {
             worlds,
             reads: Reads::new(alloc, program)?,
             reach: Reach::new(alloc, program)?,
+            loops: Loops::new(alloc, program)?,
             rights: Rights::new(alloc, program),
             reached: vec![in alloc; false; 4097]?,
             calls: 0,
@@ -122,6 +125,7 @@ impl<'a> Follower<'a> {
             noted: &self.noted,
             reads: &self.reads,
             reach: &self.reach,
+            loops: &self.loops,
             thread,
             call,
             sought: AT_ANY_PLACE,
@@ -169,6 +173,7 @@ impl<'a> Follower<'a> {
             noted: &self.noted,
             reads: &self.reads,
             reach: &self.reach,
+            loops: &self.loops,
             thread,
             call,
             sought: Calls::of(call),

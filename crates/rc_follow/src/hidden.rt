@@ -4,6 +4,7 @@ ghost use Rattle.std.specs.Prelude.{◌≡◌, IfOk, true};
 ghost use Rattle.rc_follow.specs.Followed.{is_empty};
 ghost use Rattle.rc_follow.specs.Follower.{Adds, IsHiddenStep, Leads};
 
+use crate::loops::Loops;
 use crate::node::Node;
 use crate::noted::Noted;
 use crate::reach::{Calls, Reach};
@@ -25,6 +26,7 @@ pub struct Ground<'g, 'a> {
     pub noted: &'g Noted,
     pub reads: &'g Reads,
     pub reach: &'g Reach,
+    pub loops: &'g Loops,
     pub thread: u32,
     pub call: Call,
     /// What hidden steps are to lead to.

@@ -2,10 +2,12 @@
 #![tactic(auto)]
 
 mod alike;
+mod covered;
 pub mod follower;
 mod hidden;
 mod kept;
 pub mod laws;
+mod loops;
 mod node;
 mod noted;
 mod onward;

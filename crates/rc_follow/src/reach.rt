@@ -237,7 +237,7 @@ fn places_after(thread: &Thread, place: usize, stmt: Stmt) -> (Option<usize>, Op
 }
 
 /// The place after the end of the block at this place.
-fn after_end(thread: &Thread, place: usize) -> Option<usize> {
+pub fn after_end(thread: &Thread, place: usize) -> Option<usize> {
     Some(thread.ends.get(place)?.saturating_add(1))
 }
 

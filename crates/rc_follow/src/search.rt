@@ -4,6 +4,7 @@ ghost use Rattle.std.specs.Prelude.{◌≡◌, ◌<◌, [], length, All, IfOk, t
 ghost use Rattle.rc_lang.specs.Program.{Program};
 ghost use Rattle.rc_follow.specs.Searches.{AsksIn, Finds, Visits};
 
+use crate::covered::drop_covered;
 use crate::hidden::{Ground, Way, go, way_on};
 use crate::kept::{Found, keep, keep_made};
 use crate::node::Node;
@@ -80,6 +81,7 @@ pub fn search<'a>(
             return Ok(false);
         }
         let Some(node) = found.todo.pop() else {
+            drop_covered(ground, &mut found.worlds, room)?;
             return Ok(true);
         };
         visit(ground, rights, node, false, found, room)?;
@@ -312,7 +314,8 @@ fn visit_call<'a>(
     Ok(())
 }
 
-/// A world in which the thread's next step may be the call. It may also be hidden.
+/// A world in which the thread's next step may be the call. It may also be hidden. The search begins anyway from one that
+/// is like another one from which it begins.
 fn visit_made<'a>(
     ground: Ground<'_, 'a>,
     node: Node<'a>,
@@ -322,6 +325,10 @@ fn visit_made<'a>(
 ) -> Result<(), AllocError>
     ensures { IfOk result (λ _. (P : Program) → Visits P ground.entry.noted.now node.entry ground.entry.thread ground.entry.call found.old found.new) }
 {
+    if !is_begun && is_there(ground.reads, &node, ground.begun) {
+        room.give(node)?;
+        return Ok(());
+    }
     let way = way_on(ground, node.world());
     if let Way::None = way {
         keep_made(ground, node, found, room)?;

@@ -8,7 +8,7 @@ use Rattle.std.specs.Prelude.{All, Contains, IfSome}
 use Rattle.std.proofs.lemmas.List.Elements.{All-nil, All-pop, All-same, Contains-get_or}
 use Rattle.rc_follow.specs.declared.kept.Found.{Found}
 use Rattle.rc_follow.specs.Follower.{ComesBy, ComesFrom}
-use Rattle.rc_follow.proofs.Added.{found_more, todo_more}
+use Rattle.rc_follow.proofs.Added.{all_of, found_more, todo_more}
 use Rattle.rc_follow.proofs.search.search.Goals as goal
 
 pub loop-node-init : goal.loop-node-init
@@ -45,3 +45,7 @@ loop-visit-preserved c =
       found = found_more c.args.rights.now c.args.ground.noted.now c.args.ground.begun.now.items c.in-Some.node c.args.ground.thread c.args.ground.call left c.visit.new.found from visits c.loop-visit.invariant.found;
       todo = todo_more c.args.rights.now c.args.ground.noted.now c.args.ground.begun.now.items c.in-Some.node c.args.ground.thread c.args.ground.call left c.visit.new.found from visits both.0;
     }
+
+pub returns-in_default-clause-found : goal.returns-in_default-clause-found
+returns-in_default-clause-found c =
+    λ _. all_of (ComesBy c.args.rights.now c.args.ground.noted.now c.args.ground.begun.now.items c.args.ground.thread c.args.ground.call) c.loop-visit.found.worlds.items c.drop_covered.new.worlds.items c.in_ok-drop_covered.ensures c.loop-visit.invariant.found

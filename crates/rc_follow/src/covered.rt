@@ -1,0 +1,52 @@
+//! Worlds to which others lead anyway.
+
+ghost use Rattle.std.specs.Prelude.{◌≡◌, ◌<◌, length, true, All, Contains, IfOk};
+
+use crate::alike::are_alike_beside;
+use crate::hidden::Ground;
+use crate::node::Node;
+use crate::room::Room;
+use rc_world::world::World;
+use std::alloc::AllocError;
+
+/// Takes away each world to which another leads by hidden steps that change nothing but the thread's place and take no
+/// lock: what follows from the one follows from the other.
+pub fn drop_covered<'a>(
+    ground: Ground<'_, '_>,
+    worlds: &mut Vec<Node<'a>>,
+    room: &mut Room<'a>,
+) -> Result<(), AllocError>
+    ensures { IfOk result (λ _. All (Contains worlds.old.items) worlds.new.items) }
+{
+    for at in (0..worlds.len()).rev() {
+        if is_covered(ground, worlds, at) {
+            let covered = worlds.remove(at);
+            room.give(covered)?;
+        }
+    }
+    Ok(())
+}
+
+/// Whether another of the worlds leads to the one at this place.
+fn is_covered(ground: Ground<'_, '_>, worlds: &[Node<'_>], at: usize) -> bool
+    ensures { result ≡ true → at < length worlds.now }
+{
+    match worlds.get(at) {
+        Some(node) => worlds
+            .iter()
+            .any(|other| leads_to(ground, other.world(), node.world())),
+        None => false,
+    }
+}
+
+/// Whether the thread has another place in the one world than in the other, and comes to that place.
+fn leads_to(ground: Ground<'_, '_>, one: &World<'_>, other: &World<'_>) -> bool {
+    match (one.place(ground.thread), other.place(ground.thread)) {
+        (Some(from), Some(to)) => {
+            from != to
+                && ground.loops.lead(one.program(), ground.thread, from, to)
+                && are_alike_beside(ground.reads, ground.thread, one, other)
+        }
+        _ => false,
+    }
+}
