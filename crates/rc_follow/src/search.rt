@@ -314,8 +314,8 @@ fn visit_call<'a>(
     Ok(())
 }
 
-/// A world in which the thread's next step may be the call. It may also be hidden. The search begins anyway from one that
-/// is like another one from which it begins.
+/// A world in which the thread's next step may be the call. It may also be hidden. Where the world is like one from which
+/// the search begins, the call is made there.
 fn visit_made<'a>(
     ground: Ground<'_, 'a>,
     node: Node<'a>,
