@@ -1,10 +1,12 @@
 -- Worlds that are added to others, and those to which hidden steps lead.
 use Rattle.std.proofs.Common.{get_or, drop, suc, take, ◌≡◌, ℕ, List, [], ◌∷◌, ◌++◌, Option, Some, None, refl, sym, ap, inl, inr, append_assoc, append-nil, ◌∙◌}
-use Rattle.std.specs.Prelude.{All, Contains}
+use Rattle.std.specs.Prelude.{All, Contains, IfOk, IfSome, Result, Ok, Err}
+use Rattle.std.specs.declared.alloc.AllocError.{AllocError}
 use Rattle.std.specs.List.{remove}
 use Rattle.std.proofs.lemmas.List.Elements.{Contains-get_or, All-append, All-cons, All-contains, All-drop, All-nil, All-same, All-take, All-weaker}
 use Rattle.rc_lang.specs.Program.{Program}
 use Rattle.rc_log.specs.declared.call.Call.{Call}
+use Rattle.rc_world.specs.Applies.{Advances}
 use Rattle.rc_world.specs.declared.event.Event.{Event}
 use Rattle.rc_world.specs.declared.event.Item.{Item}
 use Rattle.rc_world.specs.declared.event.Item.TheVariants.{Thread, Kernel}
@@ -27,6 +29,11 @@ item_is_weak w v (Kernel u res fill) e h = at (pending_place w u) h
     at : (k : Option ℕ) → kernel_item w res fill k ≡ Some (e, v) → IsWeakStep w e v
     at None f = absurd (cc)
     at (Some k) f = inr (inl (k, res, item_bytes res fill (slice_get w.pending k), f))
+
+pub advance_is_weak : (w v : World) (i : Item) (r : Result (Option Event) AllocError) → Advances w i v r → IfOk r (λ event. IfSome event (λ e. IsWeakStep w e v))
+advance_is_weak w v i (Ok (Some e)) h = item_is_weak w v i e h.1
+advance_is_weak w v i (Ok None) h = tt
+advance_is_weak w v i (Err refused) h = tt
 
 pub leads_one : (n : Noted) (w v : World) → IsHiddenStep n w v → Leads n w v
 leads_one n w v h = (h.0 ∷ [], (v, h.1, h.2, refl))

@@ -8,6 +8,7 @@ use crate::step::{step, stray};
 use rc_lang::program::Program;
 use rc_world::event::{Event, Item};
 use rc_world::world::World;
+use rc_world::world::weak::Lists;
 use std::alloc::{AllocError, Global};
 use std::marker::Model;
 
@@ -46,11 +47,16 @@ impl<'a> Node<'a> {
         })
     }
 
-    /// Becomes the same world as another, in the memory that it has.
-    pub fn copy_from(&mut self, alloc: Global, other: &Node<'a>) -> Result<(), AllocError>
+    /// Becomes the same world as another, in the memory that it and the lists have.
+    pub fn copy_from(
+        &mut self,
+        alloc: Global,
+        lists: &mut Lists,
+        other: &Node<'a>,
+    ) -> Result<(), AllocError>
         ensures { IfOk result (λ _. self.new ≡ other.now) }
     {
-        self.world.copy_from(alloc, &other.world)
+        self.world.copy_from(alloc, lists, &other.world)
     }
 
     /// The world.
@@ -60,7 +66,8 @@ impl<'a> Node<'a> {
         &self.world
     }
 
-    /// Makes the step that an item names, where it is enabled, and answers its event. Otherwise the world stays.
+    /// Makes the step that an item names, where it is enabled and does no harm itself, and answers its event. Otherwise
+    /// the world stays.
     pub fn step(&mut self, item: &Item) -> Result<Option<Event>, AllocError>
         ensures { IfOk result (λ event. IfSome event (λ e. IsWeakStep self.old e self.new)) }
     {

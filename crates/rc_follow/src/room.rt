@@ -5,6 +5,7 @@ ghost use Rattle.std.specs.Prelude.{◌≡◌, [], IfOk};
 use crate::alike::are_alike;
 use crate::node::Node;
 use crate::reads::Reads;
+use rc_world::world::weak::Lists;
 use std::alloc::{AllocError, Global};
 
 /// The worlds that a search has seen, as far as it keeps them in mind, and spare worlds.
@@ -12,6 +13,7 @@ use std::alloc::{AllocError, Global};
 pub struct Room<'a> {
     seen: Vec<Node<'a>>,
     spare: Vec<Node<'a>>,
+    lists: Lists,
 }
 
 impl<'a> Room<'a> {
@@ -20,6 +22,7 @@ impl<'a> Room<'a> {
         Room {
             seen: Vec::new(alloc),
             spare: Vec::new(alloc),
+            lists: Lists::new(alloc),
         }
     }
 
@@ -29,7 +32,7 @@ impl<'a> Room<'a> {
     {
         match self.spare.pop() {
             Some(mut spare) => {
-                spare.copy_from(alloc, node)?;
+                spare.copy_from(alloc, &mut self.lists, node)?;
                 Ok(spare)
             }
             None => node.copy(alloc),

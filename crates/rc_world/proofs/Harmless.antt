@@ -5,11 +5,13 @@ use Rattle.std.proofs.lemmas.Option.{same_Some, slice_get_within}
 use Rattle.rc_lang.specs.declared.lines.Line.{Line}
 use Rattle.rc_lang.specs.declared.lines.Stmt.{Stmt}
 use Rattle.rc_lang.specs.Program.{Thread, lines_in, lines_of}
+use Rattle.rc_world.specs.declared.event.Item.{Item}
+use Rattle.rc_world.specs.declared.event.Item.TheVariants.{Thread as OfThread, Kernel}
 use Rattle.rc_world.specs.declared.fault.FaultKind.{FaultKind}
 use Rattle.rc_world.specs.declared.fault.FaultKind.TheVariants.{WriteOfPending, ReadOfFilling, KernelClash, ThreadRace, RingFull, Overflow, AmbiguousData, UnknownReap, NoLock, RawEntry, OutOfBuffer, DoublePut}
 use Rattle.rc_world.specs.Controls.{Standing, next_at, next_line}
 use Rattle.rc_world.specs.Faults.{Access, access_of, has_cq, has_fault, has_sq, is_ambiguous_at, is_cq_call, is_double_at, is_full_at, is_out_at, is_raw_at, is_sq_call, is_unknown_at, races, reads_filling, writes_pending}
-use Rattle.rc_world.specs.Harm.{IsHarmless, harms_buffer, harms_cq, harms_sq, is_harmful, line_of}
+use Rattle.rc_world.specs.Harm.{DoesNoHarm, IsHarmless, does_harm, harms_at, harms_buffer, harms_cq, harms_sq, is_harmful, line_of}
 use Rattle.rc_world.specs.Machine.{World}
 use Rattle.rc_world.proofs.Heads.{no_races}
 
@@ -101,6 +103,15 @@ line_at_place w i p = place_at w i p (slice_get w.controls.threads i)
 
 pub harmless_past : (w : World) (i : ℕ) → line_of w i ≡ None → IsHarmless w i
 harmless_past w i n kind l e = let none : Some l ≡ None = sym e ∙ n in absurd (cc)
+
+pub harmless_at : (w : World) (i : ℕ) (l : Option Line) → line_of w i ≡ l → harms_at w i l ≡ false → IsHarmless w i
+harmless_at w i None n e = harmless_past w i n
+harmless_at w i (Some l) n e = harmless_next w i l (sym n) e
+
+-- a step that does no harm by one question does none
+pub does_no_harm : (w : World) (item : Item) → does_harm w item ≡ false → DoesNoHarm w item
+does_no_harm w (OfThread i take) e = harmless_at w i (line_of w i) refl e
+does_no_harm w (Kernel user_data res fill) e = e
 
 pub harmless_more : (w : World) (n : ℕ) → ((i : ℕ) → i < n → IsHarmless w i) → IsHarmless w n → (i : ℕ) → i < n + 1 → IsHarmless w i
 harmless_more w n h here i lt = elim (cases_lt i n) [

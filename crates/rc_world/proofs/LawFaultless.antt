@@ -2,10 +2,13 @@
 use Rattle.std.proofs.Common.{◌≡◌, ℕ, zero, suc, ◌+◌, ◌<◌, Bool, true, false, if◌then◌else◌, List, [], ◌∷◌, ◌++◌, length, Option, Some, None, refl, sym, ap, ◌∙◌, subst, slice_get, arith}
 use Rattle.std.proofs.lemmas.Option.{same_Some, slice_get_within}
 use Rattle.rc_lang.specs.declared.lines.Line.{Line}
+use Rattle.rc_world.specs.declared.event.Item.{Item}
+use Rattle.rc_world.specs.declared.event.Item.TheVariants.{Thread, Kernel}
 use Rattle.rc_world.specs.declared.fault.FaultKind.{FaultKind}
 use Rattle.rc_world.specs.declared.fault.FaultKind.TheVariants.{WriteOfPending, ReadOfFilling, KernelClash, ThreadRace, RingFull, Overflow, AmbiguousData, UnknownReap, NoLock, RawEntry, OutOfBuffer, DoublePut}
 use Rattle.rc_world.specs.Controls.{Standing, next_at, next_line}
 use Rattle.rc_world.specs.Faults.{all_kinds, fault_at, fault_of, faults, faults_by, faults_from, faults_of, has_fault, in_kernel, kernel_faults, clashes, overflows}
+use Rattle.rc_world.specs.Harm.{DoesNoHarm, IsHarmless}
 use Rattle.rc_world.specs.Machine.{World}
 
 nothing_first : {A : Type 0} (xs : List A) → slice_get xs 0 ≡ None → xs ≡ []
@@ -74,6 +77,17 @@ pub none_at : (w : World) (kind : FaultKind) → faults_of w kind ≡ [] → (i 
 none_at w kind e i l n =
     let h = back_empty (kernel_faults w kind) _ e in
     none_here w kind i l (sym (ap (fault_at w kind i) n) ∙ none_from w kind 0 w.controls.threads i i h (standing_within w i l n) (omega arith))
+
+pub harmless_in : (w : World) → fault_of w ≡ None → (i : ℕ) → IsHarmless w i
+harmless_in w e i kind l n = none_at w kind (none_of_kind w e kind) i l n
+
+pub calm_in : (w : World) → fault_of w ≡ None → clashes w.pending ≡ false
+calm_in w e = none_in_kernel w KernelClash (none_of_kind w e KernelClash)
+
+-- So no step that an item names does harm.
+pub no_harm_in : (w : World) → fault_of w ≡ None → (item : Item) → DoesNoHarm w item
+no_harm_in w e (Thread i take) = harmless_in w e i
+no_harm_in w e (Kernel user_data res fill) = calm_in w e
 
 -- ---- and what has none of any kind
 

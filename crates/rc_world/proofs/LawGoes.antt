@@ -21,17 +21,18 @@ use Rattle.rc_world.specs.declared.event.Action.TheVariants.{ItemsPut}
 use Rattle.rc_world.specs.declared.event.Event.{Event}
 use Rattle.rc_world.specs.declared.event.Event.TheVariants.{ByKernel, ByThread}
 use Rattle.rc_world.specs.declared.fault.FaultKind.{FaultKind}
-use Rattle.rc_world.specs.declared.fault.FaultKind.TheVariants.{WriteOfPending, ReadOfFilling, KernelClash, RingFull, UnknownReap, NoLock, RawEntry, OutOfBuffer, DoublePut}
+use Rattle.rc_world.specs.declared.fault.FaultKind.TheVariants.{WriteOfPending, ReadOfFilling, RingFull, UnknownReap, NoLock, RawEntry, OutOfBuffer, DoublePut}
 use Rattle.rc_world.specs.declared.world.Slot.{Slot}
 use Rattle.rc_world.specs.declared.world.Slot.TheVariants.{Closed, Vacant, Prepared}
 use Rattle.rc_world.specs.Controls.{Move, Standing, acts, are_free, as_event, goes_on, loads, low_byte, made, moved, number_of_event, peeks, reaps, takes_locks, variable}
 use Rattle.rc_world.specs.Faults.{clashes, fault_of, front_is_one, has_buffer, has_cq, has_fault, has_sq, is_closed, is_cq_call, is_filling, is_named, is_prepared, is_sq_call, is_vacant, may_put, names, reads_into}
 use Rattle.rc_world.specs.Items.{is_submit}
+use Rattle.rc_world.specs.Harm.{IsHarmless}
 use Rattle.rc_world.specs.Laws.{CompletesFreely, GoesOn, NoHiddenHarm, IsAtEnd}
 use Rattle.rc_world.specs.Kept.{IsKept, IsMemory}
 use Rattle.rc_world.specs.Machine.{Pending, World, byte_of, bytes_brought, completes, completion_of, count_in, fills, fits_buffer, front_of, given_back, hands_over, in_rings, is_read, is_take, kernel_event, kernel_step_of, new_request, opens_entry, prepared_nop, prepares, queues, reaps_front, slot_len, start_world, stmt_answer, stores, thread_step, with_bytes, with_controls}
 use Rattle.rc_world.proofs.Laid.{resolved_in}
-use Rattle.rc_world.proofs.LawFaultless.{none_at, none_in_kernel, none_of_kind}
+use Rattle.rc_world.proofs.LawFaultless.{calm_in, harmless_in}
 use Rattle.rc_world.proofs.LawLists.{get_at, get_past}
 use Rattle.rc_world.proofs.Lists.{get_none, get_of}
 use Rattle.rc_world.proofs.Memory.{read_has_buffer}
@@ -222,9 +223,9 @@ module _ (w : World) (i : ℕ) (t : Standing) (r : ℤ) where
 
 -- ---- what each thread has next
 
-module _ (w : World) (safe : fault_of w ≡ None) (kept : IsKept w) (i : ℕ) (t : Standing) (c : slice_get w.controls.threads i ≡ Some t) where
+module _ (w : World) (kept : IsKept w) (i : ℕ) (harmless : IsHarmless w i) (t : Standing) (c : slice_get w.controls.threads i ≡ Some t) where
   no_fault : (l : Line) → StandsAt w i t l → HasNoFault w i l.stmt
-  no_fault l s kind = none_at w kind (none_of_kind w safe kind) i l (next_of_standing w i t l s)
+  no_fault l s kind = harmless kind l (next_of_standing w i t l s)
 
   ready : (l : Line) → StandsAt w i t l → (s : Stmt) → l.stmt ≡ s → ((r : ℤ) → is_take w r ≡ true → CanDo w i t r s) → GoesOn w i
   ready l a s e d = inr (inr (λ r u. steps w i t r l a (subst (λ x. CanDo w i t r x) (sym e) (d r u))))
@@ -264,7 +265,7 @@ module _ (program : Program) (w : World) (safe : fault_of w ≡ None) (sound : I
 
   thread_goes : (l : Option Line) → line_at w.program i t.place ≡ l → GoesOn w i
   thread_goes None e = inl (at_the_end e)
-  thread_goes (Some l) e = let a : StandsAt w i t l = record { standing = c; line = e } in line_goes w safe sound.kept i t c l a l.stmt refl (at_rest l a)
+  thread_goes (Some l) e = let a : StandsAt w i t l = record { standing = c; line = e } in line_goes w sound.kept i (harmless_in w safe i) t c l a l.stmt refl (at_rest l a)
 
 pub threads_go : (program : Program) (w : World) → fault_of w ≡ None → IsSound program w → (i : ℕ) → i < length program.threads → GoesOn w i
 threads_go program w safe sound i lt =
@@ -293,4 +294,4 @@ module _ (w : World) (safe : clashes w.pending ≡ false) where
 pub no_harm_hides : NoHiddenHarm
 no_harm_hides program events w made run safe =
     let sound : IsSound program w = run_sound program events (start_world program) w (sound_at_start program made) run in
-    (threads_go program w safe sound, completes_freely w (none_in_kernel w KernelClash (none_of_kind w safe KernelClash)) sound.kept.memory)
+    (threads_go program w safe sound, completes_freely w (calm_in w safe) sound.kept.memory)

@@ -5,14 +5,13 @@ use Rattle.std.proofs.lemmas.Option.{same_Some}
 use Rattle.rc_lang.specs.Program.{IsProgram, Program, Thread, lines_of, stmt_of}
 use Rattle.rc_lang.proofs.Rests.{IsRest}
 use Rattle.rc_world.specs.declared.event.Event.{Event}
-use Rattle.rc_world.specs.declared.fault.FaultKind.TheVariants.{KernelClash}
 use Rattle.rc_world.specs.Controls.{Standing, rest_at}
 use Rattle.rc_world.specs.Faults.{clashes}
 use Rattle.rc_world.specs.Kept.{IsKept}
 use Rattle.rc_world.specs.Machine.{World, start_world, stmt_answer}
 use Rattle.rc_world.specs.Runs.{IsRun, IsStep}
 use Rattle.rc_world.proofs.Keeping.{memory_given}
-use Rattle.rc_world.proofs.LawFaultless.{none_in_kernel, none_of_kind}
+use Rattle.rc_world.proofs.LawFaultless.{calm_in}
 use Rattle.rc_world.proofs.Lists.{get_set}
 use Rattle.rc_world.proofs.RingSteps.{rings_same, small_stmt}
 use Rattle.rc_world.proofs.Starting.{kept_start}
@@ -83,7 +82,7 @@ sound_at_start program made = record {
 pub after_step : (program : Program) (w after : World) (e : Event) → IsSound program w → IsStep w e after → IsSound program after
 after_step program w after e h s = elim s.step [
   | inl q ↦ after_thread program w after q.0 q.1 h (stepped w q.0 q.1 e after q.2)
-  | inr q ↦ after_kernel program w h (none_in_kernel w KernelClash (none_of_kind w s.no_fault KernelClash)) q.0 q.1 q.2 after (completed w q.0 q.1 q.2 e after (slice_get w.pending q.0) refl q.3)
+  | inr q ↦ after_kernel program w h (calm_in w s.no_fault) q.0 q.1 q.2 after (completed w q.0 q.1 q.2 e after (slice_get w.pending q.0) refl q.3)
 ]
 
 pub run_sound : (program : Program) (events : List Event) (w after : World) → IsSound program w → IsRun w events after → IsSound program after

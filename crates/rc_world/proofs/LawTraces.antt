@@ -14,16 +14,16 @@ use Rattle.rc_world.specs.declared.event.Event.{Event}
 use Rattle.rc_world.specs.declared.event.Item.{Item}
 use Rattle.rc_world.specs.declared.event.Item.TheVariants.{Thread, Kernel}
 use Rattle.rc_world.specs.declared.fault.Fault.{Fault}
-use Rattle.rc_world.specs.declared.fault.FaultKind.TheVariants.{KernelClash}
 use Rattle.rc_world.specs.Controls.{Standing, next_at, next_line}
 use Rattle.rc_world.specs.Faults.{clashes, fault_of}
+use Rattle.rc_world.specs.Harm.{IsHarmless}
 use Rattle.rc_world.specs.Items.{filled, is_enabled, is_ready, is_submit, item_bytes, item_step, kernel_item, kernel_may, next_by, next_of, pending_at, pending_place, ready_or_taken, take_of}
 use Rattle.rc_world.specs.Kept.{IsKept}
 use Rattle.rc_world.specs.Laws.{EnabledItemsStep, GoesOn, TracesAreRuns}
 use Rattle.rc_world.specs.Machine.{Pending, World, bytes_brought, count_in, is_read, is_take, kernel_step, start_world, thread_step}
 use Rattle.rc_world.specs.Runs.{IsRun, IsStep}
 use Rattle.rc_world.specs.Trace.{at_item, trace_from}
-use Rattle.rc_world.proofs.LawFaultless.{none_in_kernel, none_of_kind}
+use Rattle.rc_world.proofs.LawFaultless.{calm_in, harmless_in}
 use Rattle.rc_world.proofs.LawGoes.{completes_freely, line_goes}
 use Rattle.rc_lang.proofs.Rests.{may_rest}
 use Rattle.rc_world.proofs.Kernel.{count_within}
@@ -49,7 +49,7 @@ ready_rests w take l (EndArm o) e = absurd (cc)
 ready_rests w take l (EndPeek o) e = absurd (cc)
 ready_rests w take l _ e = refl
 
-module _ (w : World) (safe : fault_of w ≡ None) (kept : IsKept w) (i : ℕ) (take : Option ℤ) (ready : is_ready w take (next_of w.program w.controls i) ≡ true) where
+module _ (w : World) (kept : IsKept w) (i : ℕ) (harmless : IsHarmless w i) (take : Option ℤ) (ready : is_ready w take (next_of w.program w.controls i) ≡ true) where
   -- it isn't enabled where the thread has ended, nor at a taken lock
   not_ended : next_line w.program w.controls i ≡ None → ⊥
   not_ended e = let d : is_ready w take (next_of w.program w.controls i) ≡ false = ap (λ l. is_ready w take (next_by w.controls.holders l)) e in cc
@@ -66,7 +66,7 @@ module _ (w : World) (safe : fault_of w ≡ None) (kept : IsKept w) (i : ℕ) (t
   at_line t c None e = absurd (not_ended (ap (next_at w.program i) c ∙ e))
   at_line t c (Some l) e =
       let r = sym (ap (λ o. is_ready w take (next_by w.controls.holders o)) (ap (next_at w.program i) c ∙ e)) ∙ ready in
-      line_goes w safe kept i t c l (record { standing = c; line = e }) l.stmt refl (ready_rests w take l l.stmt r)
+      line_goes w kept i harmless t c l (record { standing = c; line = e }) l.stmt refl (ready_rests w take l l.stmt r)
 
   at_thread : (o : Option Standing) → slice_get w.controls.threads i ≡ o → GoesOn w i
   at_thread None e = absurd (not_ended (ap (next_at w.program i) e))
@@ -81,10 +81,7 @@ filled_length : (c fill len : ℕ) (stood : List ℕ) → c ≤ len → len ≤ 
 filled_length c fill len stood le lt =
     omega (arith, length-append (replicate c fill) (drop c (take len stood)), length-replicate c fill, length-drop c (take len stood), length-take len stood)
 
-module _ (w : World) (safe : fault_of w ≡ None) (kept : IsKept w) (res : ℤ) (fill : ℕ) where
-  pub no_clash : clashes w.pending ≡ false
-  no_clash = none_in_kernel w KernelClash (none_of_kind w safe KernelClash)
-
+module _ (w : World) (calm : clashes w.pending ≡ false) (kept : IsKept w) (res : ℤ) (fill : ℕ) where
   -- the item names as many bytes as the request brings
   item_length : (k : ℕ) (p : Pending) → slice_get w.pending k ≡ Some p → may_complete p.request res ≡ true → length (item_bytes res fill (Some p)) ≡ bytes_brought p.request
   item_length k p e may = go (is_read p.request.kind) refl
@@ -93,7 +90,7 @@ module _ (w : World) (safe : fault_of w ≡ None) (kept : IsKept w) (res : ℤ) 
       room = leb-true p.request.len _ (kept.memory.pending k p e).fitting.room
 
       stands : is_read p.request.kind ≡ true → (bytes : Option (List ℕ)) → p.bytes ≡ bytes → length (filled (count_in res) fill p.request.len bytes) ≡ p.request.len
-      stands read None q = let d = (kept.memory.pending k p e).stands read q in absurd (cc (d, no_clash))
+      stands read None q = let d = (kept.memory.pending k p e).stands read q in absurd (cc (d, calm))
       stands read (Some stood) q =
           let all : length stood ≡ bytes_at w.program.buffers p.request.buffer = (kept.memory.pending k p e).sized stood q in
           let le : p.request.len ≤ bytes_at w.program.buffers p.request.buffer = room in
@@ -107,7 +104,7 @@ module _ (w : World) (safe : fault_of w ≡ None) (kept : IsKept w) (res : ℤ) 
   kernel_at k None e h = absurd (cc)
   kernel_at k (Some p) e h =
       let may = (and_parts (may_complete p.request res) _ h).0 in
-      completes_freely w no_clash kept.memory k p res (item_bytes res fill (Some p)) e may (item_length k p e may)
+      completes_freely w calm kept.memory k p res (item_bytes res fill (Some p)) e may (item_length k p e may)
 
   pub kernel_steps : (place : Option ℕ) → kernel_may res fill (pending_at w place) ≡ true → (s : Event × World) × (kernel_item w res fill place ≡ Some s)
   kernel_steps None h = absurd (cc)
@@ -120,8 +117,8 @@ enabled_steps program events w item made run safe h = go item h
     sound = run_sound program events (start_world program) w (sound_at_start program made) run
 
     go : (x : Item) → is_enabled w x ≡ true → (s : Event × World) × (item_step w x ≡ Some s)
-    go (Thread i take) e = thread_steps w safe sound.kept i take e
-    go (Kernel u res fill) e = kernel_steps w safe sound.kept res fill (pending_place w u) e
+    go (Thread i take) e = thread_steps w sound.kept i (harmless_in w safe i) take e
+    go (Kernel u res fill) e = kernel_steps w (calm_in w safe) sound.kept res fill (pending_place w u) e
 
 -- ---- traces
 

@@ -2,8 +2,9 @@
 
 ghost use Rattle.std.specs.Prelude.{◌≡◌, ◌+◌, ◌<◌, ◌≤◌, ◌^◌, ◌&&◌, Some, true, false, map, replicate, IfOk, IsSome};
 ghost use Rattle.rc_lang.specs.Requests as requests;
-ghost use Rattle.rc_world.specs.Applies.{Applies};
+ghost use Rattle.rc_world.specs.Applies.{Advances, Applies};
 ghost use Rattle.rc_world.specs.Faults as faults;
+ghost use Rattle.rc_world.specs.Harm.{DoesNoHarm};
 ghost use Rattle.rc_world.specs.Items as items;
 ghost use Rattle.rc_world.specs.Items.{item_step};
 ghost use Rattle.rc_world.specs.Machine as machine;
@@ -26,7 +27,7 @@ mod faults;
 mod readers;
 pub mod requests;
 mod rings;
-mod weak;
+pub mod weak;
 
 /// The open submission entry.
 #[derive(Clone, Copy)]
@@ -165,10 +166,36 @@ impl<'a> World<'a> {
         requires room { self.old.made + 1 < 2 ^ 64 }
         ensures { Applies self.old item.now self.new result }
     {
-        let _ = &self.made;
         if let Some(fault) = self.fault() {
             return Err(Stop::Fault(fault));
         }
+        let event = self.make(item)?;
+        Ok(event)
+    }
+
+    /// Makes the step that the item names, and answers its event. Where that step does harm itself, nothing happens and
+    /// none is answered: its thread has a fault, or it is the kernel's and two pending requests clash. Faults of other
+    /// threads aren't looked for. Nothing happens either where memory runs out.
+    pub fn advance(&mut self, item: &Item) -> Result<Option<Event>, AllocError>
+        requires enabled { items.is_enabled self.old item.now ≡ true }
+        requires room { self.old.made + 1 < 2 ^ 64 }
+        ensures { Advances self.old item.now self.new result }
+    {
+        if self.does_harm(item) {
+            return Ok(None);
+        }
+        let event = self.make(item)?;
+        Ok(Some(event))
+    }
+
+    // Makes the step that the item names, which does no harm itself, and answers its event.
+    fn make(&mut self, item: &Item) -> Result<Event, AllocError>
+        requires enabled { items.is_enabled self.old item.now ≡ true }
+        requires room { self.old.made + 1 < 2 ^ 64 }
+        requires harmless { DoesNoHarm self.old item.now }
+        ensures { TriesEvent result self.old self.new (λ w. item_step w item.now) }
+    {
+        let _ = &self.made;
         let event = match *item {
             Item::Thread { thread, take } => self.step(thread, take)?,
             Item::Kernel {

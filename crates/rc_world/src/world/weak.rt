@@ -7,7 +7,28 @@ ghost use Rattle.rc_world.specs.WorldParts.{view_pending};
 use super::bytes::Bytes;
 use super::{Pending, World};
 use crate::event::Event;
+use rc_lang::request::Request;
 use std::alloc::{AllocError, Global};
+use std::mem::swap;
+
+/// Lists of a world that becomes the same as another. They are kept for their memory alone.
+#[derive(Drop)]
+pub struct Lists {
+    queued: Vec<Request>,
+    pending: Vec<Pending>,
+    buffers: Vec<Option<Bytes>>,
+}
+
+impl Lists {
+    /// With no memory yet.
+    pub fn new(alloc: Global) -> Lists {
+        Lists {
+            queued: Vec::new(alloc),
+            pending: Vec::new(alloc),
+            buffers: Vec::new(alloc),
+        }
+    }
+}
 
 impl<'a> World<'a> {
     /// The same world again; it fails where memory runs out.
@@ -15,17 +36,24 @@ impl<'a> World<'a> {
         ensures { IfOk result (λ w. w ≡ self.now) }
     {
         let mut copy = World::start(alloc, self.program)?;
-        copy.copy_from(alloc, self)?;
+        copy.copy_from(alloc, &mut Lists::new(alloc), self)?;
         Ok(copy)
     }
 
-    /// Becomes the same as another world, in the memory that it has. Where memory runs out, it is no world of a run.
-    pub fn copy_from(&mut self, alloc: Global, other: &World<'a>) -> Result<(), AllocError>
+    /// Becomes the same as another world, in the memory that it and the lists have. Where memory runs out, it is no world
+    /// of a run.
+    pub fn copy_from(
+        &mut self,
+        alloc: Global,
+        lists: &mut Lists,
+        other: &World<'a>,
+    ) -> Result<(), AllocError>
         ensures { IfOk result (λ _. self.new ≡ other.now) }
     {
-        let queued = Vec::from_slice(alloc, &other.queued)?;
-        let pending = copy_pending(alloc, &other.pending)?;
-        let buffers = copy_buffers(alloc, &other.buffers)?;
+        lists.queued.clear();
+        lists.queued.extend_from_slice(&other.queued)?;
+        copy_pending(alloc, &other.pending, &mut lists.pending)?;
+        copy_buffers(alloc, &other.buffers, &mut lists.buffers)?;
         self.controls.copy_from(&other.controls)?;
         self.completed.clear();
         self.completed.extend_from_slice(&other.completed)?;
@@ -33,10 +61,10 @@ impl<'a> World<'a> {
         self.completions.extend_from_slice(&other.completions)?;
         self.program = other.program;
         self.slot = other.slot;
-        self.queued = queued;
-        self.pending = pending;
+        swap(&mut self.queued, &mut lists.queued);
+        swap(&mut self.pending, &mut lists.pending);
         self.made = other.made;
-        self.buffers = buffers;
+        swap(&mut self.buffers, &mut lists.buffers);
         self.has_clash = other.has_clash;
         Ok(())
     }
@@ -58,29 +86,37 @@ impl<'a> World<'a> {
     }
 }
 
-// The same pending requests again, with their bytes.
-fn copy_pending(alloc: Global, pending: &[Pending]) -> Result<Vec<Pending>, AllocError>
-    ensures { IfOk result (λ v. v.items ≡ pending.now) }
+// These become the same pending requests, with their bytes.
+fn copy_pending(
+    alloc: Global,
+    pending: &[Pending],
+    copies: &mut Vec<Pending>,
+) -> Result<(), AllocError>
+    ensures { IfOk result (λ _. copies.new.items ≡ pending.now) }
 {
-    let mut copies = Vec::with_capacity(alloc, pending.len())?;
+    copies.clear();
     for Pending { request, bytes } in pending {
         copies.push(Pending {
             request: *request,
             bytes: copy_bytes(alloc, bytes)?,
         })?;
     }
-    Ok(copies)
+    Ok(())
 }
 
-// The same buffers again.
-fn copy_buffers(alloc: Global, buffers: &[Option<Bytes>]) -> Result<Vec<Option<Bytes>>, AllocError>
-    ensures { IfOk result (λ v. v.items ≡ buffers.now) }
+// These become the same buffers.
+fn copy_buffers(
+    alloc: Global,
+    buffers: &[Option<Bytes>],
+    copies: &mut Vec<Option<Bytes>>,
+) -> Result<(), AllocError>
+    ensures { IfOk result (λ _. copies.new.items ≡ buffers.now) }
 {
-    let mut copies = Vec::with_capacity(alloc, buffers.len())?;
+    copies.clear();
     for bytes in buffers {
         copies.push(copy_bytes(alloc, bytes)?)?;
     }
-    Ok(copies)
+    Ok(())
 }
 
 // The same bytes again, where they are there.

@@ -8,6 +8,7 @@ ghost use Rattle.rc_world.specs.Harm as harm;
 ghost use Rattle.rc_world.specs.WorldParts.{view_access};
 
 use super::statements::{Access, access_of, is_cq_call, is_out_at, is_raw_at, is_sq_call};
+use crate::event::Item;
 use crate::world::World;
 use rc_lang::lines::{Line, Op, Stmt};
 
@@ -17,6 +18,26 @@ impl<'a> World<'a> {
         ensures { OnFalse result (spec.fault_of self.now ≡ None) }
     {
         self.has_clash || self.overflows() || self.has_harmful_thread()
+    }
+
+    // Whether the step that the item names does harm itself.
+    pub(in crate::world) fn does_harm(&self, item: &Item) -> bool
+        ensures { result ≡ harm.does_harm self.now item.now }
+    {
+        match *item {
+            Item::Thread { thread, .. } => self.is_harmful_next(thread),
+            Item::Kernel { .. } => self.has_clash,
+        }
+    }
+
+    // Whether the next statement of a thread is harmful.
+    fn is_harmful_next(&self, thread: u32) -> bool
+        ensures { result ≡ harm.harms_at self.now thread (harm.line_of self.now thread) }
+    {
+        match self.program.threads().get(thread as usize) {
+            Some(part) => self.harms_next(thread, &part.lines),
+            None => false,
+        }
     }
 
     // A thread that the program hasn't got has no next statement.
@@ -35,7 +56,7 @@ impl<'a> World<'a> {
     fn harms_next(&self, thread: u32, lines: &[Line]) -> bool
         requires few { thread ≤ 16 }
         requires lines { lines.now ≡ lines_of self.now.program thread }
-        ensures { OnFalse result (harm.IsHarmless self.now thread) }
+        ensures { result ≡ harm.harms_at self.now thread (harm.line_of self.now thread) }
     {
         let Some(place) = self.controls.place(thread) else {
             return false;

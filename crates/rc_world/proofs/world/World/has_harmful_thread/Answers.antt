@@ -1,13 +1,16 @@
-use Rattle.std.proofs.Common.{◌≡◌, ◌≤◌, length, sym, ap, ◌∙◌, arith}
-use Rattle.std.proofs.lemmas.Bool.{OnFalse_at}
+use Rattle.std.proofs.Common.{◌≡◌, ◌≤◌, length, refl, sym, ap, ◌∙◌, arith}
 use Rattle.std.proofs.lemmas.List.{length-map}
 use Rattle.rc_lang.specs.Parts.{view_thread}
+use Rattle.rc_world.specs.Harm.{line_of}
 use Rattle.rc_world.specs.Machine.{World}
-use Rattle.rc_world.proofs.Harmless.{harmless_all, harmless_more}
+use Rattle.rc_world.proofs.Harmless.{harmless_all, harmless_at, harmless_more}
 use Rattle.rc_world.proofs.world.World.has_harmful_thread.Goals as goal
 
 pub loop-thread-preserved : goal.loop-thread-preserved
-loop-thread-preserved c = harmless_more c.args.self.now c.loop-thread.thread c.loop-thread.invariant (OnFalse_at c.if-harms_next.false c.harms_next.ensures)
+loop-thread-preserved c =
+    let w = c.args.self.now in
+    let i = c.loop-thread.thread in
+    harmless_more w i c.loop-thread.invariant (harmless_at w i (line_of w i) refl (sym c.harms_next.ensures ∙ c.if-harms_next.false))
 
 pub returns : goal.returns
 returns c =
