@@ -9,8 +9,8 @@ use crate::room::Room;
 use rc_world::world::World;
 use std::alloc::AllocError;
 
-/// Takes away each world to which another leads by hidden steps that change nothing but the thread's place and take no
-/// lock: what follows from the one follows from the other.
+/// Takes away each world to which another leads by steps that the thread can make at any time: what follows from the one
+/// then follows from the other.
 pub fn drop_covered<'a>(
     ground: Ground<'_, '_>,
     worlds: &mut Vec<Node<'a>>,
@@ -44,7 +44,9 @@ fn leads_to(ground: Ground<'_, '_>, one: &World<'_>, other: &World<'_>) -> bool 
     match (one.place(ground.thread), other.place(ground.thread)) {
         (Some(from), Some(to)) => {
             from != to
-                && ground.loops.lead(one.program(), ground.thread, from, to)
+                && ground
+                    .loops
+                    .lead(one.program(), ground.reads, ground.thread, from, to)
                 && are_alike_beside(ground.reads, ground.thread, one, other)
         }
         _ => false,

@@ -11,6 +11,7 @@ mod loops;
 mod node;
 mod noted;
 mod onward;
+mod passing;
 pub mod places;
 mod reach;
 mod reads;

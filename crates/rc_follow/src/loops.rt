@@ -1,9 +1,10 @@
-//! How a thread comes to other places while all else of a world stays as it is.
+//! How a thread comes to other places by steps that it can make at any time.
 
 ghost use Rattle.std.specs.Prelude.{◌<◌, length};
 
-use crate::reach::after_end;
-use rc_lang::lines::{Stmt, Test};
+use crate::passing::{At, Pass};
+use crate::reads::Reads;
+use rc_lang::lines::Stmt;
 use rc_lang::program::{Program, Thread};
 use rc_rules::state::State;
 use rc_verify::labels::Labels;
@@ -35,22 +36,35 @@ impl Loops {
         Ok(Loops { threads })
     }
 
-    /// Whether the thread comes from one place to another by takes that pass and by returns to the tops of loops. A loop's
-    /// line that loses no share counts as the loop's first line, since no call is between them.
-    pub fn lead(&self, program: &Program, thread: u32, from: usize, to: usize) -> bool {
+    /// Whether the thread comes from one place to another by steps that it can make at any time. A loop's line that loses
+    /// no share counts as the loop's first line, since no call is between them.
+    pub fn lead(
+        &self,
+        program: &Program,
+        reads: &Reads,
+        thread: u32,
+        from: usize,
+        to: usize,
+    ) -> bool {
         let Some(part) = program.threads().get(thread as usize) else {
             return false;
         };
-        let mut place = from;
+        let pass = Pass {
+            part,
+            lists: program.lists_of(thread as usize),
+            reads,
+            thread,
+        };
+        let mut at = At::place(from);
         for _step in 0..part.lines.len() {
-            if self.is_turn_to(part, thread, place, to) {
+            if self.is_turn_to(part, thread, at.place, to) {
                 return true;
             }
-            let Some(next) = place_after(part, place) else {
+            let Some(next) = pass.after(at) else {
                 return false;
             };
-            place = next;
-            if place == to {
+            at = next;
+            if at.place == to {
                 return true;
             }
         }
@@ -73,16 +87,6 @@ impl Loops {
             Some(lines) => lines.get(place).copied().unwrap_or(false),
             None => false,
         }
-    }
-}
-
-/// The place after one where a take passes, a branch ends or a loop begins its next turn.
-fn place_after(part: &Thread, place: usize) -> Option<usize> {
-    match part.lines.get(place)?.stmt {
-        Stmt::If(Test::Take(_, _)) | Stmt::Else(_) => after_end(part, place),
-        Stmt::EndIf(_) => Some(place.saturating_add(1)),
-        Stmt::EndLoop(top, _) => Some(top.saturating_add(1)),
-        _ => None,
     }
 }
 
