@@ -10,9 +10,8 @@ use crate::noted::Noted;
 use crate::reach::{Calls, Reach};
 use crate::reads::Reads;
 use crate::room::Room;
-use rc_lang::lines::{Op, Stmt, Test};
+use rc_lang::lines::{Line, Op, Stmt, Test};
 use rc_log::call::Call;
-use rc_world::controls::Next;
 use rc_world::event::Item;
 use rc_world::world::World;
 use std::alloc::{AllocError, Global};
@@ -65,10 +64,16 @@ pub fn way_on(ground: Ground<'_, '_>, world: &World<'_>) -> Way {
     if !ground.reach.leads_on(ground.thread, place, ground.sought) {
         return Way::None;
     }
-    match world.next(ground.thread) {
-        Next::Ready(line) => way_at(ground, world, place, line.stmt),
-        _ => Way::None,
+    match line_of(world, ground.thread) {
+        Some(line) => way_at(ground, world, place, line.stmt),
+        None => Way::None,
     }
+}
+
+/// The line that a thread has next. It isn't copied, since most callers look at its kind alone.
+pub fn line_of<'w>(world: &'w World<'_>, thread: u32) -> Option<&'w Line> {
+    let part = world.program().threads().get(thread as usize)?;
+    part.lines.get(world.place(thread)?)
 }
 
 /// How the thread goes on at this statement.
@@ -136,7 +141,9 @@ fn may_hide(ground: Ground<'_, '_>, world: &World<'_>, stmt: Stmt) -> bool {
         ) => false,
         Stmt::Do(Op::Submit(_) | Op::SubmitAndWait(_, _)) => world.queued().is_empty(),
         Stmt::Peek(_) => world.completions().is_empty(),
-        Stmt::Lock(wanted) => ground.noted.has_mutexes(ground.thread, wanted),
+        Stmt::Lock(wanted) => {
+            ground.noted.has_mutexes(ground.thread, wanted) && world.holders().are_free(wanted)
+        }
         _ => true,
     }
 }

@@ -4,12 +4,11 @@ ghost use Rattle.std.specs.Prelude.{◌≡◌, IfOk};
 ghost use Rattle.rc_lang.specs.Program.{Program};
 ghost use Rattle.rc_follow.specs.Searches.{MayAdd, Visits};
 
-use crate::hidden::Ground;
+use crate::hidden::{Ground, line_of};
 use crate::node::Node;
 use crate::reads::Reads;
 use crate::room::{Room, is_there};
 use crate::visible::{complete, make};
-use rc_lang::lines::Line;
 use rc_log::call::Call;
 use std::alloc::{AllocError, Global};
 
@@ -80,9 +79,9 @@ fn keep_called<'a>(
 ) -> Result<(), AllocError>
     ensures { IfOk result (λ _. (P : Program) → Visits P ground.entry.noted.now node.entry ground.entry.thread ground.entry.call found.old found.new) }
 {
-    let line = node.world().line(ground.thread);
+    let number = line_of(node.world(), ground.thread).map(|line| line.number);
     if make(ground, &mut node)? {
-        push_line(&mut found.lines, line)?;
+        push_line(&mut found.lines, number)?;
         keep(ground.reads, node, found, room)?;
     } else {
         room.give(node)?;
@@ -90,9 +89,9 @@ fn keep_called<'a>(
     Ok(())
 }
 
-fn push_line(lines: &mut Vec<u32>, line: Option<Line>) -> Result<(), AllocError> {
-    if let Some(line) = line {
-        lines.push(line.number)?;
+fn push_line(lines: &mut Vec<u32>, number: Option<u32>) -> Result<(), AllocError> {
+    if let Some(number) = number {
+        lines.push(number)?;
     }
     Ok(())
 }

@@ -5,7 +5,7 @@ ghost use Rattle.rc_lang.specs.Program.{Program};
 ghost use Rattle.rc_follow.specs.Followed as spec;
 ghost use Rattle.rc_follow.specs.Follower.{IsHiddenStep};
 
-use crate::hidden::{Ground, has_items, has_nothing_queued};
+use crate::hidden::{Ground, has_items, has_nothing_queued, line_of};
 use crate::node::Node;
 use crate::noted::Noted;
 use rc_lang::lines::{Locks, Op, Stmt, Test};
@@ -60,7 +60,7 @@ pub fn holds_none(node: &Node<'_>, thread: u32, released: Locks) -> bool
 
 /// Whether the thread's next statement may be the call.
 pub fn may_be_next(ground: Ground<'_, '_>, world: &World<'_>) -> bool {
-    match world.line(ground.thread) {
+    match line_of(world, ground.thread) {
         Some(line) => may_be(ground.call, line.stmt) && has_what_it_needs(ground, world, line.stmt),
         None => false,
     }
