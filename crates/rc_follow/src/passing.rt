@@ -1,4 +1,5 @@
-//! Steps that a thread can make at any time, and that change nothing but its place and what it puts into pools.
+//! Steps that a thread can make at any time. They change its place, what it puts into pools, a variable for which no if
+//! asks, and the locks where a break lets go of them: worlds with other locks aren't alike.
 
 use crate::reach::after_end;
 use crate::reads::Reads;
