@@ -12,6 +12,7 @@ use Rattle.rc_report.specs.declared.verdict.Verdict.{Verdict}
 use Rattle.rc_report.specs.declared.verdict.Verdict.TheVariants.{Accepted, Refused, Unreadable as NoProgram}
 use Rattle.rc_lang.specs.Program.{Program}
 use Rattle.rc_read.specs.Answer.{answer_of}
+use Rattle.rc_keeps.specs.declared.engine.UnreadLine.{UnreadLine}
 use Rattle.rc_keeps.specs.Keeps.{GivesKept}
 use Rattle.rc_report.specs.Checks.{GivesVerdict}
 use Rattle.rc_report.specs.Verdicts.{verdict_text}
@@ -22,7 +23,7 @@ use Rattle.rc_command.specs.declared.fault.CommandFault.{CommandFault}
 use Rattle.rc_command.specs.declared.fault.CommandFault.TheVariants.{Words, Engine, OtherProgram}
 use Rattle.rc_command.specs.declared.words.Command.{Command}
 use Rattle.rc_command.specs.declared.words.Command.TheVariants.{Check, Explain, Keeps, Step, State, Moves, Draw, DrawMoves, Find, DrawFound, Run, Emit, Follow, Format, Serve, Show}
-use Rattle.rc_command.specs.Answers.{Does, DoesWith, Fails, ReadsAsAsked, ReadsOnce, Says, SaysAdmitted, SaysKept, SaysVerdict}
+use Rattle.rc_command.specs.Answers.{Does, DoesWith, Fails, ReadsAsAsked, ReadsOnce, Says, SaysAdmitted, SaysKept, SaysUnread, SaysVerdict}
 
 -- ---- statuses are 3 at most
 
@@ -127,9 +128,8 @@ module _ {S : Type 0} (state : S → Taken) (old new : S) where
   pub does_kept : (bytes : List ℕ) (kept : Vec ℕ) (r : Result ℕ CommandFault) → GivesKept bytes (Ok kept) → Does (λ s text. (s ≡ 0) × (text ≡ kept.items)) state old new r → Does (SaysKept bytes) state old new r
   does_kept bytes kept r given h = does_as (λ s text. (s ≡ 0) × (text ≡ kept.items)) (SaysKept bytes) r (λ s text said. inl (kept, given, said.1, said.0)) h
 
-  pub does_unread : (bytes : List ℕ) (v : Verdict) (r : Result ℕ CommandFault) → GivesKept bytes (Err v) →
-      Does (λ status text. (text ≡ verdict_text v) × (status ≡ status_of_verdict v)) state old new r → Does (SaysKept bytes) state old new r
-  does_unread bytes v r given h = does_as (λ status text. (text ≡ verdict_text v) × (status ≡ status_of_verdict v)) (SaysKept bytes) r (λ s text said. inr (v, given, said.0, said.1)) h
+  pub does_unread : (bytes : List ℕ) (unread : UnreadLine) (r : Result ℕ CommandFault) → GivesKept bytes (Err unread) → Does (SaysUnread unread) state old new r → Does (SaysKept bytes) state old new r
+  does_unread bytes unread r given h = does_as (SaysUnread unread) (SaysKept bytes) r (λ s text said. inr (unread, given, said)) h
 
 -- ---- what is read
 

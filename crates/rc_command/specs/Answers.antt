@@ -12,6 +12,7 @@ use Rattle.rc_report.specs.declared.step_engine.StepEnd.{StepEnd}
 use Rattle.rc_report.specs.declared.trace.End.{End}
 use Rattle.rc_report.specs.declared.trace.End.TheVariants as end
 use Rattle.rc_report.specs.declared.verdict.Verdict.{Verdict}
+use Rattle.rc_report.specs.declared.verdict.Verdict.TheVariants.{Unreadable}
 use Rattle.rc_report.specs.Checks.{GivesVerdict, TellsVerdict}
 use Rattle.rc_report.specs.Engine.{EndsBy, stepped_text}
 use Rattle.rc_report.specs.Statuses.{status_of_end, status_of_step, status_of_verdict}
@@ -23,6 +24,7 @@ use Rattle.rc_explain.specs.Explains.{Explains}
 use Rattle.rc_find.specs.Finds.{Finds}
 use Rattle.rc_find.specs.Pictures.{FindsPicture}
 use Rattle.rc_editor.specs.LaidOut.{IsLaidOut}
+use Rattle.rc_keeps.specs.declared.engine.UnreadLine.{UnreadLine}
 use Rattle.rc_keeps.specs.Keeps.{GivesKept}
 use Rattle.rc_moves.specs.Drawing.{moved_drawn}
 use Rattle.rc_moves.specs.Moved.{EndsMoves, moved_text}
@@ -87,12 +89,17 @@ SaysAdmitted bytes says status text =
     ((program : Program) × GivesVerdict (answer_of bytes) (Ok program) × says program status text)
     ⊎ ((verdict : Verdict) × GivesVerdict (answer_of bytes) (Err verdict) × (text ≡ verdict_text verdict) × (status ≡ status_of_verdict verdict))
 
+-- The verdict on a text with a line that can't be read.
+abbrev pub SaysUnread : UnreadLine → ℕ → List ℕ → Type 0
+SaysUnread unread status text =
+    let verdict = Unreadable unread.line unread.cause in
+    (text ≡ verdict_text verdict) × (status ≡ status_of_verdict verdict)
+
 -- A text that can be read is answered with what is kept in it, and another with its verdict.
 abbrev pub SaysKept : List ℕ → ℕ → List ℕ → Type 0
 SaysKept bytes status text =
     ((kept : Vec ℕ) × GivesKept bytes (Ok kept) × (text ≡ kept.items) × (status ≡ 0))
-    ⊎ ((verdict : Verdict) × GivesKept bytes (Err verdict)
-    × (text ≡ verdict_text verdict) × (status ≡ status_of_verdict verdict))
+    ⊎ ((unread : UnreadLine) × GivesKept bytes (Err unread) × SaysUnread unread status text)
 
 -- A text is answered with its lines laid out.
 abbrev pub SaysLaidOut : List ℕ → ℕ → List ℕ → Type 0

@@ -6,9 +6,10 @@ ghost use Rattle.rc_report.specs.Streams.{CanWrite};
 use crate::fault::CommandFault;
 use crate::output::write_answer;
 use crate::running::tell_verdict;
-use rc_keeps::engine::kept_text;
+use rc_keeps::engine::{UnreadLine, kept_text};
 use rc_report::status::GOOD_STATUS;
 use rc_report::streams::Sink;
+use rc_report::verdict::Verdict;
 use std::alloc::Global;
 
 /// Writes a text with the items of its loops as large as the loops can keep them. A text that can't be read is answered
@@ -19,6 +20,8 @@ pub fn keep_text<S: Sink>(alloc: Global, text: &[u8], sink: &mut S) -> Result<u8
 {
     match kept_text(alloc, text)? {
         Ok(kept) => write_answer(sink, &kept, GOOD_STATUS),
-        Err(verdict) => tell_verdict(alloc, verdict, sink),
+        Err(UnreadLine { line, cause }) => {
+            tell_verdict(alloc, Verdict::Unreadable { line, cause }, sink)
+        }
     }
 }

@@ -7,7 +7,7 @@ use crate::place::Place;
 use crate::pool::{put_pool_unlock, put_put, put_take};
 use crate::terms::operator;
 use rc_lang::lines::{Comparison, Locks, Stmt, Test};
-use rc_report::text::{put_piece, put_pieces};
+use rc_text::text::{put_piece, put_pieces};
 use std::alloc::AllocError;
 
 /// How many blocks of C are open after a line, of so many before it.

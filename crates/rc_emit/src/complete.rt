@@ -5,8 +5,8 @@ use crate::fixed::{BEGINNING, CALLS, END, FILES_OPENED, LOG, RING_LOCK, SIDE_LOC
 use crate::locks::Guards;
 use crate::threads::put_threads;
 use rc_lang::program::Program;
-use rc_report::source::Lines;
-use rc_report::text::{put_piece, put_pieces};
+use rc_read::source::Lines;
+use rc_text::text::{put_piece, put_pieces};
 use std::alloc::{AllocError, Global};
 
 /// A complete C program over liburing that does, statement by statement, what a program does. The source is the text that

@@ -4,8 +4,8 @@ use crate::fixed::{LOCK_OPENED, MUTEX_OPENED};
 use crate::locks::Guards;
 use crate::terms::{data, number};
 use rc_lang::program::{Program, TokenKind};
-use rc_report::printed::buffer_name;
-use rc_report::text::{put_piece, put_pieces};
+use rc_text::names::buffer_name;
+use rc_text::text::{put_piece, put_pieces};
 use std::alloc::AllocError;
 
 // The calls that open the mutexes of both sides.

@@ -1,8 +1,8 @@
 //! Lines of C.
 
 use crate::place::Place;
-use rc_report::source::first_word;
-use rc_report::text::{put_piece, put_pieces};
+use rc_read::source::first_word;
+use rc_text::text::{put_piece, put_pieces};
 use std::alloc::AllocError;
 
 /// Adds the blanks before a line.

@@ -4,7 +4,7 @@ use crate::lines::{put_event, put_indentation, put_line, put_source};
 use crate::locks::put_seen_after_submit;
 use crate::place::Place;
 use rc_lang::lines::{Op, Operand};
-use rc_report::text::put_pieces;
+use rc_text::text::put_pieces;
 use std::alloc::AllocError;
 
 /// Adds a statement without a block.

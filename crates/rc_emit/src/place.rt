@@ -4,8 +4,8 @@ use crate::locks::Guards;
 use crate::terms::{data, number, signed};
 use rc_lang::lines::{Line, Operand};
 use rc_lang::program::{Program, Thread};
-use rc_report::printed::buffer_name;
-use rc_report::text::{put_number, put_piece};
+use rc_text::names::buffer_name;
+use rc_text::text::{put_number, put_piece};
 use std::alloc::{AllocError, Global};
 
 /// Where a statement is in the text, and how deep its C is.

@@ -5,7 +5,7 @@ use crate::lines::{put_event, put_indentation, put_line, put_source};
 use crate::locks::put_mutex;
 use crate::place::Place;
 use rc_lang::program::Items;
-use rc_report::text::{put_piece, put_pieces};
+use rc_text::text::{put_piece, put_pieces};
 use std::alloc::AllocError;
 
 /// Adds that the items of a list, so many of each, are put into a pool or leave it. The pool's counters have this before

@@ -1,7 +1,7 @@
 //! Numbers and operators as C has them.
 
 use rc_lang::lines::Comparison;
-use rc_report::text::{put_number, put_piece};
+use rc_text::text::{put_number, put_piece};
 use std::alloc::{AllocError, Global};
 
 /// A number in decimal.

@@ -7,8 +7,8 @@ use crate::locks::Guards;
 use crate::place::Place;
 use crate::variables::has_variable;
 use rc_lang::program::Program;
-use rc_report::source::Lines;
-use rc_report::text::{put_piece, put_pieces};
+use rc_read::source::Lines;
+use rc_text::text::{put_piece, put_pieces};
 use std::alloc::AllocError;
 
 /// Adds a line for each variable of a thread that C has, between two texts.

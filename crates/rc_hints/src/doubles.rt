@@ -8,7 +8,7 @@ use crate::wording::{put_column, put_framed};
 use rc_read::parts::Parts;
 use rc_read::table::Part;
 use rc_read::words::is;
-use rc_report::text::put_pieces;
+use rc_text::text::put_pieces;
 use std::alloc::AllocError;
 
 /// What a place declares that is declared already.

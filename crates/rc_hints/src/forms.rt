@@ -11,7 +11,7 @@ use rc_read::parts::Parts;
 use rc_read::spots::{fits, has_name, put_spots};
 use rc_read::table::{Part, Row, Stand, parts_of, rows_of, stand_of, version_of};
 use rc_read::words::is;
-use rc_report::text::{put_counted, put_number, put_piece};
+use rc_text::text::{put_counted, put_number, put_piece};
 use std::alloc::{AllocError, Global};
 
 /// What could be at a word: a fixed word, or what these words say.

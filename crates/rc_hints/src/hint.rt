@@ -12,7 +12,7 @@ use crate::places::{places_of, put_bad_number, put_unknown_name};
 use rc_read::ReadCause;
 use rc_read::parts::Parts;
 use rc_read::words::{is, put_words};
-use rc_report::text::put_counted;
+use rc_text::text::put_counted;
 use std::alloc::{AllocError, Global};
 
 /// Adds what could be in a line that can't be read, by its number, from 1, its cause, and what was read above it: one line

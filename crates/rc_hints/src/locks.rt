@@ -4,7 +4,7 @@ use crate::lines::word_at;
 use rc_lang::lines::{Block, Locks};
 use rc_read::parts::Parts;
 use rc_read::words::is;
-use rc_report::text::{put_counted, put_piece, put_pieces};
+use rc_text::text::{put_counted, put_piece, put_pieces};
 use std::alloc::AllocError;
 
 /// An open lock: the number of its line, and its sides.

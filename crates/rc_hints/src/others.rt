@@ -6,7 +6,7 @@ use crate::wording::{put_column, put_framed};
 use rc_lang::lines::Block;
 use rc_read::parts::{Parts, Region};
 use rc_read::words::is;
-use rc_report::text::{put_counted, put_number, put_piece, put_pieces};
+use rc_text::text::{put_counted, put_number, put_piece, put_pieces};
 use std::alloc::AllocError;
 
 fn is_strange(b: u8) -> bool {

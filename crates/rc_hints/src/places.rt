@@ -9,7 +9,7 @@ use rc_read::parts::Parts;
 use rc_read::spots::{Spot, begins_number, put_spots};
 use rc_read::table::{Part, Range, parts_of};
 use rc_read::words::{is, is_name};
-use rc_report::text::{put_counted, put_number, put_piece, put_pieces};
+use rc_text::text::{put_counted, put_number, put_piece, put_pieces};
 use std::alloc::{AllocError, Global};
 
 /// A word in its place: in which word of the line it is, and from which byte of that on.

@@ -7,7 +7,7 @@ use rc_read::parts::{Parts, Region};
 use rc_read::spots::fits;
 use rc_read::table::Part;
 use rc_read::words::is;
-use rc_report::text::put_piece;
+use rc_text::text::put_piece;
 use std::alloc::AllocError;
 
 /// What to write for a line that begins with a word of C, or of another place.

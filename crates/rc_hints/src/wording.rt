@@ -1,6 +1,6 @@
 //! Pieces of a hint.
 
-use rc_report::text::{put_counted, put_piece};
+use rc_text::text::{put_counted, put_piece};
 use std::alloc::AllocError;
 
 /// Adds a word, cut at 40 bytes, with `?` for what isn't printable.

@@ -7,8 +7,7 @@ use Rattle.rc_lang.specs.Program.{Program}
 use Rattle.rc_read.specs.Answer.{answer_of}
 use Rattle.rc_read.specs.Causes.{number_of_cause}
 use Rattle.rc_read.specs.Words.{cut, words_of}
-use Rattle.rc_report.specs.declared.verdict.Verdict.{Verdict}
-use Rattle.rc_report.specs.declared.verdict.Verdict.TheVariants.{Accepted, Refused, Unreadable}
+use Rattle.rc_keeps.specs.declared.engine.UnreadLine.{UnreadLine}
 
 -- ---- a line
 
@@ -70,9 +69,7 @@ CanBeRead bytes = (P : Program) × (answer_of bytes ≡ Ok P)
 abbrev pub IsKept : List ℕ → List ℕ → Type 0
 IsKept bytes text = CanBeRead bytes × CanBeRead text × IsRefilled bytes text
 
--- That, or the text can't be read, and this is its verdict.
-abbrev pub GivesKept : List ℕ → Result (Vec ℕ) Verdict → Type 0
+-- That, or this is the first line that can't be read.
+abbrev pub GivesKept : List ℕ → Result (Vec ℕ) UnreadLine → Type 0
 GivesKept bytes (Ok text) = IsKept bytes text.items
-GivesKept bytes (Err Accepted) = ⊥
-GivesKept bytes (Err (Refused r)) = ⊥
-GivesKept bytes (Err (Unreadable line cause)) = answer_of bytes ≡ Err (line, number_of_cause cause)
+GivesKept bytes (Err unread) = answer_of bytes ≡ Err (unread.line, number_of_cause unread.cause)

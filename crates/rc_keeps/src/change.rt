@@ -7,7 +7,7 @@ use crate::kept::{Kept, sq_on};
 use crate::parted::has_when;
 use rc_lang::lines::{Line, Stmt};
 use rc_lang::program::{Program, Thread};
-use rc_report::source::Lines;
+use rc_read::source::Lines;
 use rc_rules::cause::Cause;
 use rc_rules::mode::{Slot, unlocked};
 use rc_rules::side::Side;

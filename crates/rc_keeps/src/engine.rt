@@ -11,10 +11,16 @@ use crate::refill::refilled;
 use crate::row::{declared, size};
 use rc_lang::lines::Stmt;
 use rc_lang::program::Program;
-use rc_read::{ReadFault, read_program};
-use rc_report::source::Lines;
-use rc_report::verdict::Verdict;
+use rc_read::source::Lines;
+use rc_read::{ReadCause, ReadFault, read_program};
 use std::alloc::{AllocError, Global};
+
+/// The first line of a text that can't be read, from 1, and why.
+#[derive(Clone, Copy)]
+pub struct UnreadLine {
+    pub line: u32,
+    pub cause: ReadCause,
+}
 
 /// A text and its program.
 #[derive(Drop)]
@@ -26,8 +32,8 @@ struct Reading {
 /// The text with the items of its loops as large as the loops can keep them: each loop gets what is held where it is
 /// entered, less what isn't held where it ends, unless a line in it needs that. What is printed is no verdict. A loop
 /// stays as it is if an entry is open at its top or its end, since no items help then; if nothing reaches it; and below
-/// a line of its thread that stays refused. A text that can't be read is answered with its verdict.
-pub fn kept_text(alloc: Global, source: &[u8]) -> Result<Result<Vec<u8>, Verdict>, AllocError>
+/// a line of its thread that stays refused. Of a text that can't be read the first such line is answered.
+pub fn kept_text(alloc: Global, source: &[u8]) -> Result<Result<Vec<u8>, UnreadLine>, AllocError>
     ensures { IfOk result (GivesKept source.now) }
 {
     match read_program(alloc, source) {
@@ -36,7 +42,7 @@ pub fn kept_text(alloc: Global, source: &[u8]) -> Result<Result<Vec<u8>, Verdict
             let text = filled(alloc, source, first)?;
             Ok(Ok(text))
         }
-        Err(ReadFault::Text { line, cause }) => Ok(Err(Verdict::Unreadable { line, cause })),
+        Err(ReadFault::Text { line, cause }) => Ok(Err(UnreadLine { line, cause })),
         Err(ReadFault::OutOfMemory) => Err(AllocError),
     }
 }

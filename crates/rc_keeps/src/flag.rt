@@ -4,8 +4,8 @@ ghost use Rattle.std.specs.Prelude.{◌≡◌, [], MatchOption, true};
 ghost use Rattle.rc_keeps.specs.Inside.{BeginsFlag};
 ghost use Rattle.rc_keeps.specs.Keeps.{flag_words, has_byte};
 
+use rc_read::source::first_word;
 use rc_read::words::is;
-use rc_report::source::first_word;
 
 /// Whether two lists name the same flag, or both none.
 pub fn is_same_flag(items: &[u8], list: &[u8]) -> bool

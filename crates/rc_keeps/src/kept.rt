@@ -2,10 +2,10 @@
 
 use crate::row::{above, added, declared, held, lessen, listed, put_row};
 use rc_lang::program::{Items, Program};
-use rc_report::text::{put_counted, put_piece, put_pieces};
 use rc_rules::mode::{Submitting, sq_of, unlocked};
 use rc_rules::side::Side;
 use rc_rules::state::State;
+use rc_text::text::{put_counted, put_piece, put_pieces};
 use std::alloc::{AllocError, Global};
 
 /// What a loop keeps at its top: while the flag is 0, while it isn't, and how many entries may be queued in a lock.

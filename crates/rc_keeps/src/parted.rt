@@ -4,8 +4,8 @@ ghost use Rattle.std.specs.Prelude.{◌≡◌, MatchOption, false, true};
 ghost use Rattle.rc_keeps.specs.Inside.{IsCutAt, IsParted, OpensNoLoop};
 ghost use Rattle.rc_keeps.specs.Keeps.{OpensLoop, has_byte};
 
+use rc_read::source::first_word;
 use rc_read::words::is;
-use rc_report::source::first_word;
 
 /// A line that opens a loop: what is before its items, the items, and what is behind its brace.
 #[derive(Clone, Copy)]

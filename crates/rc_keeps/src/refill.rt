@@ -2,12 +2,12 @@
 
 ghost use Rattle.std.specs.Prelude.{◌≡◌, IfOk, true};
 ghost use Rattle.rc_keeps.specs.Keeps as spec;
-ghost use Rattle.rc_report.specs.Text.{PutsSome};
+ghost use Rattle.rc_text.specs.Text.{PutsSome};
 
 use crate::fill::{Fill, Fills};
 use crate::flag::is_same_flag;
 use crate::parted::{around_items, cut_at};
-use rc_report::text::{put_piece, put_pieces};
+use rc_text::text::{put_piece, put_pieces};
 use std::alloc::{AllocError, Global};
 
 /// The source with these items of its loops. The rest of each line stays, byte for byte.

@@ -1,8 +1,8 @@
 //! How much there is of each part of a program: the shares of each buffer, each token, and the credits.
 
 use rc_lang::program::{Program, Share};
-use rc_report::text::{put_number, put_piece, put_pieces};
 use rc_rules::side::Side;
+use rc_text::text::{put_number, put_piece, put_pieces};
 use std::alloc::{AllocError, Global};
 
 /// As much as the program declares.

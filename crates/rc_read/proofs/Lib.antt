@@ -20,4 +20,5 @@ pub mod Rows
 pub mod Seen
 pub mod Sizes
 pub mod Streams
+mod TextWords
 pub mod Among

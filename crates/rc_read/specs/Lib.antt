@@ -8,6 +8,7 @@ pub mod Quick
 pub mod Says
 pub mod Sentences
 pub mod Sheets
+pub mod Source
 pub mod Spots
 pub mod Steps
 pub mod Stream

@@ -15,6 +15,7 @@ pub mod parts;
 mod reader;
 pub mod reserved;
 mod says;
+pub mod source;
 pub mod spots;
 pub mod table;
 mod values;

@@ -44,7 +44,7 @@ pub fn begins_strange(line: &[u8]) -> bool
     }
 }
 
-fn is_blank(b: u8) -> bool
+pub fn is_blank(b: u8) -> bool
     ensures { result ≡ spec.is_blank b }
 {
     b == b'\t' || b == b'\r' || b == b' '

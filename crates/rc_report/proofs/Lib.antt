@@ -9,7 +9,6 @@ pub mod Placed
 pub mod Steps
 pub mod Stretches
 pub mod Tallies
-pub mod Texts
-pub mod TextWords
 pub mod Traces
 pub mod Yielded
+pub use Rattle.rc_text.proofs.Texts

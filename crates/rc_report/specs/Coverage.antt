@@ -13,7 +13,7 @@ use Rattle.rc_report.specs.declared.coverage.Span.{Span}
 use Rattle.rc_report.specs.declared.coverage.Way.{Way}
 use Rattle.rc_report.specs.declared.coverage.Way.TheVariants.{Yes, No, Case, Other, Nothing}
 use Rattle.rc_report.specs.Printed.{placed}
-use Rattle.rc_report.specs.Source.{opening_words}
+use Rattle.rc_read.specs.Source.{opening_words}
 
 -- ---- ways
 

@@ -7,11 +7,12 @@ pub mod Made
 pub mod Pieces
 pub mod Printed
 pub mod Shown
-pub mod Source
 pub mod Statuses
 pub mod Steps
 pub mod Streams
 pub mod Summaries
-pub mod Text
 pub mod Traces
 pub mod Verdicts
+pub use Rattle.rc_read.specs.Source
+pub use Rattle.rc_text.specs.Names
+pub use Rattle.rc_text.specs.Text

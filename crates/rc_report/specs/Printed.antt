@@ -1,9 +1,8 @@
 -- The printed forms of events and faults.
-use Rattle.std.specs.Prelude.{ℕ, ◌+◌, cond, List, [], ◌∷◌, ◌++◌, codes, true, false, Option, Some, None, decimal, slice_get}
+use Rattle.std.specs.Prelude.{ℕ, ◌+◌, List, [], ◌∷◌, ◌++◌, codes, true, false, decimal}
 use Rattle.std.specs.Fmt.{signed_decimal}
 use Rattle.std.specs.List.{flat_map}
-use Rattle.rc_lang.specs.declared.lines.Locks.{Locks}
-use Rattle.rc_lang.specs.Program.{Buffer, Program, Thread}
+use Rattle.rc_lang.specs.Program.{Program}
 use Rattle.rc_world.specs.declared.event.Action.{Action}
 use Rattle.rc_world.specs.declared.event.Action.TheVariants.{VariableSet, Loaded, Stored, Filled, Printed, Locked, Released, EntryOpened, ReadPrepared, WritePrepared, FsyncPrepared, NopPrepared, DataSet, Submitted, Peeked, PeekedNone, Reaped, ItemsPut, Branched, Looped, LoopLeft}
 use Rattle.rc_world.specs.declared.event.Completion.{Completion}
@@ -12,6 +11,7 @@ use Rattle.rc_world.specs.declared.event.Event.TheVariants.{ByThread, ByKernel}
 use Rattle.rc_world.specs.declared.fault.Fault.{Fault}
 use Rattle.rc_world.specs.declared.fault.Party.{Party}
 use Rattle.rc_world.specs.declared.fault.Party.TheVariants.{At, InKernel}
+pub use Rattle.rc_text.specs.Names.{buffer_name, name_of_buffer, pool_name, side_text, thread_name}
 use Rattle.rc_world.specs.FaultNames.{name_of_fault, number_of_fault}
 
 -- these pieces one after another
@@ -23,37 +23,9 @@ abbrev pub placed : {A : Type 0} → (ℕ → A → List ℕ) → ℕ → List A
 placed text i [] = []
 placed text i (x ∷ xs) = text i x ++ placed text (i + 1) xs
 
--- the name of a thread
-abbrev pub name_in : Option Thread → List ℕ
-name_in None = []
-name_in (Some thread) = thread.name
-
-abbrev pub thread_name : Program → ℕ → List ℕ
-thread_name program i = name_in (slice_get program.threads i)
-
--- the name of a buffer
-abbrev pub name_of_buffer : Option Buffer → List ℕ
-name_of_buffer None = []
-name_of_buffer (Some buffer) = buffer.name
-
-abbrev pub buffer_name : Program → ℕ → List ℕ
-buffer_name program b = name_of_buffer (slice_get program.buffers b)
-
--- the name of a pool
-abbrev pub name_of_pool : Option (List ℕ) → List ℕ
-name_of_pool None = []
-name_of_pool (Some name) = name
-
-abbrev pub pool_name : Program → ℕ → List ℕ
-pool_name program n = name_of_pool (slice_get program.pools n)
-
 -- a word, with its blanks, and a value
 abbrev pub valued : List ℕ → List ℕ → List ℕ
 valued word value = joined (word ∷ value ∷ [])
-
--- the side of some locks, after a blank, and nothing of both
-abbrev pub side_text : Locks → List ℕ
-side_text l = cond l.sq (cond l.cq [] (codes " sq")) (cond l.cq (codes " cq") [])
 
 -- the user data and the result of a completion
 abbrev pub completion_text : Completion → List ℕ

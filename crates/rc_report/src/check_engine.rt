@@ -4,7 +4,7 @@ ghost use Rattle.std.specs.Prelude.{IfOk};
 ghost use Rattle.rc_read.specs.Answer.{answer_of};
 ghost use Rattle.rc_report.specs.Checks.{ChecksAs, GivesVerdict, IsVerdict, TellsVerdict, told};
 ghost use Rattle.rc_report.specs.Streams.{Answers, CanRead, CanWrite, CountsReads};
-ghost use Rattle.rc_report.specs.Text.{Puts, PutsAnswer};
+ghost use Rattle.rc_text.specs.Text.{Puts, PutsAnswer};
 
 use crate::engine_fault::EngineFault;
 use crate::reading::read_text;

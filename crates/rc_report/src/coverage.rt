@@ -4,12 +4,12 @@ ghost use Rattle.std.specs.Prelude.{◌≡◌, ◌++◌, IfOk, OnOk, count_by};
 ghost use Rattle.std.specs.List.{list_any};
 ghost use Rattle.rc_lang.specs.Program.{lines_of};
 ghost use Rattle.rc_report.specs.Coverage.{before, case_at, cases_of, coverage_text, ended_at, finished, has_events, has_run, idle_after, idle_in, idle_text, is_at, is_case, is_taken, line_head, listed_span, or_none, program_ways, span_after, span_text, span_to, spans_of, taken_text, takes, thread_ways, way_name, way_text, ways_of, ways_text};
-ghost use Rattle.rc_report.specs.Text.{Puts};
+ghost use Rattle.rc_text.specs.Text.{Puts};
 
-use crate::source::{Lines, opening_words};
-use crate::text::{put_counted, put_number, put_piece};
 use rc_lang::lines::{Line, Stmt};
 use rc_lang::program::Program;
+use rc_read::source::{Lines, opening_words};
+use rc_text::text::{put_counted, put_number, put_piece};
 use rc_world::event::{Action, Event};
 use std::alloc::{AllocError, Global};
 

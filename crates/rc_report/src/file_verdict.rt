@@ -3,12 +3,12 @@
 ghost use Rattle.std.specs.Prelude.{◌≡◌, IfOk, Some};
 ghost use Rattle.serde_json.specs.View.{view};
 ghost use Rattle.rc_report.specs.Files.{file_json, file_text};
-ghost use Rattle.rc_report.specs.Text.{Puts};
+ghost use Rattle.rc_text.specs.Text.{Puts};
 ghost use Rattle.rc_report.specs.Verdicts.{finding, finding_object};
 
 use crate::shown::put_shown;
-use crate::text::{put_counted, put_piece, put_pieces};
 use crate::verdict::{Verdict, put_cause};
+use rc_text::text::{put_counted, put_piece, put_pieces};
 use serde_json::{Value, json};
 use std::alloc::{AllocError, Global};
 

@@ -12,13 +12,14 @@ pub mod file_verdict;
 pub mod printed;
 pub mod reading;
 pub mod shown;
-pub mod source;
 pub mod status;
 pub mod step_engine;
 pub mod stepping;
 pub mod streams;
 pub mod summary;
-pub mod text;
 pub mod trace;
 pub mod verdict;
 pub mod writing;
+
+pub use rc_read::source;
+pub use rc_text::{names, text};

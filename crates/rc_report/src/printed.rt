@@ -2,10 +2,10 @@
 
 ghost use Rattle.std.specs.Prelude.{◌≡◌, [], ◌∷◌};
 ghost use Rattle.std.specs.List.{flat_map};
-ghost use Rattle.rc_lang.specs.Program.{IsProgram};
 ghost use Rattle.rc_report.specs.Pieces.{line_text, words_text};
-ghost use Rattle.rc_report.specs.Printed.{action_text, buffer_name, completion_text, event_line, joined, pool_name, side_text, thread_line, thread_name};
+ghost use Rattle.rc_report.specs.Printed.{action_text, completion_text, event_line, joined, thread_line};
 ghost use Rattle.rc_report.specs.Streams.{CanWrite, Writes};
+ghost use Rattle.rc_text.specs.Names.{side_text};
 
 use crate::engine_fault::EngineFault;
 use crate::streams::Sink;
@@ -13,6 +13,7 @@ use crate::writing::{write_piece, write_pieces};
 use itoa::Buffer;
 use rc_lang::lines::Locks;
 use rc_lang::program::Program;
+pub use rc_text::names::{buffer_name, pool_name, side_of, thread_name};
 use rc_world::event::{Action, Completion, Event};
 
 /// A line in pieces, one after another.
@@ -33,38 +34,6 @@ pub fn short_line<'a>(
 {
     Line {
         pieces: [first, second, third, fourth, fifth, b"", b"", b"", b""],
-    }
-}
-
-/// The name of a thread, and nothing where the program has no such thread.
-#[inline]
-pub fn thread_name(program: &Program, thread: u32) -> &[u8]
-    ensures name { result.now ≡ thread_name program.now thread }
-    ensures made { IsProgram program.now }
-{
-    match program.threads().get(thread as usize) {
-        Some(thread) => &thread.name,
-        None => &[],
-    }
-}
-
-/// The name of a buffer, and nothing where the program has no such buffer.
-pub fn buffer_name(program: &Program, buffer: usize) -> &[u8]
-    ensures { result.now ≡ buffer_name program.now buffer }
-{
-    match program.buffers().get(buffer) {
-        Some(buffer) => &buffer.name,
-        None => &[],
-    }
-}
-
-/// The name of a pool, by its number, and nothing where the program has no such pool.
-pub fn pool_name(program: &Program, pool: usize) -> &[u8]
-    ensures { result.now ≡ pool_name program.now pool }
-{
-    match program.pools().get(pool) {
-        Some(name) => name,
-        None => &[],
     }
 }
 
@@ -102,17 +71,6 @@ fn completed<'a>(
         first: first.format(completion.user_data).as_bytes(),
         between: b" ",
         second: second.format(completion.res).as_bytes(),
-    }
-}
-
-/// The side of some locks, after a blank, and nothing of both.
-pub fn side_of(locks: Locks) -> &'static str
-    ensures { result.now ≡ side_text locks }
-{
-    match (locks.sq, locks.cq) {
-        (true, false) => " sq",
-        (false, true) => " cq",
-        _ => "",
     }
 }
 

@@ -4,12 +4,12 @@ ghost use Rattle.std.specs.Prelude.{◌≡◌, ◌+◌, ◌<◌, ◌^◌};
 ghost use Rattle.std.specs.Char.{digit_char};
 ghost use Rattle.rc_report.specs.Shown.{is_from, is_hidden, shown, shown_char};
 ghost use Rattle.rc_report.specs.Streams.{CanWrite, Writes};
-ghost use Rattle.rc_report.specs.Text.{Puts};
+ghost use Rattle.rc_text.specs.Text.{Puts};
 
 use crate::engine_fault::EngineFault;
 use crate::streams::Sink;
-use crate::text::put_piece;
 use crate::writing::write_piece;
+use rc_text::text::put_piece;
 use std::alloc::AllocError;
 
 /// Adds a text as it is shown: a control character, and a mark that turns the direction of text, as `\u` and four hex

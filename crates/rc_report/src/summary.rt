@@ -4,15 +4,15 @@ ghost use Rattle.std.specs.Prelude.{◌≡◌, ◌+◌, ◌<◌, ◌≤◌, ◌^
 ghost use Rattle.std.specs.List.{flat_map};
 ghost use Rattle.rc_report.specs.Printed.{placed};
 ghost use Rattle.rc_report.specs.Summaries.{counted, counts_text, is_completion_of, is_of, kind_name, longer, longest_stretch, next_stretch, others_text, ranked, ranked_with, result_in, result_text, results_text, stretch_line, stretches_after, summary_text, tally, thread_line, threads_text, token_head, token_line, total};
-ghost use Rattle.rc_report.specs.Text.{Puts};
+ghost use Rattle.rc_text.specs.Text.{Puts};
 
 use crate::coverage::put_coverage;
 use crate::printed::thread_name;
-use crate::source::Lines;
-use crate::text::{put_counted, put_piece, put_pieces, put_signed};
 use crate::trace::{End, put_end};
 use indexmap::IndexMap;
 use rc_lang::program::{Program, Token, TokenKind};
+use rc_read::source::Lines;
+use rc_text::text::{put_counted, put_piece, put_pieces, put_signed};
 use rc_world::event::Event;
 use std::alloc::{AllocError, Global};
 

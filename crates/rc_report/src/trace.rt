@@ -5,16 +5,16 @@ ghost use Rattle.rc_world.specs.FaultNames.{name_of_fault, number_of_fault};
 ghost use Rattle.rc_report.specs.Pieces.{line_text};
 ghost use Rattle.rc_report.specs.Printed.{end_line, event_lines, named_line, party_line, place_line};
 ghost use Rattle.rc_report.specs.Streams.{CanWrite, Writes};
-ghost use Rattle.rc_report.specs.Text.{Puts};
+ghost use Rattle.rc_text.specs.Text.{Puts};
 ghost use Rattle.rc_report.specs.Traces.{end_text, trace_text};
 
 use crate::engine_fault::EngineFault;
 use crate::printed::{Line, short_line, thread_name, write_event_line};
 use crate::streams::Sink;
-use crate::text::put_pieces;
 use crate::writing::write_pieces;
 use itoa::Buffer;
 use rc_lang::program::Program;
+use rc_text::text::put_pieces;
 use rc_world::event::Event;
 use rc_world::fault::{Fault, FaultKind, Party};
 use std::alloc::AllocError;

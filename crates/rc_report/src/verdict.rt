@@ -4,16 +4,16 @@ ghost use Rattle.std.specs.Prelude.{◌≡◌, IfOk, None, Some, option_map};
 ghost use Rattle.serde_json.specs.View.{view};
 ghost use Rattle.rc_report.specs.Streams.{CanWrite, Writes, WritesOrGrows};
 ghost use Rattle.rc_report.specs.Pieces.{line_text};
-ghost use Rattle.rc_report.specs.Text.{Puts};
+ghost use Rattle.rc_text.specs.Text.{Puts};
 ghost use Rattle.rc_report.specs.Verdicts.{cause_line, cause_text, finding, finding_line, finding_object, finding_of, finding_text, verdict_json, verdict_text};
 
 use crate::engine_fault::EngineFault;
 use crate::printed::{Line, short_line};
 use crate::streams::Sink;
-use crate::text::{put_counted, put_pieces};
 use crate::writing::{write_piece, write_pieces};
 use itoa::Buffer;
 use rc_read::ReadCause;
+use rc_text::text::{put_counted, put_pieces};
 pub use rc_verify::refusal::Refusal;
 use serde_json::{Value, json};
 use std::alloc::{AllocError, Global};

@@ -9,10 +9,10 @@ use crate::notes::{count_in, with_count};
 use crate::parts::put_part;
 use rc_lang::lines::{Locks, Op, Stmt};
 use rc_lang::program::Program;
-use rc_report::printed::pool_name;
-use rc_report::source::{Lines, put_line_words};
-use rc_report::text::{put_counted, put_number, put_piece, put_pieces};
+use rc_read::source::{Lines, put_line_words};
 use rc_split::part::Part;
+use rc_text::names::pool_name;
+use rc_text::text::{put_counted, put_number, put_piece, put_pieces};
 use std::alloc::AllocError;
 use ways::{Loss, Point, loss_of};
 

@@ -17,9 +17,9 @@ use crate::parts::put_part;
 use crate::spot::Spot;
 use rc_lang::lines::{Locks, Stmt};
 use rc_lang::program::Program;
-use rc_report::text::{put_counted, put_piece};
 use rc_rules::cause::Cause;
 use rc_split::part::Part;
+use rc_text::text::{put_counted, put_piece};
 use std::alloc::{AllocError, Global};
 
 /// A refused line: its program, the number of its thread, and its place there.

@@ -3,10 +3,10 @@
 use crate::parts::{put_part, shares_of};
 use rc_lang::lines::{Stmt, Test};
 use rc_lang::program::{Items, Program, Thread};
-use rc_report::printed::pool_name;
-use rc_report::source::{Lines, opening_words};
-use rc_report::text::{put_counted, put_piece, put_pieces};
+use rc_read::source::{Lines, opening_words};
 use rc_split::part::Part;
+use rc_text::names::pool_name;
+use rc_text::text::{put_counted, put_piece, put_pieces};
 use std::alloc::{AllocError, Global};
 
 /// A part that is taken from a pool, and how many of it all lines of the program put there, which are fewer.

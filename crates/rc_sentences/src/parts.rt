@@ -1,10 +1,10 @@
 //! Lists of parts, as in the notation.
 
 use rc_lang::program::{Items, Program, Share};
-use rc_report::printed::buffer_name;
-use rc_report::text::{put_number, put_piece, put_pieces};
 use rc_rules::side::Side;
 use rc_split::part::Part;
+use rc_text::names::buffer_name;
+use rc_text::text::{put_number, put_piece, put_pieces};
 use std::alloc::AllocError;
 
 /// What a list of items says is held on a side of the flag; nothing where there is no such list.

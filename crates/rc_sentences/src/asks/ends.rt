@@ -5,9 +5,9 @@ ghost use Rattle.std.specs.Prelude.{◌<◌, length};
 use super::side_asks::put_slot;
 use rc_lang::lines::{Line, Stmt, Test};
 use rc_lang::program::Program;
-use rc_report::text::{put_number, put_piece};
 use rc_rules::mode::Slot;
 use rc_rules::state::State;
+use rc_text::text::{put_number, put_piece};
 use rc_verify::labels::Labels;
 use std::alloc::AllocError;
 

@@ -2,8 +2,8 @@
 
 use crate::parts::shares_of;
 use rc_lang::program::{Program, Thread};
-use rc_report::printed::buffer_name;
-use rc_report::text::{put_counted, put_number, put_pieces};
+use rc_text::names::buffer_name;
+use rc_text::text::{put_counted, put_number, put_pieces};
 use std::alloc::AllocError;
 
 /// The threads up to this one, in text order.

@@ -3,12 +3,12 @@
 use crate::parts::{Claim, Counted, first_missing, put_parts, said};
 use rc_lang::program::Program;
 use rc_listing::state_text::put_kind;
-use rc_report::printed::buffer_name;
-use rc_report::text::{put_counted, put_number, put_piece, put_pieces};
 use rc_rules::mode::{Slot, Submitting, sq_of, unlocked};
 use rc_rules::needs::{Asks, kind_of};
 use rc_rules::side::Side;
 use rc_split::part::Part;
+use rc_text::names::buffer_name;
+use rc_text::text::{put_counted, put_number, put_piece, put_pieces};
 use std::alloc::AllocError;
 
 /// What is known of the submission side of the ring on a side.

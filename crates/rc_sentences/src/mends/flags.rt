@@ -3,7 +3,7 @@
 use super::Refused;
 use super::loops::{Kept, put_line};
 use rc_lang::lines::{Comparison, Op, Stmt, Test};
-use rc_report::text::{put_counted, put_piece, put_pieces};
+use rc_text::text::{put_counted, put_piece, put_pieces};
 use std::alloc::AllocError;
 
 /// The test of a variable in whose branch a refused line is, innermost: its place, and the variable.

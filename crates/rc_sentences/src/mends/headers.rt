@@ -3,8 +3,8 @@
 use super::Refused;
 use crate::parts::{put_part, shares_of};
 use rc_lang::program::Thread;
-use rc_report::text::{put_counted, put_piece, put_pieces};
 use rc_split::part::Part;
+use rc_text::text::{put_counted, put_piece, put_pieces};
 use std::alloc::AllocError;
 
 /// How many shares of a buffer a thread begins with.

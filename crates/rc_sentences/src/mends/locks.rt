@@ -2,7 +2,7 @@
 
 use super::Refused;
 use rc_lang::lines::{Op, Stmt, Test};
-use rc_report::text::{put_counted, put_piece, put_pieces};
+use rc_text::text::{put_counted, put_piece, put_pieces};
 use std::alloc::AllocError;
 
 /// The places at which the locks were taken that are held at a refused line.

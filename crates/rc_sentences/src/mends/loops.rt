@@ -5,8 +5,8 @@ use crate::lost::ways::Point;
 use crate::parts::{put_part, shares_of};
 use rc_lang::lines::{Op, Stmt};
 use rc_lang::program::Items;
-use rc_report::text::{put_counted, put_number, put_piece, put_pieces};
 use rc_split::part::Part;
+use rc_text::text::{put_counted, put_number, put_piece, put_pieces};
 use std::alloc::AllocError;
 
 /// The items of a loop as they should be: with this part too, always or while the flag isn't 0, and with this bound.

@@ -4,9 +4,9 @@ use super::Refused;
 use crate::notes::{count_in, shortage_of, with_count};
 use crate::parts::{Counted, put_part, put_parts, said};
 use rc_lang::lines::{Op, Stmt, Test};
-use rc_report::printed::pool_name;
-use rc_report::text::{put_counted, put_piece, put_pieces};
 use rc_split::part::Part;
+use rc_text::names::pool_name;
+use rc_text::text::{put_counted, put_piece, put_pieces};
 use std::alloc::AllocError;
 
 /// Whether a line needs the parts that it asks for only to use a buffer, and gives them to no request.

@@ -3,7 +3,7 @@
 use super::Refused;
 use rc_lang::lines::{Locks, Op, Stmt, Test};
 use rc_lang::program::Program;
-use rc_report::text::{put_counted, put_number, put_piece, put_pieces};
+use rc_text::text::{put_counted, put_number, put_piece, put_pieces};
 use std::alloc::AllocError;
 
 /// Where the bound on the queue comes from that is known at a `get_sqe`: a place, and how many calls of `get_sqe` there

@@ -1,5 +1,5 @@
 use Rattle.rc_report.specs.Coverage.{idle_text, program_ways, spans_of}
-use Rattle.rc_report.proofs.Texts.{puts_after}
+use Rattle.rc_text.proofs.Texts.{puts_after}
 use Rattle.rc_report.proofs.coverage.put_coverage.Goals as goal
 
 pub returns : goal.returns

@@ -1,6 +1,6 @@
 use Rattle.std.proofs.Common.{◌++◌, codes}
 use Rattle.rc_report.specs.Coverage.{or_none}
-use Rattle.rc_report.proofs.Texts.{puts_after}
+use Rattle.rc_text.proofs.Texts.{puts_after}
 use Rattle.rc_report.proofs.coverage.put_idle.Goals as goal
 
 pub returns : goal.returns

@@ -4,7 +4,7 @@ use Rattle.rc_lang.specs.Parts.{view_thread}
 use Rattle.rc_lang.specs.Program.{lines_of}
 use Rattle.rc_report.specs.Coverage.{thread_ways}
 use Rattle.rc_report.proofs.Placed.{numbered-more}
-use Rattle.rc_report.proofs.Texts.{grown}
+use Rattle.rc_text.proofs.Texts.{grown}
 use Rattle.rc_report.proofs.coverage.put_program_ways.Goals as goal
 
 pub loop-thread-preserved : goal.loop-thread-preserved

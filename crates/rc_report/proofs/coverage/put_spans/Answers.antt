@@ -1,6 +1,6 @@
 use Rattle.rc_report.specs.Coverage.{listed_span}
 use Rattle.rc_report.proofs.Placed.{placed-more}
-use Rattle.rc_report.proofs.Texts.{grown}
+use Rattle.rc_text.proofs.Texts.{grown}
 use Rattle.rc_report.proofs.coverage.put_spans.Goals as goal
 
 pub loop-index-preserved : goal.loop-index-preserved

@@ -1,6 +1,6 @@
 use Rattle.rc_report.specs.Coverage.{line_ways}
 use Rattle.rc_report.proofs.Placed.{placed-more}
-use Rattle.rc_report.proofs.Texts.{grown}
+use Rattle.rc_text.proofs.Texts.{grown}
 use Rattle.rc_report.proofs.coverage.put_thread_ways.Goals as goal
 
 pub loop-place-preserved : goal.loop-place-preserved

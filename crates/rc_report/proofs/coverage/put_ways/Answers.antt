@@ -1,7 +1,7 @@
 use Rattle.std.proofs.Common.{◌++◌, codes}
 use Rattle.rc_report.specs.Coverage.{line_head, taken_text}
 use Rattle.rc_report.proofs.Covered.{line_with_ways}
-use Rattle.rc_report.proofs.Texts.{puts_after, puts_along}
+use Rattle.rc_text.proofs.Texts.{puts_after, puts_along}
 use Rattle.rc_report.proofs.coverage.put_ways.Goals as goal
 
 pub returns : goal.returns

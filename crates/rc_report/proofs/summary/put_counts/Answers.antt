@@ -2,7 +2,7 @@ use Rattle.std.proofs.Common.{◌≡◌, ◌∙◌, ◌++◌, ap}
 use Rattle.rc_report.specs.Coverage.{coverage_text}
 use Rattle.rc_report.specs.Printed.{placed}
 use Rattle.rc_report.specs.Summaries.{longest_stretch, stretch_line, threads_text, token_line}
-use Rattle.rc_report.proofs.Texts.{puts_after}
+use Rattle.rc_text.proofs.Texts.{puts_after}
 use Rattle.rc_report.proofs.summary.put_counts.Goals as goal
 
 pub returns : goal.returns

@@ -1,8 +1,8 @@
 use Rattle.std.proofs.Common.{◌≡◌, ◌∙◌, ◌++◌, ap, length, take}
 use Rattle.std.specs.List.{flat_map}
 use Rattle.rc_report.specs.Summaries.{others_text, ranked, result_text, tally}
-use Rattle.rc_report.specs.Text.{Puts}
-use Rattle.rc_report.proofs.Texts.{puts_along, puts_after}
+use Rattle.rc_text.specs.Text.{Puts}
+use Rattle.rc_text.proofs.Texts.{puts_along, puts_after}
 use Rattle.rc_report.proofs.summary.put_results.Goals as goal
 
 pub returns : goal.returns

@@ -2,8 +2,8 @@ use Rattle.std.proofs.Common.{◌∙◌, ◌++◌, [], ◌∷◌, ap, append_ass
 use Rattle.std.proofs.lemmas.Bool.{ne_eqb}
 use Rattle.std.specs.Prelude.{decimal}
 use Rattle.rc_report.specs.Printed.{joined, thread_name}
-use Rattle.rc_report.specs.Text.{Puts}
-use Rattle.rc_report.proofs.Texts.{puts_along, puts_after}
+use Rattle.rc_text.specs.Text.{Puts}
+use Rattle.rc_text.proofs.Texts.{puts_along, puts_after}
 use Rattle.rc_report.proofs.summary.put_stretch.Goals as goal
 
 pub returns : goal.returns

@@ -3,7 +3,7 @@ use Rattle.std.proofs.lemmas.List.{length-map}
 use Rattle.rc_lang.specs.Parts.{view_thread}
 use Rattle.rc_report.specs.Summaries.{thread_line}
 use Rattle.rc_report.proofs.Placed.{numbered-more}
-use Rattle.rc_report.proofs.Texts.{grown}
+use Rattle.rc_text.proofs.Texts.{grown}
 use Rattle.rc_report.proofs.summary.put_threads.Goals as goal
 
 pub loop-thread-preserved : goal.loop-thread-preserved

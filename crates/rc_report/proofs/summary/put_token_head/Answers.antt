@@ -1,8 +1,8 @@
 use Rattle.std.proofs.Common.{◌≡◌, ◌∙◌, ◌++◌, [], ap, append_assoc, codes, count_by}
 use Rattle.std.specs.Prelude.{decimal}
 use Rattle.rc_report.specs.Summaries.{is_completion_of, kind_name}
-use Rattle.rc_report.specs.Text.{Puts}
-use Rattle.rc_report.proofs.Texts.{puts_along, puts_after}
+use Rattle.rc_text.specs.Text.{Puts}
+use Rattle.rc_text.proofs.Texts.{puts_along, puts_after}
 use Rattle.rc_report.proofs.summary.put_token_head.Goals as goal
 
 pub returns : goal.returns

@@ -2,7 +2,7 @@ use Rattle.std.proofs.Common.{◌∙◌, ◌++◌, ◌+◌, ap, sym, take}
 use Rattle.rc_report.specs.Printed.{placed}
 use Rattle.rc_report.specs.Summaries.{token_line}
 use Rattle.rc_report.proofs.Placed.{placed-more}
-use Rattle.rc_report.proofs.Texts.{grown}
+use Rattle.rc_text.proofs.Texts.{grown}
 use Rattle.rc_report.proofs.summary.put_tokens.Goals as goal
 
 pub loop-index-preserved : goal.loop-index-preserved

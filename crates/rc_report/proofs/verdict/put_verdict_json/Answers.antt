@@ -3,7 +3,7 @@ use Rattle.serde_json.specs.View.{view}
 use Rattle.serde_json.specs.Written.{compact_text, has_float}
 use Rattle.rc_report.specs.Verdicts.{finding, finding_object}
 use Rattle.rc_report.proofs.Objects.{object_has_no_float}
-use Rattle.rc_report.proofs.Texts.{puts_along}
+use Rattle.rc_text.proofs.Texts.{puts_along}
 use Rattle.rc_report.proofs.verdict.put_verdict_json.Goals as goal
 
 pub returns : goal.returns

@@ -3,7 +3,7 @@
 ghost use Rattle.std.specs.Prelude.{◌++◌, decimal};
 ghost use Rattle.std.specs.Fmt.{signed_decimal};
 ghost use Rattle.std.specs.List.{flat_map};
-ghost use Rattle.rc_report.specs.Text.{Puts};
+ghost use Rattle.rc_text.specs.Text.{Puts};
 
 use itoa::Buffer;
 use std::alloc::AllocError;

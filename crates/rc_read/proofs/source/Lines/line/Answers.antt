@@ -1,7 +1,7 @@
 use Rattle.std.proofs.Common.{◌≡◌, ◌∙◌, ap, map}
 use Rattle.rc_read.specs.Words.{text_lines}
-use Rattle.rc_report.proofs.TextWords.{numbered_line}
-use Rattle.rc_report.proofs.source.Lines.line.Goals as goal
+use Rattle.rc_read.proofs.TextWords.{numbered_line}
+use Rattle.rc_read.proofs.source.Lines.line.Goals as goal
 
 pub returns-in-Some : goal.returns-in-Some
 returns-in-Some c =

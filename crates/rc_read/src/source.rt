@@ -2,11 +2,11 @@
 
 ghost use Rattle.std.specs.Prelude.{◌≡◌, ◌<◌, ◌≤◌, ◌++◌, [], ◌∷◌, IfOk, MatchOption, length, slice_index_or, take, drop, false};
 ghost use Rattle.rc_read.specs.Words.{text_lines, word_if_any, words_of};
-ghost use Rattle.rc_read.specs.Words as words;
-ghost use Rattle.rc_report.specs.Source.{Begins, begins_blank, behind_blanks, line_numbered, line_words, opening_words};
-ghost use Rattle.rc_report.specs.Text.{Puts};
+ghost use Rattle.rc_read.specs.Source.{Begins, begins_blank, behind_blanks, line_numbered, line_words, opening_words};
+ghost use Rattle.rc_text.specs.Text.{Puts};
 
-use crate::text::{put_piece, put_pieces};
+use crate::words::is_blank;
+use rc_text::text::{put_piece, put_pieces};
 use std::alloc::{AllocError, Global};
 use std::marker::Model;
 
@@ -146,10 +146,4 @@ fn letters_in_front(line: &[u8]) -> usize
         }
     }
     line.len()
-}
-
-fn is_blank(b: u8) -> bool
-    ensures { result ≡ words.is_blank b }
-{
-    b == b'\t' || b == b'\r' || b == b' '
 }

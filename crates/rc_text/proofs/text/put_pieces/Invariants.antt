@@ -1,6 +1,6 @@
 use Rattle.std.proofs.Common.{◌≡◌, ◌++◌, take}
 use Rattle.std.specs.List.{flat_map}
-use Rattle.rc_report.proofs.text.put_pieces.Given as goal
+use Rattle.rc_text.proofs.text.put_pieces.Given as goal
 
 abbrev pub invariant-loop-piece : goal.invariant-loop-piece
 invariant-loop-piece l = l.text.items ≡ l.initial.text.items ++ flat_map (λ p. p.now) (take l.piece-index l.pieces)

@@ -2,7 +2,7 @@
 use Rattle.std.proofs.Common.{◌≡◌, ℕ, zero, suc, ◌-◌, ◌<◌, List, [], ◌∷◌, ◌++◌, length, get_or, map, refl, sym, ap, ◌∙◌, arith}
 use Rattle.std.proofs.lemmas.List.{get_or-map}
 use Rattle.rc_read.specs.Words.{last_line}
-use Rattle.rc_report.specs.Source.{line_numbered}
+use Rattle.rc_read.specs.Source.{line_numbered}
 
 -- ---- lines
 

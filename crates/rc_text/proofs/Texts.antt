@@ -3,7 +3,7 @@ use Rattle.std.proofs.Common.{◌≡◌, ℕ, ◌+◌, ◌<◌, List, ◌++◌, 
 use Rattle.std.proofs.lemmas.List.{flat_map_more, take_more}
 use Rattle.std.specs.Global.{Vec}
 use Rattle.std.specs.List.{flat_map}
-use Rattle.rc_report.specs.Text.{Puts}
+use Rattle.rc_text.specs.Text.{Puts}
 
 -- a text with one part more
 pub grown : (start now next so_far part whole : List ℕ) → now ≡ start ++ so_far → next ≡ now ++ part → whole ≡ so_far ++ part → next ≡ start ++ whole

@@ -1,6 +1,6 @@
 use Rattle.std.proofs.Common.{◌≡◌, ◌++◌, length, map}
 use Rattle.rc_read.specs.Words.{text_lines}
-use Rattle.rc_report.proofs.source.Lines.of.Given as goal
+use Rattle.rc_read.proofs.source.Lines.of.Given as goal
 
 abbrev pub invariant-loop-rest : goal.invariant-loop-rest
 invariant-loop-rest l = text_lines l.text ≡ map (λ line. line.now) l.lines.items ++ text_lines l.rest

@@ -1,0 +1,5 @@
+//! What appends to a text: pieces, numbers, and the names of a program's parts.
+#![tactic(auto)]
+
+pub mod names;
+pub mod text;
