@@ -1,98 +1,86 @@
 #!/usr/bin/env python3
-"""Says which edits don't apply: those that the prover has to refuse, the wrong rules, and the planted bugs.
+"""Says which edits don't apply: wrong code that the prover has to refuse, the wrong rules, and the planted bugs.
 
 usage: ci/edits.py
+       ci/edits.py --try [--after-ci] [CRATE..]
 
-An edit is a file of crates/NAME/must-fail, of audit/rules or of audit/bugs. After lines that begin with '#' it has pairs of lines
-'old: TEXT' and 'new: TEXT' for the file that the last line 'file: PATH' named. Each old TEXT is there exactly once,
-as the pairs before it left the file. The edits of a crate name its files, each TEXT as it is; a wrong rule names
-files below crates/, a bug one of examples/follow, and a \\n in their TEXT is a line's end. The status is 1 where an edit doesn't apply.
+With --try it has the prover try the edits of these crates, or of those of the specification where none is named, and says
+which are not refused. It needs rt on the PATH, and builds the libraries below the crates where they aren't built;
+--after-ci takes them as `rt ci` has left them. A check begins with what `rt check` kept. RT_JOBS says how many checks go
+side by side. edit_files.py says what an edit is, edit_trials.py how it is judged. The status is 1 where an edit doesn't
+apply or isn't refused.
 """
 
 import sys
-from pathlib import Path
 
-TOP = Path(__file__).resolve().parent.parent
-RULES = TOP / "audit" / "rules"
-BUGS = TOP / "audit" / "bugs"
-FOLLOWED = TOP / "examples" / "follow"
+from edit_files import (
+    BUGS,
+    CRATES,
+    RULES,
+    TOP,
+    Stale,
+    bug_edits,
+    changed_program,
+    changed_rule,
+    crate_edits,
+    edited_crates,
+    rule_edits,
+    self_test_edits,
+)
+from edit_functions import read_edit
+from edit_trials import try_crates
 
-
-class Stale(Exception):
-    """An edit doesn't apply."""
-
-
-def rule_edits():
-    return sorted(RULES.glob("*.edit"))
-
-
-def bug_edits():
-    return sorted(BUGS.glob("*.edit"))
-
-
-def changed(edit, folder, unescape=lambda text: text):
-    """The files of the folder that the edit changes, and what it makes of them."""
-    texts = {}
-    path = old = None
-    for line in edit.read_text().split("\n"):
-        word, _, text = line.partition(":")
-        text = unescape(text[1:])
-        if line.startswith("#") or not line:
-            continue
-        if word == "file":
-            path = folder / text
-            if not path.is_file():
-                raise Stale(f"there is no file {text}")
-            texts.setdefault(path, path.read_text())
-        elif word == "old" and path:
-            old = text
-            times = texts[path].count(old) if old else 0
-            if times != 1:
-                raise Stale(f"this stands {times} times in {path.relative_to(folder)}: {old[:100]}")
-        elif word == "new" and old is not None:
-            texts[path] = texts[path].replace(old, text)
-            old = None
-        else:
-            raise Stale(f"this is no line of an edit: {line[:100]}")
-    if not texts or old is not None:
-        raise Stale("it changes nothing")
-    return texts
-
-
-def changed_rule(edit, crates):
-    """As `changed`, of a wrong rule, for the crates in this folder."""
-    return changed(edit, crates, lambda text: text.replace("\\n", "\n"))
-
-
-def changed_program(edit):
-    """As `changed`, for a planted bug."""
-    return changed_rule(edit, FOLLOWED)
+# The crates of the specification, lowest first: the whole test tries their edits, and audit/edits those of the others.
+SPECIFICATION = (
+    "rc_index",
+    "rc_entry",
+    "rc_ring",
+    "rc_lang",
+    "rc_read",
+    "rc_split",
+    "rc_rules",
+    "rc_verify",
+    "rc_world",
+    "rc_admit",
+    "rc_device",
+    "rc_run",
+    "rc_report",
+)
 
 
 def try_edit(edit):
     if edit.parent == BUGS:
         changed_program(edit)
     elif edit.parent == RULES:
-        changed_rule(edit, TOP / "crates")
+        changed_rule(edit, CRATES)
     else:
-        changed(edit, edit.parent.parent)
+        read_edit(edit)
 
 
-def main():
-    if len(sys.argv) != 1:
-        sys.exit(__doc__)
+def stale_edits():
+    """Says which edits don't apply, and returns whether there are such."""
+    kinds = [crate_edits(it) for it in {*edited_crates(), *SPECIFICATION}]
+    kinds += [self_test_edits(), rule_edits(), bug_edits()]
     stale = 0
-    must_fail = sorted((TOP / "crates").glob("*/must-fail/*.edit"))
-    for edit in must_fail + rule_edits() + bug_edits():
+    for edit in sorted(it for kind in kinds for it in kind):
         try:
             try_edit(edit)
         except Stale as why:
             stale += 1
             print(f"{edit.relative_to(TOP)}: {why}", file=sys.stderr)
-    if stale or not must_fail or not rule_edits() or not bug_edits():
+    if stale or not all(kinds):
         print(f"edits that don't apply: {stale}", file=sys.stderr)
-        return 1
-    return 0
+    return stale > 0 or not all(kinds)
+
+
+def main():
+    words = sys.argv[1:]
+    if not words:
+        return int(stale_edits())
+    crates = [it for it in words[1:] if it != "--after-ci"]
+    if words[0] != "--try" or set(crates) - set(edited_crates()):
+        sys.exit(__doc__)
+    return int(not try_crates(crates or SPECIFICATION, "--after-ci" in words))
 
 
 if __name__ == "__main__":
