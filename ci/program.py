@@ -6,10 +6,10 @@ usage: ci/program.py PROGRAM
 Of each command it sees each exit status that the command has, 0 to 3, with what is on standard output and what is on
 standard error, apart. It names several files, one that isn't there, a folder, one that may not be read, and standard
 input; it closes the standard streams, and gives a full device, a pipe that nobody reads and an input without an end; it
-gives texts with carriage returns and a text at the limits of the notation. A run makes the choices of its seed, is made
-again by the schedule of its events, and has each of them in its summary; one whose threads can't be made is out of
-memory. What a file may be and how many processes there may be is no obstacle for
-root: for that the program is run as a user that has nothing.
+gives texts with carriage returns, in pieces, and a text at the limits of the notation; reads fail after the text, and
+writes after some bytes. A run makes the choices of its seed, is made again by the schedule of its events, and has each
+of them in its summary; its threads take turns; one whose threads can't be made is out of memory. What a file may be and
+how many processes there may be is no obstacle for root: for that the program is run as a user that has nothing.
 
 A line is printed for each answer that isn't as it should be, and for each part that was left out; then how many there
 were. The status is 1 where an answer is wrong.
@@ -19,9 +19,11 @@ import os
 import re
 import resource
 import shutil
+import socket
 import subprocess
 import sys
 import tempfile
+import tty
 from pathlib import Path
 
 TOP = Path(__file__).resolve().parent.parent
@@ -48,6 +50,64 @@ SHUT_DOWN = b"".join(
         b'{"jsonrpc":"2.0","method":"exit"}',
     )
 )
+# Two threads pass a token to each other by two pools, outside any lock. Nothing is ever pending.
+PASSING = b"""ringcheck 4
+ring 1
+pool there
+pool back
+token 1 nop
+thread t0 holds t:1 {
+loop keeps t:1 {
+put there t:1
+loop keeps {
+if take back t:1 {
+break
+}
+}
+}
+}
+thread t1 holds {
+loop keeps {
+if take there t:1 {
+put back t:1
+}
+}
+}
+"""
+
+# A thread that submits a nop again and again and waits for it: it finds another's completion at the front for as long as
+# that one doesn't move.
+POLLER = b"""thread t%d holds t:%d c:1 {
+loop keeps t:%d c:1 {
+lock {
+get_sqe
+prep_nop
+set_data64 %d
+loop keeps q:2 {
+r = submit
+if sq_ready == 0 {
+break
+}
+}
+}
+loop keeps {
+lock {
+peek_cqe r {
+case %d {
+cqe_seen
+break
+}
+other {
+}
+none {
+}
+}
+}
+}
+}
+}
+"""
+POLLING = b"ringcheck 1\nring 2\ntoken 1 nop\ntoken 2 nop\n" + b"".join(POLLER % ((n,) * 5) for n in (1, 2))
 FILES = {
     "good.rc": GOOD,
     "refused.rc": REFUSED,
@@ -63,6 +123,8 @@ MISSING = "No such file or directory"
 FOLDER = "Is a directory"
 NO_FOLDER = "Not a directory"
 FORBIDDEN = "Permission denied"
+BROKEN = "Input/output error"
+NO_END = "the file has no end"
 MEMORY = "out of memory (20)"
 BESIDE = "'-' stands beside other files (see 'ringcheck --help')"
 NO_EXPLAIN = "the following required arguments were not provided: --explain (see 'ringcheck --help')"
@@ -181,6 +243,8 @@ ROWS = [
     (("check", "missing.rc"), GOOD, 3, "", f"missing.rc: {MISSING}"),
     (("check", "good.rc/x"), GOOD, 3, "", f"good.rc/x: {NO_FOLDER}"),
     (("check", "folder"), GOOD, 3, "", f"folder: {FOLDER}"),
+    (("check", "/proc/self/mem"), GOOD, 3, "", f"/proc/self/mem: {BROKEN}"),
+    (("check", "/dev/zero"), GOOD, 3, "", f"/dev/zero: {NO_END}"),
     (("check", "a b\n.rc"), b"", 0, "a b\\u000a.rc: accepted\n", ""),
     (("check", "refused.rc", "good.rc"), b"", 1, "refused.rc:4: refused V1 Unlocked\ngood.rc: accepted\n", ""),
     (("check", "--json", "good.rc"), b"", 0, '{"file":"good.rc","verdict":"accepted"}\n', ""),
@@ -246,6 +310,30 @@ STREAMS = [
     ("ulimit -v 100000; exec </dev/zero", RUN, b"", 3, MEMORY),
 ]
 
+HANDED = "t0,t0,t0,t0,t0,t0,t0,t0,t0,k:7=16:65,t1,t1,t1,t1,t1,t1,t1"
+
+# Words whose answer is the same each time, and a text. Their input may fail after it, and their output within the answer.
+STEADY = [
+    (("check",), SENDING),
+    (("check", "--json"), REFUSED),
+    (("check", "--explain"), REFUSED),
+    (("keeps",), KEEPING),
+    (("fmt",), GOOD),
+    (("step", "--schedule", HANDED), SENDING),
+    (("step", "--state"), REFUSED),
+    (("find",), REFUSED),
+    (RUN, ENDLESS),
+    (RUN, REFUSED),
+    ((*RUN, "--summary"), ENDLESS),
+    (("c",), REFUSED),
+]
+
+# After how many lengths about an output fails.
+CUTS = 16
+
+# How many bytes the program is given at a read.
+PIECES = (1, 7, 320, 4096)
+
 # The last line of a large text, its exit status and the verdict.
 LARGE = [
     (b"x = 1", 0, ACCEPTED),
@@ -257,6 +345,9 @@ LARGE = [
 MULTIPLIER = 6364136223846793005
 SEEDING = 11634580027462260723
 WORKERS = 2
+
+# How many seeds a text is run with, so that each choice comes: that of a short read comes with one in eight.
+SEEDS = 100
 
 
 def fits(text, wanted):
@@ -284,7 +375,9 @@ class Bench:
         given = [self.program, *words]
         if shell:
             given = ["sh", "-c", f'{shell}; exec "$0" "$@"', *given]
-        how = {"input": text, "stdout": subprocess.PIPE, "stderr": subprocess.PIPE, **how}
+        if "stdin" not in how:
+            how["input"] = text
+        how = {"stdout": subprocess.PIPE, "stderr": subprocess.PIPE, **how}
         try:
             done = subprocess.run(given, cwd=self.folder, timeout=SECONDS, check=False, **how)
         except subprocess.TimeoutExpired:
@@ -339,6 +432,52 @@ def hold_streams(bench):
     os.close(writer)
     ends = (f"the status is {status}", status in (3, -13))
     bench.hold("check to a closed pipe", ends, (f"{told!r} is told", told == ""))
+
+
+def hold_pieces(bench):
+    """A text that comes in pieces, each of which a read gives alone."""
+    words = ("step", "--schedule", HANDED)
+    whole = bench.ran(words, SENDING)
+    for size in PIECES:
+        ours, theirs = socket.socketpair(socket.AF_UNIX, socket.SOCK_SEQPACKET)
+        how = {"stdin": theirs, "stdout": subprocess.PIPE, "stderr": subprocess.PIPE}
+        with subprocess.Popen([bench.program, *words], cwd=bench.folder, **how) as running:
+            theirs.close()
+            with ours:
+                for place in range(0, len(SENDING), size):
+                    ours.send(SENDING[place : place + size])
+            output, told = running.communicate(timeout=SECONDS)
+        right = (running.returncode, output.decode(), told.decode()) == whole and whole[0] == 0
+        bench.hold(f"a text in pieces of {size}", (f"{running.returncode}, {output[-200:]!r} and {told!r}", right))
+
+
+def hold_failing_inputs(bench):
+    """Inputs that fail after their text, as a terminal does that is hung up."""
+    for words, text in STEADY:
+        ours, theirs = os.openpty()
+        tty.setraw(theirs)
+        os.write(theirs, text)
+        os.close(theirs)
+        bench.row(words, None, 3, "", NO_INPUT, " of an input that fails", stdin=ours)
+        os.close(ours)
+
+
+def hold_failing_outputs(bench):
+    """Outputs that fail after some bytes: files that may not be as long. A beginning of the answer is there."""
+    path = bench.folder / "output"
+    for words, text in STEADY:
+        whole = bench.ran(words, text)[1]
+        for most in range(0, len(whole), max(1, len(whole) // CUTS)):
+
+            def bounded():
+                resource.setrlimit(resource.RLIMIT_FSIZE, (most, most))
+
+            with path.open("wb") as output:
+                how = {"stdout": output, "preexec_fn": bounded, "restore_signals": False}
+                status, _, told = bench.ran(words, text, **how)
+            written = path.read_bytes().decode()
+            right = (status, written) == (3, whole[:most]) and fits_message(told, NO_OUTPUT)
+            bench.hold(f"{' '.join(words)} with {most} bytes of output", (f"{status}, {written!r} and {told!r}", right))
 
 
 def large(last):
@@ -444,14 +583,34 @@ def hold_runs(bench):
 
 
 def hold_first_submits(bench):
-    """The first submit of a run, of one entry, which fails, takes nothing or takes it: each of that comes with some seed."""
-    seen = set()
-    for seed in range(30):
+    """The first submit of a run, of one entry, which fails, takes nothing or takes it: each of that comes with some seed,
+    and so does a read that fails, one that is short and one that brings all."""
+    seen, results = set(), set()
+    for seed in range(SEEDS):
         status, trace, told = bench.ran(("run", "--seed", str(seed), "--limit", "1000000"), SENDING)
         found = re.search(r" submit (\S+)$", trace, re.MULTILINE)
         seen.add(found[1] if found else "none")
+        results.update(int(result) for result in re.findall(r" kernel 7 (\S+)$", trace, re.MULTILINE))
         bench.hold(f"run of handoff.rc, seed {seed}", (f"{status} and {told!r}", (status, told) == (0, "")))
     bench.hold("first submits of handoff.rc", (f"they answer {sorted(seen)}", seen == {"-11", "0", "1"}))
+    right = {-5, 16} < results and results <= {-5, *range(17)}
+    bench.hold("reads of handoff.rc", (f"their results are {sorted(results)}", right))
+
+
+def hold_turns(bench):
+    """Runs of threads that poll, which let each other and the kernel move; with bounds that a slow machine meets too.
+
+    Of 2,000 events some 300 are puts: where a thread that asks in vain goes on to the end of its slice, it is a tenth of
+    it. Of 20,000 some 600 are completions, and each thread makes about the half of the others.
+    """
+    _, trace, _ = bench.ran(("run", "--seed", "1", "--limit", "2000"), PASSING)
+    puts = sum(line.endswith(" put") for line in trace.splitlines())
+    bench.hold("a run of threads that ask pools", (f"it has {puts} puts", puts > 100))
+    _, summary, _ = bench.ran(("run", "--seed", "1", "--limit", "20000", "--summary"), POLLING)
+    completions = sum(map(int, re.findall(r"^completions .*?: (\d+)", summary, re.MULTILINE)))
+    turns = [int(count) for count in re.findall(r"^thread \w+: (\d+)", summary, re.MULTILINE)]
+    right = completions > 40 and len(turns) == 2 and min(turns) > 1000
+    bench.hold("a run of threads that poll", (f"it has {completions} completions, and turns {turns}", right))
 
 
 def hold_summaries(bench):
@@ -524,10 +683,14 @@ def main():
         bench = made(Path(folder), sys.argv[1])
         hold_rows(bench)
         hold_streams(bench)
+        hold_pieces(bench)
+        hold_failing_inputs(bench)
+        hold_failing_outputs(bench)
         hold_large(bench)
         hold_seeds(bench)
         hold_first_submits(bench)
         hold_runs(bench)
+        hold_turns(bench)
         hold_summaries(bench)
         how = other_user(bench) if os.geteuid() == 0 else {}
         if how is None:

@@ -30,14 +30,6 @@ fn request(kind: Kind, fd: i32, off: u64, len: u32) -> Request {
     }
 }
 
-fn read(fd: i32, off: u64, len: u32) -> Request {
-    request(Kind::Read, fd, off, len)
-}
-
-fn write(fd: i32, off: u64, len: u32) -> Request {
-    request(Kind::Write, fd, off, len)
-}
-
 // Serves a request by any device that threads can share.
 fn serve<D: Device + Send>(
     rt: &impl Abort,
@@ -50,19 +42,19 @@ fn serve<D: Device + Send>(
     device.serve(&request, bytes, grant)
 }
 
-// How many of the bytes at the front are `byte`.
-fn front(bytes: &[u8], byte: u8) -> usize {
-    bytes.iter().take_while(|b| **b == byte).count()
-}
-
-// How many of the bytes at the end are `byte`.
-fn end(bytes: &[u8], byte: u8) -> usize {
-    bytes.iter().rev().take_while(|b| **b == byte).count()
+// How many of the bytes are `byte`.
+fn count(bytes: &[u8], byte: u8) -> usize {
+    let mut found: usize = 0;
+    for b in bytes {
+        if *b == byte {
+            found = found.saturating_add(1);
+        }
+    }
+    found
 }
 
 // How long the file is, a request with its grant, and its result. 16 bytes 7 are served on a new disk. Of them: how many
-// at the front are 0 afterwards, and how many at the end are 7. Of the file: how many bytes it has afterwards, how many at
-// the front are 0, and how many at the end are 7.
+// are 0 afterwards, and how many are 7. Of the file: how many bytes it has afterwards, how many are 0, and how many are 7.
 type Served = (u32, Asked, i32, i32, [usize; 2], [usize; 3]);
 
 // What a request asks for: its kind, its file, its place and its length.
@@ -107,12 +99,12 @@ fn requests_move_what_their_kind_and_grant_say(rt: HostRuntime) -> Result<(), Fa
     for (len, asked, grant, answer, moved, file) in SERVED {
         let mut disk = disk(rt.alloc(), len)?;
         let mut bytes = [7; 16];
-        let (kind, fd, off, count) = asked;
-        let asked = request(kind, fd, off, count);
+        let (kind, fd, off, length) = asked;
+        let asked = request(kind, fd, off, length);
         assert_eq!(rt; serve(&rt, &mut disk, asked, &mut bytes, grant), answer);
-        assert_eq!(rt; [front(&bytes, 0), end(&bytes, 7)], moved);
+        assert_eq!(rt; [count(&bytes, 0), count(&bytes, 7)], moved);
         let content = disk.contents(3);
-        assert_eq!(rt; [content.len(), front(content, 0), end(content, 7)], file);
+        assert_eq!(rt; [content.len(), count(content, 0), count(content, 7)], file);
     }
     Ok(())
 }
@@ -121,11 +113,29 @@ fn requests_move_what_their_kind_and_grant_say(rt: HostRuntime) -> Result<(), Fa
 fn a_read_gives_what_was_written(rt: HostRuntime) -> Result<(), Fail> {
     let mut disk = disk(rt.alloc(), 4)?;
     let mut bytes = [1, 2, 3];
-    assert_eq!(rt; serve(&rt, &mut disk, write(3, 2, 3), &mut bytes, 4096), 3);
+    assert_eq!(rt;
+        serve(
+            &rt,
+            &mut disk,
+            request(Kind::Write, 3, 2, 3),
+            &mut bytes,
+            4096
+        ),
+        3
+    );
     assert_eq!(rt; disk.contents(3), [0, 0, 1, 2, 3].as_slice());
     assert_eq!(rt; disk.contents(4), [].as_slice());
     let mut bytes = [7; 4];
-    assert_eq!(rt; serve(&rt, &mut disk, read(3, 3, 4), &mut bytes, 4096), 2);
+    assert_eq!(rt;
+        serve(
+            &rt,
+            &mut disk,
+            request(Kind::Read, 3, 3, 4),
+            &mut bytes,
+            4096
+        ),
+        2
+    );
     assert_eq!(rt; bytes.as_slice(), [2, 3, 7, 7].as_slice());
     Ok(())
 }

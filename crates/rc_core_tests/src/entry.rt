@@ -169,18 +169,3 @@ fn a_completion_is_the_bytes_of_the_kernel(rt: HostRuntime) {
     let with_flags = cqe_of("0700000000000000 fbffffff 01000000");
     assert_eq!(rt; decode_cqe(&with_flags), Err(EntryFault::CompletionFlags));
 }
-
-#[test]
-fn faults_print_their_codes(rt: HostRuntime) -> Result<(), std::alloc::AllocError> {
-    for (fault, text) in [
-        (EntryFault::UnknownOpcode, "E1 UnknownOpcode"),
-        (EntryFault::NonZeroField, "E2 NonZeroField"),
-        (EntryFault::NopFd, "E3 NopFd"),
-        (EntryFault::FsyncFlags, "E4 FsyncFlags"),
-        (EntryFault::CompletionFlags, "E5 CompletionFlags"),
-    ] {
-        let printed = format!(in rt.alloc(); "{fault}")?;
-        assert_eq!(rt; printed.as_str(), text);
-    }
-    Ok(())
-}

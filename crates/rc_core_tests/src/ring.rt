@@ -61,51 +61,9 @@ fn fill_and_drain(rt: &impl Abort, ring: &mut Ring)
 }
 
 #[test]
-fn eight_completions_fill_a_ring_of_four(rt: HostRuntime) -> Result<(), Fail> {
-    let mut ring = Ring::new(rt.alloc(), 4)?;
-    fill_and_drain(&rt, &mut ring);
-    Ok(())
-}
-
-#[test]
 fn counters_that_wrap_answer_the_same(rt: HostRuntime) -> Result<(), Fail> {
     let mut ring = Ring::opened_at(rt.alloc(), 4, 4294967293, 4294967293)?;
     fill_and_drain(&rt, &mut ring);
-    Ok(())
-}
-
-#[test]
-fn a_completion_ring_of_its_own_size_overflows_there(rt: HostRuntime) -> Result<(), Fail> {
-    let mut ring = Ring::with_cq(rt.alloc(), 1, 1)?;
-    let first = Cqe {
-        user_data: 7,
-        res: -5,
-    };
-    assert_eq!(rt; ring.post(first), Ok(()));
-    assert_eq!(rt; ring.post(first), Err(Overflow));
-    assert_eq!(rt; ring.peek_cqe(), Some(first));
-    Ok(())
-}
-
-#[test]
-fn a_slot_is_parked_and_resumed(rt: HostRuntime) -> Result<(), Fail> {
-    let mut ring = Ring::opened_at(rt.alloc(), 2, 3, 0)?;
-    assert_eq!(rt; ring.open_place(), None);
-    slot_of(&rt, &mut ring).park(&mut ring);
-    assert!(rt; ring.parked());
-    assert!(rt; !ring.open_prepared());
-    assert_eq!(rt; ring.open_place(), Some(1));
-    ring.resume_vacant().prep_nop(&mut ring).park(&mut ring);
-    assert!(rt; ring.open_prepared());
-    assert_eq!(rt; ring.sq_ready(), 1);
-    ring.resume_prepared().set_data64(&mut ring, 255);
-    assert!(rt; !ring.parked());
-    assert_eq!(rt; ring.open_place(), None);
-    assert_eq!(rt; ring.sq_ready(), 1);
-    slot_of(&rt, &mut ring)
-        .prep_nop(&mut ring)
-        .abandon(&mut ring);
-    assert_eq!(rt; ring.sq_ready(), 1);
     Ok(())
 }
 

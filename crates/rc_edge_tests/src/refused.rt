@@ -4,7 +4,6 @@
 ghost use Rattle.std.specs.Prelude.{◌<◌};
 
 use rc_admit::admitted::{Admitted, admit};
-use rc_admit::fault::AdmitFault;
 use rc_device::chooser::Seeded;
 use rc_device::device::Device;
 use rc_device::disk::Disk;
@@ -12,9 +11,6 @@ use rc_examples::programs::{HANDOFF, SHARE};
 use rc_lang::program::Program;
 use rc_lang::request::Request;
 use rc_read::{ReadFault, Reader, read_program};
-use rc_report::engine_fault::EngineFault;
-use rc_report::step_engine::{StepEnd, step_engine};
-use rc_report::streams::{ReadSource, WriteSink};
 use rc_run::gate::OpenGate;
 use rc_run::job::Job;
 use rc_run::live::{Live, Turn};
@@ -74,16 +70,6 @@ fn a_reader_is_out_of_memory_from_then_on(rt: HostRuntime) {
 }
 
 #[test]
-fn a_text_is_admitted_or_memory_runs_out(rt: HostRuntime) {
-    for text in [HANDOFF, SHARE] {
-        match admit(rt.alloc(), text.as_bytes()) {
-            Ok(_) => {}
-            Err(fault) => assert!(rt; matches!(fault, AdmitFault::OutOfMemory)),
-        }
-    }
-}
-
-#[test]
 fn a_program_is_admitted_without_memory(rt: HostRuntime) {
     for text in [HANDOFF, SHARE] {
         match read_program(rt.alloc(), text.as_bytes()) {
@@ -92,67 +78,6 @@ fn a_program_is_admitted_without_memory(rt: HostRuntime) {
             }
             Err(fault) => assert!(rt; matches!(fault, ReadFault::OutOfMemory)),
         }
-    }
-}
-
-/// Texts with schedules that step them to their ends.
-const STEPPED: [(&str, &str); 2] = [
-    (
-        HANDOFF,
-        "t0,t0,t0,t0,t0,t0,t0,t0,t0,k:7=16:65,t1,t1,t1,t1,t1,t1,t1",
-    ),
-    (SHARE, "t0,t0,t0,t0,t0,t0,t0,t0,t0,t0,k:9=16"),
-];
-
-/// What is written of a trace, where there is room for it, and whether that is the whole.
-fn traced(
-    rt: &impl Abort,
-    alloc: Global,
-    text: &str,
-    schedule: &str,
-) -> Result<(Vec<u8>, bool), AllocError> {
-    let mut source = ReadSource::new(text.as_bytes());
-    let mut sink = WriteSink::new(Vec::with_capacity(alloc, 4096)?);
-    let is_whole = match step_engine(alloc, &mut source, schedule, &mut sink) {
-        Ok(StepEnd::Trace(_)) => true,
-        Ok(_) => panic!(rt; "no trace of {schedule}"),
-        Err(fault) => {
-            assert!(rt; matches!(fault, EngineFault::OutOfMemory), "{fault}");
-            false
-        }
-    };
-    Ok((sink.writer, is_whole))
-}
-
-fn traces_begin_alike(
-    rt: &impl Abort,
-    alloc: Global,
-    text: &str,
-    schedule: &str,
-) -> Result<(), AllocError> {
-    let (first, first_is_whole) = traced(rt, alloc, text, schedule)?;
-    let (second, second_is_whole) = traced(rt, alloc, text, schedule)?;
-    assert!(rt;
-        first_is_whole || second_is_whole,
-        "one growth at most is refused"
-    );
-    let (shorter, longer) = if first_is_whole {
-        (second, first)
-    } else {
-        (first, second)
-    };
-    assert!(rt; longer.starts_with(&shorter), "{schedule}");
-    assert_eq!(rt;
-        first_is_whole && second_is_whole,
-        longer.len() == shorter.len()
-    );
-    Ok(())
-}
-
-#[test]
-fn a_beginning_of_a_trace_is_written(rt: HostRuntime) {
-    for (text, schedule) in STEPPED {
-        let _ = traces_begin_alike(&rt, rt.alloc(), text, schedule);
     }
 }
 

@@ -1,5 +1,5 @@
 //! Sources and sinks at their limits.
 
 mod engines;
-pub mod readers;
-pub mod writers;
+mod readers;
+mod writers;

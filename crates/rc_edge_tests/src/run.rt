@@ -1,8 +1,4 @@
-//! Runs of small programs: turn by turn, and on threads.
+//! Runs of small programs on threads.
 
 mod examples;
-mod fair;
-mod live;
 mod runner;
-mod sides;
-mod stepping;

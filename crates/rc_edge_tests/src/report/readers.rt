@@ -63,9 +63,9 @@ fn each_call_is_made_once(rt: HostRuntime) {
 
 /// Gives so many bytes, one at each read, and then fails or ends.
 #[derive(Drop)]
-pub struct Slow {
-    pub left: u32,
-    pub fails: bool,
+struct Slow {
+    left: u32,
+    fails: bool,
 }
 
 impl Read for Slow {
@@ -86,34 +86,29 @@ impl Read for Slow {
     }
 }
 
-#[test]
-fn a_text_ends_within_the_limit_of_reads(rt: HostRuntime) {
-    for (bytes, reads) in [(0, 1), (1, 2), (1025, 1026), (2_097_151, 2_097_152)] {
-        let mut source = ReadSource::new(Slow {
-            left: bytes,
-            fails: false,
-        });
-        match read_text(rt.alloc(), &mut source) {
-            Ok(text) => assert_eq!(rt; text.len(), bytes as usize),
-            Err(fault) => panic!(rt; "{fault}"),
-        }
-        assert_eq!(rt; source.reads(), reads);
-        assert_eq!(rt; source.failures(), 0);
-    }
-}
+/// How many bytes there are, whether a read fails after them, how many reads are made, and how many failures are told.
+const ENDS: [(u32, bool, u64, u64); 8] = [
+    (0, false, 1, 0),
+    (1, false, 2, 0),
+    (1025, false, 1026, 0),
+    (2_097_151, false, 2_097_152, 0),
+    (2_097_152, false, 2_097_152, 0),
+    (u32::MAX, false, 2_097_152, 0),
+    (0, true, 1, 1),
+    (1, true, 2, 1),
+];
 
 #[test]
-fn failures_and_sources_without_end_are_told(rt: HostRuntime) {
-    for (bytes, fails, reads, failures) in [
-        (0, true, 1, 1),
-        (1, true, 2, 1),
-        (2_097_152, false, 2_097_152, 0),
-        (u32::MAX, false, 2_097_152, 0),
-    ] {
+fn a_text_ends_within_the_limit_of_reads(rt: HostRuntime) {
+    for (bytes, fails, reads, failures) in ENDS {
         let mut source = ReadSource::new(Slow { left: bytes, fails });
-        let text = read_text(rt.alloc(), &mut source);
-        assert!(rt; matches!(text, Err(EngineFault::Read)));
-        assert_eq!(rt; source.reads(), reads);
-        assert_eq!(rt; source.failures(), failures);
+        match read_text(rt.alloc(), &mut source) {
+            Ok(text) => assert!(rt; !fails && text.len() == bytes as usize),
+            Err(fault) => {
+                assert!(rt; matches!(fault, EngineFault::Read));
+                assert!(rt; fails || bytes >= 2_097_152, "{bytes} bytes");
+            }
+        }
+        assert_eq!(rt; [source.reads(), source.failures()], [reads, failures]);
     }
 }

@@ -73,6 +73,16 @@ fn an_interrupted_write_is_a_failure(rt: HostRuntime) {
     }
 }
 
+// A writer that takes no byte of a piece has failed too.
+#[test]
+fn a_writer_that_takes_nothing_has_failed(rt: HostRuntime) {
+    let mut sink = WriteSink::new(Interrupted::new(rt.alloc(), 0, usize::MAX));
+    let written = verdict_text(&REFUSED, &mut sink);
+    assert!(rt; matches!(written, Err(EngineFault::Write)));
+    assert_eq!(rt; sink.failures(), 1);
+    assert_eq!(rt; sink.writer.calls, 1);
+}
+
 #[test]
 fn an_interrupted_flush_is_a_failure(rt: HostRuntime) {
     for (at, failures) in [(0, 1), (1, 0)] {
@@ -80,40 +90,6 @@ fn an_interrupted_flush_is_a_failure(rt: HostRuntime) {
         assert_eq!(rt; sink.flush().is_err(), failures == 1);
         assert_eq!(rt; sink.failures(), failures);
         assert_eq!(rt; sink.writer.calls, 1);
-    }
-}
-
-/// Takes nothing after so many bytes, one at a call.
-#[derive(Drop)]
-pub struct Narrow {
-    pub written: Vec<u8>,
-    pub room: usize,
-}
-
-impl Write for Narrow {
-    fn write(&mut self, piece: &[u8]) -> io::Result<usize> {
-        let count = piece.len().min(1).min(self.room);
-        self.written.extend_from_slice(&piece[..count])?;
-        self.room -= count;
-        Ok(count)
-    }
-
-    fn flush(&mut self) -> io::Result<()> {
-        Ok(())
-    }
-}
-
-#[test]
-fn a_failing_sink_has_a_beginning(rt: HostRuntime) {
-    for room in 0..TEXT.len() {
-        let mut sink = WriteSink::new(Narrow {
-            written: Vec::new(rt.alloc()),
-            room,
-        });
-        let written = verdict_text(&REFUSED, &mut sink);
-        assert!(rt; matches!(written, Err(EngineFault::Write)));
-        assert_eq!(rt; sink.failures(), 1);
-        assert_eq!(rt; sink.writer.written.as_slice(), &TEXT[..room]);
     }
 }
 

@@ -1,6 +1,5 @@
 //! Runs of small programs on threads.
 
-mod answers;
 mod jobs;
 mod turns;
 

@@ -9,7 +9,7 @@ use rc_lang::request::{Kind, Request};
 use rc_run::gate::{Gate, OpenGate};
 use rc_run::report::RunFault;
 use rc_run::runner::run;
-use rc_world::event::{Action, Completion, Event};
+use rc_world::event::{Completion, Event};
 use std::alloc::Global;
 use std::sync::Arc;
 use std::test::*;
@@ -158,59 +158,8 @@ fn a_device_is_handed_the_request_and_its_bytes(rt: HostRuntime) -> Result<(), F
     Ok(())
 }
 
-/// Refuses the first takes of one entry, and then takes it; grants by these numbers.
-#[derive(Drop)]
-struct ByNumber {
-    refusals: u32,
-    grant: u32,
-    short: u32,
-}
-
-impl Chooser for ByNumber {
-    fn pick(&mut self, n: u32) -> u32 {
-        match n {
-            3 if self.refusals > 0 => {
-                self.refusals -= 1;
-                2
-            }
-            3 => 1,
-            8 => self.grant % 8,
-            17 => self.short % 17,
-            _ => 0,
-        }
-    }
-}
-
-fn submitted(history: &[Event], answer: i32) -> bool {
-    history.iter().any(|event| match event {
-        Event::ByThread { action, .. } => *action == Action::Submitted(answer),
-        Event::ByKernel(_) => false,
-    })
-}
-
 fn completed(history: &[Event], user_data: u64, res: i32) -> bool {
     history.contains(&Event::ByKernel(Completion { user_data, res }))
-}
-
-#[test]
-fn a_history_shows_what_was_chosen(rt: HostRuntime) -> Result<(), Fail> {
-    let alloc = rt.alloc();
-    for (grant, res) in [(0, -5), (1, 9), (2, 16), (7, 16)] {
-        let admitted = admitted(alloc, HANDOFF)?;
-        let disk = Disk::new(alloc, admitted.program())?;
-        let chooser = ByNumber {
-            refusals: 12,
-            grant,
-            short: 9,
-        };
-        let report = run(&rt, alloc, admitted, disk, chooser, OpenGate, 1000000)
-            .ok()
-            .ok_or("ends")?;
-        assert!(rt; completed(&report.history, 7, res), "grant {grant}");
-        assert!(rt; submitted(&report.history, -11));
-        assert!(rt; submitted(&report.history, 1));
-    }
-    Ok(())
 }
 
 /// Holds turn 7 until a device serves.

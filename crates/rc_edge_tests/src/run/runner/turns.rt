@@ -5,7 +5,6 @@ use crate::run::examples::{HANDOFF, admitted};
 use rc_device::chooser::Seeded;
 use rc_device::disk::Disk;
 use rc_run::gate::Gate;
-use rc_run::report::RunFault;
 use rc_run::runner::run;
 use std::alloc::Global;
 use std::sync::Arc;
@@ -113,76 +112,5 @@ fn a_sleeper_that_an_end_wakes_is_woken_again(rt: HostRuntime) -> Result<(), Fai
         .ok_or("ends")?;
     assert!(rt; !flags.wrong.load(Ordering::SeqCst));
     assert_eq!(rt; report.turns.first(), Some(&9));
-    Ok(())
-}
-
-/// One thread polls with the lock held, for what the other submits only once it has the lock.
-const HOLDING: &str = "ringcheck 1
-ring 4
-token 7 nop
-thread reap holds {
-lock {
-loop keeps q:0 {
-peek_cqe r {
-case 7 {
-cqe_seen
-break
-}
-other {
-}
-none {
-}
-}
-}
-}
-}
-thread sub holds t:7 c:1 {
-lock {
-get_sqe
-prep_nop
-set_data64 7
-loop keeps q:1 {
-r = submit
-if sq_ready == 0 {
-break
-}
-}
-}
-}
-";
-
-/// Holds thread 1 back until thread 0 has the lock of the program.
-#[derive(Drop)]
-struct LockFirst(Arc<Flags, Global>);
-
-impl Gate for LockFirst {
-    fn pass(&self, thread: u32, turn: u64) {
-        if thread == 1 && turn == 1 {
-            self.0.wait_for(&self.0.first);
-        }
-    }
-
-    fn answered(&self, thread: u32, turn: u64) {
-        if thread == 0 && turn == 1 {
-            self.0.raise(&self.0.first);
-        }
-    }
-}
-
-// Nothing else can move, so the thread that polls goes on to the limit.
-#[test]
-fn a_thread_that_holds_the_lock_polls_to_the_limit(rt: HostRuntime) -> Result<(), Fail> {
-    let alloc = rt.alloc();
-    let flags = Arc::new(alloc, Flags::new())?;
-    let admitted = admitted(alloc, HOLDING)?;
-    let disk = Disk::new(alloc, admitted.program())?;
-    let gate = LockFirst(Arc::try_clone(&flags)?);
-    assert!(rt;
-        matches!(
-            run(&rt, alloc, admitted, disk, Seeded::new(0), gate, 300),
-            Err(RunFault::Limit(_))
-        )
-    );
-    assert!(rt; !flags.wrong.load(Ordering::SeqCst));
     Ok(())
 }
