@@ -1,14 +1,10 @@
 pub mod Answered
 pub mod Buffers
-pub mod Covered
 pub mod Grows
 pub mod Lines
 pub mod Objects
 pub mod Pieces
-pub mod Placed
 pub mod Steps
-pub mod Stretches
-pub mod Tallies
 pub mod Traces
 pub mod Yielded
 pub use Rattle.rc_text.proofs.Texts

@@ -1,6 +1,5 @@
 pub mod Buffers
 pub mod Checks
-pub mod Coverage
 pub mod Engine
 pub mod Files
 pub mod Made

@@ -18,11 +18,6 @@ use Rattle.rc_world.specs.FaultNames.{name_of_fault, number_of_fault}
 abbrev pub joined : List (List ℕ) → List ℕ
 joined pieces = flat_map (λ piece. piece) pieces
 
--- the texts of items by their places, the first of which is at place i
-abbrev pub placed : {A : Type 0} → (ℕ → A → List ℕ) → ℕ → List A → List ℕ
-placed text i [] = []
-placed text i (x ∷ xs) = text i x ++ placed text (i + 1) xs
-
 -- a word, with its blanks, and a value
 abbrev pub valued : List ℕ → List ℕ → List ℕ
 valued word value = joined (word ∷ value ∷ [])
