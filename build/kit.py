@@ -1,0 +1,90 @@
+"""The Rattle toolchain on the PATH, and what build/*.py have in common."""
+
+import contextlib
+import fcntl
+import importlib.machinery
+import importlib.util
+import os
+import shutil
+import subprocess
+import sys
+from pathlib import Path
+
+TOP = Path(__file__).resolve().parent.parent
+# What is built here, and what was said while it was built. Git ignores it. No file of it ends .rt or .antt, as `rt ci`
+# refuses those outside crates/.
+KEPT = TOP / ".build"
+
+# The processor minutes that `./ringcheck --prove` takes from nothing. README.md and CONTRIBUTING.md say them too.
+PROCESSOR_MINUTES = "NNN"
+
+# The exit status where nothing was built.
+FAILED = 3
+
+
+def say(text):
+    print(f"ringcheck: {text}", file=sys.stderr, flush=True)
+
+
+def stop(why):
+    say(why)
+    sys.exit(FAILED)
+
+
+def find_kit():
+    """The folder of the toolchain whose command rt is on the PATH."""
+    if not shutil.which("rt"):
+        stop("building needs the Rattle toolchain, whose command rt isn't on the PATH (README.md says which)")
+    said = subprocess.run(["rt", "doc"], stdin=subprocess.DEVNULL, capture_output=True, text=True, check=False).stdout
+    kit = Path(said.strip()).parent
+    if not (kit / "bin" / "rt").exists():
+        stop("`rt doc` names no page in the toolchain's folder, so building can't find the toolchain")
+    return kit
+
+
+def version():
+    """What the toolchain says of itself."""
+    said = subprocess.run(["rt", "version"], stdin=subprocess.DEVNULL, capture_output=True, text=True, check=False).stdout
+    return said.strip() or "unknown"
+
+
+def load(kit):
+    """The module that is the command rt. It has the module rtlib, which knows how crates are built."""
+    sys.dont_write_bytecode = True
+    path = str(kit / "bin" / "rt")
+    loader = importlib.machinery.SourceFileLoader("rt", path)
+    rt = importlib.util.module_from_spec(importlib.util.spec_from_loader("rt", loader))
+    sys.modules["rt"] = rt
+    loader.exec_module(rt)
+    return rt
+
+
+def sources(function, folder):
+    """What a function of build/sources.sh prints of a folder."""
+    words = ["bash", "-c", f'source "$1" && {function} "$2"', "sources", str(TOP / "build" / "sources.sh"), str(folder)]
+    done = subprocess.run(words, stdin=subprocess.DEVNULL, stdout=subprocess.PIPE, text=True, check=False)
+    if done.returncode or not done.stdout:
+        stop(f"the sources in {folder} can't be read")
+    return done.stdout
+
+
+def make_folder(path):
+    """Makes a folder, or says that it can't be written."""
+    try:
+        path.mkdir(parents=True, exist_ok=True)
+        if not os.access(path, os.W_OK):
+            raise PermissionError(13, os.strerror(13))
+    except OSError as error:
+        stop(f"{path} can't be written ({error.strerror}): building needs a checkout that can be written")
+
+
+@contextlib.contextmanager
+def one_at_a_time(name, waits):
+    """Waits until no other process holds the lock of this name, and says so if it has to."""
+    with open(KEPT / f"{name}.lock", "w", encoding="utf-8") as lock:
+        try:
+            fcntl.flock(lock, fcntl.LOCK_EX | fcntl.LOCK_NB)
+        except BlockingIOError:
+            say(waits)
+            fcntl.flock(lock, fcntl.LOCK_EX)
+        yield
