@@ -57,12 +57,13 @@ class Progress:
     def begin(self, crate):
         self.since[crate] = time.monotonic()
 
-    def end(self, crate):
+    def end(self, crate, is_proved):
         """Takes the end of a crate's proof, and returns how many seconds it took."""
         took = time.monotonic() - self.since.pop(crate)
-        self.took += took
-        self.thought += self.about[crate]
-        self.done.add(crate)
+        if is_proved:
+            self.took += took
+            self.thought += self.about[crate]
+            self.done.add(crate)
         return took
 
     def minutes_left(self):

@@ -129,9 +129,9 @@ class Proof:
     def next_crates(self, left, running):
         """The crates that can begin now, each with its jobs."""
         ready = [it for it in left if self.progress.done.issuperset(it.below())]
-        ready = ready[: self.lanes - len(running)]
-        jobs = max(1, min(MOST_JOBS, self.lanes // (len(ready) + len(running)))) if ready else 1
-        return [(it, jobs) for it in ready]
+        ready = ready[: max(self.lanes - len(running), 0)]
+        share = self.lanes // max(len(ready) + len(running), 1)
+        return [(it, max(1, min(MOST_JOBS, share))) for it in ready]
 
     def all(self):
         """Proves all crates, and returns the one that failed, if one did."""
@@ -163,13 +163,13 @@ class Proof:
             return False
         self.tried_alone.add(crate)
         self.lanes = self.progress.lanes = 1
-        self.progress.since.pop(crate)
+        self.progress.end(crate, False)
         self.tell(f"the proof of {crate.name} was killed, most likely for want of memory: one crate at a time from now on")
         return True
 
     def has_ended_well(self, crate, jobs, status):
         """Takes the end of a crate's proof, and tells where it failed."""
-        took = self.progress.end(crate)
+        took = self.progress.end(crate, not status)
         if not status and self.sums.has_changed(crate):
             for kept in ("rlib/stamp", f"{crate.name}.stamp"):
                 (kit.Path(crate.folder) / "out" / kept).unlink(missing_ok=True)
@@ -205,14 +205,14 @@ def main(name="rc_main"):
         proof = Proof(rt, name, log)
         proof.note(f"{time.ctime(started)}, {kit.version()}, {proof.lanes} crates at a time")
         failed = proof.all()
+        # What changed after the beginning is newer than the program.
+        program = kit.TOP / "crates" / name / "out" / name
+        if program.exists() and (not failed or program.stat().st_mtime > started):
+            os.utime(program, (started, started))
         used = f"{processor_minutes():.0f} processor minutes"
         proof.note(used)
         if failed:
             kit.stop(f"{failed.name} failed, after {used}; {LOG} has the seconds of each crate")
-    program = kit.TOP / "crates" / name / "out" / name
-    if program.exists():
-        # A source that changed after the beginning is newer than the program.
-        os.utime(program, (started, started))
     kit.say(f"{used} used")
     kit.say("proved; ./ringcheck runs it")
     return 0

@@ -34,16 +34,19 @@ parts_below() {
     done
 }
 
-sources_below() {
-    parts_below "$1" src
-}
+# Prints the files that an unproved program is made from, as seen from FOLDER, besides those lines of crates.txt.
+# Definitions and proofs aren't among them.
+sources_below() (
+    mapfile -t parts < <(parts_below "$1" src)
+    [ ${#parts[@]} -gt 0 ] && cd "$1" && find "${parts[@]}" -type f -name '*.rt' | LC_ALL=C sort
+)
 
-# Prints a sum of all that an unproved program is made from in FOLDER: those lines of crates.txt, and the files in src/.
-# Definitions and proofs don't change it.
+# Prints the sum of all that an unproved program is made from.
 sum_of_sources() (
-    cd "$1" && mapfile -t parts < <(sources_below .) && [ ${#parts[@]} -gt 0 ] || exit
+    set -o pipefail
+    cd "$1" && [ -n "$(sources_below .)" ] || exit
     {
         crates_below .
-        find "${parts[@]}" -type f -print0 | LC_ALL=C sort -z | xargs -0 sha256sum
+        sources_below . | xargs -d '\n' sha256sum
     } | sha256sum | cut -c 1-16
 )

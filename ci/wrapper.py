@@ -232,9 +232,11 @@ def hold_proofs(bench):
     bench.hold_run("a later change of a crate that isn't below", bench.ran(*WORDS))
     bench.write("low/proofs/Lib.antt", "later")
     bench.hold_run("a later change of a proof", bench.ran(*WORDS), BUILDS)
-    status, _, told = bench.ran("--prove")
-    bench.hold("a second proof", status == 0, told)
-    bench.hold("--version after it", bench.ran("--version") == (0, b"ringcheck 0.1.0\n", ""), bench.ran("--version"))
+    for what in ("that change", "a touch"):
+        status, _, told = bench.ran("--prove")
+        bench.hold(f"a proof after {what}", status == 0, told)
+        bench.hold(f"--version after {what}", bench.ran("--version") == (0, b"ringcheck 0.1.0\n", ""), bench.ran("--version"))
+        (bench.top / "crates/low/src/lib.rt").touch()
 
 
 def main():
