@@ -31,21 +31,25 @@ def stop(why):
     sys.exit(FAILED)
 
 
+def answer(word):
+    """What the command rt says to a word."""
+    how = {"stdin": subprocess.DEVNULL, "stdout": subprocess.PIPE, "text": True, "check": False}
+    return subprocess.run(["rt", word], **how).stdout.strip()
+
+
 def find_kit():
     """The folder of the toolchain whose command rt is on the PATH."""
     if not shutil.which("rt"):
         stop("building needs the Rattle toolchain, whose command rt isn't on the PATH (README.md says which)")
-    said = subprocess.run(["rt", "doc"], stdin=subprocess.DEVNULL, capture_output=True, text=True, check=False).stdout
-    kit = Path(said.strip()).parent
+    kit = Path(answer("doc")).parent
     if not (kit / "bin" / "rt").exists():
-        stop("`rt doc` names no page in the toolchain's folder, so building can't find the toolchain")
+        stop("building needs the folder of the toolchain, in which `rt doc` names no page")
     return kit
 
 
 def version():
-    """What the toolchain says of itself."""
-    said = subprocess.run(["rt", "version"], stdin=subprocess.DEVNULL, capture_output=True, text=True, check=False).stdout
-    return said.strip() or "unknown"
+    """What the toolchain is called."""
+    return answer("version") or "of no version"
 
 
 def load(kit):
@@ -87,4 +91,7 @@ def one_at_a_time(name, waits):
         except BlockingIOError:
             say(waits)
             fcntl.flock(lock, fcntl.LOCK_EX)
+        except OSError:
+            # Some file systems have no locks.
+            pass
         yield

@@ -79,7 +79,8 @@ class Progress:
     def show(self, ended=None):
         """On a terminal rewrites one line; elsewhere writes a line for a crate that has ended."""
         minutes = (time.monotonic() - self.started) / 60
-        line = f"ringcheck: {len(self.done)} of {len(self.crates)} crates proved, {minutes:.0f} minutes so far, about {self.minutes_left():.0f} left"
+        line = f"ringcheck: {len(self.done)} of {len(self.crates)} crates proved"
+        line = f"{line}, {minutes:.0f} min so far, about {self.minutes_left():.0f} min left"
         if self.is_terminal:
             line = f"{line} ({', '.join(it.name for it in self.since)})"
             width = shutil.get_terminal_size().columns

@@ -8,9 +8,9 @@ above which most is still to be done. Then the program is proved, compiled and l
 where nothing has changed. A line says how far it is. .build/prove.log has the seconds of each crate, and
 .build/prove/NAME.log what rt said of it.
 
-It calls the functions by which `rt lib` and `rt run` build. The commands themselves would lock the crates below, so that
-no two run side by side, and read the files of all crates again for each crate; and `rt all check` first goes over the
-sources of all crates, three times.
+It calls the functions by which `rt lib` and `rt run` build. The commands themselves would lock the crates below, so
+that no two run side by side, and read the files of all crates again for each crate; and `rt all check` first goes over
+the sources of all crates, three times.
 """
 
 import os
@@ -18,6 +18,7 @@ import resource
 import signal
 import sys
 import time
+import traceback
 from concurrent.futures import FIRST_COMPLETED, ThreadPoolExecutor, wait
 
 import kit
@@ -91,7 +92,6 @@ class Proof:
     """The crates of one program, or of one library, and what is known of their proofs."""
 
     def __init__(self, rt, name, log):
-        self.rt = rt
         self.log = log
         self.sums = Sums(rt.rtlib)
         folder = str(kit.TOP / "crates" / name)
@@ -105,7 +105,7 @@ class Proof:
             crate.stamp()
         self.lanes = max(1, min(rt.processors(), rt.free() // BYTES))
         self.progress = Progress(self.crates, self.lanes)
-        self.tried_alone = set()
+        self.killed = set()
 
     def is_kept(self, crate):
         """Whether an earlier run has proved this library. The program is looked at anyway, in no time."""
@@ -125,12 +125,17 @@ class Proof:
                 return crate.run(flags, ["--version"])
             except SystemExit as end:
                 return end.code or 1
+            except Exception:
+                traceback.print_exc(file=crate.out)
+                return 2
 
     def next_crates(self, left, running):
         """The crates that can begin now, each with its jobs."""
+        # What was killed is tried again with nothing beside it.
+        lanes = 1 if self.killed - self.progress.done else self.lanes
         ready = [it for it in left if self.progress.done.issuperset(it.below())]
-        ready = ready[: max(self.lanes - len(running), 0)]
-        share = self.lanes // max(len(ready) + len(running), 1)
+        ready = ready[: max(lanes - len(running), 0)]
+        share = lanes // max(len(ready) + len(running), 1)
         return [(it, max(1, min(MOST_JOBS, share))) for it in ready]
 
     def all(self):
@@ -158,13 +163,13 @@ class Proof:
         return failed
 
     def is_out_of_memory(self, crate, status):
-        """Whether a crate was killed that hasn't been tried again. From then on one crate is proved at a time."""
-        if status != -signal.SIGKILL or crate in self.tried_alone:
+        """Whether a crate was killed that can be tried again. From then on there is one lane less."""
+        if status != -signal.SIGKILL or crate in self.killed:
             return False
-        self.tried_alone.add(crate)
-        self.lanes = self.progress.lanes = 1
+        self.killed.add(crate)
+        self.lanes = self.progress.lanes = max(self.lanes - 1, 1)
         self.progress.end(crate, False)
-        self.tell(f"the proof of {crate.name} was killed, most likely for want of memory: one crate at a time from now on")
+        self.tell(f"the proof of {crate.name} was killed, most likely for want of memory: once more, by itself")
         return True
 
     def has_ended_well(self, crate, jobs, status):

@@ -120,7 +120,9 @@ def hold_builds(bench):
     bench.hold("the revision", f" of {revision};" in first[2], first)
     version = (0, f"ringcheck 0.1.0 (unproved build of {revision})\n".encode(), "")
     bench.hold("--version", bench.ran("--version") == version, bench.ran("--version"))
-    bench.hold("--version to a full device", bench.ran("--version", stdout=open("/dev/full", "wb"))[0] == 3, None)
+    with open("/dev/full", "wb") as full:
+        got = bench.ran("--version", stdout=full)
+    bench.hold("--version to a full device", got == (3, None, "ringcheck: the output can't be written\n"), got)
     bench.write("low/proofs/Lib.antt", "another proof")
     bench.write("low/specs/Lib.antt", "another definition")
     bench.write("other/src/lib.rt", "another test")
