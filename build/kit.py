@@ -43,7 +43,7 @@ def find_kit():
         stop("building needs the Rattle toolchain, whose command rt isn't on the PATH (README.md says which)")
     kit = Path(answer("doc")).parent
     if not (kit / "bin" / "rt").exists():
-        stop("building needs the folder of the toolchain, in which `rt doc` names no page")
+        stop("building needs to know where the toolchain is, and `rt doc` doesn't say")
     return kit
 
 

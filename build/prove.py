@@ -224,4 +224,7 @@ def main(name="rc_main"):
 
 
 if __name__ == "__main__":
-    sys.exit(main())
+    try:
+        sys.exit(main())
+    except OSError as error:
+        kit.stop(f"proving the program failed: {error}")
