@@ -1,6 +1,7 @@
 //! Bytes from outside: what the preps of liburing 2.3 wrote, and a completion as the kernel posts it.
 
 use rc_entry::{Cqe, Entry, EntryFault, decode_cqe, decode_sqe, encode_cqe, encode_sqe};
+use std::alloc::AllocError;
 
 // Writes the bytes that pairs of hexadecimal digits give; what is not one (a space) is passed over.
 fn write_hex(bytes: &mut [u8], text: &str) {
@@ -168,4 +169,19 @@ fn a_completion_is_the_bytes_of_the_kernel(rt: HostRuntime) {
     assert_eq!(rt; decode_cqe(&bytes), Ok(cqe));
     let with_flags = cqe_of("0700000000000000 fbffffff 01000000");
     assert_eq!(rt; decode_cqe(&with_flags), Err(EntryFault::CompletionFlags));
+}
+
+#[test]
+fn faults_of_entries_have_their_codes(rt: HostRuntime) -> Result<(), AllocError> {
+    for (fault, text) in [
+        (EntryFault::UnknownOpcode, "E1 UnknownOpcode"),
+        (EntryFault::NonZeroField, "E2 NonZeroField"),
+        (EntryFault::NopFd, "E3 NopFd"),
+        (EntryFault::FsyncFlags, "E4 FsyncFlags"),
+        (EntryFault::CompletionFlags, "E5 CompletionFlags"),
+    ] {
+        let printed = format!(in rt.alloc(); "{fault}")?;
+        assert_eq!(rt; printed.as_str(), text);
+    }
+    Ok(())
 }

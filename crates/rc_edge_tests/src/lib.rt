@@ -1,8 +1,15 @@
-//! The tests of runs (`rc_run`) and of the sources and sinks of `rc_report`: memory that is refused, readers and writers
-//! that fail, and devices, choosers and gates that no command has. What the program does is held by `ci/rows.py`,
-//! `ci/golden.py` and `ci/program.py`. They are above those crates, since a crate with tests is proved twice.
+//! Tests of what no command shows: memory that is refused, readers and writers that fail, a program without its text,
+//! requests that a disk answers, devices, choosers and gates of other kinds, and what faults say. What the program does is held
+//! by `ci/rows.py`, `ci/golden.py` and `ci/program.py`. They are above the crates that they test, since a crate with tests is
+//! proved twice.
 #![tactic(auto)]
 
+#[cfg(test)]
+mod admit;
+#[cfg(test)]
+mod device;
+#[cfg(test)]
+mod faults;
 #[cfg(test)]
 mod refused;
 #[cfg(test)]

@@ -1,9 +1,8 @@
-//! Engines over devices that fail.
+//! An engine over devices that fail.
 
 use super::readers::Scripted;
 use super::writers::Interrupted;
 use rc_examples::programs::NOP;
-use rc_report::check_engine::check_engine;
 use rc_report::engine_fault::EngineFault;
 use rc_report::step_engine::step_engine;
 use rc_report::streams::{ReadSource, Sink, Source, WriteSink};
@@ -34,22 +33,13 @@ fn each_sink_that_fails_has_a_beginning_of_the_trace(rt: HostRuntime) {
     }
 }
 
-/// A source that fails after its first piece.
-fn broken() -> ReadSource<Scripted> {
-    ReadSource::new(Scripted {
-        pieces: &[Some("ringcheck 1\nring 1\n"), None],
-        calls: 0,
-    })
-}
-
 #[test]
 fn a_source_that_fails_is_told(rt: HostRuntime) {
+    let mut source = ReadSource::new(Scripted {
+        pieces: &[Some("ringcheck 1\nring 1\n"), None],
+        calls: 0,
+    });
     let mut sink = WriteSink::new(Vec::new(rt.alloc()));
-    let mut source = broken();
-    let verdict = check_engine(rt.alloc(), &mut source, false, &mut sink);
-    assert!(rt; matches!(verdict, Err(EngineFault::Read)));
-    assert_eq!(rt; source.reads(), 2);
-    let mut source = broken();
     let end = step_engine(rt.alloc(), &mut source, SCHEDULE, &mut sink);
     assert!(rt; matches!(end, Err(EngineFault::Read)));
     assert_eq!(rt; source.reads(), 2);

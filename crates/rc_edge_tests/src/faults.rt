@@ -1,24 +1,8 @@
 //! What faults say of themselves. No command prints them so.
 
-use rc_entry::EntryFault;
 use rc_read::{ReadCause, ReadFault};
 use rc_world::schedule::ScheduleFault;
 use std::alloc::AllocError;
-
-#[test]
-fn faults_of_entries_have_their_codes(rt: HostRuntime) -> Result<(), AllocError> {
-    for (fault, text) in [
-        (EntryFault::UnknownOpcode, "E1 UnknownOpcode"),
-        (EntryFault::NonZeroField, "E2 NonZeroField"),
-        (EntryFault::NopFd, "E3 NopFd"),
-        (EntryFault::FsyncFlags, "E4 FsyncFlags"),
-        (EntryFault::CompletionFlags, "E5 CompletionFlags"),
-    ] {
-        let printed = format!(in rt.alloc(); "{fault}")?;
-        assert_eq!(rt; printed.as_str(), text);
-    }
-    Ok(())
-}
 
 #[test]
 fn faults_of_texts_have_their_lines(rt: HostRuntime) -> Result<(), AllocError> {
