@@ -86,27 +86,44 @@ fn ways_of(
     stmt: Stmt,
 ) -> Result<Vec<Way>, AllocError> {
     match stmt {
-        Stmt::If(_) => Vec::from_slice(alloc, &[Way::Yes, Way::No]),
+        Stmt::If(_) => answers_of(alloc),
         Stmt::Peek(_) => arms_of(alloc, lines, place),
         _ => Ok(Vec::new(alloc)),
     }
+}
+
+/// The answers of a test.
+fn answers_of(alloc: Global) -> Result<Vec<Way>, AllocError> {
+    Vec::from_slice(alloc, &[Way::Yes, Way::No])
 }
 
 /// The arms of the peek at a place.
 fn arms_of(alloc: Global, lines: &[Line], place: usize) -> Result<Vec<Way>, AllocError> {
     let mut ways = Vec::new(alloc);
     for line in lines {
-        push_case(&mut ways, place, line.stmt)?;
+        push_way(&mut ways, case_at(place, line.stmt))?;
     }
     ways.extend_from_slice(&[Way::Other, Way::Nothing])?;
     Ok(ways)
 }
 
-/// Adds the case of the peek at a place that a line begins, if it begins one.
-fn push_case(ways: &mut Vec<Way>, place: usize, stmt: Stmt) -> Result<(), AllocError> {
-    match stmt {
-        Stmt::Case(peek, user_data) if peek == place => Ok(ways.push(Way::Case(user_data))?),
-        _ => Ok(()),
+/// The case of the peek at a place that a line begins, if it begins one.
+fn case_at(place: usize, stmt: Stmt) -> Option<Way> {
+    let Stmt::Case(peek, user_data) = stmt else {
+        return None;
+    };
+    if peek == place {
+        Some(Way::Case(user_data))
+    } else {
+        None
+    }
+}
+
+/// Adds a way, if there is one.
+fn push_way(ways: &mut Vec<Way>, way: Option<Way>) -> Result<(), AllocError> {
+    match way {
+        Some(way) => Ok(ways.push(way)?),
+        None => Ok(()),
     }
 }
 
@@ -299,10 +316,9 @@ fn put_spans(text: &mut Vec<u8>, spans: &[Span]) -> Result<(), AllocError> {
 
 /// Adds the numbers of the first line of a span and of the last, or the one number, after this.
 fn put_span(text: &mut Vec<u8>, before: &[u8], span: Span) -> Result<(), AllocError> {
-    let (first, last) = (u64::from(span.first), u64::from(span.last));
-    if first == last {
-        return put_counted(text, before, first, b"");
+    put_counted(text, before, u64::from(span.first), b"")?;
+    if span.first == span.last {
+        return Ok(());
     }
-    put_counted(text, before, first, b" to ")?;
-    put_number(text, last)
+    put_counted(text, b" to ", u64::from(span.last), b"")
 }

@@ -82,13 +82,19 @@ fn put_thread(
 fn events_of(events: &[Event], of: u32) -> u64 {
     let mut count: u64 = 0;
     for event in events {
-        if let Event::ByThread { thread, .. } = *event {
-            if thread == of {
-                count = count.saturating_add(1);
-            }
+        if is_of(*event, of) {
+            count = count.saturating_add(1);
         }
     }
     count
+}
+
+/// Whether an event is one of the thread.
+fn is_of(event: Event, of: u32) -> bool {
+    match event {
+        Event::ByThread { thread, .. } => thread == of,
+        Event::ByKernel(_) => false,
+    }
 }
 
 /// Adds a line for each token.
@@ -152,15 +158,19 @@ fn tally_of(
 
 /// The result of a completion with this user data.
 fn result_in(user_data: u64, event: Event) -> Option<i32> {
-    match event {
-        Event::ByKernel(completion) if completion.user_data == user_data => Some(completion.res),
-        _ => None,
+    let Event::ByKernel(completion) = event else {
+        return None;
+    };
+    if completion.user_data == user_data {
+        Some(completion.res)
+    } else {
+        None
     }
 }
 
 /// Counts one completion more with this result.
 fn count_one(counts: &mut IndexMap<i32, u64>, res: i32) -> Result<(), AllocError> {
-    let times = counts.insert(res, 0)?.unwrap_or(0);
+    let times = counts.get(&res).copied().unwrap_or(0);
     counts.insert(res, times.saturating_add(1))?;
     Ok(())
 }
