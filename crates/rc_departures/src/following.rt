@@ -212,7 +212,7 @@ fn wrong_line(alloc: Global, number: u64, line: &[u8], why: Why) -> Result<Endin
     ensures { IfOk result IsOther }
 {
     let mut words = why.words().as_bytes().to_vec(alloc)?;
-    if why == Why::WrongWords {
+    if let Why::WrongWords = why {
         put_pieces(&mut words, &[b" ", word_at(line, 2)])?;
     }
     Ok(Ending::Unreadable { number, why: words })

@@ -6,7 +6,7 @@ ghost use Rattle.rc_log.specs.Said.{words_of_why};
 use rc_lang::lines::Locks;
 
 /// Why no line of a program makes a call.
-#[derive(Clone, Copy, PartialEq, Eq, Debug)]
+#[derive(Clone, Copy)]
 pub enum Lack {
     /// `get_sqe 0`: no entry was free.
     NoEntry,
@@ -32,7 +32,7 @@ pub enum Lack {
 
 /// A call or a mark of a log, in the terms of a program: buffers and pools are by their places among the declared
 /// ones, files by the numbers that they are declared with.
-#[derive(Clone, Copy, PartialEq, Eq, Debug)]
+#[derive(Clone, Copy)]
 pub enum Call {
     /// `get_sqe 1`: an entry was opened (`io_uring_get_sqe(3)`).
     GetSqe,
@@ -78,14 +78,14 @@ pub enum Call {
 }
 
 /// A line of a log: the thread's place in the program, none where it has none of this name, and what it calls.
-#[derive(Clone, Copy, PartialEq, Eq, Debug)]
+#[derive(Clone, Copy)]
 pub struct Said {
     pub thread: Option<u32>,
     pub call: Call,
 }
 
 /// Why a line of a log can't be read, in the order in which it is asked.
-#[derive(Clone, Copy, PartialEq, Eq, Debug)]
+#[derive(Clone, Copy)]
 pub enum Why {
     /// It has more than 4,096 bytes.
     TooLong,

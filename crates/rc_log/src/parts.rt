@@ -38,7 +38,7 @@ pub fn is_name(word: &[u8]) -> bool
 fn is_printed(b: u8) -> bool
     ensures { result ≡ spec.is_printed b }
 {
-    33 <= b && b <= 126
+    b.is_ascii_graphic()
 }
 
 // Whether these bytes go on as FILE:LINE does after its first byte.

@@ -8,7 +8,7 @@ use memchr::memchr2;
 use std::alloc::{AllocError, Global};
 
 /// What bytes of a log begin with.
-#[derive(Clone, Copy, PartialEq, Eq, Debug)]
+#[derive(Clone, Copy)]
 pub enum Seen {
     /// A line of so many bytes, without its line feed.
     Line(usize),

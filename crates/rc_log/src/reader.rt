@@ -10,7 +10,7 @@ use std::io::{self, Read};
 const PIECE: usize = 65536;
 
 /// Why the next line of a log isn't given.
-#[derive(Debug, Drop)]
+#[derive(Drop)]
 pub enum LogFault {
     /// It has more than 4,096 bytes.
     TooLong,

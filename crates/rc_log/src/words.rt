@@ -2,16 +2,10 @@
 
 ghost use Rattle.std.specs.Prelude.{◌≡◌, ◌∷◌, ◌≤◌, [], length, slice_index_or};
 ghost use Rattle.std.specs.List.{position_or_len};
-ghost use Rattle.std.specs.Str.{bytes_eq};
 ghost use Rattle.rc_log.specs.Cuts.{Begins, text_of, texts_of, words_after};
 ghost use Rattle.rc_log.specs.Said as spec;
 
-/// Whether a word is this text.
-pub fn is(word: &[u8], text: &[u8]) -> bool
-    ensures { result ≡ bytes_eq word.now text.now }
-{
-    word == text
-}
+pub use rc_read::words::is;
 
 /// How many bytes are before the first blank.
 fn letters_in_front(line: &[u8]) -> usize
