@@ -114,6 +114,11 @@ pub visits_one : (P : Program) (n : Noted) (w v : World) (i : ℕ) (call : Call)
 visits_one P n w v i call a b l h e =
     (adds_one (LeadsBy P n w i call) v a.worlds.items b.worlds.items l h, ([], e ∙ sym (append-nil a.todo.items), All-nil (Leads n w)))
 
+-- what a visit says of each program it says of this one
+pub of_one : (F : Program → Type 0) (P : Program) (r : Result (Option World) AllocError) → IfOk r (λ _. (Q : Program) → F Q) → IfOk r (λ _. F P)
+of_one F P (Ok next) h = h P
+of_one F P (Err refused) h = tt
+
 -- ---- searches
 
 -- a world that comes from these is looked at

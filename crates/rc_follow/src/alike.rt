@@ -6,17 +6,15 @@ use rc_lang::program::Program;
 use rc_lang::request::Request;
 use rc_split::pool::Pool;
 use rc_world::world::{Slot, World};
-use std::ops::Range;
 
 /// Whether two worlds of the same program are alike.
 pub fn are_alike(reads: &Reads, one: &World<'_>, other: &World<'_>) -> bool {
-    stand_alike(one, other) && hold_alike(reads, one, other)
+    stand_alike(None, one, other) && hold_alike(reads, one, other)
 }
 
 /// Whether they are alike but for the place of this thread.
 pub fn are_alike_beside(reads: &Reads, thread: u32, one: &World<'_>, other: &World<'_>) -> bool {
-    threads_of(one).all(|of| of == thread || one.place(of) == other.place(of))
-        && hold_alike(reads, one, other)
+    stand_alike(Some(thread), one, other) && hold_alike(reads, one, other)
 }
 
 /// Whether all but the places of the threads is alike.
@@ -31,13 +29,14 @@ fn hold_alike(reads: &Reads, one: &World<'_>, other: &World<'_>) -> bool {
         && pools_alike(one, other)
 }
 
-/// Whether each thread is at the same place.
-fn stand_alike(one: &World<'_>, other: &World<'_>) -> bool {
-    threads_of(one).all(|thread| one.place(thread) == other.place(thread))
-}
-
-fn threads_of(world: &World<'_>) -> Range<u32> {
-    0..world.program().threads().len() as u32
+/// Whether each thread, but for this one, is at the same place.
+fn stand_alike(but: Option<u32>, one: &World<'_>, other: &World<'_>) -> bool {
+    for thread in 0..one.program().threads().len() as u32 {
+        if but != Some(thread) && one.place(thread) != other.place(thread) {
+            return false;
+        }
+    }
+    true
 }
 
 fn slots_alike(one: Slot, other: Slot) -> bool {
@@ -59,48 +58,78 @@ fn requests_alike(one: Request, other: Request) -> bool {
 }
 
 fn lists_alike(one: &[Request], other: &[Request]) -> bool {
-    one.len() == other.len()
-        && one
-            .iter()
-            .zip(other)
-            .all(|(one, other)| requests_alike(*one, *other))
+    if one.len() != other.len() {
+        return false;
+    }
+    for (one, other) in one.iter().zip(other) {
+        if !requests_alike(*one, *other) {
+            return false;
+        }
+    }
+    true
 }
 
 /// The same pending requests, in any order. No two of a run have the same user data.
 fn pending_alike(one: &World<'_>, other: &World<'_>) -> bool {
-    one.pending_len() == other.pending_len()
-        && (0..one.pending_len()).all(|place| match one.pending(place) {
-            Some(request) => has_pending(other, request),
-            None => false,
-        })
+    if one.pending_len() != other.pending_len() {
+        return false;
+    }
+    for place in 0..one.pending_len() {
+        match one.pending(place) {
+            Some(request) if has_pending(other, request) => {}
+            _ => return false,
+        }
+    }
+    true
 }
 
 fn has_pending(world: &World<'_>, request: Request) -> bool {
-    let pending = world
-        .pending_place(request.user_data)
-        .and_then(|place| world.pending(place));
-    match pending {
+    match pending_of(world, request.user_data) {
         Some(pending) => requests_alike(pending, request),
         None => false,
     }
 }
 
+/// The pending request with this user data.
+pub fn pending_of(world: &World<'_>, user_data: u64) -> Option<Request> {
+    world.pending(world.pending_place(user_data)?)
+}
+
 fn pools_alike(one: &World<'_>, other: &World<'_>) -> bool {
     let program = one.program();
-    pool_alike(program, one.pools().unnamed(), other.pools().unnamed())
-        && one
-            .pools()
-            .named()
-            .iter()
-            .zip(other.pools().named())
-            .all(|(one, other)| pool_alike(program, one, other))
+    let (one, other) = (one.pools(), other.pools());
+    if !pool_alike(program, one.unnamed(), other.unnamed()) {
+        return false;
+    }
+    for (one, other) in one.named().iter().zip(other.named()) {
+        if !pool_alike(program, one, other) {
+            return false;
+        }
+    }
+    true
 }
 
 fn pool_alike(program: &Program, one: &Pool, other: &Pool) -> bool {
     one.credits() == other.credits()
-        && (0..program.buffers().len()).all(|buffer| one.shares_of(buffer)
-            == other.shares_of(buffer))
-        && program.tokens().iter().all(|token| {
-            one.has_token(program, token.user_data) == other.has_token(program, token.user_data)
-        })
+        && shares_alike(program, one, other)
+        && tokens_alike(program, one, other)
+}
+
+fn shares_alike(program: &Program, one: &Pool, other: &Pool) -> bool {
+    for buffer in 0..program.buffers().len() {
+        if one.shares_of(buffer) != other.shares_of(buffer) {
+            return false;
+        }
+    }
+    true
+}
+
+fn tokens_alike(program: &Program, one: &Pool, other: &Pool) -> bool {
+    for token in program.tokens() {
+        let user_data = token.user_data;
+        if one.has_token(program, user_data) != other.has_token(program, user_data) {
+            return false;
+        }
+    }
+    true
 }

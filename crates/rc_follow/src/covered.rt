@@ -32,11 +32,19 @@ fn is_covered(ground: Ground<'_, '_>, worlds: &[Node<'_>], at: usize) -> bool
     ensures { result ≡ true → at < length worlds.now }
 {
     match worlds.get(at) {
-        Some(node) => worlds
-            .iter()
-            .any(|other| leads_to(ground, other.world(), node.world())),
+        Some(node) => is_led_to(ground, worlds, node.world()),
         None => false,
     }
+}
+
+/// Whether one of the worlds leads to this one.
+fn is_led_to(ground: Ground<'_, '_>, worlds: &[Node<'_>], world: &World<'_>) -> bool {
+    for other in worlds {
+        if leads_to(ground, other.world(), world) {
+            return true;
+        }
+    }
+    false
 }
 
 /// Whether the thread has another place in the one world than in the other, and comes to that place.

@@ -23,7 +23,7 @@ use std::marker::Model;
 use std::mem::swap;
 
 /// What a line is to the lines before it.
-#[derive(Clone, Copy, PartialEq, Eq, Debug)]
+#[derive(Clone, Copy)]
 pub enum Answer {
     /// A run of the program makes them and it.
     Followed,

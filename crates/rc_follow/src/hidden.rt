@@ -153,18 +153,20 @@ pub fn go(ground: Ground<'_, '_>, node: &mut Node<'_>, step: Step) -> Result<boo
     ensures { IfOk result (λ is. is ≡ true → IsHiddenStep ground.entry.noted.now node.old node.new) }
 {
     match step {
-        Step::Own => hide(ground, node),
+        Step::Own => {
+            let thread = ground.thread;
+            hide(ground, node, &Item::Thread { thread, take: None })
+        }
         Step::Stray(byte) => Ok(hide_stray(ground, node, byte)),
     }
 }
 
-/// Makes a step of the thread, and answers whether it was made and is hidden.
-fn hide(ground: Ground<'_, '_>, node: &mut Node<'_>) -> Result<bool, AllocError>
+/// Makes the step that an item names, and answers whether it was made and is hidden.
+pub fn hide(ground: Ground<'_, '_>, node: &mut Node<'_>, item: &Item) -> Result<bool, AllocError>
     ensures { IfOk result (λ is. is ≡ true → IsHiddenStep ground.entry.noted.now node.old node.new) }
 {
-    let thread = ground.thread;
     let is_idle = has_nothing_queued(node);
-    match node.step(&Item::Thread { thread, take: None })? {
+    match node.step(item)? {
         Some(event) => Ok(ground.noted.is_hidden(is_idle, event)),
         None => Ok(false),
     }
@@ -182,7 +184,7 @@ fn hide_stray(ground: Ground<'_, '_>, node: &mut Node<'_>, byte: u8) -> bool
 }
 
 /// Whether nothing is queued.
-pub fn has_nothing_queued(node: &Node<'_>) -> bool
+fn has_nothing_queued(node: &Node<'_>) -> bool
     ensures { result ≡ is_empty node.now.queued }
 {
     node.world().queued().is_empty()

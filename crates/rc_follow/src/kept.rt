@@ -10,6 +10,7 @@ use crate::reads::Reads;
 use crate::room::{Room, is_there};
 use crate::visible::{complete, make};
 use rc_log::call::Call;
+use rc_world::world::World;
 use std::alloc::{AllocError, Global};
 
 /// What a search finds.
@@ -79,7 +80,7 @@ fn keep_called<'a>(
 ) -> Result<(), AllocError>
     ensures { IfOk result (λ _. (P : Program) → Visits P ground.entry.noted.now node.entry ground.entry.thread ground.entry.call found.old found.new) }
 {
-    let number = line_of(node.world(), ground.thread).map(|line| line.number);
+    let number = next_number(node.world(), ground.thread);
     if make(ground, &mut node)? {
         push_line(&mut found.lines, number)?;
         keep(ground.reads, node, found, room)?;
@@ -87,6 +88,11 @@ fn keep_called<'a>(
         room.give(node)?;
     }
     Ok(())
+}
+
+/// The number of the line that a thread has next.
+fn next_number(world: &World<'_>, thread: u32) -> Option<u32> {
+    Some(line_of(world, thread)?.number)
 }
 
 fn push_line(lines: &mut Vec<u32>, number: Option<u32>) -> Result<(), AllocError> {

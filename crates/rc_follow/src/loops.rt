@@ -118,6 +118,10 @@ fn shares_in(state: &State<'_>) -> Shares {
 }
 
 fn are_within(few: &Shares, many: &Shares) -> bool {
-    (0..BUFFERS).all(|buffer| few.zero[buffer] <= many.zero[buffer]
-        && few.other[buffer] <= many.other[buffer])
+    for buffer in 0..BUFFERS {
+        if few.zero[buffer] > many.zero[buffer] || few.other[buffer] > many.other[buffer] {
+            return false;
+        }
+    }
+    true
 }

@@ -41,21 +41,36 @@ pub fn look_on<'a>(
 ) -> Result<(), AllocError>
     ensures { IfOk result (λ _. (P : Program) → Visits P ground.entry.noted.now node.entry ground.entry.thread ground.entry.call found.old found.new) }
 {
-    let is_known = match way {
-        Way::Back(_) if is_begun => false,
-        Way::Back(top) => {
-            is_there(ground.reads, &node, ground.begun)
-                || comes_to_it(ground, top, &node, found)
-                || room.has_seen(ground.reads, ground.alloc, &node)?
-        }
-        _ => { found.todo.len() >= FEW_WORLDS && room.has_seen(ground.reads, ground.alloc, &node)? }
-    };
-    if is_known {
+    if is_known(ground, way, is_begun, &node, found, room)? {
         room.give(node)?;
     } else {
         push_hidden(ground, node, way, room, &mut found.todo)?;
     }
     Ok(())
+}
+
+/// Whether the search goes on from a world that is like this one, or comes to it in another way.
+fn is_known<'a>(
+    ground: Ground<'_, 'a>,
+    way: Way,
+    is_begun: bool,
+    node: &Node<'a>,
+    found: &Found<'a>,
+    room: &mut Room<'a>,
+) -> Result<bool, AllocError> {
+    match way {
+        Way::Back(_) if is_begun => Ok(false),
+        Way::Back(top) if is_beside_begun(ground, top, node, found) => Ok(true),
+        Way::Back(_) => room.has_seen(ground.reads, ground.alloc, node),
+        _ if found.todo.len() < FEW_WORLDS => Ok(false),
+        _ => room.has_seen(ground.reads, ground.alloc, node),
+    }
+}
+
+/// Whether a world from which the thread goes back to this loop is like one that the search begins from, or the search
+/// comes to it anyway.
+fn is_beside_begun(ground: Ground<'_, '_>, top: usize, node: &Node<'_>, found: &Found<'_>) -> bool {
+    is_there(ground.reads, node, ground.begun) || comes_to_it(ground, top, node, found)
 }
 
 /// Whether the search goes on anyway from the first line of the loop at this place, to which the thread goes back: from a
@@ -67,8 +82,14 @@ fn comes_to_it(ground: Ground<'_, '_>, top: usize, node: &Node<'_>, found: &Foun
 
 /// Whether this world will be like one of these once the thread is at the first line of the loop at this place.
 fn is_in_loop(ground: Ground<'_, '_>, top: usize, node: &Node<'_>, nodes: &[Node<'_>]) -> bool {
-    nodes.iter().any(|there| is_at_top(ground.thread, top, there)
-        && are_alike_beside(ground.reads, ground.thread, there.world(), node.world()))
+    for there in nodes {
+        if is_at_top(ground.thread, top, there)
+            && are_alike_beside(ground.reads, ground.thread, there.world(), node.world())
+        {
+            return true;
+        }
+    }
+    false
 }
 
 /// Whether the thread is at the top of the loop at this place, or at its first line.

@@ -88,7 +88,13 @@ impl<'p> Pass<'p> {
 }
 
 fn have_same_shares(one: &Items, other: &Items) -> bool {
-    one.shares.len() == other.shares.len()
-        && one.shares.iter().zip(&other.shares).all(|(one, other)| one.buffer == other.buffer
-            && one.count == other.count)
+    if one.shares.len() != other.shares.len() {
+        return false;
+    }
+    for (one, other) in one.shares.iter().zip(&other.shares) {
+        if one.buffer != other.buffer || one.count != other.count {
+            return false;
+        }
+    }
+    true
 }

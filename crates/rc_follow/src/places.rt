@@ -45,7 +45,7 @@ pub struct Places {
 }
 
 /// A line of the text that a thread can have next.
-#[derive(Clone, Copy, PartialEq, Eq, Debug)]
+#[derive(Clone, Copy)]
 pub struct Place {
     /// Its number in the text, from 1.
     pub number: u32,
@@ -54,7 +54,7 @@ pub struct Place {
 }
 
 /// What a call would have needed at a place.
-#[derive(Clone, Copy, PartialEq, Eq, Debug)]
+#[derive(Clone, Copy)]
 pub enum Need {
     /// It isn't the place's call.
     OtherCall,
@@ -82,21 +82,30 @@ pub fn why_departs(
         return Ok(Departure::NoThread);
     };
     let ground = follower.ground(alloc, thread, said.call);
-    let first = ground.begun.first();
     match said.call {
         Call::Foreign(lack) => Ok(Departure::Lacks(lack)),
         Call::PeekNone => Ok(Departure::NoCqLock),
         Call::SqSpaceLeft => Ok(Departure::NoSqLock),
         Call::SqReady(_) if !has_sq(ground) => Ok(Departure::NoSqLock),
-        Call::SqReady(_) => Ok(Departure::Used(first.map_or(
-            0,
-            |node| node.world().used_entries(),
-        ))),
-        Call::Submit(0)
-            if !has_sq(ground) && first.is_some_and(|node| node.world().queued().is_empty()) => {
-            Ok(Departure::NoSqLock)
-        }
+        Call::SqReady(_) => Ok(Departure::Used(used_entries(ground))),
+        Call::Submit(0) if !has_sq(ground) && is_idle(ground) => Ok(Departure::NoSqLock),
         _ => elsewhere(ground),
+    }
+}
+
+/// How many entries are used in the first world before the line.
+fn used_entries(ground: Ground<'_, '_>) -> usize {
+    match ground.begun.first() {
+        Some(node) => node.world().used_entries(),
+        None => 0,
+    }
+}
+
+/// Whether nothing is queued in the first world before the line.
+fn is_idle(ground: Ground<'_, '_>) -> bool {
+    match ground.begun.first() {
+        Some(node) => node.world().queued().is_empty(),
+        None => false,
     }
 }
 
@@ -117,8 +126,7 @@ fn elsewhere(ground: Ground<'_, '_>) -> Result<Departure, AllocError> {
     };
     let mut found = Vec::new(ground.alloc);
     for node in ground.begun {
-        look(ground, node.world(), &mut places)?;
-        let fresh = hidden(ground, node)?;
+        let fresh = look_from(ground, node, &mut places)?;
         take_in(ground, fresh, &mut found)?;
     }
     for at in 0..MOST_WORLDS {
@@ -128,11 +136,20 @@ fn elsewhere(ground: Ground<'_, '_>) -> Result<Departure, AllocError> {
         let Some(node) = found.get(at) else {
             return Ok(Departure::Elsewhere(places));
         };
-        look(ground, node.world(), &mut places)?;
-        let fresh = hidden(ground, node)?;
+        let fresh = look_from(ground, node, &mut places)?;
         take_in(ground, fresh, &mut found)?;
     }
     Ok(Departure::TooMany)
+}
+
+/// Notes the place where the thread is in a world, and answers the worlds to which a hidden step leads from it.
+fn look_from<'a>(
+    ground: Ground<'_, '_>,
+    node: &Node<'a>,
+    places: &mut Places,
+) -> Result<Vec<Node<'a>>, AllocError> {
+    look(ground, node.world(), places)?;
+    hidden(ground, node)
 }
 
 /// The worlds to which a hidden step of the thread leads, or such a step and plain ones after it.

@@ -243,12 +243,12 @@ pub fn after_end(thread: &Thread, place: usize) -> Option<usize> {
 
 /// The first place of the peek's arm for no completion.
 fn in_none_arm(thread: &Thread, peek: usize) -> Option<usize> {
-    let arm = thread
-        .lines
-        .iter()
-        .position(|line| is_none_arm(line.stmt, peek))
-        .unwrap_or(peek);
-    Some(arm.saturating_add(1))
+    for (place, line) in thread.lines.iter().enumerate() {
+        if is_none_arm(line.stmt, peek) {
+            return Some(place.saturating_add(1));
+        }
+    }
+    Some(peek.saturating_add(1))
 }
 
 fn is_none_arm(stmt: Stmt, peek: usize) -> bool {

@@ -45,10 +45,12 @@ impl Reads {
 
     /// Whether each variable on which an if of its thread depends has the same value in both worlds.
     pub fn are_same(&self, one: &World<'_>, other: &World<'_>) -> bool {
-        self.threads
-            .iter()
-            .enumerate()
-            .all(|(thread, depends)| is_same(thread, depends, one, other))
+        for (thread, depends) in self.threads.iter().enumerate() {
+            if !is_same(thread, depends, one, other) {
+                return false;
+            }
+        }
+        true
     }
 }
 
@@ -57,8 +59,12 @@ fn is_same(thread: usize, depends: &Depends, one: &World<'_>, other: &World<'_>)
     let Ok(thread) = u32::try_from(thread) else {
         return true;
     };
-    depends.variables.iter().all(|variable| one.variable(thread, *variable)
-        == other.variable(thread, *variable))
+    for variable in &depends.variables {
+        if one.variable(thread, *variable) != other.variable(thread, *variable) {
+            return false;
+        }
+    }
+    true
 }
 
 fn is_in(variables: &[bool; 64], variable: usize) -> bool {

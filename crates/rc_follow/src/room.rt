@@ -80,7 +80,10 @@ impl<'a> Room<'a> {
 
 /// Whether one of these worlds is like this one.
 pub fn is_there(reads: &Reads, node: &Node<'_>, nodes: &[Node<'_>]) -> bool {
-    nodes
-        .iter()
-        .any(|there| are_alike(reads, there.world(), node.world()))
+    for there in nodes {
+        if are_alike(reads, there.world(), node.world()) {
+            return true;
+        }
+    }
+    false
 }

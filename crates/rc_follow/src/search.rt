@@ -1,7 +1,8 @@
 //! The worlds to which one line of a log leads.
 
-ghost use Rattle.std.specs.Prelude.{◌≡◌, ◌<◌, [], length, All, IfOk, true};
+ghost use Rattle.std.specs.Prelude.{◌≡◌, ◌<◌, [], length, All, IfOk, IfSome, true};
 ghost use Rattle.rc_lang.specs.Program.{Program};
+ghost use Rattle.rc_follow.specs.Follower.{Leads};
 ghost use Rattle.rc_follow.specs.Searches.{AsksIn, Finds, Visits};
 
 use crate::covered::drop_covered;
@@ -151,12 +152,13 @@ fn keep_unlocked<'a>(
     }
 }
 
-/// Looks at a world before the line: keeps the worlds to which the line leads from it by the one way on, and leaves
-/// those after several ways to be looked at. `is_begun` says whether the search begins from it.
+/// Looks at a world before the line, and at those after it as long as there is one way on: keeps the worlds to which the
+/// line leads from them, and leaves those after several ways to be looked at. `is_begun` says whether the search begins
+/// from it.
 fn visit<'a>(
     ground: Ground<'_, 'a>,
     rights: &mut Rights<'_>,
-    node: Node<'a>,
+    mut node: Node<'a>,
     is_begun: bool,
     found: &mut Found<'a>,
     room: &mut Room<'a>,
@@ -164,96 +166,147 @@ fn visit<'a>(
     ensures same { rights.new ≡ rights.old }
     ensures visits { IfOk result (λ _. Visits rights.old ground.entry.noted.now node.entry ground.entry.thread ground.entry.call found.old found.new) }
 {
-    match ground.call {
-        Call::Unlock(released) => visit_unlock(ground, node, is_begun, released, found, room)?,
-        Call::Reads(_) | Call::Writes(_) => visit_mark(
-            ground, rights, node, is_begun, found, room,
-        )?,
-        Call::PeekNone | Call::SqReady(_) | Call::SqSpaceLeft | Call::Lock(_) => {
-            visit_question(ground, node, found, room)?;
+    for step in 0..MOST_STEPS {
+        match look_at(ground, rights, node, is_begun && step == 0, found, room)? {
+            Some(next) => node = next,
+            None => return Ok(()),
         }
-        _ => visit_call(ground, node, is_begun, found, room)?,
     }
+    look_further(ground, node, found, room)?;
     Ok(())
 }
 
+/// Looks at one world, and answers the world after the one way on from it. Where it has none, or the line leads on from
+/// it, there is nothing more to look at.
+fn look_at<'a>(
+    ground: Ground<'_, 'a>,
+    rights: &mut Rights<'_>,
+    node: Node<'a>,
+    is_begun: bool,
+    found: &mut Found<'a>,
+    room: &mut Room<'a>,
+) -> Result<Option<Node<'a>>, AllocError>
+    ensures same { rights.new ≡ rights.old }
+    ensures visits { IfOk result (λ _. Visits rights.old ground.entry.noted.now node.entry ground.entry.thread ground.entry.call found.old found.new) }
+    ensures leads { IfOk result (λ next. IfSome next (Leads ground.entry.noted.now node.entry)) }
+{
+    match ground.call {
+        Call::Unlock(released) => look_at_unlock(ground, node, is_begun, released, found, room),
+        Call::Reads(_) | Call::Writes(_) => look_at_mark(
+            ground, rights, node, is_begun, found, room,
+        ),
+        Call::PeekNone | Call::SqReady(_) | Call::SqSpaceLeft | Call::Lock(_) => {
+            look_at_question(ground, node, found, room)
+        }
+        _ => look_at_call(ground, node, is_begun, found, room),
+    }
+}
+
 /// A line that asks.
-fn visit_question<'a>(
+fn look_at_question<'a>(
     ground: Ground<'_, '_>,
     node: Node<'a>,
     found: &mut Found<'a>,
     room: &mut Room<'a>,
-) -> Result<(), AllocError>
-    ensures { IfOk result (λ _. (P : Program) → Visits P ground.entry.noted.now node.entry ground.entry.thread ground.entry.call found.old found.new) }
+) -> Result<Option<Node<'a>>, AllocError>
+    ensures visits { IfOk result (λ _. (P : Program) → Visits P ground.entry.noted.now node.entry ground.entry.thread ground.entry.call found.old found.new) }
+    ensures leads { IfOk result (λ next. IfSome next (Leads ground.entry.noted.now node.entry)) }
 {
     if asks(ground.noted, &node, ground.thread, ground.call) {
         keep(ground.reads, node, found, room)?;
-    } else {
-        room.give(node)?;
+        return Ok(None);
     }
-    Ok(())
+    room.give(node)?;
+    Ok(None)
 }
 
 /// A mark of a buffer leads to the first world on each way in which the thread has the right.
-fn visit_mark<'a>(
+fn look_at_mark<'a>(
     ground: Ground<'_, 'a>,
     rights: &mut Rights<'_>,
-    mut node: Node<'a>,
+    node: Node<'a>,
     is_begun: bool,
     found: &mut Found<'a>,
     room: &mut Room<'a>,
-) -> Result<(), AllocError>
+) -> Result<Option<Node<'a>>, AllocError>
     ensures same { rights.new ≡ rights.old }
     ensures visits { IfOk result (λ _. Visits rights.old ground.entry.noted.now node.entry ground.entry.thread ground.entry.call found.old found.new) }
+    ensures leads { IfOk result (λ next. IfSome next (Leads ground.entry.noted.now node.entry)) }
 {
-    for step in 0..MOST_STEPS {
-        if is_right(rights, &node, ground.thread, ground.call)? {
-            keep(ground.reads, node, found, room)?;
-            return Ok(());
-        }
-        let way = way_on(ground, node.world());
-        let Way::On(next) = way else {
-            look_on(ground, node, way, is_begun && step == 0, found, room)?;
-            return Ok(());
-        };
-        if !go(ground, &mut node, next)? {
-            room.give(node)?;
-            return Ok(());
-        }
+    if is_right(rights, &node, ground.thread, ground.call)? {
+        keep(ground.reads, node, found, room)?;
+        return Ok(None);
     }
-    look_further(ground, node, found, room)?;
-    Ok(())
+    go_on(ground, node, is_begun, found, room)
 }
 
 /// An unlock leads to the worlds directly after a step by which the thread lets go of the locks.
-fn visit_unlock<'a>(
+fn look_at_unlock<'a>(
     ground: Ground<'_, 'a>,
-    mut node: Node<'a>,
+    node: Node<'a>,
     is_begun: bool,
     released: Locks,
     found: &mut Found<'a>,
     room: &mut Room<'a>,
-) -> Result<(), AllocError>
-    ensures { IfOk result (λ _. (P : Program) → Visits P ground.entry.noted.now node.entry ground.entry.thread ground.entry.call found.old found.new) }
+) -> Result<Option<Node<'a>>, AllocError>
+    ensures visits { IfOk result (λ _. (P : Program) → Visits P ground.entry.noted.now node.entry ground.entry.thread ground.entry.call found.old found.new) }
+    ensures leads { IfOk result (λ next. IfSome next (Leads ground.entry.noted.now node.entry)) }
 {
-    for step in 0..MOST_STEPS {
-        let way = way_on(ground, node.world());
-        let Way::On(next) = way else {
-            look_on(ground, node, way, is_begun && step == 0, found, room)?;
-            return Ok(());
-        };
-        let was_free = holds_none(&node, ground.thread, released);
-        if !go(ground, &mut node, next)? {
-            room.give(node)?;
-            return Ok(());
-        }
-        if !keep_asked(ground, was_free, &node, found, room)? {
-            room.give(node)?;
-            return Ok(());
-        }
+    let was_free = holds_none(&node, ground.thread, released);
+    let Some(next) = go_on(ground, node, is_begun, found, room)? else {
+        return Ok(None);
+    };
+    if keep_asked(ground, was_free, &next, found, room)? {
+        return Ok(Some(next));
     }
-    look_further(ground, node, found, room)?;
-    Ok(())
+    room.give(next)?;
+    Ok(None)
+}
+
+/// A call leads to the world after the thread's step that is it, where it can make one.
+fn look_at_call<'a>(
+    ground: Ground<'_, 'a>,
+    node: Node<'a>,
+    is_begun: bool,
+    found: &mut Found<'a>,
+    room: &mut Room<'a>,
+) -> Result<Option<Node<'a>>, AllocError>
+    ensures visits { IfOk result (λ _. (P : Program) → Visits P ground.entry.noted.now node.entry ground.entry.thread ground.entry.call found.old found.new) }
+    ensures leads { IfOk result (λ next. IfSome next (Leads ground.entry.noted.now node.entry)) }
+{
+    if asks(ground.noted, &node, ground.thread, ground.call) {
+        keep(ground.reads, node, found, room)?;
+        return Ok(None);
+    }
+    if may_be_next(ground, node.world()) {
+        visit_made(ground, node, is_begun, found, room)?;
+        return Ok(None);
+    }
+    go_on(ground, node, is_begun, found, room)
+}
+
+/// Goes on from a world by the thread's one way, and answers the world after it. Those after several ways are left to be
+/// looked at.
+fn go_on<'a>(
+    ground: Ground<'_, 'a>,
+    mut node: Node<'a>,
+    is_begun: bool,
+    found: &mut Found<'a>,
+    room: &mut Room<'a>,
+) -> Result<Option<Node<'a>>, AllocError>
+    ensures visits { IfOk result (λ _. (P : Program) → Visits P ground.entry.noted.now node.entry ground.entry.thread ground.entry.call found.old found.new) }
+    ensures leads { IfOk result (λ next. IfSome next (Leads ground.entry.noted.now node.entry)) }
+{
+    let way = way_on(ground, node.world());
+    let Way::On(step) = way else {
+        look_on(ground, node, way, is_begun, found, room)?;
+        return Ok(None);
+    };
+    if go(ground, &mut node, step)? {
+        return Ok(Some(node));
+    }
+    room.give(node)?;
+    Ok(None)
 }
 
 /// Keeps a world in which the line asks what is so, unless the world before it was one. Answers false where one that is
@@ -279,39 +332,6 @@ fn keep_asked<'a>(
     let again = room.copy(ground.alloc, node)?;
     found.worlds.push(again)?;
     Ok(true)
-}
-
-/// A call leads to the world after the thread's step that is it, where it can make one.
-fn visit_call<'a>(
-    ground: Ground<'_, 'a>,
-    mut node: Node<'a>,
-    is_begun: bool,
-    found: &mut Found<'a>,
-    room: &mut Room<'a>,
-) -> Result<(), AllocError>
-    ensures { IfOk result (λ _. (P : Program) → Visits P ground.entry.noted.now node.entry ground.entry.thread ground.entry.call found.old found.new) }
-{
-    for step in 0..MOST_STEPS {
-        if asks(ground.noted, &node, ground.thread, ground.call) {
-            keep(ground.reads, node, found, room)?;
-            return Ok(());
-        }
-        if may_be_next(ground, node.world()) {
-            visit_made(ground, node, is_begun && step == 0, found, room)?;
-            return Ok(());
-        }
-        let way = way_on(ground, node.world());
-        let Way::On(next) = way else {
-            look_on(ground, node, way, is_begun && step == 0, found, room)?;
-            return Ok(());
-        };
-        if !go(ground, &mut node, next)? {
-            room.give(node)?;
-            return Ok(());
-        }
-    }
-    look_further(ground, node, found, room)?;
-    Ok(())
 }
 
 /// A world in which the thread's next step may be the call. It may also be hidden. Where the world is like one from which

@@ -5,7 +5,8 @@ ghost use Rattle.rc_lang.specs.Program.{Program};
 ghost use Rattle.rc_follow.specs.Followed as spec;
 ghost use Rattle.rc_follow.specs.Follower.{IsHiddenStep};
 
-use crate::hidden::{Ground, has_items, has_nothing_queued, line_of};
+use crate::alike::pending_of;
+use crate::hidden::{Ground, has_items, hide, line_of};
 use crate::node::Node;
 use crate::noted::Noted;
 use rc_lang::lines::{Locks, Op, Stmt, Test};
@@ -137,27 +138,28 @@ pub fn complete(
 ) -> Result<bool, AllocError>
     ensures { IfOk result (λ is. is ≡ true → IsHiddenStep ground.entry.noted.now node.old node.new) }
 {
-    let world = node.world();
-    let request = world
-        .pending_place(user_data)
-        .and_then(|place| world.pending(place));
-    let Some(request) = request else {
-        return Ok(false);
-    };
-    let res = ground
-        .noted
-        .scaled(world.program(), user_data, request.len, res);
-    let Ok(res) = i32::try_from(res) else {
-        return Ok(false);
-    };
-    let item = Item::Kernel {
-        user_data,
-        res,
-        fill: 0,
-    };
-    let is_idle = has_nothing_queued(node);
-    match node.step(&item)? {
-        Some(event) => Ok(ground.noted.is_hidden(is_idle, event)),
+    match scaled_res(ground, node.world(), user_data, res) {
+        Some(res) => {
+            let fill = 0;
+            hide(
+                ground,
+                node,
+                &Item::Kernel {
+                    user_data,
+                    res,
+                    fill,
+                },
+            )
+        }
         None => Ok(false),
     }
+}
+
+/// The result that C's stands for, of the pending request with this user data.
+fn scaled_res(ground: Ground<'_, '_>, world: &World<'_>, user_data: u64, res: i32) -> Option<i32> {
+    let request = pending_of(world, user_data)?;
+    let scaled = ground
+        .noted
+        .scaled(world.program(), user_data, request.len, res);
+    i32::try_from(scaled).ok()
 }
