@@ -2,7 +2,7 @@
 
 use crate::fields::{field, text_field};
 use crate::replies::{Fault, Refusal};
-use rc_find::find::put_found;
+use rc_runs::find::put_found;
 use rc_find::picture::put_found_picture;
 use rc_publish::documents::Documents;
 use serde_json::{Map, Value};

@@ -1,4 +1,0 @@
-pub mod Drawn
-pub mod Grows
-pub mod Shown
-pub mod Told

@@ -1,3 +1,0 @@
-pub mod Finds
-pub mod Harms
-pub mod Pictures

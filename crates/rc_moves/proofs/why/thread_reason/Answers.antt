@@ -1,4 +1,0 @@
-use Rattle.rc_moves.proofs.why.thread_reason.Goals as goal
-
-pub returns-in-TakenLock : goal.returns-in-TakenLock
-returns-in-TakenLock c = c.lock_reason.ensures c.args.take

@@ -1,0 +1,10 @@
+pub mod Answered
+pub mod Counted
+pub mod Findings
+pub mod Grows
+pub mod Listed
+pub mod Reading
+pub mod Repeats
+pub mod Shown
+pub mod Stepped
+pub mod Waits

@@ -1,0 +1,10 @@
+pub mod Choices
+pub mod Finds
+pub mod Harms
+pub mod Laws
+pub mod Moved
+pub mod Moves
+pub mod Reasons
+pub mod Repeats
+pub mod Spelling
+pub mod Stepping

@@ -1,0 +1,56 @@
+-- What a text and its moves name: the steps of a program, or what can't be read.
+use Rattle.std.specs.Prelude.{ℕ, ◌≡◌, List, Result, Ok, Err}
+use Rattle.rc_lang.specs.Program.{Program}
+use Rattle.rc_read.specs.Causes.{number_of_cause}
+use Rattle.rc_read.specs.declared.fault.ReadCause.{ReadCause}
+use Rattle.rc_read.specs.declared.fault.ReadFault.TheVariants as fault
+use Rattle.rc_report.specs.declared.step_engine.StepEnd.{StepEnd}
+use Rattle.rc_report.specs.declared.step_engine.StepEnd.TheVariants.{Unreadable}
+use Rattle.rc_report.specs.declared.step_engine.Unread.{Unread}
+use Rattle.rc_report.specs.declared.step_engine.Unread.TheVariants.{Text, Schedule}
+use Rattle.rc_report.specs.Engine.{EndsItems, items_text}
+use Rattle.rc_report.specs.Verdicts.{unreadable_text}
+use Rattle.rc_world.specs.declared.event.Item.{Item}
+use Rattle.rc_world.specs.Trace.{Trace}
+use Rattle.rc_runs.specs.declared.moves.Move.{Move}
+use Rattle.rc_runs.specs.declared.steps.Moved.{Moved}
+use Rattle.rc_runs.specs.Moves.{moves_of}
+use Rattle.rc_runs.specs.Spelling.{counts_of, schedule_of}
+
+-- This can't be read, of the text or of the moves.
+abbrev pub IsUnread : Result Program (ℕ × ℕ) → List ℕ → Unread → Type 0
+IsUnread (Ok program) text (Text line cause) = ⊥
+IsUnread (Ok program) text (Schedule i) = moves_of program text ≡ Err i
+IsUnread (Err (line, number)) text (Text l cause) = (l ≡ line) × (number_of_cause cause ≡ number)
+IsUnread (Err (line, number)) text (Schedule i) = ⊥
+
+-- The program is the text's, the items are the schedule that the moves spell, and the counts are theirs.
+pub record IsMoved (answer : Result Program (ℕ × ℕ)) (text : List ℕ) (moved : Moved) : Type 0 where
+  pub program : answer ≡ Ok moved.steps.program
+  pub moves : moves_of moved.steps.program text ≡ Ok moved.moves.items
+  pub items : moved.steps.items.items ≡ schedule_of moved.steps.program moved.moves.items
+  pub counts : moved.counts.items ≡ counts_of moved.steps.program moved.moves.items
+
+abbrev pub ReadsMoved : Result Program (ℕ × ℕ) → List ℕ → Result Moved Unread → Type 0
+ReadsMoved answer text (Ok moved) = IsMoved answer text moved
+ReadsMoved answer text (Err unread) = IsUnread answer text unread
+
+-- ---- what a program that is stepped by moves is answered with
+
+-- The schedule of a text of moves, or the number of the first piece that names none.
+abbrev pub spelled_or : Program → Result (List Move) ℕ → Result (List Item) ℕ
+spelled_or program (Ok moves) = Ok (schedule_of program moves)
+spelled_or program (Err i) = Err i
+
+abbrev pub moved_items : Program → List ℕ → Result (List Item) ℕ
+moved_items program text = spelled_or program (moves_of program text)
+
+-- The text for what a text reads as, where its program is stepped by moves: that of their schedule.
+abbrev pub moved_text : (Program → Trace → List ℕ) → Result Program (ℕ × ℕ) → List ℕ → List ℕ
+moved_text traced (Ok program) moves = items_text traced program (moved_items program moves)
+moved_text traced (Err (line, number)) moves = unreadable_text line number
+
+-- The answer says which text was written.
+abbrev pub EndsMoves : Result Program (ℕ × ℕ) → List ℕ → StepEnd → Type 0
+EndsMoves (Ok program) moves end = EndsItems program (moved_items program moves) end
+EndsMoves (Err (line, number)) moves end = (cause : ReadCause) × (end ≡ Unreadable (fault.Text line cause)) × (number_of_cause cause ≡ number)

@@ -1,0 +1,26 @@
+//! Runs of a program that its user names or looks for: moves, which are schedules that people can write; the world in which a
+//! trace ends, and what may come next there; and random walks of a refused program that come to a fault.
+#![tactic(auto)]
+
+pub mod choices;
+pub mod find;
+pub mod harm;
+pub mod laws;
+pub mod moves;
+mod moves_text;
+mod numbers;
+mod pool;
+mod random;
+mod replay;
+mod requests;
+mod search;
+mod shorten;
+pub mod spelling;
+mod state;
+mod step;
+pub mod stepping;
+pub mod steps;
+mod threads;
+pub mod told;
+mod walk;
+pub mod why;

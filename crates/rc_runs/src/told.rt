@@ -1,0 +1,215 @@
+//! Moves and items as they are written, and what is told of those that aren't enabled.
+
+use crate::moves::Move;
+use crate::spelling::move_of_item;
+use crate::steps::Moved;
+use crate::why::{Reason, reason_of};
+use rc_lang::program::Program;
+use rc_report::step_engine::Unread;
+use rc_report::trace::End;
+use rc_text::names::{side_of, thread_name};
+use rc_text::text::{put_counted, put_number, put_piece, put_pieces, put_signed};
+use rc_world::event::Item;
+use rc_world::world::World;
+use std::alloc::AllocError;
+
+/// Adds a move as it is written.
+pub fn put_move(text: &mut Vec<u8>, program: &Program, named: Move) -> Result<(), AllocError> {
+    match named {
+        Move::One(item) => put_item(text, program, item),
+        Move::Steps { thread, count } => put_steps(text, program, thread, b"*", count),
+        Move::Until { thread, line } => put_steps(text, program, thread, b"@", line),
+    }
+}
+
+// Adds steps of a thread: its name, a mark and a number.
+fn put_steps(
+    text: &mut Vec<u8>,
+    program: &Program,
+    thread: u32,
+    mark: &[u8],
+    number: u32,
+) -> Result<(), AllocError> {
+    put_pieces(text, &[thread_name(program, thread), mark])?;
+    put_number(text, u64::from(number))
+}
+
+/// Adds an item as it is written in a schedule.
+pub fn put_item(text: &mut Vec<u8>, program: &Program, item: Item) -> Result<(), AllocError> {
+    match item {
+        Item::Thread { thread, take } => {
+            put_piece(text, thread_name(program, thread))?;
+            put_answer(text, take)
+        }
+        Item::Kernel {
+            user_data,
+            res,
+            fill,
+        } => {
+            put_counted(text, b"k:", user_data, b"")?;
+            put_result(text, res, fill)
+        }
+    }
+}
+
+// Adds the answer of an item, if it has one.
+fn put_answer(text: &mut Vec<u8>, answer: Option<i32>) -> Result<(), AllocError> {
+    match answer {
+        Some(answer) => put_result(text, answer, 0),
+        None => Ok(()),
+    }
+}
+
+// Adds a result, and a fill byte that isn't 0.
+fn put_result(text: &mut Vec<u8>, res: i32, fill: u8) -> Result<(), AllocError> {
+    put_piece(text, b"=")?;
+    put_signed(text, i64::from(res))?;
+    if fill == 0 {
+        return Ok(());
+    }
+    put_counted(text, b":", u64::from(fill), b"")
+}
+
+/// Adds what is told of a schedule whose trace ended so in this world: a line for the item that isn't enabled there.
+pub fn put_of_items(
+    text: &mut Vec<u8>,
+    world: &World<'_>,
+    items: &[Item],
+    end: End,
+) -> Result<(), AllocError> {
+    match place_of_refused(end) {
+        Some(place) => match items.get(place) {
+            Some(item) => put_why(text, world, place, Move::One(*item), item),
+            None => Ok(()),
+        },
+        None => Ok(()),
+    }
+}
+
+/// Adds what is told of moves, where the trace of their schedule ended so in this world: a line for each move whose steps
+/// up to a line of its thread were the most that it has, and a line for the item that isn't enabled, by the move that
+/// spelled it.
+pub fn put_of_moves(
+    text: &mut Vec<u8>,
+    world: &World<'_>,
+    moved: &Moved,
+    end: End,
+) -> Result<(), AllocError> {
+    for (place, named) in moved.moves.iter().enumerate() {
+        if matches!(named, Move::Until { .. }) && moved.counts.get(place) == Some(&65_536) {
+            put_named(text, world.program(), place, *named)?;
+            put_piece(text, b"ends after 65536 steps\n")?;
+        }
+    }
+    match place_of_refused(end) {
+        Some(place) => put_refused(text, world, moved, place),
+        None => Ok(()),
+    }
+}
+
+/// Adds what is told of a schedule that can't be read: a line for the item, where it is written as a move.
+pub fn put_of_unread(text: &mut Vec<u8>, schedule: &str, unread: Unread) -> Result<(), AllocError> {
+    let Unread::Schedule(number) = unread else {
+        return Ok(());
+    };
+    let mut at: u64 = 0;
+    for piece in schedule.as_bytes().split(|b| *b == b',') {
+        at = at.saturating_add(1);
+        if at == number && is_move(piece) {
+            put_counted(text, b"ringcheck: item ", number, b", ")?;
+            put_piece(text, piece)?;
+            return put_piece(
+                text,
+                b", is a move: it needs '--moves' in place of '--schedule'\n",
+            );
+        }
+    }
+    Ok(())
+}
+
+// Whether a piece of a schedule is written as so many steps of a thread, or as its steps up to a line.
+fn is_move(piece: &[u8]) -> bool {
+    let is_printed = piece.iter().all(|b| *b > 32 && *b < 127);
+    is_printed && piece.iter().any(|b| *b == b'*' || *b == b'@')
+}
+
+// The place of the item that isn't enabled, if a trace ends at one.
+fn place_of_refused(end: End) -> Option<usize> {
+    match end {
+        End::NotEnabled(number) => Some(number.checked_sub(1)? as usize),
+        _ => None,
+    }
+}
+
+// Adds the line that says why the item at this place isn't enabled, by the move that spelled it.
+fn put_refused(
+    text: &mut Vec<u8>,
+    world: &World<'_>,
+    moved: &Moved,
+    place: usize,
+) -> Result<(), AllocError> {
+    let number = move_of_item(&moved.counts, place as u64).unwrap_or(0);
+    match (moved.moves.get(number), moved.steps.items.get(place)) {
+        (Some(named), Some(item)) => put_why(text, world, number, *named, item),
+        _ => Ok(()),
+    }
+}
+
+// Adds the line that says why the item that a move spelled isn't enabled in a world, by the move's place.
+fn put_why(
+    text: &mut Vec<u8>,
+    world: &World<'_>,
+    place: usize,
+    named: Move,
+    item: &Item,
+) -> Result<(), AllocError> {
+    let Some(reason) = reason_of(world, item) else {
+        return Ok(());
+    };
+    put_named(text, world.program(), place, named)?;
+    put_piece(text, b"isn't enabled: ")?;
+    put_reason(text, world.program(), reason)?;
+    put_piece(text, b"\n")
+}
+
+// Adds the number of a move, from 1, and the move.
+fn put_named(
+    text: &mut Vec<u8>,
+    program: &Program,
+    place: usize,
+    named: Move,
+) -> Result<(), AllocError> {
+    put_counted(
+        text,
+        b"ringcheck: item ",
+        (place as u64).saturating_add(1),
+        b", ",
+    )?;
+    put_move(text, program, named)?;
+    put_piece(text, b", ")
+}
+
+// Adds why an item isn't enabled.
+fn put_reason(text: &mut Vec<u8>, program: &Program, reason: Reason) -> Result<(), AllocError> {
+    match reason {
+        Reason::LockTaken { holder, taken } => {
+            put_pieces(text, &[thread_name(program, holder), b" has the lock"])?;
+            put_piece(text, side_of(taken).as_bytes())
+        }
+        Reason::Ended(thread) => put_pieces(text, &[thread_name(program, thread), b" has ended"]),
+        Reason::NoSubmit(line) => put_counted(text, b"line ", u64::from(line), b" is no submit"),
+        Reason::TooMany(queued) => put_counted(text, b"the queue has only ", queued, b""),
+        Reason::NoErrno(answer) => {
+            put_signed(text, i64::from(answer))?;
+            put_piece(text, b" is no errno")
+        }
+        Reason::NotPending(user_data) => {
+            put_counted(text, b"no request ", user_data, b" is pending")
+        }
+        Reason::TooManyBytes { user_data, most } => {
+            put_counted(text, b"request ", user_data, b" moves at most ")?;
+            put_counted(text, b"", u64::from(most), b" bytes")
+        }
+        Reason::NoRead(user_data) => put_counted(text, b"request ", user_data, b" is no read"),
+    }
+}

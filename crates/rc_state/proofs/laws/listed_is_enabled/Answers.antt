@@ -1,5 +1,0 @@
-use Rattle.rc_state.proofs.Listed.{listed_is_enabled}
-use Rattle.rc_state.proofs.laws.listed_is_enabled.Goals as goal
-
-pub returns : goal.returns
-returns c = listed_is_enabled
