@@ -1,5 +1,5 @@
 -- What commands say and leave.
-use Rattle.std.proofs.Common.{◌≡◌, ◌≤◌, inl, inr, ℕ, List, [], ◌++◌, Result, Ok, Err, refl, sym, ap, subst, ◌∙◌, arith}
+use Rattle.std.proofs.Common.{◌≡◌, ◌≤◌, inl, inr, ℕ, true, false, List, [], ◌++◌, Result, Ok, Err, refl, sym, ap, subst, ◌∙◌, arith}
 use Rattle.std.specs.Global.{Global, Vec}
 use Rattle.std.specs.Prelude.{IfOk, IsErrAnd, String, string_bytes}
 use Rattle.rc_report.specs.declared.engine_fault.EngineFault.{EngineFault}
@@ -53,8 +53,9 @@ within Keeps bytes s text h = elim h [
   | inr (verdict, given, is, status) ↦ verdict_within verdict s status
 ]
 within (Step schedule) bytes s text h = step_within h.0 s h.3
-within (State schedule) bytes s text h = step_within h.0 s h.3
-within (Moves moves state) bytes s text h = step_within h.0 s h.3
+within (State schedule) bytes s text h = step_within h.1.0 s h.1.3
+within (Moves moves false) bytes s text h = step_within h.0 s h.3
+within (Moves moves true) bytes s text h = step_within h.1.0 s h.1.3
 within (Draw schedule from) bytes s text h = step_within h.0 s h.3
 within (DrawMoves moves from) bytes s text h = step_within h.0 s h.3
 within (DrawFound seed walks) bytes s text h = verdict_within h.0 s h.2

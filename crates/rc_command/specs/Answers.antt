@@ -14,23 +14,22 @@ use Rattle.rc_report.specs.declared.trace.End.TheVariants as end
 use Rattle.rc_report.specs.declared.verdict.Verdict.{Verdict}
 use Rattle.rc_report.specs.declared.verdict.Verdict.TheVariants.{Unreadable}
 use Rattle.rc_report.specs.Checks.{GivesVerdict, TellsVerdict}
-use Rattle.rc_report.specs.Engine.{EndsBy, stepped_text}
+use Rattle.rc_report.specs.Engine.{EndsBy}
 use Rattle.rc_report.specs.Statuses.{status_of_end, status_of_step, status_of_verdict}
 use Rattle.rc_report.specs.Streams.{CountsReads, Given, OfBytes, Taken, Wrote}
 use Rattle.rc_report.specs.Summaries.{summary_text}
 use Rattle.rc_report.specs.Traces.{trace_text}
 use Rattle.rc_report.specs.Verdicts.{verdict_text}
 use Rattle.rc_explain.specs.Explains.{Explains}
-use Rattle.rc_find.specs.Finds.{Finds}
+use Rattle.rc_runs.specs.Finds.{Finds}
 use Rattle.rc_find.specs.Pictures.{FindsPicture}
 use Rattle.rc_editor.specs.LaidOut.{IsLaidOut}
 use Rattle.rc_keeps.specs.declared.engine.UnreadLine.{UnreadLine}
 use Rattle.rc_keeps.specs.Keeps.{GivesKept}
 use Rattle.rc_moves.specs.Drawing.{moved_drawn}
-use Rattle.rc_moves.specs.Moved.{EndsMoves, moved_text}
-use Rattle.rc_moves.specs.Stepping.{traced_by}
+use Rattle.rc_runs.specs.Moved.{EndsMoves, moved_text}
+use Rattle.rc_runs.specs.Stepping.{OfTraces, stepped_as}
 use Rattle.rc_picture.specs.Engine.{drawn_text}
-use Rattle.rc_state.specs.Engine.{stepped_with_state}
 use Rattle.rc_command.specs.declared.fault.CommandFault.{CommandFault}
 use Rattle.rc_command.specs.declared.fault.CommandFault.TheVariants.{Words, Engine, OtherProgram}
 use Rattle.rc_command.specs.declared.words.Command.{Command}
@@ -43,21 +42,27 @@ use Rattle.rc_command.specs.declared.words.Command.TheVariants.{Check, Explain, 
 abbrev pub SaysVerdict : (Verdict → List ℕ → Type 0) → ℕ → List ℕ → Type 0
 SaysVerdict told status text = (verdict : Verdict) × told verdict text × (status ≡ status_of_verdict verdict)
 
--- The status of `step` is that of the end to which the program is stepped, and the trace or the verdict is written; with
--- `--state` also the world in which the trace ends.
+-- The status of `step` is that of the end to which the program is stepped, and the trace or the verdict is written.
 abbrev pub SaysSteps : (List ℕ → List ℕ → List ℕ) → List ℕ → List ℕ → ℕ → List ℕ → Type 0
 SaysSteps stepped bytes schedule status text =
     (end : StepEnd) × EndsBy (answer_of bytes) schedule end × (text ≡ stepped bytes schedule) × (status ≡ status_of_step end)
 
+-- With `--state` some text follows the trace, which tells the world in which it ends.
+abbrev pub SaysTrace : Bool → List ℕ → List ℕ → ℕ → List ℕ → Type 0
+SaysTrace state bytes schedule status text = OfTraces state (λ traced. SaysSteps (stepped_as traced) bytes schedule status text)
+
 -- The same where moves are given: they are stepped as the schedule that they spell.
+abbrev pub SaysMoved : (List ℕ → List ℕ → List ℕ) → List ℕ → List ℕ → ℕ → List ℕ → Type 0
+SaysMoved stepped bytes moves status text =
+    (end : StepEnd) × EndsMoves (answer_of bytes) moves end × (text ≡ stepped bytes moves) × (status ≡ status_of_step end)
+
 abbrev pub SaysMoves : List ℕ → List ℕ → Bool → ℕ → List ℕ → Type 0
 SaysMoves bytes moves state status text =
-    (end : StepEnd) × EndsMoves (answer_of bytes) moves end × (text ≡ moved_text (traced_by state bytes) (answer_of bytes) moves) × (status ≡ status_of_step end)
+    OfTraces state (λ traced. SaysMoved (λ bytes moves. moved_text traced (answer_of bytes) moves) bytes moves status text)
 
 -- With `--svg` a picture of the trace is written in its place, from an event on.
 abbrev pub SaysPicture : List ℕ → List ℕ → ℕ → ℕ → List ℕ → Type 0
-SaysPicture bytes moves from status text =
-    (end : StepEnd) × EndsMoves (answer_of bytes) moves end × (text ≡ moved_drawn from bytes moves) × (status ≡ status_of_step end)
+SaysPicture bytes moves from status text = SaysMoved (moved_drawn from) bytes moves status text
 
 -- The disk gives any result that a request may have.
 abbrev pub DiskGives : ℕ → ℤ → Type 0
@@ -111,8 +116,8 @@ abbrev pub Says : Command → List ℕ → ℕ → List ℕ → Type 0
 Says (Check json) bytes status text = SaysVerdict (TellsVerdict bytes json) status text
 Says (Explain form) bytes status text = SaysVerdict (Explains bytes None form) status text
 Says Keeps bytes status text = SaysKept bytes status text
-Says (Step schedule) bytes status text = SaysSteps stepped_text bytes schedule.now status text
-Says (State schedule) bytes status text = SaysSteps stepped_with_state bytes schedule.now status text
+Says (Step schedule) bytes status text = SaysTrace false bytes schedule.now status text
+Says (State schedule) bytes status text = SaysTrace true bytes schedule.now status text
 Says (Find seed walks json) bytes status text = SaysVerdict (Finds bytes walks json) status text
 Says (DrawFound seed walks) bytes status text = SaysVerdict (FindsPicture bytes walks) status text
 Says (Moves moves state) bytes status text = SaysMoves bytes moves.items state status text

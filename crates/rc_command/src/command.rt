@@ -2,12 +2,11 @@
 
 ghost use Rattle.std.specs.Prelude.{◌≡◌, ◌≤◌, IfOk, None};
 ghost use Rattle.rc_explain.specs.Explains.{Explains};
-ghost use Rattle.rc_find.specs.Finds.{Finds};
+ghost use Rattle.rc_runs.specs.Finds.{Finds};
 ghost use Rattle.rc_find.specs.Pictures.{FindsPicture};
-ghost use Rattle.rc_command.specs.Answers.{Does, DoesWith, ReadsAsAsked, Says, SaysMoves, SaysPicture, SaysSteps, SaysVerdict};
+ghost use Rattle.rc_command.specs.Answers.{Does, DoesWith, ReadsAsAsked, Says, SaysMoves, SaysPicture, SaysSteps, SaysTrace, SaysVerdict};
 ghost use Rattle.rc_command.specs.Files.{AnswersAs, AsksFile};
 ghost use Rattle.rc_report.specs.Checks.{TellsVerdict};
-ghost use Rattle.rc_moves.specs.Stepping.{stepped_by};
 ghost use Rattle.rc_picture.specs.Engine.{drawn_text};
 ghost use Rattle.rc_report.specs.Streams.{CanRead, CanWrite};
 
@@ -25,10 +24,10 @@ use crate::words::{Asked, Command, read_words, with_moves};
 use rc_device::device::Device;
 use rc_device::disk::Disk;
 use rc_explain::engine::{Form, put_explained};
-use rc_find::find::put_found;
+use rc_runs::find::put_found;
 use rc_find::picture::put_found_picture;
 use rc_moves::drawing::{draw_items, draw_moves};
-use rc_moves::stepping::{step_items, step_moves};
+use rc_runs::stepping::{step_items, step_moves};
 use rc_report::buffered::Buffered;
 use rc_report::check_engine::put_checked;
 use rc_report::engine_fault::EngineFault;
@@ -314,7 +313,7 @@ fn stepped<S: Sink>(
     notes: &mut Vec<u8>,
 ) -> Result<u8, CommandFault>
     requires { CanWrite (S.state sink.old) }
-    ensures { Does (SaysSteps (stepped_by state) text.now schedule.now) S.state sink.old sink.new result }
+    ensures { Does (SaysTrace state text.now schedule.now) S.state sink.old sink.new result }
 {
     let end = step_items(alloc, text, schedule, state, notes, sink)?;
     Ok(end.status())

@@ -1,5 +1,5 @@
 use Rattle.std.proofs.Common.{refl}
-use Rattle.rc_find.specs.Finds.{Finds}
+use Rattle.rc_runs.specs.Finds.{Finds}
 use Rattle.rc_command.proofs.Commands.{does_nothing, does_verdict}
 use Rattle.rc_command.specs.Answers.{SaysVerdict}
 use Rattle.rc_command.proofs.command.found.Goals as goal
