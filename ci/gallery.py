@@ -6,7 +6,8 @@ usage: ci/gallery.py PROGRAM [--write]
 Of each pattern of examples/gallery that are: NAME.c, which is what `PROGRAM c` prints; and in page.md the verdict on
 broken.rc and why, and the run into its fault, as the command on the first line of the page's second block prints it: the
 moves where it finds them, the last events and the end. Beside it stands broken.svg, which is what this command prints
-with --svg; that of a text without a page is what find prints. The pictures of docs/picture.md are what its commands print.
+with --svg; that of a text without a page is what find prints. Beside each text of examples/causes with a fault is the
+picture of the run into it, NAME.svg. The pictures of docs/picture.md are what its commands print.
 Each text of examples/gallery and of examples/causes has a row in
 the file expected there, and each row is what is printed. The status is 1 where something differs. The test runs it on
 the program that it has built.
@@ -81,6 +82,12 @@ def picture(program, broken):
     return printed(program, [*words, "--svg"], broken)[0]
 
 
+def pictures_of_causes(program):
+    """The pictures of the runs into the faults of examples/causes, by their files."""
+    runs = [(CAUSES / name, words.split(" ")) for name, words, *_ in rows(CAUSES) if re.match(r"f\d+_", name) and words != "check"]
+    return {path.with_suffix(".svg"): printed(program, [*words, "--svg"], path)[0] for path, words in runs}
+
+
 def pictures_of_docs(program):
     """The pictures that the commands of docs/picture.md write, by their files."""
     commands = re.findall(r"^\./ringcheck (.+) (\S+) > (\S+)$", (TOP / "docs" / "picture.md").read_text(), flags=re.MULTILINE)
@@ -103,7 +110,7 @@ def main():
         sys.exit(__doc__)
     program = sys.argv[1]
     found = [line for folder in (GALLERY, CAUSES) for line in wrong_rows(program, folder)]
-    wanted = pictures_of_docs(program)
+    wanted = pictures_of_docs(program) | pictures_of_causes(program)
     for broken in sorted(GALLERY.glob("*/broken.rc")):
         at = broken.parent
         wanted[at / "broken.svg"] = picture(program, broken)
