@@ -2,9 +2,9 @@
 
 use crate::fields::{field, text_field};
 use crate::replies::{Fault, Refusal};
-use rc_runs::find::put_found;
-use rc_find::picture::put_found_picture;
+use rc_picture::found::put_found_picture;
 use rc_publish::documents::Documents;
+use rc_runs::find::put_found;
 use serde_json::{Map, Value};
 use std::alloc::{AllocError, Global};
 

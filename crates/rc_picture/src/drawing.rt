@@ -1,22 +1,32 @@
 //! The picture of a run.
 
-ghost use Rattle.std.specs.Prelude.{◌≡◌, ◌-◌, IfOk, length, min};
-ghost use Rattle.rc_picture.specs.Engine.{drawn as drawn_of};
-ghost use Rattle.rc_picture.specs.File.{picture_text};
+ghost use Rattle.std.specs.Prelude.{◌≡◌, IfOk};
 ghost use Rattle.rc_report.specs.Engine.{end_of};
-ghost use Rattle.rc_report.specs.Text.{Puts};
 ghost use Rattle.rc_world.specs.Machine.{start_world};
 ghost use Rattle.rc_world.specs.Trace.{trace_of};
 
 use crate::file::put_file;
-use rc_layout::picture::picture_of;
-use rc_report::source::Lines;
+use crate::frames::frames_of;
+use crate::picture::picture_of;
+use rc_read::source::Lines;
+use rc_report::stepping::write_run;
+use rc_report::streams::WriteSink;
 use rc_report::trace::End;
-use rc_story::frames::{Frame, frames_from};
-use rc_story::story::Story;
+use rc_story::frames::Frame;
+use rc_story::run::Run;
+use rc_story::story::story_of;
 use rc_world::event::Item;
+use rc_world::fault::Fault;
 use rc_world::world::World;
 use std::alloc::{AllocError, Global};
+
+/// A run as it was stepped: its events, its trace as text, without the last line feed, and the fault in which it ends.
+#[derive(Drop)]
+struct Stepped {
+    frames: Vec<Frame>,
+    trace: Vec<u8>,
+    fault: Option<Fault>,
+}
 
 /// Adds the picture of the run that these items name from the start world on, as SVG, from the event with this number
 /// on, from 1. The text is that of the world's program. The world is then that in which the run ends. Answers how its
@@ -30,38 +40,56 @@ pub fn put_picture(
     world: &mut World<'_>,
 ) -> Result<End, AllocError>
     requires { world.old ≡ start_world world.old.program }
-    ensures text { Puts drawn.old drawn.new
-        (drawn_of text.now from world.old.program items.now) result }
-    ensures end { let run = trace_of world.old.program items.now in
+    ensures { let run = trace_of world.old.program items.now in
         IfOk result (λ end. end ≡ end_of run.ending) }
 {
-    let (frames, end) = frames_from(alloc, world, items)?;
-    put_frames(drawn, alloc, text, world, &frames, end, from)?;
+    let mut sink = WriteSink::new(Vec::new(alloc));
+    let Ok(end) = write_run(world, items, &mut sink) else {
+        return Err(AllocError);
+    };
+    let stepped = stepped_of(alloc, world, items, sink.writer, end)?;
+    put_stepped(drawn, alloc, text, world, &stepped, from)?;
     Ok(end)
 }
 
-/// Adds the picture of these events, which lead to this world and end so, from the event with this number on.
-fn put_frames<'a>(
+/// The run that these items name, which has this trace and ends so.
+fn stepped_of(
+    alloc: Global,
+    world: &World<'_>,
+    items: &[Item],
+    trace: Vec<u8>,
+    end: End,
+) -> Result<Stepped, AllocError> {
+    let mut trace = trace;
+    trace.truncate(trace.len().saturating_sub(1));
+    let fault = match end {
+        End::Fault(fault) => Some(fault),
+        _ => None,
+    };
+    Ok(Stepped {
+        frames: frames_of(alloc, world.program(), items)?,
+        trace,
+        fault,
+    })
+}
+
+/// Adds the picture of a run that ends in this world.
+fn put_stepped<'a>(
     drawn: &mut Vec<u8>,
     alloc: Global,
     text: &'a [u8],
     world: &World<'a>,
-    frames: &[Frame],
-    end: End,
+    stepped: &Stepped,
     from: u64,
-) -> Result<(), AllocError>
-    ensures { let cut = min (from - 1) (length frames.now) in
-        Puts drawn.old drawn.new (picture_text (record {
-          text = text.now;
-          world = world.now;
-          frames = frames.now;
-          end = end;
-          cut = cut;
-        })) result }
-{
+) -> Result<(), AllocError> {
     let lines = Lines::of(alloc, text)?;
-    let cut = from.saturating_sub(1).min(frames.len() as u64);
-    let story = Story::new(&lines, world, frames, end, cut);
-    let picture = picture_of(alloc, &story)?;
-    put_file(drawn, alloc, &story, &picture)
+    let run = Run {
+        lines: &lines,
+        world,
+        frames: &stepped.frames,
+        fault: stepped.fault,
+        cut: from.saturating_sub(1).min(stepped.frames.len() as u64),
+    };
+    let picture = picture_of(alloc, story_of(alloc, run)?)?;
+    put_file(drawn, alloc, &picture, &stepped.trace)
 }

@@ -1,296 +1,172 @@
 //! The file of a picture.
 
-ghost use Rattle.std.specs.Prelude.{◌≡◌};
-ghost use Rattle.rc_picture.specs.File as spec;
-ghost use Rattle.rc_report.specs.Text.{Puts};
-
-use crate::fault_marks::put_fault;
-use crate::legend::{height_of, put_legend};
-use crate::rings::{put_locks, put_rings, put_strips};
-use rc_lanes::events::put_rows;
-use rc_lanes::head::{put_end, put_head};
-use rc_lanes::requests::put_requests;
-use rc_lanes::turns::{put_buffers, put_lanes, put_order, put_turns};
-use rc_lang::program::Program;
-use rc_layout::picture::Picture;
-use rc_report::text::{put_piece, put_pieces};
-use rc_story::frames::Frame;
-use rc_story::story::Story;
-use rc_svg::layers::{Colour, Layer};
-use rc_svg::marks::{Piece, Rect, put_escaped, put_parts, put_rect};
-use rc_words::words::put_event_line;
+use crate::canvas::{Canvas, Rect};
+use crate::fault_marks::draw_fault;
+use crate::head::draw_head;
+use crate::layers::Layer;
+use crate::legend::draw_legend;
+use crate::picture::Picture;
+use crate::requests::draw_requests;
+use crate::rings::{draw_locks, draw_rings, draw_strips};
+use crate::rows::draw_rows;
+use crate::turns::{draw_buffers, draw_lanes, draw_order, draw_turns};
+use rc_story::pen::{Pen, Piece};
+use rc_text::text::{put_piece, put_pieces};
 use std::alloc::{AllocError, Global};
 
 /// What the first tag says after the sizes.
 const FONT: &[u8] =
     b"\" role=\"img\" font-family=\"Menlo,Consolas,'DejaVu Sans Mono','Liberation Mono',monospace\" font-size=\"11.5\">\n";
 
-/// Adds the file of a picture.
-#[tactic(auto, unfolding(crate::specs::File::file))]
+/// Adds the file of a picture of a run with this trace.
 pub fn put_file(
     text: &mut Vec<u8>,
     alloc: Global,
-    story: &Story<'_, '_>,
-    picture: &Picture,
-) -> Result<(), AllocError>
-    ensures { Puts text.old text.new (spec.file story.now picture.now) result }
-{
-    put_open(text, picture.width(), height_of(picture))?;
-    put_title(text, alloc, story)?;
-    put_trace(text, alloc, story)?;
-    put_style(text)?;
-    put_layers(text, alloc, story, picture, &Layer::ALL)?;
+    picture: &Picture<'_, '_>,
+    trace: &[u8],
+) -> Result<(), AllocError> {
+    let ending = last_line(trace);
+    let mut canvas = Canvas::new(alloc)?;
+    let height = draw(&mut canvas, picture, ending);
+    put_piece(
+        text,
+        &start_of(alloc, picture.width, height, ending, trace)?,
+    )?;
+    put_layers(text, canvas)?;
     put_piece(text, b"</svg>\n")
 }
 
-#[tactic(auto, unfolding(crate::specs::File::groups))]
-fn put_layers(
-    text: &mut Vec<u8>,
+/// The last line of a text that ends without a line feed.
+fn last_line(text: &[u8]) -> &[u8] {
+    let mut line = text;
+    for (place, byte) in text.iter().enumerate() {
+        if *byte == b'\n' {
+            line = text.get(place + 1..).unwrap_or(line);
+        }
+    }
+    line
+}
+
+/// Draws all that is in a picture. Answers how high it is.
+fn draw(canvas: &mut Canvas, picture: &Picture<'_, '_>, ending: &[u8]) -> u64 {
+    draw_head(canvas, picture, ending);
+    draw_turns(canvas, picture);
+    draw_lanes(canvas, picture);
+    draw_buffers(canvas, picture);
+    draw_locks(canvas, picture);
+    draw_order(canvas, picture);
+    draw_rows(canvas, picture);
+    draw_requests(canvas, picture);
+    draw_rings(canvas, picture);
+    draw_strips(canvas, picture);
+    draw_fault(canvas, picture);
+    let high = draw_legend(canvas, picture);
+    let ground = Rect {
+        x: 0,
+        y: 0,
+        wide: picture.width,
+        high,
+    };
+    canvas.rect(Layer::Bg, ground);
+    high
+}
+
+/// What comes before the layers: the sizes, how the trace ends, the trace, and the colours on a dark ground.
+fn start_of(
     alloc: Global,
-    story: &Story<'_, '_>,
-    picture: &Picture,
-    layers: &[Layer],
-) -> Result<(), AllocError>
-    ensures { Puts text.old text.new (spec.groups story.now picture.now layers.now) result }
-{
-    for layer in layers {
-        put_layer(text, alloc, story, picture, *layer)?;
+    width: u64,
+    height: u64,
+    ending: &[u8],
+    trace: &[u8],
+) -> Result<Vec<u8>, AllocError> {
+    let mut pen = Pen::new(alloc);
+    put_open(&mut pen, width, height);
+    pen.put(&[Piece::Word(b"<title>")]);
+    pen.put_escaped(&[Piece::Word(ending)]);
+    pen.put(&[Piece::Word(b"</title>\n<desc>")]);
+    pen.put_escaped(&[Piece::Word(trace)]);
+    pen.put(&[Piece::Word(b"</desc>\n<style>@media(prefers-color-scheme:dark){")]);
+    for layer in Layer::ALL {
+        put_dark(&mut pen, layer);
     }
-    Ok(())
+    pen.put(&[Piece::Word(b"}</style>\n")]);
+    pen.text()
 }
 
-#[tactic(auto, unfolding(crate::specs::File::svg_tag))]
-fn put_open(text: &mut Vec<u8>, width: u64, height: u64) -> Result<(), AllocError>
-    ensures { Puts text.old text.new (spec.svg_tag width height) result }
-{
-    put_parts(
-        text,
-        &[
-            Piece::Word(b"<svg xmlns=\"http://www.w3.org/2000/svg\" width=\""),
-            Piece::Number(width),
-            Piece::Word(b"\" height=\""),
-            Piece::Number(height),
-            Piece::Word(b"\" viewBox=\"0 0 "),
-            Piece::Number(width),
-            Piece::Word(b" "),
-            Piece::Number(height),
-            Piece::Word(FONT),
-        ],
-    )
-}
-
-#[tactic(auto, unfolding(crate::specs::File::title_tag))]
-fn put_title(text: &mut Vec<u8>, alloc: Global, story: &Story<'_, '_>) -> Result<(), AllocError>
-    ensures { Puts text.old text.new (spec.title_tag story.now) result }
-{
-    let mut end = Vec::new(alloc);
-    put_end(&mut end, story.program(), story.count(), story.end())?;
-    put_piece(text, b"<title>")?;
-    put_escaped(text, &end)?;
-    put_piece(text, b"</title>\n")
-}
-
-#[tactic(auto, unfolding(crate::specs::File::trace_tag))]
-fn put_trace(text: &mut Vec<u8>, alloc: Global, story: &Story<'_, '_>) -> Result<(), AllocError>
-    ensures { Puts text.old text.new (spec.trace_tag story.now) result }
-{
-    let mut trace = Vec::new(alloc);
-    put_event_lines(&mut trace, story.program(), story.frames())?;
-    put_end(&mut trace, story.program(), story.count(), story.end())?;
-    put_piece(text, b"<desc>")?;
-    put_escaped(text, &trace)?;
-    put_piece(text, b"</desc>\n")
-}
-
-/// Adds events as lines.
-fn put_event_lines(
-    text: &mut Vec<u8>,
-    program: &Program,
-    frames: &[Frame],
-) -> Result<(), AllocError>
-    ensures { Puts text.old text.new (spec.lines_of program.now frames.now) result }
-{
-    for (place, frame) in frames.iter().enumerate() {
-        put_event_line(text, program, place as u64 + 1, frame.event)?;
-    }
-    Ok(())
-}
-
-/// The colours on a dark ground.
-#[tactic(auto, unfolding(crate::specs::File::style))]
-fn put_style(text: &mut Vec<u8>) -> Result<(), AllocError>
-    ensures { Puts text.old text.new (spec.style) result }
-{
-    put_piece(text, b"<style>@media(prefers-color-scheme:dark){")?;
-    put_darks(text, &Layer::ALL)?;
-    put_piece(text, b"}</style>\n")
-}
-
-#[tactic(auto, unfolding(crate::specs::File::dark_rules))]
-fn put_darks(text: &mut Vec<u8>, layers: &[Layer]) -> Result<(), AllocError>
-    ensures { Puts text.old text.new (spec.dark_rules layers.now) result }
-{
-    for layer in layers {
-        put_dark(text, *layer)?;
-    }
-    Ok(())
-}
-
-#[tactic(auto, unfolding(crate::specs::File::dark_rule))]
-fn put_dark(text: &mut Vec<u8>, layer: Layer) -> Result<(), AllocError>
-    ensures { Puts text.old text.new (spec.dark_rule layer) result }
-{
-    put_pieces(text, &[b".rc-", layer.name(), b"{"])?;
-    put_colours(text, layer.fill(), layer.stroke())?;
-    put_piece(text, b"}")
+fn put_open(pen: &mut Pen, width: u64, height: u64) {
+    let (width, height) = (Piece::Number(width), Piece::Number(height));
+    pen.put(&[
+        Piece::Word(b"<svg xmlns=\"http://www.w3.org/2000/svg\" width=\""),
+        width,
+        Piece::Word(b"\" height=\""),
+        height,
+        Piece::Word(b"\" viewBox=\"0 0 "),
+        width,
+        Piece::Word(b" "),
+        height,
+        Piece::Word(FONT),
+    ]);
 }
 
 /// The colours of a layer on a dark ground.
-#[tactic(auto, unfolding(crate::specs::File::dark_colours))]
-fn put_colours(
-    text: &mut Vec<u8>,
-    fill: Option<Colour>,
-    stroke: Option<Colour>,
-) -> Result<(), AllocError>
-    ensures { Puts text.old text.new (spec.dark_colours fill stroke) result }
-{
-    match (fill, stroke) {
-        (Some(fill), Some(stroke)) => {
-            put_pieces(text, &[b"fill:", fill.dark(), b";stroke:"])?;
-            put_piece(text, stroke.dark())
-        }
-        (Some(fill), None) => {
-            put_piece(text, b"fill:")?;
-            put_piece(text, fill.dark())
-        }
-        (None, Some(stroke)) => {
-            put_piece(text, b"stroke:")?;
-            put_piece(text, stroke.dark())
-        }
-        (None, None) => Ok(()),
+fn put_dark(pen: &mut Pen, layer: Layer) {
+    let style = layer.style();
+    pen.put(&[
+        Piece::Word(b".rc-"),
+        Piece::Word(style.name),
+        Piece::Word(b"{"),
+    ]);
+    if let Some(fill) = style.fill {
+        pen.put(&[Piece::Word(b"fill:"), Piece::Word(fill.dark)]);
     }
-}
-
-/// Adds a layer, if anything is drawn in it.
-#[tactic(auto, unfolding(crate::specs::File::group))]
-fn put_layer(
-    text: &mut Vec<u8>,
-    alloc: Global,
-    story: &Story<'_, '_>,
-    picture: &Picture,
-    layer: Layer,
-) -> Result<(), AllocError>
-    ensures { Puts text.old text.new
-        (spec.group layer (spec.drawing story.now picture.now layer)) result }
-{
-    let mut elements = Vec::new(alloc);
-    put_elements(&mut elements, layer, alloc, story, picture)?;
-    put_grouped(text, layer, &elements)
-}
-
-/// Adds the group of a layer with these elements; nothing without any.
-#[tactic(auto, unfolding(crate::specs::File::group))]
-fn put_grouped(text: &mut Vec<u8>, layer: Layer, elements: &[u8]) -> Result<(), AllocError>
-    ensures { Puts text.old text.new (spec.group layer elements.now) result }
-{
-    if elements.is_empty() {
-        return Ok(());
+    if style.fill.is_some() && style.stroke.is_some() {
+        pen.put(&[Piece::Word(b";")]);
     }
-    put_group(text, layer)?;
-    put_piece(text, elements)?;
-    put_piece(text, b"</g>\n")
+    if let Some(stroke) = style.stroke {
+        pen.put(&[Piece::Word(b"stroke:"), Piece::Word(stroke.dark)]);
+    }
+    pen.put(&[Piece::Word(b"}")]);
 }
 
-/// The tag that opens the group of a layer, with the colours on a light ground.
-#[tactic(auto, unfolding(crate::specs::File::group_tag))]
-fn put_group(text: &mut Vec<u8>, layer: Layer) -> Result<(), AllocError>
-    ensures { Puts text.old text.new (spec.group_tag layer) result }
-{
-    put_start(text, layer)?;
-    put_stroke(text, layer.stroke(), layer.breadth())?;
-    put_pieces(text, &[layer.more(), b">\n"])
+/// Adds the layers in which something is drawn.
+fn put_layers(text: &mut Vec<u8>, canvas: Canvas) -> Result<(), AllocError> {
+    let Canvas { pens } = canvas;
+    for (layer, pen) in Layer::ALL.into_iter().zip(pens) {
+        if !pen.is_empty() {
+            put_layer(text, layer, pen)?;
+        }
+    }
+    Ok(())
 }
 
-/// The layer's name and what its elements are filled with.
-#[tactic(auto, unfolding(crate::specs::File::group_start))]
-fn put_start(text: &mut Vec<u8>, layer: Layer) -> Result<(), AllocError>
-    ensures { Puts text.old text.new (spec.group_start layer) result }
-{
-    let fill = fill_word(layer.fill());
+/// Adds the group of a layer with what is drawn there, with the colours on a light ground.
+fn put_layer(text: &mut Vec<u8>, layer: Layer, pen: Pen) -> Result<(), AllocError> {
+    let style = layer.style();
+    let fill = match style.fill {
+        Some(colour) => colour.light,
+        None => b"none",
+    };
     put_pieces(
         text,
-        &[b"<g class=\"rc-", layer.name(), b"\" fill=\"", fill, b"\""],
-    )
+        &[b"<g class=\"rc-", style.name, b"\" fill=\"", fill, b"\""],
+    )?;
+    put_stroke(text, layer)?;
+    put_pieces(text, &[layer.more(), b">\n", &pen.text()?, b"</g>\n"])
 }
 
-fn fill_word(fill: Option<Colour>) -> &'static [u8]
-    ensures { result.now ≡ spec.fill_text fill }
-{
-    match fill {
-        Some(colour) => colour.light(),
-        None => b"none",
-    }
-}
-
-/// What its lines are drawn in, and how wide they are.
-#[tactic(auto, unfolding(crate::specs::File::stroke_text))]
-fn put_stroke(
-    text: &mut Vec<u8>,
-    stroke: Option<Colour>,
-    breadth: &'static [u8],
-) -> Result<(), AllocError>
-    ensures { Puts text.old text.new (spec.stroke_text stroke breadth.now) result }
-{
-    match stroke {
+/// What the lines of a layer are drawn in, and how wide they are.
+fn put_stroke(text: &mut Vec<u8>, layer: Layer) -> Result<(), AllocError> {
+    match layer.style().stroke {
         Some(colour) => put_pieces(
             text,
             &[
                 b" stroke=\"",
-                colour.light(),
+                colour.light,
                 b"\" stroke-width=\"",
-                breadth,
+                layer.breadth(),
                 b"\"",
             ],
         ),
         None => Ok(()),
     }
-}
-
-/// Draws all that is in a layer.
-#[tactic(auto, unfolding(crate::specs::File::drawing))]
-fn put_elements(
-    text: &mut Vec<u8>,
-    drawn: Layer,
-    alloc: Global,
-    story: &Story<'_, '_>,
-    picture: &Picture,
-) -> Result<(), AllocError>
-    ensures { Puts text.old text.new (spec.drawing story.now picture.now drawn) result }
-{
-    put_head(text, drawn, alloc, story, picture)?;
-    put_turns(text, drawn, story, picture)?;
-    put_lanes(text, drawn, story, picture)?;
-    put_buffers(text, drawn, story, picture)?;
-    put_locks(text, drawn, story, picture)?;
-    put_order(text, drawn, alloc, story, picture)?;
-    put_rows(text, drawn, alloc, story, picture)?;
-    put_requests(text, drawn, alloc, story, picture)?;
-    put_rings(text, drawn, alloc, story, picture)?;
-    put_strips(text, drawn, alloc, story, picture)?;
-    put_fault(text, drawn, alloc, story, picture)?;
-    put_legend(text, drawn, picture)?;
-    put_ground(text, drawn, picture)
-}
-
-#[tactic(auto, unfolding(crate::specs::File::ground))]
-fn put_ground(text: &mut Vec<u8>, drawn: Layer, picture: &Picture) -> Result<(), AllocError>
-    ensures { Puts text.old text.new (spec.ground picture.now drawn) result }
-{
-    let rect = Rect {
-        x: 0,
-        y: 0,
-        wide: picture.width(),
-        high: height_of(picture),
-    };
-    put_rect(text, drawn, Layer::Bg, rect)
 }

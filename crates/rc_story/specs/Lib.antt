@@ -1,9 +1,0 @@
-pub mod Courses
-pub mod Lengths
-pub mod Made
-pub mod Parts
-pub mod Pool
-pub mod Rounds
-pub mod Rows
-pub mod Sides
-pub mod Story

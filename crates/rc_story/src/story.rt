@@ -1,290 +1,215 @@
 //! What a picture is drawn of.
 
-ghost use Rattle.std.specs.Prelude.{◌≡◌, ◌≤◌, ◌-◌, length};
-ghost use Rattle.rc_story.specs.Story as spec;
-
-use crate::frames::{Frame, Moment};
-use rc_lang::lines::{Line, Op, Stmt};
-use rc_lang::program::Program;
-use rc_report::source::Lines;
-use rc_report::trace::End;
-use rc_world::controls::Holders;
+use crate::courses::{Course, Stage, courses_of};
+use crate::fault::{Blame, blame_of, marked, touch_in};
+use crate::frames::Moment;
+use crate::pen::{Piece, length_of};
+use crate::run::{Run, has_sides};
+use crate::said::{number_of, result_of, words_of};
+use crate::sentence::Why;
+use crate::stocks::{Stock, stocks_of};
+use crate::stretches::{Stretch, stretches_of};
+use crate::touches::Touch;
+use crate::why::why_of;
+use rc_text::names::thread_name;
 use rc_world::event::Event;
-use rc_world::fault::{Fault, Party};
-use rc_world::world::{Slot, World};
-use std::marker::Model;
+use std::alloc::{AllocError, Global};
 
-/// What a picture is drawn of: the lines of a text, the events of its program, the world after the last of them, how
-/// the trace ends, and how many events are left out above.
+/// A row, and what is told there.
+#[derive(Drop)]
+pub struct Row {
+    pub stretch: Stretch,
+    /// The lane of who moves.
+    pub mover: Option<u32>,
+    /// The number of the line in the text, and 0 for none.
+    pub line: u32,
+    pub words: Vec<u8>,
+    pub result: [Piece<'static>; 3],
+    /// What is done with a buffer.
+    pub touch: Option<Touch>,
+    /// The world after it.
+    pub after: Moment,
+}
+
+impl Row {
+    /// How many bytes the words take, with the result and the arrow before it.
+    pub fn span(&self) -> u64 {
+        let words = self.words.len() as u64;
+        match length_of(&self.result) {
+            0 => words,
+            result => words.saturating_add(result).saturating_add(3),
+        }
+    }
+}
+
+/// What a picture is drawn of.
 #[derive(Drop)]
 pub struct Story<'s, 'a> {
-    lines: &'s Lines<'a>,
-    world: &'s World<'a>,
-    frames: &'s [Frame],
-    end: End,
-    cut: u64,
+    pub run: Run<'s, 'a>,
+    /// The rows, from the top.
+    pub rows: Vec<Row>,
+    /// The requests.
+    pub courses: Vec<Course>,
+    /// The items that pools have.
+    pub stocks: Vec<Stock>,
+    /// Why there is a fault.
+    pub why: Why,
+    /// What is at fault beside requests and items.
+    pub blame: Blame,
+    /// Whether the text has sides.
+    pub has_sides: bool,
+    // The place of each event: 0 above the rows, else that of its row, from 1.
+    places: Vec<usize>,
 }
 
-impl<'s, 'a> Model for Story<'s, 'a> {
-    ghost use Rattle.rc_story.specs.Story as spec;
-
-    ghost Value = { spec.Story };
-
-    ghost view = { λ s. record {
-      text = s.lines.now;
-      world = s.world.now;
-      frames = s.frames.now;
-      end = s.end;
-      cut = s.cut;
-    } };
-}
-
-/// What a statement does with a buffer.
-#[derive(Clone, Copy)]
-pub enum Verb {
-    Load,
-    Store,
-    Fill,
-}
-
-/// A statement that touches a buffer, by its number.
-#[derive(Clone, Copy)]
-pub struct Touch {
-    pub verb: Verb,
-    pub buffer: usize,
+/// The story of a run, of whose events no more are left out than there are.
+pub fn story_of<'s, 'a>(alloc: Global, run: Run<'s, 'a>) -> Result<Story<'s, 'a>, AllocError> {
+    let stretches = stretches_of(alloc, &run)?;
+    let courses = marked(alloc, &run, &courses_of(alloc, &run)?)?;
+    Ok(Story {
+        rows: rows_of(alloc, &run, &stretches)?,
+        stocks: stocks_of(alloc, &run, &stretches)?,
+        why: why_of(alloc, &run, &courses)?,
+        blame: blame_of(&run),
+        has_sides: has_sides(run.program()),
+        places: places_of(alloc, &run, &stretches)?,
+        courses,
+        run,
+    })
 }
 
 impl<'s, 'a> Story<'s, 'a> {
-    ghost use Rattle.std.specs.Prelude.{◌≡◌, ◌≤◌, length};
-    ghost use Rattle.rc_story.specs.Story as spec;
-
-    /// The story of these events. The lines are those of the text of the world's program.
-    pub fn new(
-        lines: &'s Lines<'a>,
-        world: &'s World<'a>,
-        frames: &'s [Frame],
-        end: End,
-        cut: u64,
-    ) -> Story<'s, 'a>
-        ensures { result ≡ record {
-          text = lines.now;
-          world = world.now;
-          frames = frames.now;
-          end = end;
-          cut = cut;
-        } }
-    {
-        Story {
-            lines,
-            world,
-            frames,
-            end,
-            cut,
+    /// The place of an event: 0 above the rows, else that of its row, from 1.
+    pub fn place_of(&self, number: u64) -> usize {
+        match self.places.get(number as usize) {
+            Some(place) => *place,
+            None => self.below(),
         }
     }
 
-    /// The lines of the text.
-    pub fn lines(&self) -> &'s Lines<'a>
-        ensures { result.now ≡ self.now.text }
-    {
-        self.lines
+    /// The place below all rows.
+    pub fn below(&self) -> usize {
+        self.rows.len().saturating_add(1)
     }
 
-    /// The world after the last event.
-    pub fn world(&self) -> &'s World<'a>
-        ensures { result.now ≡ self.now.world }
-    {
-        self.world
+    /// The place where a stage of a request begins.
+    pub fn start_of(&self, course: &Course, stage: Stage) -> usize {
+        self.place_of(course.event(stage))
     }
 
-    /// The program.
-    pub fn program(&self) -> &'a Program
-        ensures { result.now ≡ self.now.world.program }
-    {
-        self.world.program()
-    }
-
-    /// The events.
-    pub fn frames(&self) -> &'s [Frame]
-        ensures { result.now ≡ self.now.frames }
-    {
-        self.frames
-    }
-
-    /// How the trace ends.
-    pub fn end(&self) -> End
-        ensures { result ≡ self.now.end }
-    {
-        self.end
-    }
-
-    /// How many events are left out above.
-    pub fn cut(&self) -> u64
-        ensures { result ≡ self.now.cut }
-    {
-        self.cut
-    }
-
-    /// How many events there are.
-    pub fn count(&self) -> u64
-        ensures { result ≡ length self.now.frames }
-    {
-        self.frames.len() as u64
-    }
-
-    /// The event with this number, from 1.
-    pub fn frame(&self, number: u64) -> Option<Frame>
-        ensures { result ≡ spec.frame self.now number }
-    {
-        if number == 0 {
-            return None;
-        }
-        self.frames.get(number as usize - 1).copied()
-    }
-
-    /// The world after the event with this number; the start for 0.
-    pub fn moment(&self, number: u64) -> Moment
-        ensures { result ≡ spec.moment self.now number }
-    {
-        match self.frame(number) {
-            Some(frame) => frame.after,
-            None => Moment {
-                holders: Holders { sq: None, cq: None },
-                slot: Slot::Closed,
-                made: 0,
-                queued: 0,
-                completions: 0,
-            },
+    /// The place where a request comes to a stage, and below all rows where it doesn't.
+    pub fn until(&self, course: &Course, stage: Stage) -> usize {
+        if course.has(stage) {
+            self.start_of(course, stage)
+        } else {
+            self.below()
         }
     }
 
-    /// The number of the kernel's lane: how many threads there are, at most 16.
-    pub fn kernel(&self) -> u32
-        ensures value { result ≡ spec.kernel self.now }
-        ensures few { result ≤ 16 }
-    {
-        self.program().threads().len() as u32
-    }
-
-    /// The lane of an event.
-    pub fn lane_of(&self, event: Event) -> u32
-        ensures { result ≡ spec.lane_of self.now event }
-    {
-        match event {
-            Event::ByThread { thread, .. } => thread,
-            Event::ByKernel(_) => self.kernel(),
-        }
-    }
-
-    /// The fault in which the trace ends.
-    pub fn fault(&self) -> Option<Fault>
-        ensures { result ≡ spec.fault self.now }
-    {
-        match self.end {
-            End::Fault(fault) => Some(fault),
-            _ => None,
-        }
-    }
-
-    /// The thread that has the fault.
-    pub fn culprit(&self) -> Option<u32>
-        ensures { result ≡ spec.culprit self.now }
-    {
-        match self.fault()?.party {
-            Party::At { thread, .. } => Some(thread),
-            Party::InKernel => None,
-        }
-    }
-
-    /// The line of the thread that has the fault.
-    pub fn fault_line(&self) -> Option<Line>
-        ensures { result ≡ spec.fault_line self.now }
-    {
-        match self.culprit() {
-            Some(thread) => self.world.line(thread),
-            None => None,
-        }
-    }
-
-    /// What a thread is about to do with a buffer.
-    pub fn next_touch(&self, thread: u32) -> Option<Touch>
-        ensures { result ≡ spec.next_touch self.now.world thread }
-    {
-        match self.world.line(thread) {
-            Some(line) => touch_of(line.stmt),
-            None => None,
-        }
-    }
-
-    /// The thread that races with the one at fault.
-    pub fn rival(&self) -> Option<u32>
-        ensures { result ≡ spec.rival self.now }
-    {
-        match self.culprit() {
-            Some(culprit) => self.rival_of(culprit),
-            None => None,
-        }
-    }
-
-    // The first thread after this one that races with it.
-    fn rival_of(&self, culprit: u32) -> Option<u32>
-        ensures { result ≡ spec.rival_of self.now.world (Some culprit) }
-    {
-        let mut rival = None;
-        for thread in 0..self.kernel() {
-            if rival.is_none() && self.is_rival(culprit, thread) {
-                rival = Some(thread);
+    /// How many rows there are that aren't of the fault. Those of the fault come last.
+    pub fn told(&self) -> usize {
+        let mut count: usize = 0;
+        for row in &self.rows {
+            if !row.stretch.is_fault() {
+                count = count.saturating_add(1);
             }
         }
-        rival
+        count
     }
 
-    // Whether a thread is after this one and races with it.
-    fn is_rival(&self, culprit: u32, thread: u32) -> bool
-        ensures { result ≡ spec.is_rival self.now.world culprit thread }
-    {
-        culprit < thread && races(self.next_touch(culprit), self.next_touch(thread))
+    /// The name of a lane.
+    pub fn lane_name(&self, lane: u32) -> &'a [u8] {
+        if lane == self.run.kernel() {
+            b"kernel"
+        } else {
+            thread_name(self.run.program(), lane)
+        }
+    }
+
+    /// The name of who moves in a row.
+    pub fn mover_name(&self, row: &Row) -> &'a [u8] {
+        match row.mover {
+            Some(lane) => self.lane_name(lane),
+            None => b"",
+        }
     }
 }
 
-/// Whether two touches race: they are of one buffer, and one of them writes it.
-fn races(a: Option<Touch>, b: Option<Touch>) -> bool
-    ensures { result ≡ spec.races a b }
-{
-    match (a, b) {
-        (Some(a), Some(b)) => a.buffer == b.buffer && (writes(a.verb) || writes(b.verb)),
-        _ => false,
+/// The rows with what is told there.
+fn rows_of(
+    alloc: Global,
+    run: &Run<'_, '_>,
+    stretches: &[Stretch],
+) -> Result<Vec<Row>, AllocError> {
+    let mut rows = Vec::new(alloc);
+    for stretch in stretches {
+        rows.push(row_of(alloc, run, *stretch)?)?;
+    }
+    Ok(rows)
+}
+
+fn row_of(alloc: Global, run: &Run<'_, '_>, stretch: Stretch) -> Result<Row, AllocError> {
+    Ok(Row {
+        stretch,
+        mover: mover_of(run, stretch),
+        line: line_number(run, stretch),
+        words: words_of(alloc, run, stretch)?,
+        result: result_of(run, stretch),
+        touch: touch_in(run, stretch),
+        after: run.moment(stretch.last(run.count())),
+    })
+}
+
+/// The lane of a row, and none where nobody moves.
+fn mover_of(run: &Run<'_, '_>, stretch: Stretch) -> Option<u32> {
+    match stretch {
+        Stretch::Event(number) => run.lane_of(number),
+        Stretch::Again { first, .. } => run.lane_of(first),
+        Stretch::Fault => Some(run.culprit().unwrap_or(run.kernel())),
+        Stretch::Rival => run.rival(),
+        Stretch::Before(_) | Stretch::Empty => None,
     }
 }
 
-/// Whether what is done writes the buffer.
-fn writes(verb: Verb) -> bool
-    ensures { result ≡ spec.writes verb }
-{
-    match verb {
-        Verb::Load => false,
-        Verb::Store => true,
-        Verb::Fill => true,
+/// The number of a row's line, and 0 for none.
+fn line_number(run: &Run<'_, '_>, stretch: Stretch) -> u32 {
+    match stretch {
+        Stretch::Event(number) => line_at(run, number),
+        Stretch::Fault => number_of(run.fault_line()),
+        Stretch::Rival => number_of(run.rival_line()),
+        _ => 0,
     }
 }
 
-/// What a statement does with a buffer.
-pub fn touch_of(stmt: Stmt) -> Option<Touch>
-    ensures { result ≡ spec.touch_of stmt }
-{
-    match stmt {
-        Stmt::Do(Op::Load(_, buffer, _)) => Some(Touch {
-            verb: Verb::Load,
-            buffer,
-        }),
-        Stmt::Do(Op::Store(buffer, _, _)) => Some(Touch {
-            verb: Verb::Store,
-            buffer,
-        }),
-        Stmt::Do(Op::Fill(buffer, _)) => Some(Touch {
-            verb: Verb::Fill,
-            buffer,
-        }),
-        _ => None,
+/// The number of an event's line, and 0 for none.
+fn line_at(run: &Run<'_, '_>, number: u64) -> u32 {
+    let Some(frame) = run.frame(number) else {
+        return 0;
+    };
+    match frame.event {
+        Event::ByThread { line, .. } => line,
+        Event::ByKernel(_) => 0,
     }
+}
+
+/// The place of each event.
+fn places_of(
+    alloc: Global,
+    run: &Run<'_, '_>,
+    stretches: &[Stretch],
+) -> Result<Vec<usize>, AllocError> {
+    let mut places = Vec::new(alloc);
+    push_place(&mut places, run.cut, 0)?;
+    for (index, stretch) in stretches.iter().enumerate() {
+        push_place(&mut places, stretch.last(run.count()), index + 1)?;
+    }
+    Ok(places)
+}
+
+/// Says of the events up to this one that no place is said of that they are at this place.
+fn push_place(places: &mut Vec<usize>, last: u64, place: usize) -> Result<(), AllocError> {
+    for _ in places.len() as u64..last.saturating_add(1) {
+        places.push(place)?;
+    }
+    Ok(())
 }

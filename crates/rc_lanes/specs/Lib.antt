@@ -1,4 +1,0 @@
-pub mod Bars
-pub mod Head
-pub mod RowMarks
-pub mod Turns

@@ -1,7 +1,0 @@
-use Rattle.std.proofs.Common.{◌≡◌, drop, max}
-use Rattle.rc_layout.specs.Columns as spec
-use Rattle.rc_story.specs.Parts.{greatest}
-use Rattle.rc_layout.proofs.columns.longest_line.Given as goal
-
-abbrev pub invariant-loop-row : goal.invariant-loop-row
-invariant-loop-row l = greatest (spec.line_digits l.story) l.rows ≡ max l.most (greatest (spec.line_digits l.story) (drop l.row-index l.rows))

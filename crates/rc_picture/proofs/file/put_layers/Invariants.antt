@@ -1,7 +1,0 @@
-use Rattle.std.proofs.Common.{◌≡◌, ◌++◌, take}
-use Rattle.std.specs.List.{flat_map}
-use Rattle.rc_picture.specs.File as spec
-use Rattle.rc_picture.proofs.file.put_layers.Given as goal
-
-abbrev pub invariant-loop-layer : goal.invariant-loop-layer
-invariant-loop-layer l = l.text.items ≡ l.initial.text.items ++ flat_map (spec.layer_group l.story l.picture) (take l.layer-index l.layers)
