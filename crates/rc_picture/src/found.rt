@@ -6,11 +6,11 @@ ghost use Rattle.rc_report.specs.Checks.{IsVerdict};
 
 use crate::drawing::put_picture;
 use rc_admit::admitted::{Judged, judge};
-use rc_runs::find::{find_harm, put_lines, put_told};
-use rc_runs::harm::{Harm, spelled_items};
 use rc_lang::program::Program;
 use rc_report::trace::End;
 use rc_report::verdict::{Refusal, Verdict};
+use rc_runs::find::{find_harm, put_lines, put_told};
+use rc_runs::harm::{Harm, spelled_items};
 use rc_text::text::{put_counted, put_piece};
 use rc_world::world::World;
 use std::alloc::{AllocError, Global};

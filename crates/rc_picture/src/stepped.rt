@@ -8,11 +8,11 @@ ghost use Rattle.rc_report.specs.Steps.{end_of_unread, traced};
 ghost use Rattle.rc_world.specs.Machine.{start_world};
 
 use crate::drawing::put_picture;
-use rc_runs::steps::read_moved;
-use rc_runs::told::{put_of_items, put_of_moves, put_of_unread};
 use rc_read::ReadFault;
 use rc_report::step_engine::{StepEnd, Unread, read_steps};
 use rc_report::verdict::{Verdict, put_verdict};
+use rc_runs::steps::read_moved;
+use rc_runs::told::{put_of_items, put_of_moves, put_of_unread};
 use rc_text::text::put_counted;
 use rc_world::world::World;
 use std::alloc::{AllocError, Global};
