@@ -1,7 +1,6 @@
 pub mod Answered
 pub mod Counted
 pub mod Findings
-pub mod Grows
 pub mod Listed
 pub mod Reading
 pub mod Repeats

@@ -2,12 +2,19 @@
 use Rattle.std.specs.Prelude.{Bool, true, false, Option, Some, None}
 use Rattle.rc_world.specs.Machine.{World}
 use Rattle.rc_runs.specs.declared.spelling.Goal.{Goal}
+use Rattle.rc_runs.specs.declared.step.Step.{Step}
+use Rattle.rc_runs.specs.declared.step.Step.TheVariants.{Fault, Made, NotEnabled}
 use Rattle.rc_runs.specs.Spelling.{is_at}
 
 -- the world where each step could be made, and none where one couldn't
 abbrev pub where_made : Bool → World → Option World
 where_made true w = Some w
 where_made false w = None
+
+abbrev pub is_made : Step → Bool
+is_made Made = true
+is_made NotEnabled = false
+is_made (Fault f) = false
 
 -- The world is at the goal, if there is one.
 abbrev pub is_there : Option Goal → World → Bool

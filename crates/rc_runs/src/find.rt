@@ -49,7 +49,7 @@ pub fn put_found(
 }
 
 /// Looks for a run into a fault, and shows it.
-pub(crate) fn find_harm(
+pub fn find_harm(
     alloc: Global,
     program: &Program,
     refusal: Refusal,
@@ -65,7 +65,7 @@ pub(crate) fn find_harm(
 }
 
 /// Adds a verdict alone.
-pub(crate) fn put_told(
+pub fn put_told(
     text: &mut Vec<u8>,
     alloc: Global,
     verdict: &Verdict,
@@ -112,7 +112,7 @@ fn put_object(
 }
 
 /// Adds the same as text.
-pub(crate) fn put_lines(
+pub fn put_lines(
     text: &mut Vec<u8>,
     refusal: Refusal,
     walks: u32,

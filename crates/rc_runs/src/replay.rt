@@ -2,6 +2,7 @@
 
 use crate::step::{Step, make};
 use rc_lang::program::Program;
+use rc_lang::request::Request;
 use rc_world::event::Item;
 use rc_world::fault::Fault;
 use rc_world::world::World;
@@ -70,11 +71,13 @@ fn plain_form(world: &World<'_>, item: Item) -> Item {
 
 /// The result of the pending request with this user data where all its bytes are moved.
 fn whole_result(world: &World<'_>, user_data: u64) -> i32 {
-    let request = world
-        .pending_place(user_data)
-        .and_then(|place| world.pending(place));
-    match request {
+    match request_of(world, user_data) {
         Some(request) => most_moved(request).min(MOST_MOVED) as i32,
         None => 0,
     }
+}
+
+/// The first pending request with this user data.
+fn request_of(world: &World<'_>, user_data: u64) -> Option<Request> {
+    world.pending(world.pending_place(user_data)?)
 }

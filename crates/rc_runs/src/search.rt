@@ -4,7 +4,7 @@ use crate::numbers::compared_numbers;
 use crate::random::Random;
 use crate::shorten::shorten;
 use crate::walk::walk;
-use rc_lang::program::Program;
+use rc_lang::program::{Program, Thread};
 use rc_world::event::Item;
 use rc_world::fault::{Fault, Party};
 use std::alloc::{AllocError, Global};
@@ -57,9 +57,14 @@ fn is_of(refused: Option<u32>, fault: Fault) -> bool {
 /// The number of the thread in which a line is, its header among them.
 fn thread_of_line(program: &Program, number: u32) -> Option<u32> {
     for (place, thread) in program.threads().iter().enumerate() {
-        if thread.line == number || thread.lines.iter().any(|line| line.number == number) {
+        if has_line(thread, number) {
             return Some(place as u32);
         }
     }
     None
+}
+
+/// Whether a line is in a thread, its header among them.
+fn has_line(thread: &Thread, number: u32) -> bool {
+    thread.line == number || thread.lines.iter().any(|line| line.number == number)
 }

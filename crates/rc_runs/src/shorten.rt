@@ -136,33 +136,30 @@ impl<'a> Shortening<'a> {
     /// Draws steps of one thread together.
     fn draw_together(&mut self) -> Result<(), AllocError> {
         for place in 0..self.run.len() {
-            if let Some((later, item)) = self.next_step(place) {
-                self.draw(place, later, item)?;
+            if let Some(later) = self.next_step(place) {
+                self.draw(place, later)?;
             }
         }
         Ok(())
     }
 
-    /// The next step of the thread that moves at this place: its place, which isn't the next one, and its item.
-    fn next_step(&self, place: usize) -> Option<(usize, Item)> {
+    /// The place of the next step of the thread that moves at this place, where it isn't the next place.
+    fn next_step(&self, place: usize) -> Option<usize> {
         let thread = thread_of(self.run.get(place)?.item)?;
         for (later, made) in self.run.iter().enumerate() {
             if later > place && thread_of(made.item) == Some(thread) {
-                return (later - place > 1).then_some((later, made.item));
+                return (later - place > 1).then_some(later);
             }
         }
         None
     }
 
     /// Tries the run with a later item right after a place.
-    fn draw(&mut self, place: usize, later: usize, item: Item) -> Result<(), AllocError> {
+    fn draw(&mut self, place: usize, later: usize) -> Result<(), AllocError> {
         self.tried.clear();
-        for (index, made) in self.run.iter().enumerate() {
-            if index != later {
+        for index in 0..self.run.len() {
+            if let Some(made) = self.run.get(drawn_from(index, place, later)) {
                 self.tried.push(made.item)?;
-            }
-            if index == place {
-                self.tried.push(item)?;
             }
         }
         self.keep(None)
@@ -184,6 +181,17 @@ impl<'a> Shortening<'a> {
             swap(&mut self.run, &mut self.made);
         }
         Ok(())
+    }
+}
+
+/// Where the item comes from that is at this place once a later one is drawn right after a place.
+fn drawn_from(index: usize, place: usize, later: usize) -> usize {
+    if index <= place || later < index {
+        index
+    } else if index - place == 1 {
+        later
+    } else {
+        index - 1
     }
 }
 

@@ -1,16 +1,17 @@
 //! The schedule that moves spell.
 
-ghost use Rattle.std.specs.Prelude.{◌≡◌, ◌+◌, ◌<◌, ◌≤◌, ◌^◌, ◌++◌, length, sum, take, IfNone, IfOk, IfSome};
+ghost use Rattle.std.specs.Prelude.{◌≡◌, ◌+◌, ◌<◌, ◌≤◌, ◌++◌, length, sum, take, IfNone, IfOk, IfSome};
 ghost use Rattle.rc_runs.specs.Repeats as repeats;
 ghost use Rattle.rc_runs.specs.Repeats.{where_made};
 ghost use Rattle.rc_runs.specs.Spelling as spec;
-ghost use Rattle.rc_runs.specs.Spelling.{IsSpelled, after_move, after_step, items_in};
+ghost use Rattle.rc_runs.specs.Spelling.{IsSpelled, after_move, items_in};
 ghost use Rattle.rc_runs.specs.Spelling.{items_of_move, steps_until, world_after};
 
 use crate::moves::Move;
+use crate::step::make;
 use rc_lang::program::Program;
 use rc_world::event::Item;
-use rc_world::world::{Stop, World};
+use rc_world::world::World;
 use std::alloc::{AllocError, Global};
 
 /// The schedule that moves spell, and how many of its items each of them spells.
@@ -123,28 +124,12 @@ fn repeat(
             return Ok(true);
         }
         items.push(item)?;
-        if !make(world, &item)? {
+        if !make(world, &item)?.is_made() {
             return Ok(false);
         }
         left -= 1;
     }
     Ok(true)
-}
-
-// Makes the step of an item, where it can be made, and answers whether it could.
-fn make(world: &mut World<'_>, item: &Item) -> Result<bool, AllocError>
-    requires { world.old.made + 1 < 2 ^ 64 }
-    ensures step { IfOk result (λ made. after_step world.old item.now ≡ where_made made world.new) }
-    ensures made { world.new.made ≤ world.old.made + 1 }
-{
-    if !world.enabled(item) {
-        return Ok(false);
-    }
-    match world.apply(item) {
-        Ok(_) => Ok(true),
-        Err(Stop::Fault(_)) => Ok(false),
-        Err(Stop::OutOfMemory) => Err(AllocError),
-    }
 }
 
 // Whether the world is at the goal, if there is one.

@@ -1,6 +1,8 @@
-//! One step of a run that is looked for.
+//! One step of a run.
 
-ghost use Rattle.std.specs.Prelude.{◌+◌, ◌<◌, ◌≤◌, ◌^◌};
+ghost use Rattle.std.specs.Prelude.{◌≡◌, ◌+◌, ◌<◌, ◌≤◌, ◌^◌, IfOk};
+ghost use Rattle.rc_runs.specs.Repeats.{is_made, where_made};
+ghost use Rattle.rc_runs.specs.Spelling.{after_step};
 
 use rc_world::event::Item;
 use rc_world::fault::Fault;
@@ -18,10 +20,20 @@ pub enum Step {
     Fault(Fault),
 }
 
+impl Step {
+    /// Whether the step was made.
+    pub fn is_made(self) -> bool
+        ensures { result ≡ is_made self }
+    {
+        matches!(self, Step::Made)
+    }
+}
+
 /// Makes the step that an item names, where the world has no fault and the item is enabled.
 pub fn make(world: &mut World<'_>, item: &Item) -> Result<Step, AllocError>
     requires { world.old.made + 1 < 2 ^ 64 }
-    ensures { world.new.made ≤ world.old.made + 1 }
+    ensures step { IfOk result (λ step. after_step world.old item.now ≡ where_made (is_made step) world.new) }
+    ensures made { world.new.made ≤ world.old.made + 1 }
 {
     if !world.enabled(item) {
         return Ok(Step::NotEnabled);

@@ -10,6 +10,7 @@ use rc_report::trace::End;
 use rc_text::names::{side_of, thread_name};
 use rc_text::text::{put_counted, put_number, put_piece, put_pieces, put_signed};
 use rc_world::event::Item;
+use rc_world::schedule::halves;
 use rc_world::world::World;
 use std::alloc::AllocError;
 
@@ -96,9 +97,8 @@ pub fn put_of_moves(
     end: End,
 ) -> Result<(), AllocError> {
     for (place, named) in moved.moves.iter().enumerate() {
-        if matches!(named, Move::Until { .. }) && moved.counts.get(place) == Some(&65_536) {
-            put_named(text, world.program(), place, *named)?;
-            put_piece(text, b"ends after 65536 steps\n")?;
+        if moved.counts.get(place) == Some(&65_536) {
+            put_most(text, world.program(), place, *named)?;
         }
     }
     match place_of_refused(end) {
@@ -107,30 +107,65 @@ pub fn put_of_moves(
     }
 }
 
+// Adds the line for a move that made the most steps up to a line.
+fn put_most(
+    text: &mut Vec<u8>,
+    program: &Program,
+    place: usize,
+    named: Move,
+) -> Result<(), AllocError> {
+    if !matches!(named, Move::Until { .. }) {
+        return Ok(());
+    }
+    put_named(text, program, place, named)?;
+    put_piece(text, b"ends after 65536 steps\n")
+}
+
 /// Adds what is told of a schedule that can't be read: a line for the item, where it is written as a move.
 pub fn put_of_unread(text: &mut Vec<u8>, schedule: &str, unread: Unread) -> Result<(), AllocError> {
     let Unread::Schedule(number) = unread else {
         return Ok(());
     };
-    let mut at: u64 = 0;
-    for piece in schedule.as_bytes().split(|b| *b == b',') {
-        at = at.saturating_add(1);
-        if at == number && is_move(piece) {
-            put_counted(text, b"ringcheck: item ", number, b", ")?;
-            put_piece(text, piece)?;
-            return put_piece(
-                text,
-                b", is a move: it needs '--moves' in place of '--schedule'\n",
-            );
-        }
+    match piece_numbered(schedule.as_bytes(), number) {
+        Some(piece) if is_move(piece) => put_is_move(text, number, piece),
+        _ => Ok(()),
     }
-    Ok(())
+}
+
+// The piece of a schedule with this number, from 1.
+fn piece_numbered(schedule: &[u8], number: u64) -> Option<&[u8]> {
+    let mut rest = schedule;
+    for _before in 1..number {
+        rest = halves(b',', rest)?.1;
+    }
+    match halves(b',', rest) {
+        Some((piece, _)) => Some(piece),
+        None => Some(rest),
+    }
+}
+
+// Adds the line for the piece of a schedule with this number, which is a move.
+fn put_is_move(text: &mut Vec<u8>, number: u64, piece: &[u8]) -> Result<(), AllocError> {
+    put_counted(text, b"ringcheck: item ", number, b", ")?;
+    put_pieces(
+        text,
+        &[
+            piece,
+            b", is a move: it needs '--moves' in place of '--schedule'\n",
+        ],
+    )
 }
 
 // Whether a piece of a schedule is written as so many steps of a thread, or as its steps up to a line.
 fn is_move(piece: &[u8]) -> bool {
-    let is_printed = piece.iter().all(|b| *b > 32 && *b < 127);
-    is_printed && piece.iter().any(|b| *b == b'*' || *b == b'@')
+    let mut has_mark = false;
+    for b in piece {
+        if *b <= 32 || *b >= 127 {
+            return false;
+        }
+        has_mark = has_mark || *b == b'*' || *b == b'@';
+    }
+    has_mark
 }
 
 // The place of the item that isn't enabled, if a trace ends at one.
