@@ -198,6 +198,8 @@ def run_check(crate, texts, only):
 def check(crate, texts, only):
     """As `run_check`, once more where it was killed, as for memory, or came to no verdict."""
     said = run_check(crate, texts, only)
+    if said.status == -signal.SIGINT:
+        raise KeyboardInterrupt
     if said.is_whole or said.unread(texts):
         return said
     again = run_check(crate, texts, only)

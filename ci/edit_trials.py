@@ -194,11 +194,14 @@ def try_crates(crates, after_ci):
         print("\n".join(["the judge of edits doesn't pass its own test, so no edit was tried", *lies]))
         return False
     print(f"the judge passes its own test ({tally.checks} checks, {tally.seconds:.0f} processor seconds)", flush=True)
-    failed = 0
-    with ThreadPoolExecutor(lanes()) as pool:
+    failed, pool = 0, ThreadPoolExecutor(lanes())
+    try:
         for run in [pool.submit(told, it) for it in sorted(crates, key=size_of, reverse=True)]:
             lines, number = run.result()
             failed += number
             print("\n".join(lines), flush=True)
+    finally:
+        # (an interrupt begins no further check)
+        pool.shutdown(cancel_futures=True)
     print("edits: all refused" if not failed else f"edits that are not refused, bad or not tried: {failed}")
     return not failed
