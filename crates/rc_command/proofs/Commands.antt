@@ -1,7 +1,7 @@
 -- What commands say and leave.
-use Rattle.std.proofs.Common.{◌≡◌, ◌≤◌, inl, inr, ℕ, true, false, List, [], ◌++◌, Result, Ok, Err, refl, sym, ap, subst, ◌∙◌, arith}
-use Rattle.std.specs.Global.{Global, Vec}
-use Rattle.std.specs.Prelude.{IfOk, IsErrAnd, String, string_bytes}
+use Rattle.std.proofs.Common.{◌≡◌, ◌≤◌, inl, inr, ℕ, true, false, List, Result, Ok, Err, refl, sym, ap, subst, arith}
+use Rattle.std.specs.Global.{Vec}
+use Rattle.std.specs.Prelude.{IfOk, IsErrAnd}
 use Rattle.rc_report.specs.declared.engine_fault.EngineFault.{EngineFault}
 use Rattle.rc_report.specs.declared.engine_fault.EngineFault.TheVariants.{Read, Write, OutOfMemory}
 use Rattle.rc_report.specs.declared.step_engine.StepEnd.{StepEnd}
@@ -17,13 +17,15 @@ use Rattle.rc_keeps.specs.Keeps.{GivesKept}
 use Rattle.rc_report.specs.Checks.{GivesVerdict}
 use Rattle.rc_report.specs.Verdicts.{verdict_text}
 use Rattle.rc_report.specs.Statuses.{status_of_end, status_of_step, status_of_verdict}
-use Rattle.rc_report.specs.Streams.{Began, CountsReads, Given, ReadsText, Taken}
-use Rattle.rc_report.proofs.Answered.{of_any, of_text}
-use Rattle.rc_command.specs.declared.fault.CommandFault.{CommandFault}
-use Rattle.rc_command.specs.declared.fault.CommandFault.TheVariants.{Words, Engine, OtherProgram}
-use Rattle.rc_command.specs.declared.words.Command.{Command}
-use Rattle.rc_command.specs.declared.words.Command.TheVariants.{Check, Explain, Keeps, Step, State, Moves, Draw, DrawMoves, Find, DrawFound, Run, Emit, Follow, Format, Serve, Show}
-use Rattle.rc_command.specs.Answers.{Does, DoesWith, Fails, ReadsAsAsked, ReadsOnce, Says, SaysAdmitted, SaysKept, SaysUnread, SaysVerdict}
+use Rattle.rc_report.specs.Streams.{CountsReads, Given, ReadsText, Taken}
+use Rattle.rc_report.proofs.Answered.{of_text}
+use Rattle.rc_arguments.specs.declared.command.Command.{Command}
+use Rattle.rc_arguments.specs.declared.command.Command.TheVariants.{Check, Explain, Keeps, Step, State, Moves, Draw, DrawMoves, Find, DrawFound, Run, Emit, Follow, Format, Serve, Show}
+use Rattle.rc_files.specs.declared.fault.CommandFault.{CommandFault}
+use Rattle.rc_files.specs.declared.fault.CommandFault.TheVariants.{Words, Engine, OtherProgram}
+use Rattle.rc_files.specs.Answers.{Does}
+use Rattle.rc_files.proofs.Answers.{does_as}
+use Rattle.rc_command.specs.Answers.{DoesWith, ReadsAsAsked, ReadsOnce, Says, SaysAdmitted, SaysKept, SaysUnread}
 
 -- ---- statuses are 3 at most
 
@@ -56,8 +58,8 @@ within (Step schedule) bytes s text h = step_within h.0 s h.3
 within (State schedule) bytes s text h = step_within h.1.0 s h.1.3
 within (Moves moves false) bytes s text h = step_within h.0 s h.3
 within (Moves moves true) bytes s text h = step_within h.1.0 s h.1.3
-within (Draw schedule from) bytes s text h = step_within h.0 s h.3
-within (DrawMoves moves from) bytes s text h = step_within h.0 s h.3
+within (Draw schedule from) bytes s text h = step_within h.0 s h.2
+within (DrawMoves moves from) bytes s text h = step_within h.0 s h.2
 within (DrawFound seed walks) bytes s text h = verdict_within h.0 s h.2
 within (Find seed walks json) bytes s text h = verdict_within h.0 s h.2
 within (Run seed limit summary) bytes s text h = elim h [
@@ -80,73 +82,24 @@ all_within command bytes state old new (Err e) h = tt
 -- ---- what is written
 
 module _ {S : Type 0} (state : S → Taken) (old new : S) where
-  -- A `?` returns a fault.
-  pub does_fault : (says : ℕ → List ℕ → Type 0) (text : List ℕ) (e : EngineFault) (r : Result ℕ CommandFault) → IsErrAnd r (λ y. y ≡ Engine e) → ¬ (e ≡ Read) → Began (state old) (state new) text e → Does says state old new r
-  does_fault says text e (Ok s) is no_read h = absurd is
-  does_fault says text e (Err y) is no_read h = subst (λ (z : CommandFault). Fails (state old) (state new) z) (sym is) (failed e no_read h)
-    where
-      failed : (e : EngineFault) → ¬ (e ≡ Read) → Began (state old) (state new) text e → Fails (state old) (state new) (Engine e)
-      failed Read no_read h = absurd (no_read refl)
-      failed Write no_read h = h.failures
-      failed OutOfMemory no_read h = omega (arith, h.failures)
-
-  pub write_fault : (says : ℕ → List ℕ → Type 0) (text : List ℕ) (e : EngineFault) (r : Result ℕ CommandFault) → IsErrAnd r (λ y. y ≡ Engine e) → (e ≡ Write) × Began (state old) (state new) text e → Does says state old new r
-  write_fault says text e r is h = does_fault says text e r is (λ read. absurd (cc (h.0, read))) h.1
-
-  pub steps_fault : (says : ℕ → List ℕ → Type 0) (text : List ℕ) (e : EngineFault) (r : Result ℕ CommandFault) → IsErrAnd r (λ y. y ≡ Engine e) → ¬ (e ≡ Read) × Began (state old) (state new) text e → Does says state old new r
-  steps_fault says text e r is h = does_fault says text e r is h.0 h.1
-
-  -- Memory ran out before anything was written.
-  pub does_nothing : (says : ℕ → List ℕ → Type 0) (r : Result ℕ CommandFault) → IsErrAnd r (λ y. y ≡ Engine OutOfMemory) → state new ≡ state old → Does says state old new r
-  does_nothing says (Ok s) is same = absurd is
-  does_nothing says (Err y) is same = subst (λ (z : CommandFault). Fails (state old) (state new) z) (sym is) (ap (λ (t : Taken). t.failures) same)
-
-  -- This says that.
-  pub does_as : (says others : ℕ → List ℕ → Type 0) (r : Result ℕ CommandFault) → ((s : ℕ) (text : List ℕ) → says s text → others s text) → Does says state old new r → Does others state old new r
-  does_as says others (Ok s) by (text, said, w) = (text, by s text said, w)
-  does_as says others (Err e) by h = h
-
-  -- The text that was made is written.
-  pub does_made : (says : ℕ → List ℕ → Type 0) (first made : List ℕ) (status : ℕ) (r : Result ℕ CommandFault) → first ≡ [] → (text : List ℕ) × says status text × (made ≡ first ++ text) → Does (λ s text. (s ≡ status) × (text ≡ made)) state old new r → Does says state old new r
-  does_made says first made status r none (text, said, is) h =
-      let same : made ≡ text = is ∙ ap (λ us. us ++ text) none in
-      does_as (λ s text. (s ≡ status) × (text ≡ made)) says r (λ s t both. subst (λ u. says s u) (sym (both.1 ∙ same)) (subst (λ n. says n text) (sym both.0) said)) h
-
-  -- That of a verdict.
-  pub does_verdict : (told : Verdict → List ℕ → Type 0) (v : Verdict) (first made : List ℕ) (status : ℕ) (r : Result ℕ CommandFault) → first ≡ [] → status ≡ status_of_verdict v →
-      (text : List ℕ) × told v text × (made ≡ first ++ text) → Does (λ s text. (s ≡ status) × (text ≡ made)) state old new r → Does (SaysVerdict told) state old new r
-  does_verdict told v first made status r none is (text, tells, made_is) h = does_made (SaysVerdict told) first made status r none (text, (v, tells, is), made_is) h
-
   -- An accepted program is answered, or the verdict on another text.
   pub does_admitted : (bytes : List ℕ) (of : Program → ℕ → List ℕ → Type 0) (program : Program) (r : Result ℕ CommandFault) → GivesVerdict (answer_of bytes) (Ok program) → Does (of program) state old new r → Does (SaysAdmitted bytes of) state old new r
-  does_admitted bytes of program r given h = does_as (of program) (SaysAdmitted bytes of) r (λ s text said. inl (program, given, said)) h
+  does_admitted bytes of program r given h = does_as state old new (of program) (SaysAdmitted bytes of) r (λ s text said. inl (program, given, said)) h
 
   pub does_refused : (bytes : List ℕ) (of : Program → ℕ → List ℕ → Type 0) (v : Verdict) (r : Result ℕ CommandFault) → GivesVerdict (answer_of bytes) (Err v) →
       Does (λ status text. (text ≡ verdict_text v) × (status ≡ status_of_verdict v)) state old new r → Does (SaysAdmitted bytes of) state old new r
-  does_refused bytes of v r given h = does_as (λ status text. (text ≡ verdict_text v) × (status ≡ status_of_verdict v)) (SaysAdmitted bytes of) r (λ s text said. inr (v, given, said.0, said.1)) h
+  does_refused bytes of v r given h = does_as state old new (λ status text. (text ≡ verdict_text v) × (status ≡ status_of_verdict v)) (SaysAdmitted bytes of) r (λ s text said. inr (v, given, said.0, said.1)) h
 
   -- What is kept in a text is answered, or the verdict on one that can't be read.
   pub does_kept : (bytes : List ℕ) (kept : Vec ℕ) (r : Result ℕ CommandFault) → GivesKept bytes (Ok kept) → Does (λ s text. (s ≡ 0) × (text ≡ kept.items)) state old new r → Does (SaysKept bytes) state old new r
-  does_kept bytes kept r given h = does_as (λ s text. (s ≡ 0) × (text ≡ kept.items)) (SaysKept bytes) r (λ s text said. inl (kept, given, said.1, said.0)) h
+  does_kept bytes kept r given h = does_as state old new (λ s text. (s ≡ 0) × (text ≡ kept.items)) (SaysKept bytes) r (λ s text said. inl (kept, given, said.1, said.0)) h
 
   pub does_unread : (bytes : List ℕ) (unread : UnreadLine) (r : Result ℕ CommandFault) → GivesKept bytes (Err unread) → Does (SaysUnread unread) state old new r → Does (SaysKept bytes) state old new r
-  does_unread bytes unread r given h = does_as (SaysUnread unread) (SaysKept bytes) r (λ s text said. inr (unread, given, said)) h
+  does_unread bytes unread r given h = does_as state old new (SaysUnread unread) (SaysKept bytes) r (λ s text said. inr (unread, given, said)) h
 
 -- ---- what is read
 
 module _ {S : Type 0} (state : S → Taken) (old new : S) (source : Given) where
-  -- Help and the version are shown whatever the bytes are.
-  pub shows : (command : Command) (shown : String Global) (r : Result ℕ CommandFault) → command ≡ Show shown → Does (λ s text. (s ≡ 0) × (text ≡ string_bytes shown)) state old new r → DoesWith source command state old new r
-  shows command shown r is h = subst (λ (c : Command). DoesWith source c state old new r) (sym is) (by r h)
-    where
-      by : (r : Result ℕ CommandFault) → Does (λ s text. (s ≡ 0) × (text ≡ string_bytes shown)) state old new r → DoesWith source (Show shown) state old new r
-      by (Ok s) (text, said, w) = (text, of_any source.remaining (λ bytes. Says (Show shown) bytes s text) (λ bytes. (said.1, said.0)), w)
-      by (Err (Words e)) h = h
-      by (Err (Engine Read)) h = absurd h
-      by (Err (Engine Write)) h = h
-      by (Err (Engine OutOfMemory)) h = h
-      by (Err OtherProgram) h = h
-
   -- The source failed, or memory ran out.
   pub input_failed : (command : Command) (e : EngineFault) (r : Result ℕ CommandFault) → IsErrAnd r (λ y. y ≡ Engine e) → ¬ (e ≡ Write) → state new ≡ state old → DoesWith source command state old new r
   input_failed command e (Ok s) is no_write same = absurd is

@@ -1,6 +1,6 @@
 -- What the program answers: of each command the exit status, and what it writes.
 use Rattle.std.specs.Global.{Vec}
-use Rattle.std.specs.Prelude.{ℕ, ℤ, ◌≡◌, ◌≤ℤ◌, pos, negsuc, ◌+◌, ◌⊎◌, Bool, true, false, List, [], None, Result, Ok, Err, string_bytes}
+use Rattle.std.specs.Prelude.{ℕ, ℤ, ◌≡◌, ◌≤ℤ◌, pos, negsuc, ◌⊎◌, Bool, true, false, List, [], None, Result, Ok, Err, string_bytes}
 use Rattle.rc_lang.specs.Program.{Program}
 use Rattle.rc_read.specs.Answer.{answer_of}
 use Rattle.rc_world.specs.declared.event.Event.{Event}
@@ -13,34 +13,28 @@ use Rattle.rc_report.specs.declared.trace.End.{End}
 use Rattle.rc_report.specs.declared.trace.End.TheVariants as end
 use Rattle.rc_report.specs.declared.verdict.Verdict.{Verdict}
 use Rattle.rc_report.specs.declared.verdict.Verdict.TheVariants.{Unreadable}
-use Rattle.rc_report.specs.Checks.{GivesVerdict, TellsVerdict}
+use Rattle.rc_report.specs.Checks.{GivesVerdict, IsVerdict, TellsVerdict}
 use Rattle.rc_report.specs.Engine.{EndsBy}
 use Rattle.rc_report.specs.Statuses.{status_of_end, status_of_step, status_of_verdict}
-use Rattle.rc_report.specs.Streams.{CountsReads, Given, OfBytes, Taken, Wrote}
-use Rattle.rc_report.specs.Summaries.{summary_text}
+use Rattle.rc_report.specs.Streams.{CountsReads, Given, OfBytes, Taken}
 use Rattle.rc_report.specs.Traces.{trace_text}
 use Rattle.rc_report.specs.Verdicts.{verdict_text}
+use Rattle.rc_arguments.specs.declared.command.Command.{Command}
+use Rattle.rc_arguments.specs.declared.command.Command.TheVariants.{Check, Explain, Keeps, Step, State, Moves, Draw, DrawMoves, Find, DrawFound, Run, Emit, Follow, Format, Serve, Show}
+use Rattle.rc_files.specs.declared.fault.CommandFault.{CommandFault}
+use Rattle.rc_files.specs.declared.fault.CommandFault.TheVariants.{Words, Engine, OtherProgram}
+use Rattle.rc_files.specs.declared.files.Unread.{Unread}
+use Rattle.rc_files.specs.Answers.{Does, Fails, SaysVerdict}
+use Rattle.rc_files.specs.Files.{Said, SaysFile}
 use Rattle.rc_explain.specs.Explains.{Explains}
-use Rattle.rc_runs.specs.Finds.{Finds}
-use Rattle.rc_find.specs.Pictures.{FindsPicture}
 use Rattle.rc_editor.specs.LaidOut.{IsLaidOut}
 use Rattle.rc_keeps.specs.declared.engine.UnreadLine.{UnreadLine}
 use Rattle.rc_keeps.specs.Keeps.{GivesKept}
-use Rattle.rc_moves.specs.Drawing.{moved_drawn}
+use Rattle.rc_runs.specs.Finds.{Finds}
 use Rattle.rc_runs.specs.Moved.{EndsMoves, moved_text}
 use Rattle.rc_runs.specs.Stepping.{OfTraces, stepped_as}
-use Rattle.rc_picture.specs.Engine.{drawn_text}
-use Rattle.rc_command.specs.declared.fault.CommandFault.{CommandFault}
-use Rattle.rc_command.specs.declared.fault.CommandFault.TheVariants.{Words, Engine, OtherProgram}
-use Rattle.rc_command.specs.declared.words.Command.{Command}
-use Rattle.rc_command.specs.declared.words.Command.TheVariants.{Check, Explain, Keeps, Step, State, Moves, Draw, DrawMoves, Find, DrawFound, Run, Emit, Follow, Format, Serve, Show}
 
 -- ---- what each command says of the bytes of a text: the status, and the text that is written
-
--- The status of `check` is that of the verdict on the bytes, which is written. `--explain` writes what explains it too, and
--- `find` a run of a refused program into a fault, where it was found.
-abbrev pub SaysVerdict : (Verdict → List ℕ → Type 0) → ℕ → List ℕ → Type 0
-SaysVerdict told status text = (verdict : Verdict) × told verdict text × (status ≡ status_of_verdict verdict)
 
 -- The status of `step` is that of the end to which the program is stepped, and the trace or the verdict is written.
 abbrev pub SaysSteps : (List ℕ → List ℕ → List ℕ) → List ℕ → List ℕ → ℕ → List ℕ → Type 0
@@ -60,9 +54,9 @@ abbrev pub SaysMoves : List ℕ → List ℕ → Bool → ℕ → List ℕ → T
 SaysMoves bytes moves state status text =
     OfTraces state (λ traced. SaysMoved (λ bytes moves. moved_text traced (answer_of bytes) moves) bytes moves status text)
 
--- With `--svg` a picture of the trace is written in its place, from an event on.
-abbrev pub SaysPicture : List ℕ → List ℕ → ℕ → ℕ → List ℕ → Type 0
-SaysPicture bytes moves from status text = SaysMoved (moved_drawn from) bytes moves status text
+-- With `--svg` a picture is written in place of the trace, or of the run that was found. No contract says what is drawn.
+abbrev pub SaysEnd : (StepEnd → Type 0) → ℕ → Type 0
+SaysEnd ends status = (end : StepEnd) × ends end × (status ≡ status_of_step end)
 
 -- The disk gives any result that a request may have.
 abbrev pub DiskGives : ℕ → ℤ → Type 0
@@ -77,16 +71,16 @@ EndsRun program limit report end.Stopped = ⊥
 EndsRun program limit report end.Limit = Tells DiskGives program limit (Err (fault.Limit report))
 EndsRun program limit report end.Memory = Tells DiskGives program limit (Err (fault.OutOfMemory report))
 
--- what is written of a run: a summary, or the trace
-abbrev pub summary_or_trace : Bool → List ℕ → Program → List Event → End → List ℕ
-summary_or_trace true bytes program events end = summary_text bytes program events end
-summary_or_trace false bytes program events end = trace_text program events end
+-- What is written of a run is its trace. Of a summary no contract says more.
+abbrev pub TellsRun : Bool → Program → List Event → End → List ℕ → Type 0
+TellsRun true program events end text = Unit {0}
+TellsRun false program events end text = text ≡ trace_text program events end
 
--- The program of these bytes ran, and what happened is written.
-abbrev pub SaysRun : List ℕ → Program → ℕ → Bool → ℕ → List ℕ → Type 0
-SaysRun bytes program limit summary status text =
+-- The program ran, and what happened is written.
+abbrev pub SaysRun : Program → ℕ → Bool → ℕ → List ℕ → Type 0
+SaysRun program limit summary status text =
     (report : RunReport) × (end : End) × EndsRun program limit report end
-    × (text ≡ summary_or_trace summary bytes program report.history.items end) × (status ≡ status_of_end end)
+    × TellsRun summary program report.history.items end text × (status ≡ status_of_end end)
 
 -- An accepted program is answered so; and another text with the verdict that says why it isn't one.
 abbrev pub SaysAdmitted : List ℕ → (Program → ℕ → List ℕ → Type 0) → ℕ → List ℕ → Type 0
@@ -110,8 +104,9 @@ SaysKept bytes status text =
 abbrev pub SaysLaidOut : List ℕ → ℕ → List ℕ → Type 0
 SaysLaidOut bytes status text = IsLaidOut bytes text × (status ≡ 0)
 
--- What the C of a program is no contract says. `follow` reads its text and the logs itself and a server no text, so both
--- have nothing to say of one text.
+-- The status of `check` is that of the verdict on the bytes, which is written. `--explain` writes what explains it too, and
+-- `find` a run of a refused program into a fault, where it was found. What the C of a program is no contract says. `follow`
+-- reads its text and the logs itself and a server no text, so both have nothing to say of one text.
 abbrev pub Says : Command → List ℕ → ℕ → List ℕ → Type 0
 Says (Check json) bytes status text = SaysVerdict (TellsVerdict bytes json) status text
 Says (Explain form) bytes status text = SaysVerdict (Explains bytes None form) status text
@@ -119,12 +114,12 @@ Says Keeps bytes status text = SaysKept bytes status text
 Says (Step schedule) bytes status text = SaysTrace false bytes schedule.now status text
 Says (State schedule) bytes status text = SaysTrace true bytes schedule.now status text
 Says (Find seed walks json) bytes status text = SaysVerdict (Finds bytes walks json) status text
-Says (DrawFound seed walks) bytes status text = SaysVerdict (FindsPicture bytes walks) status text
+Says (DrawFound seed walks) bytes status text = SaysVerdict (λ verdict text. IsVerdict (answer_of bytes) verdict) status text
 Says (Moves moves state) bytes status text = SaysMoves bytes moves.items state status text
-Says (Draw schedule from) bytes status text = SaysSteps (drawn_text from) bytes schedule.now status text
-Says (DrawMoves moves from) bytes status text = SaysPicture bytes moves.items from status text
+Says (Draw schedule from) bytes status text = SaysEnd (EndsBy (answer_of bytes) schedule.now) status
+Says (DrawMoves moves from) bytes status text = SaysEnd (EndsMoves (answer_of bytes) moves.items) status
 Says (Run seed limit summary) bytes status text =
-    SaysAdmitted bytes (λ program. SaysRun bytes program limit summary) status text
+    SaysAdmitted bytes (λ program. SaysRun program limit summary) status text
 Says Emit bytes status text = SaysAdmitted bytes (λ program status text. status ≡ 0) status text
 Says (Follow asked) bytes status text = (text ≡ []) × (status ≡ 3)
 Says Format bytes status text = SaysLaidOut bytes status text
@@ -133,20 +128,7 @@ Says (Show shown) bytes status text = (text ≡ string_bytes shown) × (status �
 
 -- ---- what a command leaves
 
--- Where there is no status, a failed write is answered, which counts, and only that.
-abbrev pub Fails : Taken → Taken → CommandFault → Type 0
-Fails old new (Words e) = ⊥
-Fails old new (Engine Read) = ⊥
-Fails old new (Engine Write) = new.failures ≡ old.failures + 1
-Fails old new (Engine OutOfMemory) = new.failures ≡ old.failures
-Fails old new OtherProgram = new.failures ≡ old.failures
-
--- Such a status is answered, and such a text is written whole.
-abbrev pub Does : {S : Type 0} → (ℕ → List ℕ → Type 0) → (S → Taken) → S → S → Result ℕ CommandFault → Type 0
-Does says state old new (Ok status) = (text : List ℕ) × says status text × Wrote (state old) (state new) text
-Does says state old new (Err e) = Fails (state old) (state new) e
-
--- The same with the bytes of a source. Where they can't be read nothing is written.
+-- This is said of the bytes of a source. Where they can't be read nothing is written.
 abbrev pub SaysOf : Given → Command → ℕ → List ℕ → Type 0
 SaysOf source command status text = OfBytes source.remaining (λ bytes. Says command bytes status text)
 
@@ -169,3 +151,9 @@ ReadsOnce old new (Err OtherProgram) = CountsReads {X = ℕ} old new (Ok 3)
 abbrev pub ReadsAsAsked : Command → Given → Given → Result ℕ CommandFault → Type 0
 ReadsAsAsked (Show text) old new r = Unit {0}
 ReadsAsAsked command old new r = ReadsOnce old new r
+
+-- ---- of a file
+
+-- A command answers what it says of the bytes of one file.
+abbrev pub AsksFile : (List ℕ → Result (List ℕ) Unread → Type 0) → Command → List ℕ → Said → Type 0
+AsksFile gives command name = SaysFile gives (λ bytes said. Says command bytes said.status said.text × (said.told ≡ [])) name

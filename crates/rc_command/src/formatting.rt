@@ -1,11 +1,12 @@
 //! A text is printed with its lines indented.
 
-ghost use Rattle.rc_command.specs.Answers.{Does, SaysLaidOut};
+ghost use Rattle.rc_files.specs.Answers.{Does};
+ghost use Rattle.rc_command.specs.Answers.{SaysLaidOut};
 ghost use Rattle.rc_report.specs.Streams.{CanWrite};
 
-use crate::fault::CommandFault;
-use crate::output::write_answer;
 use rc_editor::format::format;
+use rc_files::fault::CommandFault;
+use rc_files::output::write_answer;
 use rc_report::status::GOOD_STATUS;
 use rc_report::streams::Sink;
 use std::alloc::Global;

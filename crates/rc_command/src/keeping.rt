@@ -1,11 +1,12 @@
 //! A text is printed with the items that its loops can keep.
 
-ghost use Rattle.rc_command.specs.Answers.{Does, SaysKept};
+ghost use Rattle.rc_files.specs.Answers.{Does};
+ghost use Rattle.rc_command.specs.Answers.{SaysKept};
 ghost use Rattle.rc_report.specs.Streams.{CanWrite};
 
-use crate::fault::CommandFault;
-use crate::output::write_answer;
 use crate::running::tell_verdict;
+use rc_files::fault::CommandFault;
+use rc_files::output::write_answer;
 use rc_keeps::engine::{UnreadLine, kept_text};
 use rc_report::status::GOOD_STATUS;
 use rc_report::streams::Sink;

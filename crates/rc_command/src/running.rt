@@ -2,17 +2,19 @@
 
 ghost use Rattle.std.specs.Prelude.{◌≡◌, IfErr, IfOk};
 ghost use Rattle.std.specs.Arc.{arc_value};
-ghost use Rattle.rc_command.specs.Answers.{Does, EndsRun, SaysAdmitted, SaysRun};
-ghost use Rattle.rc_command.specs.declared.fault.CommandFault.TheVariants.{OtherProgram};
-ghost use Rattle.rc_report.specs.Statuses.{status_of_verdict};
+ghost use Rattle.rc_command.specs.Answers.{EndsRun, SaysAdmitted, SaysRun};
+ghost use Rattle.rc_files.specs.declared.fault.CommandFault.TheVariants.{OtherProgram};
+ghost use Rattle.rc_files.specs.Answers.{Does};
+ghost use Rattle.rc_report.specs.Statuses.{status_of_end, status_of_verdict};
 ghost use Rattle.rc_report.specs.Streams.{CanWrite};
 ghost use Rattle.rc_report.specs.Verdicts.{verdict_text};
 
-use crate::fault::CommandFault;
-use crate::output::write_answer;
 use rc_admit::admitted::Admitted;
 use rc_device::chooser::Seeded;
 use rc_device::disk::Disk;
+use rc_files::fault::CommandFault;
+use rc_files::output::write_answer;
+use rc_lang::program::Program;
 use rc_report::check_engine::judged;
 use rc_report::source::Lines;
 use rc_report::streams::Sink;
@@ -22,15 +24,22 @@ use rc_report::verdict::{Verdict, put_verdict};
 use rc_run::gate::OpenGate;
 use rc_run::report::{RunFault, RunReport};
 use rc_run::runner::run;
+use rc_world::event::Event;
 use std::alloc::{AllocError, Global};
 use std::sync::{Arc, Wait};
 use std::thread::Threads;
 
+/// What a command runs on: threads, and memory.
+#[derive(Drop)]
+pub struct Host<'a, R> {
+    pub rt: &'a R,
+    pub alloc: Global,
+}
+
 /// Runs the program of a text, over files in memory, with the choices of a seed. A text that can't be read or is refused
 /// is answered with its verdict.
 pub fn run_text<R: Threads + Wait + Sync, S: Sink>(
-    rt: &R,
-    alloc: Global,
+    host: &Host<'_, R>,
     text: &[u8],
     seed: u32,
     limit: u32,
@@ -38,12 +47,12 @@ pub fn run_text<R: Threads + Wait + Sync, S: Sink>(
     sink: &mut S,
 ) -> Result<u8, CommandFault>
     requires { CanWrite (S.state sink.old) }
-    ensures { Does (SaysAdmitted text.now (λ program. SaysRun text.now program limit summary))
+    ensures { Does (SaysAdmitted text.now (λ program. SaysRun program limit summary))
         S.state sink.old sink.new result }
 {
-    match judged(alloc, text)? {
-        Ok(admitted) => run_admitted(rt, alloc, text, admitted, seed, limit, summary, sink),
-        Err(verdict) => tell_verdict(alloc, verdict, sink),
+    match judged(host.alloc, text)? {
+        Ok(admitted) => run_admitted(host, text, admitted, seed, limit, summary, sink),
+        Err(verdict) => tell_verdict(host.alloc, verdict, sink),
     }
 }
 
@@ -63,8 +72,7 @@ pub fn tell_verdict<S: Sink>(
 
 /// Runs the admitted program of a text, and writes the trace or the summary.
 fn run_admitted<R: Threads + Wait + Sync, S: Sink>(
-    rt: &R,
-    alloc: Global,
+    host: &Host<'_, R>,
     text: &[u8],
     admitted: Admitted,
     seed: u32,
@@ -73,21 +81,36 @@ fn run_admitted<R: Threads + Wait + Sync, S: Sink>(
     sink: &mut S,
 ) -> Result<u8, CommandFault>
     requires { CanWrite (S.state sink.old) }
-    ensures { Does (SaysRun text.now admitted limit summary) S.state sink.old sink.new result }
+    ensures { Does (SaysRun admitted limit summary) S.state sink.old sink.new result }
 {
-    let disk = Disk::new(alloc, admitted.program())?;
-    let admitted = Arc::new(alloc, admitted).map_err(|_| AllocError)?;
+    let disk = Disk::new(host.alloc, admitted.program())?;
+    let admitted = Arc::new(host.alloc, admitted).map_err(|_| AllocError)?;
     let theirs = Arc::try_clone(&admitted)?;
-    let (report, end) = played(rt, alloc, theirs, disk, seed, limit)?;
+    let (report, end) = played(host.rt, host.alloc, theirs, disk, seed, limit)?;
     if summary {
-        let mut answer = Vec::new(alloc);
-        let lines = Lines::of(alloc, text)?;
         let program = admitted.program();
-        put_summary(&mut answer, alloc, &lines, program, &report.history, end)?;
-        return write_answer(sink, &answer, end.status());
+        return write_summary(host.alloc, text, program, &report.history, end, sink);
     }
     trace_text(admitted.program(), &report.history, end, sink)?;
     Ok(end.status())
+}
+
+/// Writes the summary of a run that ended so, and answers its status.
+fn write_summary<S: Sink>(
+    alloc: Global,
+    text: &[u8],
+    program: &Program,
+    history: &[Event],
+    end: End,
+    sink: &mut S,
+) -> Result<u8, CommandFault>
+    requires { CanWrite (S.state sink.old) }
+    ensures { Does (λ status text. status ≡ status_of_end end) S.state sink.old sink.new result }
+{
+    let lines = Lines::of(alloc, text)?;
+    let mut answer = Vec::new(alloc);
+    put_summary(&mut answer, alloc, &lines, program, history, end)?;
+    write_answer(sink, &answer, end.status())
 }
 
 /// What a run did, and how it ended.

@@ -1,8 +1,10 @@
 //! Logs, held to a program from their first line to their last, and what is told of them.
 #![tactic(auto)]
 
+pub mod answers;
 pub mod ending;
 pub mod following;
+pub mod logs;
 mod object;
 mod places_text;
 pub mod told;

@@ -1,3 +1,4 @@
+pub mod Checking
 pub mod Explains
 pub mod Judged
 pub mod Members

@@ -9,22 +9,12 @@ use crate::explanation::explanation;
 use crate::judged::verdict_of;
 use crate::object::object_text;
 use rc_admit::admitted::{Judged, judge};
+use rc_arguments::command::Form;
 use rc_report::file_verdict::put_file_verdict;
 use rc_report::shown::put_shown;
 use rc_report::text::put_piece;
 use rc_report::verdict::{Verdict, put_verdict};
 use std::alloc::{AllocError, Global};
-
-/// How a verdict is explained.
-#[derive(Clone, Copy)]
-pub enum Form {
-    /// In words.
-    Words,
-    /// In words, and then what is known before each line.
-    Listing,
-    /// As a JSON object.
-    Json,
-}
 
 /// Adds the verdict on the text of a program, with what explains it. If the text is that of a file, its name is told, too.
 /// In words the line of the verdict comes first, as it does without an explanation. Answers an error only where memory ran

@@ -2,6 +2,7 @@
 //! can't be read.
 #![tactic(auto)]
 
+pub mod checking;
 pub mod engine;
 mod explanation;
 mod judged;

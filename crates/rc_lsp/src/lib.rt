@@ -14,5 +14,6 @@ mod outline;
 mod places;
 mod replies;
 pub mod server;
+pub mod serving;
 pub mod stream;
 mod texts;

@@ -1,0 +1,15 @@
+use Rattle.std.proofs.Common.{sym, subst}
+use Rattle.rc_arguments.specs.declared.command.Command.{Command}
+use Rattle.rc_command.specs.Answers.{Says}
+use Rattle.rc_files.specs.Answers.{Does}
+use Rattle.rc_command.proofs.performing.performed.Goals as goal
+
+pub returns-in-Keeps : goal.returns-in-Keeps
+returns-in-Keeps g c =
+    subst (λ (command : Command). Does (Says command c.args.text.now) g.S.Sink.state c.args.sink.now c.keep_text.new.sink c.keep_text.result) (sym c.in-Keeps.is)
+    c.keep_text.ensures
+
+pub returns-in-Run : goal.returns-in-Run
+returns-in-Run g c =
+    subst (λ (command : Command). Does (Says command c.args.text.now) g.S.Sink.state c.args.sink.now c.run_text.new.sink c.run_text.result) (sym c.in-Run.is)
+    c.run_text.ensures

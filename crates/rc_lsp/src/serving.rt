@@ -1,0 +1,44 @@
+//! An editor is answered.
+
+ghost use Rattle.std.specs.Prelude.{◌≡◌, ◌≤◌, IfOk};
+
+use crate::stream::{Ended, serve};
+use rc_report::engine_fault::EngineFault;
+use rc_report::status::{FAULT_STATUS, GOOD_STATUS};
+use rc_report::streams::{ReadSource, Sink, WriteSink};
+use rc_report::writing::write_piece;
+use std::alloc::Global;
+use std::io::{Read, Write};
+
+/// Answers the messages of an editor, and then the exit status: 0 where a shutdown came before the end, else 1. What ends
+/// the server besides is told on a line of `errors`.
+pub fn serve_editor<I: Read + Drop, O: Write + Drop, E: Sink>(
+    alloc: Global,
+    reader: I,
+    writer: O,
+    errors: &mut E,
+) -> Result<u8, EngineFault>
+    requires { (E.state errors.old).failures ≡ 0 }
+    ensures { IfOk result (λ status. status ≤ 3) }
+{
+    let mut source = ReadSource::new(reader);
+    let mut sink = WriteSink::new(writer);
+    let ended = serve(alloc, &mut source, &mut sink)?;
+    Ok(status_of(ended, errors))
+}
+
+/// The exit status of a server that ended so. What was wrong with its input is told.
+fn status_of<E: Sink>(ended: Ended, errors: &mut E) -> u8
+    requires { (E.state errors.old).failures ≡ 0 }
+    ensures { result ≤ 3 }
+{
+    let told: &[u8] = match ended {
+        Ended::Done { is_clean: true } => return GOOD_STATUS,
+        Ended::Done { is_clean: false } => return FAULT_STATUS,
+        Ended::NoHead => b"ringcheck: no Content-Length where a message should begin\n",
+        Ended::TooLarge => b"ringcheck: a message has more than 16777216 bytes\n",
+        Ended::Cut => b"ringcheck: the input ends within a message\n",
+    };
+    let _ = write_piece(errors, told);
+    FAULT_STATUS
+}
