@@ -22,6 +22,7 @@ ERROR = re.compile(r"^(?:\./)?(\S+?):\d+:\d+: error: (?:(`[^`]*`): )?(.*)$", re.
 UNREAD = re.compile(r"is not in scope|has no field|is no name|operand is missing|expected the end|cannot continue")
 # The same of a proof that names what an edit took away, or that rests on one that isn't there.
 RESTS = re.compile(r"is not in scope|has no field|has no `|was not admitted")
+PROVED = re.compile(r"proved(?:, may \w+)*$")
 # The parts of the reason why there is no proof.
 OPEN = re.compile(r"`search` did not prove `")
 CALLS = re.compile(r"it calls (.+), which (?:is|are) not proved$")
@@ -44,7 +45,7 @@ class Verdict:
 def verdict_of(name, words, errors):
     """What the words say of a function, with the errors in the files of its own proof: without one, a proof that is
     refused only rests on something else that is."""
-    if words == "proved":
+    if PROVED.match(words):
         return Verdict(True, False, set())
     first, *rest = words.removeprefix("no proof: ").split("; ")
     found = Verdict(False, first == "not proved" and bool(errors), set())
