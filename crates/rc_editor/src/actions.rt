@@ -1,7 +1,7 @@
 //! Changes of a text that are offered.
 
 use crate::mends::push_mends;
-use crate::place::{Edit, Range, line_at, lines_of, range_in};
+use crate::place::{Edit, Range, edits_to, line_at, lines_of, push_edit};
 use crate::words::Words;
 use rc_keeps::engine::kept_text;
 use rc_read::words::is;
@@ -31,21 +31,10 @@ fn is_loop(alloc: Global, line: &[u8]) -> Result<bool, AllocError> {
 
 /// The lines of loops that other items could be in.
 pub fn fills_of(alloc: Global, text: &[u8]) -> Result<Vec<Edit>, AllocError> {
-    let mut edits = Vec::new(alloc);
-    let Ok(kept) = kept_text(alloc, text)? else {
-        return Ok(edits);
-    };
-    let news = lines_of(alloc, &kept)?;
-    for (number, line) in lines_of(alloc, text)?.iter().enumerate() {
-        let new = line_at(&news, number);
-        if *line != new {
-            edits.push(Edit {
-                range: range_in(line, number, 0, line.len()),
-                text: Vec::from_slice(alloc, new)?,
-            })?;
-        }
+    match kept_text(alloc, text)? {
+        Ok(kept) => edits_to(alloc, text, &kept),
+        Err(_) => Ok(Vec::new(alloc)),
     }
-    Ok(edits)
 }
 
 /// Adds the filling of each loop in a range, and of all loops.
@@ -63,12 +52,7 @@ fn push_fills(
     let fills = fills_of(alloc, text)?;
     for fill in &fills {
         if fill.range.start.line == range.start.line {
-            let mut edits = Vec::new(alloc);
-            edits.push(Edit {
-                range: fill.range,
-                text: fill.text.clone()?,
-            })?;
-            push_action(alloc, actions, b"Fill in this loop's list", edits, false)?;
+            push_fill(alloc, actions, fill)?;
         }
     }
     if fills.len() > 1 {
@@ -81,6 +65,13 @@ fn push_fills(
         )?;
     }
     Ok(())
+}
+
+/// Adds the filling of one loop.
+fn push_fill(alloc: Global, actions: &mut Vec<Action>, fill: &Edit) -> Result<(), AllocError> {
+    let mut edits = Vec::new(alloc);
+    push_edit(alloc, &mut edits, fill.range, &fill.text)?;
+    push_action(alloc, actions, b"Fill in this loop's list", edits, false)
 }
 
 /// Adds a change.

@@ -10,7 +10,7 @@ use rc_hints::fitting::{forms_of, reach_of};
 use rc_read::fixed::text_of;
 use rc_read::table::{Part, Row};
 use rc_read::words::is;
-use rc_report::text::{put_piece, put_pieces};
+use rc_report::text::put_pieces;
 use std::alloc::{AllocError, Global};
 
 /// What a choice is.
@@ -131,7 +131,7 @@ impl Choices<'_> {
 
     /// The form of a block.
     fn row_of(&self, block: Option<usize>) -> Option<Row> {
-        self.page.blocks.get(block?)?.row
+        self.page.block_at(block)?.row
     }
 
     /// Adds what a form goes on with after so many words.
@@ -163,16 +163,37 @@ impl Choices<'_> {
 
     /// Adds a choice, unless it is there.
     fn push(&mut self, word: &[u8], detail: &[u8], kind: CompletionKind) -> Result<(), AllocError> {
+        if self.has(word) {
+            return Ok(());
+        }
+        let label = Vec::from_slice(self.alloc, word)?;
+        let insert = Vec::from_slice(self.alloc, word)?;
+        self.push_choice(label, insert, detail, kind)
+    }
+
+    /// Whether a choice is there.
+    fn has(&self, word: &[u8]) -> bool {
         for other in &self.list {
             if is(&other.label, word) {
-                return Ok(());
+                return true;
             }
         }
-        let alloc = self.alloc;
+        false
+    }
+
+    /// Adds a choice that isn't there.
+    fn push_choice(
+        &mut self,
+        label: Vec<u8>,
+        insert: Vec<u8>,
+        detail: &[u8],
+        kind: CompletionKind,
+    ) -> Result<(), AllocError> {
+        let detail = Vec::from_slice(self.alloc, detail)?;
         self.list.push(Completion {
-            label: Vec::from_slice(alloc, word)?,
-            insert: Vec::from_slice(alloc, word)?,
-            detail: Vec::from_slice(alloc, detail)?,
+            label,
+            insert,
+            detail,
             kind,
             range: self.range,
         })?;
@@ -184,14 +205,13 @@ impl Choices<'_> {
         let alloc = self.alloc;
         let mut label = Vec::new(alloc);
         put_form(&mut label, row)?;
-        self.list.push(Completion {
+        let insert = beginning_of(alloc, row)?;
+        self.push_choice(
             label,
-            insert: beginning_of(alloc, row)?,
-            detail: Vec::from_slice(alloc, meaning_of(row).as_bytes())?,
-            kind: CompletionKind::Form,
-            range: self.range,
-        })?;
-        Ok(())
+            insert,
+            meaning_of(row).as_bytes(),
+            CompletionKind::Form,
+        )
     }
 
     /// Adds the comparisons.
@@ -217,15 +237,21 @@ impl Choices<'_> {
         let mut names = Vec::new(alloc);
         for mark in &self.page.marks {
             if mark.kind == kind && self.is_known(mark) {
-                let mut detail = Vec::new(alloc);
-                if mark.declares {
-                    let words = Words::of(alloc, self.page.line(mark.line))?;
-                    put_rest(&mut detail, &words)?;
-                }
-                names.push((Vec::from_slice(alloc, mark.name.text)?, detail))?;
+                names.push(self.name_of(mark)?)?;
             }
         }
         Ok(names)
+    }
+
+    /// A name, with the rest of the line if that declares it.
+    fn name_of(&self, mark: &Mark) -> Result<(Vec<u8>, Vec<u8>), AllocError> {
+        let name = Vec::from_slice(self.alloc, mark.name.text)?;
+        let mut detail = Vec::new(self.alloc);
+        if mark.declares {
+            let words = Words::of(self.alloc, self.page.line(mark.line))?;
+            put_rest(&mut detail, &words)?;
+        }
+        Ok((name, detail))
     }
 
     /// Adds the names of a kind that could be on the line.
@@ -238,19 +264,20 @@ impl Choices<'_> {
 
     /// Adds the items: all shares of each buffer, each token, and a credit.
     fn push_items(&mut self) -> Result<(), AllocError> {
-        let alloc = self.alloc;
         for (name, detail) in &self.names(Kind::Buffer)? {
-            let mut item = name.clone()?;
-            put_piece(&mut item, b":")?;
-            put_piece(&mut item, last_word(detail))?;
-            self.push(&item, detail, CompletionKind::Name)?;
+            self.push_item(&[name, b":", last_word(detail)], detail)?;
         }
         for (name, detail) in &self.names(Kind::Token)? {
-            let mut item = Vec::new(alloc);
-            put_pieces(&mut item, &[b"t:", name])?;
-            self.push(&item, detail, CompletionKind::Name)?;
+            self.push_item(&[b"t:", name], detail)?;
         }
         self.push(b"c:1", b"a credit", CompletionKind::Form)
+    }
+
+    /// Adds an item that these pieces make.
+    fn push_item(&mut self, pieces: &[&[u8]], detail: &[u8]) -> Result<(), AllocError> {
+        let mut item = Vec::new(self.alloc);
+        put_pieces(&mut item, pieces)?;
+        self.push(&item, detail, CompletionKind::Name)
     }
 }
 

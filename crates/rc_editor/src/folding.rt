@@ -2,7 +2,7 @@
 
 use crate::page::Page;
 use crate::place::number_of;
-use crate::words::Words;
+use crate::words::has_words;
 use std::alloc::{AllocError, Global};
 
 /// The first and the last of such lines, from 0, and whether they are comments.
@@ -22,7 +22,7 @@ pub fn folding(alloc: Global, text: &[u8]) -> Result<Vec<Fold>, AllocError> {
             push_fold(&mut folds, block.line, end.saturating_sub(1), false)?;
         }
     }
-    push_comments(alloc, &mut folds, &page)?;
+    push_comments(&mut folds, &page)?;
     Ok(folds)
 }
 
@@ -44,16 +44,15 @@ fn push_fold(
 }
 
 /// Whether a line has a comment alone.
-fn is_comment(alloc: Global, line: &[u8]) -> Result<bool, AllocError> {
-    let words = Words::of(alloc, line)?;
-    Ok(words.count() == 0 && line.contains(&b'#'))
+fn is_comment(line: &[u8]) -> bool {
+    !has_words(line) && line.contains(&b'#')
 }
 
 /// Adds the comments of several lines.
-fn push_comments(alloc: Global, folds: &mut Vec<Fold>, page: &Page) -> Result<(), AllocError> {
+fn push_comments(folds: &mut Vec<Fold>, page: &Page) -> Result<(), AllocError> {
     let mut first = None;
     for (number, line) in page.lines.iter().enumerate() {
-        match (is_comment(alloc, line)?, first) {
+        match (is_comment(line), first) {
             (true, None) => first = Some(number),
             (true, Some(_)) | (false, None) => {}
             (false, Some(start)) => {

@@ -7,7 +7,7 @@ ghost use Rattle.rc_keeps.specs.Keeps.{has_byte};
 ghost use Rattle.rc_read.specs.Words as words;
 ghost use Rattle.rc_report.specs.Text.{PutsSome};
 
-use crate::place::{Edit, line_at, lines_of, range_in};
+use crate::place::{Edit, edits_to};
 use crate::words::Words;
 use rc_report::text::put_piece;
 use std::alloc::{AllocError, Global};
@@ -144,16 +144,5 @@ fn is_blank(b: u8) -> bool
 /// The lines that the layout changes.
 pub fn edits(alloc: Global, text: &[u8]) -> Result<Vec<Edit>, AllocError> {
     let laid = format(alloc, text)?;
-    let news = lines_of(alloc, &laid)?;
-    let mut edits = Vec::new(alloc);
-    for (number, line) in lines_of(alloc, text)?.iter().enumerate() {
-        let new = line_at(&news, number);
-        if *line != new {
-            edits.push(Edit {
-                range: range_in(line, number, 0, line.len()),
-                text: Vec::from_slice(alloc, new)?,
-            })?;
-        }
-    }
-    Ok(edits)
+    edits_to(alloc, text, &laid)
 }

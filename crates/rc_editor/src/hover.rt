@@ -108,16 +108,36 @@ fn put_mark(
     mark: &Mark,
 ) -> Result<(), AllocError> {
     if mark.kind == Kind::Variable {
-        let header = Words::of(alloc, page.line(mark.scope))?;
-        let (name, thread) = (mark.name.text, header.text(1));
-        return put_pieces(shown, &[b"variable ", name, b" of thread ", thread]);
+        return put_variable(alloc, shown, page, mark);
     }
-    let Some(declared) = declaration_of(page, mark) else {
-        return put_pieces(shown, &[mark.name.text, b" isn't declared"]);
-    };
+    match declaration_of(page, mark) {
+        Some(declared) => put_declared(alloc, shown, page, &declared),
+        None => put_pieces(shown, &[mark.name.text, b" isn't declared"]),
+    }
+}
+
+/// Adds whose variable a name is.
+fn put_variable(
+    alloc: Global,
+    shown: &mut Vec<u8>,
+    page: &Page,
+    mark: &Mark,
+) -> Result<(), AllocError> {
+    let header = Words::of(alloc, page.line(mark.scope))?;
+    let (name, thread) = (mark.name.text, header.text(1));
+    put_pieces(shown, &[b"variable ", name, b" of thread ", thread])
+}
+
+/// Adds what a line declares.
+fn put_declared(
+    alloc: Global,
+    shown: &mut Vec<u8>,
+    page: &Page,
+    declared: &Mark,
+) -> Result<(), AllocError> {
     let words = Words::of(alloc, page.line(declared.line))?;
     put_pieces(shown, &[words.text(0), b" ", words.text(1)])?;
-    match mark.kind {
+    match declared.kind {
         Kind::File => put_pieces(shown, &[b": ", words.text(2), b" bytes"]),
         Kind::Buffer => {
             let (bytes, shares) = (words.text(2), words.text(3));

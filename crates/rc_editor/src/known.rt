@@ -7,8 +7,9 @@ use rc_lang::program::{Program, Thread};
 use rc_listing::state_text::put_state;
 use rc_read::parts::{Parts, Region, Unread};
 use rc_read::{ReadFault, read_parts, read_program};
-use rc_report::text::{put_counted, put_piece};
+use rc_report::text::{put_counted, put_piece, put_pieces};
 use rc_rules::side::Side;
+use rc_rules::state::State;
 use rc_verify::labels::Labels;
 use std::alloc::{AllocError, Global};
 
@@ -28,20 +29,16 @@ fn lines_above(text: &[u8], number: u32) -> &[u8] {
 
 /// Adds a line after these blanks.
 pub fn put_line(text: &mut Vec<u8>, indent: &[u8], line: &[u8]) -> Result<(), AllocError> {
-    put_piece(text, indent)?;
-    put_piece(text, line)?;
-    put_piece(text, b"\n")
+    put_pieces(text, &[indent, line, b"\n"])
 }
 
 /// Adds the arms that the open peek lacks, after these blanks.
 pub fn put_arms(text: &mut Vec<u8>, above: &Parts, indent: &[u8]) -> Result<(), AllocError> {
     if !above.draft.arms.other {
-        put_line(text, indent, b"other {")?;
-        put_line(text, indent, b"}")?;
+        put_pieces(text, &[indent, b"other {\n", indent, b"}\n"])?;
     }
     if !above.draft.arms.none {
-        put_line(text, indent, b"none {")?;
-        put_line(text, indent, b"}")?;
+        put_pieces(text, &[indent, b"none {\n", indent, b"}\n"])?;
     }
     Ok(())
 }
@@ -49,15 +46,20 @@ pub fn put_arms(text: &mut Vec<u8>, above: &Parts, indent: &[u8]) -> Result<(), 
 /// Adds lines that end the blocks that are open.
 pub fn put_ends(text: &mut Vec<u8>, above: &Parts) -> Result<(), AllocError> {
     for block in above.draft.blocks.iter().rev() {
-        if let Block::InPeek(_) = block {
-            put_arms(text, above, b"")?;
-        }
-        put_line(text, b"", b"}")?;
+        put_end(text, above, *block)?;
     }
     if let Region::InThread = above.region {
         put_line(text, b"", b"}")?;
     }
     Ok(())
+}
+
+/// Adds lines that end a block.
+fn put_end(text: &mut Vec<u8>, above: &Parts, block: Block) -> Result<(), AllocError> {
+    if let Block::InPeek(_) = block {
+        put_arms(text, above, b"")?;
+    }
+    put_line(text, b"", b"}")
 }
 
 /// The program of the lines that can be read of a text, with ends for the blocks that are open after them.
@@ -125,22 +127,36 @@ fn put_before(
     requires { thread < length program.now.threads }
 {
     let mut labels = Labels::new(program, thread);
+    match refused_before(&mut labels, number) {
+        Some(line) => {
+            let after = b" is refused, so nothing is known here";
+            put_counted(text, b"\nline ", u64::from(line), after)
+        }
+        None => put_sides(text, program, labels.thread(), labels.state()),
+    }
+}
+
+/// Goes on to the line with this number, and answers the number of the line above it that is refused, if one is.
+fn refused_before(labels: &mut Labels<'_>, number: u32) -> Option<u32> {
     let part = labels.thread();
     for line in &part.lines {
         if line.number >= number {
-            break;
+            return None;
         }
         if labels.next().is_err() {
-            let refused = u64::from(line.number);
-            return put_counted(
-                text,
-                b"\nline ",
-                refused,
-                b" is refused, so nothing is known here",
-            );
+            return Some(line.number);
         }
     }
-    let state = labels.state();
+    None
+}
+
+/// Adds what is known on each side of the flag.
+fn put_sides(
+    text: &mut Vec<u8>,
+    program: &Program,
+    part: &Thread,
+    state: &State<'_>,
+) -> Result<(), AllocError> {
     let (zero, other) = (state.on(true), state.on(false));
     if !zero.is_live() && !other.is_live() {
         return put_piece(text, b"\nnothing reaches this line");
@@ -160,10 +176,7 @@ fn put_side(
     if !side.is_live() {
         return Ok(());
     }
-    put_piece(text, b"\nbefore this line")?;
-    if part.flag().is_some() {
-        put_piece(text, flag)?;
-    }
-    put_piece(text, b": ")?;
+    let flag: &[u8] = if part.flag().is_some() { flag } else { b"" };
+    put_pieces(text, &[b"\nbefore this line", flag, b": "])?;
     put_state(text, program, side)
 }

@@ -9,7 +9,7 @@ use rc_read::words::is;
 use std::alloc::{AllocError, Global};
 
 /// What a name is the name of. Files and tokens are named by numbers.
-#[derive(Clone, Copy, PartialEq, Eq, Debug)]
+#[derive(Clone, Copy, PartialEq, Eq)]
 pub enum Kind {
     File,
     Buffer,
@@ -212,17 +212,28 @@ pub fn push_marks<'a>(
         if at >= fit.words {
             return Ok(());
         }
-        if matches!(part, Part::Items) {
-            let count = items_in_front(spot.version, words.from(at));
-            for place in at..at.saturating_add(count) {
-                push_item(marks, spot, words.word(place))?;
-            }
-            at = at.saturating_add(count);
-            continue;
-        }
-        push_part(marks, spot, *part, words.word(at), gives)?;
+        at = push_at(marks, spot, words, *part, at, gives)?;
         gives = gives && !matches!(part, Part::Variable);
-        at = at.saturating_add(1);
     }
     Ok(())
+}
+
+/// Adds the names that are in the place of a part, from this word on. Answers the word after them.
+fn push_at<'a>(
+    marks: &mut Vec<Mark<'a>>,
+    spot: Spot,
+    words: &Words<'a>,
+    part: Part,
+    at: usize,
+    gives: bool,
+) -> Result<usize, AllocError> {
+    if !matches!(part, Part::Items) {
+        push_part(marks, spot, part, words.word(at), gives)?;
+        return Ok(at.saturating_add(1));
+    }
+    let end = at.saturating_add(items_in_front(spot.version, words.from(at)));
+    for place in at..end {
+        push_item(marks, spot, words.word(place))?;
+    }
+    Ok(end)
 }

@@ -7,7 +7,7 @@ use crate::actions::{Action, push_action};
 use crate::known::put_line;
 use crate::page::Page;
 use crate::place::{Edit, Position, Range, edited, number_of, up_to};
-use crate::words::Words;
+use crate::words::{Words, ends_block};
 use rc_admit::admitted::{Judged, judge};
 use std::alloc::{AllocError, Global};
 
@@ -78,23 +78,39 @@ pub fn push_mends(
     range: Range,
 ) -> Result<(), AllocError> {
     let judged = judge(alloc, text)?;
-    let number = match &judged {
-        Judged::Admitted(_) => return Ok(()),
-        Judged::Refused(_, refusal) => refusal.line,
-        Judged::Unread { line, .. } => *line,
-    };
-    let line = number.saturating_sub(1);
-    if line < range.start.line || line > range.end.line {
-        return Ok(());
+    match line_at_fault(&judged) {
+        Some(line) if range.start.line <= line && line <= range.end.line => {
+            push_mends_of(alloc, actions, text, &judged, line)
+        }
+        _ => Ok(()),
     }
+}
+
+/// The line at fault, from 0.
+fn line_at_fault(judged: &Judged) -> Option<u32> {
+    match judged {
+        Judged::Admitted(_) => None,
+        Judged::Refused(_, refusal) => Some(refusal.line.saturating_sub(1)),
+        Judged::Unread { line, .. } => Some(line.saturating_sub(1)),
+    }
+}
+
+/// Adds the changes with which this line isn't at fault any more.
+fn push_mends_of(
+    alloc: Global,
+    actions: &mut Vec<Action>,
+    text: &[u8],
+    judged: &Judged,
+    line: u32,
+) -> Result<(), AllocError> {
     let sheet = Sheet {
         alloc,
         text,
         page: Page::of(alloc, text)?,
         line: line as usize,
-        standing: Standing::of(&judged, text),
+        standing: Standing::of(judged, text),
     };
-    match &judged {
+    match judged {
         Judged::Unread { cause, above, .. } => reading::push(actions, &sheet, *cause, above),
         Judged::Refused(_, refusal) => ruling::push(actions, &sheet, refusal.cause),
         Judged::Admitted(_) => Ok(()),
@@ -109,13 +125,18 @@ impl Sheet<'_> {
         title: &[u8],
         edits: Vec<Edit>,
     ) -> Result<bool, AllocError> {
-        let text = edited(self.alloc, self.text, &edits)?;
-        let judged = judge(self.alloc, &text)?;
-        let is_better = Standing::of(&judged, &text).is_above(self.standing);
+        let is_better = self.is_better_with(&edits)?;
         if is_better {
             push_action(self.alloc, actions, title, edits, true)?;
         }
         Ok(is_better)
+    }
+
+    /// Whether the text is better with these edits.
+    fn is_better_with(&self, edits: &[Edit]) -> Result<bool, AllocError> {
+        let text = edited(self.alloc, self.text, edits)?;
+        let standing = standing_of(self.alloc, &text)?;
+        Ok(standing.is_above(self.standing))
     }
 
     /// Adds a change of one edit, if the text is better with it.
@@ -135,6 +156,11 @@ impl Sheet<'_> {
         Words::of(self.alloc, self.page.line(line))
     }
 
+    /// Whether a line ends a block.
+    fn ends_block(&self, line: usize) -> bool {
+        ends_block(self.page.line(line))
+    }
+
     /// The blanks before the words of a line.
     fn indent(&self, line: usize) -> Result<&[u8], AllocError> {
         let start = self.words(line)?.word(0).start;
@@ -143,7 +169,7 @@ impl Sheet<'_> {
 
     /// The blanks before a statement that is added above a line: before a closing brace as the line above it has them.
     fn indent_above(&self, line: usize) -> Result<&[u8], AllocError> {
-        if self.words(line)?.closes() {
+        if self.ends_block(line) {
             return self.indent(line.saturating_sub(1));
         }
         self.indent(line)
@@ -156,11 +182,15 @@ impl Sheet<'_> {
         for added in texts {
             put_line(&mut text, indent, added)?;
         }
-        Ok(Edit {
-            range: before(line),
-            text,
-        })
+        let range = before(line);
+        Ok(Edit { range, text })
     }
+}
+
+/// The standing of a text.
+fn standing_of(alloc: Global, text: &[u8]) -> Result<Standing, AllocError> {
+    let judged = judge(alloc, text)?;
+    Ok(Standing::of(&judged, text))
 }
 
 /// The place before a line.

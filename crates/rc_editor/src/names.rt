@@ -98,17 +98,20 @@ pub fn words_range(alloc: Global, page: &Page, line: usize) -> Result<Range, All
 /// line that opens the block.
 pub fn definition(alloc: Global, text: &[u8], at: Position) -> Result<Option<Range>, AllocError> {
     let page = Page::of(alloc, text)?;
-    if let Some(mark) = mark_at(&page, at) {
-        let declared = declaration_of(&page, &mark);
-        return Ok(declared.map(|mark| page.range(mark.line, &mark.name)));
+    if let Some(name) = mark_at(&page, at) {
+        return Ok(declared_range(&page, &name));
     }
-    let Some(place) = block_of(alloc, &page, at)? else {
-        return Ok(None);
-    };
-    match page.blocks.get(place) {
+    let place = block_of(alloc, &page, at)?;
+    match page.block_at(place) {
         Some(block) => Ok(Some(words_range(alloc, &page, block.line)?)),
         None => Ok(None),
     }
+}
+
+/// Where what a name is the name of is declared.
+fn declared_range(page: &Page, name: &Mark) -> Option<Range> {
+    let declared = declaration_of(page, name)?;
+    Some(page.range(declared.line, &declared.name))
 }
 
 /// Whether two names are the same word of a text.
@@ -144,37 +147,51 @@ pub fn references(
 pub fn highlights(alloc: Global, text: &[u8], at: Position) -> Result<Vec<Highlight>, AllocError> {
     let page = Page::of(alloc, text)?;
     let mut shown = Vec::new(alloc);
-    if let Some(name) = mark_at(&page, at) {
-        for mark in &page.marks {
-            if mark.is_same(&name) {
-                shown.push(Highlight {
-                    range: page.range(mark.line, &mark.name),
-                    writes: mark.writes,
-                })?;
-            }
-        }
-        return Ok(shown);
-    }
-    let place = block_of(alloc, &page, at)?;
-    if let Some(block) = place.and_then(|place| page.blocks.get(place)) {
-        push_brace(&mut shown, &page, block.line, &block.brace)?;
-        if let Some((line, brace)) = block.close {
-            push_brace(&mut shown, &page, line, &brace)?;
+    match mark_at(&page, at) {
+        Some(name) => push_same(&mut shown, &page, &name)?,
+        None => {
+            let place = block_of(alloc, &page, at)?;
+            push_braces(&mut shown, &page, place)?;
         }
     }
     Ok(shown)
 }
 
-/// Adds a brace.
-fn push_brace(
+/// Adds all names of what this is the name of.
+fn push_same(shown: &mut Vec<Highlight>, page: &Page, name: &Mark) -> Result<(), AllocError> {
+    for mark in &page.marks {
+        if mark.is_same(name) {
+            push_word(shown, page, mark.line, &mark.name, mark.writes)?;
+        }
+    }
+    Ok(())
+}
+
+/// Adds the braces of the block at a place among the blocks.
+fn push_braces(
+    shown: &mut Vec<Highlight>,
+    page: &Page,
+    place: Option<usize>,
+) -> Result<(), AllocError> {
+    let Some(block) = page.block_at(place) else {
+        return Ok(());
+    };
+    push_word(shown, page, block.line, &block.brace, false)?;
+    match block.close {
+        Some((line, brace)) => push_word(shown, page, line, &brace, false),
+        None => Ok(()),
+    }
+}
+
+/// Adds a word.
+fn push_word(
     shown: &mut Vec<Highlight>,
     page: &Page,
     line: usize,
-    brace: &Word,
+    word: &Word,
+    writes: bool,
 ) -> Result<(), AllocError> {
-    shown.push(Highlight {
-        range: page.range(line, brace),
-        writes: false,
-    })?;
+    let range = page.range(line, word);
+    shown.push(Highlight { range, writes })?;
     Ok(())
 }

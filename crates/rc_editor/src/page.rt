@@ -51,6 +51,10 @@ fn start() -> Above {
     }
 }
 
+fn row_of(fit: Option<Fit>) -> Option<Row> {
+    Some(fit?.row)
+}
+
 /// The version that a form of the head says, and else the last one.
 fn version_in(fit: Option<Fit>) -> u32 {
     match fit {
@@ -75,13 +79,17 @@ impl<'a> Page<'a> {
             last: start(),
         };
         for (number, line) in lines_of(alloc, text)?.iter().enumerate() {
-            let words = Words::of(alloc, line)?;
-            page.lines.push(*line)?;
-            let last = page.last;
-            page.above.push(last)?;
-            page.look_at(alloc, number, &words)?;
+            page.add(alloc, number, line)?;
         }
         Ok(page)
+    }
+
+    /// Adds a line.
+    fn add(&mut self, alloc: Global, number: usize, line: &'a [u8]) -> Result<(), AllocError> {
+        let words = Words::of(alloc, line)?;
+        self.lines.push(line)?;
+        self.above.push(self.last)?;
+        self.look_at(alloc, number, &words)
     }
 
     /// Notes what a line says.
@@ -128,7 +136,7 @@ impl<'a> Page<'a> {
         }
         if words.opens() {
             self.blocks.push(Block {
-                row: fit.map(|fit| fit.row),
+                row: row_of(fit),
                 line: number,
                 brace: words.last(),
                 close: None,
@@ -166,6 +174,11 @@ impl<'a> Page<'a> {
     /// What is known above a line, from 0; after the last line, what is known at the end.
     pub fn above(&self, line: usize) -> Above {
         self.above.get(line).copied().unwrap_or(self.last)
+    }
+
+    /// The block at a place among the blocks.
+    pub fn block_at(&self, place: Option<usize>) -> Option<&Block<'a>> {
+        self.blocks.get(place?)
     }
 
     /// The version of the notation.

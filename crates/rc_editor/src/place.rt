@@ -1,21 +1,20 @@
 //! Places in a text, as editors count them.
 
-use crate::words::Words;
-use rc_report::text::put_piece;
+use rc_report::text::{put_piece, put_pieces};
 use std::alloc::{AllocError, Global};
 
 /// How many lines are looked at: one more than a program may have.
 const MOST_LINES: usize = 4097;
 
 /// A place in a text: its line, from 0, and how many UTF-16 units of the line are before it.
-#[derive(Clone, Copy, PartialEq, Eq, Debug)]
+#[derive(Clone, Copy)]
 pub struct Position {
     pub line: u32,
     pub character: u32,
 }
 
 /// From one place up to another, which is not in it.
-#[derive(Clone, Copy, PartialEq, Eq, Debug)]
+#[derive(Clone, Copy)]
 pub struct Range {
     pub start: Position,
     pub end: Position,
@@ -93,27 +92,27 @@ pub fn byte_at(line: &[u8], character: u32) -> usize {
     line.len()
 }
 
-/// The first line of a text and what is after its line feed, where it has one.
-pub fn first_line(text: &[u8]) -> Option<(&[u8], &[u8])> {
+/// The first line of a text, and what is after its line feed, where it has one.
+fn cut_line(text: &[u8]) -> (&[u8], Option<&[u8]>) {
     for end in 0..text.len() {
         if text[end] == b'\n' {
-            return Some((&text[..end], &text[end + 1..]));
+            return (&text[..end], Some(&text[end + 1..]));
         }
     }
-    None
+    (text, None)
 }
 
 /// The lines of a text, also the bytes after the last line feed.
 pub fn lines_of(alloc: Global, text: &[u8]) -> Result<Vec<&[u8]>, AllocError> {
     let mut lines = Vec::new(alloc);
-    let mut rest = text;
+    let mut left = Some(text);
     for _ in 0..MOST_LINES {
-        let Some((line, behind)) = first_line(rest) else {
-            lines.push(rest)?;
+        let Some(rest) = left else {
             return Ok(lines);
         };
+        let (line, behind) = cut_line(rest);
         lines.push(line)?;
-        rest = behind;
+        left = behind;
     }
     Ok(lines)
 }
@@ -150,8 +149,7 @@ pub fn edited(alloc: Global, text: &[u8], edits: &[Edit]) -> Result<Vec<u8>, All
     let mut done = 0;
     for edit in edits {
         let start = byte_in(&lines, &starts, text, edit.range.start);
-        put_piece(&mut whole, between(text, done, start))?;
-        put_piece(&mut whole, &edit.text)?;
+        put_pieces(&mut whole, &[between(text, done, start), &edit.text])?;
         done = byte_in(&lines, &starts, text, edit.range.end);
     }
     put_piece(&mut whole, after(text, done))?;
@@ -167,15 +165,32 @@ fn byte_in(lines: &[&[u8]], starts: &[usize], text: &[u8], at: Position) -> usiz
     }
 }
 
-/// The range of a line's words, without its comment, by its number from 1, as verdicts name it. Of a line without words it
-/// is the whole line, and after the last line it is empty.
-pub fn line_range(alloc: Global, text: &[u8], number: u32) -> Result<Range, AllocError> {
-    let lines = lines_of(alloc, text)?;
-    let place = (number as usize).saturating_sub(1);
-    let line = line_at(&lines, place);
-    let words = Words::of(alloc, line)?;
-    Ok(match words.count() {
-        0 => range_in(line, place, 0, line.len()),
-        _ => range_in(line, place, words.word(0).start, words.last().end()),
-    })
+/// Adds an edit that puts this text in the place of a range.
+pub fn push_edit(
+    alloc: Global,
+    edits: &mut Vec<Edit>,
+    range: Range,
+    text: &[u8],
+) -> Result<(), AllocError> {
+    let text = Vec::from_slice(alloc, text)?;
+    edits.push(Edit { range, text })?;
+    Ok(())
+}
+
+/// The edits that make another text of one, line by line. Both have the same number of lines.
+pub fn edits_to(alloc: Global, text: &[u8], other: &[u8]) -> Result<Vec<Edit>, AllocError> {
+    let (lines, news) = (lines_of(alloc, text)?, lines_of(alloc, other)?);
+    let mut edits = Vec::new(alloc);
+    for (number, line) in lines.iter().enumerate() {
+        let new = line_at(&news, number);
+        if *line != new {
+            push_edit(
+                alloc,
+                &mut edits,
+                range_in(line, number, 0, line.len()),
+                new,
+            )?;
+        }
+    }
+    Ok(edits)
 }

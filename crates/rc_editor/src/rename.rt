@@ -6,7 +6,7 @@ ghost use Rattle.rc_editor.specs.Renames.{GivesNames};
 use crate::marks::{Kind, Mark};
 use crate::names::mark_at;
 use crate::page::Page;
-use crate::place::{Edit, Position, Range, edited};
+use crate::place::{Edit, Position, Range, edited, push_edit};
 use rc_read::read_program;
 use rc_read::reserved::is_reserved_by;
 use rc_read::words::{is, is_name, is_spelt};
@@ -31,8 +31,10 @@ fn name_at<'a>(page: &Page<'a>, at: Position) -> Option<Mark<'a>> {
 /// The word at a place, if it is a name that can be another.
 pub fn renamable(alloc: Global, text: &[u8], at: Position) -> Result<Option<Range>, AllocError> {
     let page = Page::of(alloc, text)?;
-    let mark = name_at(&page, at);
-    Ok(mark.map(|mark| page.range(mark.line, &mark.name)))
+    match name_at(&page, at) {
+        Some(mark) => Ok(Some(page.range(mark.line, &mark.name))),
+        None => Ok(None),
+    }
 }
 
 /// Gives what is named at a place this name.
@@ -90,10 +92,7 @@ fn edits_for(
     let mut edits = Vec::new(alloc);
     for other in &page.marks {
         if other.is_same(mark) {
-            edits.push(Edit {
-                range: page.range(other.line, &other.name),
-                text: Vec::from_slice(alloc, name)?,
-            })?;
+            push_edit(alloc, &mut edits, page.range(other.line, &other.name), name)?;
         }
     }
     Ok(edits)

@@ -129,21 +129,28 @@ fn words_text(
 
 /// Adds the blocks that are shown.
 fn push_blocks(alloc: Global, symbols: &mut Vec<Symbol>, page: &Page) -> Result<(), AllocError> {
-    let mut depths: Vec<u32> = Vec::new(alloc);
     for block in &page.blocks {
-        let depth = match block.outer {
-            Some(outer) => depths.get(outer).copied().unwrap_or(0),
-            None => 0,
-        };
-        match shown(block) {
-            Some((kind, count)) => {
-                depths.push(depth.saturating_add(1))?;
-                push_block(alloc, symbols, page, block, kind, count, depth)?;
-            }
-            None => depths.push(depth)?,
+        if let Some((kind, count)) = shown(block) {
+            push_block(alloc, symbols, page, block, kind, count)?;
         }
     }
     Ok(())
+}
+
+/// In how many blocks that are shown a block is.
+fn depth_of(page: &Page, block: &Block) -> u32 {
+    let mut depth: u32 = 0;
+    let mut outer = block.outer;
+    for _ in 0..page.blocks.len() {
+        let Some(around) = page.block_at(outer) else {
+            return depth;
+        };
+        if shown(around).is_some() {
+            depth = depth.saturating_add(1);
+        }
+        outer = around.outer;
+    }
+    depth
 }
 
 /// Adds a block.
@@ -154,7 +161,6 @@ fn push_block(
     block: &Block,
     kind: SymbolKind,
     count: usize,
-    depth: u32,
 ) -> Result<(), AllocError> {
     let words = Words::of(alloc, page.line(block.line))?;
     let name_range = words_range(alloc, page, block.line)?;
@@ -171,7 +177,7 @@ fn push_block(
             end,
         },
         name_range,
-        depth,
+        depth: depth_of(page, block),
     })?;
     Ok(())
 }

@@ -3,7 +3,7 @@
 use crate::place::up_to;
 use rc_read::words::is;
 use rc_report::source::first_word;
-use rc_report::text::put_piece;
+use rc_report::text::put_pieces;
 use std::alloc::{AllocError, Global};
 
 /// How many bytes of a line are looked at: as many as a line may have.
@@ -11,10 +11,21 @@ const MOST_BYTES: usize = 256;
 
 /// Adds a word, after a blank unless it is the first.
 pub fn put_spaced(text: &mut Vec<u8>, is_first: bool, word: &[u8]) -> Result<(), AllocError> {
-    if !is_first {
-        put_piece(text, b" ")?;
+    let blank: &[u8] = if is_first { b"" } else { b" " };
+    put_pieces(text, &[blank, word])
+}
+
+/// Whether a line has words beside its comment.
+pub fn has_words(line: &[u8]) -> bool {
+    first_word(up_to(line, MOST_BYTES)).is_some()
+}
+
+/// Whether a line ends a block.
+pub fn ends_block(line: &[u8]) -> bool {
+    match first_word(up_to(line, MOST_BYTES)) {
+        Some((word, _)) => is(word, b"}"),
+        None => false,
     }
-    put_piece(text, word)
 }
 
 /// A word: its bytes, and at which byte of its line it begins.
@@ -47,16 +58,24 @@ impl<'a> Words<'a> {
     /// Finds the words of a line.
     pub fn of(alloc: Global, line: &'a [u8]) -> Result<Words<'a>, AllocError> {
         let line = up_to(line, MOST_BYTES);
-        let mut texts = Vec::new(alloc);
-        let mut starts = Vec::new(alloc);
+        let mut words = Words {
+            texts: Vec::new(alloc),
+            starts: Vec::new(alloc),
+        };
         let mut rest = line;
         while let Some((word, after)) = first_word(rest) {
             let end = line.len().saturating_sub(after.len());
-            texts.push(word)?;
-            starts.push(end.saturating_sub(word.len()))?;
+            words.push(word, end.saturating_sub(word.len()))?;
             rest = after;
         }
-        Ok(Words { texts, starts })
+        Ok(words)
+    }
+
+    /// Adds a word that begins at this byte.
+    fn push(&mut self, text: &'a [u8], start: usize) -> Result<(), AllocError> {
+        self.texts.push(text)?;
+        self.starts.push(start)?;
+        Ok(())
     }
 
     /// How many they are.

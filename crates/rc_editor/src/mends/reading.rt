@@ -5,7 +5,7 @@ use crate::actions::Action;
 use crate::known::{put_arms, put_ends};
 use crate::marks::{Mark, fit_of};
 use crate::names::declaration_of;
-use crate::place::{Edit, Position, Range, number_of};
+use crate::place::{Edit, Range};
 use crate::words::Word;
 use rc_hints::fitting::forms_of;
 use rc_hints::near::{Nearest, nearer, none_near};
@@ -76,12 +76,23 @@ fn push_version(actions: &mut Vec<Action>, sheet: &Sheet, above: &Parts) -> Resu
     for line in 0..sheet.line {
         let head = sheet.words(line)?;
         if is(head.text(0), b"ringcheck") {
-            let mut number = Vec::new(sheet.alloc);
-            put_number(&mut number, u64::from(needed))?;
-            return push_other(actions, sheet, line, &head.word(1), &number);
+            return push_number(actions, sheet, line, &head.word(1), needed);
         }
     }
     Ok(())
+}
+
+/// Offers a number in the place of a word.
+fn push_number(
+    actions: &mut Vec<Action>,
+    sheet: &Sheet,
+    line: usize,
+    word: &Word,
+    number: u32,
+) -> Result<(), AllocError> {
+    let mut other = Vec::new(sheet.alloc);
+    put_number(&mut other, u64::from(number))?;
+    push_other(actions, sheet, line, word, &other)
 }
 
 /// Offers the word that begins a form and is spelt nearest to the first of the line.
@@ -132,26 +143,31 @@ fn push_declared(actions: &mut Vec<Action>, sheet: &Sheet, name: &Mark) -> Resul
 
 /// Offers ends for the blocks that are open at the text's end, or to leave out an end that is one too many.
 fn push_ends(actions: &mut Vec<Action>, sheet: &Sheet, above: &Parts) -> Result<(), AllocError> {
-    let mut text = Vec::new(sheet.alloc);
+    let edit = ends_after(sheet, above)?;
+    let _ = sheet.offer_one(actions, b"End the open blocks", edit)?;
+    let _ = sheet.offer_one(actions, b"Remove this line", without_line(sheet))?;
+    Ok(())
+}
+
+/// Ends for the open blocks, after the line at fault.
+fn ends_after(sheet: &Sheet, above: &Parts) -> Result<Edit, AllocError> {
     let line = sheet.page.line(sheet.line);
-    let at = sheet.page.range_from(sheet.line, line.len(), line.len());
+    let range = sheet.page.range_from(sheet.line, line.len(), line.len());
+    let mut text = Vec::new(sheet.alloc);
     text.push(b'\n')?;
     put_ends(&mut text, above)?;
     text.truncate(text.len().saturating_sub(1));
-    let _ = sheet.offer_one(actions, b"End the open blocks", Edit { range: at, text })?;
-    let whole = Range {
+    Ok(Edit { range, text })
+}
+
+/// Nothing in the place of the line at fault.
+fn without_line(sheet: &Sheet) -> Edit {
+    let range = Range {
         start: before(sheet.line).start,
-        end: Position {
-            line: number_of(sheet.line).saturating_add(1),
-            character: 0,
-        },
+        end: before(sheet.line.saturating_add(1)).start,
     };
-    let edit = Edit {
-        range: whole,
-        text: Vec::new(sheet.alloc),
-    };
-    let _ = sheet.offer_one(actions, b"Remove this line", edit)?;
-    Ok(())
+    let text = Vec::new(sheet.alloc);
+    Edit { range, text }
 }
 
 /// Offers the arms that a peek lacks.

@@ -3,10 +3,9 @@
 use super::{Sheet, before};
 use crate::actions::{Action, fills_of};
 use crate::format::without_blanks;
-use crate::known::put_line;
 use crate::place::{Edit, edited, line_at, lines_of};
 use rc_keeps::engine::kept_text;
-use rc_report::text::{put_piece, put_pieces};
+use rc_report::text::put_pieces;
 use rc_rules::cause::Cause;
 use std::alloc::AllocError;
 
@@ -54,15 +53,27 @@ fn push_lock(actions: &mut Vec<Action>, sheet: &Sheet, lock: &[u8]) -> Result<()
     let mut line = sheet.line;
     for _ in 0..MOST_TRIES {
         let end = end_of(sheet, line);
-        if sheet.offer(actions, &title, around(sheet, lock, end)?)? {
+        if offer_lock(actions, sheet, &title, lock, end)? {
             return Ok(());
         }
         line = end.saturating_add(1);
-        if sheet.words(line)?.closes() {
+        if sheet.ends_block(line) {
             return Ok(());
         }
     }
     Ok(())
+}
+
+/// Offers this lock around the lines up to another, and says whether the text is better with it.
+fn offer_lock(
+    actions: &mut Vec<Action>,
+    sheet: &Sheet,
+    title: &[u8],
+    lock: &[u8],
+    end: usize,
+) -> Result<bool, AllocError> {
+    let edits = around(sheet, lock, end)?;
+    sheet.offer(actions, title, edits)
 }
 
 /// The last line of the statement that begins on a line.
@@ -79,27 +90,30 @@ fn end_of(sheet: &Sheet, line: usize) -> usize {
 }
 
 /// A lock around the lines from the one at fault to another, which are indented by one more step.
-fn around(sheet: &Sheet, lock: &[u8], end: usize) -> Result<Vec<Edit>, AllocError> {
+fn around<'s>(sheet: &'s Sheet<'_>, lock: &'s [u8], end: usize) -> Result<Vec<Edit>, AllocError> {
     let mut edits = Vec::new(sheet.alloc);
     let indent = sheet.indent(sheet.line)?;
-    for line in sheet.line..end.saturating_add(1) {
-        let mut text = Vec::new(sheet.alloc);
-        if line == sheet.line {
-            put_line(&mut text, indent, lock)?;
-        }
-        put_piece(&mut text, b"    ")?;
-        edits.push(Edit {
-            range: before(line),
-            text,
-        })?;
+    let behind = end.saturating_add(1);
+    push_before(sheet, &mut edits, sheet.line, &[indent, lock, b"\n    "])?;
+    for line in sheet.line.saturating_add(1)..behind {
+        push_before(sheet, &mut edits, line, &[b"    "])?;
     }
-    let mut text = Vec::new(sheet.alloc);
-    put_line(&mut text, indent, b"}")?;
-    edits.push(Edit {
-        range: before(end.saturating_add(1)),
-        text,
-    })?;
+    push_before(sheet, &mut edits, behind, &[indent, b"}\n"])?;
     Ok(edits)
+}
+
+/// Adds an edit that puts these pieces before a line.
+fn push_before(
+    sheet: &Sheet,
+    edits: &mut Vec<Edit>,
+    line: usize,
+    pieces: &[&[u8]],
+) -> Result<(), AllocError> {
+    let mut text = Vec::new(sheet.alloc);
+    put_pieces(&mut text, pieces)?;
+    let range = before(line);
+    edits.push(Edit { range, text })?;
+    Ok(())
 }
 
 /// Offers submits until nothing is queued, above the line that releases the lock.
