@@ -10,7 +10,7 @@ pub const MOST_BODY: usize = 16 * 1024 * 1024;
 const MOST_HEAD: usize = 4096;
 
 /// What bytes begin with.
-#[derive(Clone, Copy, PartialEq, Eq, Debug)]
+#[derive(Clone, Copy)]
 pub enum Begin {
     /// A whole frame: where its body begins, and where it ends.
     Frame { start: usize, end: usize },

@@ -16,7 +16,7 @@ use serde_json::Value;
 use std::alloc::{AllocError, Global};
 
 /// How far the life of a server is.
-#[derive(Clone, Copy, PartialEq, Eq)]
+#[derive(Clone, Copy)]
 enum Stage {
     /// Before `initialize`.
     Fresh,
@@ -26,7 +26,7 @@ enum Stage {
 }
 
 /// What comes after a message.
-#[derive(Clone, Copy, PartialEq, Eq, Debug)]
+#[derive(Clone, Copy)]
 pub enum Next {
     /// More messages.
     More,
@@ -161,7 +161,7 @@ impl Server {
             let is_clean = self.is_shut_down();
             return Ok(Next::Exit { is_clean });
         }
-        if self.stage != Stage::Running {
+        if !matches!(self.stage, Stage::Running) {
             return Ok(Next::More);
         }
         match self.noted(alloc, method, params, out) {

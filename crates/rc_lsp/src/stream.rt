@@ -19,7 +19,7 @@ const PIECE: usize = 16384;
 const MOST_READS: u64 = 4_611_686_018_427_387_904;
 
 /// How a server ended.
-#[derive(Clone, Copy, PartialEq, Eq, Debug)]
+#[derive(Clone, Copy)]
 pub enum Ended {
     /// By a message or by the end of the input, and whether a shutdown came before it.
     Done { is_clean: bool },
