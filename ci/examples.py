@@ -1,10 +1,10 @@
 #!/usr/bin/env python3
-"""Compares the texts of rc_examples with the files of examples/, or writes them.
+"""Compares the texts of rc_edge_tests with the files of examples/, or writes them.
 
 usage: ci/examples.py [--write]
 
-rc_examples has a constant for each program of examples/ that a test names, named as its file. Without --write nothing
-is changed, and the status is 1 where a text of the crate differs from its file by so much as a byte, one is missing, or
+No code can read a file while it is compiled, so crates/rc_edge_tests/src/programs.rt has a constant for each program of
+examples/ that a test names, named as its file. Without --write nothing is changed, and the status is 1 where a text of the crate differs from its file by so much as a byte, one is missing, or
 one is there that no test names.
 """
 
@@ -43,7 +43,7 @@ def constants(paths):
 def named():
     """The words of capitals in the files that use the crate."""
     texts = [path.read_text() for path in CRATES.glob("*/src/**/*.rt")]
-    return {word for text in texts if "rc_examples::" in text for word in re.findall(r"\b[A-Z_]+\b", text)}
+    return {word for text in texts if "crate::programs::" in text for word in re.findall(r"\b[A-Z_]+\b", text)}
 
 
 def programs():
@@ -55,7 +55,7 @@ def programs():
 
 def wanted_files():
     """The files of the crate that have texts, by their names."""
-    return {"rc_examples/src/programs.rt": programs()}
+    return {"rc_edge_tests/src/programs.rt": programs()}
 
 
 def differences(path, wanted):
@@ -73,7 +73,7 @@ def main():
         if sys.argv[1:]:
             (CRATES / name).write_bytes(wanted.encode())
         elif found := differences(CRATES / name, wanted):
-            print("\n".join(["the texts of rc_examples differ from examples/:", *found]), file=sys.stderr)
+            print("\n".join(["the texts of rc_edge_tests differ from examples/:", *found]), file=sys.stderr)
             status = 1
     return status
 

@@ -11,6 +11,8 @@ mod device;
 #[cfg(test)]
 mod faults;
 #[cfg(test)]
+mod programs;
+#[cfg(test)]
 mod refused;
 #[cfg(test)]
 mod report;

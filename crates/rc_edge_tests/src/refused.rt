@@ -3,11 +3,11 @@
 
 ghost use Rattle.std.specs.Prelude.{◌<◌};
 
+use crate::programs::{HANDOFF, SHARE};
 use rc_admit::admitted::{Admitted, admit};
 use rc_device::chooser::Seeded;
 use rc_device::device::Device;
 use rc_device::disk::Disk;
-use rc_examples::programs::{HANDOFF, SHARE};
 use rc_lang::program::Program;
 use rc_lang::request::Request;
 use rc_read::{ReadFault, Reader, read_program};

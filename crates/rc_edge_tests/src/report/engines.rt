@@ -2,7 +2,7 @@
 
 use super::readers::Scripted;
 use super::writers::Interrupted;
-use rc_examples::programs::NOP;
+use crate::programs::NOP;
 use rc_report::engine_fault::EngineFault;
 use rc_report::step_engine::step_engine;
 use rc_report::streams::{ReadSource, Sink, Source, WriteSink};

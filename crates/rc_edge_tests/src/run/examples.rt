@@ -1,7 +1,7 @@
 //! Programs for tests.
 
+pub use crate::programs::{HANDOFF, SHARE};
 use rc_admit::admitted::{Admitted, admit};
-pub use rc_examples::programs::{HANDOFF, SHARE};
 use std::alloc::Global;
 use std::sync::Arc;
 use std::test::*;
