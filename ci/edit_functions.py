@@ -189,7 +189,7 @@ def stop_on_contract(was, now):
     """A function has to keep its name, its parameters and its clauses: what a changed contract refuses shows nothing."""
     for it in was:
         if it.head not in [other.head for other in now if other.name == it.name]:
-            raise Stale(f"it changes what callers see of {it.name}")
+            raise Stale(f"it changes what callers see of {it.module}::{it.path}")
 
 
 def add_file(edit, path, old, new):
