@@ -9,7 +9,6 @@ use crate::picture::Picture;
 use crate::requests::bar_of;
 use crate::rings::{Ring, cq_of, sq_of};
 use crate::rows::square;
-use rc_story::courses::Course;
 use rc_story::sentence::since;
 use rc_story::story::Row;
 use rc_story::stretches::Stretch;
@@ -24,9 +23,8 @@ pub fn draw_fault(canvas: &mut Canvas, picture: &Picture<'_, '_>) {
         }
     }
     for (place, row) in picture.story.rows.iter().enumerate() {
-        match row.stretch {
-            Stretch::Fault => draw_targets(canvas, picture, place, row),
-            _ => {}
+        if matches!(row.stretch, Stretch::Fault) {
+            draw_targets(canvas, picture, place, row);
         }
     }
 }
@@ -60,24 +58,21 @@ fn draw_link(canvas: &mut Canvas, picture: &Picture<'_, '_>, place: usize, row: 
 
 /// How far to the right what is at fault in a row is; 0 where nothing is.
 fn rightmost(picture: &Picture<'_, '_>, row: &Row) -> u64 {
-    let touched = match row.touch {
+    let mut most = match row.touch {
         Some(touch) => picture.buffer(touch.buffer),
         None => 0,
     };
-    match row.stretch {
-        Stretch::Fault => touched
-            .max(rightmost_bar(picture))
-            .max(rightmost_ring(picture))
-            .max(rightmost_strip(picture)),
-        _ => touched,
-    }
-}
-
-fn rightmost_bar(picture: &Picture<'_, '_>) -> u64 {
-    let mut most = 0;
-    for (course, x) in picture.story.courses.iter().zip(&picture.bars) {
-        if course.is_at_fault {
-            most = (*x).max(most);
+    if matches!(row.stretch, Stretch::Fault) {
+        most = rightmost_ring(picture).max(most);
+        for (course, x) in picture.story.courses.iter().zip(&picture.bars) {
+            if course.is_at_fault {
+                most = (*x).max(most);
+            }
+        }
+        for (stock, strip) in picture.story.stocks.iter().zip(&picture.strips) {
+            if stock.is_at_fault {
+                most = strip.middle.max(most);
+            }
         }
     }
     most
@@ -91,16 +86,6 @@ fn rightmost_ring(picture: &Picture<'_, '_>) -> u64 {
     } else {
         0
     }
-}
-
-fn rightmost_strip(picture: &Picture<'_, '_>) -> u64 {
-    let mut most = 0;
-    for (stock, strip) in picture.story.stocks.iter().zip(&picture.strips) {
-        if stock.is_at_fault {
-            most = strip.middle.max(most);
-        }
-    }
-    most
 }
 
 /// What is at fault, at the height of the first row of the fault, which is at this place.
@@ -131,20 +116,15 @@ fn draw_outline(canvas: &mut Canvas, rect: Rect) {
     canvas.rect(Layer::Link, outline);
 }
 
-/// The requests at fault.
+/// The requests at fault: an outline of each for as long as its stage lasts.
 fn draw_bars(canvas: &mut Canvas, picture: &Picture<'_, '_>, y: u64) {
     for (course, x) in picture.story.courses.iter().zip(&picture.bars) {
         if course.is_at_fault {
-            draw_bar(canvas, picture, course, *x, y);
+            let top = picture.height(picture.story.place_of(since(course)));
+            draw_outline(canvas, bar_of(*x, course.stage, top, picture.bottom()));
+            canvas.circle(Layer::Hit, Point { x: *x, y }, 5);
         }
     }
-}
-
-/// A request at fault: an outline for as long as its stage lasts.
-fn draw_bar(canvas: &mut Canvas, picture: &Picture<'_, '_>, course: &Course, x: u64, y: u64) {
-    let top = picture.height(picture.story.place_of(since(course)));
-    draw_outline(canvas, bar_of(x, course.stage, top, picture.bottom()));
-    canvas.circle(Layer::Hit, Point { x, y }, 5);
 }
 
 /// The line to a thread that has a lock at fault.
@@ -172,23 +152,18 @@ fn draw_ring(canvas: &mut Canvas, picture: &Picture<'_, '_>, y: u64, ring: Ring)
 
 /// Where the last rows begin in which a ring is full; 5 px above the fault where it isn't.
 fn full_top(picture: &Picture<'_, '_>, ring: Ring, y: u64) -> u64 {
-    let first = full_from(picture, ring);
-    if first < picture.story.rows.len() {
-        run_top(picture, first)
-    } else {
-        y.saturating_sub(5)
-    }
-}
-
-/// The first of the last rows in which a ring is full; how many rows there are where the last isn't.
-fn full_from(picture: &Picture<'_, '_>, ring: Ring) -> usize {
-    let mut first = 0;
+    let mut first = Some(0);
     for row in 0..picture.story.rows.len() {
         if fill_at(picture, ring.gauge, row).used() != ring.entries {
-            first = row + 1;
+            first = None;
+        } else if first.is_none() {
+            first = Some(row);
         }
     }
-    first
+    match first {
+        Some(row) => run_top(picture, row),
+        None => y.saturating_sub(5),
+    }
 }
 
 /// The strips at fault.
@@ -206,11 +181,8 @@ fn draw_joint(canvas: &mut Canvas, picture: &Picture<'_, '_>, y: u64, touch: Opt
     let (Some(touch), Some(last)) = (touch, picture.story.rows.last()) else {
         return;
     };
-    match last.stretch {
-        Stretch::Rival => {
-            let x = picture.buffer(touch.buffer);
-            canvas.down(Layer::Link, x, y, plus(y, 18));
-        }
-        _ => {}
+    if matches!(last.stretch, Stretch::Rival) {
+        let x = picture.buffer(touch.buffer);
+        canvas.down(Layer::Link, x, y, plus(y, 18));
     }
 }

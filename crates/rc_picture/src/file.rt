@@ -3,7 +3,7 @@
 use crate::canvas::{Canvas, Rect};
 use crate::fault_marks::draw_fault;
 use crate::head::draw_head;
-use crate::layers::Layer;
+use crate::layers::{Layer, STYLES, Style};
 use crate::legend::draw_legend;
 use crate::picture::Picture;
 use crate::requests::draw_requests;
@@ -86,8 +86,8 @@ fn start_of(
     pen.put(&[Piece::Word(b"</title>\n<desc>")]);
     pen.put_escaped(&[Piece::Word(trace)]);
     pen.put(&[Piece::Word(b"</desc>\n<style>@media(prefers-color-scheme:dark){")]);
-    for layer in Layer::ALL {
-        put_dark(&mut pen, layer);
+    for style in STYLES {
+        put_dark(&mut pen, style);
     }
     pen.put(&[Piece::Word(b"}</style>\n")]);
     pen.text()
@@ -109,8 +109,7 @@ fn put_open(pen: &mut Pen, width: u64, height: u64) {
 }
 
 /// The colours of a layer on a dark ground.
-fn put_dark(pen: &mut Pen, layer: Layer) {
-    let style = layer.style();
+fn put_dark(pen: &mut Pen, style: Style) {
     pen.put(&[
         Piece::Word(b".rc-"),
         Piece::Word(style.name),
@@ -131,17 +130,16 @@ fn put_dark(pen: &mut Pen, layer: Layer) {
 /// Adds the layers in which something is drawn.
 fn put_layers(text: &mut Vec<u8>, canvas: Canvas) -> Result<(), AllocError> {
     let Canvas { pens } = canvas;
-    for (layer, pen) in Layer::ALL.into_iter().zip(pens) {
+    for (style, pen) in STYLES.into_iter().zip(pens) {
         if !pen.is_empty() {
-            put_layer(text, layer, pen)?;
+            put_layer(text, style, pen)?;
         }
     }
     Ok(())
 }
 
 /// Adds the group of a layer with what is drawn there, with the colours on a light ground.
-fn put_layer(text: &mut Vec<u8>, layer: Layer, pen: Pen) -> Result<(), AllocError> {
-    let style = layer.style();
+fn put_layer(text: &mut Vec<u8>, style: Style, pen: Pen) -> Result<(), AllocError> {
     let fill = match style.fill {
         Some(colour) => colour.light,
         None => b"none",
@@ -150,20 +148,20 @@ fn put_layer(text: &mut Vec<u8>, layer: Layer, pen: Pen) -> Result<(), AllocErro
         text,
         &[b"<g class=\"rc-", style.name, b"\" fill=\"", fill, b"\""],
     )?;
-    put_stroke(text, layer)?;
-    put_pieces(text, &[layer.more(), b">\n", &pen.text()?, b"</g>\n"])
+    put_stroke(text, style)?;
+    put_pieces(text, &[style.layer.more(), b">\n", &pen.text()?, b"</g>\n"])
 }
 
 /// What the lines of a layer are drawn in, and how wide they are.
-fn put_stroke(text: &mut Vec<u8>, layer: Layer) -> Result<(), AllocError> {
-    match layer.style().stroke {
+fn put_stroke(text: &mut Vec<u8>, style: Style) -> Result<(), AllocError> {
+    match style.stroke {
         Some(colour) => put_pieces(
             text,
             &[
                 b" stroke=\"",
                 colour.light,
                 b"\" stroke-width=\"",
-                layer.breadth(),
+                style.layer.breadth(),
                 b"\"",
             ],
         ),

@@ -40,10 +40,12 @@ impl Fill {
 
 /// What is shown at a row.
 pub fn fill_at(picture: &Picture<'_, '_>, gauge: Gauge, row: usize) -> Fill {
-    Fill {
-        filled: filled_at(picture, gauge, row).unwrap_or(0),
-        opened: opened_at(picture, gauge, row).unwrap_or(0),
-    }
+    let filled = filled_at(picture, gauge, row).unwrap_or(0);
+    let opened = match (gauge, picture.story.rows.get(row)) {
+        (Gauge::Submissions, Some(row)) if !matches!(row.after.slot, Slot::Closed) => 1,
+        _ => 0,
+    };
+    Fill { filled, opened }
 }
 
 fn filled_at(picture: &Picture<'_, '_>, gauge: Gauge, row: usize) -> Option<u64> {
@@ -53,14 +55,6 @@ fn filled_at(picture: &Picture<'_, '_>, gauge: Gauge, row: usize) -> Option<u64>
         Gauge::Completions => Some(after.completions),
         Gauge::Lock(side) => Some(u64::from(holder_of(side, after.holders)?) + 1),
         Gauge::Stock(place) => picture.story.stocks.get(place)?.levels.get(row).copied(),
-    }
-}
-
-fn opened_at(picture: &Picture<'_, '_>, gauge: Gauge, row: usize) -> Option<u64> {
-    let after = picture.story.rows.get(row)?.after;
-    match (gauge, after.slot) {
-        (Gauge::Submissions, Slot::Vacant | Slot::Prepared(_)) => Some(1),
-        _ => None,
     }
 }
 

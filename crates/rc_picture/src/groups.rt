@@ -42,24 +42,14 @@ pub fn group_of(story: &Story<'_, '_>, course: &Course) -> usize {
 
 /// Whether a group is drawn: it has a request, or its buffer is touched.
 fn is_drawn(story: &Story<'_, '_>, group: usize) -> bool {
-    has_request(story, group) || is_touched(story, group)
-}
-
-fn has_request(story: &Story<'_, '_>, group: usize) -> bool {
     for course in &story.courses {
         if group_of(story, course) == group {
             return true;
         }
     }
-    false
-}
-
-fn is_touched(story: &Story<'_, '_>, buffer: usize) -> bool {
     for row in &story.rows {
-        if let Some(touch) = row.touch {
-            if touch.buffer == buffer {
-                return true;
-            }
+        if matches!(row.touch, Some(touch) if touch.buffer == group) {
+            return true;
         }
     }
     false
@@ -68,7 +58,7 @@ fn is_touched(story: &Story<'_, '_>, buffer: usize) -> bool {
 /// Whether there are so many groups that labels are short.
 pub fn is_narrow(story: &Story<'_, '_>) -> bool {
     let mut count: u64 = 0;
-    for group in 0..no_buffer(story) + 1 {
+    for group in 0..no_buffer(story).saturating_add(1) {
         if is_drawn(story, group) {
             count = count.saturating_add(1);
         }
@@ -208,7 +198,7 @@ pub fn groups_of(
 ) -> Result<(Vec<Group>, u64), AllocError> {
     let mut groups = Vec::new(alloc);
     let mut x = start;
-    for group in 0..no_buffer(story) + 1 {
+    for group in 0..no_buffer(story).saturating_add(1) {
         let is_drawn = is_drawn(story, group);
         groups.push(Group { start: x, is_drawn })?;
         if is_drawn {

@@ -131,6 +131,7 @@ pub enum Layer {
 /// How what is in a layer looks.
 #[derive(Clone, Copy)]
 pub struct Style {
+    pub layer: Layer,
     /// The layer's name.
     pub name: &'static [u8],
     /// What its elements are filled with.
@@ -139,80 +140,197 @@ pub struct Style {
     pub stroke: Option<Colour>,
 }
 
+/// The layers in the order in which they are drawn, which is that of their numbers.
+pub const STYLES: [Style; 31] = [
+    Style {
+        layer: Layer::Bg,
+        name: b"bg",
+        fill: Some(GROUND),
+        stroke: None,
+    },
+    Style {
+        layer: Layer::Band,
+        name: b"band",
+        fill: Some(BAND),
+        stroke: None,
+    },
+    Style {
+        layer: Layer::Faultband,
+        name: b"faultband",
+        fill: Some(FAULT_BAND),
+        stroke: None,
+    },
+    Style {
+        layer: Layer::Grid,
+        name: b"grid",
+        fill: None,
+        stroke: Some(GRID),
+    },
+    Style {
+        layer: Layer::Axis,
+        name: b"axis",
+        fill: None,
+        stroke: Some(AXIS),
+    },
+    Style {
+        layer: Layer::Order,
+        name: b"order",
+        fill: None,
+        stroke: Some(AXIS),
+    },
+    Style {
+        layer: Layer::Taken,
+        name: b"taken",
+        fill: None,
+        stroke: Some(PENDING),
+    },
+    Style {
+        layer: Layer::Lock,
+        name: b"lock",
+        fill: Some(LOCK),
+        stroke: Some(LOCK_LINE),
+    },
+    Style {
+        layer: Layer::Open,
+        name: b"open",
+        fill: Some(GROUND),
+        stroke: Some(DIM),
+    },
+    Style {
+        layer: Layer::Queued,
+        name: b"queued",
+        fill: Some(QUEUED),
+        stroke: Some(QUEUED_LINE),
+    },
+    Style {
+        layer: Layer::Completed,
+        name: b"completed",
+        fill: Some(COMPLETED),
+        stroke: Some(COMPLETED_LINE),
+    },
+    Style {
+        layer: Layer::Tail,
+        name: b"tail",
+        fill: Some(COMPLETED_LINE),
+        stroke: None,
+    },
+    Style {
+        layer: Layer::Pending,
+        name: b"pending",
+        fill: Some(PENDING),
+        stroke: Some(PENDING),
+    },
+    Style {
+        layer: Layer::Pool,
+        name: b"pool",
+        fill: Some(POOL),
+        stroke: Some(POOL_LINE),
+    },
+    Style {
+        layer: Layer::Full,
+        name: b"full",
+        fill: None,
+        stroke: Some(TEXT),
+    },
+    Style {
+        layer: Layer::Cap,
+        name: b"cap",
+        fill: None,
+        stroke: Some(TEXT),
+    },
+    Style {
+        layer: Layer::Dot,
+        name: b"dot",
+        fill: Some(TEXT),
+        stroke: Some(GROUND),
+    },
+    Style {
+        layer: Layer::Load,
+        name: b"load",
+        fill: Some(GROUND),
+        stroke: Some(TEXT),
+    },
+    Style {
+        layer: Layer::Touch,
+        name: b"touch",
+        fill: Some(TEXT),
+        stroke: Some(GROUND),
+    },
+    Style {
+        layer: Layer::Gap,
+        name: b"gap",
+        fill: None,
+        stroke: Some(GROUND),
+    },
+    Style {
+        layer: Layer::Halo,
+        name: b"halo",
+        fill: None,
+        stroke: Some(GROUND),
+    },
+    Style {
+        layer: Layer::Link,
+        name: b"link",
+        fill: None,
+        stroke: Some(FAULT),
+    },
+    Style {
+        layer: Layer::Hit,
+        name: b"hit",
+        fill: Some(FAULT),
+        stroke: Some(GROUND),
+    },
+    Style {
+        layer: Layer::Hitload,
+        name: b"hitload",
+        fill: Some(GROUND),
+        stroke: Some(FAULT),
+    },
+    Style {
+        layer: Layer::Text,
+        name: b"text",
+        fill: Some(TEXT),
+        stroke: None,
+    },
+    Style {
+        layer: Layer::Dim,
+        name: b"dim",
+        fill: Some(DIM),
+        stroke: None,
+    },
+    Style {
+        layer: Layer::Bold,
+        name: b"bold",
+        fill: Some(TEXT),
+        stroke: None,
+    },
+    Style {
+        layer: Layer::Red,
+        name: b"red",
+        fill: Some(FAULT),
+        stroke: None,
+    },
+    Style {
+        layer: Layer::Small,
+        name: b"small",
+        fill: Some(TEXT),
+        stroke: None,
+    },
+    Style {
+        layer: Layer::Smallbold,
+        name: b"smallbold",
+        fill: Some(TEXT),
+        stroke: None,
+    },
+    Style {
+        layer: Layer::Smallred,
+        name: b"smallred",
+        fill: Some(FAULT),
+        stroke: None,
+    },
+];
+
 impl Layer {
-    /// All layers, in the order in which they are drawn.
-    pub const ALL: [Layer; 31] = [
-        Layer::Bg,
-        Layer::Band,
-        Layer::Faultband,
-        Layer::Grid,
-        Layer::Axis,
-        Layer::Order,
-        Layer::Taken,
-        Layer::Lock,
-        Layer::Open,
-        Layer::Queued,
-        Layer::Completed,
-        Layer::Tail,
-        Layer::Pending,
-        Layer::Pool,
-        Layer::Full,
-        Layer::Cap,
-        Layer::Dot,
-        Layer::Load,
-        Layer::Touch,
-        Layer::Gap,
-        Layer::Halo,
-        Layer::Link,
-        Layer::Hit,
-        Layer::Hitload,
-        Layer::Text,
-        Layer::Dim,
-        Layer::Bold,
-        Layer::Red,
-        Layer::Small,
-        Layer::Smallbold,
-        Layer::Smallred,
-    ];
-
-    /// How what is in it looks.
-    pub fn style(self) -> Style {
-        let (name, fill, stroke): (&'static [u8], Option<Colour>, Option<Colour>) = match self {
-            Layer::Bg => (b"bg", Some(GROUND), None),
-            Layer::Band => (b"band", Some(BAND), None),
-            Layer::Faultband => (b"faultband", Some(FAULT_BAND), None),
-            Layer::Grid => (b"grid", None, Some(GRID)),
-            Layer::Axis => (b"axis", None, Some(AXIS)),
-            Layer::Order => (b"order", None, Some(AXIS)),
-            Layer::Taken => (b"taken", None, Some(PENDING)),
-            Layer::Lock => (b"lock", Some(LOCK), Some(LOCK_LINE)),
-            Layer::Open => (b"open", Some(GROUND), Some(DIM)),
-            Layer::Queued => (b"queued", Some(QUEUED), Some(QUEUED_LINE)),
-            Layer::Completed => (b"completed", Some(COMPLETED), Some(COMPLETED_LINE)),
-            Layer::Tail => (b"tail", Some(COMPLETED_LINE), None),
-            Layer::Pending => (b"pending", Some(PENDING), Some(PENDING)),
-            Layer::Pool => (b"pool", Some(POOL), Some(POOL_LINE)),
-            Layer::Full => (b"full", None, Some(TEXT)),
-            Layer::Cap => (b"cap", None, Some(TEXT)),
-            Layer::Dot => (b"dot", Some(TEXT), Some(GROUND)),
-            Layer::Load => (b"load", Some(GROUND), Some(TEXT)),
-            Layer::Touch => (b"touch", Some(TEXT), Some(GROUND)),
-            Layer::Gap => (b"gap", None, Some(GROUND)),
-            Layer::Halo => (b"halo", None, Some(GROUND)),
-            Layer::Link => (b"link", None, Some(FAULT)),
-            Layer::Hit => (b"hit", Some(FAULT), Some(GROUND)),
-            Layer::Hitload => (b"hitload", Some(GROUND), Some(FAULT)),
-            Layer::Text => (b"text", Some(TEXT), None),
-            Layer::Dim => (b"dim", Some(DIM), None),
-            Layer::Bold => (b"bold", Some(TEXT), None),
-            Layer::Red => (b"red", Some(FAULT), None),
-            Layer::Small => (b"small", Some(TEXT), None),
-            Layer::Smallbold => (b"smallbold", Some(TEXT), None),
-            Layer::Smallred => (b"smallred", Some(FAULT), None),
-        };
-        Style { name, fill, stroke }
-    }
-
     /// How wide its lines are.
     pub fn breadth(self) -> &'static [u8] {
         match self {

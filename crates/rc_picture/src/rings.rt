@@ -257,11 +257,8 @@ fn draw_level(
 
 /// Whether the item of a pool that has this place among all is its credits.
 fn is_credits(picture: &Picture<'_, '_>, place: usize) -> bool {
-    let Some(stock) = picture.story.stocks.get(place) else {
-        return false;
-    };
-    match stock.item {
-        PoolItem::Credits => true,
-        PoolItem::Shares(_) | PoolItem::Token(_) => false,
+    match picture.story.stocks.get(place) {
+        Some(stock) => matches!(stock.item, PoolItem::Credits),
+        None => false,
     }
 }

@@ -7,7 +7,7 @@ use crate::turns::is_turn;
 use rc_story::pen::Piece;
 use rc_story::story::Row;
 use rc_story::stretches::Stretch;
-use rc_story::touches::{Touch, Verb};
+use rc_story::touches::Verb;
 
 /// Draws the rows.
 pub fn draw_rows(canvas: &mut Canvas, picture: &Picture<'_, '_>) {
@@ -27,22 +27,14 @@ fn draw_number(canvas: &mut Canvas, picture: &Picture<'_, '_>, place: usize, row
         x: picture.columns.numbers,
         y: picture.base(place),
     };
-    match row.stretch {
-        Stretch::Fault => draw_code(canvas, picture, at),
-        stretch => draw_event_number(canvas, picture, at, stretch.number()),
+    let number = row.stretch.number();
+    if matches!(row.stretch, Stretch::Fault) {
+        draw_code(canvas, picture, at);
+    } else if picture.story.why.names(number) {
+        canvas.text(Layer::Smallred, at, Anchor::End, &[Piece::Number(number)]);
+    } else if number > 0 {
+        canvas.text(Layer::Small, at, Anchor::End, &[Piece::Number(number)]);
     }
-}
-
-fn draw_event_number(canvas: &mut Canvas, picture: &Picture<'_, '_>, at: Point, number: u64) {
-    if number == 0 {
-        return;
-    }
-    let layer = if picture.story.why.names(number) {
-        Layer::Smallred
-    } else {
-        Layer::Small
-    };
-    canvas.text(layer, at, Anchor::End, &[Piece::Number(number)]);
 }
 
 /// The code of the fault.
@@ -69,7 +61,7 @@ fn or_red(layer: Layer, row: &Row) -> Layer {
 
 /// The mover of a row, where it isn't that of the row above; of a fault always.
 fn draw_mover(canvas: &mut Canvas, picture: &Picture<'_, '_>, place: usize, row: &Row) {
-    if !row.stretch.is_fault() && !is_first_of(picture, place, row) {
+    if !row.stretch.is_fault() && !is_turn(picture, place) {
         return;
     }
     let at = Point {
@@ -78,11 +70,6 @@ fn draw_mover(canvas: &mut Canvas, picture: &Picture<'_, '_>, place: usize, row:
     };
     let name = Piece::Word(picture.story.mover_name(row));
     canvas.text(or_red(Layer::Bold, row), at, Anchor::Start, &[name]);
-}
-
-/// Whether a row has a mover, and it isn't that of the row above.
-fn is_first_of(picture: &Picture<'_, '_>, place: usize, row: &Row) -> bool {
-    row.mover.is_some() && is_turn(picture, place)
 }
 
 /// The number of a row's line.
@@ -135,20 +122,16 @@ fn draw_dot(canvas: &mut Canvas, picture: &Picture<'_, '_>, place: usize, row: &
 
 /// The mark at the line of the buffer that an event touches.
 fn draw_touch(canvas: &mut Canvas, picture: &Picture<'_, '_>, place: usize, row: &Row) {
-    if row.stretch.is_fault() {
+    let Some(touch) = row.touch else {
         return;
-    }
-    if let Some(touch) = row.touch {
-        draw_touch_at(canvas, picture, place, touch);
-    }
-}
-
-fn draw_touch_at(canvas: &mut Canvas, picture: &Picture<'_, '_>, place: usize, touch: Touch) {
+    };
     let at = Point {
         x: picture.buffer(touch.buffer),
         y: picture.mid(place),
     };
-    draw_verb(canvas, touch.verb, at);
+    if !row.stretch.is_fault() {
+        draw_verb(canvas, touch.verb, at);
+    }
 }
 
 /// The mark of what is done with a buffer.

@@ -7,7 +7,6 @@ use crate::lengths::{plus, times};
 use crate::picture::Picture;
 use rc_story::courses::{Course, Stage};
 use rc_story::pen::Piece;
-use rc_story::run::is_same;
 use rc_world::controls::Next;
 
 /// Draws the turns.
@@ -39,7 +38,7 @@ fn mover(picture: &Picture<'_, '_>, row: usize) -> Option<u32> {
 
 /// Whether a turn begins at a row.
 pub fn is_turn(picture: &Picture<'_, '_>, row: usize) -> bool {
-    row == 0 || !is_same(mover(picture, row), mover(picture, row - 1))
+    row == 0 || mover(picture, row) != mover(picture, row - 1)
 }
 
 /// Where the turn ends that begins at a row, of so many.
@@ -65,24 +64,14 @@ fn draw_band(canvas: &mut Canvas, layer: Layer, picture: &Picture<'_, '_>, from:
 
 /// Draws the lanes of the threads and of the kernel.
 pub fn draw_lanes(canvas: &mut Canvas, picture: &Picture<'_, '_>) {
-    for lane in 0..picture.story.run.kernel().saturating_add(1) {
-        if has_ended(picture, lane) {
+    let kernel = picture.story.run.kernel();
+    for lane in 0..kernel.saturating_add(1) {
+        if lane < kernel && matches!(picture.story.run.world.next(lane), Next::Ended) {
             draw_ended(canvas, picture, lane);
         } else {
             let x = picture.lane(lane);
             canvas.down(Layer::Axis, x, picture.top(), picture.bottom());
         }
-    }
-}
-
-/// Whether the thread of a lane has ended.
-fn has_ended(picture: &Picture<'_, '_>, lane: u32) -> bool {
-    if lane >= picture.story.run.kernel() {
-        return false;
-    }
-    match picture.story.run.world.next(lane) {
-        Next::Ended => true,
-        _ => false,
     }
 }
 
@@ -102,7 +91,7 @@ fn draw_ended(canvas: &mut Canvas, picture: &Picture<'_, '_>, lane: u32) {
 fn last_row(picture: &Picture<'_, '_>, lane: u32) -> Option<usize> {
     let mut last = None;
     for (place, row) in picture.story.rows.iter().enumerate() {
-        if is_same(row.mover, Some(lane)) {
+        if row.mover == Some(lane) {
             last = Some(place);
         }
     }

@@ -1,6 +1,6 @@
 //! The courses of requests, from `get_sqe` to `cqe_seen`.
 
-use crate::frames::Frame;
+use crate::frames::{Frame, Moment};
 use crate::run::Run;
 use rc_lang::request::{Kind, Request};
 use rc_world::event::{Action, Event};
@@ -90,69 +90,70 @@ impl Course {
 
     /// Whether it is a read.
     pub fn is_read(&self) -> bool {
-        match self.request {
-            Some(request) => request.kind == Kind::Read,
-            None => false,
-        }
+        matches!(self.request, Some(request) if request.kind == Kind::Read)
     }
 
     /// Goes on to its next stage, if that begins at this event.
     fn advance(&mut self, number: u64, frame: &Frame) {
-        let taken = frame.after.made.saturating_sub(frame.after.queued);
-        match (self.stage, mark_of(frame.event)) {
-            (Stage::Opened, Mark::Prepared) => {
-                self.request = prepared_in(frame.after.slot);
-                self.come_to(Stage::Prepared, number);
-            }
-            (Stage::Prepared, Mark::Queued(user_data)) => {
-                self.user_data = user_data;
-                self.come_to(Stage::Queued, number);
-            }
-            (Stage::Queued, _) if self.serial <= taken => self.come_to(Stage::Pending, number),
-            (Stage::Pending, Mark::Completed(data)) if data == self.user_data => {
-                self.come_to(Stage::Completed, number);
-            }
-            (Stage::Completed, Mark::Reaped(data)) if data == self.user_data => {
-                self.come_to(Stage::Reaped, number);
-            }
-            _ => {}
+        let Some(next) = self.stage.next() else {
+            return;
+        };
+        let mark = mark_of(frame.event);
+        if !self.is_begun(next, mark, frame.after) {
+            return;
+        }
+        self.stage = next;
+        if let Some(event) = self.events.get_mut(next as usize) {
+            *event = number;
+        }
+        if next == Stage::Queued {
+            self.user_data = mark.user_data;
+        }
+        if next == Stage::Prepared {
+            self.request = prepared_in(frame.after.slot);
         }
     }
 
-    fn come_to(&mut self, stage: Stage, number: u64) {
-        self.stage = stage;
-        if let Some(event) = self.events.get_mut(stage as usize) {
-            *event = number;
+    /// Whether its next stage, which is this one, begins at an event with this mark, after which the world is such.
+    fn is_begun(&self, next: Stage, mark: Mark, after: Moment) -> bool {
+        if next == Stage::Pending {
+            return self.serial <= after.made.saturating_sub(after.queued);
         }
+        mark.stage == Some(next) && (next == Stage::Queued || mark.user_data == self.user_data)
     }
 }
 
-/// What an event does with a request.
+/// The request of a prepared entry.
+fn prepared_in(slot: Slot) -> Option<Request> {
+    match slot {
+        Slot::Prepared(request) => Some(request),
+        _ => None,
+    }
+}
+
+/// Which stage of a request an event begins, and the user data that it names, else 0.
 #[derive(Clone, Copy)]
-enum Mark {
-    Opened,
-    Prepared,
-    /// It gets this user data.
-    Queued(u64),
-    /// That with this user data.
-    Completed(u64),
-    /// That with this user data.
-    Reaped(u64),
-    Nothing,
+struct Mark {
+    stage: Option<Stage>,
+    user_data: u64,
 }
 
 fn mark_of(event: Event) -> Mark {
-    let action = match event {
-        Event::ByThread { action, .. } => action,
-        Event::ByKernel(completion) => return Mark::Completed(completion.user_data),
+    let (stage, user_data) = match event {
+        Event::ByThread { action, .. } => mark_by(action),
+        Event::ByKernel(completion) => (Some(Stage::Completed), completion.user_data),
     };
+    Mark { stage, user_data }
+}
+
+fn mark_by(action: Action) -> (Option<Stage>, u64) {
     match action {
-        Action::EntryOpened => Mark::Opened,
-        Action::ReadPrepared | Action::WritePrepared => Mark::Prepared,
-        Action::FsyncPrepared | Action::NopPrepared => Mark::Prepared,
-        Action::DataSet(user_data) => Mark::Queued(user_data),
-        Action::Reaped(user_data) => Mark::Reaped(user_data),
-        _ => Mark::Nothing,
+        Action::EntryOpened => (Some(Stage::Opened), 0),
+        Action::ReadPrepared | Action::WritePrepared => (Some(Stage::Prepared), 0),
+        Action::FsyncPrepared | Action::NopPrepared => (Some(Stage::Prepared), 0),
+        Action::DataSet(user_data) => (Some(Stage::Queued), user_data),
+        Action::Reaped(user_data) => (Some(Stage::Reaped), user_data),
+        _ => (None, 0),
     }
 }
 
@@ -196,9 +197,9 @@ fn advance_all(courses: &mut Vec<Course>, first: usize, number: u64, frame: &Fra
 
 /// Adds the request whose entry an event opens, if it opens one.
 fn push_opened(courses: &mut Vec<Course>, number: u64, frame: &Frame) -> Result<(), AllocError> {
-    let Mark::Opened = mark_of(frame.event) else {
+    if mark_of(frame.event).stage != Some(Stage::Opened) {
         return Ok(());
-    };
+    }
     courses.push(Course {
         events: [number, 0, 0, 0, 0, 0],
         stage: Stage::Opened,
@@ -208,12 +209,4 @@ fn push_opened(courses: &mut Vec<Course>, number: u64, frame: &Frame) -> Result<
         is_at_fault: false,
     })?;
     Ok(())
-}
-
-/// The request of a prepared entry.
-fn prepared_in(slot: Slot) -> Option<Request> {
-    match slot {
-        Slot::Prepared(request) => Some(request),
-        _ => None,
-    }
 }

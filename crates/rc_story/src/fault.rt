@@ -2,10 +2,10 @@
 
 use crate::courses::{Course, Stage};
 use crate::pools::{PoolItem, bound_of, count_in, item_at, item_count, items_of, last_in_all};
-use crate::run::{Run, has_sides, is_same};
+use crate::run::{Run, has_sides};
 use crate::stretches::Stretch;
 use crate::touches::{Touch, next_touch, touch_of, touch_or_prep};
-use rc_lang::lines::{Line, Locks, Op, Stmt, Test};
+use rc_lang::lines::{Locks, Op, Stmt, Test};
 use rc_lang::program::Items;
 use rc_world::controls::Holders;
 use rc_world::fault::FaultKind;
@@ -69,7 +69,9 @@ fn is_at_fault(
         FaultKind::ReadOfFilling => {
             course.is_pending() && course.is_read() && is_touched(run, course)
         }
-        FaultKind::KernelClash => is_one_of(place, clash),
+        FaultKind::KernelClash => {
+            matches!(clash, Some((first, second)) if place == first || place == second)
+        }
         FaultKind::RingFull => !course.has(Stage::Pending),
         FaultKind::Overflow => course.is_pending(),
         FaultKind::AmbiguousData => course.has(Stage::Queued) && sets_data(run, course.user_data),
@@ -80,26 +82,16 @@ fn is_at_fault(
 
 /// Whether the thread at fault is about to touch the buffer of a request.
 fn is_touched(run: &Run<'_, '_>, course: &Course) -> bool {
-    match (fault_touch(run), course.buffer()) {
-        (Some(touch), Some(buffer)) => touch.buffer == buffer,
-        _ => false,
+    match fault_touch(run) {
+        Some(touch) => course.buffer() == Some(touch.buffer),
+        None => false,
     }
 }
 
 /// Whether the line at fault gives an entry this user data.
 fn sets_data(run: &Run<'_, '_>, user_data: u64) -> bool {
-    let Some(line) = run.fault_line() else {
-        return false;
-    };
-    match line.stmt {
-        Stmt::Do(Op::SetData64(data)) => data == user_data,
-        _ => false,
-    }
-}
-
-fn is_one_of(place: usize, pair: Option<(usize, usize)>) -> bool {
-    match pair {
-        Some((first, second)) => place == first || place == second,
+    match run.fault_line() {
+        Some(line) => matches!(line.stmt, Stmt::Do(Op::SetData64(data)) if data == user_data),
         None => false,
     }
 }
@@ -160,7 +152,7 @@ pub fn blame_of(run: &Run<'_, '_>) -> Blame {
     };
     match fault.kind {
         FaultKind::RingFull => blame.is_sq = true,
-        FaultKind::RawEntry => blame.is_sq = is_closed(run.world.slot()),
+        FaultKind::RawEntry => blame.is_sq = matches!(run.world.slot(), Slot::Closed),
         FaultKind::Overflow | FaultKind::UnknownReap => blame.is_cq = true,
         FaultKind::NoLock => {
             blame.holders = holders_of(lacked_at_fault(run), run.world.holders());
@@ -170,16 +162,9 @@ pub fn blame_of(run: &Run<'_, '_>) -> Blame {
     blame
 }
 
-fn is_closed(slot: Slot) -> bool {
-    match slot {
-        Slot::Closed => true,
-        _ => false,
-    }
-}
-
 /// Who has these locks; who has both once.
 fn holders_of(locks: Locks, holders: Holders) -> Holders {
-    let is_once = locks.sq && is_same(holders.sq, holders.cq);
+    let is_once = locks.sq && holders.sq == holders.cq;
     Holders {
         sq: if locks.sq { holders.sq } else { None },
         cq: if locks.cq && !is_once {
@@ -204,8 +189,8 @@ pub fn lacked_at_fault(run: &Run<'_, '_>) -> Locks {
     let asked = locks_for(line.stmt);
     let holders = run.world.holders();
     Locks {
-        sq: asked.sq && !is_same(holders.sq, Some(thread)),
-        cq: asked.cq && !is_same(holders.cq, Some(thread)),
+        sq: asked.sq && holders.sq != Some(thread),
+        cq: asked.cq && holders.cq != Some(thread),
     }
 }
 
@@ -280,10 +265,4 @@ pub fn items_at_fault(alloc: Global, run: &Run<'_, '_>) -> Result<Vec<PoolItem>,
         }
     }
     Ok(items)
-}
-
-/// The line at fault of a statement of this kind, by its statement.
-pub fn stmt_at_fault(run: &Run<'_, '_>) -> Option<Stmt> {
-    let line: Line = run.fault_line()?;
-    Some(line.stmt)
 }

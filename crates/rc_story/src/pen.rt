@@ -54,9 +54,9 @@ impl Pen {
         }
     }
 
-    /// Whether nothing is written.
+    /// Whether nothing was to be written.
     pub fn is_empty(&self) -> bool {
-        self.text.is_empty()
+        self.text.is_empty() && !self.is_out
     }
 
     /// Adds these pieces, one after another.

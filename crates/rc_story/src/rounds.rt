@@ -34,21 +34,22 @@ pub fn round_at(frames: &[Frame], at: usize) -> Option<Round> {
 fn round_size(frames: &[Frame]) -> usize
     ensures { result ≤ length frames.now }
 {
-    match frames.split_first() {
-        Some((first, others)) if is_loop(first.event) => size_from(first.event, others),
-        _ => 0,
-    }
-}
-
-/// How many events a round has that begins with this one and goes on with these; 0 where it is none.
-fn size_from(first: Event, others: &[Frame]) -> usize
-    ensures { result ≤ length others.now }
-{
+    let Some((first, others)) = frames.split_first() else {
+        return 0;
+    };
+    let Event::ByThread {
+        thread,
+        action: Action::Looped,
+        ..
+    } = first.event
+    else {
+        return 0;
+    };
     for i in 0..others.len() {
-        if others[i].event == first {
+        if others[i].event == first.event {
             return i + 1;
         }
-        if !is_quiet(others[i]) || !is_same_thread(others[i].event, first) {
+        if !is_quiet(others[i], thread) {
             return 0;
         }
     }
@@ -62,57 +63,39 @@ fn repeats(frames: &[Frame], size: usize) -> usize
     if size == 0 {
         return 0;
     }
-    alike_in(frames, &frames[size..]) / size
-}
-
-/// In how many of their first events two runs are alike.
-fn alike_in(a: &[Frame], b: &[Frame]) -> usize {
-    let shorter = a.len().min(b.len());
-    for i in 0..shorter {
-        if a[i].event != b[i].event {
-            return i;
+    let mut alike: usize = 0;
+    for (frame, later) in frames.iter().zip(&frames[size..]) {
+        if frame.event != later.event {
+            return alike / size;
         }
+        alike = alike.saturating_add(1);
     }
-    shorter
+    alike / size
 }
 
-/// Whether an event moves nothing that is drawn but the lock.
-fn is_quiet(frame: Frame) -> bool {
-    let Event::ByThread { action, .. } = frame.event else {
+/// Whether an event is one of this thread, and moves nothing that is drawn but the lock.
+fn is_quiet(frame: Frame, mover: u32) -> bool {
+    let Event::ByThread { thread, action, .. } = frame.event else {
         return false;
     };
+    thread == mover && is_quiet_step(action, frame.line)
+}
+
+fn is_quiet_step(action: Action, line: Option<Line>) -> bool {
     match action {
         Action::VariableSet(_) | Action::Printed(_) => true,
         Action::Locked(_) | Action::Released(_) | Action::PeekedNone => true,
         Action::Looped | Action::LoopLeft => true,
         Action::Submitted(answer) => answer <= 0,
-        Action::Branched(yes) => !yes || !is_take(frame.line),
+        Action::Branched(yes) => !yes || !is_take(line),
         _ => false,
     }
 }
 
 /// Whether a line is an `if take`.
 fn is_take(line: Option<Line>) -> bool {
-    let Some(line) = line else {
-        return false;
-    };
-    match line.stmt {
-        Stmt::If(Test::Take(_, _)) => true,
-        _ => false,
-    }
-}
-
-/// Whether an event begins a round.
-fn is_loop(event: Event) -> bool {
-    match event {
-        Event::ByThread { action, .. } => action == Action::Looped,
-        Event::ByKernel(_) => false,
-    }
-}
-
-fn is_same_thread(a: Event, b: Event) -> bool {
-    match (a, b) {
-        (Event::ByThread { thread, .. }, Event::ByThread { thread: other, .. }) => thread == other,
-        _ => false,
+    match line {
+        Some(line) => matches!(line.stmt, Stmt::If(Test::Take(_, _))),
+        None => false,
     }
 }

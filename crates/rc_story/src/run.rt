@@ -3,7 +3,7 @@
 use crate::frames::{Frame, Moment, START};
 use crate::touches::is_race;
 use rc_lang::lines::{Line, Locks, Stmt};
-use rc_lang::program::{Program, Thread};
+use rc_lang::program::Program;
 use rc_read::source::Lines;
 use rc_world::event::Event;
 use rc_world::fault::{Fault, Party};
@@ -93,39 +93,16 @@ impl<'s, 'a> Run<'s, 'a> {
 /// Whether a program has sides: it takes the lock of one without the other.
 pub fn has_sides(program: &Program) -> bool {
     for thread in program.threads() {
-        if has_side(thread) {
-            return true;
+        for line in &thread.lines {
+            if matches!(line.stmt, Stmt::Lock(locks) if !are_both(locks)) {
+                return true;
+            }
         }
     }
     false
-}
-
-fn has_side(thread: &Thread) -> bool {
-    for line in &thread.lines {
-        if takes_side(line.stmt) {
-            return true;
-        }
-    }
-    false
-}
-
-fn takes_side(stmt: Stmt) -> bool {
-    match stmt {
-        Stmt::Lock(locks) => !are_both(locks),
-        _ => false,
-    }
 }
 
 /// Whether these are the locks of both sides.
 pub fn are_both(locks: Locks) -> bool {
     locks.sq && locks.cq
-}
-
-/// Whether two threads are the same, or both are none.
-pub fn is_same(a: Option<u32>, b: Option<u32>) -> bool {
-    match (a, b) {
-        (None, None) => true,
-        (Some(a), Some(b)) => a == b,
-        _ => false,
-    }
 }

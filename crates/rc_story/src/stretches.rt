@@ -44,10 +44,7 @@ impl Stretch {
 
     /// Whether a row is one of a fault.
     pub fn is_fault(self) -> bool {
-        match self {
-            Stretch::Fault | Stretch::Rival => true,
-            _ => false,
-        }
+        matches!(self, Stretch::Fault | Stretch::Rival)
     }
 }
 

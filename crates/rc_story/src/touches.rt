@@ -45,22 +45,13 @@ pub fn next_touch(world: &World<'_>, thread: u32) -> Option<Touch> {
     touch_of(world.line(thread)?.stmt)
 }
 
-/// Whether two touches race: they are of one buffer, and one of them writes it.
-fn races(a: Touch, b: Touch) -> bool {
-    a.buffer == b.buffer && (writes(a.verb) || writes(b.verb))
-}
-
-fn writes(verb: Verb) -> bool {
-    match verb {
-        Verb::Load => false,
-        Verb::Store | Verb::Fill => true,
-    }
-}
-
 /// Whether two threads are about to touch one buffer, and one of them writes it.
 pub fn is_race(world: &World<'_>, first: u32, second: u32) -> bool {
-    match (next_touch(world, first), next_touch(world, second)) {
-        (Some(a), Some(b)) => races(a, b),
-        _ => false,
+    let (Some(a), Some(b)) = (next_touch(world, first), next_touch(world, second)) else {
+        return false;
+    };
+    match (a.verb, b.verb) {
+        (Verb::Load, Verb::Load) => false,
+        _ => a.buffer == b.buffer,
     }
 }

@@ -4,9 +4,9 @@ use crate::courses::{Course, Stage};
 use crate::fault::{call_of, fault_touch, items_at_fault, lacked_at_fault, put_at_fault};
 use crate::pen::Piece;
 use crate::pools::{PoolItem, bound_of, count_in, item_name, last_in_all, pool_count};
-use crate::run::{Run, are_both, has_sides, is_same};
+use crate::run::{Run, are_both, has_sides};
 use crate::sentence::{Sentence, Told, Why};
-use crate::touches::{Touch, Verb, next_touch};
+use crate::touches::{Verb, next_touch};
 use rc_lang::lines::{Locks, Op, Stmt, Test};
 use rc_lang::program::{Items, Program};
 use rc_text::names::{buffer_name, side_of, thread_name};
@@ -172,16 +172,17 @@ fn say_race(to: &mut Sentence<'_>, run: &Run<'_, '_>) {
     to.say_word(b", and ");
     if let Some(rival) = run.rival() {
         let name = thread_name(run.program(), rival);
-        to.say(&[Piece::Word(name), Piece::Word(b" is about to ")]);
-        say_verb(to, next_touch(run.world, rival));
+        let verb = match next_touch(run.world, rival) {
+            Some(touch) => verb_words(touch.verb),
+            None => b"",
+        };
+        to.say(&[
+            Piece::Word(name),
+            Piece::Word(b" is about to "),
+            Piece::Word(verb),
+        ]);
     }
     to.say_word(b" it: nothing says which comes first.");
-}
-
-fn say_verb(to: &mut Sentence<'_>, touch: Option<Touch>) {
-    if let Some(touch) = touch {
-        to.say_word(verb_words(touch.verb));
-    }
 }
 
 /// F5.
@@ -279,7 +280,7 @@ fn say_holders(to: &mut Sentence<'_>, program: &Program, locks: Locks, holders: 
         holder_name(program, holders.sq),
         holder_name(program, holders.cq),
     );
-    if are_both(locks) && !is_same(holders.sq, holders.cq) {
+    if are_both(locks) && holders.sq != holders.cq {
         to.say(&[Piece::Word(sq), Piece::Word(b" has sq, and ")]);
         to.say(&[Piece::Word(cq), Piece::Word(b" has cq.")]);
     } else {
@@ -306,14 +307,8 @@ fn say_raw(to: &mut Sentence<'_>, run: &Run<'_, '_>, course: Option<&Course>) {
         Slot::Prepared(_) => b"the open entry is prepared and not queued: ",
     };
     to.say_word(words);
-    say_open(to, run.world.slot(), course);
-}
-
-/// Says since when the entry at fault is open, if one is.
-fn say_open(to: &mut Sentence<'_>, slot: Slot, course: Option<&Course>) {
-    match slot {
-        Slot::Closed => return,
-        Slot::Vacant | Slot::Prepared(_) => {}
+    if matches!(run.world.slot(), Slot::Closed) {
+        return;
     }
     if let Some(course) = course {
         to.say_since(course);
@@ -403,15 +398,10 @@ fn say_put(to: &mut Sentence<'_>, program: &Program, items: &Items, over: &[Pool
     for (place, item) in over.iter().enumerate() {
         if to.goes_on(place as u64, over.len() as u64) {
             to.say(&item_name(program, *item));
-            say_count(to, *item, count_in(items, *item));
+            if !matches!(*item, PoolItem::Token(_)) {
+                to.say(&[Piece::Word(b":"), Piece::Number(count_in(items, *item))]);
+            }
         }
-    }
-}
-
-fn say_count(to: &mut Sentence<'_>, item: PoolItem, count: u64) {
-    match item {
-        PoolItem::Token(_) => {}
-        _ => to.say(&[Piece::Word(b":"), Piece::Number(count)]),
     }
 }
 
