@@ -1,6 +1,6 @@
 //! Elements of SVG, each drawn in its layer.
 
-use crate::layers::{Layer, STYLES};
+use crate::layers::Layer;
 use rc_story::pen::{Pen, Piece, length_of};
 use std::alloc::{AllocError, Global};
 
@@ -44,7 +44,7 @@ impl Canvas {
     /// Nothing drawn yet.
     pub fn new(alloc: Global) -> Result<Canvas, AllocError> {
         let mut pens = Vec::new(alloc);
-        for _ in STYLES {
+        for _ in Layer::ALL {
             pens.push(Pen::new(alloc))?;
         }
         Ok(Canvas { pens })

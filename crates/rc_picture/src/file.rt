@@ -3,7 +3,7 @@
 use crate::canvas::{Canvas, Rect};
 use crate::fault_marks::draw_fault;
 use crate::head::draw_head;
-use crate::layers::{Layer, STYLES, Style};
+use crate::layers::Layer;
 use crate::legend::draw_legend;
 use crate::picture::Picture;
 use crate::requests::draw_requests;
@@ -86,8 +86,8 @@ fn start_of(
     pen.put(&[Piece::Word(b"</title>\n<desc>")]);
     pen.put_escaped(&[Piece::Word(trace)]);
     pen.put(&[Piece::Word(b"</desc>\n<style>@media(prefers-color-scheme:dark){")]);
-    for style in STYLES {
-        put_dark(&mut pen, style);
+    for layer in Layer::ALL {
+        put_dark(&mut pen, layer);
     }
     pen.put(&[Piece::Word(b"}</style>\n")]);
     pen.text()
@@ -109,20 +109,21 @@ fn put_open(pen: &mut Pen, width: u64, height: u64) {
 }
 
 /// The colours of a layer on a dark ground.
-fn put_dark(pen: &mut Pen, style: Style) {
+fn put_dark(pen: &mut Pen, layer: Layer) {
+    let (fill, stroke) = (layer.fill(), layer.stroke());
     pen.put(&[
         Piece::Word(b".rc-"),
-        Piece::Word(style.name),
+        Piece::Word(layer.name()),
         Piece::Word(b"{"),
     ]);
-    if let Some(fill) = style.fill {
-        pen.put(&[Piece::Word(b"fill:"), Piece::Word(fill.dark)]);
+    if let Some(fill) = fill {
+        pen.put(&[Piece::Word(b"fill:"), Piece::Word(fill.dark())]);
     }
-    if style.fill.is_some() && style.stroke.is_some() {
+    if fill.is_some() && stroke.is_some() {
         pen.put(&[Piece::Word(b";")]);
     }
-    if let Some(stroke) = style.stroke {
-        pen.put(&[Piece::Word(b"stroke:"), Piece::Word(stroke.dark)]);
+    if let Some(stroke) = stroke {
+        pen.put(&[Piece::Word(b"stroke:"), Piece::Word(stroke.dark())]);
     }
     pen.put(&[Piece::Word(b"}")]);
 }
@@ -130,41 +131,35 @@ fn put_dark(pen: &mut Pen, style: Style) {
 /// Adds the layers in which something is drawn.
 fn put_layers(text: &mut Vec<u8>, canvas: Canvas) -> Result<(), AllocError> {
     let Canvas { pens } = canvas;
-    for (style, pen) in STYLES.into_iter().zip(pens) {
+    for (layer, pen) in Layer::ALL.into_iter().zip(pens) {
         if !pen.is_empty() {
-            put_layer(text, style, pen)?;
+            put_layer(text, layer, pen)?;
         }
     }
     Ok(())
 }
 
 /// Adds the group of a layer with what is drawn there, with the colours on a light ground.
-fn put_layer(text: &mut Vec<u8>, style: Style, pen: Pen) -> Result<(), AllocError> {
-    let fill = match style.fill {
-        Some(colour) => colour.light,
+fn put_layer(text: &mut Vec<u8>, layer: Layer, pen: Pen) -> Result<(), AllocError> {
+    let elements = pen.text()?;
+    let fill = match layer.fill() {
+        Some(colour) => colour.light(),
         None => b"none",
     };
-    put_pieces(
-        text,
-        &[b"<g class=\"rc-", style.name, b"\" fill=\"", fill, b"\""],
-    )?;
-    put_stroke(text, style)?;
-    put_pieces(text, &[style.layer.more(), b">\n", &pen.text()?, b"</g>\n"])
+    let name = layer.name();
+    put_pieces(text, &[b"<g class=\"rc-", name, b"\" fill=\"", fill, b"\""])?;
+    put_stroke(text, layer)?;
+    put_pieces(text, &[layer.more(), b">\n", &elements, b"</g>\n"])
 }
 
 /// What the lines of a layer are drawn in, and how wide they are.
-fn put_stroke(text: &mut Vec<u8>, style: Style) -> Result<(), AllocError> {
-    match style.stroke {
-        Some(colour) => put_pieces(
-            text,
-            &[
-                b" stroke=\"",
-                colour.light,
-                b"\" stroke-width=\"",
-                style.layer.breadth(),
-                b"\"",
-            ],
-        ),
-        None => Ok(()),
-    }
+fn put_stroke(text: &mut Vec<u8>, layer: Layer) -> Result<(), AllocError> {
+    let Some(colour) = layer.stroke() else {
+        return Ok(());
+    };
+    let (colour, breadth) = (colour.light(), layer.breadth());
+    put_pieces(
+        text,
+        &[b" stroke=\"", colour, b"\" stroke-width=\"", breadth, b"\""],
+    )
 }

@@ -1,96 +1,4 @@
-//! The layers of a picture, from the ground up, and how what is in them looks.
-
-/// A colour, on a light ground and on a dark one.
-#[derive(Clone, Copy)]
-pub struct Colour {
-    pub light: &'static [u8],
-    pub dark: &'static [u8],
-}
-
-const GROUND: Colour = Colour {
-    light: b"#ffffff",
-    dark: b"#0d1117",
-};
-
-const TEXT: Colour = Colour {
-    light: b"#1f2328",
-    dark: b"#e6edf3",
-};
-
-const DIM: Colour = Colour {
-    light: b"#59636e",
-    dark: b"#9198a1",
-};
-
-const GRID: Colour = Colour {
-    light: b"#d1d9e0",
-    dark: b"#30363d",
-};
-
-const BAND: Colour = Colour {
-    light: b"#f3f5f7",
-    dark: b"#161b22",
-};
-
-const AXIS: Colour = Colour {
-    light: b"#818b98",
-    dark: b"#6e7681",
-};
-
-const LOCK: Colour = Colour {
-    light: b"#ffdf80",
-    dark: b"#5c4500",
-};
-
-const LOCK_LINE: Colour = Colour {
-    light: b"#8a6100",
-    dark: b"#e3b341",
-};
-
-const QUEUED: Colour = Colour {
-    light: b"#c8e1ff",
-    dark: b"#0c2d57",
-};
-
-const QUEUED_LINE: Colour = Colour {
-    light: b"#0b5cad",
-    dark: b"#79b8ff",
-};
-
-const PENDING: Colour = Colour {
-    light: b"#0b5cad",
-    dark: b"#58a6ff",
-};
-
-const COMPLETED: Colour = Colour {
-    light: b"#d5f2dc",
-    dark: b"#0f3d1d",
-};
-
-const COMPLETED_LINE: Colour = Colour {
-    light: b"#1a7f37",
-    dark: b"#56d364",
-};
-
-const POOL: Colour = Colour {
-    light: b"#d9c8f5",
-    dark: b"#3c2a66",
-};
-
-const POOL_LINE: Colour = Colour {
-    light: b"#6639ba",
-    dark: b"#bc9cff",
-};
-
-const FAULT: Colour = Colour {
-    light: b"#cf222e",
-    dark: b"#ff7b72",
-};
-
-const FAULT_BAND: Colour = Colour {
-    light: b"#ffe7e5",
-    dark: b"#3d1518",
-};
+//! The layers of a picture, from the ground up.
 
 /// A layer.
 #[derive(Clone, Copy)]
@@ -128,209 +36,189 @@ pub enum Layer {
     Smallred,
 }
 
-/// How what is in a layer looks.
+/// A colour, by what it is used for.
 #[derive(Clone, Copy)]
-pub struct Style {
-    pub layer: Layer,
-    /// The layer's name.
-    pub name: &'static [u8],
-    /// What its elements are filled with.
-    pub fill: Option<Colour>,
-    /// What its lines are drawn in.
-    pub stroke: Option<Colour>,
+pub enum Colour {
+    Ground,
+    Text,
+    Dim,
+    Grid,
+    Band,
+    Axis,
+    Lock,
+    LockLine,
+    Queued,
+    QueuedLine,
+    Pending,
+    Completed,
+    CompletedLine,
+    Pool,
+    PoolLine,
+    Fault,
+    FaultBand,
 }
 
-/// The layers in the order in which they are drawn, which is that of their numbers.
-pub const STYLES: [Style; 31] = [
-    Style {
-        layer: Layer::Bg,
-        name: b"bg",
-        fill: Some(GROUND),
-        stroke: None,
-    },
-    Style {
-        layer: Layer::Band,
-        name: b"band",
-        fill: Some(BAND),
-        stroke: None,
-    },
-    Style {
-        layer: Layer::Faultband,
-        name: b"faultband",
-        fill: Some(FAULT_BAND),
-        stroke: None,
-    },
-    Style {
-        layer: Layer::Grid,
-        name: b"grid",
-        fill: None,
-        stroke: Some(GRID),
-    },
-    Style {
-        layer: Layer::Axis,
-        name: b"axis",
-        fill: None,
-        stroke: Some(AXIS),
-    },
-    Style {
-        layer: Layer::Order,
-        name: b"order",
-        fill: None,
-        stroke: Some(AXIS),
-    },
-    Style {
-        layer: Layer::Taken,
-        name: b"taken",
-        fill: None,
-        stroke: Some(PENDING),
-    },
-    Style {
-        layer: Layer::Lock,
-        name: b"lock",
-        fill: Some(LOCK),
-        stroke: Some(LOCK_LINE),
-    },
-    Style {
-        layer: Layer::Open,
-        name: b"open",
-        fill: Some(GROUND),
-        stroke: Some(DIM),
-    },
-    Style {
-        layer: Layer::Queued,
-        name: b"queued",
-        fill: Some(QUEUED),
-        stroke: Some(QUEUED_LINE),
-    },
-    Style {
-        layer: Layer::Completed,
-        name: b"completed",
-        fill: Some(COMPLETED),
-        stroke: Some(COMPLETED_LINE),
-    },
-    Style {
-        layer: Layer::Tail,
-        name: b"tail",
-        fill: Some(COMPLETED_LINE),
-        stroke: None,
-    },
-    Style {
-        layer: Layer::Pending,
-        name: b"pending",
-        fill: Some(PENDING),
-        stroke: Some(PENDING),
-    },
-    Style {
-        layer: Layer::Pool,
-        name: b"pool",
-        fill: Some(POOL),
-        stroke: Some(POOL_LINE),
-    },
-    Style {
-        layer: Layer::Full,
-        name: b"full",
-        fill: None,
-        stroke: Some(TEXT),
-    },
-    Style {
-        layer: Layer::Cap,
-        name: b"cap",
-        fill: None,
-        stroke: Some(TEXT),
-    },
-    Style {
-        layer: Layer::Dot,
-        name: b"dot",
-        fill: Some(TEXT),
-        stroke: Some(GROUND),
-    },
-    Style {
-        layer: Layer::Load,
-        name: b"load",
-        fill: Some(GROUND),
-        stroke: Some(TEXT),
-    },
-    Style {
-        layer: Layer::Touch,
-        name: b"touch",
-        fill: Some(TEXT),
-        stroke: Some(GROUND),
-    },
-    Style {
-        layer: Layer::Gap,
-        name: b"gap",
-        fill: None,
-        stroke: Some(GROUND),
-    },
-    Style {
-        layer: Layer::Halo,
-        name: b"halo",
-        fill: None,
-        stroke: Some(GROUND),
-    },
-    Style {
-        layer: Layer::Link,
-        name: b"link",
-        fill: None,
-        stroke: Some(FAULT),
-    },
-    Style {
-        layer: Layer::Hit,
-        name: b"hit",
-        fill: Some(FAULT),
-        stroke: Some(GROUND),
-    },
-    Style {
-        layer: Layer::Hitload,
-        name: b"hitload",
-        fill: Some(GROUND),
-        stroke: Some(FAULT),
-    },
-    Style {
-        layer: Layer::Text,
-        name: b"text",
-        fill: Some(TEXT),
-        stroke: None,
-    },
-    Style {
-        layer: Layer::Dim,
-        name: b"dim",
-        fill: Some(DIM),
-        stroke: None,
-    },
-    Style {
-        layer: Layer::Bold,
-        name: b"bold",
-        fill: Some(TEXT),
-        stroke: None,
-    },
-    Style {
-        layer: Layer::Red,
-        name: b"red",
-        fill: Some(FAULT),
-        stroke: None,
-    },
-    Style {
-        layer: Layer::Small,
-        name: b"small",
-        fill: Some(TEXT),
-        stroke: None,
-    },
-    Style {
-        layer: Layer::Smallbold,
-        name: b"smallbold",
-        fill: Some(TEXT),
-        stroke: None,
-    },
-    Style {
-        layer: Layer::Smallred,
-        name: b"smallred",
-        fill: Some(FAULT),
-        stroke: None,
-    },
-];
+impl Colour {
+    /// On a light ground.
+    pub fn light(self) -> &'static [u8] {
+        match self {
+            Colour::Ground => b"#ffffff",
+            Colour::Text => b"#1f2328",
+            Colour::Dim => b"#59636e",
+            Colour::Grid => b"#d1d9e0",
+            Colour::Band => b"#f3f5f7",
+            Colour::Axis => b"#818b98",
+            Colour::Lock => b"#ffdf80",
+            Colour::LockLine => b"#8a6100",
+            Colour::Queued => b"#c8e1ff",
+            Colour::QueuedLine => b"#0b5cad",
+            Colour::Pending => b"#0b5cad",
+            Colour::Completed => b"#d5f2dc",
+            Colour::CompletedLine => b"#1a7f37",
+            Colour::Pool => b"#d9c8f5",
+            Colour::PoolLine => b"#6639ba",
+            Colour::Fault => b"#cf222e",
+            Colour::FaultBand => b"#ffe7e5",
+        }
+    }
+
+    /// On a dark ground.
+    pub fn dark(self) -> &'static [u8] {
+        match self {
+            Colour::Ground => b"#0d1117",
+            Colour::Text => b"#e6edf3",
+            Colour::Dim => b"#9198a1",
+            Colour::Grid => b"#30363d",
+            Colour::Band => b"#161b22",
+            Colour::Axis => b"#6e7681",
+            Colour::Lock => b"#5c4500",
+            Colour::LockLine => b"#e3b341",
+            Colour::Queued => b"#0c2d57",
+            Colour::QueuedLine => b"#79b8ff",
+            Colour::Pending => b"#58a6ff",
+            Colour::Completed => b"#0f3d1d",
+            Colour::CompletedLine => b"#56d364",
+            Colour::Pool => b"#3c2a66",
+            Colour::PoolLine => b"#bc9cff",
+            Colour::Fault => b"#ff7b72",
+            Colour::FaultBand => b"#3d1518",
+        }
+    }
+}
 
 impl Layer {
+    /// All layers, in the order in which they are drawn, which is that of their numbers.
+    pub const ALL: [Layer; 31] = [
+        Layer::Bg,
+        Layer::Band,
+        Layer::Faultband,
+        Layer::Grid,
+        Layer::Axis,
+        Layer::Order,
+        Layer::Taken,
+        Layer::Lock,
+        Layer::Open,
+        Layer::Queued,
+        Layer::Completed,
+        Layer::Tail,
+        Layer::Pending,
+        Layer::Pool,
+        Layer::Full,
+        Layer::Cap,
+        Layer::Dot,
+        Layer::Load,
+        Layer::Touch,
+        Layer::Gap,
+        Layer::Halo,
+        Layer::Link,
+        Layer::Hit,
+        Layer::Hitload,
+        Layer::Text,
+        Layer::Dim,
+        Layer::Bold,
+        Layer::Red,
+        Layer::Small,
+        Layer::Smallbold,
+        Layer::Smallred,
+    ];
+
+    /// The layer's name.
+    pub fn name(self) -> &'static [u8] {
+        match self {
+            Layer::Bg => b"bg",
+            Layer::Band => b"band",
+            Layer::Faultband => b"faultband",
+            Layer::Grid => b"grid",
+            Layer::Axis => b"axis",
+            Layer::Order => b"order",
+            Layer::Taken => b"taken",
+            Layer::Lock => b"lock",
+            Layer::Open => b"open",
+            Layer::Queued => b"queued",
+            Layer::Completed => b"completed",
+            Layer::Tail => b"tail",
+            Layer::Pending => b"pending",
+            Layer::Pool => b"pool",
+            Layer::Full => b"full",
+            Layer::Cap => b"cap",
+            Layer::Dot => b"dot",
+            Layer::Load => b"load",
+            Layer::Touch => b"touch",
+            Layer::Gap => b"gap",
+            Layer::Halo => b"halo",
+            Layer::Link => b"link",
+            Layer::Hit => b"hit",
+            Layer::Hitload => b"hitload",
+            Layer::Text => b"text",
+            Layer::Dim => b"dim",
+            Layer::Bold => b"bold",
+            Layer::Red => b"red",
+            Layer::Small => b"small",
+            Layer::Smallbold => b"smallbold",
+            Layer::Smallred => b"smallred",
+        }
+    }
+
+    /// What its elements are filled with.
+    pub fn fill(self) -> Option<Colour> {
+        match self {
+            Layer::Bg | Layer::Open | Layer::Load | Layer::Hitload => Some(Colour::Ground),
+            Layer::Band => Some(Colour::Band),
+            Layer::Faultband => Some(Colour::FaultBand),
+            Layer::Lock => Some(Colour::Lock),
+            Layer::Queued => Some(Colour::Queued),
+            Layer::Completed => Some(Colour::Completed),
+            Layer::Tail => Some(Colour::CompletedLine),
+            Layer::Pending => Some(Colour::Pending),
+            Layer::Pool => Some(Colour::Pool),
+            Layer::Dot | Layer::Touch | Layer::Text | Layer::Bold => Some(Colour::Text),
+            Layer::Small | Layer::Smallbold => Some(Colour::Text),
+            Layer::Hit | Layer::Red | Layer::Smallred => Some(Colour::Fault),
+            Layer::Dim => Some(Colour::Dim),
+            _ => None,
+        }
+    }
+
+    /// What its lines are drawn in.
+    pub fn stroke(self) -> Option<Colour> {
+        match self {
+            Layer::Grid => Some(Colour::Grid),
+            Layer::Axis | Layer::Order => Some(Colour::Axis),
+            Layer::Taken | Layer::Pending => Some(Colour::Pending),
+            Layer::Lock => Some(Colour::LockLine),
+            Layer::Open => Some(Colour::Dim),
+            Layer::Queued => Some(Colour::QueuedLine),
+            Layer::Completed => Some(Colour::CompletedLine),
+            Layer::Pool => Some(Colour::PoolLine),
+            Layer::Full | Layer::Cap | Layer::Load => Some(Colour::Text),
+            Layer::Dot | Layer::Touch | Layer::Gap | Layer::Halo | Layer::Hit => {
+                Some(Colour::Ground)
+            }
+            Layer::Link | Layer::Hitload => Some(Colour::Fault),
+            _ => None,
+        }
+    }
+
     /// How wide its lines are.
     pub fn breadth(self) -> &'static [u8] {
         match self {

@@ -3,6 +3,7 @@
 #![tactic(auto)]
 
 pub mod courses;
+mod double_put;
 pub mod fault;
 pub mod frames;
 pub mod labels;

@@ -1,14 +1,15 @@
 //! The sentence that says why there is a fault.
 
 use crate::courses::{Course, Stage};
+use crate::double_put::say_twice;
 use crate::fault::{call_of, fault_touch, items_at_fault, lacked_at_fault, put_at_fault};
 use crate::pen::Piece;
-use crate::pools::{PoolItem, bound_of, count_in, item_name, last_in_all, pool_count};
+use crate::pools::PoolItem;
 use crate::run::{Run, are_both, has_sides};
 use crate::sentence::{Sentence, Told, Why};
 use crate::touches::{Verb, next_touch};
 use rc_lang::lines::{Locks, Op, Stmt, Test};
-use rc_lang::program::{Items, Program};
+use rc_lang::program::Program;
 use rc_text::names::{buffer_name, side_of, thread_name};
 use rc_world::controls::Holders;
 use rc_world::fault::FaultKind;
@@ -377,51 +378,8 @@ fn say_bytes(to: &mut Sentence<'_>, program: &Program, buffer: usize) {
 
 /// F12.
 fn say_double(to: &mut Sentence<'_>, run: &Run<'_, '_>, over: &[PoolItem]) {
-    let Some(items) = put_at_fault(run) else {
-        return;
-    };
-    say_about(to, run);
-    to.say_word(b"put ");
-    say_put(to, run.program(), items, over);
-    let have: &[u8] = if pool_count(run.program()) > 1 {
-        b", and the pools have "
-    } else {
-        b", and the pool has "
-    };
-    to.say_word(have);
-    say_there(to, run, over);
-    to.say_word(b".");
-}
-
-/// Says which of these items are put, and how many where they may be there more than once.
-fn say_put(to: &mut Sentence<'_>, program: &Program, items: &Items, over: &[PoolItem]) {
-    for (place, item) in over.iter().enumerate() {
-        if to.goes_on(place as u64, over.len() as u64) {
-            to.say(&item_name(program, *item));
-            if !matches!(*item, PoolItem::Token(_)) {
-                to.say(&[Piece::Word(b":"), Piece::Number(count_in(items, *item))]);
-            }
-        }
-    }
-}
-
-/// Says how many of these items are there already.
-fn say_there(to: &mut Sentence<'_>, run: &Run<'_, '_>, over: &[PoolItem]) {
-    for (place, item) in over.iter().enumerate() {
-        if to.goes_on(place as u64, over.len() as u64) {
-            say_already(to, run, *item);
-        }
-    }
-}
-
-fn say_already(to: &mut Sentence<'_>, run: &Run<'_, '_>, item: PoolItem) {
-    match item {
-        PoolItem::Token(_) => to.say_word(b"it already"),
-        _ => to.say(&[
-            Piece::Number(last_in_all(run, item)),
-            Piece::Word(b" of "),
-            Piece::Number(bound_of(run.program(), item)),
-            Piece::Word(b" already"),
-        ]),
+    if let Some(items) = put_at_fault(run) {
+        say_about(to, run);
+        say_twice(to, run, items, over);
     }
 }
