@@ -1,5 +1,6 @@
 """Checks a copy of a crate in which edits are made, and reads what the prover says of each function."""
 
+import contextlib
 import functools
 import os
 import re
@@ -168,26 +169,28 @@ def copy_crate(crate, texts, room):
         (room / path).write_text(text)
 
 
-def kept_work(crate, room):
-    """The words by which a check begins with a copy of what earlier checks of the crate kept, where there is some."""
-    kept = CRATES / crate / "out" / "incremental"
-    if not kept.is_dir():
-        return []
-    try:
-        shutil.copytree(kept, room / "kept", symlinks=True, copy_function=link_proved)
-    except (OSError, shutil.Error):
-        # (another command may write what this one copies)
-        shutil.rmtree(room / "kept", ignore_errors=True)
-        return []
-    return ["--incremental", str(room / "kept")]
+@contextlib.contextmanager
+def kept_work(crate):
+    """A folder in which the checks of a crate keep what they prove, so that a further one proves only what is new to it. It
+    begins with what `rt check` kept, where there is some."""
+    with tempfile.TemporaryDirectory(prefix="ringcheck-edits-") as folder:
+        kept, own = Path(folder) / "kept", CRATES / crate / "out" / "incremental"
+        try:
+            if own.is_dir():
+                shutil.copytree(own, kept, symlinks=True, copy_function=link_proved)
+        except (OSError, shutil.Error):
+            # (another command may write what this one copies)
+            shutil.rmtree(kept, ignore_errors=True)
+        kept.mkdir(exist_ok=True)
+        yield kept
 
 
-def run_check(crate, texts, only):
+def run_check(crate, texts, only, kept):
     """One check of a crate with these texts, of these functions and what they call; of all where none is named."""
     with tempfile.TemporaryDirectory(prefix="ringcheck-edits-") as folder:
         room = Path(folder)
         copy_crate(crate, texts, room)
-        words = [*words_of(crate), *kept_work(crate, room), *(word for it in only for word in ("--only", it))]
+        words = [*words_of(crate), "--incremental", str(kept), *(word for it in only for word in ("--only", it))]
         with open(room / "said", "w+", errors="replace") as said:
             run = subprocess.Popen(words, cwd=room, stdin=subprocess.DEVNULL, stdout=said, stderr=subprocess.STDOUT)
             _, status, used = os.wait4(run.pid, 0)
@@ -196,14 +199,14 @@ def run_check(crate, texts, only):
             return Said(run.returncode, said.read(), used.ru_utime + used.ru_stime)
 
 
-def check(crate, texts, only):
+def check(crate, texts, only, kept):
     """As `run_check`, once more where it was killed, as for memory, or came to no verdict."""
-    said = run_check(crate, texts, only)
+    said = run_check(crate, texts, only, kept)
     if said.status == -signal.SIGINT:
         raise KeyboardInterrupt
     if said.is_whole or said.unread(texts):
         return said
-    again = run_check(crate, texts, only)
+    again = run_check(crate, texts, only, kept)
     again.seconds += said.seconds
     if again.is_whole or again.unread(texts):
         return again

@@ -11,7 +11,7 @@ import re
 from concurrent.futures import ThreadPoolExecutor
 from dataclasses import dataclass
 
-from edit_checks import Failed, build_below, check
+from edit_checks import Failed, build_below, check, kept_work
 from edit_files import CRATES, EDITS, SELF_TEST_CRATE, TOP, Stale, crate_edits, self_test_edits
 from edit_functions import Edit, read_edit, texts_of
 
@@ -25,7 +25,7 @@ MEMORY = 3_500_000
 
 @dataclass
 class Tally:
-    """The checks that were made, and the processor seconds that they took."""
+    """The checks of a crate that were made, and the processor seconds that they took."""
 
     checks: int = 0
     seconds: float = 0.0
@@ -102,10 +102,10 @@ def judged(edit, said):
     return None if waits else UNCLEAR
 
 
-def try_batch(crate, batch, tally):
+def try_batch(crate, batch, kept, tally):
     """What one check says of these edits. Where it can't read the code, of each half of them apart."""
     texts = texts_of(crate, batch)
-    said = check(crate, texts, only_of(batch))
+    said = check(crate, texts, only_of(batch), kept)
     tally.checks += 1
     tally.seconds += said.seconds
     unread = said.unread(texts)
@@ -113,7 +113,7 @@ def try_batch(crate, batch, tally):
         return {batch[0]: f"BAD: it can't be read or compiled: {unread[:300]}"}
     if unread:
         half = len(batch) // 2
-        return try_batch(crate, batch[:half], tally) | try_batch(crate, batch[half:], tally)
+        return try_batch(crate, batch[:half], kept, tally) | try_batch(crate, batch[half:], kept, tally)
     stop_on_strays(batch, said)
     found = {edit: judged(edit, said) for edit in batch}
     if len(batch) == 1 and found[batch[0]] is None:
@@ -124,9 +124,10 @@ def try_batch(crate, batch, tally):
 def try_all(crate, edits, tally):
     """What the checks say of each edit, in as many as are needed."""
     left, found = list(edits), {}
-    while left:
-        found |= {edit: it for edit, it in try_batch(crate, packed(left), tally).items() if it}
-        left = [it for it in left if it not in found]
+    with kept_work(crate) as kept:
+        while left:
+            found |= {edit: it for edit, it in try_batch(crate, packed(left), kept, tally).items() if it}
+            left = [it for it in left if it not in found]
     return found
 
 
