@@ -4,7 +4,7 @@
 usage: ci/edits.py
        ci/edits.py --try [--after-ci] [CRATE..]
 
-With --try it has the prover try the edits of these crates, or of those of the specification where none is named, and says
+With --try it has the prover try the edits of these crates, or of those of the core where none is named, and says
 which are not refused. It needs rt on the PATH, and builds the libraries below the crates where they aren't built;
 --after-ci takes them as `rt ci` has left them. A check begins with what `rt check` kept. RT_JOBS says how many checks go
 side by side. edit_files.py says what an edit is, edit_trials.py how it is judged. The status is 1 where an edit doesn't
@@ -30,8 +30,8 @@ from edit_files import (
 from edit_functions import read_edit
 from edit_trials import try_crates
 
-# The crates of the specification, lowest first: the whole test tries their edits, and audit/edits those of the others.
-SPECIFICATION = (
+# The core, lowest first: the whole test tries their edits, and audit/edits those of the others.
+CORE = (
     "rc_index",
     "rc_entry",
     "rc_ring",
@@ -59,7 +59,7 @@ def try_edit(edit):
 
 def stale_edits():
     """Says which edits don't apply, and returns whether there are such."""
-    kinds = [crate_edits(it) for it in {*edited_crates(), *SPECIFICATION}]
+    kinds = [crate_edits(it) for it in {*edited_crates(), *CORE}]
     kinds += [self_test_edits(), rule_edits(), bug_edits()]
     stale = 0
     for edit in sorted(it for kind in kinds for it in kind):
@@ -80,7 +80,7 @@ def main():
     crates = [it for it in words[1:] if it != "--after-ci"]
     if words[0] != "--try" or set(crates) - set(edited_crates()):
         sys.exit(__doc__)
-    return int(not try_crates(crates or SPECIFICATION, "--after-ci" in words))
+    return int(not try_crates(crates or CORE, "--after-ci" in words))
 
 
 if __name__ == "__main__":
