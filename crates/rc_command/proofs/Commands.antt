@@ -52,7 +52,7 @@ within (Check json) bytes s text h = verdict_within h.0 s h.2
 within (Explain form) bytes s text h = verdict_within h.0 s h.2
 within Keeps bytes s text h = elim h [
   | inl (kept, given, is, status) ↦ omega (arith, status)
-  | inr (verdict, given, is, status) ↦ verdict_within verdict s status
+  | inr (unread, given, says) ↦ verdict_within (NoProgram unread.line unread.cause) s says.1
 ]
 within (Step schedule) bytes s text h = step_within h.0 s h.3
 within (State schedule) bytes s text h = step_within h.1.0 s h.1.3

@@ -21,7 +21,8 @@ pub fn keep_text<S: Sink>(alloc: Global, text: &[u8], sink: &mut S) -> Result<u8
 {
     match kept_text(alloc, text)? {
         Ok(kept) => write_answer(sink, &kept, GOOD_STATUS),
-        Err(UnreadLine { line, cause }) => {
+        Err(unread) => {
+            let UnreadLine { line, cause } = unread;
             tell_verdict(alloc, Verdict::Unreadable { line, cause }, sink)
         }
     }

@@ -16,4 +16,4 @@ returns-in-Ok g c =
 pub returns-in-Err : goal.returns-in-Err
 returns-in-Err g c =
     let given = subst (GivesKept c.args.text.now) c.in-Err.is c.in_ok-kept.ensures in
-    does_unread g.S.Sink.state c.args.sink.now c.tell_verdict.new.sink c.args.text.now (record { line = c.in-Err.line; cause = c.in-Err.cause }) c.tell_verdict.result given c.tell_verdict.ensures
+    does_unread g.S.Sink.state c.args.sink.now c.tell_verdict.new.sink c.args.text.now c.in-Err.unread c.tell_verdict.result given c.tell_verdict.ensures

@@ -1,4 +1,4 @@
-use Rattle.std.proofs.Common.{◌≡◌, Bool, ℕ, List, Unit, true, false, refl, rules}
+use Rattle.std.proofs.Common.{◌≡◌, Bool, ℕ, List, true, false, refl, rules}
 use Rattle.std.specs.Arc.{arc_value}
 use Rattle.rc_lang.specs.Program.{Program}
 use Rattle.rc_world.specs.declared.event.Event.{Event}
