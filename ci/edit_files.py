@@ -3,8 +3,9 @@
 An edit is a file NAME.edit. After lines that begin with '#' it has pairs of lines 'old: TEXT' and 'new: TEXT' for the
 file that the last line 'file: PATH' named. Each old TEXT is there exactly once, as the pairs before it left the file.
 
-edits/CRATE         wrong code of a crate, which the prover has to refuse; edits/self-test has edits of one crate that
-                    ci/edits.py tests itself with. Paths are those in the crate, and each TEXT is as it is.
+edits/CRATE         wrong code of a crate, which the prover has to refuse; paths are those in the crate, and each TEXT
+                    is as it is
+ci/edit_self_test   the same of one crate, by which ci/edits.py tests itself: one is to be refused, and one isn't
 audit/rules         wrong rules; paths are below crates/, and a \\n in a TEXT is a line's end
 audit/bugs          planted bugs; paths are below examples/follow, and a \\n is the same
 """
@@ -14,8 +15,8 @@ from pathlib import Path
 TOP = Path(__file__).resolve().parent.parent
 CRATES = TOP / "crates"
 EDITS = TOP / "edits"
-SELF_TEST = EDITS / "self-test"
-# The crate that the edits of self-test are of.
+SELF_TEST = TOP / "ci" / "edit_self_test"
+# The crate that the edits of the self-test are of.
 SELF_TEST_CRATE = "rc_index"
 RULES = TOP / "audit" / "rules"
 BUGS = TOP / "audit" / "bugs"
@@ -44,7 +45,7 @@ def bug_edits():
 
 def edited_crates():
     """The crates that have edits."""
-    return sorted({it.parent.name for it in EDITS.glob("*/*.edit")} - {SELF_TEST.name})
+    return sorted({it.parent.name for it in EDITS.glob("*/*.edit")})
 
 
 def crate_of(edit):

@@ -89,7 +89,7 @@ pub enum Command<'a> {
     Show(String),
 }
 
-/// What the program is asked to do, and with the texts of which files. None: with that of standard input.
+/// A command and the files that it reads: standard input if there are none.
 #[derive(Drop)]
 pub struct Asked<'a> {
     pub command: Command<'a>,

@@ -164,7 +164,7 @@ impl Lanes {
     }
 }
 
-/// Where a group begins, and 0 where there is none.
+/// Where a group begins, or 0 if there is no such group.
 pub fn start_at(groups: &[Group], group: usize) -> u64 {
     match groups.get(group) {
         Some(group) => group.start,

@@ -28,8 +28,8 @@ pub fn spans_of(alloc: Global, text: &[u8], width: u64) -> Result<Vec<Span>, All
     Ok(spans)
 }
 
-/// Where the line of a text ends that begins here, if lines have so many bytes: at the last blank within them, or at
-/// the first blank where there is none.
+/// Where the line that begins at `start` ends: at the end of the text if at most `room` bytes are left, else at the last
+/// blank within `room`, else at the first blank.
 fn line_end(text: &[u8], start: usize, room: u64) -> usize {
     let mut end = start;
     for place in start..text.len() {

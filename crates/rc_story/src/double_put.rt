@@ -6,7 +6,7 @@ use crate::run::Run;
 use crate::sentence::Sentence;
 use rc_lang::program::{Items, Program};
 
-/// Says that these items are put, of which there is no room for those.
+/// Says which items are put, and which of them the pools have no room for.
 pub fn say_twice(to: &mut Sentence<'_>, run: &Run<'_, '_>, items: &Items, over: &[PoolItem]) {
     to.say_word(b"put ");
     say_put(to, run.program(), items, over);

@@ -194,7 +194,7 @@ pub fn lacked_at_fault(run: &Run<'_, '_>) -> Locks {
     }
 }
 
-/// The locks of the sides of which a statement is a call.
+/// The locks that a statement needs.
 fn locks_for(stmt: Stmt) -> Locks {
     match stmt {
         Stmt::Put(None, _) | Stmt::If(Test::Take(None, _)) => BOTH,

@@ -8,7 +8,7 @@ use rc_lang::program::{Items, Program, Share};
 use rc_text::names::{buffer_name, pool_name};
 use rc_world::event::{Action, Event};
 
-/// An item of which pools have some.
+/// What a pool can hold.
 #[derive(Clone, Copy)]
 pub enum PoolItem {
     /// The shares of a buffer.

@@ -18,7 +18,7 @@ pub struct Stock {
     pub is_at_fault: bool,
 }
 
-/// The items of which a pool has some after some row: pool by pool, in the text's order.
+/// The items that each pool holds after at least one row, in the order of the text.
 pub fn stocks_of(
     alloc: Global,
     run: &Run<'_, '_>,
