@@ -1,4 +1,4 @@
-//! A program is stepped through a schedule or by moves, the picture of its trace is made, and what can't be made is told.
+//! Steps a program through a schedule or by moves, and draws its trace.
 
 ghost use Rattle.std.specs.Prelude.{◌≡◌, IfOk};
 ghost use Rattle.rc_runs.specs.Moved.{EndsMoves};
@@ -45,7 +45,7 @@ pub fn put_items_picture(
     }
 }
 
-/// The same of the schedule that moves spell; also moves that end at their most steps are told in the notes.
+/// The same for moves. The notes also say if the moves ended at their most steps.
 pub fn put_moves_picture(
     answer: &mut Vec<u8>,
     notes: &mut Vec<u8>,

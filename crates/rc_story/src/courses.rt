@@ -40,7 +40,7 @@ impl Stage {
 pub struct Course {
     /// The number of the event at which each of its stages begins, and 0 for those that don't.
     pub events: [u64; 6],
-    /// The stage to which it has come.
+    /// The stage that it has reached.
     pub stage: Stage,
     /// The number of the request among all that are made, from 1.
     pub serial: u64,

@@ -20,7 +20,7 @@ pub struct Moment {
     pub completions: u64,
 }
 
-/// What is drawn of the world in which a run starts.
+/// What is drawn of the world before the first event.
 pub const START: Moment = Moment {
     holders: Holders { sq: None, cq: None },
     slot: Slot::Closed,

@@ -6,7 +6,7 @@ use crate::frames::Frame;
 use rc_lang::lines::{Line, Stmt, Test};
 use rc_world::event::{Action, Event};
 
-/// A round that is told once: the place after its last event, how often it comes again at once, and the place after that.
+/// A round that repeats and is shown once: the place after it, how often it repeats, and the place after the repeats.
 #[derive(Clone, Copy)]
 pub struct Round {
     pub told: usize,
@@ -14,7 +14,7 @@ pub struct Round {
     pub end: usize,
 }
 
-/// The round with which the events from a place on begin, if it comes at least twice more.
+/// The round that begins at a place, if it repeats at least twice.
 pub fn round_at(frames: &[Frame], at: usize) -> Option<Round> {
     let rest = frames.get(at..)?;
     let size = round_size(rest);
@@ -30,7 +30,7 @@ pub fn round_at(frames: &[Frame], at: usize) -> Option<Round> {
     })
 }
 
-/// How many events the round has with which these begin; 0 where none begins.
+/// The length of the round that these events begin with, or 0 if they begin with none.
 fn round_size(frames: &[Frame]) -> usize
     ensures { result ≤ length frames.now }
 {

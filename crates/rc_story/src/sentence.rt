@@ -21,7 +21,7 @@ impl Why {
     }
 }
 
-/// How a request is told in a list.
+/// How a request is named in a list.
 #[derive(Clone, Copy)]
 pub enum Told {
     /// By its name and since when.

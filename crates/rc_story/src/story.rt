@@ -15,7 +15,7 @@ use rc_text::names::thread_name;
 use rc_world::event::Event;
 use std::alloc::{AllocError, Global};
 
-/// A row, and what is told there.
+/// A row and what it says.
 #[derive(Drop)]
 pub struct Row {
     pub stretch: Stretch,
@@ -135,7 +135,7 @@ impl<'s, 'a> Story<'s, 'a> {
     }
 }
 
-/// The rows with what is told there.
+/// The rows and what they say.
 fn rows_of(
     alloc: Global,
     run: &Run<'_, '_>,
