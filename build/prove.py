@@ -33,7 +33,7 @@ BYTES = 3_000_000_000
 MOST_JOBS = 4
 
 # What is called of the modules rt and rtlib of the toolchain, and of a crate.
-OF_RT = ("share_work", "read_files", "processors", "free")
+OF_RT = ("read_files", "processors", "free")
 OF_RTLIB = ("Crate", "guarded", "lock", "root_above", "stop_on_links")
 OF_CRATE = ("below", "build_rlib", "is_built", "makes_rlib", "run", "stamp")
 BY_HAND = "these commands do the same, more slowly: cd crates/rc_main && rt all check && rt run -- --version"
@@ -58,7 +58,8 @@ def load():
     # At Ctrl-C this process ends at once, and the toolchain's guard then ends all that it has started.
     signal.signal(signal.SIGINT, signal.SIG_DFL)
     rt.rtlib.guarded()
-    rt.share_work(True)
+    # Kit 13f shares work between its processes where it is told to; kit 13b has no such call.
+    getattr(rt, "share_work", lambda _: None)(True)
     made = rt.rtlib.Crate.__init__
 
     def make(crate, *given, **named):
