@@ -1,6 +1,6 @@
 'use strict';
 // The steps of audit/editors in the extension of VS Code, with a stand-in for VS Code's API: `node` this file, in a folder
-// with early.rc, keeps.rc and mended.rc. It prints a line for each step, and how many there were.
+// with early.rc, keeps.rc and fixed.rc. It prints a line for each step, and how many there were.
 const assert = require('assert');
 const fs = require('fs');
 const Module = require('module');
@@ -283,8 +283,8 @@ async function main() {
         await act(document, 5, 'this loop');
         assert.strictEqual(document.line(5), 'loop keeps a:1 {');
     });
-    await step('a code action mends the line that is at fault', async () => {
-        const document = opened('mended.rc');
+    await step('a code action fixes the line that is at fault', async () => {
+        const document = opened('fixed.rc');
         await document.errorAt(6);
         await act(document, 6, 'fill in the lists');
         assert.strictEqual(document.line(5), 'loop keeps a:1 {');

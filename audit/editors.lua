@@ -1,5 +1,5 @@
 -- The steps of audit/editors in neovim, from 0.7 on: `nvim --headless --clean -S` this file, in a folder with early.rc,
--- keeps.rc and mended.rc. It prints a line for each step, and how many there were.
+-- keeps.rc and fixed.rc. It prints a line for each step, and how many there were.
 local passed, failed = 0, 0
 
 -- How long something may take to come, in milliseconds.
@@ -256,12 +256,12 @@ step('a code action fills in the list of a loop', function()
   await('the list', function() return line(5) == 'loop keeps a:1 {' end)
 end)
 
-step('a code action mends the line that is at fault', function()
-  vim.cmd('edit! mended.rc')
+step('a code action fixes the line that is at fault', function()
+  vim.cmd('edit! fixed.rc')
   error_at(6)
   go(6, 0)
   act('fill in the lists')
-  await('the mend', function() return line(5) == 'loop keeps a:1 {' end)
+  await('the fix', function() return line(5) == 'loop keeps a:1 {' end)
   await('no error', function() return #errors() == 0 end)
 end)
 

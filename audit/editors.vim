@@ -44,8 +44,8 @@ function! s:main() abort
     silent make!
     let list = getqflist()
     call s:step(':make has one error, at its line', map(copy(list), {_, one -> [one.lnum, one.type]}), [[18, 'E']])
-    let wanted = ['V8', 'NoShare', 'asks for 1 share of a; held: 0', 'mend: Reap request 7 first']
-    call s:step(':make shows what the line asks for, and the mend', s:has(get(list, 0, {'text': ''}).text, wanted), [])
+    let wanted = ['V8', 'NoShare', 'asks for 1 share of a; held: 0', 'fix: Reap request 7 first']
+    call s:step(':make shows what the line asks for, and the fix', s:has(get(list, 0, {'text': ''}).text, wanted), [])
     edit handoff.rc
     silent make!
     call s:step(':make has no error for an accepted text', getqflist(), [])
@@ -57,7 +57,7 @@ function! s:main() abort
         ALELint
         let list = s:entries()
         call s:step('ALE has one error, at its line', map(copy(list), {_, one -> [one.lnum, one.type]}), [[18, 'E']])
-        call s:step('ALE shows what the line asks for, and the mend', s:has(get(list, 0, {'text': ''}).text, wanted), [])
+        call s:step('ALE shows what the line asks for, and the fix', s:has(get(list, 0, {'text': ''}).text, wanted), [])
     endif
 endfunction
 

@@ -1,5 +1,5 @@
-/* Makes each call that ringcheck.h logs, as C11 and as C++17, and looks at what is poisoned when. audit/follow compares the
-   log with the comments that begin with a colon. The calls are made in the order of the file. */
+/* Makes each call that ringcheck.h logs, as C and as C++, and looks at what is poisoned when. ci/header.py and audit/follow
+   compare the log with the comments that begin with a colon. The calls are made in the order of the file. */
 #ifndef _GNU_SOURCE
 #define _GNU_SOURCE
 #endif
@@ -57,6 +57,8 @@ static void begin(void)
     RINGCHECK_WRITES(page); /*: writes page */
     RINGCHECK_PUT("free"); /*: put free */
     RINGCHECK_TAKE("free"); /*: take free */
+    RINGCHECK_PUT("free", page); /*: put free page */
+    RINGCHECK_TAKE("free", spare); /*: take free ? */
     RINGCHECK_REAPER(); /*: lock cq */
 }
 
@@ -133,6 +135,9 @@ static void reap(void)
     io_uring_cq_advance(&ring, 1); /*: cqe_seen 6 */
     io_uring_for_each_cqe(&ring, head, cqe) /*: peek_cqe none */
         MUST(0, 1);
+    RINGCHECK_READS(page); /*: reads page */
+    MUST(io_uring_peek_cqe(&ring, &cqe), -EAGAIN); /*: peek_cqe none */
+    RINGCHECK_PUT("free"); /*: put free */
 }
 
 static void fill_in(void)
@@ -232,6 +237,152 @@ static void poison(void)
     MUST_BE_POISONED(0, 0, 0);
 }
 
+/* Another ring in the place of one that is gone, with eight entries that no submit took. */
+static void say_again(void)
+{
+    io_uring_queue_exit(&ring);
+    MUST(io_uring_queue_init(8, &ring, 0), 0);
+    RINGCHECK_RING_SIDES(&ring, &submitting, NULL);
+}
+
+static void submit_nops(uint64_t data, int count)
+{
+    int i;
+
+    for (i = 0; i < count; i++) {
+        struct io_uring_sqe *sqe = io_uring_get_sqe(&ring);
+
+        io_uring_prep_nop(sqe);
+        io_uring_sqe_set_data64(sqe, data);
+    }
+    MUST(io_uring_submit(&ring), count);
+}
+
+static void overwrite_user_data(void)
+{
+    struct io_uring_cqe *cqe;
+
+    submit_nops(14, 1); /*: get_sqe 1 */ /*: prep_nop */ /*: set_data64 14 */ /*: submit 1 */
+    MUST(io_uring_peek_cqe(&ring, &cqe), 0); /*: peek_cqe 14 0 */
+    cqe->user_data = 99;
+    MUST(io_uring_peek_cqe(&ring, &cqe), 0); /*: peek_cqe 14 0 */
+    io_uring_cqe_seen(&ring, cqe); /*: cqe_seen 14 */
+}
+
+static void copy_entry(void)
+{
+    struct io_uring_sqe mine, *sqe;
+    struct io_uring_cqe *cqe;
+
+    memset(&mine, 0, sizeof mine);
+    io_uring_prep_nop(&mine);
+    io_uring_sqe_set_data64(&mine, 15);
+    sqe = entry(); /*: get_sqe 1 */
+    *sqe = mine;
+    RINGCHECK_PUT("queue"); /*: prep_nop */ /*: set_data64 15 */ /*: put queue */
+    MUST(io_uring_submit(&ring), 1); /*: submit 1 */
+    MUST(io_uring_peek_cqe(&ring, &cqe), 0); /*: peek_cqe 15 0 */
+    io_uring_cqe_seen(&ring, cqe); /*: cqe_seen 15 */
+}
+
+static void set_flags_first(void)
+{
+    struct io_uring_sqe *sqe = entry(); /*: get_sqe 1 */
+    struct io_uring_cqe *cqe;
+
+    io_uring_sqe_set_flags(sqe, IOSQE_IO_DRAIN);
+    io_uring_prep_nop(sqe); /*: prep_nop */
+    io_uring_sqe_set_data64(sqe, 16); /*: set_data64 16 */
+    MUST(io_uring_submit(&ring), 1); /*: flags 2 */ /*: submit 1 */
+    MUST(io_uring_wait_cqe(&ring, &cqe), 0); /*: peek_cqe 16 0 */
+    io_uring_cqe_seen(&ring, cqe); /*: cqe_seen 16 */
+}
+
+static void leave_user_data(void)
+{
+    struct io_uring_sqe *sqe = entry(); /*: get_sqe 1 */
+    struct io_uring_cqe *cqe;
+
+    io_uring_prep_nop(sqe); /*: prep_nop */
+    MUST(io_uring_submit(&ring), 1); /*: set_data64 0 */ /*: submit 1 */
+    MUST(io_uring_wait_cqe(&ring, &cqe), 0); /*: peek_cqe 0 0 */
+    io_uring_cqe_seen(&ring, cqe); /*: cqe_seen 0 */
+}
+
+/* Too few are given back: the next loop passes them again. */
+static void pass_twice(void)
+{
+    struct io_uring_cqe *cqe;
+    unsigned head, count = 0;
+
+    submit_nops(17, 2); /*: get_sqe 1 */ /*: prep_nop */ /*: set_data64 17 */ /*: get_sqe 1 */ /*: prep_nop */ /*: set_data64 17 */ /*: submit 2 */
+    io_uring_for_each_cqe(&ring, head, cqe) /*: peek_cqe 17 0 */ /*: cqe_seen 17 */ /*: peek_cqe 17 0 */ /*: cqe_seen 17 */
+        count++;
+    io_uring_for_each_cqe(&ring, head, cqe)
+        count++; /* the same again before any is given back: no line */
+    io_uring_cq_advance(&ring, 1);
+    io_uring_for_each_cqe(&ring, head, cqe) /*: peek_cqe 17 0 */ /*: cqe_seen 17 */
+        count++;
+    io_uring_cq_advance(&ring, 1);
+    MUST(count, 5);
+}
+
+/* A loop is left at a completion before it is handled. */
+static void leave_loop(void)
+{
+    struct io_uring_cqe *cqe;
+    unsigned head, count = 0;
+
+    submit_nops(18, 2); /*: get_sqe 1 */ /*: prep_nop */ /*: set_data64 18 */ /*: get_sqe 1 */ /*: prep_nop */ /*: set_data64 18 */ /*: submit 2 */
+    io_uring_for_each_cqe(&ring, head, cqe) { /*: peek_cqe 18 0 */ /*: cqe_seen 18 */ /*: peek_cqe 18 0 */ /*: cqe_seen 18 */
+        if (count == 1)
+            break;
+        count++;
+    }
+    io_uring_cq_advance(&ring, count);
+    io_uring_for_each_cqe(&ring, head, cqe)
+        count++;
+    io_uring_cq_advance(&ring, 1);
+    MUST(count, 2);
+    submit_nops(19, 2); /*: get_sqe 1 */ /*: prep_nop */ /*: set_data64 19 */ /*: get_sqe 1 */ /*: prep_nop */ /*: set_data64 19 */ /*: submit 2 */
+    io_uring_for_each_cqe(&ring, head, cqe) /*: peek_cqe 19 0 */ /*: cqe_seen 19 */
+        break;
+    io_uring_cq_advance(&ring, 0);
+    MUST(io_uring_wait_cqe(&ring, &cqe), 0);
+    io_uring_cqe_seen(&ring, cqe);
+    MUST(io_uring_wait_cqe(&ring, &cqe), 0); /*: peek_cqe 19 0 */
+    io_uring_cqe_seen(&ring, cqe); /*: cqe_seen 19 */
+}
+
+/* Makes no line: they are other rings. */
+static void use_many_rings(void)
+{
+    static struct io_uring rings[20];
+    struct io_uring_cqe *cqe;
+    int i;
+
+    RINGCHECK_RING(&other, NULL); /* on standard error: it isn't logged */
+    for (i = 0; i < 20; i++) {
+        struct io_uring_sqe *sqe;
+
+        MUST(io_uring_queue_init(2, &rings[i], 0), 0);
+        sqe = io_uring_get_sqe(&rings[i]);
+        io_uring_prep_nop(sqe);
+        io_uring_sqe_set_data64(sqe, 1);
+        MUST(io_uring_submit(&rings[i]), 1);
+        MUST(io_uring_wait_cqe(&rings[i], &cqe), 0);
+        io_uring_cqe_seen(&rings[i], cqe);
+    }
+    for (i = 0; i < 20; i++)
+        io_uring_queue_exit(&rings[i]);
+}
+
+static void exit_early(void)
+{
+    submit_nops(20, 1); /*: get_sqe 1 */ /*: prep_nop */ /*: set_data64 20 */ /*: submit 1 */
+    io_uring_queue_exit(&ring); /*: exit 1 */
+}
+
 int main(void)
 {
     begin();
@@ -240,6 +391,15 @@ int main(void)
     reap();
     fill_in();
     poison();
+    say_again();
+    overwrite_user_data();
+    copy_entry();
+    set_flags_first();
+    leave_user_data();
+    pass_twice();
+    leave_loop();
+    use_many_rings();
+    exit_early();
     RINGCHECK_ENDS(); /*: ends */
     return 0;
 }

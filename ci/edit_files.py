@@ -8,8 +8,10 @@ edits/CRATE         wrong code of a crate, which the prover has to refuse; paths
 ci/edit_self_test   the same of one crate, by which ci/edits.py tests itself: one is to be refused, and one isn't
 audit/rules         wrong rules; paths are below crates/, and a \\n in a TEXT is a line's end
 audit/bugs          planted bugs; paths are below examples/follow, and a \\n is the same
+audit/headers.edits wrong headers, one after another, each after a line 'edit: NAME'; paths are below c/, and a \\n is the same
 """
 
+from dataclasses import dataclass
 from pathlib import Path
 
 TOP = Path(__file__).resolve().parent.parent
@@ -20,6 +22,7 @@ SELF_TEST = TOP / "ci" / "edit_self_test"
 SELF_TEST_CRATE = "rc_index"
 RULES = TOP / "audit" / "rules"
 BUGS = TOP / "audit" / "bugs"
+HEADERS = TOP / "audit" / "headers.edits"
 FOLLOWED = TOP / "examples" / "follow"
 
 
@@ -41,6 +44,26 @@ def rule_edits():
 
 def bug_edits():
     return sorted(BUGS.glob("*.edit"))
+
+
+@dataclass(frozen=True)
+class HeaderEdit:
+    """An edit of those in the one file of wrong headers."""
+
+    stem: str
+    text: str
+    parent = HEADERS
+
+    def read_text(self):
+        return self.text
+
+    def relative_to(self, folder):
+        return f"{HEADERS.relative_to(folder)}: {self.stem}"
+
+
+def header_edits():
+    edits = HEADERS.read_text().split("\nedit: ")[1:]
+    return [HeaderEdit(name, text) for name, _, text in (it.partition("\n") for it in edits)]
 
 
 def edited_crates():
@@ -95,3 +118,8 @@ def changed_rule(edit, crates):
 def changed_program(edit):
     """As `changed`, for a planted bug."""
     return changed_rule(edit, FOLLOWED)
+
+
+def changed_header(edit):
+    """As `changed`, for a wrong header."""
+    return changed_rule(edit, TOP / "c")

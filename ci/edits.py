@@ -1,5 +1,6 @@
 #!/usr/bin/env python3
-"""Says which edits don't apply: wrong code that the prover has to refuse, the wrong rules, and the planted bugs.
+"""Says which edits don't apply: wrong code that the prover has to refuse, the wrong rules, the planted bugs, and the
+wrong headers.
 
 usage: ci/edits.py
        ci/edits.py --try [--after-ci] [CRATE..]
@@ -16,14 +17,17 @@ import sys
 from edit_files import (
     BUGS,
     CRATES,
+    HEADERS,
     RULES,
     TOP,
     Stale,
     bug_edits,
+    changed_header,
     changed_program,
     changed_rule,
     crate_edits,
     edited_crates,
+    header_edits,
     rule_edits,
     self_test_edits,
 )
@@ -51,6 +55,8 @@ CORE = (
 def try_edit(edit):
     if edit.parent == BUGS:
         changed_program(edit)
+    elif edit.parent == HEADERS:
+        changed_header(edit)
     elif edit.parent == RULES:
         changed_rule(edit, CRATES)
     else:
@@ -60,9 +66,9 @@ def try_edit(edit):
 def stale_edits():
     """Says which edits don't apply, and returns whether there are such."""
     kinds = [crate_edits(it) for it in {*edited_crates(), *CORE}]
-    kinds += [self_test_edits(), rule_edits(), bug_edits()]
+    kinds += [self_test_edits(), rule_edits(), bug_edits(), header_edits()]
     stale = 0
-    for edit in sorted(it for kind in kinds for it in kind):
+    for edit in (it for kind in kinds for it in kind):
         try:
             try_edit(edit)
         except Stale as why:
