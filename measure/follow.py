@@ -20,7 +20,7 @@ from pathlib import Path
 TOP = Path(__file__).resolve().parent.parent
 EXAMPLES = TOP / "examples" / "follow"
 # The programs, and how much each does.
-PROGRAMS = {"wal": 11_000, "group_commit": 7_000, "page_writer": 9_000, "page_cache": 4_600}
+PROGRAMS = {"wal": 11_000, "group_commit": 7_000, "page_writer": 9_000, "page_cache": 4_600, "event_loop": 18_000}
 
 
 def logged(program, count, folder):

@@ -1,5 +1,10 @@
 //! What the words of the command line ask for.
 
+ghost use Rattle.std.specs.Prelude.{◌≡◌};
+ghost use Rattle.rc_arguments.specs.Words as spec;
+
+use rc_report::script::{Script, Stepping};
+
 /// How a verdict is explained.
 #[derive(Clone, Copy)]
 pub enum Form {
@@ -11,12 +16,25 @@ pub enum Form {
     Json,
 }
 
+/// How a run that is found is shown.
+#[derive(Clone, Copy)]
+pub enum FoundAs {
+    /// In words, with its trace.
+    Words,
+    /// As a JSON object.
+    Json,
+    /// As a picture.
+    Picture,
+}
+
 /// What `follow` is asked for.
 #[derive(Drop)]
 pub struct Following<'a> {
     /// Whether its answers are JSON objects.
     pub json: bool,
-    /// The file with the text; none: standard input.
+    /// Whether it lists the calls that no log makes, even where one departs.
+    pub never: bool,
+    /// The file with the model; none: standard input.
     pub text: Option<&'a str>,
     /// The files with the logs.
     pub logs: Vec<&'a str>,
@@ -33,42 +51,15 @@ pub enum Command<'a> {
     Explain {
         form: Form,
     },
-    /// Print the text with the items of its loops as large as they can be.
+    /// Fill in what each loop keeps.
     Keeps,
-    /// Step the program through this schedule.
-    Step {
-        schedule: &'a str,
-    },
-    /// Step the program through this schedule, and show the world in which the trace ends.
-    State {
-        schedule: &'a str,
-    },
-    /// Step the program through the schedule that these moves spell, and show the world in which the trace ends or not.
-    Moves {
-        moves: Vec<u8>,
-        state: bool,
-    },
-    /// Step the program through this schedule, and draw the trace from the event with this number on, from 1.
-    Draw {
-        schedule: &'a str,
-        from: u64,
-    },
-    /// The same with the schedule that these moves spell.
-    DrawMoves {
-        moves: Vec<u8>,
-        from: u64,
-    },
-    /// Find a run of the refused program into a fault: with the choices of this seed, by so many walks at most, from 1. What
-    /// is found is written as JSON or as text.
+    /// Step the program, and show its run.
+    Step(Stepping<'a>),
+    /// Look for a run of the refused program into a fault: with the choices of this seed, by so many walks at most, from 1.
     Find {
         seed: u32,
         walks: u32,
-        json: bool,
-    },
-    /// Find a run as above, and draw it.
-    DrawFound {
-        seed: u32,
-        walks: u32,
+        found: FoundAs,
     },
     /// Run the program on threads: with the choices of this seed, and at most so many events of its threads, from 1.
     /// What happened is written as a summary or as a trace.
@@ -79,11 +70,11 @@ pub enum Command<'a> {
     },
     /// Write the program in C.
     Emit,
-    /// Hold logs to the program. Their text is read apart from those of other commands.
+    /// Follow logs in the program. Its model is read apart from those of other commands.
     Follow(Following<'a>),
-    /// Print the text with its lines indented by blocks.
+    /// Print the model with its blocks indented.
     Format,
-    /// Answer the messages of an editor. This reads no text.
+    /// Answer the messages of an editor. This reads no model.
     Serve,
     /// Show this text: help, or the version.
     Show(String),
@@ -99,10 +90,14 @@ pub struct Asked<'a> {
 }
 
 /// The command with moves that were read from a file.
-pub fn with_moves(command: Command<'_>, moves: Vec<u8>) -> Command<'_> {
+pub fn with_moves(command: Command<'_>, moves: Vec<u8>) -> Command<'_>
+    ensures { result ≡ spec.with_moves command.entry moves }
+{
     match command {
-        Command::Moves { state, .. } => Command::Moves { moves, state },
-        Command::DrawMoves { from, .. } => Command::DrawMoves { moves, from },
+        Command::Step(Stepping { show, .. }) => Command::Step(Stepping {
+            script: Script::Moves(moves),
+            show,
+        }),
         other => other,
     }
 }

@@ -3,9 +3,10 @@
 ghost use Rattle.std.specs.Prelude.{IfOk};
 ghost use Rattle.rc_arguments.specs.Words.{HasRanges};
 
-use crate::command::{Command, Following, Form};
+use crate::command::{Command, Following, Form, FoundAs};
 use crate::words::WordsFault;
 use clap::ArgMatches;
+use rc_report::script::{Script, Show, Stepping};
 use std::alloc::Global;
 
 /// The most events that threads may be allowed.
@@ -45,7 +46,13 @@ fn follow_of<'a>(alloc: Global, follow: &ArgMatches<'a>) -> Result<Command<'a>, 
     };
     let logs = follow.get_strs("log").unwrap_or(&[]).to_vec(alloc)?;
     let json = follow.get_flag("json");
-    Ok(Command::Follow(Following { json, text, logs }))
+    let never = follow.get_flag("never");
+    Ok(Command::Follow(Following {
+        json,
+        never,
+        text,
+        logs,
+    }))
 }
 
 /// The command `check`.
@@ -68,32 +75,26 @@ fn check_of<'a>(check: &ArgMatches<'a>) -> Command<'a>
 fn step_of<'a>(alloc: Global, step: &ArgMatches<'a>) -> Result<Command<'a>, WordsFault>
     ensures { IfOk result HasRanges }
 {
-    if step.get_flag("svg") {
-        return draw_of(alloc, step);
-    }
-    let state = step.get_flag("state");
-    if let Some(moves) = step.get_str("moves") {
-        let moves = moves.as_bytes().to_vec(alloc)?;
-        return Ok(Command::Moves { moves, state });
-    }
-    let schedule = step.get_str("schedule").unwrap_or("");
-    if state {
-        return Ok(Command::State { schedule });
-    }
-    Ok(Command::Step { schedule })
+    let show = show_of(step);
+    let script = match step.get_str("moves") {
+        Some(moves) => Script::Moves(moves.as_bytes().to_vec(alloc)?),
+        None => Script::Schedule(step.get_str("schedule").unwrap_or("")),
+    };
+    Ok(Command::Step(Stepping { script, show }))
 }
 
-/// The command `step --svg`. Moves that are in a file are read later.
-fn draw_of<'a>(alloc: Global, step: &ArgMatches<'a>) -> Result<Command<'a>, WordsFault>
-    ensures { IfOk result HasRanges }
-{
-    let from = step.get_one::<u64>("from").unwrap_or(1);
-    if let Some(moves) = step.get_str("moves") {
-        let moves = moves.as_bytes().to_vec(alloc)?;
-        return Ok(Command::DrawMoves { moves, from });
+/// What `step` shows.
+fn show_of(step: &ArgMatches<'_>) -> Show {
+    if step.get_flag("svg") {
+        return Show::Picture {
+            from: step.get_one::<u64>("from").unwrap_or(1),
+        };
     }
-    let schedule = step.get_str("schedule").unwrap_or("");
-    Ok(Command::Draw { schedule, from })
+    if step.get_flag("state") {
+        Show::State
+    } else {
+        Show::Trace
+    }
 }
 
 /// The file that has the moves of `step`, if they are in one: `--moves @FILE`.
@@ -110,14 +111,15 @@ fn find_of<'a>(alloc: Global, find: &ArgMatches<'a>) -> Result<Command<'a>, Word
 {
     let seed = find.get_one::<u32>("seed").unwrap_or(0);
     let walks = find.get_one::<u32>("walks").unwrap_or(0);
-    let json = find.get_flag("json");
     if walks < 1 || walks > MOST_WALKS {
         return Err(WordsFault::Wrong(format!(in alloc; "{walks} is no number of walks")?));
     }
-    if find.get_flag("svg") {
-        return Ok(Command::DrawFound { seed, walks });
-    }
-    Ok(Command::Find { seed, walks, json })
+    let found = match (find.get_flag("svg"), find.get_flag("json")) {
+        (true, _) => FoundAs::Picture,
+        (false, true) => FoundAs::Json,
+        (false, false) => FoundAs::Words,
+    };
+    Ok(Command::Find { seed, walks, found })
 }
 
 /// The command `run`. That its numbers are there and in their ranges was seen before.

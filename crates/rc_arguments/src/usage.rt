@@ -26,6 +26,10 @@ Example: ringcheck follow examples/follow/wal.rc wal.log
 
 docs/follow.md says what is logged and what the answers mean.";
 
+/// What is shown after the help of `fmt`.
+const FORMAT_HELP: &str =
+    "A line that has more than 256 bytes only with its blanks is printed with at most 256, so it can be read.";
+
 /// A flag, which may be left out.
 fn described_flag<'a>(alloc: Global, name: &'a str, help: &'a str) -> Arg<'a> {
     Arg::new(alloc, name)
@@ -40,7 +44,7 @@ fn described_files<'a>(alloc: Global) -> Arg<'a> {
         .value_name("FILE")
         .num_args(0..)
         .action(ArgAction::Append)
-        .help("Files to check, with one verdict a line; without any, or with -, standard input")
+        .help("Models to check, with one verdict a line (default, or -: standard input)")
 }
 
 /// The listing of `check --explain`.
@@ -52,7 +56,7 @@ fn described_listing<'a>(alloc: Global) -> Result<Arg<'a>, AllocError> {
 /// The words of `check`.
 fn described_check<'a>(alloc: Global) -> Result<clap::Command<'a>, AllocError> {
     let json = "Print the verdict as one JSON object";
-    let explain = "Print after the verdict why, and what to write";
+    let explain = "Explain the verdict and suggest a fix";
     let listing = described_listing(alloc)?;
     let args = vec![in alloc;
         described_flag(alloc, "json", json),
@@ -61,7 +65,7 @@ fn described_check<'a>(alloc: Global) -> Result<clap::Command<'a>, AllocError> {
         described_files(alloc),
     ]?;
     clap::Command::new(alloc, "check")
-        .about("Check programs, and print the verdict on each")
+        .about("Check models, and print the verdict on each")
         .after_help(CHECK_HELP)
         .args(args)
 }
@@ -71,13 +75,13 @@ fn described_file<'a>(alloc: Global) -> Arg<'a> {
     Arg::new(alloc, "file")
         .value_name("FILE")
         .action(ArgAction::Set)
-        .help("A file with the program; without any, or with -, standard input")
+        .help("A file with the model (default, or -: standard input)")
 }
 
 /// The words of `keeps`.
 fn described_keeps<'a>(alloc: Global) -> Result<clap::Command<'a>, AllocError> {
     clap::Command::new(alloc, "keeps")
-        .about("Print a text with the items of its loops as large as the loops can keep them")
+        .about("Fill in what each loop keeps")
         .arg(described_file(alloc))
 }
 
@@ -97,7 +101,9 @@ fn described_moves<'a>(alloc: Global) -> Result<Arg<'a>, AllocError> {
         .long("moves")
         .value_name("MOVES")
         .action(ArgAction::Set)
-        .help("Items, NAME*N or NAME@L, joined by commas or blanks; @FILE reads them from a file")
+        .help(
+            "Steps: NAME, NAME*N (N steps), NAME@L (until line L), k:U=R; or @FILE, which has them",
+        )
         .conflicts_with("schedule")
 }
 
@@ -108,7 +114,7 @@ fn described_from<'a>(alloc: Global) -> Result<Arg<'a>, AllocError> {
         .value_name("N")
         .action(ArgAction::Set)
         .value_parser(value_parser!(u64).range(1..=4294967296))
-        .help("The event with which the picture begins, from 1 to 4294967296; without it 1")
+        .help("First event to draw (default 1)")
         .requires_arg("svg")
 }
 
@@ -138,7 +144,7 @@ fn described_steps<'a>(alloc: Global) -> Result<Vec<Arg<'a>>, AllocError> {
 fn described_step<'a>(alloc: Global) -> Result<clap::Command<'a>, AllocError> {
     let args = described_steps(alloc)?;
     clap::Command::new(alloc, "step")
-        .about("Step a program through a schedule, and print the trace")
+        .about("Step a model through a schedule, and print the trace")
         .args(args)
 }
 
@@ -154,14 +160,14 @@ fn described_number<'a>(alloc: Global, name: &'a str) -> Arg<'a> {
 fn described_seed<'a>(alloc: Global) -> Arg<'a> {
     described_number(alloc, "seed")
         .value_parser(value_parser!(u32))
-        .help("What the choices are made by, from 0 to 4294967295")
+        .help("Seed of the random choices, from 0 to 4294967295")
 }
 
 /// The limit of `run`.
 fn described_limit<'a>(alloc: Global) -> Arg<'a> {
     described_number(alloc, "limit")
         .value_parser(value_parser!(u32).range(1..=1000000))
-        .help("How many events its threads may make, from 1 to 1000000")
+        .help("Stop after this many thread events, from 1 to 1000000")
 }
 
 /// The words of `run`.
@@ -174,7 +180,7 @@ fn described_run<'a>(alloc: Global) -> Result<clap::Command<'a>, AllocError> {
         described_file(alloc),
     ]?;
     clap::Command::new(alloc, "run")
-        .about("Run a program on threads, and print the trace")
+        .about("Run an accepted model on threads, and print the trace")
         .args(args)
 }
 
@@ -190,14 +196,14 @@ fn described_choice<'a>(alloc: Global, name: &'a str, default: &'a str) -> Arg<'
 fn described_first<'a>(alloc: Global) -> Arg<'a> {
     described_choice(alloc, "seed", "1")
         .value_parser(value_parser!(u32))
-        .help("What the choices are made by, from 0 to 4294967295")
+        .help("Seed of the random choices, from 0 to 4294967295")
 }
 
 /// The walks of `find`.
 fn described_walks<'a>(alloc: Global) -> Arg<'a> {
     described_choice(alloc, "walks", "20000")
         .value_parser(value_parser!(u32).range(1..=1000000))
-        .help("How many walks are made at most, from 1 to 1000000")
+        .help("Most random walks to try, from 1 to 1000000")
 }
 
 /// The words of `find`.
@@ -213,24 +219,24 @@ fn described_find<'a>(alloc: Global) -> Result<clap::Command<'a>, AllocError> {
         described_file(alloc),
     ]?;
     clap::Command::new(alloc, "find")
-        .about("Find a run of a refused program into a fault, and print its moves and its trace")
+        .about("Find a run of a refused model into a fault, and print its moves and its trace")
         .args(args)
 }
 
 /// The words of `c`.
 fn described_c<'a>(alloc: Global) -> Result<clap::Command<'a>, AllocError> {
     clap::Command::new(alloc, "c")
-        .about("Print an accepted program as a C program over liburing")
+        .about("Print an accepted model as a C program over liburing")
         .arg(described_file(alloc))
 }
 
-/// The text of `follow`.
+/// The model of `follow`.
 fn described_text<'a>(alloc: Global) -> Arg<'a> {
     Arg::new(alloc, "text")
-        .value_name("TEXT")
+        .value_name("FILE")
         .action(ArgAction::Set)
         .required(true)
-        .help("A file with the program; - is standard input")
+        .help("A file with the model (-: standard input)")
 }
 
 /// The logs of `follow`.
@@ -246,13 +252,15 @@ fn described_logs<'a>(alloc: Global) -> Arg<'a> {
 /// The words of `follow`.
 fn described_follow<'a>(alloc: Global) -> Result<clap::Command<'a>, AllocError> {
     let json = "Print one JSON object for each line";
+    let never = "List the calls that no log makes, even where a log departs";
     let args = vec![in alloc;
         described_flag(alloc, "json", json),
+        described_flag(alloc, "never", never),
         described_text(alloc),
         described_logs(alloc),
     ]?;
     clap::Command::new(alloc, "follow")
-        .about("Hold logs of C programs to an accepted text, and print where each departs")
+        .about("Check logged runs of a C program against its model")
         .after_help(FOLLOW_HELP)
         .args(args)
 }
@@ -260,15 +268,14 @@ fn described_follow<'a>(alloc: Global) -> Result<clap::Command<'a>, AllocError> 
 /// The words of `fmt`.
 fn described_fmt<'a>(alloc: Global) -> Result<clap::Command<'a>, AllocError> {
     clap::Command::new(alloc, "fmt")
-        .about("Print a text with its lines indented by blocks")
+        .about("Print a model with its blocks indented")
+        .after_help(FORMAT_HELP)
         .arg(described_file(alloc))
 }
 
 /// The words of `lsp`.
 fn described_lsp<'a>(alloc: Global) -> clap::Command<'a> {
-    clap::Command::new(alloc, "lsp").about(
-        "Answer an editor on standard input and output, by the Language Server Protocol",
-    )
+    clap::Command::new(alloc, "lsp").about("Run as a language server on standard input and output")
 }
 
 /// The words of the command of this name.

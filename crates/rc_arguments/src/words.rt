@@ -82,11 +82,7 @@ fn asked_of<'a>(alloc: Global, matches: &ArgMatches<'a>) -> Result<Asked<'a>, Wo
             command: command_of(alloc, name, given)?,
             moves: moves_file(name, given),
         }),
-        None => Ok(Asked {
-            command: Command::Step { schedule: "" },
-            files: Vec::new(alloc),
-            moves: None,
-        }),
+        None => Err(WordsFault::Wrong(String::from_str(alloc, "no command")?)),
     }
 }
 

@@ -1,5 +1,5 @@
 -- What commands say and leave.
-use Rattle.std.proofs.Common.{◌≡◌, ◌≤◌, inl, inr, ℕ, true, false, List, Result, Ok, Err, refl, sym, ap, subst, arith}
+use Rattle.std.proofs.Common.{◌≡◌, ◌≤◌, inl, inr, ℕ, List, Result, Ok, Err, refl, sym, ap, subst, arith}
 use Rattle.std.specs.Global.{Vec}
 use Rattle.std.specs.Prelude.{IfOk, IsErrAnd}
 use Rattle.rc_report.specs.declared.engine_fault.EngineFault.{EngineFault}
@@ -12,20 +12,21 @@ use Rattle.rc_report.specs.declared.verdict.Verdict.{Verdict}
 use Rattle.rc_report.specs.declared.verdict.Verdict.TheVariants.{Accepted, Refused, Unreadable as NoProgram}
 use Rattle.rc_lang.specs.Program.{Program}
 use Rattle.rc_read.specs.Answer.{answer_of}
-use Rattle.rc_keeps.specs.declared.engine.UnreadLine.{UnreadLine}
-use Rattle.rc_keeps.specs.Keeps.{GivesKept}
+use Rattle.rc_rewrite.specs.declared.keeps.UnreadLine.{UnreadLine}
+use Rattle.rc_rewrite.specs.Keeps.{GivesKept}
 use Rattle.rc_report.specs.Checks.{GivesVerdict}
 use Rattle.rc_report.specs.Verdicts.{verdict_text}
 use Rattle.rc_report.specs.Statuses.{status_of_end, status_of_step, status_of_verdict}
 use Rattle.rc_report.specs.Streams.{CountsReads, Given, ReadsText, Taken}
 use Rattle.rc_report.proofs.Answered.{of_text}
 use Rattle.rc_arguments.specs.declared.command.Command.{Command}
-use Rattle.rc_arguments.specs.declared.command.Command.TheVariants.{Check, Explain, Keeps, Step, State, Moves, Draw, DrawMoves, Find, DrawFound, Run, Emit, Follow, Format, Serve, Show}
+use Rattle.rc_arguments.specs.declared.command.Command.TheVariants.{Check, Explain, Keeps, Step, Find, Run, Emit, Follow, Format, Serve, Show}
 use Rattle.rc_files.specs.declared.fault.CommandFault.{CommandFault}
 use Rattle.rc_files.specs.declared.fault.CommandFault.TheVariants.{Words, Engine, OtherProgram}
 use Rattle.rc_files.specs.Answers.{Does}
 use Rattle.rc_files.proofs.Answers.{does_as}
-use Rattle.rc_command.specs.Answers.{DoesWith, ReadsAsAsked, ReadsOnce, Says, SaysAdmitted, SaysKept, SaysUnread}
+use Rattle.rc_runs.proofs.Stepped.{of_some}
+use Rattle.rc_command.specs.Answers.{DoesWith, ReadsAsAsked, ReadsOnce, Says, SaysAdmitted, SaysKept, SaysScript, SaysUnread}
 
 -- ---- statuses are 3 at most
 
@@ -54,14 +55,8 @@ within Keeps bytes s text h = elim h [
   | inl (kept, given, is, status) ↦ omega (arith, status)
   | inr (unread, given, says) ↦ verdict_within (NoProgram unread.line unread.cause) s says.1
 ]
-within (Step schedule) bytes s text h = step_within h.0 s h.3
-within (State schedule) bytes s text h = step_within h.1.0 s h.1.3
-within (Moves moves false) bytes s text h = step_within h.0 s h.3
-within (Moves moves true) bytes s text h = step_within h.1.0 s h.1.3
-within (Draw schedule from) bytes s text h = step_within h.0 s h.2
-within (DrawMoves moves from) bytes s text h = step_within h.0 s h.2
-within (DrawFound seed walks) bytes s text h = verdict_within h.0 s h.2
-within (Find seed walks json) bytes s text h = verdict_within h.0 s h.2
+within (Step stepping) bytes s text h = of_some stepping.show (λ traced. SaysScript traced bytes stepping.script s text) (s ≤ 3) (λ traced says. step_within says.0 s says.3) h
+within (Find seed walks form) bytes s text h = verdict_within h.0 s h.2
 within (Run seed limit summary) bytes s text h = elim h [
   | inl (program, given, run) ↦ end_within run.1 s run.4
   | inr (verdict, given, is, status) ↦ verdict_within verdict s status
@@ -123,13 +118,8 @@ asked : (command : Command) (old new : Given) (r : Result ℕ CommandFault) → 
 asked (Check json) old new r h = h
 asked (Explain form) old new r h = h
 asked Keeps old new r h = h
-asked (Step schedule) old new r h = h
-asked (State schedule) old new r h = h
-asked (Moves moves state) old new r h = h
-asked (Draw schedule from) old new r h = h
-asked (DrawMoves moves from) old new r h = h
-asked (DrawFound seed walks) old new r h = h
-asked (Find seed walks json) old new r h = h
+asked (Step stepping) old new r h = h
+asked (Find seed walks form) old new r h = h
 asked (Run seed limit summary) old new r h = h
 asked Emit old new r h = h
 asked (Follow logs) old new r h = h

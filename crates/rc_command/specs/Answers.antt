@@ -4,59 +4,62 @@ use Rattle.std.specs.Prelude.{ℕ, ℤ, ◌≡◌, ◌≤ℤ◌, pos, negsuc, �
 use Rattle.rc_lang.specs.Program.{Program}
 use Rattle.rc_read.specs.Answer.{answer_of}
 use Rattle.rc_world.specs.declared.event.Event.{Event}
+use Rattle.rc_world.specs.Trace.{Trace}
 use Rattle.rc_run.specs.declared.report.RunFault.TheVariants as fault
 use Rattle.rc_run.specs.declared.report.RunReport.{RunReport}
 use Rattle.rc_run.specs.Reports.{Tells}
 use Rattle.rc_report.specs.declared.engine_fault.EngineFault.TheVariants.{Read, Write, OutOfMemory}
+use Rattle.rc_report.specs.declared.script.Script.{Script}
+use Rattle.rc_report.specs.declared.script.Stepping.{Stepping}
 use Rattle.rc_report.specs.declared.step_engine.StepEnd.{StepEnd}
 use Rattle.rc_report.specs.declared.trace.End.{End}
 use Rattle.rc_report.specs.declared.trace.End.TheVariants as end
 use Rattle.rc_report.specs.declared.verdict.Verdict.{Verdict}
 use Rattle.rc_report.specs.declared.verdict.Verdict.TheVariants.{Unreadable}
-use Rattle.rc_report.specs.Checks.{GivesVerdict, IsVerdict, TellsVerdict}
-use Rattle.rc_report.specs.Engine.{EndsBy}
+use Rattle.rc_report.specs.Checks.{GivesVerdict, TellsVerdict}
 use Rattle.rc_report.specs.Statuses.{status_of_end, status_of_step, status_of_verdict}
 use Rattle.rc_report.specs.Streams.{CountsReads, Given, OfBytes, Taken}
 use Rattle.rc_report.specs.Traces.{trace_text}
 use Rattle.rc_report.specs.Verdicts.{verdict_text}
 use Rattle.rc_arguments.specs.declared.command.Command.{Command}
-use Rattle.rc_arguments.specs.declared.command.Command.TheVariants.{Check, Explain, Keeps, Step, State, Moves, Draw, DrawMoves, Find, DrawFound, Run, Emit, Follow, Format, Serve, Show}
+use Rattle.rc_arguments.specs.declared.command.FoundAs.{FoundAs}
+use Rattle.rc_arguments.specs.declared.command.FoundAs.TheVariants as form
+use Rattle.rc_arguments.specs.declared.command.Command.TheVariants.{Check, Explain, Keeps, Step, Find, Run, Emit, Follow, Format, Serve, Show}
 use Rattle.rc_files.specs.declared.fault.CommandFault.{CommandFault}
 use Rattle.rc_files.specs.declared.fault.CommandFault.TheVariants.{Words, Engine, OtherProgram}
 use Rattle.rc_files.specs.declared.files.Unread.{Unread}
 use Rattle.rc_files.specs.Answers.{Does, Fails, SaysVerdict}
 use Rattle.rc_files.specs.Files.{Said, SaysFile}
 use Rattle.rc_explain.specs.Explains.{Explains}
-use Rattle.rc_editor.specs.LaidOut.{IsLaidOut}
-use Rattle.rc_keeps.specs.declared.engine.UnreadLine.{UnreadLine}
-use Rattle.rc_keeps.specs.Keeps.{GivesKept}
-use Rattle.rc_runs.specs.Finds.{Finds}
-use Rattle.rc_runs.specs.Moved.{EndsMoves, moved_text}
-use Rattle.rc_runs.specs.Stepping.{OfTraces, stepped_as}
+use Rattle.rc_rewrite.specs.LaidOut.{IsLaidOut}
+use Rattle.rc_rewrite.specs.declared.keeps.UnreadLine.{UnreadLine}
+use Rattle.rc_rewrite.specs.Keeps.{GivesKept}
+use Rattle.rc_runs.specs.declared.find.Found.{Found}
+use Rattle.rc_runs.specs.Finds.{IsFound, found_json, found_text}
+use Rattle.rc_runs.specs.Scripts.{EndsScript, script_text}
+use Rattle.rc_runs.specs.Stepping.{OfShown}
 
 -- ---- what each command says of the bytes of a text: the status, and the text that is written
 
--- The status of `step` is that of the end to which the program is stepped, and the trace or the verdict is written.
-abbrev pub SaysSteps : (List ℕ → List ℕ → List ℕ) → List ℕ → List ℕ → ℕ → List ℕ → Type 0
-SaysSteps stepped bytes schedule status text =
-    (end : StepEnd) × EndsBy (answer_of bytes) schedule end × (text ≡ stepped bytes schedule) × (status ≡ status_of_step end)
+-- The status is that of the end to which the program is stepped, and this text of its trace is written, or the verdict.
+abbrev pub SaysScript : (Program → Trace → List ℕ) → List ℕ → Script → ℕ → List ℕ → Type 0
+SaysScript traced bytes script status text =
+    (end : StepEnd) × EndsScript (answer_of bytes) script end × (text ≡ script_text traced (answer_of bytes) script) × (status ≡ status_of_step end)
 
--- With `--state` some text follows the trace, which tells the world in which it ends.
-abbrev pub SaysTrace : Bool → List ℕ → List ℕ → ℕ → List ℕ → Type 0
-SaysTrace state bytes schedule status text = OfTraces state (λ traced. SaysSteps (stepped_as traced) bytes schedule status text)
+-- With `--state` some text follows the trace, and with `--svg` some text is in its place.
+abbrev pub SaysSteps : List ℕ → Stepping → ℕ → List ℕ → Type 0
+SaysSteps bytes s status text = OfShown s.show (λ traced. SaysScript traced bytes s.script status text)
 
--- The same where moves are given: they are stepped as the schedule that they spell.
-abbrev pub SaysMoved : (List ℕ → List ℕ → List ℕ) → List ℕ → List ℕ → ℕ → List ℕ → Type 0
-SaysMoved stepped bytes moves status text =
-    (end : StepEnd) × EndsMoves (answer_of bytes) moves end × (text ≡ stepped bytes moves) × (status ≡ status_of_step end)
+-- What was found is written in words or as JSON. What a picture shows no contract says.
+abbrev pub IsShownAs : FoundAs → Found → List ℕ → Type 0
+IsShownAs form.Words f text = text ≡ found_text f
+IsShownAs form.Json f text = text ≡ found_json None f
+IsShownAs form.Picture f text = Unit {0}
 
-abbrev pub SaysMoves : List ℕ → List ℕ → Bool → ℕ → List ℕ → Type 0
-SaysMoves bytes moves state status text =
-    OfTraces state (λ traced. SaysMoved (λ bytes moves. moved_text traced (answer_of bytes) moves) bytes moves status text)
-
--- With `--svg` a picture is written in place of the trace, or of the run that was found. No contract says what is drawn.
-abbrev pub SaysEnd : (StepEnd → Type 0) → ℕ → Type 0
-SaysEnd ends status = (end : StepEnd) × ends end × (status ≡ status_of_step end)
+-- The verdict on the bytes, and what so many walks found in them.
+abbrev pub Finds : List ℕ → ℕ → FoundAs → Verdict → List ℕ → Type 0
+Finds bytes walks form verdict text =
+    (f : Found) × IsFound (answer_of bytes) walks f × (verdict ≡ f.verdict) × IsShownAs form f text
 
 -- The disk gives any result that a request may have.
 abbrev pub DiskGives : ℕ → ℤ → Type 0
@@ -111,13 +114,8 @@ abbrev pub Says : Command → List ℕ → ℕ → List ℕ → Type 0
 Says (Check json) bytes status text = SaysVerdict (TellsVerdict bytes json) status text
 Says (Explain form) bytes status text = SaysVerdict (Explains bytes None form) status text
 Says Keeps bytes status text = SaysKept bytes status text
-Says (Step schedule) bytes status text = SaysTrace false bytes schedule.now status text
-Says (State schedule) bytes status text = SaysTrace true bytes schedule.now status text
-Says (Find seed walks json) bytes status text = SaysVerdict (Finds bytes walks json) status text
-Says (DrawFound seed walks) bytes status text = SaysVerdict (λ verdict text. IsVerdict (answer_of bytes) verdict) status text
-Says (Moves moves state) bytes status text = SaysMoves bytes moves.items state status text
-Says (Draw schedule from) bytes status text = SaysEnd (EndsBy (answer_of bytes) schedule.now) status
-Says (DrawMoves moves from) bytes status text = SaysEnd (EndsMoves (answer_of bytes) moves.items) status
+Says (Step stepping) bytes status text = SaysSteps bytes stepping status text
+Says (Find seed walks form) bytes status text = SaysVerdict (Finds bytes walks form) status text
 Says (Run seed limit summary) bytes status text =
     SaysAdmitted bytes (λ program. SaysRun program limit summary) status text
 Says Emit bytes status text = SaysAdmitted bytes (λ program status text. status ≡ 0) status text

@@ -6,13 +6,13 @@ ghost use Rattle.rc_files.specs.Answers.{Does};
 ghost use Rattle.rc_files.specs.Files.{AnswersAs};
 ghost use Rattle.rc_report.specs.Streams.{CanRead, CanWrite};
 
+use crate::checking::{Telling, check_files};
 use crate::performing::performed;
 use crate::running::Host;
 use rc_arguments::command::{Asked, Command, with_moves};
 use rc_arguments::words::read_words;
 use rc_departures::answers::follow_logs;
 use rc_departures::logs::Logs;
-use rc_explain::checking::{Telling, check_files};
 use rc_files::fault::CommandFault;
 use rc_files::files::{NoTexts, Texts, tell_unread};
 use rc_files::output::{Output, tell_notes, write_answer, written_out};

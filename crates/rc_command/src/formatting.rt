@@ -1,17 +1,17 @@
-//! A text is printed with its lines indented.
+//! A model is printed with its blocks indented.
 
 ghost use Rattle.rc_files.specs.Answers.{Does};
 ghost use Rattle.rc_command.specs.Answers.{SaysLaidOut};
 ghost use Rattle.rc_report.specs.Streams.{CanWrite};
 
-use rc_editor::format::format;
 use rc_files::fault::CommandFault;
 use rc_files::output::write_answer;
 use rc_report::status::GOOD_STATUS;
 use rc_report::streams::Sink;
+use rc_rewrite::format::format;
 use std::alloc::Global;
 
-/// Writes a text with its lines indented by blocks, also one that can't be read.
+/// Writes a model with its blocks indented, also one that can't be read.
 pub fn format_text<S: Sink>(alloc: Global, text: &[u8], sink: &mut S) -> Result<u8, CommandFault>
     requires { CanWrite (S.state sink.old) }
     ensures { Does (SaysLaidOut text.now) S.state sink.old sink.new result }

@@ -1,4 +1,4 @@
-//! A text is printed with the items that its loops can keep.
+//! A model is printed with the items that its loops can keep.
 
 ghost use Rattle.rc_files.specs.Answers.{Does};
 ghost use Rattle.rc_command.specs.Answers.{SaysKept};
@@ -7,13 +7,13 @@ ghost use Rattle.rc_report.specs.Streams.{CanWrite};
 use crate::running::tell_verdict;
 use rc_files::fault::CommandFault;
 use rc_files::output::write_answer;
-use rc_keeps::engine::{UnreadLine, kept_text};
 use rc_report::status::GOOD_STATUS;
 use rc_report::streams::Sink;
 use rc_report::verdict::Verdict;
+use rc_rewrite::keeps::{UnreadLine, kept_text};
 use std::alloc::Global;
 
-/// Writes a text with the items of its loops as large as the loops can keep them. A text that can't be read is answered
+/// Writes a model with the items of its loops as large as the loops can keep them. One that can't be read is answered
 /// with its verdict.
 pub fn keep_text<S: Sink>(alloc: Global, text: &[u8], sink: &mut S) -> Result<u8, CommandFault>
     requires { CanWrite (S.state sink.old) }

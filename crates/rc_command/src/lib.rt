@@ -1,6 +1,7 @@
 //! The commands of `ringcheck`: what each command answers, over any reader, writers and files.
 #![tactic(auto)]
 
+pub mod checking;
 pub mod command;
 pub mod emitting;
 mod formatting;

@@ -1,12 +1,12 @@
 -- Logs that are followed in a program.
-use Rattle.std.specs.Prelude.{ℕ, ◌≡◌, ◌≤◌, ◌++◌, Bool, true, List, [], ◌∷◌, Option, Some, None, Result, Ok, Err}
+use Rattle.std.specs.Prelude.{ℕ, ◌≡◌, ◌≤◌, ◌⊎◌, ◌++◌, Bool, true, List, [], ◌∷◌, Option, Some, None, Result, Ok, Err}
 use Rattle.rc_lang.specs.Program.{Program}
 use Rattle.rc_log.specs.declared.call.Said.{Said}
 use Rattle.rc_log.specs.Heads.{is_head, ring}
 use Rattle.rc_log.specs.Lines.{log_lines}
 use Rattle.rc_log.specs.Said.{said}
 use Rattle.rc_follow.specs.Followed.{IsFollowed}
-use Rattle.rc_follow.specs.Follower.{Follower, Follows}
+use Rattle.rc_follow.specs.Follower.{Follower, Follows, with_ways}
 use Rattle.rc_departures.specs.declared.ending.Ending.{Ending}
 use Rattle.rc_departures.specs.declared.ending.Ending.TheVariants.{Followed}
 
@@ -37,10 +37,33 @@ abbrev pub Ends : Program → Option (List ℕ) → Ending → Type 0
 Ends p (Some bytes) (Followed calls) = IsFollowedLog p bytes
 Ends p _ _ = Unit {0}
 
--- It isn't told that it is followed.
+-- It isn't said that it is followed.
 abbrev pub IsOther : Ending → Type 0
 IsOther (Followed calls) = ⊥
 IsOther _ = Unit {0}
+
+-- ---- what was reached
+
+-- Some lines after the first two, from the third on, say this.
+abbrev pub IsBegun : Program → List (List ℕ) → List Said → Type 0
+IsBegun p lines ss =
+    (ss ≡ []) ⊎ ((head rings : List ℕ) × (some rest : List (List ℕ)) × (lines ≡ head ∷ rings ∷ (some ++ rest)) × Say p some ss)
+
+-- These lines were followed: all of a log that is followed, and of another those before the one at which it ends.
+abbrev pub AreFollowed : Program → Option (List ℕ) → Ending → List Said → Type 0
+AreFollowed p (Some bytes) (Followed calls) ss = IsLog p (log_lines bytes) ss
+AreFollowed p (Some bytes) _ ss = IsBegun p (log_lines bytes) ss
+AreFollowed p None ending ss = Unit {0}
+
+-- The follower is where the log ends, and nothing more is reached yet.
+abbrev pub Stops : Follower → Option (List ℕ) → Follower → Ending → Type 0
+Stops old bytes f ending =
+    Ends old.program bytes ending × (f.program ≡ old.program) × (f.reached ≡ old.reached)
+    × (ss : List Said) × Follows ss f × AreFollowed old.program bytes ending ss
+
+-- What is reached besides are the calls that were made on the ways that are left where the log ends.
+abbrev pub Reaches : Follower → Option (List ℕ) → Follower → Ending → Type 0
+Reaches old bytes new ending = (f : Follower) × Stops old bytes f ending × (new ≡ with_ways f)
 
 -- ---- a log under way
 
@@ -62,7 +85,7 @@ Knows is None left = Unit {0}
 Knows is (Some bytes) None = ⊥
 Knows is (Some bytes) (Some left) = is bytes left
 
--- The line tells of rings with room, or it is told that it doesn't.
+-- The line tells of rings with room, or it is said that it doesn't.
 abbrev pub IsRoomy : Program → List ℕ → Option Ending → Type 0
 IsRoomy p line None = HasRoom p (ring line)
 IsRoomy p line (Some ending) = IsOther ending
@@ -75,17 +98,23 @@ abbrev pub Ringed : Program → Option (List ℕ) → Option (List ℕ) → Opti
 Ringed p old new None = Knows (IsRinged p) old new
 Ringed p old new (Some ending) = IsOther ending
 
--- The line was followed after those before it, or it is told why not.
+-- The line was followed after those before it, or it is said why not.
 abbrev pub FollowsLine : Follower → List ℕ → Follower → Option Ending → Type 0
 FollowsLine old line new None =
-    (s : Said) × (said old.program line ≡ Ok s) × (new.program ≡ old.program)
+    (s : Said) × (said old.program line ≡ Ok s) × (new.program ≡ old.program) × (new.reached ≡ old.reached)
     × ((ss : List Said) → Follows ss old → Follows (ss ++ s ∷ []) new)
-FollowsLine old line new (Some ending) = IsOther ending
+FollowsLine old line new (Some ending) = IsOther ending × (new ≡ old)
 
 abbrev pub Headed : Program → Option (List ℕ) → Option (List ℕ) → Option Ending → Type 0
 Headed p bytes left None = Knows (IsHeaded p) bytes left
 Headed p bytes left (Some ending) = IsOther ending
 
-abbrev pub Under : Program → Option (List ℕ) → Option (List ℕ) → Follower → Option Ending → Type 0
-Under p bytes left f None = Knows (λ b l. IsUnder p b l f) bytes left
-Under p bytes left f (Some ending) = Ends p bytes ending
+-- some lines are followed
+abbrev pub HasFollowed : Program → Option (List ℕ) → Option (List ℕ) → Follower → Type 0
+HasFollowed p None left f = (ss : List Said) × Follows ss f
+HasFollowed p (Some bytes) None f = ⊥
+HasFollowed p (Some bytes) (Some left) f = IsUnder p bytes left f
+
+abbrev pub Under : Follower → Option (List ℕ) → Option (List ℕ) → Follower → Option Ending → Type 0
+Under old bytes left f None = (f.program ≡ old.program) × (f.reached ≡ old.reached) × HasFollowed old.program bytes left f
+Under old bytes left f (Some ending) = Stops old bytes f ending

@@ -1,11 +1,14 @@
 //! Logs of C programs, held to an accepted text.
 
-ghost use Rattle.std.specs.Prelude.{◌≡◌, ◌≤◌, IfOk};
+ghost use Rattle.std.specs.Prelude.{◌≡◌, ◌≤◌, ◌++◌, IfOk};
+ghost use Rattle.rc_departures.specs.Endings.{ending_printed, status_of};
 ghost use Rattle.rc_report.specs.Streams.{CanWrite};
 
+use crate::ending::Ending;
 use crate::following::follow_log;
 use crate::logs::Logs;
-use crate::told::{put_ending, put_unmade};
+use crate::printed::{put_ending, put_unmade};
+use crate::unmade::unmade_calls;
 use rc_arguments::command::Following;
 use rc_files::files::{Texts, Unread, put_unread, tell_unread};
 use rc_files::output::tell_notes;
@@ -17,16 +20,17 @@ use rc_report::engine_fault::EngineFault;
 use rc_report::file_verdict::{put_file_object, put_file_verdict};
 use rc_report::reading::read_text;
 use rc_report::source::Lines;
-use rc_report::status::DEVICE_STATUS;
+use rc_report::status::{DEVICE_STATUS, GOOD_STATUS};
 use rc_report::streams::{ReadSource, Sink};
 use rc_report::verdict::{Verdict, put_verdict, put_verdict_json};
-use rc_report::writing::write_piece;
+use rc_report::writing::{write_piece, write_pieces};
 use std::alloc::{AllocError, Global};
 use std::io::Read;
 
-/// Holds logs to the program of a text, one after another, and writes how each ends, and then which calls of the text
-/// none of them made. Answers the greatest status of the logs. A text that isn't accepted is answered with its verdict.
-/// A file that can't be read is told on a line of `errors`: where it is a log, those after it are still followed.
+/// Holds logs to the program of a model, one after another, and writes how each ends. Where all are followed, or that is
+/// asked for and one could be read, it writes then which calls of the model none of them makes. Answers the greatest status
+/// of the logs. A model that isn't accepted is answered with its verdict. A file that can't be read is reported on a line of
+/// `errors`: where it is a log, those after it are still followed.
 pub fn follow_logs<T: Texts + Logs, I: Read + Drop, S: Sink, E: Sink>(
     texts: &T,
     alloc: Global,
@@ -78,7 +82,7 @@ fn put_refused(
     }
 }
 
-/// Follows each log, and answers the greatest status. What can't be read is told after the last.
+/// Follows each log, and answers the greatest status. What can't be read is reported after the last.
 fn follow_each<T: Texts + Logs, S: Sink, E: Sink>(
     texts: &T,
     alloc: Global,
@@ -95,35 +99,69 @@ fn follow_each<T: Texts + Logs, S: Sink, E: Sink>(
     let mut follower = Follower::start(alloc, program)?;
     let mut answers = Answers {
         answer: Vec::new(alloc),
-        told: Vec::new(alloc),
+        unread: Vec::new(alloc),
+        has_ending: false,
     };
-    let mut status = 0u8;
-    for name in &asked.logs {
-        let of = follow_one(
-            texts,
-            alloc,
-            lines,
-            &mut follower,
-            name,
-            asked.json,
-            &mut answers,
-        )?;
-        status = status.max(of);
-    }
-    put_unmade(&mut answers.answer, alloc, program, &follower, asked.json)?;
-    write_piece(sink, &answers.answer)?;
-    tell_notes(&answers.told, errors);
+    let status = put_logs(
+        texts,
+        alloc,
+        lines,
+        &mut follower,
+        &asked.logs,
+        asked.json,
+        &mut answers,
+    )?;
+    let is_listed = status == GOOD_STATUS || asked.never && answers.has_ending;
+    let never = never_made(alloc, program, &follower, asked.json, is_listed)?;
+    write_pieces(sink, &[&answers.answer, &never])?;
+    tell_notes(&answers.unread, errors);
     Ok(status)
 }
 
-/// What is written of the logs, and what is told besides.
+/// What is written of the logs, what is reported besides, and whether one could be read.
 #[derive(Drop)]
 struct Answers {
     answer: Vec<u8>,
-    told: Vec<u8>,
+    unread: Vec<u8>,
+    has_ending: bool,
 }
 
-/// Follows a log, adds how it ends, and answers its status. Where it can't be read that is told.
+/// The lines that list the calls that no log makes, if they are listed.
+fn never_made(
+    alloc: Global,
+    program: &Program,
+    follower: &Follower<'_>,
+    json: bool,
+    is_listed: bool,
+) -> Result<Vec<u8>, AllocError> {
+    let mut never = Vec::new(alloc);
+    if is_listed {
+        let unmade = unmade_calls(alloc, program, follower)?;
+        put_unmade(&mut never, alloc, &unmade, json)?;
+    }
+    Ok(never)
+}
+
+/// Follows each log, adds how it ends, and answers the greatest status.
+fn put_logs<T: Logs>(
+    texts: &T,
+    alloc: Global,
+    lines: &Lines<'_>,
+    follower: &mut Follower<'_>,
+    logs: &[&str],
+    json: bool,
+    answers: &mut Answers,
+) -> Result<u8, AllocError>
+    ensures { IfOk result (λ status. status ≤ 3) }
+{
+    let mut status = 0u8;
+    for name in logs {
+        status = status.max(follow_one(texts, alloc, lines, follower, name, json, answers)?);
+    }
+    Ok(status)
+}
+
+/// Follows a log, adds how it ends, and answers its status. Where it can't be read that is reported.
 fn follow_one<T: Logs>(
     texts: &T,
     alloc: Global,
@@ -140,24 +178,39 @@ fn follow_one<T: Logs>(
         Err(unread) => return unread_log(alloc, name, &unread, answers),
     };
     match follow_log(alloc, lines, follower, log) {
-        Ok(ending) => {
-            put_ending(&mut answers.answer, alloc, name, &ending, json)?;
-            Ok(ending.status())
-        }
+        Ok(ending) => put_followed(answers, alloc, name, &ending, json),
         Err(LogFault::Failed(error)) => unread_log(alloc, name, &Unread::Failed(error), answers),
         Err(_) => Err(AllocError),
     }
 }
 
-/// A log that can't be read is told.
+/// Adds how a log ends, and answers its status.
+fn put_followed(
+    answers: &mut Answers,
+    alloc: Global,
+    name: &str,
+    ending: &Ending,
+    json: bool,
+) -> Result<u8, AllocError>
+    ensures answer { IfOk result (λ status. (status ≡ status_of ending.now) × (answers.new.answer.items ≡ answers.old.answer.items ++ ending_printed json name.now ending.now)) }
+    ensures bound { IfOk result (λ status. status ≤ 3) }
+{
+    answers.has_ending = true;
+    put_ending(&mut answers.answer, alloc, name, ending, json)?;
+    Ok(ending.status())
+}
+
+/// A log that can't be read is reported.
 fn unread_log(
     alloc: Global,
     name: &str,
     unread: &Unread,
     answers: &mut Answers,
 ) -> Result<u8, AllocError>
-    ensures { IfOk result (λ status. status ≤ 3) }
+    ensures status { IfOk result (λ status. status ≡ 3) }
+    ensures bound { IfOk result (λ status. status ≤ 3) }
+    ensures answer { answers.new.answer ≡ answers.old.answer }
 {
-    put_unread(&mut answers.told, alloc, name, unread)?;
+    put_unread(&mut answers.unread, alloc, name, unread)?;
     Ok(DEVICE_STATUS)
 }

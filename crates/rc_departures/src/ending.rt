@@ -1,6 +1,7 @@
 //! How a log ends, held to a program.
 
-ghost use Rattle.std.specs.Prelude.{◌≤◌};
+ghost use Rattle.std.specs.Prelude.{◌≡◌, ◌≤◌};
+ghost use Rattle.rc_departures.specs.Endings.{status_of};
 
 use rc_report::status::{DEVICE_STATUS, FAULT_STATUS, GOOD_STATUS, UNREADABLE_STATUS};
 
@@ -31,9 +32,10 @@ pub enum Ending {
 }
 
 impl Ending {
-    /// The exit status of a log that ends so: 0 to 3.
+    /// The exit status of a log that ends so: 0 to 3, and 0 only where it is followed.
     pub fn status(&self) -> u8
-        ensures { result ≤ 3 }
+        ensures status { result ≡ status_of self.now }
+        ensures bound { result ≤ 3 }
     {
         match self {
             Ending::Followed { .. } => GOOD_STATUS,

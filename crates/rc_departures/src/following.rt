@@ -1,9 +1,9 @@
 //! A log, followed from its first line to its last.
 
-ghost use Rattle.std.specs.Prelude.{ℕ, List, Option, None, IfOk};
-ghost use Rattle.rc_lang.specs.Program.{Program as SpecProgram};
+ghost use Rattle.std.specs.Prelude.{ℕ, ◌≡◌, List, Option, None, IfOk};
+ghost use Rattle.rc_follow.specs.Follower.{Follower as SpecFollower};
 ghost use Rattle.rc_log.specs.Waiting.{left};
-ghost use Rattle.rc_departures.specs.Logs.{Ends, FollowsLine, Headed, IsOther, IsRoomy, Ringed, Under};
+ghost use Rattle.rc_departures.specs.Logs.{Ends, FollowsLine, Headed, IsOther, IsRoomy, Reaches, Ringed, Stops, Under};
 
 use crate::ending::Ending;
 use crate::why::{put_says, put_why};
@@ -17,20 +17,37 @@ use rc_log::line::read_line;
 use rc_log::reader::{LogFault, LogReader};
 use rc_log::words::word_at;
 use rc_report::source::Lines;
-use rc_report::text::put_pieces;
+use rc_text::text::put_pieces;
 use std::alloc::{AllocError, Global};
 use std::io::Read;
 
-/// Follows a log, held to the program of a text with these lines. Answers `Failed` where a read failed and
-/// `OutOfMemory` where a growth was refused, and no other `Err`.
-#[tactic(auto, using(crate::proofs::Under::begun, crate::proofs::Under::other_ends))]
+/// Follows a log, held to the program of a model with these lines, and notes which of its calls the log made. Answers
+/// `Failed` where a read failed and `OutOfMemory` where a growth was refused, and no other `Err`.
 pub fn follow_log<'a, R: Read + Drop>(
     alloc: Global,
     lines: &Lines<'_>,
     follower: &mut Follower<'a>,
     reader: R,
 ) -> Result<Ending, LogFault>
-    ensures { IfOk result (Ends follower.old.program (R.remaining reader)) }
+    ensures program { follower.new.program ≡ follower.old.program }
+    ensures ends { IfOk result (Ends follower.old.program (R.remaining reader)) }
+    ensures reached { IfOk result (Reaches follower.old (R.remaining reader) follower.new) }
+{
+    let ending = follow_lines(alloc, lines, follower, reader)?;
+    follower.end();
+    Ok(ending)
+}
+
+/// Follows a log up to its end, or to the line at which it ends otherwise.
+#[tactic(auto, using(crate::proofs::Under::begun, crate::proofs::Under::stops_at_once, crate::proofs::Under::under_stop))]
+fn follow_lines<'a, R: Read + Drop>(
+    alloc: Global,
+    lines: &Lines<'_>,
+    follower: &mut Follower<'a>,
+    reader: R,
+) -> Result<Ending, LogFault>
+    ensures program { follower.new.program ≡ follower.old.program }
+    ensures stops { IfOk result (Stops follower.old (R.remaining reader) follower.new) }
 {
     follower.begin(alloc)?;
     let mut log = LogReader::new(alloc, reader)?;
@@ -46,7 +63,7 @@ pub fn follow_log<'a, R: Read + Drop>(
 }
 
 /// Reads the next line, which has this number, and holds it to the program. Answers how the log ends here if it does.
-#[tactic(auto, using(crate::proofs::Under::under_line, crate::proofs::Under::under_end, crate::proofs::Under::other_ends))]
+#[tactic(auto, using(crate::proofs::Under::under_line, crate::proofs::Under::under_end, crate::proofs::Under::under_stop))]
 fn follow_next<'a, R: Read>(
     alloc: Global,
     lines: &Lines<'_>,
@@ -54,7 +71,8 @@ fn follow_next<'a, R: Read>(
     log: &mut LogReader<R>,
     number: u64,
 ) -> Result<Option<Ending>, LogFault>
-    ensures { (p : SpecProgram) → (bytes : Option (List ℕ)) → Under p bytes (left R.remaining log.old) follower.old None → IfOk result (Under p bytes (left R.remaining log.new) follower.new) }
+    ensures program { follower.new.program ≡ follower.old.program }
+    ensures under { (old : SpecFollower) → (bytes : Option (List ℕ)) → Under old bytes (left R.remaining log.old) follower.old None → IfOk result (Under old bytes (left R.remaining log.new) follower.new) }
 {
     match log.next_line() {
         Ok(true) => Ok(follow_line(alloc, lines, follower, number, log.line())?),
@@ -164,6 +182,7 @@ fn unreadable(alloc: Global, number: u64, why: Why) -> Result<Ending, AllocError
 }
 
 /// Holds one line to the program, and answers how the log ends there if it does.
+#[tactic(auto, using(crate::proofs::Under::line_followed, crate::proofs::Under::line_stops))]
 fn follow_line<'a>(
     alloc: Global,
     lines: &Lines<'_>,
@@ -171,16 +190,18 @@ fn follow_line<'a>(
     number: u64,
     line: &[u8],
 ) -> Result<Option<Ending>, AllocError>
-    ensures { IfOk result (FollowsLine follower.old line.now follower.new) }
+    ensures program { follower.new.program ≡ follower.old.program }
+    ensures follows { IfOk result (FollowsLine follower.old line.now follower.new) }
 {
     let said = match read_line(follower.program(), line) {
         Ok(said) => said,
         Err(why) => return Ok(Some(wrong_line(alloc, number, line, why)?)),
     };
-    match follower.follow(alloc, said)? {
-        Answer::Followed => Ok(None),
-        answer => Ok(Some(stopped(alloc, lines, follower, number, line, said, answer)?)),
+    let answer = follower.follow(alloc, said)?;
+    if answer.is_followed() {
+        return Ok(None);
     }
+    Ok(Some(stopped(alloc, lines, follower, number, line, said, answer)?))
 }
 
 /// How a log ends at a line that isn't followed.

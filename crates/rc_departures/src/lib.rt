@@ -1,4 +1,4 @@
-//! Logs, held to a program from their first line to their last, and what is told of them.
+//! Logs, held to a program from their first line to their last, and what is printed of them.
 #![tactic(auto)]
 
 pub mod answers;
@@ -7,6 +7,6 @@ pub mod following;
 pub mod logs;
 mod object;
 mod places_text;
-pub mod told;
+pub mod printed;
 mod unmade;
 mod why;

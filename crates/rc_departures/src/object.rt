@@ -1,9 +1,17 @@
-//! What is told of logs, as JSON objects: without spaces, the keys in order, each with a line feed.
+//! What is printed of logs, as JSON objects: without spaces, the keys in order, each with a line feed.
+
+ghost use Rattle.std.specs.Prelude.{◌≡◌, ◌++◌, codes, false, IfOk};
+ghost use Rattle.serde_json.specs.View.{view};
+ghost use Rattle.serde_json.specs.Written.{compact_text, has_float};
+ghost use Rattle.rc_departures.specs.Endings.{ending_json, ending_object};
+ghost use Rattle.rc_report.specs.Shown.{shown};
+ghost use Rattle.rc_text.specs.Text.{Puts};
 
 use crate::ending::Ending;
-use crate::unmade::Unmade;
+use crate::unmade::word_of;
+use rc_lang::lines::Line;
 use rc_report::shown::put_shown;
-use rc_report::text::put_piece;
+use rc_text::text::put_piece;
 use serde_json::{Value, json};
 use std::alloc::{AllocError, Global};
 
@@ -13,20 +21,22 @@ pub fn put_ending_object(
     alloc: Global,
     log: &str,
     ending: &Ending,
-) -> Result<(), AllocError> {
+) -> Result<(), AllocError>
+    ensures { Puts text.old text.new (ending_json log.now ending.now) result }
+{
     let object = object_of(alloc, log, ending)?;
     put_object(text, alloc, &object)
 }
 
-/// Adds the calls of the text that no log made.
+/// Adds these calls of a program, which no log makes.
 pub fn put_unmade_object(
     text: &mut Vec<u8>,
     alloc: Global,
-    unmade: &[Unmade],
+    unmade: &[Line],
 ) -> Result<(), AllocError> {
     let mut calls = Vec::new(alloc);
-    for call in unmade {
-        calls.push(json!(in alloc; {"call": call.word, "line": call.line})?)?;
+    for line in unmade {
+        calls.push(json!(in alloc; {"call": word_of(line.stmt), "line": line.number})?)?;
     }
     let calls = Value::Array(calls);
     let object = json!(in alloc; {"never": calls})?;
@@ -34,13 +44,17 @@ pub fn put_unmade_object(
 }
 
 /// Adds an object. What isn't shown as it is is as `\u` and four hex digits.
-fn put_object(text: &mut Vec<u8>, alloc: Global, object: &Value) -> Result<(), AllocError> {
+fn put_object(text: &mut Vec<u8>, alloc: Global, object: &Value) -> Result<(), AllocError>
+    ensures { has_float (view object.now) ≡ false → Puts text.old text.new (shown (compact_text (view object.now)) ++ codes "\n") result }
+{
     let object = object.to_string(alloc)?;
     put_shown(text, object.as_str())?;
     put_piece(text, b"\n")
 }
 
-fn object_of(alloc: Global, log: &str, ending: &Ending) -> Result<Value, AllocError> {
+fn object_of(alloc: Global, log: &str, ending: &Ending) -> Result<Value, AllocError>
+    ensures { IfOk result (λ v. view v ≡ ending_object log.now ending.now) }
+{
     match ending {
         Ending::Followed { calls } => {
             json!(in alloc; {"answer": "followed", "calls": *calls, "log": log})

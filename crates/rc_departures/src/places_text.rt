@@ -4,13 +4,13 @@ use itoa::Buffer;
 use rc_follow::places::{Need, Place, Places};
 use rc_log::words::word_at;
 use rc_report::source::{Lines, put_line_words};
-use rc_report::text::{put_piece, put_pieces};
+use rc_text::text::{put_piece, put_pieces};
 use std::alloc::{AllocError, Global};
 
 /// How many places are told at most.
 const MOST_PLACES: usize = 3;
 
-/// Adds that the text is at these places, the first three of them, with what the call of a line of a log would have needed there.
+/// Adds that the text is at the first three of these places, with what the call of a line of a log would have needed there.
 pub fn put_places(
     text: &mut Vec<u8>,
     alloc: Global,

@@ -1,70 +1,90 @@
-//! The calls of a text that no log made.
+//! The calls of a model that no log makes.
+
+ghost use Rattle.std.specs.Prelude.{◌≡◌, ◌++◌, map, IfOk};
+ghost use Rattle.std.specs.List.{flat_map};
+ghost use Rattle.rc_lang.specs.Parts.{view_thread};
+ghost use Rattle.rc_departures.specs.Unmade as spec;
+ghost use Rattle.rc_departures.specs.Unmade.{call_word, unmade, unmade_in};
 
 use rc_follow::follower::Follower;
-use rc_lang::lines::{Op, Stmt};
+use rc_lang::lines::{Line, Op, Stmt};
 use rc_lang::program::{Program, Thread};
 use std::alloc::{AllocError, Global};
 
-/// A call of a text.
-#[derive(Clone, Copy)]
-pub struct Unmade {
-    /// The number of its line, from 1.
-    pub line: u32,
-    /// Its word, as in `get_sqe`.
-    pub word: &'static str,
-}
-
-/// The calls of a program that no log made, in the order of the text.
+/// The lines of a program with calls that no log made on a way that was left where it ended, in the order of the model.
 pub fn unmade_calls(
     alloc: Global,
     program: &Program,
     follower: &Follower<'_>,
-) -> Result<Vec<Unmade>, AllocError> {
-    let mut unmade = Vec::new(alloc);
-    for thread in program.threads() {
-        push_unmade(&mut unmade, thread, follower)?;
-    }
-    Ok(unmade)
+) -> Result<Vec<Line>, AllocError>
+    ensures { IfOk result (λ lines. lines.items ≡ unmade program.now follower.now.reached) }
+{
+    let mut lines = Vec::new(alloc);
+    push_threads(&mut lines, program.threads(), follower)?;
+    Ok(lines)
 }
 
-/// Adds the calls of a thread that no log made.
-fn push_unmade(
-    unmade: &mut Vec<Unmade>,
-    thread: &Thread,
+/// Adds the lines of threads with calls that no log made.
+fn push_threads(
+    unmade: &mut Vec<Line>,
+    threads: &[Thread],
     follower: &Follower<'_>,
-) -> Result<(), AllocError> {
-    for line in &thread.lines {
-        match call_word(line.stmt) {
-            Some(word) if !follower.is_reached(line.number) => {
-                let line = line.number;
-                unmade.push(Unmade { line, word })?;
-            }
-            _ => {}
+) -> Result<(), AllocError>
+    ensures { IfOk result (λ _. unmade.new.items ≡ unmade.old.items ++ flat_map (λ t. unmade_in follower.now.reached t.lines) (map view_thread threads.now)) }
+{
+    for thread in threads {
+        push_unmade(unmade, &thread.lines, follower)?;
+    }
+    Ok(())
+}
+
+/// Adds the lines with calls that no log made.
+fn push_unmade(
+    unmade: &mut Vec<Line>,
+    lines: &[Line],
+    follower: &Follower<'_>,
+) -> Result<(), AllocError>
+    ensures { IfOk result (λ _. unmade.new.items ≡ unmade.old.items ++ unmade_in follower.now.reached lines.now) }
+{
+    for line in lines {
+        if is_unmade(*line, follower) {
+            unmade.push(*line)?;
         }
     }
     Ok(())
 }
 
-/// The word of the call that a statement is; none where it is no call.
-fn call_word(stmt: Stmt) -> Option<&'static str> {
+/// Whether the line has a call that no log made.
+fn is_unmade(line: Line, follower: &Follower<'_>) -> bool
+    ensures { result ≡ spec.is_unmade follower.now.reached line }
+{
+    !word_of(line.stmt).is_empty() && !follower.is_reached(line.number)
+}
+
+/// The word of the call on the ring that a statement is, as in `get_sqe`; empty where it is none.
+pub fn word_of(stmt: Stmt) -> &'static str
+    ensures { result.now ≡ call_word stmt }
+{
     match stmt {
-        Stmt::Do(op) => word_of(op),
-        Stmt::Peek(_) => Some("peek_cqe"),
-        _ => None,
+        Stmt::Do(op) => word_of_op(op),
+        Stmt::Peek(_) => "peek_cqe",
+        _ => "",
     }
 }
 
-fn word_of(op: Op) -> Option<&'static str> {
+fn word_of_op(op: Op) -> &'static str
+    ensures { result.now ≡ spec.word_of_op op }
+{
     match op {
-        Op::GetSqe => Some("get_sqe"),
-        Op::PrepRead(_, _, _, _) => Some("prep_read"),
-        Op::PrepWrite(_, _, _, _, _) => Some("prep_write"),
-        Op::PrepFsync(_, _) => Some("prep_fsync"),
-        Op::PrepNop => Some("prep_nop"),
-        Op::SetData64(_) => Some("set_data64"),
-        Op::Submit(_) => Some("submit"),
-        Op::SubmitAndWait(_, _) => Some("submit_and_wait"),
-        Op::CqeSeen => Some("cqe_seen"),
-        _ => None,
+        Op::GetSqe => "get_sqe",
+        Op::PrepRead(_, _, _, _) => "prep_read",
+        Op::PrepWrite(_, _, _, _, _) => "prep_write",
+        Op::PrepFsync(_, _) => "prep_fsync",
+        Op::PrepNop => "prep_nop",
+        Op::SetData64(_) => "set_data64",
+        Op::Submit(_) => "submit",
+        Op::SubmitAndWait(_, _) => "submit_and_wait",
+        Op::CqeSeen => "cqe_seen",
+        _ => "",
     }
 }

@@ -5,7 +5,7 @@ use rc_follow::places::Departure;
 use rc_log::call::Lack;
 use rc_log::words::{is, word_at};
 use rc_report::source::Lines;
-use rc_report::text::{put_counted, put_piece, put_pieces};
+use rc_text::text::{put_counted, put_piece, put_pieces};
 use std::alloc::{AllocError, Global};
 
 /// Adds what a line says that its thread does: the call with the words after it.

@@ -1,6 +1,6 @@
 //! Tests of what no command shows: memory that is refused, readers and writers that fail, a program without its text,
 //! requests that a disk answers, devices, choosers and gates of other kinds, and what faults say. What the program does is held
-//! by `ci/rows.py`, `ci/golden.py` and `ci/program.py`. They are above the crates that they test, since a crate with tests is
+//! by `ci/rows.py` and `ci/program.py`. They are above the crates that they test, since a crate with tests is
 //! proved twice.
 #![tactic(auto)]
 

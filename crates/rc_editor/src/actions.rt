@@ -1,32 +1,26 @@
 //! Changes of a text that are offered.
 
-use crate::mends::push_mends;
+use crate::fixes::push_fixes;
 use crate::place::{Edit, Range, edits_to, line_at, lines_of, push_edit};
-use crate::words::Words;
-use rc_keeps::engine::kept_text;
-use rc_read::words::is;
+use crate::words::begins_with;
+use rc_rewrite::keeps::kept_text;
 use std::alloc::{AllocError, Global};
 
-/// A change: its name, its edits, and whether it mends a line that is refused or can't be read.
+/// A change: its name, its edits, and whether it fixes a line that is refused or can't be read.
 #[derive(Drop)]
 pub struct Action {
     pub title: Vec<u8>,
     pub edits: Vec<Edit>,
-    pub mends: bool,
+    pub is_fix: bool,
 }
 
 /// The changes that are offered for the lines of a range: those with which a line in it isn't at fault any more, and the
 /// lists of its loops as `ringcheck keeps` fills them.
 pub fn actions(alloc: Global, text: &[u8], range: Range) -> Result<Vec<Action>, AllocError> {
     let mut actions = Vec::new(alloc);
-    push_mends(alloc, &mut actions, text, range)?;
+    push_fixes(alloc, &mut actions, text, range)?;
     push_fills(alloc, &mut actions, text, range)?;
     Ok(actions)
-}
-
-/// Whether a line begins a loop.
-fn is_loop(alloc: Global, line: &[u8]) -> Result<bool, AllocError> {
-    Ok(is(Words::of(alloc, line)?.text(0), b"loop"))
 }
 
 /// The lines of loops that other items could be in.
@@ -46,7 +40,7 @@ fn push_fills(
 ) -> Result<(), AllocError> {
     let lines = lines_of(alloc, text)?;
     let first = range.start.line as usize;
-    if !is_loop(alloc, line_at(&lines, first))? {
+    if !begins_with(line_at(&lines, first), b"loop") {
         return Ok(());
     }
     let fills = fills_of(alloc, text)?;
@@ -80,12 +74,12 @@ pub fn push_action(
     actions: &mut Vec<Action>,
     title: &[u8],
     edits: Vec<Edit>,
-    mends: bool,
+    is_fix: bool,
 ) -> Result<(), AllocError> {
     actions.push(Action {
         title: Vec::from_slice(alloc, title)?,
         edits,
-        mends,
+        is_fix,
     })?;
     Ok(())
 }

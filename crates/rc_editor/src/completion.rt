@@ -1,15 +1,15 @@
 //! What could be written at a place.
 
 use crate::forms::{beginning_of, meaning_of, put_form};
-use crate::marks::{Kind, Mark, Spot};
+use crate::marks::{Kind, LineAt, Mark};
 use crate::names::byte_of;
 use crate::page::{Above, Page};
-use crate::place::{Position, Range, up_to};
+use crate::place::{Position, Range, after, up_to};
 use crate::words::{Words, put_spaced};
 use rc_hints::fitting::{forms_of, reach_of};
 use rc_read::fixed::text_of;
 use rc_read::table::{Part, Row};
-use rc_read::words::is;
+use rc_read::words::{is, is_blank};
 use rc_report::text::put_pieces;
 use std::alloc::{AllocError, Global};
 
@@ -46,8 +46,8 @@ pub struct Completion {
 #[derive(Drop)]
 struct Choices<'a> {
     alloc: Global,
-    page: Page<'a>,
-    spot: Spot,
+    page: &'a Page<'a>,
+    here: LineAt,
     range: Range,
     list: Vec<Completion>,
 }
@@ -60,27 +60,29 @@ pub fn completions(
     at: Position,
 ) -> Result<Vec<Completion>, AllocError> {
     let page = Page::of(alloc, text)?;
-    let (line, byte) = byte_of(&page, at);
+    completions_on(alloc, &page, at)
+}
+
+/// The same, of a text that was looked at line by line.
+fn completions_on(alloc: Global, page: &Page, at: Position) -> Result<Vec<Completion>, AllocError> {
+    let (line, byte) = byte_of(page, at);
     let front = up_to(page.line(line), byte);
     let mut list = Vec::new(alloc);
     if front.contains(&b'#') {
         return Ok(list);
     }
-    let words = Words::of(alloc, front)?;
-    let start = start_of(&words, front);
-    let above = page.above(line);
-    let spot = Spot {
-        line,
-        scope: above.scope,
-        version: above.version,
-    };
-    let range = page.range_from(line, start, byte);
+    let start = start_of(front);
     let before = Words::of(alloc, up_to(front, start))?;
+    let above = page.above(line);
     let mut choices = Choices {
         alloc,
         page,
-        spot,
-        range,
+        here: LineAt {
+            line,
+            scope: above.scope,
+            version: above.version,
+        },
+        range: page.range_from(line, start, byte),
         list,
     };
     choices.push_all(above, &before)?;
@@ -89,13 +91,14 @@ pub fn completions(
 }
 
 /// The byte at which the word begins that ends at the end of the bytes; their end, if none does.
-fn start_of(words: &Words, front: &[u8]) -> usize {
-    let last = words.last();
-    if last.end() == front.len() {
-        last.start
-    } else {
-        front.len()
+fn start_of(front: &[u8]) -> usize {
+    let mut start = 0;
+    for (place, b) in front.iter().enumerate() {
+        if is_blank(*b) {
+            start = place + 1;
+        }
     }
+    start
 }
 
 /// Whether a form may be in a block of a form.
@@ -226,9 +229,9 @@ impl Choices<'_> {
     /// Whether a name could be on the line: something that is declared, or a variable of the thread.
     fn is_known(&self, mark: &Mark) -> bool {
         if mark.kind == Kind::Variable {
-            return mark.scope == self.spot.scope && mark.line != self.spot.line;
+            return mark.scope == self.here.scope && mark.line != self.here.line;
         }
-        mark.declares && mark.line < self.spot.line
+        mark.declares && mark.line < self.here.line
     }
 
     /// The names of a kind that could be on the line, each with the rest of the line that declares it.
@@ -265,7 +268,7 @@ impl Choices<'_> {
     /// Adds the items: all shares of each buffer, each token, and a credit.
     fn push_items(&mut self) -> Result<(), AllocError> {
         for (name, detail) in &self.names(Kind::Buffer)? {
-            self.push_item(&[name, b":", last_word(detail)], detail)?;
+            self.push_item(&[name, b":", after(detail, start_of(detail))], detail)?;
         }
         for (name, detail) in &self.names(Kind::Token)? {
             self.push_item(&[b"t:", name], detail)?;
@@ -287,15 +290,4 @@ fn put_rest(text: &mut Vec<u8>, words: &Words) -> Result<(), AllocError> {
         put_spaced(text, place == 2, words.text(place))?;
     }
     Ok(())
-}
-
-/// What is after the last blank.
-fn last_word(text: &[u8]) -> &[u8] {
-    let mut start = 0;
-    for place in 0..text.len() {
-        if text[place] == b' ' {
-            start = place + 1;
-        }
-    }
-    crate::place::after(text, start)
 }

@@ -1,30 +1,45 @@
 //! The forms of the notation, as words.
 
+ghost use Rattle.std.specs.Prelude.{◌≡◌, length};
+ghost use Rattle.rc_editor.specs.Forms.{numbers_in};
+ghost use Rattle.rc_read.specs.Table as table;
+
 use crate::words::put_spaced;
 use rc_read::fixed::text_of;
-use rc_read::table::{Part, Range, Row, parts_of};
+use rc_read::table::{Part, Row, parts_of};
 use rc_report::text::put_piece;
 use std::alloc::{AllocError, Global};
 
-/// What stands for a number of a range in a form.
-fn range_word(range: Range) -> &'static [u8] {
-    match range {
-        Range::Within(1, 4096) => b"BYTES",
-        Range::Within(1, 16) => b"SHARES",
-        Range::Within(0, 4095) => b"i",
-        Range::Within(0, 1048576) => b"OFF",
-        Range::Within(0, 1) => b"FLAGS",
-        Range::Within(0, 2048) => b"m",
-        Range::Within(_, _) => b"LEN",
-        Range::Size => b"N",
-        Range::CompletionSize => b"M",
-        Range::Rounded => b"Q",
-        Range::Entries => b"m",
-        Range::Shares => b"K",
+/// What stands for the numbers of a form, as in docs/notation.md.
+fn numbers_of(row: Row) -> &'static [&'static str]
+    ensures { length result.now ≡ numbers_in (table.parts_of row) }
+{
+    match row {
+        Row::Ring => &["N"],
+        Row::RingCq => &["N", "M"],
+        Row::RingLeft => &["N", "Q"],
+        Row::RingCqLeft => &["N", "M", "Q"],
+        Row::File => &["LEN"],
+        Row::Buffer => &["BYTES", "SHARES"],
+        Row::TokenWrite => &["K"],
+        Row::Load | Row::Store => &["i"],
+        Row::PrepRead => &["LEN", "OFF"],
+        Row::PrepWrite => &["LEN", "OFF", "K"],
+        Row::PrepFsync => &["FLAGS"],
+        Row::SubmitAndWait | Row::IfSpace => &["m"],
+        _ => &[],
     }
 }
 
-/// What stands for a part in a form, as in docs/notation.md; a fixed word stands for itself.
+/// What stands for a number of a form, by its place among the form's numbers.
+fn number_word(row: Row, place: usize) -> &'static [u8] {
+    match numbers_of(row).get(place) {
+        Some(word) => word.as_bytes(),
+        None => b"",
+    }
+}
+
+/// What stands for a part that is no number, as in docs/notation.md; a fixed word stands for itself.
 fn part_word(part: Part) -> &'static [u8] {
     match part {
         Part::Fixed(word) => text_of(word),
@@ -32,7 +47,7 @@ fn part_word(part: Part) -> &'static [u8] {
         Part::Operand => b"A",
         Part::Comparison => b"OP",
         Part::Signed => b"n",
-        Part::Number(range) => range_word(range),
+        Part::Number(_) => b"",
         Part::File | Part::NewFile => b"F",
         Part::Buffer => b"B",
         Part::Pool => b"P",
@@ -48,8 +63,16 @@ fn part_word(part: Part) -> &'static [u8] {
 
 /// Adds a form, with a blank between two words.
 pub fn put_form(text: &mut Vec<u8>, row: Row) -> Result<(), AllocError> {
+    let mut numbers: usize = 0;
     for (place, part) in parts_of(row).iter().enumerate() {
-        put_spaced(text, place == 0, part_word(*part))?;
+        let is_number = matches!(part, Part::Number(_));
+        let word = if is_number {
+            number_word(row, numbers)
+        } else {
+            part_word(*part)
+        };
+        put_spaced(text, place == 0, word)?;
+        numbers = numbers.saturating_add(usize::from(is_number));
     }
     Ok(())
 }

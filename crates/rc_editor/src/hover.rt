@@ -6,7 +6,7 @@ use crate::marks::{Kind, Mark, fit_of};
 use crate::names::{byte_of, declaration_of, mark_at};
 use crate::page::Page;
 use crate::place::{Position, Range, number_of};
-use crate::words::{Word, Words};
+use crate::words::Words;
 use rc_read::parts::Region;
 use rc_read::words::is;
 use rc_report::text::{put_piece, put_pieces};
@@ -23,22 +23,43 @@ pub struct Hover {
 /// nothing.
 pub fn hover_at(alloc: Global, text: &[u8], at: Position) -> Result<Option<Hover>, AllocError> {
     let page = Page::of(alloc, text)?;
-    let (line, byte) = byte_of(&page, at);
+    hover_on(alloc, text, &page, at)
+}
+
+/// The same, of a text that was looked at line by line.
+fn hover_on(
+    alloc: Global,
+    text: &[u8],
+    page: &Page,
+    at: Position,
+) -> Result<Option<Hover>, AllocError> {
+    let (line, byte) = byte_of(page, at);
     let words = Words::of(alloc, page.line(line))?;
     let Some(place) = words.place_at(byte) else {
         return Ok(None);
     };
-    let word = words.word(place);
-    let mut shown = Vec::new(alloc);
-    match mark_at(&page, at) {
-        Some(mark) => put_mark(alloc, &mut shown, &page, &mark)?,
-        None => put_word(alloc, &mut shown, &page, line, &words, &word)?,
-    }
-    put_before(alloc, &mut shown, text, &page, line)?;
+    let mut shown = meaning(alloc, page, at, &words, place)?;
+    put_before(alloc, &mut shown, text, page, line)?;
     Ok(Some(Hover {
         text: shown,
-        range: page.range(line, &word),
+        range: page.range(line, &words.word(place)),
     }))
+}
+
+/// What the word at a place means.
+fn meaning(
+    alloc: Global,
+    page: &Page,
+    at: Position,
+    words: &Words,
+    place: usize,
+) -> Result<Vec<u8>, AllocError> {
+    let mut shown = Vec::new(alloc);
+    match mark_at(page, at) {
+        Some(mark) => put_mark(alloc, &mut shown, page, &mark)?,
+        None => put_word(alloc, &mut shown, page, at, words, place)?,
+    }
+    Ok(shown)
 }
 
 /// Adds what is known before a line, if it is one of a thread.
@@ -73,14 +94,14 @@ fn put_word(
     alloc: Global,
     shown: &mut Vec<u8>,
     page: &Page,
-    line: usize,
+    at: Position,
     words: &Words,
-    word: &Word,
+    place: usize,
 ) -> Result<(), AllocError> {
-    match word.text {
+    match words.text(place) {
         [b'c', b':', ..] => put_piece(shown, b"credits: how many completions it may still cause"),
         [b'q', b':', ..] => put_piece(shown, b"how many entries may be queued there"),
-        _ => put_row(alloc, shown, page, line, words),
+        _ => put_row(alloc, shown, page, at.line as usize, words),
     }
 }
 

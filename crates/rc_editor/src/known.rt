@@ -4,12 +4,12 @@ ghost use Rattle.std.specs.Prelude.{◌<◌, IfSome, length};
 
 use rc_lang::lines::Block;
 use rc_lang::program::{Program, Thread};
-use rc_listing::state_text::put_state;
 use rc_read::parts::{Parts, Region, Unread};
 use rc_read::{ReadFault, read_parts, read_program};
 use rc_report::text::{put_counted, put_piece, put_pieces};
 use rc_rules::side::Side;
 use rc_rules::state::State;
+use rc_sentences::state_text::put_state;
 use rc_verify::labels::Labels;
 use std::alloc::{AllocError, Global};
 

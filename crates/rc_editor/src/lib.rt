@@ -3,18 +3,18 @@
 //!
 //! Each answer is one of the text's bytes alone, and each function answers any bytes, also those that can't be read: it
 //! goes by lines and words, and takes the program where there is one. Of a text with more lines than a program may have
-//! those after are not looked at, but for its layout. Lines end with a line feed alone.
+//! those after are not looked at, but for its layout. A line ends with a line feed, also after a carriage return.
 #![tactic(auto)]
 
 pub mod actions;
 pub mod completion;
+mod fixes;
 pub mod folding;
 pub mod format;
 mod forms;
 pub mod hover;
 mod known;
 mod marks;
-mod mends;
 pub mod names;
 mod page;
 pub mod place;

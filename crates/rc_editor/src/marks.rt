@@ -80,7 +80,7 @@ pub fn fit_of(
 
 /// Where a line is: its number, from 0, and the line of its thread.
 #[derive(Clone, Copy)]
-pub struct Spot {
+pub struct LineAt {
     pub line: usize,
     pub scope: usize,
     pub version: u32,
@@ -128,7 +128,7 @@ fn is_number(word: &[u8]) -> bool {
 /// Adds the name that is in the place of a part.
 fn push_part<'a>(
     marks: &mut Vec<Mark<'a>>,
-    spot: Spot,
+    here: LineAt,
     part: Part,
     word: Word<'a>,
     gives: bool,
@@ -142,8 +142,8 @@ fn push_part<'a>(
     let is_variable = kind == Kind::Variable;
     marks.push(Mark {
         kind,
-        scope: if is_variable { spot.scope } else { 0 },
-        line: spot.line,
+        scope: if is_variable { here.scope } else { 0 },
+        line: here.line,
         name: word,
         around: word,
         declares,
@@ -179,7 +179,11 @@ fn cut_around(bytes: &[u8], place: usize) -> (&[u8], &[u8]) {
 }
 
 /// Adds the name in an item: of a buffer, or of a token.
-fn push_item<'a>(marks: &mut Vec<Mark<'a>>, spot: Spot, word: Word<'a>) -> Result<(), AllocError> {
+fn push_item<'a>(
+    marks: &mut Vec<Mark<'a>>,
+    here: LineAt,
+    word: Word<'a>,
+) -> Result<(), AllocError> {
     let Some((name, number)) = cut_item(word) else {
         return Ok(());
     };
@@ -190,7 +194,7 @@ fn push_item<'a>(marks: &mut Vec<Mark<'a>>, spot: Spot, word: Word<'a>) -> Resul
     marks.push(Mark {
         kind: if is_token { Kind::Token } else { Kind::Buffer },
         scope: 0,
-        line: spot.line,
+        line: here.line,
         name: if is_token { number } else { name },
         around: word,
         declares: false,
@@ -202,7 +206,7 @@ fn push_item<'a>(marks: &mut Vec<Mark<'a>>, spot: Spot, word: Word<'a>) -> Resul
 /// Adds the names of a line that fits a form.
 pub fn push_marks<'a>(
     marks: &mut Vec<Mark<'a>>,
-    spot: Spot,
+    here: LineAt,
     words: &Words<'a>,
     fit: Fit,
 ) -> Result<(), AllocError> {
@@ -212,7 +216,7 @@ pub fn push_marks<'a>(
         if at >= fit.words {
             return Ok(());
         }
-        at = push_at(marks, spot, words, *part, at, gives)?;
+        at = push_at(marks, here, words, *part, at, gives)?;
         gives = gives && !matches!(part, Part::Variable);
     }
     Ok(())
@@ -221,19 +225,19 @@ pub fn push_marks<'a>(
 /// Adds the names that are in the place of a part, from this word on. Answers the word after them.
 fn push_at<'a>(
     marks: &mut Vec<Mark<'a>>,
-    spot: Spot,
+    here: LineAt,
     words: &Words<'a>,
     part: Part,
     at: usize,
     gives: bool,
 ) -> Result<usize, AllocError> {
     if !matches!(part, Part::Items) {
-        push_part(marks, spot, part, words.word(at), gives)?;
+        push_part(marks, here, part, words.word(at), gives)?;
         return Ok(at.saturating_add(1));
     }
-    let end = at.saturating_add(items_in_front(spot.version, words.from(at)));
+    let end = at.saturating_add(items_in_front(here.version, words.from(at)));
     for place in at..end {
-        push_item(marks, spot, words.word(place))?;
+        push_item(marks, here, words.word(place))?;
     }
     Ok(end)
 }

@@ -1,7 +1,7 @@
 //! A text, line by line: the names and the blocks in it, and what its lines may be.
 
-use crate::marks::{Fit, Mark, Spot, fit_of, push_marks};
-use crate::place::{Range, line_at, lines_of, range_in};
+use crate::marks::{Fit, LineAt, Mark, fit_of, push_marks};
+use crate::place::{Range, line_at, lines_of, range_in, without_return};
 use crate::words::{Word, Words};
 use rc_read::parts::Region;
 use rc_read::table::Row;
@@ -79,7 +79,7 @@ impl<'a> Page<'a> {
             last: start(),
         };
         for (number, line) in lines_of(alloc, text)?.iter().enumerate() {
-            page.add(alloc, number, line)?;
+            page.add(alloc, number, without_return(line))?;
         }
         Ok(page)
     }
@@ -108,13 +108,13 @@ impl<'a> Page<'a> {
             self.last.scope = number;
             self.last.block = None;
         }
-        let spot = Spot {
+        let here = LineAt {
             line: number,
             scope: self.last.scope,
             version: above.version,
         };
         if let Some(fit) = fit {
-            push_marks(&mut self.marks, spot, words, fit)?;
+            push_marks(&mut self.marks, here, words, fit)?;
         }
         self.note_braces(number, words, fit)?;
         self.last.region = self.region_after(above.region, words);
@@ -186,7 +186,7 @@ impl<'a> Page<'a> {
         self.last.version
     }
 
-    /// A line, from 0; nothing after the last.
+    /// A line, from 0, without its end; nothing after the last.
     pub fn line(&self, number: usize) -> &'a [u8] {
         line_at(&self.lines, number)
     }

@@ -117,6 +117,14 @@ pub fn lines_of(alloc: Global, text: &[u8]) -> Result<Vec<&[u8]>, AllocError> {
     Ok(lines)
 }
 
+/// A line without the carriage return at its end: editors count that as a part of the line's end.
+pub fn without_return(line: &[u8]) -> &[u8] {
+    match line {
+        [front @ .., b'\r'] => front,
+        _ => line,
+    }
+}
+
 /// The line at a place, and nothing after the last.
 pub fn line_at<'a>(lines: &[&'a [u8]], number: usize) -> &'a [u8] {
     match lines.get(number) {
@@ -177,19 +185,15 @@ pub fn push_edit(
     Ok(())
 }
 
-/// The edits that make another text of one, line by line. Both have the same number of lines.
+/// The edits that make another text of one, line by line. Both have the same number of lines, whose ends stay.
 pub fn edits_to(alloc: Global, text: &[u8], other: &[u8]) -> Result<Vec<Edit>, AllocError> {
     let (lines, news) = (lines_of(alloc, text)?, lines_of(alloc, other)?);
     let mut edits = Vec::new(alloc);
     for (number, line) in lines.iter().enumerate() {
-        let new = line_at(&news, number);
-        if *line != new {
-            push_edit(
-                alloc,
-                &mut edits,
-                range_in(line, number, 0, line.len()),
-                new,
-            )?;
+        let (line, new) = (without_return(line), without_return(line_at(&news, number)));
+        if line != new {
+            let range = range_in(line, number, 0, line.len());
+            push_edit(alloc, &mut edits, range, new)?;
         }
     }
     Ok(edits)

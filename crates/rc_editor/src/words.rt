@@ -20,10 +20,10 @@ pub fn has_words(line: &[u8]) -> bool {
     first_word(up_to(line, MOST_BYTES)).is_some()
 }
 
-/// Whether a line ends a block.
-pub fn ends_block(line: &[u8]) -> bool {
+/// Whether this is the first word of a line.
+pub fn begins_with(line: &[u8], word: &[u8]) -> bool {
     match first_word(up_to(line, MOST_BYTES)) {
-        Some((word, _)) => is(word, b"}"),
+        Some((first, _)) => is(first, word),
         None => false,
     }
 }

@@ -9,8 +9,8 @@ use rc_read::source::Lines;
 use rc_text::text::{put_piece, put_pieces};
 use std::alloc::{AllocError, Global};
 
-/// A complete C program over liburing that does, statement by statement, what a program does. The source is the text that
-/// the program was read from: its words are in comments.
+/// A complete C program over liburing that does, statement by statement, what a program does. The source is the model
+/// that the program was read from: its words are in comments.
 pub fn c_text(alloc: Global, source: &[u8], program: &Program) -> Result<Vec<u8>, AllocError> {
     let mut text = Vec::new(alloc);
     let lines = Lines::of(alloc, source)?;
@@ -18,7 +18,7 @@ pub fn c_text(alloc: Global, source: &[u8], program: &Program) -> Result<Vec<u8>
     Ok(text)
 }
 
-/// Adds the C program of a program, with the lines of its text.
+/// Adds the C program of a program, with the lines of its model.
 fn put_program(text: &mut Vec<u8>, program: &Program, lines: &Lines) -> Result<(), AllocError> {
     let guards = Guards::of(program);
     put_pieces(

@@ -1,4 +1,4 @@
-//! Accepted programs as C: a complete program over liburing that does on a real io_uring what the text says.
+//! Accepted programs as C: a complete program over liburing that does on a real io_uring what the model says.
 //!
 //! No contract says what the C is: each function is safe, and the records of the examples have it. So this crate has no
 //! edits that must fail.

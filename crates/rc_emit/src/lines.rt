@@ -32,7 +32,7 @@ pub fn put_event(text: &mut Vec<u8>, place: Place<'_>, pieces: &[&[u8]]) -> Resu
     put_piece(text, b");\n")
 }
 
-/// Adds the statement's line of the text as a comment, to the end of the line.
+/// Adds the statement's line of the model as a comment, to the end of the line.
 pub fn put_comment(text: &mut Vec<u8>, place: Place<'_>) -> Result<(), AllocError> {
     let number = place.decimal(u64::from(place.number))?;
     put_pieces(text, &[b"/* ", &number, b":"])?;
@@ -40,7 +40,7 @@ pub fn put_comment(text: &mut Vec<u8>, place: Place<'_>) -> Result<(), AllocErro
     put_piece(text, b" */\n")
 }
 
-/// Adds the words of a line of the text, with a blank before each.
+/// Adds the words of a line of the model, with a blank before each.
 fn put_words(text: &mut Vec<u8>, line: &[u8]) -> Result<(), AllocError> {
     let mut rest = line;
     while let Some((word, after)) = first_word(rest) {
@@ -50,13 +50,13 @@ fn put_words(text: &mut Vec<u8>, line: &[u8]) -> Result<(), AllocError> {
     Ok(())
 }
 
-/// Adds the statement's line of the text as a comment in a line of its own.
+/// Adds the statement's line of the model as a comment in a line of its own.
 pub fn put_source(text: &mut Vec<u8>, place: Place<'_>) -> Result<(), AllocError> {
     put_indentation(text, place.depth)?;
     put_comment(text, place)
 }
 
-/// Adds the end of a block of C, with the line of the text that ends it.
+/// Adds the end of a block of C, with the line of the model that ends it.
 pub fn put_closing(text: &mut Vec<u8>, place: Place<'_>) -> Result<(), AllocError> {
     put_indentation(text, place.depth)?;
     put_piece(text, b"} ")?;

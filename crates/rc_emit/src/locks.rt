@@ -11,7 +11,7 @@ use std::alloc::AllocError;
 pub enum Guards {
     /// One for all calls.
     Ring,
-    /// One for each side, in a text that takes one without the other.
+    /// One for each side, in a model that takes one without the other.
     Sides,
 }
 

@@ -3,6 +3,7 @@
 use crate::lines::{put_event, put_indentation, put_line, put_source};
 use crate::locks::put_seen_after_submit;
 use crate::place::Place;
+use crate::variables::is_variable;
 use rc_lang::lines::{Op, Operand};
 use rc_text::text::put_pieces;
 use std::alloc::AllocError;
@@ -40,6 +41,15 @@ fn put_set_event(text: &mut Vec<u8>, place: Place<'_>, x: &[u8]) -> Result<(), A
     put_event(text, place, &[b"set %\" PRId64, ", x])
 }
 
+/// The cast in `x = x`, since clang warns of a plain one.
+fn cast_of(x: usize, value: Operand) -> &'static [u8] {
+    if is_variable(value, x) {
+        b"(int64_t)"
+    } else {
+        b""
+    }
+}
+
 /// Adds that a variable becomes what another is, or a number.
 fn put_set(
     text: &mut Vec<u8>,
@@ -47,9 +57,10 @@ fn put_set(
     x: usize,
     value: Operand,
 ) -> Result<(), AllocError> {
+    let cast = cast_of(x, value);
     let x = place.variable(x)?;
     let value = place.operand(value)?;
-    put_line(text, place, &[&x, b" = ", &value, b";"])?;
+    put_line(text, place, &[&x, b" = ", cast, &value, b";"])?;
     put_set_event(text, place, &x)
 }
 

@@ -8,7 +8,7 @@ use rc_text::names::buffer_name;
 use rc_text::text::{put_number, put_piece};
 use std::alloc::{AllocError, Global};
 
-/// Where a statement is in the text, and how deep its C is.
+/// Where a statement is in the model, and how deep its C is.
 #[derive(Clone, Copy)]
 pub struct Place<'a> {
     pub alloc: Global,
@@ -20,14 +20,14 @@ pub struct Place<'a> {
     pub at: usize,
     /// The number of its line.
     pub number: u32,
-    /// Its line of the text.
+    /// Its line of the model.
     pub source: &'a [u8],
     /// How many blocks of C are open around it.
     pub depth: usize,
 }
 
 impl<'a> Place<'a> {
-    /// The header of a thread, which is this line of the text.
+    /// The header of a thread, which is this line of the model.
     pub fn new(
         alloc: Global,
         program: &'a Program,
@@ -47,7 +47,7 @@ impl<'a> Place<'a> {
         }
     }
 
-    /// The same thread at another of its lines, which is this line of the text.
+    /// The same thread at another of its lines, which is this line of the model.
     pub fn moved(self, at: usize, line: Line, source: &'a [u8], depth: usize) -> Place<'a> {
         Place {
             at,

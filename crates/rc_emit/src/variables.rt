@@ -26,14 +26,15 @@ fn is_in_op(op: Op, variable: usize) -> bool {
         }
         Op::Assign(x, y) => x == variable || y == variable,
         Op::Add(x, a, b) | Op::Subtract(x, a, b) => {
-            x == variable || is_operand(a, variable) || is_operand(b, variable)
+            x == variable || is_variable(a, variable) || is_variable(b, variable)
         }
         Op::Store(_, _, x) | Op::Fill(_, x) | Op::Print(x) => x == variable,
         _ => false,
     }
 }
 
-fn is_operand(operand: Operand, variable: usize) -> bool {
+/// Whether an operand is this variable.
+pub fn is_variable(operand: Operand, variable: usize) -> bool {
     match operand {
         Operand::Variable(x) => x == variable,
         Operand::Number(_) => false,

@@ -1,4 +1,3 @@
-pub mod Checking
 pub mod Explains
 pub mod Judged
 pub mod Members

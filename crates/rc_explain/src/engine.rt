@@ -1,13 +1,14 @@
-//! A text is checked, and its verdict is told with what explains it.
+//! A text is checked, and its verdict is printed with what explains it.
 
 ghost use Rattle.std.specs.Prelude.{option_copied as named};
 ghost use Rattle.rc_explain.specs.Explains.{BeginsWith, Explains, IsObjectText, Tells, first_line};
 ghost use Rattle.rc_explain.specs.Judged as spec;
 ghost use Rattle.rc_report.specs.Text.{Puts, PutsAnswer, PutsSome};
 
-use crate::explanation::explanation;
+use crate::explanation::{Explanation, Walks, explain};
 use crate::judged::verdict_of;
 use crate::object::object_text;
+use crate::printed::printed;
 use rc_admit::admitted::{Judged, judge};
 use rc_arguments::command::Form;
 use rc_report::file_verdict::put_file_verdict;
@@ -16,9 +17,9 @@ use rc_report::text::put_piece;
 use rc_report::verdict::{Verdict, put_verdict};
 use std::alloc::{AllocError, Global};
 
-/// Adds the verdict on the text of a program, with what explains it. If the text is that of a file, its name is told, too.
-/// In words the line of the verdict comes first, as it does without an explanation. Answers an error only where memory ran
-/// out.
+/// Adds the verdict on the text of a program, with what explains it. If the text is that of a file, its name is printed,
+/// too. In words the line of the verdict comes first, as it does without an explanation. Answers an error only where
+/// memory ran out.
 pub fn put_explained(
     text: &mut Vec<u8>,
     alloc: Global,
@@ -45,25 +46,43 @@ fn put_judged(
     ensures { PutsSome (Tells (named file.entry) form (spec.verdict_of judged.now))
         text.old text.new result }
 {
+    let walks = match form {
+        Form::Words => Walks::None,
+        Form::Listing | Form::Json => Walks::Accepted,
+    };
+    let explanation = explain(alloc, source, judged, walks)?;
+    put_drawn(text, alloc, file, &explanation, form)
+}
+
+/// Adds an explanation in a form.
+fn put_drawn(
+    text: &mut Vec<u8>,
+    alloc: Global,
+    file: Option<&str>,
+    explanation: &Explanation<'_>,
+    form: Form,
+) -> Result<(), AllocError>
+    ensures { PutsSome (Tells (named file.entry) form explanation.now.verdict)
+        text.old text.new result }
+{
     match form {
-        Form::Words => put_lines(text, alloc, file, source, judged, false),
-        Form::Listing => put_lines(text, alloc, file, source, judged, true),
-        Form::Json => put_object(text, alloc, file, source, judged),
+        Form::Words => put_lines(text, alloc, file, explanation, false),
+        Form::Listing => put_lines(text, alloc, file, explanation, true),
+        Form::Json => put_object(text, alloc, file, explanation),
     }
 }
 
-/// Adds the verdict with what explains it as JSON.
+/// Adds an explanation as JSON.
 fn put_object(
     text: &mut Vec<u8>,
     alloc: Global,
     file: Option<&str>,
-    source: &[u8],
-    judged: &Judged,
+    explanation: &Explanation<'_>,
 ) -> Result<(), AllocError>
-    ensures { PutsSome (IsObjectText (named file.entry) (spec.verdict_of judged.now))
+    ensures { PutsSome (IsObjectText (named file.entry) explanation.now.verdict)
         text.old text.new result }
 {
-    let object = object_text(alloc, file, source, judged)?;
+    let object = object_text(alloc, file, explanation)?;
     put_shown(text, object.as_str())?;
     put_piece(text, b"\n")
 }
@@ -73,16 +92,15 @@ fn put_lines(
     text: &mut Vec<u8>,
     alloc: Global,
     file: Option<&str>,
-    source: &[u8],
-    judged: &Judged,
+    explanation: &Explanation<'_>,
     is_listed: bool,
 ) -> Result<(), AllocError>
-    ensures { PutsSome (BeginsWith (first_line (named file.entry) (spec.verdict_of judged.now)))
+    ensures { PutsSome (BeginsWith (first_line (named file.entry) explanation.now.verdict))
         text.old text.new result }
 {
-    put_first(text, file, &verdict_of(judged))?;
-    let explanation = explanation(alloc, source, judged, is_listed)?;
-    put_piece(text, &explanation)
+    put_first(text, file, &explanation.verdict)?;
+    let rest = printed(alloc, explanation, is_listed)?;
+    put_piece(text, &rest)
 }
 
 /// Adds the line of a verdict, as it is without an explanation.

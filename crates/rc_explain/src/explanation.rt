@@ -1,154 +1,239 @@
-//! What is printed after the line of a verdict.
+//! A verdict and what explains it.
 
-ghost use Rattle.std.specs.Prelude.{◌<◌, length};
+ghost use Rattle.std.specs.Prelude.{◌≡◌, ◌<◌, ◌≤◌, IfOk, length};
+ghost use Rattle.rc_explain.specs.Judged as spec;
 
+use crate::judged::verdict_of;
+use crate::span::{Span, span_of_word, span_of_words};
 use rc_admit::admitted::Judged;
-use rc_hints::hint::{mend_of_line, put_hint};
+use rc_hints::hint::{hint_on, put_printed};
 use rc_lang::program::Program;
-use rc_listing::listing::put_listing;
+use rc_read::ReadCause;
+use rc_read::parts::Parts;
 use rc_report::source::Lines;
-use rc_report::text::{put_counted, put_piece, put_pieces};
-use rc_report::verdict::Refusal;
-use rc_rules::cause::Cause;
-use rc_sentences::asks::{Need, header_need, line_need};
-use rc_sentences::causes::{Advice, advice_on_read, advice_on_rule};
-use rc_sentences::lost::put_lost;
-use rc_sentences::mends::{mend_of, why_of};
-use rc_sentences::notes::notes_on;
-use rc_sentences::spot::{Spot, spot_of};
-use rc_verify::labels::Labels;
+use rc_report::verdict::{Refusal, Verdict};
+use rc_sentences::causes::advice_on_read;
+use rc_sentences::line_at::{LineAt, line_at};
+use rc_sentences::notes::{Note, notes_on};
+use rc_sentences::sentences::{Sentences, sentences_on_header, sentences_on_line};
+use rc_sentences::walked::{Refused, Walked, walk};
 use std::alloc::{AllocError, Global};
 
-/// What is printed after the verdict on a text: of an accepted one the notes; of a refused one what the line asks for, why,
-/// how it is mended, and the notes; of one that can't be read what is wrong with the line's words, why, and how it is
-/// mended. With the listing comes what is known before each line: of an accepted text all, of a refused one those of the
-/// thread up to the refused one.
-pub fn explanation(
-    alloc: Global,
-    source: &[u8],
-    judged: &Judged,
-    is_listed: bool,
-) -> Result<Vec<u8>, AllocError> {
-    let mut text = Vec::new(alloc);
-    let lines = Lines::of(alloc, source)?;
-    match judged {
-        Judged::Admitted(admitted) => {
-            put_notes(alloc, &mut text, &lines, admitted.program())?;
-            put_threads(&mut text, &lines, admitted.program(), is_listed)?;
-        }
-        Judged::Refused(program, refusal) => {
-            let listing = put_refused(alloc, &mut text, &lines, program, *refusal)?;
-            if is_listed {
-                put_piece(&mut text, &listing)?;
-            }
-        }
-        Judged::Unread { line, cause, above } => {
-            let words = lines.line(*line);
-            put_hint(&mut text, words, *line, *cause, above)?;
-            put_piece(&mut text, b"\n")?;
-            let mend = mend_of_line(alloc, words, *cause, above)?;
-            put_advice(&mut text, advice_on_read(*cause), &mend)?;
-        }
-    }
-    Ok(text)
+/// Which of the threads that the rules accept are walked over.
+#[derive(Clone, Copy)]
+pub enum Walks {
+    /// None.
+    None,
+    /// Those of an accepted program.
+    Accepted,
+    /// These, and those above a refused thread.
+    All,
 }
 
-/// Adds the notes on a program.
-fn put_notes(
-    alloc: Global,
-    text: &mut Vec<u8>,
-    lines: &Lines,
-    program: &Program,
-) -> Result<(), AllocError> {
-    for note in notes_on(alloc, lines, program)? {
-        put_pieces(text, &[b"note: ", &note.text, b"\n"])?;
-    }
-    Ok(())
+/// A verdict and what explains it. It is computed once, whatever it is drawn as.
+#[derive(Drop)]
+pub struct Explanation<'a> {
+    pub verdict: Verdict,
+    /// The lines of the model.
+    pub lines: Lines<'a>,
+    /// What is said of the line that isn't good, if there is one.
+    pub reason: Option<Reason<'a>>,
+    pub notes: Vec<Note>,
+    /// The threads that the rules accept, as many as were asked for.
+    pub accepted: Vec<Walked<'a>>,
+    /// The thread of a refused line, up to it, unless that is its header.
+    pub refused: Option<Walked<'a>>,
+    /// Whether there is no thread, so that nothing was checked.
+    pub is_empty: bool,
 }
 
-/// Adds the lines of all threads, if they are to be listed, or that there is no thread. It is no part of its caller, as it
-/// needs room for labels.
-#[inline(never)]
-fn put_threads(
-    text: &mut Vec<u8>,
-    lines: &Lines,
-    program: &Program,
-    is_listed: bool,
-) -> Result<(), AllocError> {
-    let count = program.threads().len() as u32;
-    if count == 0 {
-        return put_piece(text, b"no thread: nothing was checked\n");
-    }
-    if !is_listed {
-        return Ok(());
-    }
-    let mut labels = Labels::new(program, 0);
-    for thread in 0..count {
-        put_listing(text, lines, &mut labels, thread)?;
-    }
-    Ok(())
+/// Why a line isn't good, and what to write.
+#[derive(Drop)]
+pub struct Reason<'a> {
+    pub sentences: Sentences,
+    /// Where in the line it is.
+    pub span: Span,
+    /// The name of the thread of a refused line.
+    pub thread: Option<&'a [u8]>,
 }
 
-/// Adds what a refused line asks for, why it is refused and how that is mended, and the notes; answers the lines up to it.
-fn put_refused(
-    alloc: Global,
-    text: &mut Vec<u8>,
-    lines: &Lines,
-    program: &Program,
-    refusal: Refusal,
-) -> Result<Vec<u8>, AllocError> {
-    let Refusal { line, cause } = refusal;
-    let mut listing = Vec::new(alloc);
-    let mut mend = Vec::new(alloc);
-    let mut advice = advice_on_rule(cause);
-    if let Some(spot) = spot_of(program, line) {
-        let need = put_spot(alloc, &mut listing, lines, program, spot, cause)?;
-        put_pieces(text, &[&need.asks, b"\n"])?;
-        if let (Some(place), Some(missing)) = (spot.place, need.missing) {
-            put_lost(text, lines, program, spot.thread, place, missing)?;
-            put_piece(text, b"\n")?;
-        }
-        mend = mend_of(alloc, program, spot, cause, need.missing)?;
-        if let Some(why) = why_of(program, spot, cause) {
-            advice.why = why;
-        }
-    }
-    put_advice(text, advice, &mend)?;
-    put_notes(alloc, text, lines, program)?;
-    Ok(listing)
+/// What is known besides the verdict.
+#[derive(Drop)]
+struct Known<'a> {
+    reason: Option<Reason<'a>>,
+    notes: Vec<Note>,
+    accepted: Vec<Walked<'a>>,
+    refused: Option<Walked<'a>>,
+    is_empty: bool,
 }
 
-/// Adds the lines of a thread up to the refused one, or that this is its header; answers what is asked for there. It is no
-/// part of its caller, as it needs room for labels.
-#[inline(never)]
-fn put_spot(
+/// The verdict on a text that was judged, and what explains it.
+pub fn explain<'a>(
     alloc: Global,
-    text: &mut Vec<u8>,
-    lines: &Lines,
-    program: &Program,
-    spot: Spot,
-    cause: Cause,
-) -> Result<Need, AllocError>
-    requires { spot.thread < length program.now.threads }
+    source: &'a [u8],
+    judged: &'a Judged,
+    walks: Walks,
+) -> Result<Explanation<'a>, AllocError>
+    ensures { IfOk result (λ e. e.verdict ≡ spec.verdict_of judged.now) }
 {
-    if spot.place.is_none() {
-        let name = &program.threads()[spot.thread as usize].name;
-        put_pieces(text, &[b"thread ", name, b": its header\n"])?;
-        return header_need(alloc, program, spot.thread, cause);
-    }
-    let mut labels = Labels::new(program, spot.thread);
-    put_listing(text, lines, &mut labels, spot.thread)?;
-    line_need(alloc, &mut labels, spot.thread, cause)
+    let verdict = verdict_of(judged);
+    let lines = Lines::of(alloc, source)?;
+    let Known {
+        reason,
+        notes,
+        accepted,
+        refused,
+        is_empty,
+    } = known_of(alloc, &lines, judged, walks)?;
+    Ok(Explanation {
+        verdict,
+        lines,
+        reason,
+        notes,
+        accepted,
+        refused,
+        is_empty,
+    })
 }
 
-/// Adds why something is a mistake, how it is mended, in these words if there are any, and where more is said of it.
-fn put_advice(text: &mut Vec<u8>, advice: Advice, mend: &[u8]) -> Result<(), AllocError> {
-    put_pieces(text, &[b"why: ", advice.why.as_bytes(), b"\nmend: "])?;
-    if mend.is_empty() {
-        put_piece(text, advice.mend.as_bytes())?;
-    } else {
-        put_piece(text, mend)?;
+/// What is known besides the verdict.
+fn known_of<'a>(
+    alloc: Global,
+    lines: &Lines<'_>,
+    judged: &'a Judged,
+    walks: Walks,
+) -> Result<Known<'a>, AllocError> {
+    match judged {
+        Judged::Admitted(admitted) => of_accepted(alloc, lines, admitted.program(), walks),
+        Judged::Refused(program, refusal) => of_refused(alloc, lines, program, *refusal, walks),
+        Judged::Unread { line, cause, above } => of_unread(alloc, lines, *line, *cause, above),
     }
-    put_pieces(text, &[b"\nsee ", advice.letter.as_bytes()])?;
-    put_counted(text, b"", u64::from(advice.number), b" in docs/causes.md\n")
+}
+
+/// What is known of an accepted program.
+fn of_accepted<'a>(
+    alloc: Global,
+    lines: &Lines<'_>,
+    program: &'a Program,
+    walks: Walks,
+) -> Result<Known<'a>, AllocError> {
+    let count = program.threads().len() as u32;
+    let accepted = match walks {
+        Walks::None => Vec::new(alloc),
+        Walks::Accepted | Walks::All => walked_up_to(alloc, program, count)?,
+    };
+    Ok(Known {
+        reason: None,
+        notes: notes_on(alloc, lines, program)?,
+        accepted,
+        refused: None,
+        is_empty: count == 0,
+    })
+}
+
+/// The threads of a program with lower numbers than this one.
+fn walked_up_to(alloc: Global, program: &Program, count: u32) -> Result<Vec<Walked<'_>>, AllocError>
+    requires { count ≤ length program.now.threads }
+{
+    let mut threads = Vec::new(alloc);
+    for number in 0..count {
+        let walked = walk(alloc, program, number)?;
+        threads.push(walked)?;
+    }
+    Ok(threads)
+}
+
+/// What is known of a refused program.
+fn of_refused<'a>(
+    alloc: Global,
+    lines: &Lines<'_>,
+    program: &'a Program,
+    refusal: Refusal,
+    walks: Walks,
+) -> Result<Known<'a>, AllocError> {
+    let mut known = Known {
+        reason: None,
+        notes: notes_on(alloc, lines, program)?,
+        accepted: Vec::new(alloc),
+        refused: None,
+        is_empty: false,
+    };
+    if let Some(at) = line_at(program, refusal.line) {
+        if let Walks::All = walks {
+            known.accepted = walked_up_to(alloc, program, at.thread)?;
+        }
+        let sentences = sentences_at(alloc, lines, program, at, refusal, &mut known.refused)?;
+        known.reason = Some(Reason {
+            sentences,
+            span: span_of_words(lines.line(refusal.line)),
+            thread: Some(&program.threads()[at.thread as usize].name),
+        });
+    }
+    Ok(known)
+}
+
+/// What is said of a refused line. Its thread is walked over up to it, unless it is the header.
+fn sentences_at<'a>(
+    alloc: Global,
+    lines: &Lines<'_>,
+    program: &'a Program,
+    at: LineAt,
+    refusal: Refusal,
+    thread: &mut Option<Walked<'a>>,
+) -> Result<Sentences, AllocError>
+    requires { at.thread < length program.now.threads }
+{
+    let Some(place) = at.place else {
+        return sentences_on_header(alloc, program, at.thread, refusal.cause);
+    };
+    let walked = walk(alloc, program, at.thread)?;
+    let refused = Refused {
+        walked: &walked,
+        place,
+    };
+    let sentences = sentences_on_line(alloc, lines, refused, refusal.cause)?;
+    *thread = Some(walked);
+    Ok(sentences)
+}
+
+/// What is known of a text with a line that can't be read.
+fn of_unread<'a>(
+    alloc: Global,
+    lines: &Lines<'_>,
+    number: u32,
+    cause: ReadCause,
+    above: &Parts,
+) -> Result<Known<'a>, AllocError> {
+    let line = lines.line(number);
+    let hint = hint_on(alloc, line, number, cause, above)?;
+    let advice = advice_on_read(cause);
+    let mut fault = Vec::new(alloc);
+    put_printed(&mut fault, &hint)?;
+    let span = match hint.column {
+        Some(column) => span_of_word(line, column),
+        None => span_of_words(line),
+    };
+    let fix = if hint.fix.is_empty() {
+        advice.fix.as_bytes().to_vec(alloc)?
+    } else {
+        hint.fix
+    };
+    let sentences = Sentences {
+        fault,
+        lost: None,
+        held: None,
+        why: advice.why,
+        fix,
+    };
+    Ok(Known {
+        reason: Some(Reason {
+            sentences,
+            span,
+            thread: None,
+        }),
+        notes: Vec::new(alloc),
+        accepted: Vec::new(alloc),
+        refused: None,
+        is_empty: false,
+    })
 }

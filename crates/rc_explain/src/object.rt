@@ -1,48 +1,35 @@
 //! A verdict and what explains it, as JSON.
 
-ghost use Rattle.std.specs.Prelude.{◌≡◌, ◌<◌, IfOk, OnOk, length, option_copied as named, string_bytes};
+ghost use Rattle.std.specs.Prelude.{◌≡◌, IfOk, OnOk, option_copied as named, string_bytes};
 ghost use Rattle.serde_json.specs.Data.{string};
 ghost use Rattle.serde_json.specs.View.{view};
-ghost use Rattle.rc_explain.specs.Judged.{verdict_of};
 ghost use Rattle.rc_explain.specs.Explains.{IsObjectOf, TellsLine, TellsVerdict};
 ghost use Rattle.rc_explain.specs.Members.{IsNamed, IsPut, whole};
 ghost use Rattle.rc_report.specs.declared.verdict.Verdict.TheVariants.{Accepted, Refused, Unreadable};
 
-use rc_admit::admitted::Judged;
-use rc_hints::hint::{mend_of_line, put_hint};
-use rc_lang::program::Program;
-use rc_listing::state_text::put_state;
+use crate::explanation::{Explanation, Reason};
+use crate::listing::{Entry, entries_of};
 use rc_read::ReadCause;
-use rc_read::parts::Parts;
-use rc_report::source::Lines;
-use rc_report::verdict::Refusal;
-use rc_rules::cause::Cause;
+use rc_report::verdict::{Refusal, Verdict};
 use rc_rules::side::Side;
 use rc_rules::state::State;
-use rc_sentences::asks::{Need, header_need, line_need};
-use rc_sentences::causes::{Advice, advice_on_read, advice_on_rule};
-use rc_sentences::lost::put_lost;
-use rc_sentences::mends::{mend_of, why_of};
-use rc_sentences::notes::notes_on;
-use rc_sentences::spot::{Spot, spot_of};
-use rc_verify::labels::Labels;
+use rc_sentences::state_text::put_state;
+use rc_sentences::walked::Walked;
 use serde_json::{Map, Value, json};
 use std::alloc::{AllocError, Global};
 
 type Members = Map<String, Value>;
 
-/// What is said of a text that was judged, and the name of its file if it is that of a file: one object without spaces, its
-/// keys in order.
+/// An explanation, and the name of the file if it is of a file: one object without spaces, its keys in order.
 pub fn object_text(
     alloc: Global,
     file: Option<&str>,
-    source: &[u8],
-    judged: &Judged,
+    explanation: &Explanation<'_>,
 ) -> Result<String, AllocError>
     ensures { IfOk result (λ json.
-        IsObjectOf (named file.entry) (verdict_of judged.now) (string_bytes json)) }
+        IsObjectOf (named file.entry) explanation.now.verdict (string_bytes json)) }
 {
-    let mut members = members_of(alloc, source, judged)?;
+    let mut members = members_of(alloc, explanation, explanation.verdict)?;
     put_file(alloc, &mut members, file)?;
     let object = Value::Object(members).to_string(alloc)?;
     Ok(object)
@@ -58,16 +45,18 @@ fn put_file(alloc: Global, members: &mut Members, file: Option<&str>) -> Result<
     }
 }
 
-/// The members of what is said of a text.
-fn members_of(alloc: Global, source: &[u8], judged: &Judged) -> Result<Members, AllocError>
-    ensures { IfOk result (λ members. TellsVerdict (verdict_of judged.now) (whole members)) }
+/// The members of an explanation of this verdict.
+fn members_of(
+    alloc: Global,
+    explanation: &Explanation<'_>,
+    verdict: Verdict,
+) -> Result<Members, AllocError>
+    ensures { IfOk result (λ members. TellsVerdict verdict (whole members)) }
 {
-    match judged {
-        Judged::Admitted(admitted) => accepted_members(alloc, source, admitted.program()),
-        Judged::Refused(program, refusal) => refused_members(alloc, source, program, *refusal),
-        Judged::Unread { line, cause, above } => {
-            unreadable_members(alloc, source, *line, *cause, above)
-        }
+    match verdict {
+        Verdict::Accepted => accepted_members(alloc, explanation),
+        Verdict::Refused(refusal) => refused_members(alloc, explanation, refusal),
+        Verdict::Unreadable { line, cause } => unreadable_members(alloc, explanation, line, cause),
     }
 }
 
@@ -108,11 +97,11 @@ fn put_line(
 }
 
 /// What is said of an accepted program.
-fn accepted_members(alloc: Global, source: &[u8], program: &Program) -> Result<Members, AllocError>
+fn accepted_members(alloc: Global, explanation: &Explanation<'_>) -> Result<Members, AllocError>
     ensures { IfOk result (λ members. TellsVerdict Accepted (whole members)) }
 {
-    let notes = notes_of(alloc, source, program)?;
-    let threads = threads_of(alloc, program)?;
+    let notes = notes_of(alloc, explanation)?;
+    let threads = threads_of(alloc, explanation)?;
     let mut members = Map::new(alloc);
     put(alloc, &mut members, "notes", Value::Array(notes))?;
     put(alloc, &mut members, "threads", Value::Array(threads))?;
@@ -120,48 +109,21 @@ fn accepted_members(alloc: Global, source: &[u8], program: &Program) -> Result<M
     Ok(members)
 }
 
-/// The notes on a program.
-fn notes_of(alloc: Global, source: &[u8], program: &Program) -> Result<Vec<Value>, AllocError> {
-    let mut notes = Vec::new(alloc);
-    let lines = Lines::of(alloc, source)?;
-    for note in notes_on(alloc, &lines, program)? {
-        notes.push(Value::String(string_of(alloc, &note.text)?))?;
-    }
-    Ok(notes)
-}
-
-/// The threads of a program, each with its lines. It is no part of its caller, as it needs room for labels.
-#[inline(never)]
-fn threads_of(alloc: Global, program: &Program) -> Result<Vec<Value>, AllocError> {
-    let mut threads = Vec::new(alloc);
-    let count = program.threads().len() as u32;
-    if count == 0 {
-        return Ok(threads);
-    }
-    let mut labels = Labels::new(program, 0);
-    for thread in 0..count {
-        threads.push(thread_value(alloc, &mut labels, thread)?)?;
-    }
-    Ok(threads)
-}
-
 /// What is said of a refused line.
 fn refused_members(
     alloc: Global,
-    source: &[u8],
-    program: &Program,
+    explanation: &Explanation<'_>,
     refusal: Refusal,
 ) -> Result<Members, AllocError>
     ensures { IfOk result (λ members. TellsVerdict (Refused refusal) (whole members)) }
 {
     let Refusal { line, cause } = refusal;
     let mut members = Map::new(alloc);
-    put_advice(alloc, &mut members, advice_on_rule(cause))?;
-    if let Some(spot) = spot_of(program, line) {
-        put_spot(alloc, &mut members, source, program, spot, cause)?;
-    }
-    let notes = notes_of(alloc, source, program)?;
+    put_reason(alloc, &mut members, explanation, "asks")?;
+    let notes = notes_of(alloc, explanation)?;
     put(alloc, &mut members, "notes", Value::Array(notes))?;
+    let threads = threads_of(alloc, explanation)?;
+    put(alloc, &mut members, "threads", Value::Array(threads))?;
     put_line(
         alloc,
         &mut members,
@@ -173,79 +135,17 @@ fn refused_members(
     Ok(members)
 }
 
-/// Adds what a refused line asks for, how a part that is missing was lost, how that is mended, if the program shows it,
-/// and the lines of its thread up to it.
-fn put_spot(
-    alloc: Global,
-    members: &mut Members,
-    source: &[u8],
-    program: &Program,
-    spot: Spot,
-    cause: Cause,
-) -> Result<(), AllocError>
-    requires { spot.thread < length program.now.threads }
-{
-    let mut threads = Vec::new(alloc);
-    let need = push_spot(alloc, &mut threads, program, spot, cause)?;
-    put_bytes(alloc, members, "asks", &need.asks)?;
-    if let (Some(place), Some(missing)) = (spot.place, need.missing) {
-        let mut lost = Vec::new(alloc);
-        let lines = Lines::of(alloc, source)?;
-        put_lost(&mut lost, &lines, program, spot.thread, place, missing)?;
-        put_bytes(alloc, members, "lost", &lost)?;
-    }
-    let mend = mend_of(alloc, program, spot, cause, need.missing)?;
-    if !mend.is_empty() {
-        put_bytes(alloc, members, "mend", &mend)?;
-    }
-    if let Some(why) = why_of(program, spot, cause) {
-        put_text(alloc, members, "why", why)?;
-    }
-    let name = &program.threads()[spot.thread as usize].name;
-    put_bytes(alloc, members, "thread", name)?;
-    put(alloc, members, "threads", Value::Array(threads))
-}
-
-/// Adds the thread of a refused line, if it isn't its header; answers what is asked for there. It is no part of its
-/// caller, as it needs room for labels.
-#[inline(never)]
-fn push_spot(
-    alloc: Global,
-    threads: &mut Vec<Value>,
-    program: &Program,
-    spot: Spot,
-    cause: Cause,
-) -> Result<Need, AllocError>
-    requires { spot.thread < length program.now.threads }
-{
-    if spot.place.is_none() {
-        return header_need(alloc, program, spot.thread, cause);
-    }
-    let mut labels = Labels::new(program, spot.thread);
-    threads.push(thread_value(alloc, &mut labels, spot.thread)?)?;
-    line_need(alloc, &mut labels, spot.thread, cause)
-}
-
 /// What is said of a line that can't be read.
 fn unreadable_members(
     alloc: Global,
-    source: &[u8],
+    explanation: &Explanation<'_>,
     line: u32,
     cause: ReadCause,
-    above: &Parts,
 ) -> Result<Members, AllocError>
     ensures { IfOk result (λ members. TellsVerdict (Unreadable line cause) (whole members)) }
 {
     let mut members = Map::new(alloc);
-    let mut hint = Vec::new(alloc);
-    let words = Lines::of(alloc, source)?.line(line);
-    put_hint(&mut hint, words, line, cause, above)?;
-    put_bytes(alloc, &mut members, "hint", &hint)?;
-    put_advice(alloc, &mut members, advice_on_read(cause))?;
-    let mend = mend_of_line(alloc, words, cause, above)?;
-    if !mend.is_empty() {
-        put_bytes(alloc, &mut members, "mend", &mend)?;
-    }
+    put_reason(alloc, &mut members, explanation, "hint")?;
     put_line(
         alloc,
         &mut members,
@@ -257,12 +157,40 @@ fn unreadable_members(
     Ok(members)
 }
 
-/// Adds the number of a cause after its letter, why it is a mistake, and how it is mended.
-fn put_advice(alloc: Global, members: &mut Members, advice: Advice) -> Result<(), AllocError> {
-    let id = format!(in alloc; "{}{}", advice.letter, advice.number)?;
-    put(alloc, members, "id", Value::String(id))?;
-    put_text(alloc, members, "mend", advice.mend)?;
-    put_text(alloc, members, "why", advice.why)
+/// Adds the letter and the number of a cause, and why a line isn't good: what is wrong has this key.
+fn put_reason(
+    alloc: Global,
+    members: &mut Members,
+    explanation: &Explanation<'_>,
+    fault: &str,
+) -> Result<(), AllocError> {
+    if let Some(finding) = explanation.verdict.finding() {
+        let id = format!(in alloc; "{}{}", finding.letter, finding.number)?;
+        put(alloc, members, "id", Value::String(id))?;
+    }
+    match &explanation.reason {
+        Some(reason) => put_sentences(alloc, members, reason, fault),
+        None => Ok(()),
+    }
+}
+
+/// Adds what is wrong with a line, why it is a mistake, what to write, and where it is.
+fn put_sentences(
+    alloc: Global,
+    members: &mut Members,
+    reason: &Reason<'_>,
+    fault: &str,
+) -> Result<(), AllocError> {
+    let sentences = &reason.sentences;
+    put_bytes(alloc, members, fault, &sentences.fault)?;
+    if let Some(lost) = &sentences.lost {
+        put_bytes(alloc, members, "lost", lost)?;
+    }
+    if let Some(name) = reason.thread {
+        put_bytes(alloc, members, "thread", name)?;
+    }
+    put_bytes(alloc, members, "fix", &sentences.fix)?;
+    put_text(alloc, members, "why", sentences.why)
 }
 
 /// Adds a member that is a text. Its bytes are ASCII, as all words of the notation.
@@ -285,67 +213,74 @@ fn string_of(alloc: Global, bytes: &[u8]) -> Result<String, AllocError> {
     Ok(text)
 }
 
-/// What is known on a side.
-fn state_text(alloc: Global, program: &Program, side: &Side) -> Result<String, AllocError> {
-    let mut text = Vec::new(alloc);
-    put_state(&mut text, program, side)?;
-    string_of(alloc, &text)
+/// The notes on a program.
+fn notes_of(alloc: Global, explanation: &Explanation<'_>) -> Result<Vec<Value>, AllocError> {
+    let mut notes = Vec::new(alloc);
+    for note in &explanation.notes {
+        let text = string_of(alloc, &note.text)?;
+        notes.push(Value::String(text))?;
+    }
+    Ok(notes)
 }
 
-/// A thread's lines that something reaches, up to the first that is refused, where the labels then are, and its name.
-fn thread_value(alloc: Global, labels: &mut Labels, thread: u32) -> Result<Value, AllocError>
-    requires { thread < length labels.old.program.threads }
-    ensures { labels.new.program ≡ labels.old.program }
-{
-    labels.begin(thread);
-    let part = labels.thread();
+/// The listed threads: of an accepted program all, of a refused one that of the refused line.
+fn threads_of(alloc: Global, explanation: &Explanation<'_>) -> Result<Vec<Value>, AllocError> {
+    let mut threads = Vec::new(alloc);
+    for walked in &explanation.accepted {
+        push_thread(alloc, &mut threads, walked)?;
+    }
+    if let Some(walked) = &explanation.refused {
+        push_thread(alloc, &mut threads, walked)?;
+    }
+    Ok(threads)
+}
+
+/// Adds a thread: its lines that something reaches, and its name.
+fn push_thread(
+    alloc: Global,
+    threads: &mut Vec<Value>,
+    walked: &Walked<'_>,
+) -> Result<(), AllocError> {
     let mut lines = Vec::new(alloc);
-    for line in &part.lines {
-        push_line(
-            alloc,
-            &mut lines,
-            labels.program(),
-            line.number,
-            labels.state(),
-        )?;
-        match labels.next() {
-            Ok(true) => {}
-            _ => break,
+    for entry in entries_of(alloc, walked)? {
+        if let Entry::Reached(number, state) = entry {
+            push_line(alloc, &mut lines, number, state)?;
         }
     }
-    let name = string_of(alloc, &part.name)?;
-    json!(in alloc; {"lines": lines, "name": name})
+    let name = string_of(alloc, &walked.thread.name)?;
+    let thread = json!(in alloc; {"lines": lines, "name": name})?;
+    Ok(threads.push(thread)?)
 }
 
 /// Adds a line on each side that something reaches.
 fn push_line(
     alloc: Global,
     lines: &mut Vec<Value>,
-    program: &Program,
     number: u32,
-    state: &State,
+    state: &State<'_>,
 ) -> Result<(), AllocError> {
     let (zero, other) = match state.flag() {
         Some(_) => (Some("0"), Some("not 0")),
         None => (None, None),
     };
-    push_side(alloc, lines, program, number, state.on(true), zero)?;
-    push_side(alloc, lines, program, number, state.on(false), other)
+    push_side(alloc, lines, number, state.on(true), zero)?;
+    push_side(alloc, lines, number, state.on(false), other)
 }
 
 /// Adds a line on a side that something reaches; which one, in a thread with a flag.
 fn push_side(
     alloc: Global,
     lines: &mut Vec<Value>,
-    program: &Program,
     number: u32,
-    side: &Side,
+    side: &Side<'_>,
     flag: Option<&str>,
 ) -> Result<(), AllocError> {
     if !side.is_live() {
         return Ok(());
     }
-    let before = state_text(alloc, program, side)?;
+    let mut text = Vec::new(alloc);
+    put_state(&mut text, side.program(), side)?;
+    let before = string_of(alloc, &text)?;
     let line = match flag {
         Some(flag) => json!(in alloc; {"before": before, "flag": flag, "line": number})?,
         None => json!(in alloc; {"before": before, "line": number})?,

@@ -7,23 +7,10 @@ use Rattle.rc_world.specs.declared.event.Event.{Event}
 use Rattle.rc_world.specs.Machine.{World}
 use Rattle.rc_world.specs.WeakRuns.{IsWeakRun}
 use Rattle.rc_follow.specs.Followed.{Goes, Hides, Noted, Says, noted_line}
-use Rattle.rc_follow.specs.Follower.{noted_lines}
 
 pub hides_join : (n : Noted) (w v u : World) (es ds : List Event) → Hides n w es v → Hides n v ds u → Hides n w (es ++ ds) u
 hides_join n w v u [] ds h k = subst (λ x. Hides n x ds u) (sym h) k
 hides_join n w v u (e ∷ es) ds h k = (h.0, h.1, h.2, hides_join n h.0 v u es ds h.3 k)
-
--- more hidden steps after the lines
-pub goes_on : (P : Program) (n : Noted) (w v u : World) (ls : List Said) (ds : List Event) → Goes P n w ls v → Hides (noted_lines P n ls) v ds u → Goes P n w ls u
-goes_on P n w v u [] ds g h = (g.0 ++ ds, hides_join n w v u g.0 ds g.1 h)
-goes_on P n w v u (l ∷ ls) ds g h =
-    (g.0, g.1, g.2, g.3, g.4, g.5, g.6, goes_on P (noted_line P n l) g.5 v u ls ds g.7 h)
-
--- one more line
-pub goes_line : (P : Program) (n : Noted) (w v u : World) (ls : List Said) (l : Said) (i : ℕ) → Goes P n w ls v → l.thread ≡ Some i → Says P (noted_lines P n ls) v i l.call u → Goes P n w (ls ++ l ∷ []) u
-goes_line P n w v u [] l i g t s = (g.0, v, g.1, i, t, u, s, ([], refl))
-goes_line P n w v u (m ∷ ls) l i g t s =
-    (g.0, g.1, g.2, g.3, g.4, g.5, g.6, goes_line P (noted_line P n m) g.5 v u ls l i g.7 t s)
 
 -- ---- and as weak runs
 

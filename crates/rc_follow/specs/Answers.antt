@@ -1,9 +1,13 @@
 -- What a follower answers to a line.
-use Rattle.std.specs.Prelude.{◌≡◌, ◌++◌, [], ◌∷◌, List}
+use Rattle.std.specs.Prelude.{◌≡◌, ◌++◌, Bool, true, false, [], ◌∷◌, List}
 use Rattle.rc_log.specs.declared.call.Said.{Said}
 use Rattle.rc_follow.specs.declared.follower.Answer.{Answer}
 use Rattle.rc_follow.specs.declared.follower.Answer.TheVariants.{Followed}
 use Rattle.rc_follow.specs.Follower.{Follower, Follows, GoesOn}
+
+abbrev pub is_followed : Answer → Bool
+is_followed Followed = true
+is_followed _ = false
 
 -- It goes on, or stays as it was.
 abbrev pub Answers : Follower → Said → Follower → Answer → Type 0

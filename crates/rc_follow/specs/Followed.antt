@@ -26,15 +26,17 @@ use Rattle.rc_follow.specs.Rights.{HasShares}
 
 -- ---- what the log says beside the world
 
--- Who has each mutex of the C program, how many bytes the open entry is to move there, where it is a read or a write,
--- and of each declared token how many its last request was to move.
+-- Who has each mutex of the C program, whether the program has one thread and no mutex was locked yet, how many bytes the
+-- open entry is to move there, where it is a read or a write, and of each declared token how many its last request was to
+-- move.
 pub record Noted : Type 0 where
   pub mutexes : Holders
+  pub alone : Bool
   pub entry : Option ℕ
   pub lengths : List (Option ℕ)
 
 abbrev pub start_noted : Program → Noted
-start_noted P = record { mutexes = nobody; entry = None; lengths = replicate (length P.tokens) None }
+start_noted P = record { mutexes = nobody; alone = nat_eq (length P.threads) 1; entry = None; lengths = replicate (length P.tokens) None }
 
 abbrev pub names_open : Noted → Option ℕ → Noted
 names_open n None = n
@@ -47,7 +49,7 @@ noted_call P n i (PrepWrite file b len) = record n { entry = Some len }
 noted_call P n i (PrepFsync file datasync) = record n { entry = None }
 noted_call P n i PrepNop = record n { entry = None }
 noted_call P n i (SetData64 u) = names_open n (token_place P.tokens u)
-noted_call P n i (Lock wanted) = record n { mutexes = held_by (Some i) wanted n.mutexes }
+noted_call P n i (Lock wanted) = record n { mutexes = held_by (Some i) wanted n.mutexes; alone = false }
 noted_call P n i (Unlock released) = record n { mutexes = held_by None released n.mutexes }
 noted_call P n i _ = n
 
@@ -68,10 +70,14 @@ abbrev pub is_empty : List Request → Bool
 is_empty [] = true
 is_empty (r ∷ rs) = false
 
--- A thread takes a lock only where the log has it in the mutexes; a submit takes nothing where nothing is queued; other
--- calls than a peek that finds nothing are no hidden steps.
+-- A thread takes a lock only where the log has it in the mutexes. The only thread of a program may take it before: a C
+-- program without a mutex is logged as one that locks it before its first call, and marks may come before that.
+abbrev pub may_lock : Noted → ℕ → Locks → Bool
+may_lock n i wanted = has_mutexes n i wanted || n.alone
+
+-- A submit takes nothing where nothing is queued; other calls than a peek that finds nothing are no hidden steps.
 abbrev pub is_hidden_action : Noted → World → ℕ → Action → Bool
-is_hidden_action n w i (action.Locked wanted) = has_mutexes n i wanted
+is_hidden_action n w i (action.Locked wanted) = may_lock n i wanted
 is_hidden_action n w i (action.Submitted r) = int_eq r (pos 0) && is_empty w.queued
 is_hidden_action n w i action.EntryOpened = false
 is_hidden_action n w i action.ReadPrepared = false
@@ -81,7 +87,17 @@ is_hidden_action n w i action.NopPrepared = false
 is_hidden_action n w i (action.DataSet u) = false
 is_hidden_action n w i (action.Peeked c) = false
 is_hidden_action n w i (action.Reaped u) = false
-is_hidden_action n w i _ = true
+is_hidden_action n w i (action.VariableSet v) = true
+is_hidden_action n w i (action.Loaded b) = true
+is_hidden_action n w i (action.Stored b) = true
+is_hidden_action n w i (action.Filled b) = true
+is_hidden_action n w i (action.Printed v) = true
+is_hidden_action n w i (action.Released released) = true
+is_hidden_action n w i action.PeekedNone = true
+is_hidden_action n w i (action.Branched b) = true
+is_hidden_action n w i action.Looped = true
+is_hidden_action n w i action.LoopLeft = true
+is_hidden_action n w i action.ItemsPut = true
 
 -- The kernel's steps are hidden.
 abbrev pub is_hidden : Noted → World → Event → Bool
@@ -170,8 +186,14 @@ fits_action n w (Put pool) s action.ItemsPut = is_put_into pool s
 fits_action n w (Take pool) s (action.Branched true) = is_take_from pool s
 fits_action n w _ s _ = false
 
+-- A call on the ring comes after a mutex was locked; marks of puts and takes are no calls.
+abbrev pub may_come : Noted → Call → Bool
+may_come n (Put pool) = true
+may_come n (Take pool) = true
+may_come n _ = not n.alone
+
 abbrev pub fits_event : Noted → World → ℕ → Call → Stmt → Event → Bool
-fits_event n w i call s (ByThread j line a) = nat_eq i j && fits_action n w call s a
+fits_event n w i call s (ByThread j line a) = nat_eq i j && may_come n call && fits_action n w call s a
 fits_event n w i call s (ByKernel c) = false
 
 abbrev pub fits : Noted → World → ℕ → Call → Option Line → Event → Bool

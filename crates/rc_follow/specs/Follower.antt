@@ -1,48 +1,47 @@
 -- What a follower has after some lines of a log, and what one more line makes of it.
-use Rattle.std.specs.Prelude.{ℕ, ◌≡◌, ◌<◌, ◌++◌, length, true, All, Contains, List, [], ◌∷◌, Some}
+use Rattle.std.specs.Prelude.{ℕ, zero, suc, ◌≡◌, ◌<◌, ◌++◌, length, Bool, true, false, if◌then◌else◌, All, Contains, List, [], ◌∷◌, Some, slice_index_or, slice_set}
+use Rattle.std.specs.List.{list_any}
 use Rattle.rc_lang.specs.Program.{Program}
 use Rattle.rc_log.specs.declared.call.Said.{Said}
 use Rattle.rc_log.specs.declared.call.Call.{Call}
 use Rattle.rc_world.specs.declared.event.Event.{Event}
-use Rattle.rc_world.specs.Machine.{World, start_world}
 use Rattle.rc_world.specs.WeakRuns.{IsWeakStep}
-use Rattle.rc_follow.specs.Followed.{Goes, Hides, Noted, Says, is_hidden, noted_line, start_noted}
+use Rattle.rc_follow.specs.Followed.{Noted, is_hidden, noted_line, start_noted}
+use Rattle.rc_follow.specs.Ways.{GoesOver, Leads, Makes, Way, start_way}
 
--- The program, what the lines say beside the world, and worlds to which they can have led.
+-- The program, what the lines say beside the world, ways on which they can have been made, and of each number of a line
+-- of the text whether it was reached by a log that came to its end or departed.
 pub record Follower : Type 0 where
   pub program : Program
   pub noted : Noted
-  pub worlds : List World
+  pub ways : List Way
+  pub reached : List Bool
 
--- a hidden step leads from one world to the other
-abbrev pub IsHiddenStep : Noted → World → World → Type 0
-IsHiddenStep n w v = (e : Event) × IsWeakStep w e v × (is_hidden n w e ≡ true)
+-- a hidden step leads from one way to the other
+abbrev pub IsHiddenStep : Noted → Way → Way → Type 0
+IsHiddenStep n w v = (e : Event) × IsWeakStep w.world e v.world × (is_hidden n w.world e ≡ true) × (v.made ≡ w.made)
 
--- Hidden steps lead from one world to the other.
-abbrev pub Leads : Noted → World → World → Type 0
-Leads n w v = (es : List Event) × Hides n w es v
+-- Ways are added, and F holds of each.
+abbrev pub Adds : (Way → Type 0) → List Way → List Way → Type 0
+Adds F old new = (more : List Way) × (new ≡ old ++ more) × All F more
 
--- Worlds are added, and F holds of each.
-abbrev pub Adds : (World → Type 0) → List World → List World → Type 0
-Adds F old new = (more : List World) × (new ≡ old ++ more) × All F more
+-- Hidden steps lead from one way to another, and the line from there.
+abbrev pub LeadsBy : Program → Noted → Way → ℕ → Call → Way → Type 0
+LeadsBy P n w i call u = (v : Way) × Leads n w v × Makes P n v i call u
 
--- Hidden steps lead from one world to another, and the line from there.
-abbrev pub LeadsBy : Program → Noted → World → ℕ → Call → World → Type 0
-LeadsBy P n w i call u = (v : World) × Leads n w v × Says P n v i call u
-
--- Hidden steps lead to the world from one of these.
-abbrev pub ComesFrom : Noted → List World → World → Type 0
-ComesFrom n ws v = (w : World) × Contains ws w × Leads n w v
+-- Hidden steps lead there from one of these.
+abbrev pub ComesFrom : Noted → List Way → Way → Type 0
+ComesFrom n ws v = (w : Way) × Contains ws w × Leads n w v
 
 -- and then the line
-abbrev pub ComesBy : Program → Noted → List World → ℕ → Call → World → Type 0
-ComesBy P n ws i call u = (w : World) × Contains ws w × LeadsBy P n w i call u
+abbrev pub ComesBy : Program → Noted → List Way → ℕ → Call → Way → Type 0
+ComesBy P n ws i call u = (w : Way) × Contains ws w × LeadsBy P n w i call u
 
--- The line was followed: each world that is left comes from one of before by hidden steps and the line.
+-- The line was followed: each way that is left comes from one of before by hidden steps and the line.
 abbrev pub GoesOn : Follower → Said → Follower → Type 0
 GoesOn old l new =
     (i : ℕ) × (l.thread ≡ Some i) × (new.program ≡ old.program) × (new.noted ≡ noted_line old.program old.noted l)
-    × All (ComesBy old.program old.noted old.worlds i l.call) new.worlds × (0 < length new.worlds)
+    × All (ComesBy old.program old.noted old.ways i l.call) new.ways × (0 < length new.ways) × (new.reached ≡ old.reached)
 
 -- ---- after all lines so far
 
@@ -50,8 +49,24 @@ abbrev pub noted_lines : Program → Noted → List Said → Noted
 noted_lines P n [] = n
 noted_lines P n (l ∷ ls) = noted_lines P (noted_line P n l) ls
 
--- It has at least one world, and the lines can have led to each.
+-- It has at least one way, and the lines are made on each.
 pub record Follows (ls : List Said) (f : Follower) : Type 0 where
-  pub some : 0 < length f.worlds
+  pub some : 0 < length f.ways
   pub noted : f.noted ≡ noted_lines f.program (start_noted f.program) ls
-  pub worlds : All (Goes f.program (start_noted f.program) (start_world f.program) ls) f.worlds
+  pub ways : All (GoesOver f.program (start_noted f.program) (start_way f.program) ls) f.ways
+
+-- ---- what was reached
+
+-- whether the call of the line of this number was made on one of the ways
+abbrev pub is_made : List Way → ℕ → Bool
+is_made ways number = list_any (λ (w : Way). slice_index_or w.made number false) ways
+
+-- These and the lines with a number below n that were made on one of the ways.
+abbrev pub reached_below : (n : ℕ) → List Bool → List Way → List Bool
+reached_below zero reached ways = reached
+reached_below (suc n) reached ways =
+    if is_made ways n then slice_set (reached_below n reached ways) n true else reached_below n reached ways
+
+-- What the ways that are left have made is reached.
+abbrev pub with_ways : Follower → Follower
+with_ways f = record f { reached = reached_below (length f.reached) f.reached f.ways }

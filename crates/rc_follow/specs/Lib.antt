@@ -5,3 +5,4 @@ pub mod Laws
 pub mod Rights
 pub mod RightsKnown
 pub mod Searches
+pub mod Ways

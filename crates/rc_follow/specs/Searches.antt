@@ -6,23 +6,24 @@ use Rattle.rc_log.specs.declared.call.Call.TheVariants.{Peek}
 use Rattle.rc_world.specs.Machine.{World}
 use Rattle.rc_follow.specs.declared.kept.Found.{Found}
 use Rattle.rc_follow.specs.Followed.{Asks, Noted, scaled_peek}
-use Rattle.rc_follow.specs.Follower.{Adds, ComesBy, Leads, LeadsBy}
+use Rattle.rc_follow.specs.Follower.{Adds, ComesBy, LeadsBy}
+use Rattle.rc_follow.specs.Ways.{Leads, Way}
 
--- the world is added, or one that is like it is there
-abbrev pub MayAdd : World → List World → List World → Type 0
+-- the way is added, or one that is like it is there
+abbrev pub MayAdd : Way → List Way → List Way → Type 0
 MayAdd w old new = (new ≡ old) ⊎ (new ≡ old ++ w ∷ [])
 
--- The line leads to each world that is added to those found, and hidden steps lead to each that is still to be looked at.
-abbrev pub Visits : Program → Noted → World → ℕ → Call → Found → Found → Type 0
+-- The line leads to each way that is added to those found, and hidden steps lead to each that is still to be looked at.
+abbrev pub Visits : Program → Noted → Way → ℕ → Call → Found → Found → Type 0
 Visits P n w i call old new =
     Adds (LeadsBy P n w i call) old.worlds.items new.worlds.items × Adds (Leads n w) old.todo.items new.todo.items
 
 -- The line asks what is so in the world.
-abbrev pub AsksIn : Program → Noted → ℕ → Call → World → Type 0
-AsksIn P n i call w = Asks P n w i call
+abbrev pub AsksIn : Program → Noted → ℕ → Call → Way → Type 0
+AsksIn P n i call w = Asks P n w.world i call
 
--- The line leads to each world that is found.
-abbrev pub Finds : Program → Noted → List World → ℕ → Call → List World → Type 0
+-- The line leads to each way that is found.
+abbrev pub Finds : Program → Noted → List Way → ℕ → Call → List Way → Type 0
 Finds P n ws i call found = All (ComesBy P n ws i call) found
 
 -- the result that the text's peek finds, where C's is this call

@@ -2,10 +2,10 @@
 
 ghost use Rattle.std.specs.Prelude.{◌≡◌, ◌<◌, length, true, All, Contains, IfOk};
 
-use crate::alike::are_alike_beside;
+use crate::alike::{are_alike, are_alike_beside};
 use crate::hidden::Ground;
 use crate::node::Node;
-use crate::room::Room;
+use crate::room::{Room, has_made_all};
 use rc_world::world::World;
 use std::alloc::AllocError;
 
@@ -32,19 +32,28 @@ fn is_covered(ground: Ground<'_, '_>, worlds: &[Node<'_>], at: usize) -> bool
     ensures { result ≡ true → at < length worlds.now }
 {
     match worlds.get(at) {
-        Some(node) => is_led_to(ground, worlds, node.world()),
+        Some(node) => is_led_to(ground, worlds, at, node),
         None => false,
     }
 }
 
-/// Whether one of the worlds leads to this one.
-fn is_led_to(ground: Ground<'_, '_>, worlds: &[Node<'_>], world: &World<'_>) -> bool {
-    for other in worlds {
-        if leads_to(ground, other.world(), world) {
+/// Whether one of the worlds leads to this one, which is at this place, or is like it, and was reached over the same lines
+/// of the text, or more.
+fn is_led_to(ground: Ground<'_, '_>, worlds: &[Node<'_>], at: usize, node: &Node<'_>) -> bool {
+    for (place, other) in worlds.iter().enumerate() {
+        if place != at
+            && comes_to(ground, other.world(), node.world())
+            && has_made_all(other.made(), node.made())
+        {
             return true;
         }
     }
     false
+}
+
+/// Whether the one leads to the other or is like it.
+fn comes_to(ground: Ground<'_, '_>, one: &World<'_>, other: &World<'_>) -> bool {
+    leads_to(ground, one, other) || are_alike(ground.reads, one, other)
 }
 
 /// Whether the thread has another place in the one world than in the other, and comes to that place.

@@ -1,9 +1,10 @@
 //! A log, followed line by line.
 
-ghost use Rattle.std.specs.Prelude.{◌≡◌, [], Some, List, IfOk, IfSome};
+ghost use Rattle.std.specs.Prelude.{◌≡◌, [], Some, List, IfOk, IfSome, false, replicate, slice_index_or};
 ghost use Rattle.rc_log.specs.declared.call.Said.{Said as SpecSaid};
-ghost use Rattle.rc_follow.specs.Answers.{Answers, FollowsMore};
-ghost use Rattle.rc_follow.specs.Follower.{Follows};
+ghost use Rattle.rc_follow.specs.Answers.{Answers, FollowsMore, is_followed};
+ghost use Rattle.rc_follow.specs.Follower as spec;
+ghost use Rattle.rc_follow.specs.Follower.{Follows, with_ways};
 ghost use Rattle.rc_follow.specs.Searches.{Finds};
 
 use crate::hidden::Ground;
@@ -22,6 +23,9 @@ use std::alloc::{AllocError, Global};
 use std::marker::Model;
 use std::mem::swap;
 
+/// One more than the lines that a text has at most.
+const NUMBERS: usize = 4097;
+
 /// What a line is to the lines before it.
 #[derive(Clone, Copy)]
 pub enum Answer {
@@ -37,6 +41,21 @@ pub enum Answer {
     NotHeld,
 }
 
+impl Answer {
+    /// Whether a run of the program makes the lines and it.
+    pub fn is_followed(self) -> bool
+        ensures { result ≡ is_followed self }
+    {
+        match self {
+            Answer::Followed => true,
+            Answer::Departs => false,
+            Answer::TooMany => false,
+            Answer::Taken(_) => false,
+            Answer::NotHeld => false,
+        }
+    }
+}
+
 /// A log that is followed so far: what its lines say beside the world, and the candidate worlds. A run that makes the
 /// lines leads to each candidate.
 #[derive(Drop)]
@@ -47,7 +66,7 @@ pub struct Follower<'a> {
     reach: Reach,
     loops: Loops,
     rights: Rights<'a>,
-    // Of each line of the text whether its step was a line of the log.
+    // Of each number of a line of the text whether its call was made by a log before, or by this one once it has ended.
     reached: Vec<bool>,
     // How many lines of the log were steps.
     calls: u64,
@@ -61,13 +80,14 @@ impl<'a> Model for Follower<'a> {
 
     ghost Value = { spec.Follower };
 
-    ghost view = { λ f. record { program = f.rights; noted = f.noted; worlds = f.worlds.items } };
+    ghost view = { λ f. record { program = f.rights; noted = f.noted; ways = f.worlds.items; reached = f.reached.items } };
 }
 
 impl<'a> Follower<'a> {
     /// Before the first line.
     pub fn start(alloc: Global, program: &'a Program) -> Result<Follower<'a>, AllocError>
         ensures program { IfOk result (λ f. f.program ≡ program.now) }
+        ensures reached { IfOk result (λ f. f.reached ≡ replicate 4097 false) }
         ensures follows { IfOk result (Follows []) }
     {
         let mut worlds = Vec::new(alloc);
@@ -79,7 +99,7 @@ impl<'a> Follower<'a> {
             reach: Reach::new(alloc, program)?,
             loops: Loops::new(alloc, program)?,
             rights: Rights::new(alloc, program),
-            reached: vec![in alloc; false; 4097]?,
+            reached: vec![in alloc; false; NUMBERS]?,
             calls: 0,
             found: Found::new(alloc),
             room: Room::new(alloc),
@@ -89,6 +109,7 @@ impl<'a> Follower<'a> {
     /// Before the first line of another log. What was reached stays.
     pub fn begin(&mut self, alloc: Global) -> Result<(), AllocError>
         ensures program { self.new.program ≡ self.old.program }
+        ensures reached { self.new.reached ≡ self.old.reached }
         ensures follows { IfOk result (λ _. Follows [] self.new) }
     {
         let program = self.rights.program();
@@ -105,9 +126,19 @@ impl<'a> Follower<'a> {
         self.calls
     }
 
-    /// Whether a line of the text was a line of a log.
-    pub fn is_reached(&self, line: u32) -> bool {
-        self.reached.get(line as usize).copied().unwrap_or(false)
+    /// The log has ended, or departs at its next line: the calls that were made on the ways that are left are reached.
+    pub fn end(&mut self)
+        ensures { self.new ≡ with_ways self.old }
+    {
+        let end = self.reached.len();
+        reach(&mut self.reached, &self.worlds, end);
+    }
+
+    /// Whether the call of the line of this number was made by a log that has ended.
+    pub fn is_reached(&self, number: u32) -> bool
+        ensures { result ≡ slice_index_or self.now.reached number false }
+    {
+        self.reached.get(number as usize).copied().unwrap_or(false)
     }
 
     /// The program.
@@ -134,6 +165,7 @@ impl<'a> Follower<'a> {
 
     /// Holds one more line to the program.
     pub fn follow(&mut self, alloc: Global, said: Said) -> Result<Answer, AllocError>
+        ensures program { self.new.program ≡ self.old.program }
         ensures answers { IfOk result (Answers self.old said self.new) }
         ensures follows { (lines : List SpecSaid) → Follows lines self.old → IfOk result (FollowsMore lines said self.new) }
     {
@@ -165,7 +197,8 @@ impl<'a> Follower<'a> {
 
     // Holds one more line of the thread to the program, which misuses no mutex.
     fn follow_line(&mut self, alloc: Global, thread: u32, call: Call) -> Result<Answer, AllocError>
-        ensures { IfOk result (Answers self.old (record { thread = Some thread; call = call }) self.new) }
+        ensures program { self.new.program ≡ self.old.program }
+        ensures answers { IfOk result (Answers self.old (record { thread = Some thread; call = call }) self.new) }
     {
         let ground = Ground {
             alloc,
@@ -185,23 +218,37 @@ impl<'a> Follower<'a> {
         if !search(ground, &mut self.rights, &mut self.found, &mut self.room)? {
             return Ok(Answer::TooMany);
         }
-        note_lines(&mut self.reached, &self.found.lines);
         if self.found.worlds.is_empty() {
             return Ok(Answer::Departs);
         }
-        let is_step = !self.found.lines.is_empty();
-        self.calls = self.calls.saturating_add(u64::from(is_step));
+        self.calls = self.calls.saturating_add(u64::from(self.found.is_step));
         self.noted.note(self.rights.program(), thread, call);
         swap(&mut self.worlds, &mut self.found.worlds);
         Ok(Answer::Followed)
     }
 }
 
-// These lines of the text were lines of a log.
-fn note_lines(reached: &mut Vec<bool>, lines: &Vec<u32>) {
-    for line in lines {
-        if let Some(is) = reached.get_mut(*line as usize) {
+// What was made on the ways is reached, as far as the numbers of its lines are below this one.
+fn reach(reached: &mut Vec<bool>, ways: &[Node<'_>], end: usize)
+    ensures { reached.new.items ≡ spec.reached_below end reached.old.items ways.now }
+{
+    for number in 0..end {
+        if is_made(ways, number)
+            && let Some(is) = reached.get_mut(number)
+        {
             *is = true;
         }
     }
+}
+
+// Whether the call of the line of this number was made on one of the ways.
+fn is_made(ways: &[Node<'_>], number: usize) -> bool
+    ensures { result ≡ spec.is_made ways.now number }
+{
+    for way in ways {
+        if way.made().get(number).copied().unwrap_or(false) {
+            return true;
+        }
+    }
+    false
 }

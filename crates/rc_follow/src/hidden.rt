@@ -2,7 +2,8 @@
 
 ghost use Rattle.std.specs.Prelude.{◌≡◌, IfOk, true};
 ghost use Rattle.rc_follow.specs.Followed.{is_empty};
-ghost use Rattle.rc_follow.specs.Follower.{Adds, IsHiddenStep, Leads};
+ghost use Rattle.rc_follow.specs.Follower.{Adds, IsHiddenStep};
+ghost use Rattle.rc_follow.specs.Ways.{Leads};
 
 use crate::loops::Loops;
 use crate::node::Node;
@@ -10,7 +11,7 @@ use crate::noted::Noted;
 use crate::reach::{Calls, Reach};
 use crate::reads::Reads;
 use crate::room::Room;
-use rc_lang::lines::{Line, Op, Stmt, Test};
+use rc_lang::lines::{Line, Locks, Op, Stmt, Test};
 use rc_log::call::Call;
 use rc_world::event::Item;
 use rc_world::world::World;
@@ -141,11 +142,15 @@ fn may_hide(ground: Ground<'_, '_>, world: &World<'_>, stmt: Stmt) -> bool {
         ) => false,
         Stmt::Do(Op::Submit(_) | Op::SubmitAndWait(_, _)) => world.queued().is_empty(),
         Stmt::Peek(_) => world.completions().is_empty(),
-        Stmt::Lock(wanted) => {
-            ground.noted.has_mutexes(ground.thread, wanted) && world.holders().are_free(wanted)
-        }
+        Stmt::Lock(wanted) => may_take(ground, wanted) && world.holders().are_free(wanted),
         _ => true,
     }
+}
+
+/// Whether the line's thread may take these locks. Before a first mutex is locked, a mark of a pool may be in a lock.
+pub fn may_take(ground: Ground<'_, '_>, wanted: Locks) -> bool {
+    let is_mark = matches!(ground.call, Call::Put(_) | Call::Take(_));
+    ground.noted.has_mutexes(ground.thread, wanted) || ground.noted.is_alone() && is_mark
 }
 
 /// Makes the thread's step, and answers whether it was made and is hidden.
@@ -185,7 +190,7 @@ fn hide_stray(ground: Ground<'_, '_>, node: &mut Node<'_>, byte: u8) -> bool
 
 /// Whether nothing is queued.
 fn has_nothing_queued(node: &Node<'_>) -> bool
-    ensures { result ≡ is_empty node.now.queued }
+    ensures { result ≡ is_empty node.now.world.queued }
 {
     node.world().queued().is_empty()
 }

@@ -4,13 +4,12 @@ ghost use Rattle.std.specs.Prelude.{◌≡◌, IfOk};
 ghost use Rattle.rc_lang.specs.Program.{Program};
 ghost use Rattle.rc_follow.specs.Searches.{MayAdd, Visits};
 
-use crate::hidden::{Ground, line_of};
+use crate::hidden::Ground;
 use crate::node::Node;
 use crate::reads::Reads;
 use crate::room::{Room, is_there};
 use crate::visible::{complete, make};
 use rc_log::call::Call;
-use rc_world::world::World;
 use std::alloc::{AllocError, Global};
 
 /// What a search finds.
@@ -18,8 +17,8 @@ use std::alloc::{AllocError, Global};
 pub struct Found<'a> {
     /// The worlds to which the line leads.
     pub worlds: Vec<Node<'a>>,
-    /// The lines of the text whose steps it was.
-    pub lines: Vec<u32>,
+    /// Whether it was a step of the text.
+    pub is_step: bool,
     /// Worlds before the line that aren't looked at yet.
     pub todo: Vec<Node<'a>>,
 }
@@ -29,7 +28,7 @@ impl<'a> Found<'a> {
     pub fn new(alloc: Global) -> Found<'a> {
         Found {
             worlds: Vec::new(alloc),
-            lines: Vec::new(alloc),
+            is_step: false,
             todo: Vec::new(alloc),
         }
     }
@@ -80,9 +79,8 @@ fn keep_called<'a>(
 ) -> Result<(), AllocError>
     ensures { IfOk result (λ _. (P : Program) → Visits P ground.entry.noted.now node.entry ground.entry.thread ground.entry.call found.old found.new) }
 {
-    let number = next_number(node.world(), ground.thread);
     if make(ground, &mut node)? {
-        push_line(&mut found.lines, number)?;
+        found.is_step = true;
         keep(ground.reads, node, found, room)?;
     } else {
         room.give(node)?;
@@ -90,19 +88,7 @@ fn keep_called<'a>(
     Ok(())
 }
 
-/// The number of the line that a thread has next.
-fn next_number(world: &World<'_>, thread: u32) -> Option<u32> {
-    Some(line_of(world, thread)?.number)
-}
-
-fn push_line(lines: &mut Vec<u32>, number: Option<u32>) -> Result<(), AllocError> {
-    if let Some(number) = number {
-        lines.push(number)?;
-    }
-    Ok(())
-}
-
-/// Adds a world, unless one that is like it is there.
+/// Adds a world, unless one that is like it is there which was reached over the same lines of the text, or more.
 pub fn keep<'a>(
     reads: &Reads,
     node: Node<'a>,

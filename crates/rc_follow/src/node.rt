@@ -1,10 +1,12 @@
-//! The worlds of a search.
+//! The candidates of a search.
 
 ghost use Rattle.std.specs.Prelude.{◌≡◌, IfOk, IfSome};
+ghost use Rattle.rc_follow.specs.Ways as ways;
 ghost use Rattle.rc_world.specs.Machine as machine;
 ghost use Rattle.rc_world.specs.WeakRuns.{IsWeakStep};
 
 use crate::step::{step, stray};
+use rc_lang::lines::Line;
 use rc_lang::program::Program;
 use rc_world::event::{Event, Item};
 use rc_world::world::World;
@@ -12,42 +14,47 @@ use rc_world::world::weak::Lists;
 use std::alloc::{AllocError, Global};
 use std::marker::Model;
 
-/// A world of a search. It is on the heap, so that a search moves it cheaply.
+/// A world of a search, and the lines of the text whose calls the log made on the way to it. The world is on the heap, so
+/// that a search moves it cheaply.
 #[derive(Drop)]
 pub struct Node<'a> {
     world: Box<World<'a>>,
+    // Of each number of a line whether its call was made. Those of numbers behind the last weren't.
+    made: Vec<bool>,
 }
 
 impl<'a> Model for Node<'a> {
-    ghost use Rattle.rc_world.specs.Machine as machine;
+    ghost use Rattle.rc_follow.specs.Ways as ways;
 
-    ghost Value = { machine.World };
+    ghost Value = { ways.Way };
 
-    ghost view = { λ n. n.world.value };
+    ghost view = { λ n. record { world = n.world.value; made = n.made.items } };
 }
 
 impl<'a> Node<'a> {
     /// The world in which a program starts.
     pub fn start(alloc: Global, program: &'a Program) -> Result<Node<'a>, AllocError>
-        ensures { IfOk result (λ n. n ≡ machine.start_world program.now) }
+        ensures { IfOk result (λ n. n ≡ ways.start_way program.now) }
     {
         let world = World::start(alloc, program)?;
         Ok(Node {
             world: Box::new(alloc, world)?,
+            made: Vec::new(alloc),
         })
     }
 
-    /// The same world again.
+    /// The same again.
     pub fn copy(&self, alloc: Global) -> Result<Node<'a>, AllocError>
         ensures { IfOk result (λ n. n ≡ self.now) }
     {
         let world = self.world.copy(alloc)?;
         Ok(Node {
             world: Box::new(alloc, world)?,
+            made: Vec::from_slice(alloc, &self.made)?,
         })
     }
 
-    /// Becomes the same world as another, in the memory that it and the lists have.
+    /// Becomes the same as another, in the memory that it and the lists have.
     pub fn copy_from(
         &mut self,
         alloc: Global,
@@ -56,20 +63,45 @@ impl<'a> Node<'a> {
     ) -> Result<(), AllocError>
         ensures { IfOk result (λ _. self.new ≡ other.now) }
     {
+        self.made.clear();
+        self.made.extend_from_slice(&other.made)?;
         self.world.copy_from(alloc, lists, &other.world)
     }
 
     /// The world.
     pub fn world(&self) -> &World<'a>
-        ensures { result.now ≡ self.now }
+        ensures { result.now ≡ self.now.world }
     {
         &self.world
+    }
+
+    /// Of each number of a line of the text whether its call was made. Those of numbers behind the last weren't.
+    pub fn made(&self) -> &[bool]
+        ensures { result.now ≡ self.now.made }
+    {
+        &self.made
+    }
+
+    /// Notes that the call of this line of the text was made.
+    pub fn note(&mut self, line: Option<Line>) -> Result<(), AllocError>
+        ensures { IfOk result (λ _. self.new ≡ record self.old { made = ways.made_by line self.old.made }) }
+    {
+        let Some(line) = line else {
+            return Ok(());
+        };
+        let number = line.number as usize;
+        if self.made.len() <= number {
+            self.made.resize(number + 1, false)?;
+        }
+        self.made[number] = true;
+        Ok(())
     }
 
     /// Makes the step that an item names, where it is enabled and does no harm itself, and answers its event. Otherwise
     /// the world stays.
     pub fn step(&mut self, item: &Item) -> Result<Option<Event>, AllocError>
-        ensures { IfOk result (λ event. IfSome event (λ e. IsWeakStep self.old e self.new)) }
+        ensures step { IfOk result (λ event. IfSome event (λ e. IsWeakStep self.old.world e self.new.world)) }
+        ensures made { self.new.made ≡ self.old.made }
     {
         step(&mut self.world, item)
     }
@@ -77,7 +109,8 @@ impl<'a> Node<'a> {
     /// Makes a step of a thread that the machine may not have: an `if take` goes to its second branch, or a load gives
     /// this byte. Where it has none the world stays.
     pub fn stray(&mut self, thread: u32, byte: u8) -> Option<Event>
-        ensures { IfSome result (λ e. IsWeakStep self.old e self.new) }
+        ensures step { IfSome result (λ e. IsWeakStep self.old.world e self.new.world) }
+        ensures made { self.new.made ≡ self.old.made }
     {
         stray(&mut self.world, thread, byte)
     }

@@ -1,6 +1,6 @@
 //! What a log says beside the world.
 
-ghost use Rattle.std.specs.Prelude.{◌≡◌, ◌&&◌, IfOk, Some, nat_eq, position};
+ghost use Rattle.std.specs.Prelude.{◌≡◌, ◌&&◌, IfOk, Some, false, nat_eq, position};
 ghost use Rattle.rc_lang.specs.Program.{token_place};
 ghost use Rattle.rc_world.specs.Controls.{held_by};
 ghost use Rattle.rc_world.specs.Faults.{is_holder};
@@ -18,11 +18,12 @@ use rc_world::world::World;
 use std::alloc::{AllocError, Global};
 use std::marker::Model;
 
-/// Who has each mutex of the C program, how many bytes C's open entry asks for if it is a read or a write, and how many
-/// the last request of each declared token asked for.
+/// Who has each mutex of the C program, whether the model has one thread and no mutex was locked yet, how many bytes C's
+/// open entry asks for if it is a read or a write, and how many the last request of each declared token asked for.
 #[derive(Drop)]
 pub struct Noted {
     mutexes: Holders,
+    is_alone: bool,
     entry: Option<u64>,
     lengths: Vec<Option<u64>>,
 }
@@ -32,7 +33,7 @@ impl Model for Noted {
 
     ghost Value = { spec.Noted };
 
-    ghost view = { λ n. record { mutexes = n.mutexes; entry = n.entry; lengths = n.lengths.items } };
+    ghost view = { λ n. record { mutexes = n.mutexes; alone = n.is_alone; entry = n.entry; lengths = n.lengths.items } };
 }
 
 impl Noted {
@@ -44,6 +45,7 @@ impl Noted {
         lengths.resize(program.tokens().len(), None)?;
         Ok(Noted {
             mutexes: Holders { sq: None, cq: None },
+            is_alone: program.threads().len() == 1,
             entry: None,
             lengths,
         })
@@ -56,6 +58,11 @@ impl Noted {
         self.mutexes
     }
 
+    /// Whether the model has one thread and no mutex was locked yet.
+    pub fn is_alone(&self) -> bool {
+        self.is_alone
+    }
+
     /// Whether the thread has all these mutexes.
     pub fn has_mutexes(&self, thread: u32, wanted: Locks) -> bool
         ensures { result ≡ spec.has_mutexes self.now thread wanted }
@@ -63,6 +70,14 @@ impl Noted {
         let sq = !wanted.sq || is_holder(self.mutexes.sq, thread);
         let cq = !wanted.cq || is_holder(self.mutexes.cq, thread);
         sq && cq
+    }
+
+    /// Whether the thread may take these locks of the model: it has the mutexes, or it is the model's only thread and none
+    /// was locked yet.
+    pub fn may_lock(&self, thread: u32, wanted: Locks) -> bool
+        ensures { result ≡ spec.may_lock self.now thread wanted }
+    {
+        self.has_mutexes(thread, wanted) || self.is_alone
     }
 
     /// Notes what a call of a thread says.
@@ -75,7 +90,7 @@ impl Noted {
             Call::PrepFsync { .. } => self.entry = None,
             Call::PrepNop => self.entry = None,
             Call::SetData64(user_data) => self.name_open(program.token_place(user_data)),
-            Call::Lock(wanted) => self.give(Some(thread), wanted),
+            Call::Lock(wanted) => self.lock(thread, wanted),
             Call::Unlock(released) => self.give(None, released),
             _ => {}
         }
@@ -90,6 +105,14 @@ impl Noted {
         {
             *len = self.entry;
         }
+    }
+
+    // The thread locks these mutexes.
+    fn lock(&mut self, thread: u32, wanted: Locks)
+        ensures { self.new ≡ record self.old { mutexes = held_by (Some thread) wanted self.old.mutexes; alone = false } }
+    {
+        self.is_alone = false;
+        self.give(Some(thread), wanted);
     }
 
     // These mutexes have another holder, or none.
@@ -118,7 +141,7 @@ impl Noted {
         ensures { (w : World) → is_idle ≡ spec.is_empty w.queued → result ≡ spec.is_hidden_action self.now w thread action }
     {
         match action {
-            Action::Locked(wanted) => self.has_mutexes(thread, wanted),
+            Action::Locked(wanted) => self.may_lock(thread, wanted),
             Action::Submitted(taken) => taken == 0 && is_idle,
             Action::EntryOpened => false,
             Action::ReadPrepared => false,
@@ -128,7 +151,17 @@ impl Noted {
             Action::DataSet(_) => false,
             Action::Peeked(_) => false,
             Action::Reaped(_) => false,
-            _ => true,
+            Action::VariableSet(_) => true,
+            Action::Loaded(_) => true,
+            Action::Stored(_) => true,
+            Action::Filled(_) => true,
+            Action::Printed(_) => true,
+            Action::Released(_) => true,
+            Action::PeekedNone => true,
+            Action::Branched(_) => true,
+            Action::Looped => true,
+            Action::LoopLeft => true,
+            Action::ItemsPut => true,
         }
     }
 
@@ -165,8 +198,23 @@ impl Noted {
                     action,
                     ..
                 },
-            ) => thread == of && self.fits_action(wanted, call, line.stmt, action),
+            ) => {
+                thread == of
+                    && self.may_come(call)
+                    && self.fits_action(wanted, call, line.stmt, action)
+            }
             _ => false,
+        }
+    }
+
+    // Whether the call may come now: a call on the ring comes after a mutex was locked.
+    fn may_come(&self, call: Call) -> bool
+        ensures { result ≡ spec.may_come self.now call }
+    {
+        match call {
+            Call::Put(_) => true,
+            Call::Take(_) => true,
+            _ => !self.is_alone,
         }
     }
 

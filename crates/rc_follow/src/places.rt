@@ -1,8 +1,9 @@
 //! Why a line of a log departs, and the places of the text where its thread can be.
 
 use crate::follower::Follower;
-use crate::hidden::{Ground, Way, go, push_hidden, way_on};
+use crate::hidden::{Ground, Way, go, may_take, push_hidden, way_on};
 use crate::node::Node;
+use crate::reach::Calls;
 use crate::room::{Room, is_there};
 use rc_lang::lines::{Locks, Op, Stmt, Test};
 use rc_log::call::{Call, Lack, Said};
@@ -38,7 +39,8 @@ pub enum Departure {
 /// Places where a thread can be.
 #[derive(Drop)]
 pub struct Places {
-    /// The lines, in the order of their numbers, each once.
+    /// The lines, each once: first those that are the call but for what it would have needed, then locks after which it
+    /// can come, then others; of each kind the one to which the thread has gone furthest.
     pub lines: Vec<Place>,
     /// Whether it can have ended.
     pub ends: bool,
@@ -51,6 +53,21 @@ pub struct Place {
     pub number: u32,
     /// What the call would have needed there.
     pub need: Need,
+    // How near it is to the call.
+    kind: Kind,
+    // To how many worlds hidden steps have led before.
+    steps: usize,
+}
+
+/// How near a place is to the line's call.
+#[derive(Clone, Copy)]
+enum Kind {
+    /// It is such a call.
+    Call,
+    /// It is a lock after which the call can come.
+    Lock,
+    /// Another call.
+    Other,
 }
 
 /// What a call would have needed at a place.
@@ -126,7 +143,7 @@ fn elsewhere(ground: Ground<'_, '_>) -> Result<Departure, AllocError> {
     };
     let mut found = Vec::new(ground.alloc);
     for node in ground.begun {
-        let fresh = look_from(ground, node, &mut places)?;
+        let fresh = look_from(ground, node, 0, &mut places)?;
         take_in(ground, fresh, &mut found)?;
     }
     for at in 0..MOST_WORLDS {
@@ -136,19 +153,21 @@ fn elsewhere(ground: Ground<'_, '_>) -> Result<Departure, AllocError> {
         let Some(node) = found.get(at) else {
             return Ok(Departure::Elsewhere(places));
         };
-        let fresh = look_from(ground, node, &mut places)?;
+        let fresh = look_from(ground, node, at + 1, &mut places)?;
         take_in(ground, fresh, &mut found)?;
     }
     Ok(Departure::TooMany)
 }
 
-/// Notes the place where the thread is in a world, and answers the worlds to which a hidden step leads from it.
+/// Notes the place where the thread is in a world, which is the one after so many, and answers the worlds to which a
+/// hidden step leads from it.
 fn look_from<'a>(
     ground: Ground<'_, '_>,
     node: &Node<'a>,
+    steps: usize,
     places: &mut Places,
 ) -> Result<Vec<Node<'a>>, AllocError> {
-    look(ground, node.world(), places)?;
+    look(ground, node.world(), steps, places)?;
     hidden(ground, node)
 }
 
@@ -226,7 +245,12 @@ fn take_in<'a>(
 }
 
 /// Notes the place where the thread is in a world.
-fn look(ground: Ground<'_, '_>, world: &World<'_>, places: &mut Places) -> Result<(), AllocError> {
+fn look(
+    ground: Ground<'_, '_>,
+    world: &World<'_>,
+    steps: usize,
+    places: &mut Places,
+) -> Result<(), AllocError> {
     match world.line(ground.thread) {
         None => {
             places.ends = true;
@@ -236,6 +260,8 @@ fn look(ground: Ground<'_, '_>, world: &World<'_>, places: &mut Places) -> Resul
             let place = Place {
                 number: line.number,
                 need: needed(ground, world, line.stmt),
+                kind: kind_of(ground, world, line.stmt),
+                steps,
             };
             add(place, &mut places.lines)
         }
@@ -259,7 +285,7 @@ fn is_place(ground: Ground<'_, '_>, stmt: Stmt) -> bool {
             | Op::CqeSeen,
         ) => true,
         Stmt::Peek(_) => true,
-        Stmt::Lock(wanted) => !ground.noted.has_mutexes(ground.thread, wanted),
+        Stmt::Lock(wanted) => !may_take(ground, wanted),
         Stmt::Put(Some(_), _) | Stmt::If(Test::Take(Some(_), _)) => {
             matches!(ground.call, Call::Put(_) | Call::Take(_))
         }
@@ -267,15 +293,40 @@ fn is_place(ground: Ground<'_, '_>, stmt: Stmt) -> bool {
     }
 }
 
+/// How near this next line is to the line's call.
+fn kind_of(ground: Ground<'_, '_>, world: &World<'_>, stmt: Stmt) -> Kind {
+    match (world.place(ground.thread), stmt) {
+        (Some(place), Stmt::Lock(_))
+            if ground
+                .reach
+                .leads_on(ground.thread, place, Calls::of(ground.call)) => Kind::Lock,
+        (_, Stmt::Lock(_)) => Kind::Other,
+        _ if Calls::at(stmt).is_same(Calls::of(ground.call)) => Kind::Call,
+        _ => Kind::Other,
+    }
+}
+
 /// Adds a place in its order, if it isn't there.
 fn add(place: Place, lines: &mut Vec<Place>) -> Result<(), AllocError> {
+    for there in lines.iter() {
+        if there.number == place.number {
+            return Ok(());
+        }
+    }
     let after = lines
         .iter()
-        .position(|there| there.number >= place.number)
+        .position(|there| is_before(place, *there))
         .unwrap_or(lines.len());
-    match lines.get(after) {
-        Some(there) if there.number == place.number => Ok(()),
-        _ => Ok(lines.insert(after, place)?),
+    lines.insert(after, place)?;
+    Ok(())
+}
+
+/// Whether a place is named before another.
+fn is_before(place: Place, other: Place) -> bool {
+    match (place.kind, other.kind) {
+        (Kind::Call, Kind::Lock | Kind::Other) | (Kind::Lock, Kind::Other) => true,
+        (Kind::Other, Kind::Call | Kind::Lock) | (Kind::Lock, Kind::Call) => false,
+        _ => place.steps > other.steps,
     }
 }
 

@@ -68,7 +68,7 @@ impl Calls {
     }
 
     /// The calls that a statement can be.
-    fn at(stmt: Stmt) -> Calls {
+    pub fn at(stmt: Stmt) -> Calls {
         let bits = match stmt {
             Stmt::Do(Op::GetSqe) => GET_SQE,
             Stmt::Do(Op::PrepRead(_, _, _, _)) => PREP_READ,
@@ -93,6 +93,11 @@ impl Calls {
             _ => ANYWHERE,
         };
         Calls { bits }
+    }
+
+    /// Whether these are the same calls.
+    pub fn is_same(self, others: Calls) -> bool {
+        self.bits == others.bits
     }
 
     fn with(self, others: Calls) -> Calls {

@@ -78,7 +78,7 @@ impl<'a> Rights<'a> {
         count: u32,
     ) -> Result<bool, AllocError>
         ensures same { self.new ≡ self.old }
-        ensures right { IfOk result (λ is. is ≡ true → HasShares self.old node.now thread buffer count) }
+        ensures right { IfOk result (λ is. is ≡ true → HasShares self.old node.now.world thread buffer count) }
     {
         let world = node.world();
         let Some(place) = world.place(thread) else {
@@ -123,7 +123,7 @@ pub fn is_right(
     call: Call,
 ) -> Result<bool, AllocError>
     ensures same { rights.new ≡ rights.old }
-    ensures right { IfOk result (λ is. is ≡ true → (n : Noted) → Asks rights.old n node.now thread call) }
+    ensures right { IfOk result (λ is. is ≡ true → (n : Noted) → Asks rights.old n node.now.world thread call) }
 {
     match call {
         Call::Reads(buffer) => rights.has_shares(node, thread, buffer, 1),

@@ -78,12 +78,33 @@ impl<'a> Room<'a> {
     }
 }
 
-/// Whether one of these worlds is like this one.
+/// How many worlds that are alike are kept at most, where each was reached over other lines of the text.
+const MOST_ALIKE: usize = 8;
+
+/// Whether one of these worlds is like this one and was reached over the same lines of the text, or more; or many are
+/// like it.
 pub fn is_there(reads: &Reads, node: &Node<'_>, nodes: &[Node<'_>]) -> bool {
+    let mut alike = 0usize;
     for there in nodes {
         if are_alike(reads, there.world(), node.world()) {
-            return true;
+            if has_made_all(there.made(), node.made()) {
+                return true;
+            }
+            alike = alike.saturating_add(1);
         }
     }
-    false
+    alike >= MOST_ALIKE
+}
+
+/// Whether the one has made the calls of all lines that the other has made. The last that it has made is each one's last.
+pub fn has_made_all(one: &[bool], other: &[bool]) -> bool {
+    if one.len() < other.len() {
+        return false;
+    }
+    for number in 0..other.len() {
+        if other[number] && !one[number] {
+            return false;
+        }
+    }
+    true
 }

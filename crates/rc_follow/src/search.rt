@@ -2,7 +2,7 @@
 
 ghost use Rattle.std.specs.Prelude.{◌≡◌, ◌<◌, [], length, All, IfOk, IfSome, true};
 ghost use Rattle.rc_lang.specs.Program.{Program};
-ghost use Rattle.rc_follow.specs.Follower.{Leads};
+ghost use Rattle.rc_follow.specs.Ways.{Leads};
 ghost use Rattle.rc_follow.specs.Searches.{AsksIn, Finds, Visits};
 
 use crate::covered::drop_covered;
@@ -95,7 +95,7 @@ fn begin<'a>(found: &mut Found<'a>, room: &mut Room<'a>) -> Result<(), AllocErro
     ensures worlds { IfOk result (λ _. found.new.worlds.items ≡ []) }
     ensures todo { IfOk result (λ _. found.new.todo.items ≡ []) }
 {
-    found.lines.clear();
+    found.is_step = false;
     room.give_all(&mut found.worlds)?;
     room.give_all(&mut found.todo)?;
     room.forget()

@@ -4,6 +4,7 @@ ghost use Rattle.std.specs.Prelude.{◌≡◌, IfOk, true};
 ghost use Rattle.rc_lang.specs.Program.{Program};
 ghost use Rattle.rc_follow.specs.Followed as spec;
 ghost use Rattle.rc_follow.specs.Follower.{IsHiddenStep};
+ghost use Rattle.rc_follow.specs.Ways.{Makes};
 
 use crate::alike::pending_of;
 use crate::hidden::{Ground, has_items, hide, line_of};
@@ -28,7 +29,7 @@ const CQ: Locks = Locks {
 /// Whether the line asks something that changes nothing in the world, and the answer is so. Marks of buffers are
 /// asked elsewhere.
 pub fn asks(noted: &Noted, node: &Node<'_>, thread: u32, call: Call) -> bool
-    ensures { result ≡ true → (P : Program) → spec.Asks P noted.now node.now thread call }
+    ensures { result ≡ true → (P : Program) → spec.Asks P noted.now node.now.world thread call }
 {
     let world = node.world();
     match call {
@@ -51,7 +52,7 @@ pub fn asks(noted: &Noted, node: &Node<'_>, thread: u32, call: Call) -> bool
 
 /// Whether the thread has none of these locks of the text.
 pub fn holds_none(node: &Node<'_>, thread: u32, released: Locks) -> bool
-    ensures { result ≡ spec.holds_none node.now thread released }
+    ensures { result ≡ spec.holds_none node.now.world thread released }
 {
     let holders = node.world().holders();
     let has_sq = released.sq && holders.sq == Some(thread);
@@ -79,9 +80,23 @@ fn has_what_it_needs(ground: Ground<'_, '_>, world: &World<'_>, stmt: Stmt) -> b
     }
 }
 
-/// Makes a step of the thread, and answers whether it was made and is the call.
+/// Makes a step of the thread, and answers whether it was made and is the call. Then its line is noted.
 pub fn make(ground: Ground<'_, '_>, node: &mut Node<'_>) -> Result<bool, AllocError>
-    ensures { IfOk result (λ is. is ≡ true → spec.Calls ground.entry.noted.now node.old ground.entry.thread ground.entry.call node.new) }
+    ensures { IfOk result (λ is. is ≡ true → (P : Program) → Makes P ground.entry.noted.now node.old ground.entry.thread ground.entry.call node.new) }
+{
+    let line = node.world().line(ground.thread);
+    if calls(ground, node)? {
+        node.note(line)?;
+        Ok(true)
+    } else {
+        Ok(false)
+    }
+}
+
+/// Makes a step of the thread, and answers whether it was made and is the call.
+fn calls(ground: Ground<'_, '_>, node: &mut Node<'_>) -> Result<bool, AllocError>
+    ensures calls { IfOk result (λ is. is ≡ true → spec.Calls ground.entry.noted.now node.old.world ground.entry.thread ground.entry.call node.new.world) }
+    ensures made { node.new.made ≡ node.old.made }
 {
     let item = Item::Thread {
         thread: ground.thread,

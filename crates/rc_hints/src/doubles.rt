@@ -1,10 +1,11 @@
 //! What is declared or named twice.
 
+use crate::hint::Hint;
 use crate::lines::{between, column_of, place_of, word_at};
 use crate::places::{
-    Kind, Place, has_buffer, has_file, has_pool, has_thread, has_token, put_place, word_of,
+    Kind, Place, column_at, has_buffer, has_file, has_pool, has_thread, has_token, word_of,
 };
-use crate::wording::{put_column, put_framed};
+use crate::wording::put_framed;
 use rc_read::parts::Parts;
 use rc_read::table::Part;
 use rc_read::words::is;
@@ -47,13 +48,9 @@ fn repeats(before: &[Place], place: &Place) -> bool {
 }
 
 /// Adds that an item names again what an earlier one does.
-fn put_again(
-    text: &mut Vec<u8>,
-    line: &[u8],
-    place: &Place,
-    item: &[u8],
-) -> Result<(), AllocError> {
-    put_column(text, column_of(line, place.at))?;
+fn put_again(hint: &mut Hint, line: &[u8], place: &Place, item: &[u8]) -> Result<(), AllocError> {
+    hint.column = Some(column_of(line, place.at));
+    let text = &mut hint.words;
     put_framed(text, b"'", item, b"' names ")?;
     let name = match place.part {
         Part::HeldToken => item,
@@ -63,15 +60,16 @@ fn put_again(
 }
 
 /// Adds that what a place declares is declared already.
-fn put_known(text: &mut Vec<u8>, line: &[u8], place: Place, kind: Kind) -> Result<(), AllocError> {
-    put_place(text, line, place)?;
+fn put_known(hint: &mut Hint, line: &[u8], place: Place, kind: Kind) -> Result<(), AllocError> {
+    hint.column = Some(column_at(line, place));
+    let text = &mut hint.words;
     put_pieces(text, &[word_of(kind), b" "])?;
     put_framed(text, b"'", place.word, b"' is declared above already")
 }
 
 /// Adds the hint for a name that is declared or named twice.
 pub fn put_double_name(
-    text: &mut Vec<u8>,
+    hint: &mut Hint,
     parts: &Parts,
     places: &[Place],
     line: &[u8],
@@ -79,12 +77,12 @@ pub fn put_double_name(
 ) -> Result<(), AllocError> {
     for place in places {
         if let Some(kind) = known_at(parts, *place) {
-            return put_known(text, line, *place, kind);
+            return put_known(hint, line, *place, kind);
         }
     }
     for i in 0..places.len() {
         if repeats(&places[..i], &places[i]) {
-            return put_again(text, line, &places[i], word_at(words, places[i].at));
+            return put_again(hint, line, &places[i], word_at(words, places[i].at));
         }
     }
     Ok(())

@@ -1,11 +1,12 @@
 //! What could be in a line whose words are no form.
 
 use crate::fitting::{forms_of, is_reserved, longest, may_be, reach_of};
+use crate::hint::Hint;
 use crate::lines::{column_of, place_of, word_at};
 use crate::near::{Nearest, nearer, none_near};
 use crate::places::thing_of;
 use crate::slips::put_slip;
-use crate::wording::{put_column, put_framed, put_word};
+use crate::wording::{put_framed, put_word};
 use rc_read::fixed::text_of;
 use rc_read::parts::Parts;
 use rc_read::spots::{fits, has_name, put_spots};
@@ -100,7 +101,7 @@ fn put_choices(text: &mut Vec<u8>, choices: &[Choice]) -> Result<(), AllocError>
             put_piece(text, choice.text)?;
         }
     }
-    put_piece(text, b" is missing")
+    Ok(())
 }
 
 /// The fixed word with which a form begins.
@@ -136,14 +137,15 @@ fn put_spelling(text: &mut Vec<u8>, version: u32, word: &[u8]) -> Result<(), All
 }
 
 fn put_first(
-    text: &mut Vec<u8>,
+    hint: &mut Hint,
     version: u32,
     line: &[u8],
     word: &[u8],
     nearest: Nearest,
 ) -> Result<(), AllocError> {
-    put_column(text, column_of(line, 0))?;
-    put_framed(text, b"'", word, b"' begins no form here")?;
+    hint.column = Some(column_of(line, 0));
+    let text = &mut hint.words;
+    put_framed(text, b"no statement begins with '", word, b"' here")?;
     if nearest.distance < 3 {
         put_framed(text, b"; the nearest word is '", nearest.word, b"'")?;
     }
@@ -152,13 +154,14 @@ fn put_first(
 
 /// A form that a later version has.
 fn put_version(
-    text: &mut Vec<u8>,
+    hint: &mut Hint,
     version: u32,
     line: &[u8],
     word: &[u8],
     row: Row,
 ) -> Result<(), AllocError> {
-    put_column(text, column_of(line, 0))?;
+    hint.column = Some(column_of(line, 0));
+    let text = &mut hint.words;
     put_framed(text, b"this form of '", word, b"' needs version ")?;
     let needed = u64::from(version_of(row));
     put_counted(text, b"", needed, b"; the head says version ")?;
@@ -166,7 +169,7 @@ fn put_version(
 }
 
 /// Where a form is that may not be here.
-fn put_stand(text: &mut Vec<u8>, line: &[u8], word: &[u8], stand: Stand) -> Result<(), AllocError> {
+fn put_stand(hint: &mut Hint, line: &[u8], word: &[u8], stand: Stand) -> Result<(), AllocError> {
     let place: &'static [u8] = match stand {
         Stand::First | Stand::Second => b"' may only be in the head, once",
         Stand::Declaration => b"' may only be above the threads",
@@ -174,8 +177,8 @@ fn put_stand(text: &mut Vec<u8>, line: &[u8], word: &[u8], stand: Stand) -> Resu
         Stand::Inside => b"' may only be in a thread",
         Stand::Brace => b"' closes a block, and may only be in a thread",
     };
-    put_column(text, column_of(line, 0))?;
-    put_framed(text, b"'", word, place)
+    hint.column = Some(column_of(line, 0));
+    put_framed(&mut hint.words, b"'", word, place)
 }
 
 /// The form that begins with a fixed word, wherever in a text it may be.
@@ -189,7 +192,7 @@ fn begun(word: &[u8]) -> Option<Row> {
 
 fn put_longest(
     alloc: Global,
-    text: &mut Vec<u8>,
+    hint: &mut Hint,
     version: u32,
     forms: &[Row],
     line: &[u8],
@@ -197,16 +200,18 @@ fn put_longest(
     most: usize,
 ) -> Result<(), AllocError> {
     let choices = choices_at(alloc, version, forms, words, most)?;
-    put_column(text, column_of(line, most))?;
+    hint.column = Some(column_of(line, most));
+    let text = &mut hint.words;
+    let before = word_at(words, most.saturating_sub(1));
+    put_piece(text, b"expected ")?;
+    put_choices(text, &choices.list)?;
     let word = word_at(words, most);
     if most < words.len() {
-        put_framed(text, b"'", word, b"' after '")?;
+        put_framed(text, b", found '", word, b"'")?;
     } else {
-        put_piece(text, b"the end of the line after '")?;
+        put_piece(text, b", found the end of the line")?;
     }
-    let before = word_at(words, most.saturating_sub(1));
-    put_framed(text, b"", before, b"': ")?;
-    put_choices(text, &choices.list)?;
+    put_framed(text, b" after '", before, b"'")?;
     if choices.named || !is_reserved(version, word) {
         put_spelling(text, version, word)?;
     }
@@ -254,22 +259,22 @@ fn begun_alone(alloc: Global, parts: &Parts, words: &[&[u8]]) -> Result<Option<R
 
 /// Why a form that a word begins may not be here: it is of a later version, or it is elsewhere.
 fn put_begun(
-    text: &mut Vec<u8>,
+    hint: &mut Hint,
     parts: &Parts,
     line: &[u8],
     word: &[u8],
     row: Row,
 ) -> Result<(), AllocError> {
     if may_be(version_of(row), parts.region, row) {
-        return put_version(text, parts.head.version, line, word, row);
+        return put_version(hint, parts.head.version, line, word, row);
     }
-    put_stand(text, line, word, stand_of(row))
+    put_stand(hint, line, word, stand_of(row))
 }
 
 /// Adds the hint for a line whose words are no form that may be there.
 pub fn put_form(
     alloc: Global,
-    text: &mut Vec<u8>,
+    hint: &mut Hint,
     parts: &Parts,
     line: &[u8],
     words: &[&[u8]],
@@ -278,26 +283,26 @@ pub fn put_form(
     let first = word_at(words, 0);
     if let Some(row) = refused_form(alloc, version, words)? {
         if version_of(row) > version {
-            return put_version(text, version, line, first, row);
+            return put_version(hint, version, line, first, row);
         }
         if !may_be(version, parts.region, row) {
-            return put_stand(text, line, first, stand_of(row));
+            return put_stand(hint, line, first, stand_of(row));
         }
     }
-    if put_slip(text, parts, line, words)? {
+    if put_slip(hint, parts, line, words)? {
         return Ok(());
     }
     let forms = forms_of(alloc, version, parts.region)?;
     let most = longest(version, &forms, words);
     if most == 0 {
         if let Some(row) = begun(first) {
-            return put_begun(text, parts, line, first, row);
+            return put_begun(hint, parts, line, first, row);
         }
     }
     let nearest = near_first(alloc, &forms, first)?;
     let is_near = nearest.distance > 0 && nearest.distance < 3;
     if most == 0 || (most == 1 && is_near && fits(Part::Variable, first)) {
-        return put_first(text, version, line, first, nearest);
+        return put_first(hint, version, line, first, nearest);
     }
-    put_longest(alloc, text, version, &forms, line, words, most)
+    put_longest(alloc, hint, version, &forms, line, words, most)
 }

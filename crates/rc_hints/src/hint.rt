@@ -3,7 +3,7 @@
 use crate::doubles::put_double_name;
 use crate::forms::{needed_version, put_form};
 use crate::lines::word_at;
-use crate::locks::put_mend;
+use crate::locks::put_fix;
 use crate::others::{
     has_two_locks, put_braces, put_case, put_flag, put_head, put_nesting, put_strange,
     put_too_large,
@@ -12,68 +12,97 @@ use crate::places::{places_of, put_bad_number, put_unknown_name};
 use rc_read::ReadCause;
 use rc_read::parts::Parts;
 use rc_read::words::{is, put_words};
-use rc_text::text::put_counted;
+use rc_text::text::{put_counted, put_piece};
 use std::alloc::{AllocError, Global};
 
-/// Adds what could be in a line that can't be read, by its number, from 1, its cause, and what was read above it: one line
-/// of text, without its line feed. At the text's end all lines were read, also that one.
-pub fn put_hint(
-    text: &mut Vec<u8>,
+/// What is wrong with a line that can't be read.
+#[derive(Drop)]
+pub struct Hint {
+    /// The column of the word that is wrong, from 1, where it is one; after the last word, the column after its end.
+    pub column: Option<usize>,
+    /// What is wrong there: one line of text, without its line feed.
+    pub words: Vec<u8>,
+    /// What to write, in one sentence; nothing where the words of the line show no more than the cause does.
+    pub fix: Vec<u8>,
+}
+
+/// What is wrong with a line that can't be read, by its number, from 1, its cause, and what was read above it. At the
+/// model's end all lines were read, also that one.
+pub fn hint_on(
+    alloc: Global,
     line: &[u8],
     number: u32,
     cause: ReadCause,
     above: &Parts,
-) -> Result<(), AllocError> {
-    let alloc = *text.allocator();
+) -> Result<Hint, AllocError> {
+    let mut hint = Hint {
+        column: None,
+        words: Vec::new(alloc),
+        fix: Vec::new(alloc),
+    };
     let mut words = Vec::new(alloc);
     put_words(&mut words, line)?;
-    let places = places_of(alloc, above.head.version, &words)?;
-    match cause {
-        ReadCause::NotAscii => put_strange(text, line),
-        ReadCause::BadHead => put_head(text, above, &words),
-        ReadCause::BadLine => put_form(alloc, text, above, line, &words),
-        ReadCause::BadNumber => put_bad_number(text, above, line, &places),
-        ReadCause::UnknownName => put_unknown_name(text, above, line, &places),
-        ReadCause::DoubleName => put_double_name(text, above, &places, line, &words),
-        ReadCause::Braces => put_braces(text, above, &words, number <= above.count),
-        ReadCause::TooLarge => put_too_large(text, above, line, &words),
-        ReadCause::BadNesting => put_nesting(text, above, &words),
-        ReadCause::BadCase => put_case(text, above, &words),
-        ReadCause::OtherFlag => put_flag(text, above),
-    }
+    put_hint(&mut hint, line, &words, number, cause, above)?;
+    fix_line(&mut hint.fix, &words, cause, above)?;
+    Ok(hint)
 }
 
-/// How a line that can't be read is mended, in one sentence; nothing where its words show no more than the cause does.
-pub fn mend_of_line(
-    alloc: Global,
+/// Adds what is wrong with a line of these words.
+fn put_hint(
+    hint: &mut Hint,
     line: &[u8],
+    words: &[&[u8]],
+    number: u32,
     cause: ReadCause,
     above: &Parts,
-) -> Result<Vec<u8>, AllocError> {
-    let mut mend = Vec::new(alloc);
-    let mut words = Vec::new(alloc);
-    put_words(&mut words, line)?;
+) -> Result<(), AllocError> {
+    let alloc = *hint.words.allocator();
+    let places = places_of(alloc, above.head.version, words)?;
     match cause {
-        ReadCause::BadLine => put_version(alloc, &mut mend, above, &words)?,
-        ReadCause::BadNesting if has_two_locks(above) && is(word_at(&words, 0), b"lock") => {
-            put_mend(&mut mend, above, &words)?
-        }
-        _ => {}
+        ReadCause::NotAscii => put_strange(hint, line),
+        ReadCause::BadHead => put_head(&mut hint.words, above, words),
+        ReadCause::BadLine => put_form(alloc, hint, above, line, words),
+        ReadCause::BadNumber => put_bad_number(hint, above, line, &places),
+        ReadCause::UnknownName => put_unknown_name(hint, above, line, &places),
+        ReadCause::DoubleName => put_double_name(hint, above, &places, line, words),
+        ReadCause::Braces => put_braces(&mut hint.words, above, words, number <= above.count),
+        ReadCause::TooLarge => put_too_large(&mut hint.words, above, line, words),
+        ReadCause::BadNesting => put_nesting(&mut hint.words, above, words),
+        ReadCause::BadCase => put_case(&mut hint.words, above, words),
+        ReadCause::OtherFlag => put_flag(&mut hint.words, above),
     }
-    Ok(mend)
 }
 
-/// Adds with which version a text is to begin that has a form of a later one.
-fn put_version(
-    alloc: Global,
-    text: &mut Vec<u8>,
-    above: &Parts,
+/// Adds a hint as it is printed: after its column, if it has one.
+pub fn put_printed(text: &mut Vec<u8>, hint: &Hint) -> Result<(), AllocError> {
+    if let Some(column) = hint.column {
+        put_counted(text, b"column ", column as u64, b": ")?;
+    }
+    put_piece(text, &hint.words)
+}
+
+/// Adds what to write for a line that can't be read, where its words show more than the cause does.
+fn fix_line(
+    fix: &mut Vec<u8>,
     words: &[&[u8]],
+    cause: ReadCause,
+    above: &Parts,
 ) -> Result<(), AllocError> {
-    match needed_version(alloc, above, words)? {
+    match cause {
+        ReadCause::BadLine => put_version(fix, above, words),
+        ReadCause::BadNesting if has_two_locks(above) && is(word_at(words, 0), b"lock") => {
+            put_fix(fix, above, words)
+        }
+        _ => Ok(()),
+    }
+}
+
+/// Adds with which version a model is to begin that has a form of a later one.
+fn put_version(fix: &mut Vec<u8>, above: &Parts, words: &[&[u8]]) -> Result<(), AllocError> {
+    match needed_version(*fix.allocator(), above, words)? {
         Some(version) => put_counted(
-            text,
-            b"Begin the text with `ringcheck ",
+            fix,
+            b"Begin the model with `ringcheck ",
             u64::from(version),
             b"`.",
         ),

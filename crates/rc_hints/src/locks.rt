@@ -1,4 +1,4 @@
-//! Locks in locks, in a text with a lock for each side.
+//! Locks in locks, in a model with a lock for each side.
 
 use crate::lines::word_at;
 use rc_lang::lines::{Block, Locks};
@@ -126,8 +126,8 @@ pub fn put_inner(text: &mut Vec<u8>, parts: &Parts, words: &[&[u8]]) -> Result<b
     Ok(true)
 }
 
-/// Adds how a lock is mended that may not be in the open one.
-pub fn put_mend(text: &mut Vec<u8>, parts: &Parts, words: &[&[u8]]) -> Result<(), AllocError> {
+/// Adds what to write for a lock that may not be in the open one.
+pub fn put_fix(text: &mut Vec<u8>, parts: &Parts, words: &[&[u8]]) -> Result<(), AllocError> {
     let wanted = wanted(words);
     let Some(Open { number, .. }) = open_with(parts, wanted) else {
         return Ok(());

@@ -1,8 +1,9 @@
 //! Hints for the other faults: strange bytes, heads, blocks, limits and nesting.
 
+use crate::hint::Hint;
 use crate::lines::word_at;
 use crate::locks::put_inner;
-use crate::wording::{put_column, put_framed};
+use crate::wording::put_framed;
 use rc_lang::lines::Block;
 use rc_read::parts::{Parts, Region};
 use rc_read::words::is;
@@ -14,28 +15,28 @@ fn is_strange(b: u8) -> bool {
 }
 
 /// Adds the hint for a byte that isn't ASCII.
-pub fn put_strange(text: &mut Vec<u8>, line: &[u8]) -> Result<(), AllocError> {
+pub fn put_strange(hint: &mut Hint, line: &[u8]) -> Result<(), AllocError> {
     for i in 0..line.len() {
         if is_strange(line[i]) {
-            put_column(text, i + 1)?;
+            hint.column = Some(i + 1);
             let byte = u64::from(line[i]);
             return put_counted(
-                text,
+                &mut hint.words,
                 b"byte ",
                 byte,
-                b"; a text has only tabs and the bytes 32 to 126",
+                b"; a model has only tabs and the bytes 32 to 126",
             );
         }
     }
     Ok(())
 }
 
-/// Adds the hint for a text that doesn't begin with a head. Only the end of a text has no word.
+/// Adds the hint for a model that doesn't begin with a head. Only the end of a model has no word.
 pub fn put_head(text: &mut Vec<u8>, parts: &Parts, words: &[&[u8]]) -> Result<(), AllocError> {
     match parts.region {
         Region::Start if words.is_empty() => put_piece(
             text,
-            b"no line has a word: begin the text with 'ringcheck 1', and then 'ring 8'",
+            b"no line has a word: begin the model with 'ringcheck 1', and then 'ring 8'",
         ),
         _ if words.is_empty() => put_piece(
             text,
@@ -123,7 +124,7 @@ pub fn put_braces(
     at_end: bool,
 ) -> Result<(), AllocError> {
     if at_end {
-        put_piece(text, b"the end of the text: ")?;
+        put_piece(text, b"the end of the model: ")?;
         return put_open(text, parts);
     }
     match parts.region {
@@ -166,7 +167,7 @@ pub fn put_too_large(
         let count = line.len() as u64;
         put_counted(text, b"the line has ", count, b" bytes; at most 256")
     } else if parts.count >= 4096 {
-        put_piece(text, b"a text has at most 4096 lines")
+        put_piece(text, b"a model has at most 4096 lines")
     } else if is(first, b"file") {
         put_of(text, parts.files.len(), 16, b"files")
     } else if is(first, b"buffer") {
@@ -192,7 +193,7 @@ pub fn put_too_large(
     }
 }
 
-/// Whether a text has a lock for each side of the ring.
+/// Whether a model has a lock for each side of the ring.
 pub fn has_two_locks(parts: &Parts) -> bool {
     parts.head.version >= 4
 }

@@ -1,9 +1,10 @@
 //! The places of a line: ranges of its numbers, and names that aren't declared.
 
 use crate::fitting::items_in_front;
+use crate::hint::Hint;
 use crate::lines::{column_of, from, word_at};
 use crate::near::{Nearest, nearer, none_near};
-use crate::wording::{put_column, put_framed, put_word};
+use crate::wording::{put_framed, put_word};
 use rc_lang::numbers::{is_number, number_of, signed_number_of};
 use rc_read::parts::Parts;
 use rc_read::spots::{Spot, begins_number, put_spots};
@@ -21,9 +22,9 @@ pub struct Place<'a> {
     pub offset: usize,
 }
 
-/// Adds `column C: ` for a place.
-pub fn put_place(text: &mut Vec<u8>, line: &[u8], place: Place) -> Result<(), AllocError> {
-    put_column(text, column_of(line, place.at).saturating_add(place.offset))
+/// The column of a place, from 1.
+pub fn column_at(line: &[u8], place: Place) -> usize {
+    column_of(line, place.at).saturating_add(place.offset)
 }
 
 /// Adds the places of a word, from this spot on: of a share those of its name and its number, and else one. Answers which
@@ -188,7 +189,7 @@ fn lacks_sign(place: Place) -> bool {
 }
 
 fn put_range(
-    text: &mut Vec<u8>,
+    hint: &mut Hint,
     line: &[u8],
     place: Place,
     low: u64,
@@ -199,7 +200,8 @@ fn put_range(
     } else {
         (b" is no number; ", b" is ")
     };
-    put_place(text, line, place)?;
+    hint.column = Some(column_at(line, place));
+    let text = &mut hint.words;
     put_word(text, place.word)?;
     put_pieces(text, &[what, thing_of(place.part), is])?;
     put_counted(text, b"", low, b" to ")?;
@@ -207,8 +209,9 @@ fn put_range(
 }
 
 /// Adds that a word is no signed number: also a variable, with which no test compares.
-fn put_unsigned(text: &mut Vec<u8>, line: &[u8], place: Place) -> Result<(), AllocError> {
-    put_place(text, line, place)?;
+fn put_unsigned(hint: &mut Hint, line: &[u8], place: Place) -> Result<(), AllocError> {
+    hint.column = Some(column_at(line, place));
+    let text = &mut hint.words;
     put_word(text, place.word)?;
     if is_name(place.word) {
         return put_piece(
@@ -224,7 +227,7 @@ fn put_unsigned(text: &mut Vec<u8>, line: &[u8], place: Place) -> Result<(), All
 
 /// Adds the hint for a word that is no number or is out of its range.
 pub fn put_bad_number(
-    text: &mut Vec<u8>,
+    hint: &mut Hint,
     parts: &Parts,
     line: &[u8],
     places: &[Place],
@@ -236,11 +239,11 @@ pub fn put_bad_number(
     for place in places {
         if let Some((low, high)) = range_of(parts, seen, place.part) {
             if number_of(low, high, place.word).is_none() {
-                return put_range(text, line, *place, low, high);
+                return put_range(hint, line, *place, low, high);
             }
         }
         if lacks_sign(*place) {
-            return put_unsigned(text, line, *place);
+            return put_unsigned(hint, line, *place);
         }
         seen = seen_after(parts, seen, *place);
     }
@@ -387,13 +390,14 @@ fn count_of(parts: &Parts, kind: Kind) -> usize {
 }
 
 fn put_unknown(
-    text: &mut Vec<u8>,
+    hint: &mut Hint,
     parts: &Parts,
     line: &[u8],
     place: Place,
     kind: Kind,
 ) -> Result<(), AllocError> {
-    put_place(text, line, place)?;
+    hint.column = Some(column_at(line, place));
+    let text = &mut hint.words;
     put_pieces(text, &[b"no ", word_of(kind), b" "])?;
     put_framed(text, b"'", place.word, b"' is declared above; declared: ")?;
     if count_of(parts, kind) == 0 {
@@ -410,14 +414,14 @@ fn put_unknown(
 
 /// Adds the hint for a file, a buffer, a token or a pool that isn't declared.
 pub fn put_unknown_name(
-    text: &mut Vec<u8>,
+    hint: &mut Hint,
     parts: &Parts,
     line: &[u8],
     places: &[Place],
 ) -> Result<(), AllocError> {
     for place in places {
         if let Some(kind) = unknown_at(parts, *place) {
-            return put_unknown(text, parts, line, *place, kind);
+            return put_unknown(hint, parts, line, *place, kind);
         }
     }
     Ok(())

@@ -1,7 +1,8 @@
 //! What is written as in C, and what stands for it here.
 
+use crate::hint::Hint;
 use crate::lines::{column_of, word_at};
-use crate::wording::{put_column, put_framed};
+use crate::wording::put_framed;
 use rc_lang::lines::Block;
 use rc_read::parts::{Parts, Region};
 use rc_read::spots::fits;
@@ -45,15 +46,11 @@ fn sign_of(word: &[u8]) -> Option<&'static [u8]> {
 }
 
 /// Adds how a sum is written.
-fn put_sum(
-    text: &mut Vec<u8>,
-    line: &[u8],
-    words: &[&[u8]],
-    sign: &[u8],
-) -> Result<(), AllocError> {
-    put_column(text, column_of(line, 1))?;
+fn put_sum(hint: &mut Hint, line: &[u8], words: &[&[u8]], sign: &[u8]) -> Result<(), AllocError> {
+    hint.column = Some(column_of(line, 1));
+    let text = &mut hint.words;
     let (first, second) = (word_at(words, 0), word_at(words, 1));
-    put_framed(text, b"'", second, b"' is no word of a form; write '")?;
+    put_framed(text, b"'", second, b"' is no word of a statement; write '")?;
     put_framed(text, b"", first, b" = ")?;
     put_framed(text, b"", first, sign)?;
     put_framed(text, b"", word_at(words, 2), b"'")
@@ -61,7 +58,7 @@ fn put_sum(
 
 /// Adds how a sum is written, where a line is one with this sign, and says whether it is.
 fn put_if_sum(
-    text: &mut Vec<u8>,
+    hint: &mut Hint,
     line: &[u8],
     words: &[&[u8]],
     sign: &[u8],
@@ -69,18 +66,18 @@ fn put_if_sum(
     let (first, third) = (word_at(words, 0), word_at(words, 2));
     let is_sum = words.len() == 3 && fits(Part::Variable, first) && fits(Part::Operand, third);
     if is_sum {
-        put_sum(text, line, words, sign)?;
+        put_sum(hint, line, words, sign)?;
     }
     Ok(is_sum)
 }
 
 /// Adds how an entry is asked for, where a line gives it to a variable, and says whether it does.
-fn put_if_entry(text: &mut Vec<u8>, line: &[u8], given: &[u8]) -> Result<bool, AllocError> {
+fn put_if_entry(hint: &mut Hint, line: &[u8], given: &[u8]) -> Result<bool, AllocError> {
     let is_entry = is(given, b"get_sqe");
     if is_entry {
-        put_column(text, column_of(line, 0))?;
+        hint.column = Some(column_of(line, 0));
         put_piece(
-            text,
+            &mut hint.words,
             b"write 'get_sqe' alone, since no variable has the entry",
         )?;
     }
@@ -89,7 +86,7 @@ fn put_if_entry(text: &mut Vec<u8>, line: &[u8], given: &[u8]) -> Result<bool, A
 
 /// Adds what to write for a line in a thread that is as in C, and says whether it is.
 pub fn put_slip(
-    text: &mut Vec<u8>,
+    hint: &mut Hint,
     parts: &Parts,
     line: &[u8],
     words: &[&[u8]],
@@ -99,16 +96,21 @@ pub fn put_slip(
     }
     let (first, second) = (word_at(words, 0), word_at(words, 1));
     if let Some(sign) = sign_of(second) {
-        return put_if_sum(text, line, words, sign);
+        return put_if_sum(hint, line, words, sign);
     }
     if is(second, b"=") {
-        return put_if_entry(text, line, word_at(words, 2));
+        return put_if_entry(hint, line, word_at(words, 2));
     }
     let Some(advice) = for_word(parts, first) else {
         return Ok(false);
     };
-    put_column(text, column_of(line, 0))?;
-    put_framed(text, b"'", first, b"' begins no form here; ")?;
-    put_piece(text, advice)?;
+    hint.column = Some(column_of(line, 0));
+    put_framed(
+        &mut hint.words,
+        b"no statement begins with '",
+        first,
+        b"' here; ",
+    )?;
+    put_piece(&mut hint.words, advice)?;
     Ok(true)
 }

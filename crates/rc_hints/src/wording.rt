@@ -1,6 +1,6 @@
 //! Pieces of a hint.
 
-use rc_text::text::{put_counted, put_piece};
+use rc_text::text::put_piece;
 use std::alloc::AllocError;
 
 /// Adds a word, cut at 40 bytes, with `?` for what isn't printable.
@@ -31,9 +31,4 @@ pub fn put_framed(
 /// Adds a word in quotes, cut at 40 bytes, with `?` for what isn't printable.
 pub fn put_word(text: &mut Vec<u8>, word: &[u8]) -> Result<(), AllocError> {
     put_framed(text, b"'", word, b"'")
-}
-
-/// Adds `column C: `.
-pub fn put_column(text: &mut Vec<u8>, column: usize) -> Result<(), AllocError> {
-    put_counted(text, b"column ", column as u64, b": ")
 }

@@ -1,1 +1,9 @@
+pub mod Bodies
+pub mod Documents
+pub mod Escapes
+pub mod Frames
 pub mod Heads
+pub mod Messages
+pub mod Published
+pub mod Reactions
+pub mod Reports

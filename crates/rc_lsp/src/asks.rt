@@ -1,7 +1,9 @@
 //! Requests about a place of a text, and about all of it.
 
 use crate::fields::field;
-use crate::places::{edits_value, location_value, position_field, range_value, text_value};
+use crate::places::{
+    edits_value, location_value, position_field, push_made, range_value, text_value,
+};
 use crate::replies::Refusal;
 use rc_editor::folding::{Fold, folding};
 use rc_editor::format;
@@ -69,7 +71,7 @@ pub fn references_value(
 fn locations_value(alloc: Global, uri: &str, ranges: &[Range]) -> Result<Value, AllocError> {
     let mut list = Vec::new(alloc);
     for range in ranges {
-        list.push(location_value(alloc, uri, *range)?)?;
+        push_made(&mut list, location_value(alloc, uri, *range))?;
     }
     Ok(Value::Array(list))
 }
@@ -83,7 +85,7 @@ pub fn highlights_value(
     let found = highlights(alloc, document.text, position_field(params)?)?;
     let mut list = Vec::new(alloc);
     for highlight in &found {
-        list.push(highlight_value(alloc, highlight)?)?;
+        push_made(&mut list, highlight_value(alloc, highlight))?;
     }
     Ok(Value::Array(list))
 }
@@ -99,7 +101,7 @@ fn highlight_value(alloc: Global, highlight: &Highlight) -> Result<Value, AllocE
 pub fn folding_value(alloc: Global, document: Document<'_>) -> Result<Value, Refusal> {
     let mut list = Vec::new(alloc);
     for fold in &folding(alloc, document.text)? {
-        list.push(fold_value(alloc, fold)?)?;
+        push_made(&mut list, fold_value(alloc, fold))?;
     }
     Ok(Value::Array(list))
 }

@@ -1,17 +1,17 @@
 //! Commands.
 
+use crate::documents::Documents;
 use crate::fields::{field, text_field};
 use crate::replies::{Fault, Refusal};
-use rc_picture::found::put_found_picture;
-use rc_publish::documents::Documents;
-use rc_runs::find::put_found;
-use serde_json::{Map, Value};
+use rc_runs::find::{Found, find};
+use rc_runs::found::{object_of, put_found_picture};
+use serde_json::Value;
 use std::alloc::{AllocError, Global};
 
-/// The command that finds a run of a refused text into a fault.
+/// The command that finds a run of a refused model into a fault.
 const FIND: &str = "ringcheck.find";
 
-/// What the choices of walks are made by, and how many walks are made at most.
+/// The seed of the random choices, and how many walks are made at most.
 const SEED: u32 = 1;
 
 const WALKS: u32 = 2_000;
@@ -28,28 +28,34 @@ pub fn executed(alloc: Global, documents: &Documents, params: &Value) -> Result<
     let Some(text) = documents.text(uri.as_str()) else {
         return Err(Refusal::Fault(Fault::InvalidParams));
     };
-    let mut found = Vec::new(alloc);
-    put_found(&mut found, alloc, text, SEED, WALKS, true)?;
-    let mut members = members_of(alloc, &found)?;
-    let picture = match members.get("moves") {
-        Some(Value::String(_)) => picture_of(alloc, text)?,
-        _ => Value::Null,
-    };
-    members.insert(String::from_str(alloc, "picture")?, picture)?;
-    Ok(Value::Object(members))
+    let found = find(alloc, text, SEED, WALKS)?;
+    Ok(answer_of(alloc, text, &found)?)
 }
 
-/// The members of an object that was written.
-fn members_of(alloc: Global, object: &[u8]) -> Result<Map<String, Value>, AllocError> {
-    match Value::from_slice(alloc, object) {
-        Ok(Value::Object(members)) => Ok(members),
-        _ => Err(AllocError),
+/// What was found of a text, with its picture.
+fn answer_of(alloc: Global, text: &[u8], found: &Found) -> Result<Value, AllocError> {
+    let picture = picture_of(alloc, text, found)?;
+    let mut answer = object_of(alloc, None, found)?;
+    if let Value::Object(members) = &mut answer {
+        members.insert(String::from_str(alloc, "picture")?, picture)?;
     }
+    Ok(answer)
 }
 
-/// The picture of a run of a text into a fault.
-fn picture_of(alloc: Global, text: &[u8]) -> Result<Value, AllocError> {
+/// The picture of the run that was found, if one was.
+fn picture_of(alloc: Global, text: &[u8], found: &Found) -> Result<Value, AllocError> {
+    if !has_run(found) {
+        return Ok(Value::Null);
+    }
     let (mut picture, mut notes) = (Vec::new(alloc), Vec::new(alloc));
-    put_found_picture(&mut picture, &mut notes, alloc, text, SEED, WALKS)?;
+    put_found_picture(&mut picture, &mut notes, alloc, text, found)?;
     Ok(Value::String(String::from_utf8_lossy(alloc, &picture)?))
+}
+
+/// Whether a run was found.
+fn has_run(found: &Found) -> bool {
+    match &found.searched {
+        Some(searched) => searched.search.harm.is_some(),
+        None => false,
+    }
 }

@@ -3,7 +3,7 @@
 use crate::asks::Document;
 use crate::fields::{field, text_field};
 use crate::places::{
-    changes_value, edit_value, position_field, range_field, range_value, text_value,
+    changes_value, edit_value, position_field, push_made, range_field, range_value, text_value,
 };
 use crate::replies::{Fault, Refusal};
 use rc_editor::actions::{Action, actions};
@@ -25,7 +25,7 @@ pub fn completions_value(
 ) -> Result<Value, Refusal> {
     let mut list = Vec::new(alloc);
     for offer in &completions(alloc, document.text, position_field(params)?)? {
-        list.push(completion_value(alloc, offer)?)?;
+        push_made(&mut list, completion_value(alloc, offer))?;
     }
     Ok(Value::Array(list))
 }
@@ -75,9 +75,9 @@ pub fn actions_value(
     let only = field(params, "context")?.get("only");
     let mut list = Vec::new(alloc);
     for action in &actions(alloc, document.text, range)? {
-        let kind = if action.mends { QUICK_FIX } else { REWRITE };
+        let kind = if action.is_fix { QUICK_FIX } else { REWRITE };
         if is_wanted(only, kind) {
-            list.push(action_value(alloc, document.uri, action, kind)?)?;
+            push_made(&mut list, action_value(alloc, document.uri, action, kind))?;
         }
     }
     Ok(Value::Array(list))

@@ -19,13 +19,18 @@ pub fn outline_value(alloc: Global, document: Document<'_>) -> Result<Value, Ref
     let mut entries = Vec::new(alloc);
     let list = symbols(alloc, document.text)?;
     for symbol in list.iter().rev() {
-        let children = taken_below(alloc, &mut entries, symbol.depth.saturating_add(1))?;
-        entries.push(Entry {
-            depth: symbol.depth,
-            value: symbol_value(alloc, symbol, children)?,
-        })?;
+        push_entry(alloc, &mut entries, symbol)?;
     }
     Ok(Value::Array(taken_below(alloc, &mut entries, 0)?))
+}
+
+/// Adds a symbol with those after it that are in it, which it takes away.
+fn push_entry(alloc: Global, entries: &mut Vec<Entry>, symbol: &Symbol) -> Result<(), AllocError> {
+    let depth = symbol.depth;
+    let children = taken_below(alloc, entries, depth.saturating_add(1))?;
+    let value = symbol_value(alloc, symbol, children)?;
+    entries.push(Entry { depth, value })?;
+    Ok(())
 }
 
 /// Takes the last entries away that are at least so deep, the last one first.

@@ -60,11 +60,17 @@ pub fn text_value(alloc: Global, bytes: &[u8]) -> Result<Value, AllocError> {
     Ok(Value::String(String::from_utf8_lossy(alloc, bytes)?))
 }
 
+/// Adds a value, if it could be made.
+pub fn push_made(list: &mut Vec<Value>, made: Result<Value, AllocError>) -> Result<(), AllocError> {
+    list.push(made?)?;
+    Ok(())
+}
+
 /// Edits as JSON.
 pub fn edits_value(alloc: Global, edits: &[Edit]) -> Result<Value, AllocError> {
     let mut list = Vec::new(alloc);
     for edit in edits {
-        list.push(edit_value(alloc, edit.range, &edit.text)?)?;
+        push_made(&mut list, edit_value(alloc, edit.range, &edit.text))?;
     }
     Ok(Value::Array(list))
 }

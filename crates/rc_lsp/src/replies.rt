@@ -1,6 +1,11 @@
 //! Answers and notifications, as messages in frames.
 
-use rc_publish::message::put_message;
+ghost use Rattle.std.specs.Prelude.{IfOk};
+ghost use Rattle.serde_json.specs.View.{view};
+ghost use Rattle.rc_lsp.specs.Reactions.{HasId, IsAnswer, IsShown, Shows};
+ghost use Rattle.rc_report.specs.Text.{PutsSome};
+
+use crate::frames::put_message;
 use serde_json::{Value, json};
 use std::alloc::{AllocError, AllocFailed, Global};
 
@@ -76,15 +81,22 @@ pub fn put_answer(
     alloc: Global,
     id: &Value,
     answer: Result<Value, Refusal>,
-) -> Result<(), AllocError> {
+) -> Result<(), AllocError>
+    ensures { PutsSome IsAnswer out.old out.new result }
+{
     match answer {
-        Ok(result) => {
-            let message = json!(in alloc; {"id": id, "jsonrpc": "2.0", "result": result})?;
-            put_message(out, alloc, &message)
-        }
+        Ok(result) => put_result(out, alloc, id, result),
         Err(Refusal::Fault(fault)) => put_fault(out, alloc, id, fault),
         Err(Refusal::OutOfMemory) => Err(AllocError),
     }
+}
+
+/// Adds the result of a request.
+fn put_result(out: &mut Vec<u8>, alloc: Global, id: &Value, value: Value) -> Result<(), AllocError>
+    ensures { PutsSome IsAnswer out.old out.new result }
+{
+    let message = result_message(alloc, id, value)?;
+    put_message(out, alloc, &message)
 }
 
 /// Adds that a request has no result.
@@ -93,16 +105,41 @@ pub fn put_fault(
     alloc: Global,
     id: &Value,
     fault: Fault,
-) -> Result<(), AllocError> {
+) -> Result<(), AllocError>
+    ensures { PutsSome IsAnswer out.old out.new result }
+{
     let (code, text) = (fault.code(), fault.text());
-    let message =
-        json!(in alloc; {"error": {"code": code, "message": text}, "id": id, "jsonrpc": "2.0"})?;
+    let error = json!(in alloc; {"code": code, "message": text})?;
+    let message = error_message(alloc, id, error)?;
     put_message(out, alloc, &message)
 }
 
 /// Adds a message that the editor shows to its user, as an error.
-pub fn put_shown(out: &mut Vec<u8>, alloc: Global, text: &str) -> Result<(), AllocError> {
-    let message =
-        json!(in alloc; {"jsonrpc": "2.0", "method": "window/showMessage", "params": {"message": text, "type": 1}})?;
+pub fn put_shown(out: &mut Vec<u8>, alloc: Global, text: &str) -> Result<(), AllocError>
+    ensures { PutsSome IsShown out.old out.new result }
+{
+    let params = json!(in alloc; {"message": text, "type": 1})?;
+    let message = shown_message(alloc, params)?;
     put_message(out, alloc, &message)
+}
+
+/// The message with a result.
+fn result_message(alloc: Global, id: &Value, value: Value) -> Result<Value, AllocError>
+    ensures { IfOk result (λ v. HasId (view v)) }
+{
+    json!(in alloc; {"id": id, "jsonrpc": "2.0", "result": value})
+}
+
+/// The message with an error.
+fn error_message(alloc: Global, id: &Value, error: Value) -> Result<Value, AllocError>
+    ensures { IfOk result (λ v. HasId (view v)) }
+{
+    json!(in alloc; {"error": error, "id": id, "jsonrpc": "2.0"})
+}
+
+/// The message that is shown.
+fn shown_message(alloc: Global, params: Value) -> Result<Value, AllocError>
+    ensures { IfOk result (λ v. Shows (view v)) }
+{
+    json!(in alloc; {"jsonrpc": "2.0", "method": "window/showMessage", "params": params})
 }

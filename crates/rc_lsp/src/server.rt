@@ -1,17 +1,25 @@
 //! A server: its state, and what it answers to a message.
 
+ghost use Rattle.std.specs.Prelude.{◌≡◌, Some, option_map};
+ghost use Rattle.serde_json.specs.View.{view};
+ghost use Rattle.rc_lsp.specs.Messages.{notification};
+ghost use Rattle.rc_lsp.specs.Reports as reports;
+ghost use Rattle.rc_report.specs.Text.{PutsSome};
+
 use crate::asks::{
     Document, definition_value, folding_value, formatting_value, highlights_value, hover_value,
     references_value,
 };
+use crate::bodies::value_of;
+use crate::documents::Documents;
 use crate::fields::{field, uri_field};
 use crate::found::executed;
 use crate::message::{Message, message_of};
 use crate::offers::{actions_value, completions_value, renamable_value, renamed_value};
 use crate::outline::outline_value;
 use crate::replies::{Fault, Refusal, put_answer, put_fault};
-use crate::texts::{closed, edited, opened, saved};
-use rc_publish::documents::Documents;
+use crate::reports::{Report, report_of};
+use crate::texts::heed;
 use serde_json::Value;
 use std::alloc::{AllocError, Global};
 
@@ -44,6 +52,8 @@ pub struct Server {
 }
 
 impl Server {
+    ghost use Rattle.rc_lsp.specs.Reactions.{Answers, Reacts, is_running, report_in};
+
     /// A server that has had no message.
     pub fn new(alloc: Global) -> Server {
         Server {
@@ -59,34 +69,44 @@ impl Server {
         alloc: Global,
         body: &[u8],
         out: &mut Vec<u8>,
-    ) -> Result<Next, AllocError> {
-        let value = match Value::from_slice(alloc, body) {
-            Ok(value) => value,
-            Err(error) => {
-                if error.is_memory() {
-                    return Err(AllocError);
-                }
-                put_fault(out, alloc, &Value::Null, Fault::NoJson)?;
-                return Ok(Next::More);
-            }
-        };
-        match message_of(&value) {
+    ) -> Result<Next, AllocError>
+        ensures { PutsSome (Answers body.now self.old self.new) out.old out.new result }
+    {
+        let value = value_of(alloc, body)?;
+        let message = message_of(&value);
+        self.react(alloc, message, out)?;
+        Ok(self.next_after(message))
+    }
+
+    /// Answers a message.
+    fn react(
+        &mut self,
+        alloc: Global,
+        message: Message<'_>,
+        out: &mut Vec<u8>,
+    ) -> Result<(), AllocError>
+        ensures { PutsSome (Reacts (report_in (is_running self.old.stage) (notification message.entry)) self.old.documents self.new.documents) out.old out.new result }
+    {
+        match message {
             Message::Request { id, method, params } => {
                 let answer = self.result_of(alloc, method, params);
-                put_answer(out, alloc, id, answer)?;
-                Ok(Next::More)
+                put_answer(out, alloc, id, answer)
             }
-            Message::Notification { method, params } => self.told(alloc, method, params, out),
-            Message::Response => Ok(Next::More),
-            Message::Other(id) => {
-                put_fault(
-                    out,
-                    alloc,
-                    id.unwrap_or(&Value::Null),
-                    Fault::InvalidRequest,
-                )?;
-                Ok(Next::More)
+            Message::Notification { method, params } => self.heed(alloc, method, params, out),
+            Message::Response => Ok(()),
+            Message::Other { id, fault } => {
+                put_fault(out, alloc, id.unwrap_or(&Value::Null), fault)
             }
+        }
+    }
+
+    /// What comes after a message.
+    fn next_after(&self, message: Message<'_>) -> Next {
+        match message {
+            Message::Notification { method: "exit", .. } => Next::Exit {
+                is_clean: self.is_shut_down(),
+            },
+            _ => Next::More,
         }
     }
 
@@ -96,7 +116,9 @@ impl Server {
     }
 
     /// The result of a request.
-    fn result_of(&mut self, alloc: Global, method: &str, params: &Value) -> Result<Value, Refusal> {
+    fn result_of(&mut self, alloc: Global, method: &str, params: &Value) -> Result<Value, Refusal>
+        ensures { self.new.documents ≡ self.old.documents }
+    {
         match (self.stage, method) {
             (Stage::Fresh, "initialize") => self.initialized(alloc, params),
             (Stage::Fresh, _) => Err(Refusal::Fault(Fault::NotInitialized)),
@@ -142,53 +164,41 @@ impl Server {
     }
 
     /// `initialize`: what the server can.
-    fn initialized(&mut self, alloc: Global, params: &Value) -> Result<Value, Refusal> {
+    fn initialized(&mut self, alloc: Global, params: &Value) -> Result<Value, Refusal>
+        ensures { self.new.documents ≡ self.old.documents }
+    {
         field(params, "capabilities")?;
         self.docs = docs_of(alloc, params)?;
         self.stage = Stage::Running;
         Value::from_str(alloc, ABILITIES).map_err(|_| Refusal::OutOfMemory)
     }
 
-    /// Takes a notification. What nobody knows, and what has wrong parameters, is passed over.
-    fn told(
-        &mut self,
-        alloc: Global,
-        method: &str,
-        params: &Value,
-        out: &mut Vec<u8>,
-    ) -> Result<Next, AllocError> {
-        if method == "exit" {
-            let is_clean = self.is_shut_down();
-            return Ok(Next::Exit { is_clean });
-        }
-        if !matches!(self.stage, Stage::Running) {
-            return Ok(Next::More);
-        }
-        match self.noted(alloc, method, params, out) {
-            Err(Refusal::OutOfMemory) => Err(AllocError),
-            _ => Ok(Next::More),
+    /// What a notification reports, if the server runs.
+    fn report_in<'a>(&self, method: &str, params: &'a Value) -> Option<Report<'a>>
+        ensures { option_map reports.change result ≡ report_in (is_running self.now.stage) (Some (method.now, view params.now)) }
+    {
+        match self.stage {
+            Stage::Running => report_of(method, params),
+            Stage::Fresh | Stage::ShutDown => None,
         }
     }
 
-    /// Takes a notification on documents.
-    fn noted(
+    /// Heeds a notification, while the server runs. What nobody knows, and what has wrong parameters, is passed over.
+    fn heed(
         &mut self,
         alloc: Global,
         method: &str,
         params: &Value,
         out: &mut Vec<u8>,
-    ) -> Result<(), Refusal> {
-        let docs = match &self.docs {
-            Some(docs) => Some(docs.as_str()),
-            None => None,
-        };
-        let documents = &mut self.documents;
-        match method {
-            "textDocument/didOpen" => opened(alloc, documents, docs, params, out),
-            "textDocument/didChange" => edited(alloc, documents, docs, params, out),
-            "textDocument/didSave" => saved(alloc, documents, docs, params, out),
-            "textDocument/didClose" => closed(alloc, documents, params, out),
-            _ => Ok(()),
+    ) -> Result<(), AllocError>
+        ensures { PutsSome (Reacts (report_in (is_running self.old.stage) (Some (method.now, view params.now))) self.old.documents self.new.documents) out.old out.new result }
+    {
+        match self.report_in(method, params) {
+            Some(report) => {
+                let docs = self.docs.as_deref();
+                heed(out, alloc, &mut self.documents, docs, report)
+            }
+            None => Ok(()),
         }
     }
 }

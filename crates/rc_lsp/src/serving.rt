@@ -11,7 +11,7 @@ use std::alloc::Global;
 use std::io::{Read, Write};
 
 /// Answers the messages of an editor, and then the exit status: 0 where a shutdown came before the end, else 1. What ends
-/// the server besides is told on a line of `errors`.
+/// the server besides is reported on a line of `errors`.
 pub fn serve_editor<I: Read + Drop, O: Write + Drop, E: Sink>(
     alloc: Global,
     reader: I,
@@ -27,18 +27,18 @@ pub fn serve_editor<I: Read + Drop, O: Write + Drop, E: Sink>(
     Ok(status_of(ended, errors))
 }
 
-/// The exit status of a server that ended so. What was wrong with its input is told.
+/// The exit status of a server that ended so. What was wrong with its input is reported.
 fn status_of<E: Sink>(ended: Ended, errors: &mut E) -> u8
     requires { (E.state errors.old).failures ≡ 0 }
     ensures { result ≤ 3 }
 {
-    let told: &[u8] = match ended {
+    let message: &[u8] = match ended {
         Ended::Done { is_clean: true } => return GOOD_STATUS,
         Ended::Done { is_clean: false } => return FAULT_STATUS,
         Ended::NoHead => b"ringcheck: no Content-Length where a message should begin\n",
         Ended::TooLarge => b"ringcheck: a message has more than 16777216 bytes\n",
         Ended::Cut => b"ringcheck: the input ends within a message\n",
     };
-    let _ = write_piece(errors, told);
+    let _ = write_piece(errors, message);
     FAULT_STATUS
 }

@@ -1,5 +1,4 @@
-//! The picture of a run, as SVG: where things are, what is drawn of them in which layer, and the file. Above it stands what
-//! is answered where a picture is asked for.
+//! The picture of a run, as SVG: where things are, what is drawn of them in which layer, and the file.
 #![tactic(auto)]
 
 mod canvas;
@@ -7,7 +6,6 @@ mod columns;
 pub mod drawing;
 mod fault_marks;
 mod file;
-pub mod found;
 mod frames;
 mod gauges;
 mod groups;
@@ -20,6 +18,5 @@ mod picture;
 mod requests;
 mod rings;
 mod rows;
-pub mod stepped;
 mod strips;
 mod turns;

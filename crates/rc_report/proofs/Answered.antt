@@ -46,11 +46,11 @@ module _ {S X : Type 0} (state : S → Taken) (old new : S) (holds : List ℕ �
   source_failed source e (Err OutOfMemory) is no_write same h = of_any source.remaining holds (h (sym is))
 
   -- It was, and this text was answered.
-  pub source_read : (source left : Given) (text : Vec ℕ) (r : Result X EngineFault) → ReadsText source left (Ok text) → (r ≡ Err Read → ⊥) → holds text.items → OfSource source state old new r holds
-  source_read source left text (Ok x) read no_read h = of_text source.remaining left.remaining text.items holds read.0 read.1 h
-  source_read source left text (Err Read) read no_read h = absurd (no_read refl)
-  source_read source left text (Err Write) read no_read h = of_text source.remaining left.remaining text.items holds read.0 read.1 h
-  source_read source left text (Err OutOfMemory) read no_read h = of_text source.remaining left.remaining text.items holds read.0 read.1 h
+  pub source_gave : (source left : Given) (text : List ℕ) (r : Result X EngineFault) → Consumes source.remaining left.remaining text → IsAtEnd left.remaining → (r ≡ Err Read → ⊥) → holds text → OfSource source state old new r holds
+  source_gave source left text (Ok x) gave end no_read h = of_text source.remaining left.remaining text holds gave end h
+  source_gave source left text (Err Read) gave end no_read h = absurd (no_read refl)
+  source_gave source left text (Err Write) gave end no_read h = of_text source.remaining left.remaining text holds gave end h
+  source_gave source left text (Err OutOfMemory) gave end no_read h = of_text source.remaining left.remaining text holds gave end h
 
 -- ---- what isn't answered where nothing is read
 

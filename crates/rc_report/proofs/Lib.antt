@@ -4,6 +4,7 @@ pub mod Grows
 pub mod Lines
 pub mod Objects
 pub mod Pieces
+pub mod Settled
 pub mod Steps
 pub mod Traces
 pub mod Yielded

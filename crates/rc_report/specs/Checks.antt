@@ -1,5 +1,5 @@
 -- What the engine that checks a text answers and writes.
-use Rattle.std.specs.Prelude.{ℕ, ◌≡◌, Bool, true, false, List, Result, Ok, Err}
+use Rattle.std.specs.Prelude.{ℕ, ◌≡◌, Bool, List, Option, None, Result, Ok, Err}
 use Rattle.rc_lang.specs.Program.{Program}
 use Rattle.rc_read.specs.Answer.{answer_of}
 use Rattle.rc_read.specs.Causes.{number_of_cause}
@@ -9,7 +9,7 @@ use Rattle.rc_report.specs.declared.engine_fault.EngineFault.{EngineFault}
 use Rattle.rc_report.specs.declared.verdict.Verdict.{Verdict}
 use Rattle.rc_report.specs.declared.verdict.Verdict.TheVariants.{Accepted, Refused, Unreadable}
 use Rattle.rc_report.specs.Streams.{Answers, Given, OfSource, Taken}
-use Rattle.rc_report.specs.Verdicts.{verdict_json, verdict_text}
+use Rattle.rc_report.specs.Files.{printed}
 
 -- The rules say this of a program.
 abbrev pub IsProgramVerdict : Program → Verdict → Type 0
@@ -37,12 +37,11 @@ GivesVerdict answer (Err (Unreadable line cause)) = IsVerdict answer (Unreadable
 
 -- as JSON, or as text
 abbrev pub told : Bool → Verdict → List ℕ
-told true verdict = verdict_json verdict
-told false verdict = verdict_text verdict
+told json verdict = printed None json verdict
 
 -- The verdict on the bytes, and the text that tells it.
 abbrev pub TellsVerdict : List ℕ → Bool → Verdict → List ℕ → Type 0
-TellsVerdict bytes json verdict text = IsVerdict (answer_of bytes) verdict × (text ≡ told json verdict)
+TellsVerdict bytes json verdict text = IsVerdict (answer_of bytes) verdict × (text ≡ printed None json verdict)
 
 -- The verdict on the bytes of the source is answered and written.
 abbrev pub ChecksAs : {S : Type 0} → Given → Bool → (S → Taken) → S → S → Result Verdict EngineFault → Type 0

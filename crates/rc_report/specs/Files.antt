@@ -1,10 +1,10 @@
 -- Verdicts on the texts of files: where something is comes first, as compilers tell it.
-use Rattle.std.specs.Prelude.{ℕ, List, [], ◌∷◌, ◌++◌, codes, decimal, Option, Some, None}
+use Rattle.std.specs.Prelude.{ℕ, Bool, true, false, List, [], ◌∷◌, ◌++◌, codes, decimal, Option, Some, None}
 use Rattle.serde_json.specs.Written.{compact_text}
 use Rattle.rc_report.specs.declared.verdict.Verdict.{Verdict}
 use Rattle.rc_report.specs.Printed.{joined}
 use Rattle.rc_report.specs.Shown.{shown}
-use Rattle.rc_report.specs.Verdicts.{Finding, cause_text, finding, finding_object}
+use Rattle.rc_report.specs.Verdicts.{Finding, cause_text, finding, finding_object, verdict_text}
 
 -- what comes after the file's name
 abbrev pub text_after_file : Option Finding → List ℕ
@@ -18,3 +18,14 @@ file_text file verdict = shown file ++ text_after_file (finding verdict)
 -- One JSON object, as it is shown: `\u` and four hex digits stand for the same character in JSON.
 abbrev pub file_json : List ℕ → Verdict → List ℕ
 file_json file verdict = shown (compact_text (finding_object (Some file) (finding verdict))) ++ codes "\n"
+
+-- the text of an object and a line feed; of a file as it is shown
+abbrev pub object_line : Option (List ℕ) → List ℕ → List ℕ
+object_line None object = object ++ codes "\n"
+object_line (Some file) object = shown object ++ codes "\n"
+
+-- A verdict as it is printed: with the name of a file or without, as JSON or as text.
+abbrev pub printed : Option (List ℕ) → Bool → Verdict → List ℕ
+printed file true verdict = object_line file (compact_text (finding_object file (finding verdict)))
+printed None false verdict = verdict_text verdict
+printed (Some file) false verdict = file_text file verdict

@@ -3,6 +3,8 @@ pub mod Checks
 pub mod Engine
 pub mod Files
 pub mod Made
+pub mod Members
+pub mod Models
 pub mod Pieces
 pub mod Printed
 pub mod Shown

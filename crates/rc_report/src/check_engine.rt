@@ -1,22 +1,24 @@
-//! A text is checked, and its verdict is written.
+//! A model is checked, and its verdict is written.
 
-ghost use Rattle.std.specs.Prelude.{IfOk};
+ghost use Rattle.std.specs.Prelude.{◌≡◌, Err, IfOk, List, ℕ};
+ghost use Rattle.rc_admit.specs.Answer.{Admits};
 ghost use Rattle.rc_read.specs.Answer.{answer_of};
-ghost use Rattle.rc_report.specs.Checks.{ChecksAs, GivesVerdict, IsVerdict, TellsVerdict, told};
+ghost use Rattle.rc_report.specs.declared.verdict.Verdict.TheVariants.{Accepted};
+ghost use Rattle.rc_report.specs.Checks.{ChecksAs, GivesVerdict, IsVerdict, TellsVerdict};
 ghost use Rattle.rc_report.specs.Streams.{Answers, CanRead, CanWrite, CountsReads};
-ghost use Rattle.rc_text.specs.Text.{Puts, PutsAnswer};
+ghost use Rattle.rc_text.specs.Text.{PutsAnswer};
 
 use crate::engine_fault::EngineFault;
-use crate::reading::read_text;
+use crate::reading::read_model;
 use crate::streams::{Sink, Source};
-use crate::verdict::{Verdict, put_verdict, put_verdict_json};
+use crate::verdict::{Verdict, print_verdict};
 use crate::writing::write_piece;
 use rc_admit::admitted::{Admitted, admit};
 use rc_admit::fault::AdmitFault;
 use rc_read::ReadFault;
 use std::alloc::{AllocError, Global};
 
-/// Reads a text, and writes the verdict on it, as JSON or as text.
+/// Reads a model, and writes the verdict on it, as JSON or as text.
 ///
 /// Answers `Read` where a read failed or 2,097,152 reads met no end of input, and then nothing is written; `Write` where
 /// a write failed: then a beginning of the verdict is written; and `OutOfMemory` where a growth was refused. Nothing is
@@ -32,13 +34,13 @@ pub fn check_engine<R: Source, W: Sink>(
     ensures answer { ChecksAs (R.state reader.old) json W.state writer.old writer.new result }
     ensures reads { CountsReads (R.state reader.old) (R.state reader.new) result }
 {
-    let text = read_text(alloc, reader)?;
+    let text = read_model(alloc, reader)?;
     check_bytes(alloc, &text, json, writer)
 }
 
 /// Writes the verdict on a text. Answers `Write` where a write failed: then a beginning of the verdict is written; and
 /// `OutOfMemory` where a growth was refused: then nothing is.
-pub fn check_bytes<W: Sink>(
+fn check_bytes<W: Sink>(
     alloc: Global,
     text: &[u8],
     json: bool,
@@ -63,7 +65,7 @@ pub fn put_checked(
     ensures { PutsAnswer (TellsVerdict text.now json) answer.old answer.new result }
 {
     let verdict = verdict_on(alloc, text)?;
-    put_told(answer, alloc, &verdict, json)?;
+    print_verdict(answer, alloc, None, json, &verdict)?;
     Ok(verdict)
 }
 
@@ -71,9 +73,9 @@ pub fn put_checked(
 pub fn verdict_on(alloc: Global, text: &[u8]) -> Result<Verdict, AllocError>
     ensures { IfOk result (IsVerdict (answer_of text.now)) }
 {
-    match judged(alloc, text)? {
+    match admit(alloc, text) {
         Ok(_) => Ok(Verdict::Accepted),
-        Err(verdict) => Ok(verdict),
+        Err(fault) => verdict_of(fault),
     }
 }
 
@@ -92,18 +94,16 @@ pub fn judged(alloc: Global, text: &[u8]) -> Result<Result<Admitted, Verdict>, A
     }
 }
 
-/// Adds a verdict as JSON or as text.
-fn put_told(
-    answer: &mut Vec<u8>,
-    alloc: Global,
-    verdict: &Verdict,
-    json: bool,
-) -> Result<(), AllocError>
-    ensures { Puts answer.old answer.new (told json verdict.now) result }
+/// The verdict on a text that isn't admitted. There is none where memory ran out.
+pub fn verdict_of(fault: AdmitFault) -> Result<Verdict, AllocError>
+    ensures verdict { IfOk result (λ verdict. (text : List ℕ) → Admits text (Err fault) → IsVerdict (answer_of text) verdict) }
+    ensures other { IfOk result (λ verdict. ¬ (verdict ≡ Accepted)) }
 {
-    if json {
-        put_verdict_json(answer, alloc, verdict)
-    } else {
-        put_verdict(answer, verdict)
+    match fault {
+        AdmitFault::Refused(refusal) => Ok(Verdict::Refused(refusal)),
+        AdmitFault::Read(ReadFault::Text { line, cause }) => {
+            Ok(Verdict::Unreadable { line, cause })
+        }
+        AdmitFault::Read(ReadFault::OutOfMemory) | AdmitFault::OutOfMemory => Err(AllocError),
     }
 }

@@ -11,6 +11,7 @@ pub mod engine_fault;
 pub mod file_verdict;
 pub mod printed;
 pub mod reading;
+pub mod script;
 pub mod shown;
 pub mod status;
 pub mod step_engine;

@@ -1,9 +1,9 @@
 pub mod Answered
 pub mod Counted
-pub mod Findings
 pub mod Listed
 pub mod Reading
 pub mod Repeats
 pub mod Shown
 pub mod Stepped
 pub mod Waits
+pub mod Words

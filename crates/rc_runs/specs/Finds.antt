@@ -1,90 +1,106 @@
--- What is told of a text of which a run into a fault is looked for.
-use Rattle.std.specs.Prelude.{ℕ, ◌≡◌, Bool, true, false, List, ◌++◌, codes, decimal, Option, Some, None, Result, Ok}
-use Rattle.serde_json.specs.Data.{Data, member, no_members, null, number as json_number, object, string, unsigned}
+-- What is found of a model, and what is printed of it.
+use Rattle.std.specs.Prelude.{ℕ, Bool, true, false, ◌≡◌, ◌≤◌, ◌==◌, if◌then◌else◌, List, [], ◌++◌, codes, decimal, Option, Some, None, Result, Ok, string_bytes, string_len}
+use Rattle.serde_json.specs.Data.{Data, Members, member, no_members, null, number as json_number, object, string, unsigned}
 use Rattle.serde_json.specs.Written.{compact_text}
+use Rattle.serde_json.specs.View.{view}
+use Rattle.serde_json.specs.declared.value.Value.{Value}
 use Rattle.rc_lang.specs.Program.{Program}
-use Rattle.rc_read.specs.Answer.{answer_of}
-use Rattle.rc_rules.specs.Causes.{name_of, premise_number}
-use Rattle.rc_verify.specs.declared.refusal.Refusal.{Refusal}
-use Rattle.rc_world.specs.declared.event.Item.{Item}
-use Rattle.rc_world.specs.Trace.{AllEnded, AtFault, AtItem, Ending, Stopped, trace_of}
-use Rattle.rc_runs.specs.Moved.{moved_items}
 use Rattle.rc_report.specs.declared.verdict.Verdict.{Verdict}
-use Rattle.rc_report.specs.declared.verdict.Verdict.TheVariants.{Accepted, Refused, Unreadable}
-use Rattle.rc_report.specs.Checks.{IsVerdict, told}
-use Rattle.rc_report.specs.Engine.{text_of_trace}
-use Rattle.rc_report.specs.Verdicts.{verdict_text}
+use Rattle.rc_report.specs.declared.verdict.Verdict.TheVariants.{Refused}
+use Rattle.rc_report.specs.Checks.{IsVerdict}
+use Rattle.rc_report.specs.Shown.{shown}
+use Rattle.rc_report.specs.Verdicts.{Finding, file_member, finding, verdict_text}
+use Rattle.rc_runs.specs.declared.find.Found.{Found}
+use Rattle.rc_runs.specs.declared.find.Searched.{Searched}
+use Rattle.rc_runs.specs.declared.harm.Harm.{Harm}
+use Rattle.rc_runs.specs.declared.search.Search.{Search}
+use Rattle.rc_runs.specs.Harms.{IsHarmIfAny}
 
--- ---- a run into a fault
+-- Where no run was found, all walks were made that were asked for.
+abbrev pub IsWhole : ℕ → ℕ → Option Harm → Type 0
+IsWhole made asked None = made ≡ asked
+IsWhole made asked (Some harm) = made ≤ asked
 
-abbrev pub EndsAtFault : Ending → Type 0
-EndsAtFault (AtFault f) = Unit {0}
-EndsAtFault (AtItem i) = ⊥
-EndsAtFault AllEnded = ⊥
-EndsAtFault Stopped = ⊥
+-- A run that is shown is one of the program into a fault, and so many walks were asked for.
+abbrev pub IsSearch : Program → ℕ → Search → Type 0
+IsSearch program walks s = IsHarmIfAny program s.harm × IsWhole s.walks walks s.harm
 
--- The moves are read in the program, the run of the schedule that they spell ends at a fault, and this is its trace, as it is
--- printed where the program is stepped.
-abbrev pub ShowsHarm : Program → (moves : List ℕ) → (trace : List ℕ) → Type 0
-ShowsHarm program moves trace =
-    (items : List Item) × (moved_items program moves ≡ Ok items)
-    × EndsAtFault (trace_of program items).ending × (trace ≡ text_of_trace program (trace_of program items))
+-- A refused program is searched, and no other.
+abbrev pub IsSearched : Result Program (ℕ × ℕ) → ℕ → Verdict → Option Searched → Type 0
+IsSearched answer walks (Refused r) (Some s) = (answer ≡ Ok s.program) × IsSearch s.program walks s.search
+IsSearched answer walks (Refused r) None = ⊥
+IsSearched answer walks verdict (Some s) = ⊥
+IsSearched answer walks verdict None = Unit {0}
 
--- A run as it is shown: the number of the walk that came to it, its moves and its trace.
-pub record Shown : Type 0 where
-  pub walk : ℕ
-  pub moves : List ℕ
-  pub trace : List ℕ
+-- The verdict on what a text reads as, and what so many walks found in it.
+abbrev pub IsFound : Result Program (ℕ × ℕ) → ℕ → Found → Type 0
+IsFound answer walks f = IsVerdict answer f.verdict × IsSearched answer walks f.verdict f.searched
 
--- A run is shown only if it does harm.
-abbrev pub IsShown : Program → Option Shown → Type 0
-IsShown program None = Unit {0}
-IsShown program (Some run) = ShowsHarm program run.moves run.trace
+-- ---- in words
 
--- ---- as text
+-- how a run was found by so many walks: one without steps has no moves
+abbrev pub moves_line : ℕ → Harm → List ℕ
+moves_line walks harm =
+    if string_len harm.moves == 0 then codes "found by walk " ++ decimal walks ++ codes ", before the first step\n"
+    else codes "found by walk " ++ decimal walks ++ codes ": --moves " ++ string_bytes harm.moves ++ codes "\n"
 
--- a run that was found
-abbrev pub run_text : Shown → List ℕ
-run_text run = codes "found by walk " ++ decimal run.walk ++ codes ": --moves " ++ run.moves ++ codes "\n" ++ run.trace
+abbrev pub reach_line : Bool → List ℕ
+reach_line true = []
+reach_line false = codes "the refused line wasn't reached; another fault:\n"
 
--- what is said of a run, or that so many walks found none
-abbrev pub run_or_none : ℕ → Option Shown → List ℕ
-run_or_none walks None = codes "no fault in " ++ decimal walks ++ codes " walks: the text may say too little, or the walks were too few\n"
-run_or_none walks (Some run) = run_text run
+abbrev pub heading : ℕ → Harm → List ℕ
+heading walks harm = moves_line walks harm ++ reach_line harm.is_reached
 
-abbrev pub refused_lines : Refusal → ℕ → Option Shown → List ℕ
-refused_lines r walks run = verdict_text (Refused r) ++ run_or_none walks run
+-- what is said of a run after so many walks, or that there is none
+abbrev pub harm_text : ℕ → Option Harm → List ℕ
+harm_text walks None = codes "no fault in " ++ decimal walks ++ codes " walks: the model may lack detail, or try more `--walks`\n"
+harm_text walks (Some harm) = heading walks harm ++ string_bytes harm.trace
+
+abbrev pub search_text : Search → List ℕ
+search_text s = harm_text s.walks s.harm
+
+abbrev pub searched_text : Option Searched → List ℕ
+searched_text None = []
+searched_text (Some s) = search_text s.search
+
+abbrev pub found_text : Found → List ℕ
+found_text f = verdict_text f.verdict ++ searched_text f.searched
 
 -- ---- as JSON: one object, its keys in order
 
-abbrev pub run_object : Refusal → (moves trace walk : Data) → Data
-run_object r moves trace walk =
-    object (member (codes "cause") (string (name_of r.cause)) (member (codes "code") (json_number (unsigned (premise_number r.cause)))
-    (member (codes "line") (json_number (unsigned r.line)) (member (codes "moves") moves (member (codes "trace") trace
-    (member (codes "verdict") (string (codes "refused")) (member (codes "walk") walk no_members)))))))
+-- the run that was found, if one was, and the number of its walk
+abbrev pub run_by : ℕ → Option Harm → Option (ℕ × Harm)
+run_by walks None = None
+run_by walks (Some harm) = Some (walks, harm)
 
-abbrev pub refused_object : Refusal → Option Shown → Data
-refused_object r None = run_object r null null null
-refused_object r (Some run) = run_object r (string run.moves) (string run.trace) (json_number (unsigned run.walk))
+abbrev pub run_of : Option Searched → Option (ℕ × Harm)
+run_of None = None
+run_of (Some s) = run_by s.search.walks s.search.harm
 
--- without spaces, and with a line feed
-abbrev pub refused_json : Refusal → Option Shown → List ℕ
-refused_json r run = compact_text (refused_object r run) ++ codes "\n"
+-- the members from the run on, which the verdict's word completes
+pub record RunMembers : Type 0 where
+  pub moves : Data
+  pub trace : Data
+  pub walk : Data
 
--- ---- in both forms
+abbrev pub members_of : Value → Value → Value → RunMembers
+members_of moves trace walk = record { moves = view moves; trace = view trace; walk = view walk }
 
--- A refused program, with a run that was found or with none.
-abbrev pub refused_text : Bool → Refusal → ℕ → Option Shown → List ℕ
-refused_text true r walks run = refused_json r run
-refused_text false r walks run = refused_lines r walks run
+abbrev pub run_data : Option (ℕ × Harm) → RunMembers
+run_data None = record { moves = null; trace = null; walk = null }
+run_data (Some (walk, harm)) = record { moves = string (string_bytes harm.moves); trace = string (string_bytes harm.trace); walk = json_number (unsigned walk) }
 
--- Of a refused program a run may be shown, which is one of that program. Other texts have their verdict alone.
-abbrev pub TellsRun : Result Program (ℕ × ℕ) → ℕ → Bool → Verdict → List ℕ → Type 0
-TellsRun answer walks json Accepted text = text ≡ told json Accepted
-TellsRun answer walks json (Refused r) text =
-    (program : Program) × (answer ≡ Ok program) × (run : Option Shown) × IsShown program run × (text ≡ refused_text json r walks run)
-TellsRun answer walks json (Unreadable line cause) text = text ≡ told json (Unreadable line cause)
+abbrev pub run_members : RunMembers → List ℕ → Members
+run_members run word = member (codes "moves") run.moves (member (codes "trace") run.trace (member (codes "verdict") (string word) (member (codes "walk") run.walk no_members)))
 
--- The verdict on the bytes, and what is told of it after so many walks.
-abbrev pub Finds : List ℕ → ℕ → Bool → Verdict → List ℕ → Type 0
-Finds bytes walks json verdict text = IsVerdict (answer_of bytes) verdict × TellsRun (answer_of bytes) walks json verdict text
+abbrev pub found_by : Option (List ℕ) → RunMembers → Option Finding → Data
+found_by file run None = object (file_member file (run_members run (codes "accepted")))
+found_by file run (Some f) =
+    object (member (codes "cause") (string f.name) (member (codes "code") (json_number (unsigned f.number)) (file_member file (member (codes "line") (json_number (unsigned f.line)) (run_members run f.word)))))
+
+abbrev pub found_object : Option (List ℕ) → Found → Data
+found_object file f = found_by file (run_data (run_of f.searched)) (finding f.verdict)
+
+-- without spaces, as it is shown, and with a line feed
+abbrev pub found_json : Option (List ℕ) → Found → List ℕ
+found_json file f = shown (compact_text (found_object file f)) ++ codes "\n"

@@ -6,5 +6,6 @@ pub mod Moved
 pub mod Moves
 pub mod Reasons
 pub mod Repeats
+pub mod Scripts
 pub mod Spelling
 pub mod Stepping

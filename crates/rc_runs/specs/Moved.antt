@@ -2,16 +2,9 @@
 use Rattle.std.specs.Prelude.{ℕ, ◌≡◌, List, Result, Ok, Err}
 use Rattle.rc_lang.specs.Program.{Program}
 use Rattle.rc_read.specs.Causes.{number_of_cause}
-use Rattle.rc_read.specs.declared.fault.ReadCause.{ReadCause}
-use Rattle.rc_read.specs.declared.fault.ReadFault.TheVariants as fault
-use Rattle.rc_report.specs.declared.step_engine.StepEnd.{StepEnd}
-use Rattle.rc_report.specs.declared.step_engine.StepEnd.TheVariants.{Unreadable}
 use Rattle.rc_report.specs.declared.step_engine.Unread.{Unread}
 use Rattle.rc_report.specs.declared.step_engine.Unread.TheVariants.{Text, Schedule}
-use Rattle.rc_report.specs.Engine.{EndsItems, items_text}
-use Rattle.rc_report.specs.Verdicts.{unreadable_text}
 use Rattle.rc_world.specs.declared.event.Item.{Item}
-use Rattle.rc_world.specs.Trace.{Trace}
 use Rattle.rc_runs.specs.declared.moves.Move.{Move}
 use Rattle.rc_runs.specs.declared.steps.Moved.{Moved}
 use Rattle.rc_runs.specs.Moves.{moves_of}
@@ -35,8 +28,6 @@ abbrev pub ReadsMoved : Result Program (ℕ × ℕ) → List ℕ → Result Move
 ReadsMoved answer text (Ok moved) = IsMoved answer text moved
 ReadsMoved answer text (Err unread) = IsUnread answer text unread
 
--- ---- what a program that is stepped by moves is answered with
-
 -- The schedule of a text of moves, or the number of the first piece that names none.
 abbrev pub spelled_or : Program → Result (List Move) ℕ → Result (List Item) ℕ
 spelled_or program (Ok moves) = Ok (schedule_of program moves)
@@ -44,13 +35,3 @@ spelled_or program (Err i) = Err i
 
 abbrev pub moved_items : Program → List ℕ → Result (List Item) ℕ
 moved_items program text = spelled_or program (moves_of program text)
-
--- The text for what a text reads as, where its program is stepped by moves: that of their schedule.
-abbrev pub moved_text : (Program → Trace → List ℕ) → Result Program (ℕ × ℕ) → List ℕ → List ℕ
-moved_text traced (Ok program) moves = items_text traced program (moved_items program moves)
-moved_text traced (Err (line, number)) moves = unreadable_text line number
-
--- The answer says which text was written.
-abbrev pub EndsMoves : Result Program (ℕ × ℕ) → List ℕ → StepEnd → Type 0
-EndsMoves (Ok program) moves end = EndsItems program (moved_items program moves) end
-EndsMoves (Err (line, number)) moves end = (cause : ReadCause) × (end ≡ Unreadable (fault.Text line cause)) × (number_of_cause cause ≡ number)

@@ -4,10 +4,12 @@
 
 pub mod choices;
 pub mod find;
-pub mod harm;
+pub mod found;
+mod harm;
 pub mod laws;
 pub mod moves;
 mod moves_text;
+pub mod notes;
 mod numbers;
 mod pool;
 mod random;
@@ -21,6 +23,5 @@ mod step;
 pub mod stepping;
 pub mod steps;
 mod threads;
-pub mod told;
 mod walk;
 pub mod why;

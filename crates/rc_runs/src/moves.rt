@@ -57,8 +57,8 @@ fn read_line(program: &Program, line: &[u8], read: &mut Vec<Move>) -> Result<(),
     Ok(())
 }
 
-// A line without its comment.
-fn uncommented(line: &[u8]) -> &[u8]
+/// A line without its comment.
+pub fn uncommented(line: &[u8]) -> &[u8]
     ensures { result.now ≡ spec.uncommented line.now }
 {
     match halves(b'#', line) {
@@ -67,7 +67,8 @@ fn uncommented(line: &[u8]) -> &[u8]
     }
 }
 
-fn is_separator(b: u8) -> bool
+/// Whether this stands between pieces.
+pub fn is_separator(b: u8) -> bool
     ensures { result ≡ spec.is_separator b }
 {
     b == b',' || b == b' ' || b == b'\t' || b == b'\r'
@@ -114,8 +115,8 @@ fn can_stand(program: &Program, thread: u32, number: u32) -> bool
     }
 }
 
-// Whether one of these lines has this number, and a thread can stand there.
-fn has_stop(lines: &[Line], number: u32) -> bool
+/// Whether one of these lines has this number, and a thread can stand there.
+pub fn has_stop(lines: &[Line], number: u32) -> bool
     ensures { result ≡ spec.has_stop lines.now number }
 {
     lines

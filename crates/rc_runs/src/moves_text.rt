@@ -1,18 +1,15 @@
 //! Items as the text of moves.
 
 use crate::moves::Move;
-use crate::told::put_move;
+use crate::notes::put_move;
 use rc_lang::program::Program;
 use rc_text::text::put_piece;
 use rc_world::event::Item;
 use std::alloc::AllocError;
 
 /// Adds items as moves, with commas between them: plain steps of one thread that follow on one another as `NAME*N`, and
-/// each other item as a schedule has it. Of no items it is a comma, which a shell can give back.
+/// each other item as a schedule has it.
 pub fn put_moves(text: &mut Vec<u8>, program: &Program, items: &[Item]) -> Result<(), AllocError> {
-    if items.is_empty() {
-        return put_piece(text, b",");
-    }
     let mut comma = &b""[..];
     for run in items.chunk_by(|item, next| is_plain_step(*item) && item == next) {
         if let Some(named) = move_of(run) {

@@ -28,16 +28,16 @@ pub fn shorten(
     alloc: Global,
     program: &Program,
     fault: Fault,
-    items: Vec<Item>,
+    items: &[Item],
 ) -> Result<Vec<Item>, AllocError> {
     let mut run = Vec::new(alloc);
-    replay(alloc, program, &items, None, &mut run)?;
+    replay(alloc, program, items, None, &mut run)?;
     let mut shortening = Shortening {
         alloc,
         program,
         fault,
         run,
-        tried: items,
+        tried: Vec::new(alloc),
         made: Vec::new(alloc),
     };
     shortening.cut()?;

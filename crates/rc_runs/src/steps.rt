@@ -1,22 +1,58 @@
-//! A text and its moves.
+//! A text, and the steps of its program.
 
 ghost use Rattle.std.specs.Prelude.{IfOk};
 ghost use Rattle.rc_read.specs.Answer.{answer_of};
 ghost use Rattle.rc_runs.specs.Moved.{ReadsMoved};
+ghost use Rattle.rc_runs.specs.Scripts.{ReadsItems, ReadsScript};
+ghost use Rattle.rc_world.specs.Schedule.{items_of};
 
 use crate::moves::{Move, read_moves};
 use crate::spelling::spell;
 use rc_read::{ReadFault, read_program};
-use rc_report::step_engine::{Steps, Unread};
+use rc_report::script::Script;
+use rc_report::step_engine::{Steps, Unread, read_steps};
 use rc_world::schedule::ScheduleFault;
 use std::alloc::{AllocError, Global};
 
-/// A program and the items of its schedule, the moves that spell it, and how many items each of them spells.
+/// A program and the items of its schedule; where moves spell it the moves, and how many items each of them spells.
 #[derive(Drop)]
 pub struct Moved {
     pub steps: Steps,
     pub moves: Vec<Move>,
     pub counts: Vec<u64>,
+}
+
+/// Reads a program and its steps.
+pub fn read_script(
+    alloc: Global,
+    text: &[u8],
+    script: &Script<'_>,
+) -> Result<Result<Moved, Unread>, AllocError>
+    ensures { IfOk result (ReadsScript (answer_of text.now) script.now) }
+{
+    match script {
+        Script::Schedule(schedule) => read_items(alloc, text, schedule),
+        Script::Moves(moves) => read_moved(alloc, text, moves),
+    }
+}
+
+/// Reads a program and its schedule.
+fn read_items(
+    alloc: Global,
+    text: &[u8],
+    schedule: &str,
+) -> Result<Result<Moved, Unread>, AllocError>
+    ensures { IfOk result (ReadsItems (λ program. items_of program schedule.now) (answer_of text.now)) }
+{
+    let read = read_steps(alloc, text, schedule)?;
+    match read {
+        Ok(steps) => Ok(Ok(Moved {
+            steps,
+            moves: Vec::new(alloc),
+            counts: Vec::new(alloc),
+        })),
+        Err(unread) => Ok(Err(unread)),
+    }
 }
 
 /// Reads a program and its moves.

@@ -1,4 +1,6 @@
-//! A random walk through the worlds of a program.
+//! Random walks through the worlds of a program.
+
+ghost use Rattle.std.specs.Prelude.{◌≤◌};
 
 use crate::random::Random;
 use crate::step::{Step, make};
@@ -8,10 +10,20 @@ use rc_world::controls::Next;
 use rc_world::event::Item;
 use rc_world::fault::Fault;
 use rc_world::world::World;
+use rc_world::world::weak::Lists;
 use std::alloc::{AllocError, Global};
 
 /// How many steps a walk makes at most.
 const MOST_STEPS: u32 = 400;
+
+/// How many walks are made from the start world on before walks share beginnings.
+const WHOLE_WALKS: u32 = 1_000;
+
+/// Of so many walks one is then made from the start world on, and the others go on from one of its worlds.
+const BRANCHES: u32 = 20;
+
+/// How many steps those others make of their own at most.
+const BRANCH_STEPS: u32 = 20;
 
 /// The thread that moved last, and how many more steps it makes.
 #[derive(Clone, Copy)]
@@ -20,28 +32,108 @@ struct Turn {
     stay: u32,
 }
 
-/// Walks from the start world until a fault is met or nothing is enabled, and answers the fault. The items are those
-/// whose steps were made.
-pub fn walk(
+/// Makes random walks through the worlds of a program, one after another.
+#[derive(Drop)]
+pub struct Walker<'a> {
     alloc: Global,
-    program: &Program,
-    random: &mut Random,
-    items: &mut Vec<Item>,
-) -> Result<Option<Fault>, AllocError> {
-    let mut world = World::start(alloc, program)?;
-    let mut turn = Turn { thread: 0, stay: 0 };
-    items.clear();
-    for index in 0..MOST_STEPS {
-        let Some(item) = next_item(&world, random, &mut turn) else {
-            break;
-        };
-        match make(&mut world, &item)? {
-            Step::Made => items.push(item)?,
-            Step::NotEnabled => {}
-            Step::Fault(fault) => return Ok(Some(fault)),
+    program: &'a Program,
+    random: Random,
+    /// The world in which the walk is.
+    world: World<'a>,
+    turn: Turn,
+    /// The items whose steps it made.
+    pub items: Vec<Item>,
+    /// A world of a walk from which others go on, how it was moved last there, and how many items lead to it.
+    kept: World<'a>,
+    kept_turn: Turn,
+    kept_items: usize,
+    lists: Lists,
+}
+
+impl<'a> Walker<'a> {
+    /// Walks through the worlds of this program.
+    pub fn new(
+        alloc: Global,
+        program: &'a Program,
+        random: Random,
+    ) -> Result<Walker<'a>, AllocError> {
+        let turn = Turn { thread: 0, stay: 0 };
+        Ok(Walker {
+            alloc,
+            program,
+            random,
+            world: World::start(alloc, program)?,
+            turn,
+            items: Vec::new(alloc),
+            kept: World::start(alloc, program)?,
+            kept_turn: turn,
+            kept_items: 0,
+            lists: Lists::new(alloc),
+        })
+    }
+
+    /// Makes the walk with this number, from 0, until a fault is met or nothing is enabled, and answers the fault. Most
+    /// walks share their beginning with one that was made before.
+    pub fn walk(&mut self, number: u32) -> Result<Option<Fault>, AllocError> {
+        if number < WHOLE_WALKS {
+            self.start()?;
+            self.go_on(MOST_STEPS)
+        } else if number % BRANCHES == 0 {
+            self.walk_and_keep()
+        } else {
+            self.branch()
         }
     }
-    Ok(world.fault())
+
+    /// Begins a walk in the start world.
+    fn start(&mut self) -> Result<(), AllocError> {
+        self.world = World::start(self.alloc, self.program)?;
+        self.turn = Turn { thread: 0, stay: 0 };
+        self.items.clear();
+        Ok(())
+    }
+
+    /// Makes a walk from the start world on, and keeps one of its worlds.
+    fn walk_and_keep(&mut self) -> Result<Option<Fault>, AllocError> {
+        let most = MOST_STEPS - BRANCH_STEPS;
+        let first = self.random.place(most as usize) as u32;
+        self.start()?;
+        if let Some(fault) = self.go_on(first)? {
+            return Ok(Some(fault));
+        }
+        self.kept
+            .copy_from(self.alloc, &mut self.lists, &self.world)?;
+        self.kept_turn = self.turn;
+        self.kept_items = self.items.len();
+        self.go_on(MOST_STEPS - first)
+    }
+
+    /// Goes on from the world that was kept.
+    fn branch(&mut self) -> Result<Option<Fault>, AllocError> {
+        self.world
+            .copy_from(self.alloc, &mut self.lists, &self.kept)?;
+        self.turn = self.kept_turn;
+        self.items.truncate(self.kept_items);
+        self.go_on(BRANCH_STEPS)
+    }
+
+    /// Makes so many steps, until a fault is met or nothing is enabled, and answers the fault.
+    fn go_on(&mut self, steps: u32) -> Result<Option<Fault>, AllocError> {
+        if self.world.made() > u64::from(u32::MAX) {
+            return Ok(None);
+        }
+        for index in 0..steps {
+            let Some(item) = next_item(&self.world, &mut self.random, &mut self.turn) else {
+                break;
+            };
+            match make(&mut self.world, &item)? {
+                Step::Made => self.items.push(item)?,
+                Step::NotEnabled => {}
+                Step::Fault(fault) => return Ok(Some(fault)),
+            }
+        }
+        Ok(self.world.fault())
+    }
 }
 
 /// The next item of a walk: of the kernel, of the thread that moved last, or of another. None: nothing is enabled.

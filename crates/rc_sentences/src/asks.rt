@@ -1,11 +1,10 @@
 //! What a refused line asks for, and what is there.
 
-ghost use Rattle.std.specs.Prelude.{◌<◌, length};
-
 mod ends;
 mod over;
 mod side_asks;
 
+use crate::walked::Refused;
 use ends::put_ends;
 use rc_lang::lines::{Stmt, Test};
 use rc_lang::program::Program;
@@ -16,7 +15,6 @@ use rc_rules::needs::Asks;
 use rc_rules::state::State;
 use rc_split::part::Part;
 use rc_text::text::{put_piece, put_pieces};
-use rc_verify::labels::Labels;
 use side_asks::{is_short, missing_part, put_side};
 use std::alloc::{AllocError, Global};
 
@@ -56,32 +54,25 @@ pub fn header_need(
     })
 }
 
-/// What the line of a thread asks for at which the labels are and that is refused for the cause.
-pub fn line_need(
-    alloc: Global,
-    labels: &mut Labels,
-    thread: u32,
-    cause: Cause,
-) -> Result<Need, AllocError>
-    requires { thread < length labels.old.program.threads }
-{
+/// What a line asks for that is refused for the cause.
+pub fn line_need(alloc: Global, refused: Refused, cause: Cause) -> Result<Need, AllocError> {
     let mut need = Need {
         asks: Vec::new(alloc),
         missing: None,
     };
-    let place = labels.place();
-    let Some(line) = labels.program().line_at(thread as usize, place) else {
+    let Some(state) = refused.state() else {
         return Ok(need);
     };
-    match asks_of(line.stmt, cause) {
-        Some(Asks::Agreeing) => put_ends(&mut need.asks, labels, thread, line.stmt, place)?,
-        Some(Asks::SqLock) if is_of_both(labels.program(), line.stmt) => {
-            put_both(&mut need.asks, labels.state())?
+    let stmt = refused.stmt(refused.place);
+    let thread = refused.walked.number;
+    match asks_of(stmt, cause) {
+        Some(Asks::Agreeing) => put_ends(&mut need.asks, refused, stmt)?,
+        Some(Asks::SqLock) if is_of_both(refused.program(), stmt) => {
+            put_both(&mut need.asks, state)?
         }
         Some(asks) => {
-            let state = labels.state();
-            put_asked(&mut need.asks, thread as usize, state, asks)?;
-            need.missing = missing_of(thread as usize, state, asks);
+            put_asked(&mut need.asks, thread, state, asks)?;
+            need.missing = missing_of(thread, state, asks);
         }
         None => {}
     }

@@ -1,4 +1,4 @@
-//! Why each cause is a mistake, and how it is mended as a rule.
+//! Why each cause is a mistake, and what to write as a rule.
 
 ghost use Rattle.std.specs.Prelude.{◌≡◌};
 ghost use Rattle.rc_read.specs.Causes.{number_of_cause};
@@ -15,8 +15,8 @@ pub struct Advice {
     pub number: u32,
     /// Why it is a mistake, in one sentence.
     pub why: &'static str,
-    /// How it is mended as a rule, in one sentence.
-    pub mend: &'static str,
+    /// What to write as a rule, in one sentence.
+    pub fix: &'static str,
 }
 
 /// What is said of a line that can't be read.
@@ -27,7 +27,7 @@ pub fn advice_on_read(cause: ReadCause) -> Advice
         letter: "P",
         number: u32::from(cause.number()),
         why: sentence_of_read(cause),
-        mend: mend_of_read(cause),
+        fix: fix_of_read(cause),
     }
 }
 
@@ -39,7 +39,7 @@ pub fn advice_on_rule(cause: Cause) -> Advice
         letter: "V",
         number: cause.number(),
         why: sentence_of_rule(cause),
-        mend: mend_of_rule(cause),
+        fix: fix_of_rule(cause),
     }
 }
 
@@ -50,12 +50,11 @@ fn sentence_of_read(cause: ReadCause) -> &'static str {
             "The notation is ASCII, so that no two names look alike; such a byte is mostly a dash, a quote or a blank that came with pasted text.",
         ReadCause::BadHead =>
             "The first line says in which version of the notation the rest is written, and the second how large the rings are.",
-        ReadCause::BadLine =>
-            "The words are no form of the notation, or a line of this form may not be here.",
+        ReadCause::BadLine => "The line isn't a statement of the notation, or it may not be here.",
         ReadCause::BadNumber =>
             "The word in a number's place is no number, or is out of the range of that place.",
         ReadCause::UnknownName =>
-            "A text is read once, from the top, and no line above this one declares what it names.",
+            "A model is read once, from the top, and no line above this one declares what it names.",
         ReadCause::DoubleName =>
             "Each name and each number means one thing, and a request is known only by its user data.",
         ReadCause::Braces =>
@@ -87,7 +86,7 @@ fn sentence_of_rule(cause: Cause) -> &'static str {
         Cause::WrongKind =>
             "The thread that reaps the completion sees only its user data, and gets what the token's line says and not what the request took.",
         Cause::NotWhole =>
-            "A buffer is written only by a thread that has all its shares; those that aren't held here may be another thread's or a request's in flight.",
+            "A buffer is written only by a thread that has all its shares; another thread or a request may have those that aren't held here.",
         Cause::NoShare =>
             "Without a share of the buffer another thread or the kernel may be writing it at this moment.",
         Cause::OutOfBuffer =>
@@ -97,13 +96,11 @@ fn sentence_of_rule(cause: Cause) -> &'static str {
         Cause::NoEntry =>
             "`io_uring_cqe_seen(3)` moves the head of the completion ring past whatever is there, even if nobody looked at it.",
         Cause::QueueLeft =>
-            "A submit may take fewer entries than are queued, and what is left is in the way of the thread that locks next.",
-        Cause::LoopEntry =>
-            "Exactly what a loop keeps counts as held in it and after it, so what isn't held where it begins would come from nowhere.",
-        Cause::LoopBody =>
-            "The body of a loop begins again with what the loop keeps, and at its end not all of that is there.",
+            "A submit may take fewer entries than are queued, and the next thread may then find the ring full.",
+        Cause::LoopEntry => "The loop keeps this, but it isn't held here.",
+        Cause::LoopBody => "Each round must end with all that the loop keeps.",
         Cause::JoinMismatch =>
-            "One state is known where branches join, and what is written next would go to an entry that only one of them opened or filled so.",
+            "One branch leaves an entry open and the other doesn't, or they leave it at different stages.",
         Cause::OverShares =>
             "Shares are handed out once, by the headers, and these hand out more than the buffer has.",
         Cause::TokenTwice =>
@@ -120,22 +117,22 @@ pub(crate) fn why_of_pool() -> &'static str {
     "The pool without a name is one table under the locks of both sides, and two threads in it at once may take the same items."
 }
 
-/// How a line that can't be read is mended.
-fn mend_of_read(cause: ReadCause) -> &'static str {
+/// What to write for a line that can't be read.
+fn fix_of_read(cause: ReadCause) -> &'static str {
     match cause {
         ReadCause::NotAscii => "Write an ASCII character in its place.",
         ReadCause::BadHead =>
-            "Begin the text with `ringcheck 1`, or the version that it needs, and then `ring N`.",
+            "Begin the model with `ringcheck 1`, or the version that it needs, and then `ring N`.",
         ReadCause::BadLine =>
-            "Compare the line with the forms in docs/notation.md; words are separated only by blanks, so a brace has one before and after it.",
+            "Compare the line with docs/notation.md; words are separated only by blanks, so a brace has one before and after it.",
         ReadCause::BadNumber =>
             "Write a number within the range; a small buffer can model a large one.",
         ReadCause::UnknownName =>
-            "Declare the file, the buffer, the token or the pool above this line, or mend the name.",
+            "Declare the file, the buffer, the token or the pool above this line, or correct the name.",
         ReadCause::DoubleName =>
             "Give the second another name or number; in a list of items write the sum.",
         ReadCause::Braces => "End each thread, lock, `if`, peek, arm and loop with its own `}`.",
-        ReadCause::TooLarge => "Remove what nothing names, or split the text.",
+        ReadCause::TooLarge => "Remove what nothing names, or split the model.",
         ReadCause::BadNesting =>
             "Keep the body of the inner block, and remove the block itself or move it out of the outer one.",
         ReadCause::BadCase =>
@@ -145,15 +142,15 @@ fn mend_of_read(cause: ReadCause) -> &'static str {
     }
 }
 
-/// How a line that is refused is mended.
-fn mend_of_rule(cause: Cause) -> &'static str {
+/// What to write for a line that is refused.
+fn fix_of_rule(cause: Cause) -> &'static str {
     match cause {
         Cause::Unlocked =>
             "Put the call into `lock {` .. `}`, together with the calls that rely on what it answered.",
         Cause::NoCredit =>
             "Reap a completion first, since `cqe_seen` gives its credit back, or hold more credits.",
         Cause::QueueFull =>
-            "Submit until `sq_ready == 0` first, ask `if sq_space_left >= 1 {` around the call, or declare a larger ring.",
+            "Submit until `sq_ready == 0` first, put the call inside `if sq_space_left >= 1 {`, or declare a larger ring.",
         Cause::SlotOpen => "Finish the entry first, by a prep and `set_data64`.",
         Cause::NoSlot =>
             "Write `get_sqe`, a prep and `set_data64` in this order, once for each request.",

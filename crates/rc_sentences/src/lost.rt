@@ -1,48 +1,46 @@
 //! How a part that a refused line asks for was lost, on the ways that lead to the line.
 
-ghost use Rattle.std.specs.Prelude.{◌<◌, length};
-
 pub(crate) mod ways;
 
 use crate::asks::Missing;
-use crate::notes::{count_in, with_count};
 use crate::parts::put_part;
-use rc_lang::lines::{Locks, Op, Stmt};
-use rc_lang::program::Program;
+use crate::puts::{count_in, with_count};
+use crate::walked::Refused;
+use rc_lang::lines::{Op, Stmt};
 use rc_read::source::{Lines, put_line_words};
 use rc_split::part::Part;
 use rc_text::names::pool_name;
 use rc_text::text::{put_counted, put_number, put_piece, put_pieces};
 use std::alloc::AllocError;
-use ways::{Loss, Point, loss_of};
+use ways::{Loss, Point};
 
-/// A thread of a program, by the lines of its text.
+/// A refused line, by the lines of its text.
 #[derive(Clone, Copy)]
 struct Page<'a> {
     lines: &'a Lines<'a>,
-    program: &'a Program,
-    thread: usize,
+    refused: Refused<'a>,
 }
 
-/// Adds how a part was lost that the refused line at a place misses: one line, without a line feed.
+/// Adds how a part was lost that a refused line misses: one line, without a line feed.
 pub fn put_lost(
     text: &mut Vec<u8>,
     lines: &Lines,
-    program: &Program,
-    thread: u32,
-    place: usize,
+    refused: Refused,
     missing: Missing,
-) -> Result<(), AllocError>
-    requires { thread < length program.now.threads }
-{
-    let alloc = *text.allocator();
-    let loss = loss_of(alloc, program, thread, place, missing)?;
-    let page = Page {
-        lines,
-        program,
-        thread: thread as usize,
-    };
-    put_loss(text, page, missing, loss)
+    loss: Loss,
+) -> Result<(), AllocError> {
+    put_loss(text, Page { lines, refused }, missing, loss)
+}
+
+/// The number of the last line above a refused one before which a part is held.
+pub fn last_held(refused: Refused, part: Part) -> Option<u32> {
+    let mut last = None;
+    for (place, state) in refused.walked.states.iter().enumerate() {
+        if place < refused.place && state.holds(part) {
+            last = Some(refused.number(place));
+        }
+    }
+    last
 }
 
 /// Adds how a part is lost.
@@ -54,22 +52,22 @@ fn put_loss(
 ) -> Result<(), AllocError> {
     match loss {
         Loss::Peeked(part) => {
-            put_part(text, page.program, part)?;
-            put_piece(text, b" is the peeked request's until cqe_seen")
+            put_part(text, page.refused.program(), part)?;
+            put_piece(text, b" belongs to the peeked request until cqe_seen")
         }
         Loss::At(point, tells) => {
-            put_part(text, page.program, missing.part)?;
+            put_part(text, page.refused.program(), missing.part)?;
             put_at(text, page, point, tells)
         }
         Loss::Ends(lacking, tells, holding) => {
-            put_part(text, page.program, missing.part)?;
+            put_part(text, page.refused.program(), missing.part)?;
             put_pieces(text, &[b" isn't held", flag_text(tells, lacking.zero)])?;
             put_ends(text, page, lacking.place, holding)
         }
         Loss::Never => {
             let flag = flag_text(missing.on_other, missing.zero);
-            put_part(text, page.program, missing.part)?;
-            put_pieces(text, &[b" isn't held", flag, b" on any way to this line"])?;
+            put_part(text, page.refused.program(), missing.part)?;
+            put_pieces(text, &[b" isn't held", flag, b" on any path to this line"])?;
             put_header(text, page, missing.part)
         }
     }
@@ -107,25 +105,18 @@ fn flag_text(tells: bool, zero: bool) -> &'static [u8] {
 
 /// Adds the number and the words of the line at a place.
 fn put_line(text: &mut Vec<u8>, page: Page, place: usize) -> Result<(), AllocError> {
-    let Some(line) = page.program.line_at(page.thread, place) else {
-        return Ok(());
-    };
-    put_counted(text, b"line ", u64::from(line.number), b", ")?;
-    put_line_words(text, page.lines, line.number)
-}
-
-/// The statement at a place. After the last line it is as a lock.
-fn stmt_at(page: Page, place: usize) -> Stmt {
-    match page.program.line_at(page.thread, place) {
-        Some(line) => line.stmt,
-        None => Stmt::Lock(Locks { sq: true, cq: true }),
-    }
+    let number = page.refused.number(place);
+    put_counted(text, b"line ", u64::from(number), b", ")?;
+    put_line_words(text, page.lines, number)
 }
 
 /// Adds which of the ends that the line at a place joins it is, by where its branch or its arm begins.
 fn put_end(text: &mut Vec<u8>, page: Page, end: usize) -> Result<(), AllocError> {
-    let (what, place): (&[u8], usize) = match stmt_at(page, end) {
-        Stmt::Break(_, _, _) => return put_break(text, page, end),
+    let (what, place): (&[u8], usize) = match page.refused.stmt(end) {
+        Stmt::Break(_, _, _) => {
+            let number = u64::from(page.refused.number(end));
+            return put_counted(text, b" at the break of line ", number, b"");
+        }
         Stmt::EndArm(_) => (b" at the end of the arm of ", arm_of(page, end)),
         Stmt::Else(test) => (b" at the end of the branch of ", test),
         Stmt::EndIf(opening) => (b" at the end of the branch of ", opening),
@@ -135,19 +126,11 @@ fn put_end(text: &mut Vec<u8>, page: Page, end: usize) -> Result<(), AllocError>
     put_line(text, page, place)
 }
 
-/// Adds which break it is.
-fn put_break(text: &mut Vec<u8>, page: Page, place: usize) -> Result<(), AllocError> {
-    match page.program.line_at(page.thread, place) {
-        Some(line) => put_counted(text, b" at the break of line ", u64::from(line.number), b""),
-        None => Ok(()),
-    }
-}
-
 /// The place of the line that begins the arm that ends at a place.
 fn arm_of(page: Page, end: usize) -> usize {
     let mut arm = end;
     for place in 0..end {
-        match stmt_at(page, place) {
+        match page.refused.stmt(place) {
             Stmt::Case(_, _) | Stmt::Other(_) | Stmt::Nothing(_) => arm = place,
             _ => {}
         }
@@ -157,10 +140,10 @@ fn arm_of(page: Page, end: usize) -> usize {
 
 /// Adds how a part goes that is held before the line at a place and not after it.
 fn put_how(text: &mut Vec<u8>, page: Page, place: usize) -> Result<(), AllocError> {
-    match stmt_at(page, place) {
+    match page.refused.stmt(place) {
         Stmt::Do(Op::GetSqe | Op::PrepRead(_, _, _, _) | Op::PrepWrite(_, _, _, _, _)) => {
             put_piece(text, b"given to the open entry")?;
-            match request_of(page.program, page.thread, place) {
+            match request_of(page.refused, place) {
                 Some(user_data) => put_counted(text, b", then to request ", user_data, b""),
                 None => Ok(()),
             }
@@ -168,7 +151,10 @@ fn put_how(text: &mut Vec<u8>, page: Page, place: usize) -> Result<(), AllocErro
         Stmt::Do(Op::SetData64(_)) => put_piece(text, b"given to the request"),
         Stmt::Put(None, _) => put_piece(text, b"put into the pool"),
         Stmt::Put(Some(pool), _) => {
-            put_pieces(text, &[b"put into ", pool_name(page.program, pool)])
+            put_pieces(
+                text,
+                &[b"put into ", pool_name(page.refused.program(), pool)],
+            )
         }
         Stmt::Loop(_) => put_piece(text, b"the loop doesn't keep it"),
         Stmt::If(_) => put_piece(text, b"it isn't held with the flag of this branch"),
@@ -180,12 +166,17 @@ fn put_how(text: &mut Vec<u8>, page: Page, place: usize) -> Result<(), AllocErro
 }
 
 /// The request that the entry becomes that is open after the line at a place.
-pub(crate) fn request_of(program: &Program, thread: usize, place: usize) -> Option<u64> {
-    let thread = program.threads().get(thread)?;
-    for (at, line) in thread.lines.iter().enumerate() {
+pub(crate) fn request_of(refused: Refused, place: usize) -> Option<u64> {
+    for line in refused
+        .walked
+        .thread
+        .lines
+        .iter()
+        .skip(place.saturating_add(1))
+    {
         match line.stmt {
-            Stmt::Do(Op::SetData64(user_data)) if at > place => return Some(user_data),
-            Stmt::Do(Op::GetSqe) if at > place => return None,
+            Stmt::Do(Op::SetData64(user_data)) => return Some(user_data),
+            Stmt::Do(Op::GetSqe) => return None,
             _ => {}
         }
     }
@@ -197,13 +188,13 @@ fn put_header(text: &mut Vec<u8>, page: Page, part: Part) -> Result<(), AllocErr
     if matches!(part, Part::Credits(_)) {
         return Ok(());
     }
-    for (number, thread) in page.program.threads().iter().enumerate() {
+    for (number, thread) in page.refused.program().threads().iter().enumerate() {
         let count = count_in(&thread.items, part);
-        if number != page.thread && count > 0 {
+        if number != page.refused.walked.number && count > 0 {
             put_pieces(text, &[b"; thread ", &thread.name, b", line "])?;
             put_number(text, u64::from(thread.line))?;
             put_piece(text, b", begins with ")?;
-            return put_part(text, page.program, with_count(part, count));
+            return put_part(text, page.refused.program(), with_count(part, count));
         }
     }
     Ok(())

@@ -1,5 +1,5 @@
 " Comments, and the program as the compiler: :make checks this file and goes to the line that is refused. The entry of the
-" quickfix list has what the line asks for, how that was lost, and how it is mended.
+" quickfix list has what the line asks for, how that was lost, and how it is fixed.
 if exists('b:did_ftplugin')
     finish
 endif

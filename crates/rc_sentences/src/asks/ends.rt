@@ -1,14 +1,12 @@
 //! The ends of branches and arms that join, and at which stage the slot is at each.
 
-ghost use Rattle.std.specs.Prelude.{◌<◌, length};
-
 use super::side_asks::put_slot;
+use crate::walked::Refused;
 use rc_lang::lines::{Line, Stmt, Test};
 use rc_lang::program::Program;
 use rc_rules::mode::Slot;
 use rc_rules::state::State;
-use rc_text::text::{put_number, put_piece};
-use rc_verify::labels::Labels;
+use rc_text::text::{put_counted, put_piece};
 use std::alloc::AllocError;
 
 /// Whether what is known before a line goes to the end that a closing line ends: the closing line itself, an else or an
@@ -44,39 +42,28 @@ fn put_end(
     line: Line,
     slot: Slot,
 ) -> Result<(), AllocError> {
-    let at: &[u8] = match line.stmt {
-        Stmt::If(_) => b"without the branch of line ",
-        _ => b"the end at line ",
-    };
-    put_piece(text, at)?;
-    put_number(text, u64::from(line.number))?;
-    put_piece(text, b": ")?;
+    let number = u64::from(line.number);
+    match line.stmt {
+        Stmt::If(_) => put_counted(text, b"if the test at line ", number, b" fails, ")?,
+        _ => put_counted(text, b"at line ", number, b", ")?,
+    }
     put_slot(text, program, slot)
 }
 
-/// Adds the ends that join at a line, and at which stage each of them leaves the slot. The labels begin anew, as they are
-/// too large for there to be others beside them.
-pub fn put_ends(
-    text: &mut Vec<u8>,
-    labels: &mut Labels,
-    thread: u32,
-    closing: Stmt,
-    last: usize,
-) -> Result<(), AllocError>
-    requires { thread < length labels.old.program.threads }
-{
-    labels.begin(thread);
+/// Adds the ends that join at a refused line, and at which stage each of them leaves the slot.
+pub fn put_ends(text: &mut Vec<u8>, refused: Refused, closing: Stmt) -> Result<(), AllocError> {
+    let walked = refused.walked;
     let mut between: &[u8] = b"";
-    for (place, line) in labels.thread().lines.iter().enumerate() {
-        if is_end(closing, last, place, line.stmt) {
-            if let Some(slot) = stage(labels.state(), line.stmt) {
+    for (place, state) in walked.states.iter().enumerate() {
+        let Some(line) = walked.line(place) else {
+            break;
+        };
+        if is_end(closing, refused.place, place, line.stmt) {
+            if let Some(slot) = stage(state, line.stmt) {
                 put_piece(text, between)?;
-                put_end(text, labels.program(), *line, slot)?;
+                put_end(text, refused.program(), line, slot)?;
                 between = b"; ";
             }
-        }
-        if !matches!(labels.next(), Ok(true)) {
-            break;
         }
     }
     Ok(())

@@ -1,8 +1,8 @@
 //! What is asked for of one side of a state.
 
 use crate::parts::{Claim, Counted, first_missing, put_parts, said};
+use crate::state_text::put_kind;
 use rc_lang::program::Program;
-use rc_listing::state_text::put_kind;
 use rc_rules::mode::{Slot, Submitting, sq_of, unlocked};
 use rc_rules::needs::{Asks, kind_of};
 use rc_rules::side::Side;
@@ -228,8 +228,10 @@ fn put_out(text: &mut Vec<u8>, program: &Program, lacking: u32) -> Result<(), Al
 
 fn put_left(text: &mut Vec<u8>, side: &Side) -> Result<(), AllocError> {
     let left = u64::from(side.program().left());
-    put_counted(text, b"asks for at most ", left, b" queued (left); q is ")?;
-    put_number(text, u64::from(sq_on(side).queued))
+    let entries: &[u8] = if left == 1 { b" entry" } else { b" entries" };
+    put_counted(text, b"at most ", left, entries)?;
+    put_counted(text, b" may stay queued (`left ", left, b"`); ")?;
+    put_counted(text, b"", u64::from(sq_on(side).queued), b" may be")
 }
 
 /// Adds how many bytes are asked for, between two words, and how many there are.

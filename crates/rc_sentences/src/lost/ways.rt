@@ -1,16 +1,13 @@
 //! The ways that lead to a line, followed back to where a part is lost on one of them.
 
-ghost use Rattle.std.specs.Prelude.{◌<◌, length};
-
 use crate::asks::Missing;
-use rc_lang::lines::{Locks, Op, Stmt, Test};
-use rc_lang::program::{Program, Thread, TokenKind};
+use crate::walked::Refused;
+use rc_lang::lines::{Op, Stmt, Test};
+use rc_lang::program::{Program, TokenKind};
 use rc_rules::mode::{Peeked, peeked_of, unlocked};
 use rc_rules::needs::kind_of;
 use rc_rules::side::Side;
 use rc_split::part::Part;
-use rc_verify::labels::Labels;
-use std::alloc::{AllocError, Global};
 
 /// What is known of a part on a side of a place: nothing reaches it, or the part isn't held there, or it is.
 #[derive(Clone, Copy, PartialEq)]
@@ -18,13 +15,6 @@ enum Known {
     Dead,
     Lacks,
     Holds,
-}
-
-/// What is known of a part before a line while the flag is 0, and while it isn't.
-#[derive(Clone, Copy)]
-struct Both {
-    zero: Known,
-    other: Known,
 }
 
 /// A place, on a side of the flag: that of a flag that is 0, or the other.
@@ -48,12 +38,11 @@ pub enum Loss {
     Never,
 }
 
-/// What is known of a part before each line of a thread up to the one that misses it.
-#[derive(Drop)]
+/// The ways to a refused line, and the part that it misses.
+#[derive(Clone, Copy)]
 struct Ways<'a> {
-    thread: &'a Thread,
-    known: Vec<Both>,
-    owned: Option<Part>,
+    refused: Refused<'a>,
+    part: Part,
 }
 
 /// What the peeked request has of a part, if it has some.
@@ -98,37 +87,6 @@ fn known_on(side: &Side, part: Part) -> Known {
     } else {
         Known::Lacks
     }
-}
-
-/// Walks up to the place of the line that misses a part. It is no part of its caller, as it needs room for labels.
-#[inline(never)]
-fn walked<'a>(
-    alloc: Global,
-    program: &'a Program,
-    thread: u32,
-    place: usize,
-    missing: Missing,
-) -> Result<Ways<'a>, AllocError>
-    requires { thread < length program.now.threads }
-{
-    let Missing { part, zero, .. } = missing;
-    let mut known = Vec::new(alloc);
-    let mut labels = Labels::new(program, thread);
-    for _ in 0..=place {
-        let state = labels.state();
-        known.push(Both {
-            zero: known_on(state.on(true), part),
-            other: known_on(state.on(false), part),
-        })?;
-        if known.len() > place || !matches!(labels.next(), Ok(true)) {
-            break;
-        }
-    }
-    Ok(Ways {
-        thread: labels.thread(),
-        known,
-        owned: peeked_part(labels.state().on(zero), part),
-    })
 }
 
 /// The variable that a line writes, if it writes one.
@@ -184,7 +142,7 @@ fn is_end(closing: Stmt, last: usize, stmt: Stmt, place: usize) -> bool {
 }
 
 /// Where a block begins whose ends a line joins, and None where it joins none.
-fn joined(ways: &Ways, closing: Stmt) -> Option<usize> {
+fn joined(ways: Ways, closing: Stmt) -> Option<usize> {
     match closing {
         Stmt::EndIf(opening) => match ways.stmt(opening) {
             Stmt::Else(test) => Some(test),
@@ -197,27 +155,35 @@ fn joined(ways: &Ways, closing: Stmt) -> Option<usize> {
 }
 
 impl Ways<'_> {
-    /// The statement at a place. After the last line it is as a lock, which changes no part.
-    fn stmt(&self, place: usize) -> Stmt {
-        match self.thread.lines.get(place) {
-            Some(line) => line.stmt,
-            None => Stmt::Lock(Locks { sq: true, cq: true }),
-        }
+    fn stmt(self, place: usize) -> Stmt {
+        self.refused.stmt(place)
     }
 
-    fn at(&self, place: usize, zero: bool) -> Known {
-        match self.known.get(place) {
-            Some(both) if zero => both.zero,
-            Some(both) => both.other,
+    fn flag(self) -> Option<usize> {
+        self.refused.walked.thread.flag
+    }
+
+    /// What is known of the part before the line at a place, on a side of the flag.
+    fn at(self, place: usize, zero: bool) -> Known {
+        match self.refused.walked.states.get(place) {
+            Some(state) => known_on(state.on(zero), self.part),
             None => Known::Dead,
         }
     }
 
-    /// The first of the ends that a line joins of which this is known on a side.
-    fn end_of(&self, closing: Stmt, last: usize, zero: bool, wanted: Known) -> Option<usize> {
-        for place in 0..=last {
+    /// The first of the ends of which this is known on a side, of those that a line joins with a block which begins at a
+    /// place.
+    fn end_of(
+        self,
+        start: usize,
+        closing: Stmt,
+        last: usize,
+        zero: bool,
+        wanted: Known,
+    ) -> Option<usize> {
+        for place in start..=last {
             let stmt = self.stmt(place);
-            let goes = goes_to(self.thread.flag, stmt, zero, false);
+            let goes = goes_to(self.flag(), stmt, zero, false);
             if is_end(closing, last, stmt, place) && goes && self.at(place, zero) == wanted {
                 return Some(place);
             }
@@ -228,7 +194,7 @@ impl Ways<'_> {
     /// The side on which what is known before the line at a place comes to a side after it, where either may come there:
     /// the same one, or the other where nothing reaches that one. Where the flag is written both come, so it is the one
     /// on which the part isn't held.
-    fn side_before(&self, place: usize, zero: bool) -> bool {
+    fn side_before(self, place: usize, zero: bool) -> bool {
         let is_loop = matches!(self.stmt(place), Stmt::Loop(_));
         if is_loop && self.at(place, zero) != Known::Dead {
             return zero;
@@ -241,8 +207,8 @@ impl Ways<'_> {
 
     /// Whether the part is held on some side before the line at a place which writes the flag, or tests it so that no
     /// more than one side comes to a point.
-    fn is_on_other(&self, place: usize, point: Point) -> bool {
-        let (stmt, flag) = (self.stmt(place), self.thread.flag);
+    fn is_on_other(self, place: usize, point: Point) -> bool {
+        let (stmt, flag) = (self.stmt(place), self.flag());
         let splits = self.at(point.place, !point.zero) == Known::Dead
             && goes_to(flag, stmt, true, true) != goes_to(flag, stmt, true, false);
         let writes = flag.is_some() && written(stmt) == flag;
@@ -251,9 +217,9 @@ impl Ways<'_> {
     }
 
     /// Goes back over a line that joins no ends: to where the part isn't held either, or to its loss.
-    fn back(&self, point: Point, last: usize) -> Result<Point, Loss> {
+    fn back(self, point: Point, last: usize) -> Result<Point, Loss> {
         let place = source_of(self.stmt(last), last);
-        let zero = if mixes(self.thread.flag, self.stmt(place)) {
+        let zero = if mixes(self.flag(), self.stmt(place)) {
             self.side_before(place, point.zero)
         } else {
             point.zero
@@ -272,7 +238,7 @@ impl Ways<'_> {
     }
 
     /// How the part is lost on the way that leads to a point at which it isn't held.
-    fn loss(&self, missing: Point) -> Loss {
+    fn loss(self, missing: Point) -> Loss {
         let mut point = missing;
         let (mut found, mut opening) = (Loss::Never, 0);
         for _ in 0..=missing.place {
@@ -285,14 +251,14 @@ impl Ways<'_> {
             let closing = self.stmt(last);
             if let Some(start) = joined(self, closing) {
                 let zero = point.zero;
-                let Some(lacking) = self.end_of(closing, last, zero, Known::Lacks) else {
+                let Some(lacking) = self.end_of(start, closing, last, zero, Known::Lacks) else {
                     break;
                 };
                 point = Point {
                     place: lacking,
                     zero,
                 };
-                if let Some(holding) = self.end_of(closing, last, zero, Known::Holds) {
+                if let Some(holding) = self.end_of(start, closing, last, zero, Known::Holds) {
                     let tells = self.at(lacking, !zero) == Known::Holds;
                     found = Loss::Ends(point, tells, holding);
                     opening = start;
@@ -308,22 +274,17 @@ impl Ways<'_> {
     }
 }
 
-/// How a part is lost that the line at a place misses.
-pub fn loss_of(
-    alloc: Global,
-    program: &Program,
-    thread: u32,
-    place: usize,
-    missing: Missing,
-) -> Result<Loss, AllocError>
-    requires { thread < length program.now.threads }
-{
-    let ways = walked(alloc, program, thread, place, missing)?;
-    if let Some(owned) = ways.owned {
-        return Ok(Loss::Peeked(owned));
+/// How a part is lost that a refused line misses.
+pub fn loss_of(refused: Refused, missing: Missing) -> Loss {
+    let Missing { part, zero, .. } = missing;
+    if let Some(state) = refused.state() {
+        if let Some(owned) = peeked_part(state.on(zero), part) {
+            return Loss::Peeked(owned);
+        }
     }
-    Ok(ways.loss(Point {
-        place,
-        zero: missing.zero,
-    }))
+    let ways = Ways { refused, part };
+    ways.loss(Point {
+        place: refused.place,
+        zero,
+    })
 }

@@ -1,4 +1,4 @@
-use Rattle.rc_follow.specs.Follower.{Leads}
+use Rattle.rc_follow.specs.Ways.{Leads}
 use Rattle.rc_follow.proofs.Added.{adds_push, leads_one}
 use Rattle.rc_follow.proofs.hidden.push_gone.Goals as goal
 

@@ -1,4 +1,5 @@
-use Rattle.rc_follow.specs.Follower.{Adds, Leads}
+use Rattle.rc_follow.specs.Follower.{Adds}
+use Rattle.rc_follow.specs.Ways.{Leads}
 use Rattle.rc_follow.proofs.hidden.push_loads.Given as goal
 
 abbrev pub invariant-loop-byte : goal.invariant-loop-byte

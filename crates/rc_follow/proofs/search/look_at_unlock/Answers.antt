@@ -1,5 +1,5 @@
 use Rattle.rc_lang.specs.Program.{Program}
-use Rattle.rc_follow.specs.Follower.{Leads}
+use Rattle.rc_follow.specs.Ways.{Leads}
 use Rattle.rc_follow.specs.Searches.{Visits}
 use Rattle.rc_follow.proofs.Added.{visits_both, visits_from}
 use Rattle.rc_follow.proofs.search.look_at_unlock.Goals as goal

@@ -1,6 +1,6 @@
 use Rattle.std.proofs.Common.{◌∙◌, sym, subst, List, refl}
 use Rattle.rc_lang.specs.Program.{Program}
-use Rattle.rc_world.specs.Machine.{World}
+use Rattle.rc_follow.specs.Ways.{Way}
 use Rattle.rc_follow.specs.Searches.{Visits}
 use Rattle.rc_follow.proofs.Added.{leads_none}
 use Rattle.std.proofs.Common.{[], get_or}
@@ -21,8 +21,8 @@ loop-node-init c = record {
 pub loop-node-preserved : goal.loop-node-preserved
 loop-node-preserved c =
     let there : Contains c.args.ground.begun.now.items c.node-item.result =
-    subst (λ (v : World). Contains c.args.ground.begun.now.items v) (sym c.node-item.is)
-    (subst (λ (xs : List World). Contains xs (get_or c.deref-node-items.result.now c.loop-node.node-index c.node-item.result)) c.deref-node-items.ensures.value
+    subst (λ (v : Way). Contains c.args.ground.begun.now.items v) (sym c.node-item.is)
+    (subst (λ (xs : List Way). Contains xs (get_or c.deref-node-items.result.now c.loop-node.node-index c.node-item.result)) c.deref-node-items.ensures.value
     (Contains-get_or c.deref-node-items.result.now c.loop-node.node-index c.node-item.result c.loop-node-test.true)) in
     let from : ComesFrom c.args.ground.noted.now c.args.ground.begun.now.items c.node-item.result = (c.node-item.result, there, leads_none c.args.ground.noted.now c.node-item.result) in
     let visits : Visits c.args.rights.now c.args.ground.noted.now c.node-item.result c.args.ground.thread c.args.ground.call c.loop-node.found c.visit_first.new.found =
@@ -37,7 +37,7 @@ pub loop-visit-preserved : goal.loop-visit-preserved
 loop-visit-preserved c =
     let both : All (ComesFrom c.args.ground.noted.now c.args.ground.begun.now.items) c.pop.new.self.items × IfSome c.pop.result (ComesFrom c.args.ground.noted.now c.args.ground.begun.now.items) = All-pop (ComesFrom c.args.ground.noted.now c.args.ground.begun.now.items) c.loop-visit.found.todo.items c.pop.new.self.items c.pop.result c.pop.ensures.items c.loop-visit.invariant.todo in
     let from : ComesFrom c.args.ground.noted.now c.args.ground.begun.now.items c.in-Some.node = rw c.in-Some.is at both.1 in
-    let left : Found = record { worlds = c.loop-visit.found.worlds; lines = c.loop-visit.found.lines; todo = c.pop.new.self } in
+    let left : Found = record { worlds = c.loop-visit.found.worlds; is_step = c.loop-visit.found.is_step; todo = c.pop.new.self } in
     let visits : Visits c.args.rights.now c.args.ground.noted.now c.in-Some.node c.args.ground.thread c.args.ground.call left c.visit.new.found =
     subst (λ (Q : Program). Visits Q c.args.ground.noted.now c.in-Some.node c.args.ground.thread c.args.ground.call left c.visit.new.found) c.loop-visit.invariant.same c.in_ok-visit.ensures.visits in
     record {

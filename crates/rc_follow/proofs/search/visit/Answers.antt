@@ -1,6 +1,6 @@
 use Rattle.std.proofs.Common.{◌∙◌, subst, refl}
 use Rattle.rc_lang.specs.Program.{Program}
-use Rattle.rc_follow.specs.Follower.{Leads}
+use Rattle.rc_follow.specs.Ways.{Leads}
 use Rattle.rc_follow.specs.Searches.{Visits}
 use Rattle.rc_follow.proofs.Added.{leads_both, leads_none, visits_both, visits_from, visits_none}
 use Rattle.rc_follow.proofs.search.visit.Goals as goal

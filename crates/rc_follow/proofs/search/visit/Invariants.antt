@@ -1,5 +1,5 @@
 use Rattle.std.proofs.Common.{◌≡◌}
-use Rattle.rc_follow.specs.Follower.{Leads}
+use Rattle.rc_follow.specs.Ways.{Leads}
 use Rattle.rc_follow.specs.Searches.{Visits}
 use Rattle.rc_follow.proofs.search.visit.Given as goal
 

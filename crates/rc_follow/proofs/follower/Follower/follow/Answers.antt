@@ -10,7 +10,7 @@ pub returns-clause-answers : goal.returns-clause-answers
 returns-clause-answers c =
     let line : Option ℕ → Said = λ t. record { thread = t; call = c.args.said.call } in
     answers_same c.args.self.now c.args.self.now c.args.said (line (Some c.in-Some.thread)) c.follow_line.new.self c.in_ok-answer.answer
-    refl (ap line (sym c.in-Some.is)) c.in_ok-answer.ensures
+    refl (ap line (sym c.in-Some.is)) c.in_ok-answer.ensures.answers
 
 pub returns-clause-follows : goal.returns-clause-follows
 returns-clause-follows c ls f = follows_more ls c.args.said c.args.self.now c.follow_line.new.self c.in_ok-answer.answer f (returns-clause-answers c)

@@ -1,7 +1,0 @@
-use Rattle.std.proofs.Common.{None}
-use Rattle.rc_log.specs.Waiting.{left}
-use Rattle.rc_departures.specs.Logs.{Under}
-use Rattle.rc_departures.proofs.following.follow_log.Given as goal
-
-abbrev pub invariant-loop-number : goal.invariant-loop-number
-invariant-loop-number g l = Under l.fn.follower.program (g.R.Read.remaining l.fn.reader) (left g.R.Read.remaining l.log) l.follower None

@@ -1,5 +1,0 @@
-use Rattle.rc_editor.proofs.LaidOut.{HasBlanks}
-use Rattle.rc_editor.proofs.format.put_indented.Given as goal
-
-abbrev pub invariant-loop : goal.invariant-loop
-invariant-loop l = HasBlanks l.initial.text.items l.text.items

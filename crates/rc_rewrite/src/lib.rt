@@ -1,0 +1,15 @@
+//! What writes a model anew: with the items that its loops can keep, or laid out.
+#![tactic(auto)]
+
+mod change;
+mod fill;
+mod filling;
+mod flag;
+pub mod format;
+pub mod keeps;
+mod kept;
+mod parted;
+mod refill;
+mod row;
+mod source;
+mod stretch;
