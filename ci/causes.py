@@ -3,8 +3,8 @@
 
 usage: ci/causes.py [--write]
 
-The crate has two sentences for each read fault and each cause of a refusal: why it is a mistake, and how it is mended.
-docs/causes.md has them below the heading of each, as a paragraph `**In short.** SENTENCE **Then:** MEND`. Without --write
+The crate has two sentences for each read fault and each cause of a refusal: why it is a mistake, and what to write.
+docs/causes.md has them below the heading of each, as a paragraph `**In short.** SENTENCE **Then:** FIX`. Without --write
 nothing is changed, and the status is 1 where a paragraph differs from the crate's, but for where its lines end, or is
 missing on either side.
 """
@@ -17,20 +17,20 @@ from pathlib import Path
 TOP = Path(__file__).resolve().parent.parent
 DOCUMENT = TOP / "docs" / "causes.md"
 SOURCE = TOP / "crates" / "rc_sentences" / "src" / "causes.rt"
-FUNCTION = re.compile(r"^fn (sentence|mend)_of_(read|rule)\b.*?^}", re.M | re.S)
+FUNCTION = re.compile(r"^fn (sentence|fix)_of_(read|rule)\b.*?^}", re.M | re.S)
 ARM = re.compile(r'\w+::(\w+) =>\s*\{?\s*"((?:[^"\\]|\\.)*)"')
 HEADING = re.compile(r"^### [PV]\d+ (\w+)\n\n(.*(?:\n.+)*)\n", re.M)
 
 
-def told():
-    """What the crate says: the sentence and the mend by the name of the cause."""
-    texts = {"sentence": {}, "mend": {}}
+def said():
+    """What the crate says: the sentence and the fix by the name of the cause."""
+    texts = {"sentence": {}, "fix": {}}
     for function in FUNCTION.finditer(SOURCE.read_text()):
         texts[function[1]].update((name, re.sub(r"\\(.)", r"\1", text)) for name, text in ARM.findall(function[0]))
-    sentences, mends = texts["sentence"], texts["mend"]
-    if sentences.keys() != mends.keys():
-        sys.exit("causes with one sentence of two: " + ", ".join(sorted(sentences.keys() ^ mends.keys())))
-    return {name: f"**In short.** {sentences[name]} **Then:** {mends[name]}" for name in sentences}
+    sentences, fixes = texts["sentence"], texts["fix"]
+    if sentences.keys() != fixes.keys():
+        sys.exit("causes with one sentence of two: " + ", ".join(sorted(sentences.keys() ^ fixes.keys())))
+    return {name: f"**In short.** {sentences[name]} **Then:** {fixes[name]}" for name in sentences}
 
 
 def filled(text):
@@ -40,7 +40,7 @@ def filled(text):
 def main():
     if sys.argv[1:] not in ([], ["--write"]):
         sys.exit(__doc__)
-    wanted, document = told(), DOCUMENT.read_text()
+    wanted, document = said(), DOCUMENT.read_text()
     found = {name: paragraph for name, paragraph in HEADING.findall(document)}
     missing = sorted(wanted.keys() ^ found.keys())
     differs = [name for name in wanted if name in found and found[name].split() != wanted[name].split()]

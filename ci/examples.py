@@ -1,11 +1,11 @@
 #!/usr/bin/env python3
-"""Compares the texts of rc_edge_tests with the files of examples/, or writes them.
+"""Compares the models of rc_edge_tests with the files of examples/, or writes them.
 
 usage: ci/examples.py [--write]
 
 No code can read a file while it is compiled, so crates/rc_edge_tests/src/programs.rt has a constant for each program of
-examples/ that a test names, named as its file. Without --write nothing is changed, and the status is 1 where a text of the crate differs from its file by so much as a byte, one is missing, or
-one is there that no test names.
+examples/ that a test names, named as its file. Without --write nothing is changed, and the status is 1 where a model of
+the crate differs from its file by so much as a byte, one is missing, or one is there that no test names.
 """
 
 import difflib
@@ -19,7 +19,7 @@ CRATES = TOP / "crates"
 
 
 def written(character):
-    """A character as it is written in a text of the crate."""
+    """A character as it is written in a text of Rattle."""
     if character in '\\"':
         return "\\" + character
     if character == "\t":
@@ -28,7 +28,7 @@ def written(character):
 
 
 def literal(path):
-    """The bytes of a file as a text of the crate. Its lines begin at the left, as in the file."""
+    """The bytes of a file as a text of Rattle. Its lines begin at the left, as in the file."""
     text = path.read_bytes().decode()
     # After a backslash at a line's end blanks are no part of a text.
     start = "" if text[:1].isspace() else "\\\n"
@@ -73,7 +73,7 @@ def main():
         if sys.argv[1:]:
             (CRATES / name).write_bytes(wanted.encode())
         elif found := differences(CRATES / name, wanted):
-            print("\n".join(["the texts of rc_edge_tests differ from examples/:", *found]), file=sys.stderr)
+            print("\n".join(["the models of rc_edge_tests differ from examples/; ci/examples.py --write writes them anew:", *found]), file=sys.stderr)
             status = 1
     return status
 

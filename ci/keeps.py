@@ -1,21 +1,20 @@
 #!/usr/bin/env python3
-"""Tries `PROGRAM keeps` on the texts of examples/ that are accepted.
+"""Tries `PROGRAM keeps` on the models of examples/ that are accepted, those of examples/explained among them.
 
 usage: ci/keeps.py PROGRAM
 
-Each text is tried as it is, and with the lists of its loops empty. What is printed has to be accepted, to differ in the
+Each model is tried as it is, and with the lists of its loops empty. What is printed has to be accepted, to differ in the
 lists of loops alone, to keep at least what the author's lists keep, and to be printed again as it is. Empty lists are
 tried in four layouts too: indented by tabs, with a comment after each brace, with carriage returns, and without a last
-line feed. Then come texts with the lists that their loops get: most have a loop that no list helps, or not far. A line
-is printed for each text that isn't as it should be. The status is 1 where one isn't.
+line feed. Then come models with the lists that their loops get: most have a loop that no list helps, or not far. A line
+is printed for each model that isn't as it should be. The status is 1 where one isn't.
 """
 
 import re
 import subprocess
 import sys
-from pathlib import Path
 
-TOP = Path(__file__).resolve().parent.parent
+from rows_file import EXAMPLES, TOP, rows_below
 
 # How many texts there are at least that are accepted and have loops.
 FEWEST = 25
@@ -189,12 +188,19 @@ def wrong_with(program, old, text):
         yield "is changed again"
 
 
-def wrong_texts(program, path):
-    """What is wrong with a text that is accepted, as it is and with empty lists."""
-    old = path.read_bytes()
+def accepted(program):
+    """Each model that is accepted and has loops, with its place."""
+    explained = [row for row in rows_below(EXAMPLES / "explained") if row.words[0] == "check" and row.status == 0]
+    places = {row.text.encode("latin-1"): row.place for row in explained}
+    places |= {path.read_bytes(): path.relative_to(TOP) for path in sorted(EXAMPLES.glob("**/*.rc"))}
+    return [(place, text) for text, place in places.items() if lists_of(text) and is_accepted(program, text)]
+
+
+def wrong_texts(program, place, old):
+    """What is wrong with a model that is accepted, as it is and with empty lists."""
     empty = emptied(old)
     for how, text in [("as it is", old), ("emptied", empty), *layouts(empty)]:
-        yield from (f"{path.relative_to(TOP)} {how}: {what}" for what in wrong_with(program, old, text))
+        yield from (f"{place} {how}: {what}" for what in wrong_with(program, old, text))
 
 
 def wrong_lists(program):
@@ -211,9 +217,8 @@ def main():
     if len(sys.argv) != 2:
         sys.exit(__doc__)
     program = sys.argv[1]
-    paths = sorted((TOP / "examples").glob("**/*.rc"))
-    texts = [path for path in paths if lists_of(path.read_bytes()) and is_accepted(program, path.read_bytes())]
-    found = [line for path in texts for line in wrong_texts(program, path)]
+    texts = accepted(program)
+    found = [line for place, text in texts for line in wrong_texts(program, place, text)]
     found += wrong_lists(program)
     if len(texts) < FEWEST:
         found.append(f"{len(texts)} texts were tried")

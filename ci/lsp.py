@@ -378,6 +378,8 @@ def main():
         print("there is no session", file=sys.stderr)
         return 2
     wrong = all_wrong(program, sessions)
+    if wrong:
+        print("if it should be so, ci/lsp.py PROGRAM --write writes what the server says into the sessions", file=sys.stderr)
     ran = 0 if words[1:] else subprocess.run([FUZZ[0], program, *FUZZ[1:]]).returncode
     return 1 if wrong or ran else 0
 

@@ -3,7 +3,7 @@
 
 usage: ci/manual.py [PROGRAM]
 
-Without PROGRAM the words are those of the source, crates/rc_arguments/src/usage.rt; with it those that its --help tells. The
+Without PROGRAM the words are those of the source, crates/rc_arguments/src/usage.rt; with it those that its --help prints. The
 status is 1 where a command or an option is on one side alone, or where mandoc, if it is there, warns of the page.
 """
 
@@ -17,7 +17,7 @@ TOP = Path(__file__).resolve().parent.parent
 PAGE = TOP / "docs" / "ringcheck.1"
 WORDS = TOP / "crates" / "rc_arguments" / "src" / "usage.rt"
 
-# What every command takes, and the command that tells it.
+# What every command takes.
 EVERYWHERE = {"help", "version"}
 
 
@@ -47,7 +47,7 @@ def of_source():
 
 
 def of_program(program):
-    """The same, as the program tells them."""
+    """The same, as the program prints them."""
     def told(*words):
         return subprocess.run([program, *words], capture_output=True, text=True, check=True).stdout
 

@@ -147,11 +147,11 @@ ONE_COUNTED = f"thread t0: 1 events\nlongest stretch: 1 events of t0\n{NONE_IDLE
 FIVE_COUNTED = f"thread t0: 5 events\nlongest stretch: 5 events of t0\n{NONE_IDLE}limit after 5 events\n"
 REFUSAL = "refused line 4 V1 Unlocked\n"
 FAULT = "unreadable line 4 P3 BadLine\n"
-FOUND = "found by walk 1: --moves ,\n"
+FOUND = "found by walk 1, before the first step\n"
 NO_LOCK = "fault F9 NoLock t0 line 4\n"
-FOUND_JSON = '{"cause":"Unlocked","code":1,"line":4,"moves":",","trace":"fault F9 NoLock t0 line 4\\n","verdict":"refused","walk":1}\n'
+FOUND_JSON = '{"cause":"Unlocked","code":1,"line":4,"moves":"","trace":"fault F9 NoLock t0 line 4\\n","verdict":"refused","walk":1}\n'
 KEPT = "refused line 5 V13 LoopEntry\n"
-NOT_FOUND = KEPT + "no fault in 7 walks: the text may say too little, or the walks were too few\n"
+NOT_FOUND = KEPT + "no fault in 7 walks: the model may lack detail, or try more `--walks`\n"
 NOT_FOUND_JSON = '{"cause":"LoopEntry","code":13,"line":5,"moves":null,"trace":null,"verdict":"refused","walk":null}\n'
 RUN = ("run", "--seed", "1", "--limit", "5")
 
@@ -203,8 +203,8 @@ ROWS = [
     (("step", "--moves", "t0@4 # none\nt0"), GOOD, 0, ONE_EVENT, ""),
     (("step", "--state", "--moves", "t0"), GOOD, 0, "1 t0 4 set 1\nended after 1 events\nthread t0: ...", ""),
     (("step", "--moves", "t0"), UNREADABLE, 2, FAULT, ""),
-    (("step", "--moves", "t0*2"), GOOD, 3, "1 t0 4 set 1\nitem 2 not enabled\n", "item 1, t0*2, isn't enabled: t0 has ended"),
-    (("step", "--moves", "t0,u*2"), GOOD, 3, "schedule item 2 unreadable\n", ""),
+    (("step", "--moves", "t0*2"), GOOD, 3, "1 t0 4 set 1\nitem 2 not enabled\n", "move 1, t0*2, isn't enabled: t0 has ended"),
+    (("step", "--moves", "t0,u*2"), GOOD, 3, "schedule item 2 unreadable\n", "move 2 can't be read: `u*2`"),
     (("step", "--moves", ","), REFUSED, 1, NO_LOCK, ""),
     (("step", "--moves", "@moves"), GOOD, 0, ONE_EVENT, ""),
     (("step", "--moves", "@missing.rc"), GOOD, 3, "", f"missing.rc: {MISSING}"),
@@ -213,10 +213,10 @@ ROWS = [
     (("find", "--seed", "9", "--walks", "1"), REFUSED, 1, REFUSAL + FOUND + NO_LOCK, ""),
     (("find", "--walks", "7"), KEEPS, 1, NOT_FOUND, ""),
     (("find",), UNREADABLE, 2, FAULT, ""),
-    (("find", "--json"), GOOD, 0, '{"verdict":"accepted"}\n', ""),
+    (("find", "--json"), GOOD, 0, '{"moves":null,"trace":null,"verdict":"accepted","walk":null}\n', ""),
     (("find", "--json"), REFUSED, 1, FOUND_JSON, ""),
     (("find", "--json", "--walks", "7"), KEEPS, 1, NOT_FOUND_JSON, ""),
-    (("find", "--json"), UNREADABLE, 2, '{"cause":"BadLine","code":3,"line":4,"verdict":"unreadable"}\n', ""),
+    (("find", "--json"), UNREADABLE, 2, '{"cause":"BadLine","code":3,"line":4,"moves":null,"trace":null,"verdict":"unreadable","walk":null}\n', ""),
     (("find", "--walks", "0"), GOOD, 3, "", NO_WALKS),
     (RUN, GOOD, 0, ONE_EVENT, ""),
     (RUN, REFUSED, 1, REFUSAL, ""),
@@ -233,7 +233,7 @@ ROWS = [
     (("check", b"\xff"), GOOD, 3, "", "..."),
     (("--version",), b"", 0, "ringcheck 0.1.0\n", ""),
     (("--help",), b"", 0, "Checks threaded programs ...", ""),
-    (("check", "--help"), b"", 0, "Check programs, ...", ""),
+    (("check", "--help"), b"", 0, "Check models, ...", ""),
     # Files, with a text on standard input that is none of theirs.
     (("check", "good.rc"), UNREADABLE, 0, "good.rc: accepted\n", ""),
     (("check", "refused.rc"), GOOD, 1, "refused.rc:4: refused V1 Unlocked\n", ""),

@@ -1,4 +1,4 @@
-/* Written by `ringcheck c` from a text that it accepts. It needs POSIX threads and liburing 2.2 or later:
+/* Written by `ringcheck c` from a model that it accepts. It needs POSIX threads and liburing 2.2 or later:
    cc -std=c11 -Wall -Wextra -O2 THIS.c -luring -lpthread
    With -DRINGCHECK_LOG=N, `--log FILE` has the first N events written to FILE, and the program ends after them. */
 #define _GNU_SOURCE
@@ -15,7 +15,7 @@
 #include <string.h>
 #include <unistd.h>
 
-_Static_assert(EAGAIN == 11, "the text has -11 where no completion is there");
+_Static_assert(EAGAIN == 11, "the model has -11 where no completion is there");
 
 /* Sums and differences of 64 bits, wrapping. */
 #define SUM(a, b) ((int64_t)((uint64_t)(a) + (uint64_t)(b)))
@@ -25,7 +25,7 @@ _Static_assert(EAGAIN == 11, "the text has -11 where no completion is there");
 static struct io_uring ring;
 static pthread_mutex_t ring_lock;
 
-/* Ends the program if a call of this line of the text answers what it never does in an accepted program. */
+/* Ends the program if a call of this line of the model answers what it never does in an accepted program. */
 __attribute__((unused)) _Noreturn static void stop(int line, const char *call, long answer)
 {
     fprintf(stderr, "line %d: %s answers %ld\n", line, call, answer);
@@ -317,13 +317,16 @@ static void *body_t0(void *nothing)
     /* 59: x = load b 0 */
     var_x = buffer_b[0];
     EVENT("t0 59 load %" PRId64, var_x);
-    /* 60: print x */
+    /* 60: x = x */
+    var_x = (int64_t)var_x;
+    EVENT("t0 60 set %" PRId64, var_x);
+    /* 61: print x */
     printf("%" PRId64 "\n", var_x);
-    EVENT("t0 60 print %" PRId64, var_x);
+    EVENT("t0 61 print %" PRId64, var_x);
     return NULL;
 }
 
-/* 62: thread t1 holds { */
+/* 63: thread t1 holds { */
 static void *body_t1(void *nothing)
 {
     struct io_uring_sqe *sqe = NULL;
@@ -338,121 +341,121 @@ static void *body_t1(void *nothing)
     (void)var_r;
     (void)var_n;
     (void)var_m;
-    /* 63: loop keeps { */
+    /* 64: loop keeps { */
     for (;;) {
-        EVENT("t1 63 loop");
-        /* 64: lock { */
-        MUST(64, pthread_mutex_lock(&ring_lock));
-        EVENT("t1 64 lock");
+        EVENT("t1 64 loop");
+        /* 65: lock { */
+        MUST(65, pthread_mutex_lock(&ring_lock));
+        EVENT("t1 65 lock");
         SEE_COMPLETIONS();
         {
-            /* 65: peek_cqe r { */
+            /* 66: peek_cqe r { */
             answer = io_uring_peek_cqe(&ring, &cqe);
             if (answer == 0) {
                 var_r = cqe->res;
                 SEE_COMPLETIONS();
-                EVENT("t1 65 peek_cqe %" PRIu64 " %" PRId64, (uint64_t)cqe->user_data, var_r);
+                EVENT("t1 66 peek_cqe %" PRIu64 " %" PRId64, (uint64_t)cqe->user_data, var_r);
             } else if (answer == -EAGAIN) {
                 cqe = NULL;
                 var_r = -EAGAIN;
-                EVENT("t1 65 peek_cqe none");
+                EVENT("t1 66 peek_cqe none");
                 SEE_COMPLETIONS();
             } else {
-                stop(65, "io_uring_peek_cqe", answer);
+                stop(66, "io_uring_peek_cqe", answer);
             }
-            /* 66: other { */
+            /* 67: other { */
             if (cqe != NULL && cqe->user_data != UINT64_C(1) && cqe->user_data != UINT64_C(2) && cqe->user_data != UINT64_C(3) && cqe->user_data != UINT64_C(4) && cqe->user_data != UINT64_C(5)) {
-            } /* 67: } */
-            /* 68: case 1 { */
+            } /* 68: } */
+            /* 69: case 1 { */
             else if (cqe != NULL && cqe->user_data == UINT64_C(1)) {
-                /* 69: cqe_seen */
-                EVENT("t1 69 cqe_seen %" PRIu64, (uint64_t)cqe->user_data);
+                /* 70: cqe_seen */
+                EVENT("t1 70 cqe_seen %" PRIu64, (uint64_t)cqe->user_data);
                 io_uring_cqe_seen(&ring, cqe);
-                /* 70: put b:1 t:1 c:1 */
+                /* 71: put b:1 t:1 c:1 */
                 pool_buffer_b += 1;
                 pool_token_1 += 1;
                 pool_credits += 1;
-                EVENT("t1 70 put");
-                /* 71: n = n + 1 */
+                EVENT("t1 71 put");
+                /* 72: n = n + 1 */
                 var_n = SUM(var_n, INT64_C(1));
-                EVENT("t1 71 set %" PRId64, var_n);
-            } /* 72: } */
-            /* 73: none { */
+                EVENT("t1 72 set %" PRId64, var_n);
+            } /* 73: } */
+            /* 74: none { */
             else if (cqe == NULL) {
-            } /* 74: } */
-            /* 75: case 2 { */
+            } /* 75: } */
+            /* 76: case 2 { */
             else if (cqe != NULL && cqe->user_data == UINT64_C(2)) {
-                /* 76: cqe_seen */
-                EVENT("t1 76 cqe_seen %" PRIu64, (uint64_t)cqe->user_data);
+                /* 77: cqe_seen */
+                EVENT("t1 77 cqe_seen %" PRIu64, (uint64_t)cqe->user_data);
                 io_uring_cqe_seen(&ring, cqe);
-                /* 77: n = 1 + n */
+                /* 78: n = 1 + n */
                 var_n = SUM(INT64_C(1), var_n);
-                EVENT("t1 77 set %" PRId64, var_n);
-            } /* 78: } */
-            /* 79: case 3 { */
+                EVENT("t1 78 set %" PRId64, var_n);
+            } /* 79: } */
+            /* 80: case 3 { */
             else if (cqe != NULL && cqe->user_data == UINT64_C(3)) {
-                /* 80: cqe_seen */
-                EVENT("t1 80 cqe_seen %" PRIu64, (uint64_t)cqe->user_data);
+                /* 81: cqe_seen */
+                EVENT("t1 81 cqe_seen %" PRIu64, (uint64_t)cqe->user_data);
                 io_uring_cqe_seen(&ring, cqe);
-                /* 81: n = n + 1 */
+                /* 82: n = n + 1 */
                 var_n = SUM(var_n, INT64_C(1));
-                EVENT("t1 81 set %" PRId64, var_n);
-            } /* 82: } */
-            /* 83: case 4 { */
+                EVENT("t1 82 set %" PRId64, var_n);
+            } /* 83: } */
+            /* 84: case 4 { */
             else if (cqe != NULL && cqe->user_data == UINT64_C(4)) {
-                /* 84: cqe_seen */
-                EVENT("t1 84 cqe_seen %" PRIu64, (uint64_t)cqe->user_data);
+                /* 85: cqe_seen */
+                EVENT("t1 85 cqe_seen %" PRIu64, (uint64_t)cqe->user_data);
                 io_uring_cqe_seen(&ring, cqe);
-                /* 85: put t:4 c:1 */
+                /* 86: put t:4 c:1 */
                 pool_token_4 += 1;
                 pool_credits += 1;
-                EVENT("t1 85 put");
-                /* 86: n = n + 1 */
+                EVENT("t1 86 put");
+                /* 87: n = n + 1 */
                 var_n = SUM(var_n, INT64_C(1));
-                EVENT("t1 86 set %" PRId64, var_n);
-            } /* 87: } */
-            /* 88: case 5 { */
+                EVENT("t1 87 set %" PRId64, var_n);
+            } /* 88: } */
+            /* 89: case 5 { */
             else if (cqe != NULL && cqe->user_data == UINT64_C(5)) {
-                /* 89: cqe_seen */
-                EVENT("t1 89 cqe_seen %" PRIu64, (uint64_t)cqe->user_data);
+                /* 90: cqe_seen */
+                EVENT("t1 90 cqe_seen %" PRIu64, (uint64_t)cqe->user_data);
                 io_uring_cqe_seen(&ring, cqe);
-                /* 90: put */
-                EVENT("t1 90 put");
-                /* 91: n = n + 1 */
+                /* 91: put */
+                EVENT("t1 91 put");
+                /* 92: n = n + 1 */
                 var_n = SUM(var_n, INT64_C(1));
-                EVENT("t1 91 set %" PRId64, var_n);
-            } /* 92: } */
-            /* 93: } */
-        } /* 94: } */
-        EVENT("t1 94 release");
-        MUST(94, pthread_mutex_unlock(&ring_lock));
-        /* 95: if n < 5 { */
+                EVENT("t1 92 set %" PRId64, var_n);
+            } /* 93: } */
+            /* 94: } */
+        } /* 95: } */
+        EVENT("t1 95 release");
+        MUST(95, pthread_mutex_unlock(&ring_lock));
+        /* 96: if n < 5 { */
         yes = var_n < INT64_C(5);
-        EVENT("t1 95 if %s", yes ? "yes" : "no");
+        EVENT("t1 96 if %s", yes ? "yes" : "no");
         if (yes) {
-            /* 96: if n <= 0 { */
+            /* 97: if n <= 0 { */
             yes = var_n <= INT64_C(0);
-            EVENT("t1 96 if %s", yes ? "yes" : "no");
+            EVENT("t1 97 if %s", yes ? "yes" : "no");
             if (yes) {
-                /* 97: m = m - n */
+                /* 98: m = m - n */
                 var_m = DIFFERENCE(var_m, var_n);
-                EVENT("t1 97 set %" PRId64, var_m);
-            } /* 98: } */
-        } else { /* 99: } else { */
-            /* 100: if n >= 5 { */
+                EVENT("t1 98 set %" PRId64, var_m);
+            } /* 99: } */
+        } else { /* 100: } else { */
+            /* 101: if n >= 5 { */
             yes = var_n >= INT64_C(5);
-            EVENT("t1 100 if %s", yes ? "yes" : "no");
+            EVENT("t1 101 if %s", yes ? "yes" : "no");
             if (yes) {
-                /* 101: break */
-                EVENT("t1 101 break");
+                /* 102: break */
+                EVENT("t1 102 break");
                 break;
-            } /* 102: } */
-        } /* 103: } */
-    } /* 104: } */
+            } /* 103: } */
+        } /* 104: } */
+    } /* 105: } */
     return NULL;
 }
 
-/* 106: thread t2 holds t:18446744073709551615 c:1 { */
+/* 107: thread t2 holds t:18446744073709551615 c:1 { */
 static void *body_t2(void *nothing)
 {
     struct io_uring_sqe *sqe = NULL;
@@ -467,107 +470,107 @@ static void *body_t2(void *nothing)
     (void)var_h;
     (void)var_r;
     (void)var_n;
-    /* 107: h = 1 */
+    /* 108: h = 1 */
     var_h = INT64_C(1);
-    EVENT("t2 107 set %" PRId64, var_h);
-    /* 108: loop keeps when h t:18446744073709551615 c:1 { */
+    EVENT("t2 108 set %" PRId64, var_h);
+    /* 109: loop keeps when h t:18446744073709551615 c:1 { */
     for (;;) {
-        EVENT("t2 108 loop");
-        /* 109: lock { */
-        MUST(109, pthread_mutex_lock(&ring_lock));
-        EVENT("t2 109 lock");
+        EVENT("t2 109 loop");
+        /* 110: lock { */
+        MUST(110, pthread_mutex_lock(&ring_lock));
+        EVENT("t2 110 lock");
         SEE_COMPLETIONS();
         {
-            /* 110: if h != 0 { */
+            /* 111: if h != 0 { */
             yes = var_h != INT64_C(0);
-            EVENT("t2 110 if %s", yes ? "yes" : "no");
+            EVENT("t2 111 if %s", yes ? "yes" : "no");
             if (yes) {
-                /* 111: get_sqe */
+                /* 112: get_sqe */
                 sqe = io_uring_get_sqe(&ring);
                 if (sqe == NULL)
-                    stop(111, "io_uring_get_sqe", 0);
-                EVENT("t2 111 get_sqe");
-                /* 112: prep_nop */
+                    stop(112, "io_uring_get_sqe", 0);
+                EVENT("t2 112 get_sqe");
+                /* 113: prep_nop */
                 io_uring_prep_nop(sqe);
-                EVENT("t2 112 prep_nop");
-                /* 113: set_data64 18446744073709551615 */
+                EVENT("t2 113 prep_nop");
+                /* 114: set_data64 18446744073709551615 */
                 io_uring_sqe_set_data64(sqe, UINT64_C(18446744073709551615));
-                EVENT("t2 113 set_data64 18446744073709551615");
-                /* 114: loop keeps q:1 { */
+                EVENT("t2 114 set_data64 18446744073709551615");
+                /* 115: loop keeps q:1 { */
                 for (;;) {
-                    EVENT("t2 114 loop");
-                    /* 115: r = submit */
+                    EVENT("t2 115 loop");
+                    /* 116: r = submit */
                     var_r = io_uring_submit(&ring);
-                    EVENT("t2 115 submit %" PRId64, var_r);
+                    EVENT("t2 116 submit %" PRId64, var_r);
                     SEE_COMPLETIONS();
-                    /* 116: if sq_ready == 0 { */
+                    /* 117: if sq_ready == 0 { */
                     yes = io_uring_sq_ready(&ring) == 0;
-                    EVENT("t2 116 if %s", yes ? "yes" : "no");
+                    EVENT("t2 117 if %s", yes ? "yes" : "no");
                     if (yes) {
-                        /* 117: break */
-                        EVENT("t2 117 break");
+                        /* 118: break */
+                        EVENT("t2 118 break");
                         break;
-                    } /* 118: } */
-                } /* 119: } */
-                /* 120: h = 0 */
+                    } /* 119: } */
+                } /* 120: } */
+                /* 121: h = 0 */
                 var_h = INT64_C(0);
-                EVENT("t2 120 set %" PRId64, var_h);
-            } else { /* 121: } else { */
-                /* 122: peek_cqe r { */
+                EVENT("t2 121 set %" PRId64, var_h);
+            } else { /* 122: } else { */
+                /* 123: peek_cqe r { */
                 answer = io_uring_peek_cqe(&ring, &cqe);
                 if (answer == 0) {
                     var_r = cqe->res;
                     SEE_COMPLETIONS();
-                    EVENT("t2 122 peek_cqe %" PRIu64 " %" PRId64, (uint64_t)cqe->user_data, var_r);
+                    EVENT("t2 123 peek_cqe %" PRIu64 " %" PRId64, (uint64_t)cqe->user_data, var_r);
                 } else if (answer == -EAGAIN) {
                     cqe = NULL;
                     var_r = -EAGAIN;
-                    EVENT("t2 122 peek_cqe none");
+                    EVENT("t2 123 peek_cqe none");
                     SEE_COMPLETIONS();
                 } else {
-                    stop(122, "io_uring_peek_cqe", answer);
+                    stop(123, "io_uring_peek_cqe", answer);
                 }
-                /* 123: case 18446744073709551615 { */
+                /* 124: case 18446744073709551615 { */
                 if (cqe != NULL && cqe->user_data == UINT64_C(18446744073709551615)) {
-                    /* 124: cqe_seen */
-                    EVENT("t2 124 cqe_seen %" PRIu64, (uint64_t)cqe->user_data);
+                    /* 125: cqe_seen */
+                    EVENT("t2 125 cqe_seen %" PRIu64, (uint64_t)cqe->user_data);
                     io_uring_cqe_seen(&ring, cqe);
-                    /* 125: h = 1 */
+                    /* 126: h = 1 */
                     var_h = INT64_C(1);
-                    EVENT("t2 125 set %" PRId64, var_h);
-                    /* 126: n = n + 1 */
+                    EVENT("t2 126 set %" PRId64, var_h);
+                    /* 127: n = n + 1 */
                     var_n = SUM(var_n, INT64_C(1));
-                    EVENT("t2 126 set %" PRId64, var_n);
-                    /* 127: if n > 2 { */
+                    EVENT("t2 127 set %" PRId64, var_n);
+                    /* 128: if n > 2 { */
                     yes = var_n > INT64_C(2);
-                    EVENT("t2 127 if %s", yes ? "yes" : "no");
+                    EVENT("t2 128 if %s", yes ? "yes" : "no");
                     if (yes) {
-                        /* 128: break */
-                        EVENT("t2 128 break");
-                        MUST(128, pthread_mutex_unlock(&ring_lock));
+                        /* 129: break */
+                        EVENT("t2 129 break");
+                        MUST(129, pthread_mutex_unlock(&ring_lock));
                         break;
-                    } /* 129: } */
-                } /* 130: } */
-                /* 131: other { */
+                    } /* 130: } */
+                } /* 131: } */
+                /* 132: other { */
                 else if (cqe != NULL) {
-                    /* 132: if n == -9223372036854775808 { */
+                    /* 133: if n == -9223372036854775808 { */
                     yes = var_n == INT64_MIN;
-                    EVENT("t2 132 if %s", yes ? "yes" : "no");
+                    EVENT("t2 133 if %s", yes ? "yes" : "no");
                     if (yes) {
-                        /* 133: n = 0 */
+                        /* 134: n = 0 */
                         var_n = INT64_C(0);
-                        EVENT("t2 133 set %" PRId64, var_n);
-                    } /* 134: } */
-                } /* 135: } */
-                /* 136: none { */
+                        EVENT("t2 134 set %" PRId64, var_n);
+                    } /* 135: } */
+                } /* 136: } */
+                /* 137: none { */
                 else if (cqe == NULL) {
-                } /* 137: } */
-                /* 138: } */
-            } /* 139: } */
-        } /* 140: } */
-        EVENT("t2 140 release");
-        MUST(140, pthread_mutex_unlock(&ring_lock));
-    } /* 141: } */
+                } /* 138: } */
+                /* 139: } */
+            } /* 140: } */
+        } /* 141: } */
+        EVENT("t2 141 release");
+        MUST(141, pthread_mutex_unlock(&ring_lock));
+    } /* 142: } */
     return NULL;
 }
 

@@ -1,4 +1,4 @@
-/* Written by `ringcheck c` from a text that it accepts. It needs POSIX threads and liburing 2.2 or later:
+/* Written by `ringcheck c` from a model that it accepts. It needs POSIX threads and liburing 2.2 or later:
    cc -std=c11 -Wall -Wextra -O2 THIS.c -luring -lpthread
    With -DRINGCHECK_LOG=N, `--log FILE` has the first N events written to FILE, and the program ends after them. */
 #define _GNU_SOURCE
@@ -15,7 +15,7 @@
 #include <string.h>
 #include <unistd.h>
 
-_Static_assert(EAGAIN == 11, "the text has -11 where no completion is there");
+_Static_assert(EAGAIN == 11, "the model has -11 where no completion is there");
 
 /* Sums and differences of 64 bits, wrapping. */
 #define SUM(a, b) ((int64_t)((uint64_t)(a) + (uint64_t)(b)))
@@ -26,7 +26,7 @@ static struct io_uring ring;
 static pthread_mutex_t cq_lock;
 static pthread_mutex_t sq_lock;
 
-/* Ends the program if a call of this line of the text answers what it never does in an accepted program. */
+/* Ends the program if a call of this line of the model answers what it never does in an accepted program. */
 __attribute__((unused)) _Noreturn static void stop(int line, const char *call, long answer)
 {
     fprintf(stderr, "line %d: %s answers %ld\n", line, call, answer);
