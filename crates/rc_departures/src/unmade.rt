@@ -61,7 +61,7 @@ fn is_unmade(line: Line, follower: &Follower<'_>) -> bool
     !word_of(line.stmt).is_empty() && !follower.is_reached(line.number)
 }
 
-/// The word of the call on the ring that a statement is, as in `get_sqe`; empty where it is none.
+/// The name of the ring call that a statement makes, as `get_sqe`; empty for other statements.
 pub fn word_of(stmt: Stmt) -> &'static str
     ensures { result.now ≡ call_word stmt }
 {

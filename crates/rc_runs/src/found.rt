@@ -144,7 +144,7 @@ fn accepted_object(alloc: Global, file: Option<&str>, run: RunValues) -> Result<
     }
 }
 
-/// The run that was found as the values of an object; null where there is none.
+/// The JSON values of the run that was found; null if none was found.
 fn run_values(searched: &Option<Searched>) -> Result<RunValues, AllocError>
     ensures { IfOk result (λ r. members_of r.moves r.trace r.walk ≡ run_data (run_of searched.now)) }
 {
@@ -176,8 +176,8 @@ fn search_values(search: &Search) -> Result<RunValues, AllocError>
     }
 }
 
-/// Adds the picture of the run that was found to the answer, and to the notes how it was found. Where there is none, the
-/// answer is that in words.
+/// Adds the picture of the run that was found to the answer, and how it was found to the notes. If none was found, the
+/// answer is the one in words.
 pub fn put_found_picture(
     answer: &mut Vec<u8>,
     notes: &mut Vec<u8>,

@@ -39,8 +39,8 @@ struct Harmful {
     fault: Fault,
 }
 
-/// Shows a run that was found in a program of which this line was refused. Its moves are made a text and read again, and
-/// what they spell is stepped; none where that doesn't come to a fault.
+/// Shows a run that was found in a program whose verdict refuses this line. Its moves are written, read again and stepped;
+/// none if that run doesn't end at a fault.
 pub fn harm_of(
     alloc: Global,
     program: &Program,

@@ -171,8 +171,8 @@ impl Ways<'_> {
         }
     }
 
-    /// The first of the ends of which this is known on a side, of those that a line joins with a block which begins at a
-    /// place.
+    /// A line joins the ends of the block that begins at a place. This is the first of these ends for which this is known on
+    /// a side.
     fn end_of(
         self,
         start: usize,
