@@ -3,7 +3,7 @@
 
 usage: ci/manual.py [PROGRAM]
 
-Without PROGRAM the words are those of the source, crates/rc_arguments/src/usage.rt; with it those that its --help prints. The
+Without PROGRAM the words are those of the source, crates/rc_console/src/usage.rt; with it those that its --help prints. The
 status is 1 where a command or an option is on one side alone, or where mandoc, if it is there, warns of the page.
 """
 
@@ -15,7 +15,7 @@ from pathlib import Path
 
 TOP = Path(__file__).resolve().parent.parent
 PAGE = TOP / "docs" / "ringcheck.1"
-WORDS = TOP / "crates" / "rc_arguments" / "src" / "usage.rt"
+WORDS = TOP / "crates" / "rc_console" / "src" / "usage.rt"
 
 # What every command takes.
 EVERYWHERE = {"help", "version"}

@@ -19,12 +19,12 @@ use Rattle.rc_report.specs.Verdicts.{verdict_text}
 use Rattle.rc_report.specs.Statuses.{status_of_end, status_of_step, status_of_verdict}
 use Rattle.rc_report.specs.Streams.{CountsReads, Given, ReadsText, Taken}
 use Rattle.rc_report.proofs.Answered.{of_text}
-use Rattle.rc_arguments.specs.declared.command.Command.{Command}
-use Rattle.rc_arguments.specs.declared.command.Command.TheVariants.{Check, Explain, Keeps, Step, Find, Run, Emit, Follow, Format, Serve, Show}
-use Rattle.rc_files.specs.declared.fault.CommandFault.{CommandFault}
-use Rattle.rc_files.specs.declared.fault.CommandFault.TheVariants.{Words, Engine, OtherProgram}
-use Rattle.rc_files.specs.Answers.{Does}
-use Rattle.rc_files.proofs.Answers.{does_as}
+use Rattle.rc_console.specs.declared.command.Command.{Command}
+use Rattle.rc_console.specs.declared.command.Command.TheVariants.{Check, Explain, Keeps, Step, Find, Run, Emit, Follow, Format, Serve, Show}
+use Rattle.rc_console.specs.declared.fault.CommandFault.{CommandFault}
+use Rattle.rc_console.specs.declared.fault.CommandFault.TheVariants.{Words, Engine, OtherProgram}
+use Rattle.rc_console.specs.Answers.{Does}
+use Rattle.rc_console.proofs.Answers.{does_as}
 use Rattle.rc_runs.proofs.Stepped.{of_some}
 use Rattle.rc_command.specs.Answers.{DoesWith, ReadsAsAsked, ReadsOnce, Says, SaysAdmitted, SaysKept, SaysScript, SaysUnread}
 

@@ -1,1 +1,3 @@
 mod Commands
+pub mod Objects
+pub mod Under

@@ -21,15 +21,15 @@ use Rattle.rc_report.specs.Statuses.{status_of_end, status_of_step, status_of_ve
 use Rattle.rc_report.specs.Streams.{CountsReads, Given, OfBytes, Taken}
 use Rattle.rc_report.specs.Traces.{trace_text}
 use Rattle.rc_report.specs.Verdicts.{verdict_text}
-use Rattle.rc_arguments.specs.declared.command.Command.{Command}
-use Rattle.rc_arguments.specs.declared.command.FoundAs.{FoundAs}
-use Rattle.rc_arguments.specs.declared.command.FoundAs.TheVariants as form
-use Rattle.rc_arguments.specs.declared.command.Command.TheVariants.{Check, Explain, Keeps, Step, Find, Run, Emit, Follow, Format, Serve, Show}
-use Rattle.rc_files.specs.declared.fault.CommandFault.{CommandFault}
-use Rattle.rc_files.specs.declared.fault.CommandFault.TheVariants.{Words, Engine, OtherProgram}
-use Rattle.rc_files.specs.declared.files.Unread.{Unread}
-use Rattle.rc_files.specs.Answers.{Does, Fails, SaysVerdict}
-use Rattle.rc_files.specs.Files.{Said, SaysFile}
+use Rattle.rc_console.specs.declared.command.Command.{Command}
+use Rattle.rc_console.specs.declared.command.FoundAs.{FoundAs}
+use Rattle.rc_console.specs.declared.command.FoundAs.TheVariants as form
+use Rattle.rc_console.specs.declared.command.Command.TheVariants.{Check, Explain, Keeps, Step, Find, Run, Emit, Follow, Format, Serve, Show}
+use Rattle.rc_console.specs.declared.fault.CommandFault.{CommandFault}
+use Rattle.rc_console.specs.declared.fault.CommandFault.TheVariants.{Words, Engine, OtherProgram}
+use Rattle.rc_console.specs.declared.files.Unread.{Unread}
+use Rattle.rc_console.specs.Answers.{Does, Fails, SaysVerdict}
+use Rattle.rc_console.specs.Files.{Said, SaysFile}
 use Rattle.rc_explain.specs.Explains.{Explains}
 use Rattle.rc_rewrite.specs.LaidOut.{IsLaidOut}
 use Rattle.rc_rewrite.specs.declared.keeps.UnreadLine.{UnreadLine}

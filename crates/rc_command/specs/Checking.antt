@@ -4,9 +4,9 @@ use Rattle.rc_read.specs.Answer.{answer_of}
 use Rattle.rc_report.specs.declared.verdict.Verdict.{Verdict}
 use Rattle.rc_report.specs.Checks.{IsVerdict}
 use Rattle.rc_report.specs.Files.{file_json, file_text}
-use Rattle.rc_files.specs.declared.files.Unread.{Unread}
-use Rattle.rc_files.specs.Answers.{SaysVerdict}
-use Rattle.rc_files.specs.Files.{IsToldWhy, Said, SaysFile}
+use Rattle.rc_console.specs.declared.files.Unread.{Unread}
+use Rattle.rc_console.specs.Answers.{SaysVerdict}
+use Rattle.rc_console.specs.Files.{IsToldWhy, Said, SaysFile}
 use Rattle.rc_command.specs.declared.checking.Telling.{Telling}
 use Rattle.rc_command.specs.declared.checking.Telling.TheVariants.{Alone, Explained}
 use Rattle.rc_explain.specs.Explains.{Explains}

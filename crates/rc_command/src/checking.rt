@@ -2,15 +2,15 @@
 
 ghost use Rattle.std.specs.Prelude.{◌≤◌, IfOk};
 ghost use Rattle.rc_command.specs.Checking.{ChecksFile, TellsAlone, TellsFile, verdict_told};
-ghost use Rattle.rc_files.specs.Files.{AnswersAs, SaysAll};
+ghost use Rattle.rc_console.specs.Files.{AnswersAs, SaysAll};
 ghost use Rattle.rc_report.specs.Streams.{CanWrite};
 ghost use Rattle.rc_report.specs.Text.{Puts, PutsAnswer};
 
-use rc_arguments::command::Form;
+use rc_console::command::Form;
+use rc_console::fault::CommandFault;
+use rc_console::files::{MEMORY, Texts, tell_file, tell_unread};
+use rc_console::output::write_answer;
 use rc_explain::engine::put_explained;
-use rc_files::fault::CommandFault;
-use rc_files::files::{MEMORY, Texts, tell_file, tell_unread};
-use rc_files::output::write_answer;
 use rc_report::check_engine::verdict_on;
 use rc_report::file_verdict::{put_file_object, put_file_verdict};
 use rc_report::streams::Sink;

@@ -2,20 +2,20 @@
 
 ghost use Rattle.std.specs.Prelude.{◌≡◌, ◌≤◌, IfOk};
 ghost use Rattle.rc_command.specs.Answers.{AsksFile, DoesWith, ReadsAsAsked};
-ghost use Rattle.rc_files.specs.Answers.{Does};
-ghost use Rattle.rc_files.specs.Files.{AnswersAs};
+ghost use Rattle.rc_console.specs.Answers.{Does};
+ghost use Rattle.rc_console.specs.Files.{AnswersAs};
 ghost use Rattle.rc_report.specs.Streams.{CanRead, CanWrite};
 
 use crate::checking::{Telling, check_files};
+use crate::departures::answers::follow_logs;
+use crate::departures::logs::Logs;
 use crate::performing::performed;
 use crate::running::Host;
-use rc_arguments::command::{Asked, Command, with_moves};
-use rc_arguments::words::read_words;
-use rc_departures::answers::follow_logs;
-use rc_departures::logs::Logs;
-use rc_files::fault::CommandFault;
-use rc_files::files::{NoTexts, Texts, tell_unread};
-use rc_files::output::{Output, tell_notes, write_answer, written_out};
+use rc_console::command::{Asked, Command, with_moves};
+use rc_console::fault::CommandFault;
+use rc_console::files::{NoTexts, Texts, tell_unread};
+use rc_console::output::{Output, tell_notes, write_answer, written_out};
+use rc_console::words::read_words;
 use rc_lsp::serving::serve_editor;
 use rc_report::buffered::Buffered;
 use rc_report::engine_fault::EngineFault;

@@ -1,14 +1,14 @@
 //! An accepted text is written as a C program over liburing.
 
 ghost use Rattle.std.specs.Prelude.{◌≡◌};
-ghost use Rattle.rc_files.specs.Answers.{Does};
+ghost use Rattle.rc_console.specs.Answers.{Does};
 ghost use Rattle.rc_command.specs.Answers.{SaysAdmitted};
 ghost use Rattle.rc_report.specs.Streams.{CanWrite};
 
 use crate::running::tell_verdict;
+use rc_console::fault::CommandFault;
+use rc_console::output::write_answer;
 use rc_emit::c_text;
-use rc_files::fault::CommandFault;
-use rc_files::output::write_answer;
 use rc_report::check_engine::judged;
 use rc_report::status::GOOD_STATUS;
 use rc_report::streams::Sink;

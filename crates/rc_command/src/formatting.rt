@@ -1,11 +1,11 @@
 //! A model is printed with its blocks indented.
 
-ghost use Rattle.rc_files.specs.Answers.{Does};
+ghost use Rattle.rc_console.specs.Answers.{Does};
 ghost use Rattle.rc_command.specs.Answers.{SaysLaidOut};
 ghost use Rattle.rc_report.specs.Streams.{CanWrite};
 
-use rc_files::fault::CommandFault;
-use rc_files::output::write_answer;
+use rc_console::fault::CommandFault;
+use rc_console::output::write_answer;
 use rc_report::status::GOOD_STATUS;
 use rc_report::streams::Sink;
 use rc_rewrite::format::format;

@@ -1,12 +1,12 @@
 //! A model is printed with the items that its loops can keep.
 
-ghost use Rattle.rc_files.specs.Answers.{Does};
+ghost use Rattle.rc_console.specs.Answers.{Does};
 ghost use Rattle.rc_command.specs.Answers.{SaysKept};
 ghost use Rattle.rc_report.specs.Streams.{CanWrite};
 
 use crate::running::tell_verdict;
-use rc_files::fault::CommandFault;
-use rc_files::output::write_answer;
+use rc_console::fault::CommandFault;
+use rc_console::output::write_answer;
 use rc_report::status::GOOD_STATUS;
 use rc_report::streams::Sink;
 use rc_report::verdict::Verdict;

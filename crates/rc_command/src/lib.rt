@@ -3,11 +3,11 @@
 
 pub mod checking;
 pub mod command;
+pub mod departures;
 pub mod emitting;
 mod formatting;
 pub mod keeping;
 mod performing;
 pub mod running;
 
-pub use rc_arguments::words;
-pub use rc_files::{fault, files};
+pub use rc_console::{fault, files, words};

@@ -3,7 +3,7 @@
 ghost use Rattle.std.specs.Prelude.{IfOk, None};
 ghost use Rattle.rc_command.specs.Answers.{Finds, IsShownAs, Says, SaysSteps};
 ghost use Rattle.rc_explain.specs.Explains.{Explains};
-ghost use Rattle.rc_files.specs.Answers.{Does, SaysVerdict};
+ghost use Rattle.rc_console.specs.Answers.{Does, SaysVerdict};
 ghost use Rattle.rc_report.specs.Checks.{TellsVerdict};
 ghost use Rattle.rc_report.specs.Streams.{CanWrite};
 
@@ -11,10 +11,10 @@ use crate::emitting::emit_text;
 use crate::formatting::format_text;
 use crate::keeping::keep_text;
 use crate::running::{Host, run_text};
-use rc_arguments::command::{Command, Form, FoundAs};
+use rc_console::command::{Command, Form, FoundAs};
+use rc_console::fault::CommandFault;
+use rc_console::output::write_answer;
 use rc_explain::engine::put_explained;
-use rc_files::fault::CommandFault;
-use rc_files::output::write_answer;
 use rc_report::check_engine::put_checked;
 use rc_report::script::Stepping;
 use rc_report::status::{DEVICE_STATUS, GOOD_STATUS};

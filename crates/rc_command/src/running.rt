@@ -3,17 +3,17 @@
 ghost use Rattle.std.specs.Prelude.{◌≡◌, IfErr, IfOk};
 ghost use Rattle.std.specs.Arc.{arc_value};
 ghost use Rattle.rc_command.specs.Answers.{EndsRun, SaysAdmitted, SaysRun};
-ghost use Rattle.rc_files.specs.declared.fault.CommandFault.TheVariants.{OtherProgram};
-ghost use Rattle.rc_files.specs.Answers.{Does};
+ghost use Rattle.rc_console.specs.declared.fault.CommandFault.TheVariants.{OtherProgram};
+ghost use Rattle.rc_console.specs.Answers.{Does};
 ghost use Rattle.rc_report.specs.Statuses.{status_of_end, status_of_verdict};
 ghost use Rattle.rc_report.specs.Streams.{CanWrite};
 ghost use Rattle.rc_report.specs.Verdicts.{verdict_text};
 
 use rc_admit::admitted::Admitted;
+use rc_console::fault::CommandFault;
+use rc_console::output::write_answer;
 use rc_device::chooser::Seeded;
 use rc_device::disk::Disk;
-use rc_files::fault::CommandFault;
-use rc_files::output::write_answer;
 use rc_lang::program::Program;
 use rc_report::check_engine::judged;
 use rc_report::source::Lines;

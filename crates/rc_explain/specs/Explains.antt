@@ -14,8 +14,8 @@ use Rattle.rc_report.specs.Checks.{IsVerdict}
 use Rattle.rc_report.specs.Files.{file_text}
 use Rattle.rc_report.specs.Shown.{shown}
 use Rattle.rc_report.specs.Verdicts.{verdict_text}
-use Rattle.rc_arguments.specs.declared.command.Form.{Form}
-use Rattle.rc_arguments.specs.declared.command.Form.TheVariants.{Words, Listing, Json}
+use Rattle.rc_console.specs.declared.command.Form.{Form}
+use Rattle.rc_console.specs.declared.command.Form.TheVariants.{Words, Listing, Json}
 
 -- ---- as JSON
 

@@ -10,7 +10,7 @@ use crate::judged::verdict_of;
 use crate::object::object_text;
 use crate::printed::printed;
 use rc_admit::admitted::{Judged, judge};
-use rc_arguments::command::Form;
+use rc_console::command::Form;
 use rc_report::file_verdict::put_file_verdict;
 use rc_report::shown::put_shown;
 use rc_report::text::put_piece;

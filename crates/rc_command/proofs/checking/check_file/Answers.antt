@@ -1,10 +1,10 @@
 use Rattle.std.proofs.Common.{refl, sym, inl, inr, [], Ok, Err}
 use Rattle.rc_report.proofs.Pieces.{wrote_none}
-use Rattle.rc_files.specs.Answers.{SaysVerdict}
+use Rattle.rc_console.specs.Answers.{SaysVerdict}
 use Rattle.rc_command.specs.Checking.{ChecksFile, TellsFile, memory_words}
-use Rattle.rc_files.specs.Files.{line_told}
-use Rattle.rc_files.proofs.Answers.{does_verdict}
-use Rattle.rc_files.proofs.FileAnswers.{told_nothing}
+use Rattle.rc_console.specs.Files.{line_told}
+use Rattle.rc_console.proofs.Answers.{does_verdict}
+use Rattle.rc_console.proofs.FileAnswers.{told_nothing}
 use Rattle.rc_command.proofs.checking.check_file.Goals as goal
 
 pub returns-in-Err-clause-answer : goal.returns-in-Err-clause-answer

@@ -1,7 +1,7 @@
 use Rattle.std.proofs.Common.{ℕ, List, arith}
 use Rattle.std.specs.Borrow.{Bor}
 use Rattle.rc_command.specs.Checking.{ChecksFile}
-use Rattle.rc_files.proofs.FileAnswers.{none_yet, one_more}
+use Rattle.rc_console.proofs.FileAnswers.{none_yet, one_more}
 use Rattle.rc_command.proofs.checking.check_files.Goals as goal
 
 pub loop-name-init : goal.loop-name-init

@@ -1,6 +1,6 @@
 use Rattle.std.proofs.Common.{◌≤◌, take}
 use Rattle.rc_command.specs.Checking.{ChecksFile}
-use Rattle.rc_files.specs.Files.{Answered, SaysAll}
+use Rattle.rc_console.specs.Files.{Answered, SaysAll}
 use Rattle.rc_command.proofs.checking.check_files.Given as goal
 
 abbrev pub invariant-loop-name : goal.invariant-loop-name

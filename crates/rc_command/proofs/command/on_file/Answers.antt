@@ -1,9 +1,9 @@
 use Rattle.std.proofs.Common.{[], Ok, Err, refl, sym}
 use Rattle.rc_report.proofs.Pieces.{wrote_none}
 use Rattle.rc_command.specs.Answers.{AsksFile, Says}
-use Rattle.rc_files.specs.Files.{line_told}
+use Rattle.rc_console.specs.Files.{line_told}
 use Rattle.rc_command.proofs.Commands.{all_within}
-use Rattle.rc_files.proofs.FileAnswers.{told_nothing}
+use Rattle.rc_console.proofs.FileAnswers.{told_nothing}
 use Rattle.rc_command.proofs.command.on_file.Goals as goal
 
 pub returns-in-Ok-clause-answer : goal.returns-in-Ok-clause-answer

@@ -1,4 +1,4 @@
-use Rattle.rc_files.proofs.FileAnswers.{files_do}
+use Rattle.rc_console.proofs.FileAnswers.{files_do}
 use Rattle.rc_command.proofs.command.on_files.Goals as goal
 
 pub returns : goal.returns

@@ -1,7 +1,7 @@
 use Rattle.std.proofs.Common.{◌≡◌, ℕ, List, refl, subst, sym}
 use Rattle.rc_rewrite.specs.LaidOut.{IsLaidOut}
 use Rattle.rc_command.specs.Answers.{SaysLaidOut}
-use Rattle.rc_files.proofs.Answers.{does_as, does_nothing}
+use Rattle.rc_console.proofs.Answers.{does_as, does_nothing}
 use Rattle.rc_command.proofs.formatting.format_text.Goals as goal
 
 pub returns-in_err-laid : goal.returns-in_err-laid

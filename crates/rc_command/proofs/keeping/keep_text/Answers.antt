@@ -1,7 +1,7 @@
 use Rattle.std.proofs.Common.{refl, subst}
 use Rattle.rc_rewrite.specs.Keeps.{GivesKept}
 use Rattle.rc_command.specs.Answers.{SaysKept}
-use Rattle.rc_files.proofs.Answers.{does_nothing}
+use Rattle.rc_console.proofs.Answers.{does_nothing}
 use Rattle.rc_command.proofs.Commands.{does_kept, does_unread}
 use Rattle.rc_command.proofs.keeping.keep_text.Goals as goal
 

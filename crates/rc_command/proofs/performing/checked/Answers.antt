@@ -1,7 +1,7 @@
 use Rattle.std.proofs.Common.{refl}
 use Rattle.rc_report.specs.Checks.{TellsVerdict}
-use Rattle.rc_files.proofs.Answers.{does_nothing, does_verdict}
-use Rattle.rc_files.specs.Answers.{SaysVerdict}
+use Rattle.rc_console.proofs.Answers.{does_nothing, does_verdict}
+use Rattle.rc_console.specs.Answers.{SaysVerdict}
 use Rattle.rc_command.proofs.performing.checked.Goals as goal
 
 pub returns-in_err-verdict : goal.returns-in_err-verdict

@@ -1,7 +1,7 @@
 use Rattle.std.proofs.Common.{None, refl}
 use Rattle.rc_explain.specs.Explains.{Explains}
-use Rattle.rc_files.proofs.Answers.{does_nothing, does_verdict}
-use Rattle.rc_files.specs.Answers.{SaysVerdict}
+use Rattle.rc_console.proofs.Answers.{does_nothing, does_verdict}
+use Rattle.rc_console.specs.Answers.{SaysVerdict}
 use Rattle.rc_command.proofs.performing.explained.Goals as goal
 
 pub returns-in_err-verdict : goal.returns-in_err-verdict

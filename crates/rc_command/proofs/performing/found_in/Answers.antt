@@ -1,6 +1,6 @@
 use Rattle.std.proofs.Common.{refl, sym, subst, ◌∙◌}
-use Rattle.rc_files.proofs.Answers.{does_as, does_nothing}
-use Rattle.rc_files.specs.Answers.{SaysVerdict}
+use Rattle.rc_console.proofs.Answers.{does_as, does_nothing}
+use Rattle.rc_console.specs.Answers.{SaysVerdict}
 use Rattle.rc_command.specs.Answers.{Finds, IsShownAs}
 use Rattle.rc_command.proofs.performing.found_in.Goals as goal
 

@@ -1,7 +1,7 @@
 use Rattle.std.proofs.Common.{sym, subst}
-use Rattle.rc_arguments.specs.declared.command.Command.{Command}
+use Rattle.rc_console.specs.declared.command.Command.{Command}
 use Rattle.rc_command.specs.Answers.{Says}
-use Rattle.rc_files.specs.Answers.{Does}
+use Rattle.rc_console.specs.Answers.{Does}
 use Rattle.rc_command.proofs.performing.performed.Goals as goal
 
 pub returns-in-Keeps : goal.returns-in-Keeps

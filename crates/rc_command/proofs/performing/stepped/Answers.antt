@@ -4,7 +4,7 @@ use Rattle.rc_report.specs.Streams.{Wrote}
 use Rattle.rc_runs.specs.Scripts.{script_text}
 use Rattle.rc_runs.proofs.Stepped.{of_some, of_text}
 use Rattle.rc_command.specs.Answers.{SaysScript, SaysSteps}
-use Rattle.rc_files.proofs.Answers.{steps_fault}
+use Rattle.rc_console.proofs.Answers.{steps_fault}
 use Rattle.rc_command.proofs.performing.stepped.Goals as goal
 
 pub returns-in_err-end : goal.returns-in_err-end

@@ -5,7 +5,7 @@ use Rattle.rc_world.specs.declared.event.Event.{Event}
 use Rattle.rc_report.specs.declared.trace.End.{End}
 use Rattle.rc_report.specs.Statuses.{status_of_end}
 use Rattle.rc_report.specs.Traces.{trace_text}
-use Rattle.rc_files.proofs.Answers.{does_as}
+use Rattle.rc_console.proofs.Answers.{does_as}
 use Rattle.rc_command.specs.Answers.{SaysRun, TellsRun}
 use Rattle.rc_command.proofs.running.run_admitted.Goals as goal
 

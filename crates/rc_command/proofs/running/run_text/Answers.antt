@@ -3,7 +3,7 @@ use Rattle.rc_lang.specs.Program.{Program}
 use Rattle.rc_read.specs.Answer.{answer_of}
 use Rattle.rc_report.specs.Checks.{GivesVerdict}
 use Rattle.rc_command.specs.Answers.{SaysAdmitted, SaysRun}
-use Rattle.rc_files.proofs.Answers.{does_nothing}
+use Rattle.rc_console.proofs.Answers.{does_nothing}
 use Rattle.rc_command.proofs.Commands.{does_admitted, does_refused}
 use Rattle.rc_command.proofs.running.run_text.Goals as goal
 

@@ -1,7 +1,7 @@
 use Rattle.std.proofs.Common.{◌≡◌, ℕ, List, refl}
 use Rattle.rc_report.specs.Statuses.{status_of_verdict}
 use Rattle.rc_report.specs.Verdicts.{verdict_text}
-use Rattle.rc_files.proofs.Answers.{does_made, does_nothing}
+use Rattle.rc_console.proofs.Answers.{does_made, does_nothing}
 use Rattle.rc_command.proofs.running.tell_verdict.Goals as goal
 
 pub returns-in_err-put_verdict : goal.returns-in_err-put_verdict

@@ -1,6 +1,6 @@
 use Rattle.std.proofs.Common.{◌≡◌, ℕ, List, refl, ◌∙◌}
 use Rattle.rc_report.specs.Statuses.{status_of_end}
-use Rattle.rc_files.proofs.Answers.{does_as, does_nothing}
+use Rattle.rc_console.proofs.Answers.{does_as, does_nothing}
 use Rattle.rc_command.proofs.running.write_summary.Goals as goal
 
 pub returns-in_err-lines : goal.returns-in_err-lines

@@ -1,0 +1,10 @@
+use Rattle.std.proofs.Common.{◌≡◌, None}
+use Rattle.rc_log.specs.Waiting.{left}
+use Rattle.rc_command.specs.Logs.{Under}
+use Rattle.rc_command.proofs.departures.following.follow_lines.Given as goal
+
+abbrev pub invariant-loop-number : goal.invariant-loop-number
+invariant-loop-number g l = record {
+  program : l.follower.program ≡ l.fn.follower.program;
+  under : Under l.fn.follower (g.R.Read.remaining l.fn.reader) (left g.R.Read.remaining l.log) l.follower None;
+}

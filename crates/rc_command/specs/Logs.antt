@@ -1,0 +1,120 @@
+-- Logs that are followed in a program.
+use Rattle.std.specs.Prelude.{ℕ, ◌≡◌, ◌≤◌, ◌⊎◌, ◌++◌, Bool, true, List, [], ◌∷◌, Option, Some, None, Result, Ok, Err}
+use Rattle.rc_lang.specs.Program.{Program}
+use Rattle.rc_log.specs.declared.call.Said.{Said}
+use Rattle.rc_log.specs.Heads.{is_head, ring}
+use Rattle.rc_log.specs.Lines.{log_lines}
+use Rattle.rc_log.specs.Said.{said}
+use Rattle.rc_follow.specs.Followed.{IsFollowed}
+use Rattle.rc_follow.specs.Follower.{Follower, Follows, with_ways}
+use Rattle.rc_command.specs.declared.departures.ending.Ending.{Ending}
+use Rattle.rc_command.specs.declared.departures.ending.Ending.TheVariants.{Followed}
+
+-- What lines say, one after another.
+abbrev pub Say : Program → List (List ℕ) → List Said → Type 0
+Say p [] [] = Unit {0}
+Say p [] (s ∷ ss) = ⊥
+Say p (line ∷ lines) [] = ⊥
+Say p (line ∷ lines) (s ∷ ss) = (said p line ≡ Ok s) × Say p lines ss
+
+-- Rings with so many entries have room for those of the program.
+abbrev pub HasRoom : Program → Option (ℕ × ℕ) → Type 0
+HasRoom p None = ⊥
+HasRoom p (Some n) = (p.entries ≤ n.0) × (p.completion_entries ≤ n.1)
+
+-- The first line is the head of a log, the second tells of its rings, and those after them say this.
+abbrev pub IsLog : Program → List (List ℕ) → List Said → Type 0
+IsLog p [] ss = ⊥
+IsLog p (head ∷ []) ss = ⊥
+IsLog p (head ∷ rings ∷ lines) ss = (is_head head ≡ true) × HasRoom p (ring rings) × Say p lines ss
+
+-- The bytes are those of a log whose lines are followed in the program.
+abbrev pub IsFollowedLog : Program → List ℕ → Type 0
+IsFollowedLog p bytes = (ss : List Said) × IsLog p (log_lines bytes) ss × IsFollowed p ss
+
+-- If the answer is `Followed`, the log is followed. Nothing is said where its bytes aren't known.
+abbrev pub Ends : Program → Option (List ℕ) → Ending → Type 0
+Ends p (Some bytes) (Followed calls) = IsFollowedLog p bytes
+Ends p _ _ = Unit {0}
+
+-- It isn't said that it is followed.
+abbrev pub IsOther : Ending → Type 0
+IsOther (Followed calls) = ⊥
+IsOther _ = Unit {0}
+
+-- ---- what was reached
+
+-- Some lines after the first two, from the third on, say this.
+abbrev pub IsBegun : Program → List (List ℕ) → List Said → Type 0
+IsBegun p lines ss =
+    (ss ≡ []) ⊎ ((head rings : List ℕ) × (some rest : List (List ℕ)) × (lines ≡ head ∷ rings ∷ (some ++ rest)) × Say p some ss)
+
+-- These lines were followed: all of a log that is followed, and of another those before the one at which it ends.
+abbrev pub AreFollowed : Program → Option (List ℕ) → Ending → List Said → Type 0
+AreFollowed p (Some bytes) (Followed calls) ss = IsLog p (log_lines bytes) ss
+AreFollowed p (Some bytes) _ ss = IsBegun p (log_lines bytes) ss
+AreFollowed p None ending ss = Unit {0}
+
+-- The follower is where the log ends, and nothing more is reached yet.
+abbrev pub Stops : Follower → Option (List ℕ) → Follower → Ending → Type 0
+Stops old bytes f ending =
+    Ends old.program bytes ending × (f.program ≡ old.program) × (f.reached ≡ old.reached)
+    × (ss : List Said) × Follows ss f × AreFollowed old.program bytes ending ss
+
+-- What is reached besides are the calls that were made on the ways that are left where the log ends.
+abbrev pub Reaches : Follower → Option (List ℕ) → Follower → Ending → Type 0
+Reaches old bytes new ending = (f : Follower) × Stops old bytes f ending × (new ≡ with_ways f)
+
+-- ---- a log under way
+
+-- The first two lines were read, and these bytes are left.
+abbrev pub IsHeaded : Program → List ℕ → List ℕ → Type 0
+IsHeaded p bytes left =
+    (head rings : List ℕ) × (log_lines bytes ≡ head ∷ rings ∷ log_lines left) × (is_head head ≡ true) × HasRoom p (ring rings)
+
+-- Lines were read after them, and they are followed.
+abbrev pub IsUnder : Program → List ℕ → List ℕ → Follower → Type 0
+IsUnder p bytes left f =
+    (head rings : List ℕ) × (lines : List (List ℕ)) × (ss : List Said)
+    × (log_lines bytes ≡ head ∷ rings ∷ (lines ++ log_lines left)) × (is_head head ≡ true) × HasRoom p (ring rings)
+    × Say p lines ss × Follows ss f × (f.program ≡ p)
+
+-- The same of bytes that may be unknown.
+abbrev pub Knows : (List ℕ → List ℕ → Type 0) → Option (List ℕ) → Option (List ℕ) → Type 0
+Knows is None left = Unit {0}
+Knows is (Some bytes) None = ⊥
+Knows is (Some bytes) (Some left) = is bytes left
+
+-- The line tells of rings with room, or it is said that it doesn't.
+abbrev pub IsRoomy : Program → List ℕ → Option Ending → Type 0
+IsRoomy p line None = HasRoom p (ring line)
+IsRoomy p line (Some ending) = IsOther ending
+
+-- The next line was read, and tells of such rings.
+abbrev pub IsRinged : Program → List ℕ → List ℕ → Type 0
+IsRinged p old new = (rings : List ℕ) × (log_lines old ≡ rings ∷ log_lines new) × HasRoom p (ring rings)
+
+abbrev pub Ringed : Program → Option (List ℕ) → Option (List ℕ) → Option Ending → Type 0
+Ringed p old new None = Knows (IsRinged p) old new
+Ringed p old new (Some ending) = IsOther ending
+
+-- The line was followed after those before it, or it is said why not.
+abbrev pub FollowsLine : Follower → List ℕ → Follower → Option Ending → Type 0
+FollowsLine old line new None =
+    (s : Said) × (said old.program line ≡ Ok s) × (new.program ≡ old.program) × (new.reached ≡ old.reached)
+    × ((ss : List Said) → Follows ss old → Follows (ss ++ s ∷ []) new)
+FollowsLine old line new (Some ending) = IsOther ending × (new ≡ old)
+
+abbrev pub Headed : Program → Option (List ℕ) → Option (List ℕ) → Option Ending → Type 0
+Headed p bytes left None = Knows (IsHeaded p) bytes left
+Headed p bytes left (Some ending) = IsOther ending
+
+-- some lines are followed
+abbrev pub HasFollowed : Program → Option (List ℕ) → Option (List ℕ) → Follower → Type 0
+HasFollowed p None left f = (ss : List Said) × Follows ss f
+HasFollowed p (Some bytes) None f = ⊥
+HasFollowed p (Some bytes) (Some left) f = IsUnder p bytes left f
+
+abbrev pub Under : Follower → Option (List ℕ) → Option (List ℕ) → Follower → Option Ending → Type 0
+Under old bytes left f None = (f.program ≡ old.program) × (f.reached ≡ old.reached) × HasFollowed old.program bytes left f
+Under old bytes left f (Some ending) = Stops old bytes f ending

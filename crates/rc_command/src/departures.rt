@@ -1,0 +1,11 @@
+//! Logs, held to a program from their first line to their last, and what is printed of them.
+
+pub mod answers;
+pub mod ending;
+pub mod following;
+pub mod logs;
+mod object;
+mod places_text;
+pub mod printed;
+mod unmade;
+mod why;

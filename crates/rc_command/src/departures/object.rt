@@ -1,0 +1,81 @@
+//! What is printed of logs, as JSON objects: without spaces, the keys in order, each with a line feed.
+
+ghost use Rattle.std.specs.Prelude.{◌≡◌, ◌++◌, codes, false, IfOk};
+ghost use Rattle.serde_json.specs.View.{view};
+ghost use Rattle.serde_json.specs.Written.{compact_text, has_float};
+ghost use Rattle.rc_command.specs.Endings.{ending_json, ending_object};
+ghost use Rattle.rc_report.specs.Shown.{shown};
+ghost use Rattle.rc_text.specs.Text.{Puts};
+
+use crate::departures::ending::Ending;
+use crate::departures::unmade::word_of;
+use rc_lang::lines::Line;
+use rc_report::shown::put_shown;
+use rc_text::text::put_piece;
+use serde_json::{Value, json};
+use std::alloc::{AllocError, Global};
+
+/// Adds how a log ends.
+pub fn put_ending_object(
+    text: &mut Vec<u8>,
+    alloc: Global,
+    log: &str,
+    ending: &Ending,
+) -> Result<(), AllocError>
+    ensures { Puts text.old text.new (ending_json log.now ending.now) result }
+{
+    let object = object_of(alloc, log, ending)?;
+    put_object(text, alloc, &object)
+}
+
+/// Adds these calls of a program, which no log makes.
+pub fn put_unmade_object(
+    text: &mut Vec<u8>,
+    alloc: Global,
+    unmade: &[Line],
+) -> Result<(), AllocError> {
+    let mut calls = Vec::new(alloc);
+    for line in unmade {
+        calls.push(json!(in alloc; {"call": word_of(line.stmt), "line": line.number})?)?;
+    }
+    let calls = Value::Array(calls);
+    let object = json!(in alloc; {"never": calls})?;
+    put_object(text, alloc, &object)
+}
+
+/// Adds an object. What isn't shown as it is is as `\u` and four hex digits.
+fn put_object(text: &mut Vec<u8>, alloc: Global, object: &Value) -> Result<(), AllocError>
+    ensures { has_float (view object.now) ≡ false → Puts text.old text.new (shown (compact_text (view object.now)) ++ codes "\n") result }
+{
+    let object = object.to_string(alloc)?;
+    put_shown(text, object.as_str())?;
+    put_piece(text, b"\n")
+}
+
+fn object_of(alloc: Global, log: &str, ending: &Ending) -> Result<Value, AllocError>
+    ensures { IfOk result (λ v. view v ≡ ending_object log.now ending.now) }
+{
+    match ending {
+        Ending::Followed { calls } => {
+            json!(in alloc; {"answer": "followed", "calls": *calls, "log": log})
+        }
+        Ending::Departs {
+            number,
+            place,
+            says,
+            why,
+        } => {
+            let place = String::from_utf8_lossy(alloc, place)?;
+            let says = String::from_utf8_lossy(alloc, says)?;
+            let why = String::from_utf8_lossy(alloc, why)?;
+            json!(in alloc; {"answer": "departs", "at": place, "line": *number, "log": log, "says": says, "why": why})
+        }
+        Ending::Unreadable { number, why } => {
+            let why = String::from_utf8_lossy(alloc, why)?;
+            json!(in alloc; {"answer": "unreadable", "line": *number, "log": log, "why": why})
+        }
+        Ending::TooMany { number } => {
+            json!(in alloc; {"answer": "too many", "line": *number, "log": log})
+        }
+    }
+}

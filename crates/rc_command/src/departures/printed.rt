@@ -1,0 +1,93 @@
+//! What is printed of logs, as text and as JSON.
+
+ghost use Rattle.rc_command.specs.Endings.{after_name, ending_printed, ending_text};
+ghost use Rattle.rc_text.specs.Text.{Puts};
+
+use crate::departures::ending::Ending;
+use crate::departures::object::{put_ending_object, put_unmade_object};
+use crate::departures::unmade::word_of;
+use itoa::Buffer;
+use rc_lang::lines::Line;
+use rc_report::shown::put_shown;
+use rc_text::text::{put_counted, put_pieces};
+use std::alloc::{AllocError, Global};
+
+/// Adds how a log ends, as JSON or as text, with a line feed. The log's name is as it is shown.
+pub fn put_ending(
+    text: &mut Vec<u8>,
+    alloc: Global,
+    log: &str,
+    ending: &Ending,
+    json: bool,
+) -> Result<(), AllocError>
+    ensures { Puts text.old text.new (ending_printed json log.now ending.now) result }
+{
+    if json {
+        put_ending_object(text, alloc, log, ending)
+    } else {
+        put_ending_text(text, log, ending)
+    }
+}
+
+/// Adds how a log ends, as text.
+fn put_ending_text(text: &mut Vec<u8>, log: &str, ending: &Ending) -> Result<(), AllocError>
+    ensures { Puts text.old text.new (ending_text log.now ending.now) result }
+{
+    put_shown(text, log)?;
+    put_after_name(text, ending)
+}
+
+/// Adds how a log ends, after its name.
+fn put_after_name(text: &mut Vec<u8>, ending: &Ending) -> Result<(), AllocError>
+    ensures { Puts text.old text.new (after_name ending.now) result }
+{
+    let mut line = Buffer::new();
+    match ending {
+        Ending::Followed { calls } => put_counted(text, b": followed ", *calls, b" calls\n"),
+        Ending::Departs {
+            number,
+            place,
+            says,
+            why,
+        } => {
+            let number = line.format(*number).as_bytes();
+            put_pieces(
+                text,
+                &[b":", number, b": ", place, b": ", says, b"; ", why, b"\n"],
+            )
+        }
+        Ending::Unreadable { number, why } => {
+            let number = line.format(*number).as_bytes();
+            put_pieces(
+                text,
+                &[b": log line ", number, b" unreadable: ", why, b"\n"],
+            )
+        }
+        Ending::TooMany { number } => {
+            put_counted(text, b": too many candidates at log line ", *number, b"\n")
+        }
+    }
+}
+
+/// Adds these calls of a program, which no log makes, in the order of the model: a line for each, or one JSON object.
+pub fn put_unmade(
+    text: &mut Vec<u8>,
+    alloc: Global,
+    unmade: &[Line],
+    json: bool,
+) -> Result<(), AllocError> {
+    if json {
+        return put_unmade_object(text, alloc, unmade);
+    }
+    for line in unmade {
+        put_unmade_line(text, *line)?;
+    }
+    Ok(())
+}
+
+fn put_unmade_line(text: &mut Vec<u8>, line: Line) -> Result<(), AllocError> {
+    let mut number = Buffer::new();
+    let number = number.format(line.number).as_bytes();
+    let word = word_of(line.stmt).as_bytes();
+    put_pieces(text, &[b"never: line ", number, b", ", word, b"\n"])
+}

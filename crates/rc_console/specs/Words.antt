@@ -1,0 +1,25 @@
+-- What the words of the command line ask for.
+use Rattle.std.specs.Global.{Vec}
+use Rattle.std.specs.Prelude.{ℕ, ◌≤◌}
+use Rattle.rc_report.specs.declared.script.Script.TheVariants.{Moves}
+use Rattle.rc_console.specs.declared.command.Command.{Command}
+use Rattle.rc_console.specs.declared.command.Command.TheVariants.{Check, Explain, Keeps, Step, Find, Run, Emit, Follow, Format, Serve, Show}
+
+-- The numbers of a search and of a run are in their ranges; the seed's is that of its type.
+abbrev pub HasRanges : Command → Type 0
+HasRanges (Check json) = Unit {0}
+HasRanges (Explain form) = Unit {0}
+HasRanges Keeps = Unit {0}
+HasRanges (Step stepping) = Unit {0}
+HasRanges (Find seed walks found) = (1 ≤ walks) × (walks ≤ 1000000)
+HasRanges (Run seed limit summary) = (1 ≤ limit) × (limit ≤ 1000000)
+HasRanges Emit = Unit {0}
+HasRanges (Follow asked) = Unit {0}
+HasRanges Format = Unit {0}
+HasRanges Serve = Unit {0}
+HasRanges (Show text) = Unit {0}
+
+-- The command with these moves, where it steps a program.
+abbrev pub with_moves : Command → Vec ℕ → Command
+with_moves (Step stepping) moves = Step (record { script = Moves moves; show = stepping.show })
+with_moves command moves = command

@@ -1,0 +1,103 @@
+//! What the words of the command line ask for.
+
+ghost use Rattle.std.specs.Prelude.{◌≡◌};
+ghost use Rattle.rc_console.specs.Words as spec;
+
+use rc_report::script::{Script, Stepping};
+
+/// How a verdict is explained.
+#[derive(Clone, Copy)]
+pub enum Form {
+    /// In words.
+    Words,
+    /// In words, and then what is known before each line.
+    Listing,
+    /// As a JSON object.
+    Json,
+}
+
+/// How a run that is found is shown.
+#[derive(Clone, Copy)]
+pub enum FoundAs {
+    /// In words, with its trace.
+    Words,
+    /// As a JSON object.
+    Json,
+    /// As a picture.
+    Picture,
+}
+
+/// What `follow` is asked for.
+#[derive(Drop)]
+pub struct Following<'a> {
+    /// Whether its answers are JSON objects.
+    pub json: bool,
+    /// Whether it lists the calls that no log makes, even where one departs.
+    pub never: bool,
+    /// The file with the model; none: standard input.
+    pub text: Option<&'a str>,
+    /// The files with the logs.
+    pub logs: Vec<&'a str>,
+}
+
+/// What the program is asked to do.
+#[derive(Drop)]
+pub enum Command<'a> {
+    /// Check the program, with its verdict as JSON or as text.
+    Check {
+        json: bool,
+    },
+    /// Check the program, and explain the verdict in this form.
+    Explain {
+        form: Form,
+    },
+    /// Fill in what each loop keeps.
+    Keeps,
+    /// Step the program, and show its run.
+    Step(Stepping<'a>),
+    /// Look for a run of the refused program into a fault: with the choices of this seed, by so many walks at most, from 1.
+    Find {
+        seed: u32,
+        walks: u32,
+        found: FoundAs,
+    },
+    /// Run the program on threads: with the choices of this seed, and at most so many events of its threads, from 1.
+    /// What happened is written as a summary or as a trace.
+    Run {
+        seed: u32,
+        limit: u32,
+        summary: bool,
+    },
+    /// Write the program in C.
+    Emit,
+    /// Follow logs in the program. Its model is read apart from those of other commands.
+    Follow(Following<'a>),
+    /// Print the model with its blocks indented.
+    Format,
+    /// Answer the messages of an editor. This reads no model.
+    Serve,
+    /// Show this text: help, or the version.
+    Show(String),
+}
+
+/// A command and the files that it reads: standard input if there are none.
+#[derive(Drop)]
+pub struct Asked<'a> {
+    pub command: Command<'a>,
+    pub files: Vec<&'a str>,
+    /// The file that has the moves of `step`, if they are in one.
+    pub moves: Option<&'a str>,
+}
+
+/// The command with moves that were read from a file.
+pub fn with_moves(command: Command<'_>, moves: Vec<u8>) -> Command<'_>
+    ensures { result ≡ spec.with_moves command.entry moves }
+{
+    match command {
+        Command::Step(Stepping { show, .. }) => Command::Step(Stepping {
+            script: Script::Moves(moves),
+            show,
+        }),
+        other => other,
+    }
+}
