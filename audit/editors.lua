@@ -105,7 +105,7 @@ local function act(word)
   vim.lsp.buf.code_action()
 end
 
--- ---- a text that is refused
+-- ---- a model that is refused
 
 step('a file of the notation has its type, and the server is started', function()
   vim.cmd('edit early.rc')
@@ -246,7 +246,7 @@ step('the run that shows the harm is found', function()
   vim.cmd('close')
 end)
 
--- ---- texts with something to insert
+-- ---- models with something to insert
 
 step('a code action fills in the list of a loop', function()
   vim.cmd('edit! keeps.rc')

@@ -58,7 +58,7 @@ def load():
     # At Ctrl-C this process ends at once, and the toolchain's guard then ends all that it has started.
     signal.signal(signal.SIGINT, signal.SIG_DFL)
     rt.rtlib.guarded()
-    # Kit 13f shares work between its processes where it is told to; kit 13b has no such call.
+    # Kit 13f shares work between its processes where it is asked to; kit 13b has no such call.
     getattr(rt, "share_work", lambda _: None)(True)
     made = rt.rtlib.Crate.__init__
 
@@ -174,7 +174,7 @@ class Proof:
         return True
 
     def has_ended_well(self, crate, jobs, status):
-        """Takes the end of a crate's proof, and tells where it failed."""
+        """Takes the end of a crate's proof, and says where it failed."""
         took = self.progress.end(crate, not status)
         if not status and self.sums.has_changed(crate):
             for kept in ("rlib/stamp", f"{crate.name}.stamp"):

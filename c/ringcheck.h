@@ -1237,7 +1237,7 @@ RINGCHECK_INSIDE void ringcheck_transfer(const char *call, const struct io_uring
                    (unsigned long long)sqe->off);
 }
 
-/* Several pieces aren't one buffer of the text: `?`. */
+/* Several pieces aren't one buffer of the model: `?`. */
 RINGCHECK_INSIDE void ringcheck_transfers(const char *call, const struct io_uring_sqe *sqe, const char *file, int line)
 {
     const struct iovec *pieces = (const struct iovec *)(uintptr_t)sqe->addr;

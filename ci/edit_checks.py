@@ -31,7 +31,7 @@ FILES = re.compile(r"expected answers in \S+$")
 
 
 class Failed(Exception):
-    """A check that tells nothing of the edits."""
+    """A check that says nothing of the edits."""
 
 
 @dataclass
@@ -211,4 +211,4 @@ def check(crate, texts, only, kept):
     if again.is_whole or again.unread(texts):
         return again
     how = "was killed, maybe for memory" if again.status == -signal.SIGKILL else f"ended with status {again.status}"
-    raise Failed(f"its check {how}, twice, and tells nothing:\n{again.text[-2000:]}")
+    raise Failed(f"its check {how}, twice, and says nothing:\n{again.text[-2000:]}")

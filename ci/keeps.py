@@ -16,13 +16,13 @@ import sys
 
 from rows_file import EXAMPLES, TOP, rows_below
 
-# How many texts there are at least that are accepted and have loops.
+# How many models there are at least that are accepted and have loops.
 FEWEST = 25
 
 # A loop's line: up to `keeps`, its items, and from the brace on.
 LOOP = re.compile(rb"^([ \t]*loop[ \t]+keeps)([^{#]*)(\{.*)$", re.DOTALL)
 
-# Texts, where `;` ends a line, and the lists that their loops get. All else is printed as it is.
+# Models, where `;` ends a line, and the lists that their loops get. All else is printed as it is.
 HEAD = "ringcheck 1; ring 2; buffer a 16 1; token 7 read a; token 8 nop; "
 FLAGGED = "ringcheck 2; ring 2; token 7 nop; token 8 nop; "
 QUEUE = "ringcheck 1; ring 4 left 4; token 8 nop; "
@@ -103,7 +103,7 @@ LISTS = [
 
 
 def answer(program, words, text):
-    """What the program prints for a text, and its status."""
+    """What the program prints for a model, and its status."""
     done = subprocess.run([program, *words], input=text, capture_output=True, timeout=60, check=False)
     return done.stdout + done.stderr, done.returncode
 
@@ -118,12 +118,12 @@ def lists_of(text):
 
 
 def without_lists(text):
-    """A text without the lists of its loops."""
+    """A model without the lists of its loops."""
     return b"\n".join(LOOP.sub(rb"\1\3", line) for line in text.split(b"\n"))
 
 
 def emptied(text):
-    """A text with the lists of its loops empty, but for the flags that they name."""
+    """A model with the lists of its loops empty, but for the flags that they name."""
     def empty(loop):
         flag = re.search(rb"[ \t]when[ \t]+\w+", loop[2])
         return loop[1] + (flag[0] if flag else b"") + b" " + loop[3]
@@ -144,7 +144,7 @@ def counts(words):
 
 
 def entries_of(text):
-    """How many entries the ring of a text has, which a loop without a bound of the queue allows."""
+    """How many entries the ring of a model has, which a loop without a bound of the queue allows."""
     asked = int(re.search(rb"^[ \t]*ring[ \t]+(\d+)", text, re.MULTILINE)[1])
     return 1 << (asked - 1).bit_length()
 
@@ -165,7 +165,7 @@ def is_less(new, old, entries):
 
 
 def layouts(text):
-    """The same text in other layouts."""
+    """The same model in other layouts."""
     yield "indented by tabs", re.sub(rb"^", b"\t", text, flags=re.MULTILINE)
     yield "with comments", re.sub(rb"\{[ \t]*$", b"{ # why { a:1", text, flags=re.MULTILINE)
     yield "with carriage returns", text.replace(b"\n", b"\r\n")
@@ -173,7 +173,7 @@ def layouts(text):
 
 
 def wrong_with(program, old, text):
-    """What is wrong with what is printed of a text, beside one with the lists of its author."""
+    """What is wrong with what is printed of a model, beside one with the lists of its author."""
     new, status = answer(program, ["keeps"], text)
     if status != 0:
         yield f"status {status}"
@@ -204,7 +204,7 @@ def wrong_texts(program, place, old):
 
 
 def wrong_lists(program):
-    """The texts whose loops don't get their lists."""
+    """The models whose loops don't get their lists."""
     for name, words, wanted in LISTS:
         text = "".join(f"{line}\n" for line in words.split("; ")).encode()
         new, status = answer(program, ["keeps"], text)

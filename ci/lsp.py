@@ -282,7 +282,7 @@ def wrong_variants(program, session):
 
 
 def wrong_alone(program, session, message, variant):
-    """What is wrong with a server that is told a session with a variant of one of its messages."""
+    """What is wrong with a server that is given a session with a variant of one of its messages."""
     sent = [variant if one is message else one for one in session.messages()]
     data = b"".join(framed(body_of(one)) for one in sent)
     bodies, errors, status = held_in_pieces(program, data, len(data))

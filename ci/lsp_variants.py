@@ -59,7 +59,7 @@ def is_notification(message):
 
 
 def wrong_answers(message, told):
-    """What is wrong with what a server tells, a list of messages, after one; or None."""
+    """What is wrong with what a server answers, a list of messages, after one; or None."""
     answers = [one for one in told if "method" not in one]
     if is_request(message) and [answer.get("id") for answer in answers] != [message["id"]]:
         return f"a request has the answers {answers}"

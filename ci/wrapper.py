@@ -4,8 +4,8 @@
 usage: ci/wrapper.py
 
 Nothing is proved or compiled: in place of the commands of the toolchain there are those of ci/wrapper/, whose program
-prints its words and its input. It sees which program runs and when one is built, what is told, that words, streams and
-statuses are those of the program, that two builds at a time are one, what an interrupted one leaves, and what is told
+prints its words and its input. It sees which program runs and when one is built, what is reported, that words, streams and
+statuses are those of the program, that two builds at a time are one, what an interrupted one leaves, and what is reported
 where something is missing.
 
 A line is printed for each thing that isn't as it should be, and then how many there were. The status is 1 if there were
@@ -100,7 +100,7 @@ class Bench:
             print(f"{name}: {str(got)[:MOST]}", flush=True)
 
     def hold_run(self, name, got, told=""):
-        """Holds a call that runs the program: its status and output, and what is told."""
+        """Holds a call that runs the program: its status and output, and what is reported."""
         right = got[:2] == (STATUS, OUTPUT) and re.fullmatch(told, got[2])
         self.hold(name, right, got)
 
@@ -175,7 +175,7 @@ def hold_interrupted(bench, number):
 
 
 def hold_lacking(bench):
-    """What is told where something is missing, and nothing that runs is built."""
+    """What is reported where something is missing, and nothing that runs is built."""
     for name in ("rt", "python3"):
         hidden = bench.bin / f"hidden-{name}"
         (bench.bin / name).rename(hidden)

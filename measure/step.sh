@@ -1,6 +1,6 @@
 #!/usr/bin/env bash
 # Times a step of the largest program of the notation: one thread that submits and reaps nops, one after another, until
-# the text has almost 4,096 lines, under a schedule of as many items as one argument of a command holds (131,071 bytes).
+# the model has almost 4,096 lines, under a schedule of as many items as one argument of a command holds (131,071 bytes).
 set -eu
 top=$(cd "$(dirname "${BASH_SOURCE[0]}")/.." && pwd)
 folder=$(mktemp -d)

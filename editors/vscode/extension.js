@@ -1,5 +1,5 @@
 'use strict';
-// Ringcheck in VS Code: what `ringcheck lsp` says of the open texts, handed to VS Code's API. It needs no package and no
+// Ringcheck in VS Code: what `ringcheck lsp` says of the open models, handed to VS Code's API. It needs no package and no
 // build step.
 const fs = require('fs');
 const path = require('path');

@@ -1,4 +1,4 @@
-# A rule for make that holds a program to its text: `make -f follow.mk follow`, or include it in your Makefile.
+# A rule for make that checks a program against its model: `make -f follow.mk follow`, or include it in your Makefile.
 # Run from the top of the repository, it follows page_writer. Set these to yours:
 RINGCHECK ?= ./ringcheck
 MODEL ?= examples/follow/page_writer.rc

@@ -217,7 +217,7 @@ static void open_log(struct log *log, const char *path)
     RINGCHECK_BUFFER(log->groups[1].bytes, GROUP, "group2");
     RINGCHECK_TOKEN(&log->groups[0], 1);
     RINGCHECK_TOKEN(&log->groups[1], 2);
-    RINGCHECK_THREAD("committer"); /* main does what the text's committer does first */
+    RINGCHECK_THREAD("committer"); /* main does what the model's committer does first */
     RINGCHECK_PUT("open");
     log->open = &log->groups[0];
 }

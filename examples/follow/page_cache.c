@@ -198,7 +198,7 @@ static void open_cache(struct cache *cache, const char *path)
         die("io_uring_queue_init", -error);
     RINGCHECK_RING(&cache->ring, &cache->mutex);
     RINGCHECK_FILE(cache->file, 3);
-    RINGCHECK_THREAD("worker1"); /* main does what the text's worker1 does first */
+    RINGCHECK_THREAD("worker1"); /* main does what the model's worker1 does first */
     for (i = 0; i < FRAMES; i++) {
         snprintf(names[i], sizeof names[i], "frame%d", i + 1);
         RINGCHECK_BUFFER(cache->frames[i].bytes, PAGE, names[i]);

@@ -184,7 +184,7 @@ static void begin(const char *path)
         die("io_uring_queue_init", -error);
     RINGCHECK_RING_SIDES(&ring, &submit_lock, NULL);
     RINGCHECK_FILE(file, 3);
-    RINGCHECK_THREAD("client1"); /* main does what the text's client1 does first */
+    RINGCHECK_THREAD("client1"); /* main does what the model's client1 does first */
     for (i = 0; i < PAGES; i++) {
         pages[i].bytes = (unsigned char *)aligned_alloc(PAGE, PAGE);
         if (pages[i].bytes == NULL)

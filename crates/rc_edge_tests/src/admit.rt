@@ -1,4 +1,4 @@
-//! A program that is admitted without its text: no command does that.
+//! A program that is admitted without its model: no command does that.
 
 use rc_admit::admitted::Admitted;
 use rc_admit::fault::AdmitFault;

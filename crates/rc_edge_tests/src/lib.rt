@@ -1,4 +1,4 @@
-//! Tests of what no command shows: memory that is refused, readers and writers that fail, a program without its text,
+//! Tests of what no command shows: memory that is refused, readers and writers that fail, a program without its model,
 //! requests that a disk answers, devices, choosers and gates of other kinds, and what faults say. What the program does is held
 //! by `ci/rows.py` and `ci/program.py`. They are above the crates that they test, since a crate with tests is
 //! proved twice.

@@ -1,4 +1,4 @@
-//! Changes of a text that are offered.
+//! Changes of a model that are offered.
 
 use crate::fixes::push_fixes;
 use crate::place::{Edit, Range, edits_to, line_at, lines_of, push_edit};

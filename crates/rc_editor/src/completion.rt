@@ -42,7 +42,7 @@ pub struct Completion {
     pub range: Range,
 }
 
-/// The choices at a place: the text, where it is, what is above its line, and the range that a choice takes.
+/// The choices at a place: the model, where it is, what is above its line, and the range that a choice takes.
 #[derive(Drop)]
 struct Choices<'a> {
     alloc: Global,
@@ -63,7 +63,7 @@ pub fn completions(
     completions_on(alloc, &page, at)
 }
 
-/// The same, of a text that was looked at line by line.
+/// The same, of a model that was looked at line by line.
 fn completions_on(alloc: Global, page: &Page, at: Position) -> Result<Vec<Completion>, AllocError> {
     let (line, byte) = byte_of(page, at);
     let front = up_to(page.line(line), byte);

@@ -11,8 +11,8 @@ use crate::words::{Words, begins_with};
 use rc_admit::admitted::{Judged, judge};
 use std::alloc::{AllocError, Global};
 
-/// How far a text is from being accepted: whether it can be read, whether it is accepted, and how many lines are after the
-/// one at fault.
+/// How far a model is from being accepted: whether it can be read, whether it is accepted, and how many lines are after
+/// the one at fault.
 #[derive(Clone, Copy)]
 struct Standing {
     is_read: bool,
@@ -21,7 +21,7 @@ struct Standing {
 }
 
 impl Standing {
-    /// The standing of a text that was judged.
+    /// The standing of a model that was judged.
     fn of(judged: &Judged, text: &[u8]) -> Standing {
         match judged {
             Judged::Admitted(_) => Standing {
@@ -42,7 +42,7 @@ impl Standing {
         }
     }
 
-    /// Whether a text is better than another.
+    /// Whether a model is better than another.
     fn is_above(self, other: Standing) -> bool {
         if self.is_read != other.is_read {
             return self.is_read;
@@ -54,13 +54,13 @@ impl Standing {
     }
 }
 
-/// How many lines a text has after one, by its number, from 1.
+/// How many lines a model has after one, by its number, from 1.
 fn lines_after(text: &[u8], line: u32) -> usize {
     let feeds = text.iter().filter(|b| **b == b'\n').count();
     feeds.saturating_sub(line as usize)
 }
 
-/// A text whose line, from 0, is at fault.
+/// A model whose line, from 0, is at fault.
 #[derive(Drop)]
 struct Faulty<'a> {
     alloc: Global,
@@ -118,7 +118,7 @@ fn push_fixes_of(
 }
 
 impl Faulty<'_> {
-    /// Adds a change, if the text is better with it, and says whether it is.
+    /// Adds a change, if the model is better with it, and says whether it is.
     fn offer(
         &self,
         actions: &mut Vec<Action>,
@@ -132,14 +132,14 @@ impl Faulty<'_> {
         Ok(is_better)
     }
 
-    /// Whether the text is better with these edits.
+    /// Whether the model is better with these edits.
     fn is_better_with(&self, edits: &[Edit]) -> Result<bool, AllocError> {
         let text = edited(self.alloc, self.text, edits)?;
         let standing = standing_of(self.alloc, &text)?;
         Ok(standing.is_above(self.standing))
     }
 
-    /// Adds a change of one edit, if the text is better with it.
+    /// Adds a change of one edit, if the model is better with it.
     fn offer_one(
         &self,
         actions: &mut Vec<Action>,
@@ -187,7 +187,7 @@ impl Faulty<'_> {
     }
 }
 
-/// The standing of a text.
+/// The standing of a model.
 fn standing_of(alloc: Global, text: &[u8]) -> Result<Standing, AllocError> {
     let judged = judge(alloc, text)?;
     Ok(Standing::of(&judged, text))

@@ -13,7 +13,7 @@ pub struct Fold {
     pub is_comment: bool,
 }
 
-/// The blocks of a text, each without its closing brace, and its comments of several lines.
+/// The blocks of a model, each without its closing brace, and its comments of several lines.
 pub fn folding(alloc: Global, text: &[u8]) -> Result<Vec<Fold>, AllocError> {
     let page = Page::of(alloc, text)?;
     let mut folds = Vec::new(alloc);

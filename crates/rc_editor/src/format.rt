@@ -1,4 +1,4 @@
-//! The layout of a text, as edits.
+//! The layout of a model, as edits.
 
 use crate::place::{Edit, edits_to};
 use rc_rewrite::format::format;

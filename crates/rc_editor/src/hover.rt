@@ -26,7 +26,7 @@ pub fn hover_at(alloc: Global, text: &[u8], at: Position) -> Result<Option<Hover
     hover_on(alloc, text, &page, at)
 }
 
-/// The same, of a text that was looked at line by line.
+/// The same, of a model that was looked at line by line.
 fn hover_on(
     alloc: Global,
     text: &[u8],

@@ -13,7 +13,7 @@ use rc_sentences::state_text::put_state;
 use rc_verify::labels::Labels;
 use std::alloc::{AllocError, Global};
 
-/// The lines of a text above one, by its number from 1. At the text's end that is all of it.
+/// The lines of a model above one, by its number from 1. At the model's end that is all of it.
 fn lines_above(text: &[u8], number: u32) -> &[u8] {
     let mut count: u32 = 1;
     for place in 0..text.len() {
@@ -62,7 +62,7 @@ fn put_end(text: &mut Vec<u8>, above: &Parts, block: Block) -> Result<(), AllocE
     put_line(text, b"", b"}")
 }
 
-/// The program of the lines that can be read of a text, with ends for the blocks that are open after them.
+/// The program of the lines that can be read of a model, with ends for the blocks that are open after them.
 fn read_above(alloc: Global, text: &[u8], unread: &Unread) -> Result<Option<Program>, AllocError> {
     let ReadFault::Text { line, .. } = unread.fault else {
         return Err(AllocError);
@@ -81,7 +81,7 @@ fn read_above(alloc: Global, text: &[u8], unread: &Unread) -> Result<Option<Prog
     Ok(read_program(alloc, &whole).ok())
 }
 
-/// The program of a text, or of what can be read of it.
+/// The program of a model, or of what can be read of it.
 pub fn program_of(alloc: Global, text: &[u8]) -> Result<Option<Program>, AllocError> {
     match read_parts(alloc, text) {
         Ok(program) => Ok(Some(program)),
@@ -116,7 +116,7 @@ pub fn put_known(
     }
 }
 
-/// Adds what is known before a line of a thread. It is no part of its caller, as it needs room for labels.
+/// Adds what is known before a line of a thread. Not inlined: its labels need room on the stack.
 #[inline(never)]
 fn put_before(
     text: &mut Vec<u8>,

@@ -1,8 +1,8 @@
-//! What an editor asks of a text: what a word means, where it is named, what could be written there, and how the text is
+//! What an editor asks of a model: what a word means, where it is named, what could be written there, and how it is
 //! laid out.
 //!
-//! Each answer is one of the text's bytes alone, and each function answers any bytes, also those that can't be read: it
-//! goes by lines and words, and takes the program where there is one. Of a text with more lines than a program may have
+//! Each answer is one of the model's bytes alone, and each function answers any bytes, also those that can't be read: it
+//! goes by lines and words, and takes the program where there is one. Of a model with more lines than a program may have
 //! those after are not looked at, but for its layout. A line ends with a line feed, also after a carriage return.
 #![tactic(auto)]
 

@@ -19,7 +19,7 @@ pub enum Kind {
     Variable,
 }
 
-/// A name in a text.
+/// A name in a model.
 #[derive(Clone, Copy)]
 pub struct Mark<'a> {
     pub kind: Kind,

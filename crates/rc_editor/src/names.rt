@@ -114,7 +114,7 @@ fn declared_range(page: &Page, name: &Mark) -> Option<Range> {
     Some(page.range(declared.line, &declared.name))
 }
 
-/// Whether two names are the same word of a text.
+/// Whether two names are the same word of a model.
 fn is_there(mark: &Mark, other: Option<Mark>) -> bool {
     match other {
         Some(other) => mark.line == other.line && mark.name.start == other.name.start,

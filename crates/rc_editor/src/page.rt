@@ -1,4 +1,4 @@
-//! A text, line by line: the names and the blocks in it, and what its lines may be.
+//! A model, line by line: the names and the blocks in it, and what its lines may be.
 
 use crate::marks::{Fit, LineAt, Mark, fit_of, push_marks};
 use crate::place::{Range, line_at, lines_of, range_in, without_return};
@@ -8,7 +8,7 @@ use rc_read::table::Row;
 use rc_read::words::is;
 use std::alloc::{AllocError, Global};
 
-/// What is known of a text above a line.
+/// What is known of a model above a line.
 #[derive(Clone, Copy)]
 pub struct Above {
     /// The version of the notation. Without a head it is the last one.
@@ -31,7 +31,7 @@ pub struct Block<'a> {
     pub outer: Option<usize>,
 }
 
-/// A text, line by line.
+/// A model, line by line.
 #[derive(Drop)]
 pub struct Page<'a> {
     pub lines: Vec<&'a [u8]>,
@@ -69,7 +69,7 @@ fn version_in(fit: Option<Fit>) -> u32 {
 }
 
 impl<'a> Page<'a> {
-    /// Looks at the lines of a text.
+    /// Looks at the lines of a model.
     pub fn of(alloc: Global, text: &'a [u8]) -> Result<Page<'a>, AllocError> {
         let mut page = Page {
             lines: Vec::new(alloc),
@@ -158,7 +158,7 @@ impl<'a> Page<'a> {
         }
     }
 
-    /// In which part of the text the line is after one with words.
+    /// In which part of the model the line is after one with words.
     fn region_after(&self, region: Region, words: &Words) -> Region {
         if is(words.text(0), b"thread") {
             return Region::InThread;

@@ -1,4 +1,4 @@
-//! Places in a text, as editors count them.
+//! Places in a model, as editors count them.
 
 use rc_report::text::{put_piece, put_pieces};
 use std::alloc::{AllocError, Global};
@@ -6,7 +6,7 @@ use std::alloc::{AllocError, Global};
 /// How many lines are looked at: one more than a program may have.
 const MOST_LINES: usize = 4097;
 
-/// A place in a text: its line, from 0, and how many UTF-16 units of the line are before it.
+/// A place in a model: its line, from 0, and how many UTF-16 units of the line are before it.
 #[derive(Clone, Copy)]
 pub struct Position {
     pub line: u32,
@@ -92,7 +92,7 @@ pub fn byte_at(line: &[u8], character: u32) -> usize {
     line.len()
 }
 
-/// The first line of a text, and what is after its line feed, where it has one.
+/// The first line of a model, and what is after its line feed, where it has one.
 fn cut_line(text: &[u8]) -> (&[u8], Option<&[u8]>) {
     for end in 0..text.len() {
         if text[end] == b'\n' {
@@ -102,7 +102,7 @@ fn cut_line(text: &[u8]) -> (&[u8], Option<&[u8]>) {
     (text, None)
 }
 
-/// The lines of a text, also the bytes after the last line feed.
+/// The lines of a model, also the bytes after the last line feed.
 pub fn lines_of(alloc: Global, text: &[u8]) -> Result<Vec<&[u8]>, AllocError> {
     let mut lines = Vec::new(alloc);
     let mut left = Some(text);
@@ -138,7 +138,7 @@ pub fn between(bytes: &[u8], start: usize, end: usize) -> &[u8] {
     after(up_to(bytes, end), start)
 }
 
-/// At which byte of a text each of its lines begins.
+/// At which byte of a model each of its lines begins.
 fn starts_of(alloc: Global, lines: &[&[u8]]) -> Result<Vec<usize>, AllocError> {
     let mut starts = Vec::new(alloc);
     let mut start: usize = 0;
@@ -149,7 +149,7 @@ fn starts_of(alloc: Global, lines: &[&[u8]]) -> Result<Vec<usize>, AllocError> {
     Ok(starts)
 }
 
-/// The text after these edits, which are in its order and apart from one another.
+/// The model after these edits, which are in its order and apart from one another.
 pub fn edited(alloc: Global, text: &[u8], edits: &[Edit]) -> Result<Vec<u8>, AllocError> {
     let lines = lines_of(alloc, text)?;
     let starts = starts_of(alloc, &lines)?;
@@ -164,7 +164,7 @@ pub fn edited(alloc: Global, text: &[u8], edits: &[Edit]) -> Result<Vec<u8>, All
     Ok(whole)
 }
 
-/// The byte of a text before which a place is; after the last line its end.
+/// The byte of a model before which a place is; after the last line its end.
 fn byte_in(lines: &[&[u8]], starts: &[usize], text: &[u8], at: Position) -> usize {
     let number = at.line as usize;
     match starts.get(number) {
@@ -173,7 +173,7 @@ fn byte_in(lines: &[&[u8]], starts: &[usize], text: &[u8], at: Position) -> usiz
     }
 }
 
-/// Adds an edit that puts this text in the place of a range.
+/// Adds an edit that puts these bytes in the place of a range.
 pub fn push_edit(
     alloc: Global,
     edits: &mut Vec<Edit>,
@@ -185,7 +185,7 @@ pub fn push_edit(
     Ok(())
 }
 
-/// The edits that make another text of one, line by line. Both have the same number of lines, whose ends stay.
+/// The edits that make another model of one, line by line. Both have the same number of lines, whose ends stay.
 pub fn edits_to(alloc: Global, text: &[u8], other: &[u8]) -> Result<Vec<Edit>, AllocError> {
     let (lines, news) = (lines_of(alloc, text)?, lines_of(alloc, other)?);
     let mut edits = Vec::new(alloc);

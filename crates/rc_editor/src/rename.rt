@@ -12,7 +12,7 @@ use rc_read::reserved::is_reserved_by;
 use rc_read::words::{is, is_name, is_spelt};
 use std::alloc::{AllocError, Global};
 
-/// How a text gets another name, or why it doesn't.
+/// How a model gets another name, or why it doesn't.
 #[derive(Drop)]
 pub enum Renamed {
     Edits(Vec<Edit>),
@@ -98,7 +98,7 @@ fn edits_for(
     Ok(edits)
 }
 
-/// Whether a text can be read before the edits and can't after them.
+/// Whether a model can be read before the edits and can't after them.
 fn becomes_unreadable(alloc: Global, text: &[u8], edits: &[Edit]) -> Result<bool, AllocError> {
     if read_program(alloc, text).is_err() {
         return Ok(false);

@@ -1,4 +1,4 @@
-//! The parts of a text, as a tree.
+//! The parts of a model, as a tree.
 
 use crate::marks::{Kind, Mark};
 use crate::names::words_range;
@@ -9,7 +9,7 @@ use rc_read::table::Row;
 use rc_read::words::is;
 use std::alloc::{AllocError, Global};
 
-/// What a part of a text is.
+/// What a part of a model is.
 #[derive(Clone, Copy)]
 pub enum SymbolKind {
     File,
@@ -38,8 +38,8 @@ impl SymbolKind {
     }
 }
 
-/// A part of a text: its name, what else its line says, all of it, and its line's words. Parts are in text order, those
-/// that are in another after it and one deeper.
+/// A part of a model: its name, what else its line says, all of it, and its line's words. Parts are in the order of
+/// their lines, those that are in another after it and one deeper.
 #[derive(Drop)]
 pub struct Symbol {
     pub name: Vec<u8>,
@@ -50,7 +50,7 @@ pub struct Symbol {
     pub depth: u32,
 }
 
-/// The files, buffers, tokens, pools and threads of a text, and the loops, locks and peeks in its threads.
+/// The files, buffers, tokens, pools and threads of a model, and the loops, locks and peeks in its threads.
 pub fn symbols(alloc: Global, text: &[u8]) -> Result<Vec<Symbol>, AllocError> {
     let page = Page::of(alloc, text)?;
     let mut symbols = Vec::new(alloc);

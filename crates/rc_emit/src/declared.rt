@@ -139,7 +139,7 @@ fn put_tables(text: &mut Vec<u8>, program: &Program) -> Result<(), AllocError> {
     put_each_table(text, program, b"static struct table ", b";\n")
 }
 
-/// Adds the name of each pool that has one, between two texts.
+/// Adds the name of each pool that has one, between two pieces.
 fn put_each_table(
     text: &mut Vec<u8>,
     program: &Program,

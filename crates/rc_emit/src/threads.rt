@@ -11,7 +11,7 @@ use rc_read::source::Lines;
 use rc_text::text::{put_piece, put_pieces};
 use std::alloc::AllocError;
 
-/// Adds a line for each variable of a thread that C has, between two texts.
+/// Adds a line for each variable of a thread that C has, between two pieces.
 fn put_variables(
     text: &mut Vec<u8>,
     place: Place<'_>,

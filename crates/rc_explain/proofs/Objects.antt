@@ -17,7 +17,7 @@ use Rattle.rc_explain.specs.Members.{IsNamed, whole}
 passes : (q k : List ℕ) (d : Data) (ms : Members) → bytes_eq q k ≡ false → get_member q (put k d ms) ≡ get_member q ms
 passes q k d ms e = get_member-put_other q k d ms (λ h. true≢false (sym ((bytes_eq-Decides q k).1 h) ∙ e))
 
--- What is put last of a line that isn't good is told of it, whatever the other members are.
+-- What is put last of a line that isn't good is said of it, whatever the other members are.
 line_is_told : (ms : Members) (word name : List ℕ) (code line : ℕ)
     → TellsLine word name code line (object (put (codes "verdict") (string word) (put (codes "line") (number (unsigned line)) (put (codes "code") (number (unsigned code)) (put (codes "cause") (string name) ms)))))
 line_is_told ms word name code line =
@@ -38,7 +38,7 @@ line_along m n o p q word name code line a b d e = rw (e, d, b, a) (line_is_told
 
 -- ---- the name of a file
 
--- What was told of the verdict stays where the name is put.
+-- What was said of the verdict stays where the name is put.
 stays : (key file : List ℕ) (ms : Members) → bytes_eq key (codes "file") ≡ false → get_member key (put (codes "file") (string file) ms) ≡ get_member key ms
 stays key file ms e = passes key (codes "file") (string file) ms e
 

@@ -38,7 +38,7 @@ TellsVerdict Accepted whole =
 TellsVerdict (Refused r) whole = TellsLine (codes "refused") (rules_of.name_of r.cause) (rules_of.premise_number r.cause) r.line whole
 TellsVerdict (Unreadable line cause) whole = TellsLine (codes "unreadable") (reading.name_of_cause cause) (reading.number_of_cause cause) line whole
 
--- the file's name, if the text is that of a file
+-- the file's name, if the model is that of a file
 abbrev pub TellsFile : Option (List ℕ) → Data → Type 0
 TellsFile None whole = Unit {0}
 TellsFile (Some file) whole = HasMember (codes "file") (string file) whole

@@ -1,4 +1,4 @@
-//! What an editor shows at the lines of a text.
+//! What an editor shows at the lines of a model.
 
 ghost use Rattle.std.specs.Prelude.{IfOk};
 ghost use Rattle.rc_read.specs.Answer.{answer_of};
@@ -13,7 +13,7 @@ use rc_report::text::put_pieces;
 use rc_report::verdict::Verdict;
 use std::alloc::{AllocError, Global};
 
-/// The verdict on a text; what is said of the line that isn't good, if there is one; and notes.
+/// The verdict on a model; what is said of the line that isn't good, if there is one; and notes.
 #[derive(Drop)]
 pub struct Diagnosis {
     pub verdict: Verdict,
@@ -35,7 +35,7 @@ pub struct Words {
 /// What is said of the line that isn't good, and the notes.
 type Shown = (Option<Words>, Vec<Note>);
 
-/// Judges a text. Answers an error only where memory ran out.
+/// Judges a model. Answers an error only where memory ran out.
 pub fn diagnose(alloc: Global, text: &[u8]) -> Result<Diagnosis, AllocError>
     ensures { IfOk result (λ d. IsVerdict (answer_of text.now) d.verdict) }
 {
@@ -48,7 +48,7 @@ pub fn diagnose(alloc: Global, text: &[u8]) -> Result<Diagnosis, AllocError>
     })
 }
 
-/// What is shown of a text that was judged.
+/// What is shown of a model that was judged.
 fn shown_of(alloc: Global, text: &[u8], judged: &Judged) -> Result<Shown, AllocError> {
     let explanation = explain(alloc, text, judged, Walks::All)?;
     drawn(alloc, &explanation)

@@ -1,4 +1,4 @@
-//! A text is checked, and its verdict is printed with what explains it.
+//! A model is checked, and its verdict is printed with what explains it.
 
 ghost use Rattle.std.specs.Prelude.{option_copied as named};
 ghost use Rattle.rc_explain.specs.Explains.{BeginsWith, Explains, IsObjectText, Tells, first_line};
@@ -17,7 +17,7 @@ use rc_report::text::put_piece;
 use rc_report::verdict::{Verdict, put_verdict};
 use std::alloc::{AllocError, Global};
 
-/// Adds the verdict on the text of a program, with what explains it. If the text is that of a file, its name is printed,
+/// Adds the verdict on a model, with what explains it. If the model is that of a file, its name is printed,
 /// too. In words the line of the verdict comes first, as it does without an explanation. Answers an error only where
 /// memory ran out.
 pub fn put_explained(
@@ -34,7 +34,7 @@ pub fn put_explained(
     Ok(verdict_of(&judged))
 }
 
-/// Adds the verdict on a text that was judged, with what explains it.
+/// Adds the verdict on a model that was judged, with what explains it.
 fn put_judged(
     text: &mut Vec<u8>,
     alloc: Global,

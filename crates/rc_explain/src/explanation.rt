@@ -67,7 +67,7 @@ struct Known<'a> {
     is_empty: bool,
 }
 
-/// The verdict on a text that was judged, and what explains it.
+/// The verdict on a model that was judged, and what explains it.
 pub fn explain<'a>(
     alloc: Global,
     source: &'a [u8],
@@ -196,7 +196,7 @@ fn sentences_at<'a>(
     Ok(sentences)
 }
 
-/// What is known of a text with a line that can't be read.
+/// What is known of a model with a line that can't be read.
 fn of_unread<'a>(
     alloc: Global,
     lines: &Lines<'_>,

@@ -69,7 +69,7 @@ fn put(alloc: Global, members: &mut Members, key: &str, value: Value) -> Result<
     Ok(())
 }
 
-/// Adds a member that is a text.
+/// Adds a member that is a string.
 fn put_text(alloc: Global, members: &mut Members, key: &str, text: &str) -> Result<(), AllocError>
     ensures put { OnOk result (IsPut key.now (string text.now) members.old members.new) }
 {
@@ -193,7 +193,7 @@ fn put_sentences(
     put_text(alloc, members, "why", sentences.why)
 }
 
-/// Adds a member that is a text. Its bytes are ASCII, as all words of the notation.
+/// Adds a member that is a string. Its bytes are ASCII, as all words of the notation.
 fn put_bytes(
     alloc: Global,
     members: &mut Members,
@@ -204,7 +204,7 @@ fn put_bytes(
     put(alloc, members, key, Value::String(text))
 }
 
-/// Bytes as a text: they are ASCII.
+/// Bytes as a string: they are ASCII.
 fn string_of(alloc: Global, bytes: &[u8]) -> Result<String, AllocError> {
     let mut text = String::new(alloc);
     for byte in bytes {

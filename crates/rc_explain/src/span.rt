@@ -7,7 +7,7 @@ pub struct Span {
     pub to: u32,
 }
 
-/// How many UTF-16 units the text of these bytes has, or as many as fit.
+/// How many UTF-16 units these bytes have, or as many as fit.
 pub fn units(bytes: &[u8]) -> u32 {
     let mut count: u32 = 0;
     for b in bytes {

@@ -8,7 +8,7 @@ use rc_read::table::{Part, Row, Stand, assignments, parts_of, rows_of, stand_of,
 use rc_read::words::{is, is_name, is_spelt};
 use std::alloc::{AllocError, Global};
 
-/// Whether a form may be in this part of a text of this version.
+/// Whether a form may be in this part of a model of this version.
 pub fn may_be(version: u32, region: Region, row: Row) -> bool {
     let stand = stand_of(row);
     version_of(row) <= version
@@ -35,7 +35,7 @@ fn push_forms(
     Ok(())
 }
 
-/// The forms that may be in this part of a text of this version: those that begin with a variable are the last.
+/// The forms that may be in this part of a model of this version: those that begin with a variable are the last.
 pub fn forms_of(alloc: Global, version: u32, region: Region) -> Result<Vec<Row>, AllocError> {
     let mut forms = Vec::new(alloc);
     for first in b'a'..=b'}' {

@@ -181,7 +181,7 @@ fn put_stand(hint: &mut Hint, line: &[u8], word: &[u8], stand: Stand) -> Result<
     put_framed(&mut hint.words, b"'", word, place)
 }
 
-/// The form that begins with a fixed word, wherever in a text it may be.
+/// The form that begins with a fixed word, wherever in a model it may be.
 fn begun(word: &[u8]) -> Option<Row> {
     let [first, ..] = word else {
         return None;

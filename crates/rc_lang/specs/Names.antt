@@ -44,7 +44,7 @@ is_reserved w = is_heading w || is_acting w || is_calling w || is_branching w
 abbrev pub is_of_pool : List ℕ → Bool
 is_of_pool w = bytes_eq w (codes "put") || bytes_eq w (codes "take")
 
--- The words that a later version of the notation reserves besides: in its texts they are no names either.
+-- The words that a later version of the notation reserves besides: in its models they are no names either.
 abbrev pub is_reserved_by : ℕ → List ℕ → Bool
 is_reserved_by version w =
     (nat_le 2 version && bytes_eq w (codes "when")) || (nat_le 3 version && is_of_pool w) || (nat_le 4 version && bytes_eq w (codes "pool"))

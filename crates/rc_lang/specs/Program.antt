@@ -59,7 +59,7 @@ pub record Thread : Type 0 where
 
 -- A program: the version of the notation, how many entries its submission ring and its completion ring have
 -- (io_uring_setup(2)), how many entries may be left queued where the lock of the submission side is released, and its
--- declarations (of pools their names) and threads, in text order.
+-- declarations (of pools their names) and threads, in the order of their lines.
 pub record Program : Type 0 where
   pub version : ℕ
   pub entries : ℕ

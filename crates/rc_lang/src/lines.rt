@@ -154,7 +154,7 @@ pub enum Stmt {
 /// A line of a thread.
 #[derive(Clone, Copy)]
 pub struct Line {
-    /// Its number in the text, from 1.
+    /// Its number in the model, from 1.
     pub number: u32,
     /// What is there.
     pub stmt: Stmt,

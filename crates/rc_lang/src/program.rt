@@ -117,8 +117,8 @@ pub struct Thread {
     pub line: u32,
     /// What it holds as it begins.
     pub items: Items,
-    /// Its lists of items, in text order: what it holds at the tops of its loops, and what it puts into pools and takes
-    /// from them.
+    /// Its lists of items, in the order of its lines: what it holds at the tops of its loops, and what it puts into
+    /// pools and takes from them.
     pub lists: Vec<Items>,
     /// Its lines, without the header and its closing brace.
     pub lines: Vec<Line>,
@@ -215,7 +215,7 @@ impl Program {
         self.head.left
     }
 
-    /// The declared files, in text order.
+    /// The declared files, in the order of their lines.
     pub fn files(&self) -> &[File]
         ensures value { result.now ≡ self.now.files }
         ensures made { IsProgram self.now }
@@ -223,7 +223,7 @@ impl Program {
         &self.declarations.files
     }
 
-    /// The declared buffers, in text order. A buffer's number is its place here.
+    /// The declared buffers, in the order of their lines. A buffer's number is its place here.
     pub fn buffers(&self) -> &[Buffer]
         ensures value { map view_buffer result.now ≡ self.now.buffers }
         ensures made { IsProgram self.now }
@@ -231,7 +231,7 @@ impl Program {
         &self.declarations.buffers
     }
 
-    /// The declared tokens, in text order.
+    /// The declared tokens, in the order of their lines.
     pub fn tokens(&self) -> &[Token]
         ensures value { result.now ≡ self.now.tokens }
         ensures made { IsProgram self.now }
@@ -239,7 +239,7 @@ impl Program {
         &self.declarations.tokens
     }
 
-    /// The names of the declared pools, in text order. A pool's number is its place here.
+    /// The names of the declared pools, in the order of their lines. A pool's number is its place here.
     pub fn pools(&self) -> &[Vec<u8>]
         ensures value { view_names result.now ≡ self.now.pools }
         ensures made { IsProgram self.now }
@@ -247,7 +247,7 @@ impl Program {
         &self.declarations.pools
     }
 
-    /// The threads, in text order.
+    /// The threads, in the order of their lines.
     pub fn threads(&self) -> &[Thread]
         ensures value { map view_thread result.now ≡ self.now.threads }
         ensures made { IsProgram self.now }
@@ -303,7 +303,7 @@ impl Program {
         thread.lines.get(place).copied()
     }
 
-    /// The lists of items of a thread, in text order; none where there is no such thread.
+    /// The lists of items of a thread, in the order of their lines; none where there is no such thread.
     pub fn lists_of(&self, thread: usize) -> &[Items]
         ensures value { map view_items result.now ≡ lists_of self.now thread }
         ensures made { IsProgram self.now }

@@ -1,4 +1,4 @@
--- What is published of a text.
+-- What is published of a model.
 use Rattle.std.specs.Prelude.{ℕ, ◌≡◌, ◌-◌, List, [], ◌∷◌, ◌++◌, codes, decimal, Option, Some, None, option_and_then}
 use Rattle.serde_json.specs.Data.{Data, Items, array, item, no_items, number, string, unsigned}
 use Rattle.serde_json.specs.Find.{get}
@@ -39,13 +39,13 @@ abbrev pub AreHints : Items → Type 0
 AreHints no_items = Unit {0}
 AreHints (item d ds) = IsHint d × AreHints ds
 
--- The diagnostics of a text with this finding: the error, if there is one, and hints.
+-- The diagnostics of a model with this finding: the error, if there is one, and hints.
 abbrev pub Tells : Option Finding → Items → Type 0
 Tells None ds = AreHints ds
 Tells (Some f) no_items = ⊥
 Tells (Some f) (item d ds) = IsError f d × AreHints ds
 
--- The diagnostics of the text with this name.
+-- The diagnostics of the model with this name.
 abbrev pub Names : List ℕ → Items → Data → Type 0
 Names uri ds params = HasMember (codes "uri") (string uri) params × HasMember (codes "diagnostics") (array ds) params
 
@@ -55,13 +55,13 @@ Publishes uri ds whole =
     HasMember (codes "method") (string (codes "textDocument/publishDiagnostics")) whole
     × (params : Data) × HasMember (codes "params") params whole × Names uri ds params
 
--- A frame that publishes the verdict on the text of these bytes.
+-- A frame that publishes the verdict on these bytes.
 abbrev pub Published : List ℕ → List ℕ → Verdict → List ℕ → Type 0
 Published uri bytes verdict text =
     IsVerdict (answer_of bytes) verdict
     × (ds : Items) × Tells (finding verdict) ds × (whole : Data) × Publishes uri ds whole × Carries whole text
 
--- A frame that publishes the verdict on the text of these bytes, whichever that is.
+-- A frame that publishes the verdict on these bytes, whichever that is.
 abbrev pub IsPublished : List ℕ → List ℕ → List ℕ → Type 0
 IsPublished uri bytes text = (verdict : Verdict) × Published uri bytes verdict text
 

@@ -1,4 +1,4 @@
-//! Requests about a place of a text, and about all of it.
+//! Requests about a place of a model, and about all of it.
 
 use crate::fields::field;
 use crate::places::{

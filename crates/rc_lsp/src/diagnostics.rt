@@ -29,7 +29,7 @@ pub struct Judged {
     pub diagnostics: Vec<Value>,
 }
 
-/// Judges a text.
+/// Judges a model.
 pub fn judge(alloc: Global, place: Place<'_>, text: &[u8]) -> Result<Judged, AllocError>
     ensures verdict { IfOk result (λ judged. IsVerdict (answer_of text.now) judged.verdict) }
     ensures reported { IfOk result (λ judged. Tells (finding judged.verdict) (items_view judged.diagnostics.items)) }
@@ -43,7 +43,7 @@ pub fn judge(alloc: Global, place: Place<'_>, text: &[u8]) -> Result<Judged, All
     })
 }
 
-/// The diagnostics of a text: the error of its verdict first, if there is one, and then the notes as hints.
+/// The diagnostics of a model: the error of its verdict first, if there is one, and then the notes as hints.
 fn diagnostics_of(
     alloc: Global,
     place: Place<'_>,

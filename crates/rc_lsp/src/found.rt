@@ -32,7 +32,7 @@ pub fn executed(alloc: Global, documents: &Documents, params: &Value) -> Result<
     Ok(answer_of(alloc, text, &found)?)
 }
 
-/// What was found of a text, with its picture.
+/// What was found of a model, with its picture.
 fn answer_of(alloc: Global, text: &[u8], found: &Found) -> Result<Value, AllocError> {
     let picture = picture_of(alloc, text, found)?;
     let mut answer = object_of(alloc, None, found)?;

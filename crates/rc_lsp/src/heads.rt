@@ -57,7 +57,7 @@ fn body_start(bytes: &[u8]) -> Option<usize>
     None
 }
 
-/// The length that a head tells: each of its lines is a name, a colon and a value, and `Content-Length` is among them.
+/// The length that a head gives: each of its lines is a name, a colon and a value, and `Content-Length` is among them.
 fn length_in(head: &[u8]) -> Option<usize> {
     let mut length = None;
     let mut rest = head;

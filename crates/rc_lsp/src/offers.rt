@@ -1,4 +1,4 @@
-//! Requests for changes that a text may have.
+//! Requests for changes that a model may have.
 
 use crate::asks::Document;
 use crate::fields::{field, text_field};

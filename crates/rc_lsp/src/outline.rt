@@ -1,4 +1,4 @@
-//! The outline of a text.
+//! The outline of a model.
 
 use crate::asks::Document;
 use crate::places::{range_value, text_value};

@@ -1,4 +1,4 @@
-//! Places of texts as JSON.
+//! Places of models as JSON.
 
 use crate::fields::field;
 use crate::replies::Fault;
@@ -55,7 +55,7 @@ pub fn location_value(alloc: Global, uri: &str, range: Range) -> Result<Value, A
     json!(in alloc; {"range": range, "uri": uri})
 }
 
-/// Bytes as a JSON text. What isn't UTF-8 is shown by U+FFFD.
+/// Bytes as a JSON string. What isn't UTF-8 is shown by U+FFFD.
 pub fn text_value(alloc: Global, bytes: &[u8]) -> Result<Value, AllocError> {
     Ok(Value::String(String::from_utf8_lossy(alloc, bytes)?))
 }

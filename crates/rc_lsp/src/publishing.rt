@@ -1,4 +1,4 @@
-//! The message that publishes the verdict on a text.
+//! The message that publishes the verdict on a model.
 
 ghost use Rattle.std.specs.Prelude.{IfOk};
 ghost use Rattle.serde_json.specs.View.{items_view, view};
@@ -11,7 +11,7 @@ use rc_report::verdict::Verdict;
 use serde_json::{Value, json};
 use std::alloc::{AllocError, Global};
 
-/// Adds the message that publishes the verdict on a text, and answers the verdict.
+/// Adds the message that publishes the verdict on a model, and answers the verdict.
 pub fn publish(
     out: &mut Vec<u8>,
     alloc: Global,

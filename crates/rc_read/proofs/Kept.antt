@@ -1,4 +1,4 @@
--- What the sentences keep of a sheet, line by line, and that what was read of a text without a fault is a program.
+-- What the sentences keep of a sheet, line by line, and that what was read of a model without a fault is a program.
 use Rattle.std.proofs.Common.{◌≡◌, ℕ, ◌+◌, ◌<◌, Bool, true, false, cond, not, ◌&&◌, ◌||◌, ◌==◌, max, nat_le, List, [], ◌∷◌, ◌++◌, length, length-append, take, Option, Some, None, Result, Ok, Err, is_none, unwrap_or, slice_get, refl, sym, ap, ◌∙◌, subst, ◌⊎◌, inl, inr, arith}
 use Rattle.std.specs.List.{list_any}
 use Rattle.std.proofs.lemmas.Bool.{and_cases, and_parts, leb-false, not-false, or_parts}
@@ -228,11 +228,11 @@ program_made s k threads = record {
   numbers = threads.1.rise;
 }
 
--- The answer of the text's end, by the part of the text.
+-- The answer of the model's end, by the part of the model.
 abbrev ended_in : Region → ℕ → Program → Result Program (ℕ × ℕ)
 ended_in r count p = cond (lacks_head r) (Err (max count 1, 2)) (cond (is_inside r) (Err (count, 7)) (Ok p))
 
--- What was read of a text without a fault, with both head lines and no open thread, is a program.
+-- What was read of a model without a fault, with both head lines and no open thread, is a program.
 pub reached_is_program : (s : Sheet) → IsReached s → at_end s ≡ Ok (program_in s) → IsProgram (program_in s)
 reached_is_program s reached e = program_made s k (go s.region e k.threads)
   where

@@ -32,7 +32,7 @@ none_alone n b e = (none_true n b None e).0
 pub few_lines : (s : Sheet) (line : List ℕ) → is_too_long s line ≡ false → s.count < 4096
 few_lines s line e = leb-false 4096 s.count (or_parts (nat_le 4096 s.count) (nat_lt 256 (length line)) e).0
 
--- Where no sentence is true of a line, fewer lines than a text may have are above it.
+-- Where no sentence is true of a line, fewer lines than a model may have are above it.
 pub few_above : (s : Sheet) (line : List ℕ) (wrong : Wrong) (items : List Item) (what : Says) → first_true (later_sentences s line wrong items what) ≡ None → s.count < 4096
 few_above s line wrong items what e =
     let p6 = (none_true 5 wrong.unknown _ e).1 in
@@ -103,7 +103,7 @@ first_matches (r ∷ rows) ws row e = go (matches (parts_of r) ws) refl e (λ h.
     go true f h rest = let q : r ≡ row = cc in subst (λ x. matches (parts_of x) ws ≡ true) q f
     go false f h rest = rest h
 
--- The words have a form in a text of this version.
+-- The words have a form in a model of this version.
 pub record HasForm (version : ℕ) (ws : List (List ℕ)) (row : Row) : Type 0 where
   pub matches : matches (parts_of row) ws ≡ true
   pub holds : is_form version row (spots_of (parts_of row) ws) ≡ true
@@ -119,9 +119,9 @@ has_form version ws row e = go (first_row rows ws) refl e
     go None f h = absurd (cc)
     go (Some r) f h = some r (is_form version r (spots_of (parts_of r) ws)) f refl h
 
--- ---- the parts of a text
+-- ---- the parts of a model
 
--- The part of the text in which such a form is.
+-- The part of the model in which such a form is.
 abbrev pub IsRegion : Stand → Region → Type 0
 IsRegion stand.First r = r ≡ Start
 IsRegion stand.Second r = r ≡ Second

@@ -26,7 +26,7 @@ marks (InPeek o) = Some o
 marks (InArm o) = None
 marks (InLoop o k) = Some o
 
--- A block is open whose closing tells the end of place o.
+-- A block is open whose closing says the end of place o.
 abbrev pub IsOpenAt : List Block → ℕ → Type 0
 IsOpenAt bs o = (b : Block) × Contains bs b × (marks b ≡ Some o)
 

@@ -29,7 +29,7 @@ pub record IsOpen (p : Program) (count : ℕ) (d : Draft) (threads : List Thread
   pub numbers : RiseTo count (line_numbers threads ++ numbers_from d.line d.lines)
   pub draft : IsDraft p d
 
--- The threads, by the part of the text, and that nothing is declared above the first line.
+-- The threads, by the part of the model, and that nothing is declared above the first line.
 abbrev pub ThreadsAt : Program → ℕ → Draft → List ThreadOf → Region → Type 0
 ThreadsAt p count d threads Start = (threads ≡ []) × (p.pools ≡ [])
 ThreadsAt p count d threads Second = threads ≡ []
@@ -67,7 +67,7 @@ module _ (ts : List ThreadOf) where
   -- ---- lines of the open thread
 
   module _ (s : Sheet) (lt : s.count < 4096) (k : IsKept ts s) where
-    -- the threads, where the part of the text is known
+    -- the threads, where the part of the model is known
     pub at : (r : Region) → s.region ≡ r → ThreadsAt (made ts s) s.count s.draft s.threads r
     at r e = subst (λ q. ThreadsAt (made ts s) s.count s.draft s.threads q) e k.threads
 

@@ -319,7 +319,7 @@ rest_more s0 s p0 p q piece hay at e n eq g = λ bytes h.
 
 -- ---- what follows a fault
 
--- the fault of a beginning is the text's
+-- the fault of a beginning is the model's
 pub fault_of_all : (bytes more : List ℕ) (fault : ℕ × ℕ) → judged empty (cut bytes).0 ≡ Err fault → answer_of (bytes ++ more) ≡ Err fault
 fault_of_all bytes more fault h =
     let m = cut_more bytes more in

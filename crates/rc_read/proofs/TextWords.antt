@@ -1,4 +1,4 @@
--- The lines of a text and the words of a line, byte by byte.
+-- The lines of a model and the words of a line, byte by byte.
 use Rattle.std.proofs.Common.{◌≡◌, ℕ, zero, suc, ◌-◌, ◌<◌, List, [], ◌∷◌, ◌++◌, length, get_or, map, refl, sym, ap, ◌∙◌, arith}
 use Rattle.std.proofs.lemmas.List.{get_or-map}
 use Rattle.rc_read.specs.Words.{last_line}

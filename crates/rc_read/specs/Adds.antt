@@ -187,7 +187,7 @@ added s ws items what = said s items what
 abbrev pub values : Sheet → List Spot → List Value
 values s spots = values_of (with_names s spots) start spots
 
--- the form of a line, its places, what it says and its items, in a text of the sheet's version
+-- the form of a line, its places, what it says and its items, in a model of the sheet's version
 abbrev pub form_in : Sheet → List (List ℕ) → Option Row
 form_in s ws = row_of s.head.version ws
 

@@ -1,4 +1,4 @@
--- What a text is: a program, or the line and the number of a fault.
+-- What a model is: a program, or the line and the number of a fault.
 use Rattle.std.specs.Prelude.{ℕ, ◌+◌, List, [], ◌∷◌, Option, Some, None, Result, Ok, Err, Bool, true, false, if◌then◌else◌, is_none, max}
 use Rattle.rc_lang.specs.Program.{Program}
 use Rattle.rc_read.specs.declared.parts.Region.{Region}
@@ -36,7 +36,7 @@ program_in s = record {
   threads = s.threads;
 }
 
--- The faults of the text's end, at its last line: both head lines aren't there, or blocks are open.
+-- The faults of the model's end, at its last line: both head lines aren't there, or blocks are open.
 abbrev pub lacks_head : Region → Bool
 lacks_head Start = true
 lacks_head Second = true
@@ -51,6 +51,6 @@ abbrev pub ended : Result Sheet (ℕ × ℕ) → Result Program (ℕ × ℕ)
 ended (Ok s) = at_end s
 ended (Err f) = Err f
 
--- The answer of a text.
+-- The answer of a model.
 abbrev pub answer_of : List ℕ → Result Program (ℕ × ℕ)
 answer_of bytes = ended (judged empty (text_lines bytes))

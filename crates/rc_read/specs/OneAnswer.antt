@@ -1,4 +1,4 @@
--- What a text's answer is, said of its lines one by one.
+-- What a model's answer is, said of its lines one by one.
 use Rattle.std.specs.Prelude.{◌≡◌, ℕ, ◌+◌, ◌<◌, ◌≤◌, ◌⊎◌, List, [], ◌∷◌, length, take, slice_get, Some, Result, Ok, Err, true, Contains}
 use Rattle.rc_lang.specs.Program.{Program}
 use Rattle.rc_read.specs.Answer.{at_end}
@@ -30,12 +30,12 @@ pub record IsFirstFault (lines : List (List ℕ)) (l n : ℕ) : Type 0 where
   pub holds : IsTrueOf lines index line n
   pub least : (m : ℕ) → IsTrueOf lines index line m → n ≤ m
 
--- Of no line is a sentence true, and this is what the text's end says.
+-- Of no line is a sentence true, and this is what the model's end says.
 pub record IsEnd (lines : List (List ℕ)) (answer : Result Program (ℕ × ℕ)) : Type 0 where
   pub none : NoneIsTrueBelow lines (length lines)
   pub end : at_end (sheet_behind empty lines) ≡ answer
 
--- The answer of a text: the first line with a true sentence and the least number there; where there is none, what the
+-- The answer of a model: the first line with a true sentence and the least number there; where there is none, what the
 -- text's end says, a fault or a program.
 abbrev pub HasAnswer : List ℕ → Result Program (ℕ × ℕ) → Type 0
 HasAnswer bytes (Ok p) = IsEnd (text_lines bytes) (Ok p)

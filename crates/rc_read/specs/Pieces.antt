@@ -1,4 +1,4 @@
--- What becomes of a reader's parts by a piece of the text.
+-- What becomes of a reader's parts by a piece of the model.
 use Rattle.std.specs.Prelude.{◌++◌, List, ℕ, Option, Some, None, Result, Ok, Err}
 use Rattle.rc_read.specs.Sheets.{Sheet}
 use Rattle.rc_read.specs.Stream.{Reads, IsReachedOrFaulty}

@@ -1,4 +1,4 @@
--- Faster ways to what the definitions of the notation say. Nothing that is told of it speaks of these.
+-- Faster ways to what the definitions of the notation say. No contract names these.
 use Rattle.std.specs.Prelude.{ℕ, ◌+◌, List, [], ◌∷◌, Option, Some, None, Bool, true, ◌==◌, if◌then◌else◌}
 use Rattle.std.specs.List.{list_any}
 use Rattle.rc_read.specs.declared.table.Part.{Part}

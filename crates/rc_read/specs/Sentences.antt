@@ -50,7 +50,7 @@ bad_head Start row ws = not (is_version row)
 bad_head Second row ws = not (bytes_eq (first_of ws) (codes "ring"))
 bad_head _ row ws = false
 
--- ---- P3: no form, or a form in a wrong part of the text
+-- ---- P3: no form, or a form in a wrong part of the model
 
 abbrev pub may_stand : Stand → Region → Bool
 may_stand stand.First Start = true

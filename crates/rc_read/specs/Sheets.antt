@@ -35,8 +35,8 @@ pub record Draft : Type 0 where
   pub arms : Arms
   pub flag : Option ℕ
 
--- What is above a line: how many lines, in which part of the text it is, what the head says, what is declared (of pools
--- their names), the finished threads and the open one.
+-- What is above a line: how many lines, in which part of the model it is, what the head says, what is declared (of
+-- pools their names), the finished threads and the open one.
 pub record Sheet : Type 0 where
   pub count : ℕ
   pub region : Region

@@ -1,4 +1,4 @@
--- The words of a line of a text, as they are printed.
+-- The words of a line of a model, as they are printed.
 use Rattle.std.specs.Prelude.{ℕ, zero, suc, ◌≡◌, ◌-◌, ◌<◌, Bool, List, [], ◌∷◌, ◌++◌, codes, length, slice_index_or, take}
 use Rattle.rc_read.specs.Words.{is_blank, text_lines, words_of}
 
@@ -25,7 +25,7 @@ abbrev pub spaced : List (List ℕ) → List ℕ
 spaced [] = []
 spaced (word ∷ words) = word ++ behind_blanks words
 
--- The words of the text's line with this number, without its comment, with one blank between two.
+-- The words of the model's line with this number, without its comment, with one blank between two.
 abbrev pub line_words : List ℕ → ℕ → List ℕ
 line_words text number = spaced (words_of (line_numbered (text_lines text) number))
 

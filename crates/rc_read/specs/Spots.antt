@@ -144,7 +144,7 @@ has_name _ = false
 abbrev pub any_reserved : ℕ → List Spot → Bool
 any_reserved version ps = list_any (λ (p : Spot). has_name p.part && is_reserved_by version p.word) ps
 
--- A text of this version has such a form, with these places.
+-- A model of this version has such a form, with these places.
 abbrev pub is_form : ℕ → Row → List Spot → Bool
 is_form version row ps = nat_le (version_of row) version && not (any_reserved version ps)
 
@@ -159,7 +159,7 @@ abbrev pub form_by : ℕ → Option Row → List (List ℕ) → Option Row
 form_by version None ws = None
 form_by version (Some row) ws = if is_form version row (spots_of (parts_of row) ws) then Some row else None
 
--- The form of a line with these words in a text of this version.
+-- The form of a line with these words in a model of this version.
 abbrev pub row_of : ℕ → List (List ℕ) → Option Row
 row_of version ws = form_by version (first_row rows ws) ws
 

@@ -61,7 +61,7 @@ IsAnswer bytes (Ok p) = answer_of bytes ≡ Ok p
 IsAnswer bytes (Err (Text line cause)) = answer_of bytes ≡ Err (line, number_of_cause cause)
 IsAnswer bytes (Err OutOfMemory) = Unit {0}
 
--- The same beside what was read: what is above the line in question, and at the text's end all lines.
+-- The same beside what was read: what is above the line in question, and at the model's end all lines.
 abbrev pub StopsAt : List ℕ → ReadFault → Sheet → Type 0
 StopsAt bytes (Text line cause) s = (answer_of bytes ≡ Err (line, number_of_cause cause)) × (s ≡ above_fault empty (text_lines bytes))
 StopsAt bytes OutOfMemory s = Unit {0}
@@ -70,7 +70,7 @@ abbrev pub IsReadAs : List ℕ → Result Program Unread → Type 0
 IsReadAs bytes (Ok p) = answer_of bytes ≡ Ok p
 IsReadAs bytes (Err unread) = StopsAt bytes unread.fault (view_sheet unread.parts)
 
--- The answer of the text's end, which takes no memory.
+-- The answer of the model's end, which takes no memory.
 abbrev pub JudgesEnd : {X : Type 0} → Sheet → Result X ReadFault → Type 0
 JudgesEnd s (Ok u) = at_end s ≡ Ok (program_in s)
 JudgesEnd s (Err (Text line cause)) = at_end s ≡ Err (line, number_of_cause cause)

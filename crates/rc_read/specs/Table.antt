@@ -1,5 +1,5 @@
 -- The notation's forms: one row for each, with the parts that are in it, from the left, from which version on it is a
--- form, and where in a text it may be.
+-- form, and where in a model it may be.
 use Rattle.std.specs.Prelude.{ℕ, List, [], ◌∷◌, ◌++◌, codes}
 use Rattle.rc_read.specs.declared.table.Part.{Part}
 use Rattle.rc_read.specs.declared.table.Part.TheVariants.{Fixed, Variable, Operand, Comparison, Signed, Number, File, Buffer, Token, Pool, NewFile, NewBuffer, NewToken, NewPool, NewThread, Items, Flag}
@@ -125,7 +125,7 @@ parts_of row.LoopWhen = Fixed words.Loop ∷ Fixed words.Keeps ∷ Items ∷ Fix
 parts_of row.Break = Fixed words.Break ∷ []
 parts_of row.Close = Fixed words.Close ∷ []
 
--- The version of the notation from which on a form is in texts.
+-- The version of the notation from which on a form is in models.
 abbrev pub version_of : Row → ℕ
 version_of row.LoopWhen = 2
 version_of row.Put = 3

@@ -1,4 +1,4 @@
--- How a text is cut into lines and a line into words.
+-- How a model is cut into lines and a line into words.
 use Rattle.std.specs.Prelude.{ℕ, List, [], ◌∷◌, ◌++◌, Bool, ◌||◌, ◌==◌, if◌then◌else◌}
 
 -- ---- lines
@@ -18,7 +18,7 @@ abbrev pub last_line : List ℕ → List (List ℕ)
 last_line [] = []
 last_line (b ∷ bytes) = (b ∷ bytes) ∷ []
 
--- The lines of a text.
+-- The lines of a model.
 abbrev pub text_lines : List ℕ → List (List ℕ)
 text_lines bytes = (cut bytes).0 ++ last_line (cut bytes).1
 

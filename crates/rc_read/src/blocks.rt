@@ -139,7 +139,7 @@ pub fn way_out(blocks: &[Block]) -> Way
     way
 }
 
-/// Whether a form with this are may be in this part of a text.
+/// Whether a form with this are may be in this part of a model.
 pub fn may_stand(stand: Stand, region: Region) -> bool
     ensures { result ≡ spec.may_stand stand region }
 {

@@ -1,4 +1,4 @@
-//! Why a text can't be read.
+//! Why a model can't be read.
 
 ghost use Rattle.std.specs.Prelude.{◌≡◌, Some};
 ghost use Rattle.rc_read.specs.Causes.{number_of_cause, name_of_cause, text_of_cause};
@@ -12,9 +12,9 @@ use std::fmt;
 pub enum ReadCause {
     /// Among the line's first 256 bytes is one above 126, or below 32 other than tab and carriage return.
     NotAscii = 1,
-    /// The text doesn't begin with `ringcheck` and a number from 1 to 4, and a line that begins with `ring`.
+    /// The model doesn't begin with `ringcheck` and a number from 1 to 4, and a line that begins with `ring`.
     BadHead,
-    /// The words are no form, or one that may not be in this part of the text.
+    /// The words are no form, or one that may not be in this part of the model.
     BadLine,
     /// A word in a number's place is no number or is out of its range.
     BadNumber,
@@ -24,7 +24,7 @@ pub enum ReadCause {
     /// of a line.
     DoubleName,
     /// A closing brace without an open block, an else that closes no first branch, a thread in a thread, or a block
-    /// that is open at the end of the text.
+    /// that is open at the end of the model.
     Braces,
     /// One line, byte, open block, thread, buffer, token, file, pool or variable too many.
     TooLarge,
@@ -80,7 +80,7 @@ impl fmt::Display for ReadCause {
 
 impl Error for ReadCause {}
 
-/// Why a text isn't read.
+/// Why a model isn't read.
 #[derive(Clone, Copy, PartialEq, Eq, Debug, thiserror::Error)]
 pub enum ReadFault {
     /// The first line that can't be read, from 1, and the least cause there.

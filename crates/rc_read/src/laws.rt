@@ -7,8 +7,8 @@ ghost use Rattle.rc_read.specs.OneAnswer.{HasAnswer};
 ghost use Rattle.rc_read.specs.Sheets.{empty};
 ghost use Rattle.rc_read.specs.Words.{cut};
 
-/// Each text has exactly one answer. It names a line exactly where that line is the first of which a fault sentence is
-/// true, and then the least number of such a sentence; a fault of the text's end, or a program, comes only where no
+/// Each model has exactly one answer. It names a line exactly where that line is the first of which a fault sentence is
+/// true, and then the least number of such a sentence; a fault of the model's end, or a program, comes only where no
 /// line has one.
 pub fn each_text_has_one_answer()
     ensures some { (bytes : List ℕ) → HasAnswer bytes (answer_of bytes) }
@@ -16,7 +16,7 @@ pub fn each_text_has_one_answer()
         → HasAnswer bytes a → HasAnswer bytes b → a ≡ b }
 {}
 
-/// The fault of a line that a line feed has ended is the fault of every text that goes on from there.
+/// The fault of a line that a line feed has ended is the fault of every model that goes on from there.
 pub fn a_fault_is_that_of_every_continuation()
     ensures { (bytes more : List ℕ) (fault : ℕ × ℕ) → judged empty (cut bytes).0 ≡ Err fault
         → answer_of (bytes ++ more) ≡ Err fault }

@@ -10,7 +10,7 @@ use indexmap::IndexSet;
 use rc_lang::program::{Buffer, File, Thread, Token};
 use std::alloc::{AllocError, Global};
 
-// Whether a word is this name. The names of a text often differ in their last byte alone, so that is compared first.
+// Whether a word is this name. The names of a model often differ in their last byte alone, so that is compared first.
 fn is_name(name: &[u8], word: &[u8]) -> bool
     ensures { result ≡ bytes_eq name.now word.now }
 {

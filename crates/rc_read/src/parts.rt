@@ -8,7 +8,7 @@ use rc_lang::lines::{Block, Line};
 use rc_lang::program::{Buffer, File, Head, Items, More, Thread, Token};
 use std::alloc::Global;
 
-/// The part of a text in which a line is.
+/// The part of a model in which a line is.
 #[derive(Clone, Copy)]
 pub enum Region {
     /// Above the first head line.
@@ -62,7 +62,7 @@ pub struct Parts {
     ghost few_lines: { count ≤ 4096 },
 }
 
-/// Why a text can't be read, and what was read above the line in question; at the text's end all lines were.
+/// Why a model can't be read, and what was read above the line in question; at the model's end all lines were.
 #[derive(Drop)]
 pub struct Unread {
     pub fault: ReadFault,
@@ -125,7 +125,7 @@ impl Parts {
     ghost use Rattle.rc_read.specs.Sheets.{empty};
     ghost use Rattle.rc_read.specs.View.{view_sheet};
 
-    /// What was read of no text.
+    /// What was read of no model.
     pub fn new(alloc: Global) -> Parts
         ensures { view_sheet result ≡ empty }
     {

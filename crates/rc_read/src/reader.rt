@@ -1,4 +1,4 @@
-//! A reader of a text that comes in pieces.
+//! A reader of a model that comes in pieces.
 
 ghost use Rattle.std.specs.Prelude.{◌≡◌, ◌+◌, ◌++◌, ◌∷◌, ◌↔◌, [], List, ℕ, None, Some, Err, IsSome, length};
 ghost use Rattle.memchr.specs.Find.{Nowhere, Passes, is_byte};
@@ -18,7 +18,7 @@ use rc_lang::program::{Declarations, Program};
 use std::alloc::Global;
 use std::marker::Model;
 
-/// Reads a text that comes in pieces.
+/// Reads a model that comes in pieces.
 #[derive(Drop)]
 pub struct Reader {
     alloc: Global,
@@ -110,7 +110,7 @@ fn program_in(parts: Parts) -> Program
     Program::new(parts.head, declarations, parts.threads)
 }
 
-// Judges the end of the text.
+// Judges the end of the model.
 fn judge_end(parts: &Parts) -> Result<(), ReadFault>
     ensures { JudgesEnd (view_sheet parts.now) result }
 {
@@ -128,7 +128,7 @@ fn judge_end(parts: &Parts) -> Result<(), ReadFault>
     }
 }
 
-// The answer of the text's end.
+// The answer of the model's end.
 fn end_of(parts: Parts) -> Result<Program, Unread>
     requires { IsReached (view_sheet parts) }
     ensures { Ends (view_sheet parts) result }
@@ -168,7 +168,7 @@ impl Reader {
         }
     }
 
-    /// Takes the next piece of the text. The answer is an error where a line that a line feed has ended so far can't
+    /// Takes the next piece of the model. The answer is an error where a line that a line feed has ended so far can't
     /// be read, or a growth was refused; after an error each call answers it again.
     pub fn feed(&mut self, piece: &[u8]) -> Result<(), ReadFault>
         ensures reads { (text : List ℕ) → HasRead self.old text
@@ -204,7 +204,7 @@ impl Reader {
         &self.parts
     }
 
-    // What the text is that was fed: a program, or the first line that can't be read, and what is above it.
+    // What the model is that was fed: a program, or the first line that can't be read, and what is above it.
     fn end(self) -> Result<Program, Unread>
         ensures reads { (bytes : List ℕ) → HasRead self bytes → IsReadAs bytes result }
         ensures stays { IsSome self.fault → fault_of result ≡ self.fault }
@@ -224,7 +224,7 @@ impl Reader {
         }
     }
 
-    /// What the text is that was fed: a program, or the first line that can't be read.
+    /// What the model is that was fed: a program, or the first line that can't be read.
     pub fn finish(self) -> Result<Program, ReadFault>
         ensures reads { (bytes : List ℕ) → HasRead self bytes → IsAnswer bytes result }
         ensures stays { (fault : ReadFault) → self.fault ≡ Some fault → result ≡ Err fault }
@@ -233,7 +233,7 @@ impl Reader {
     }
 }
 
-/// What a text is: a program, or the first line that can't be read, and what was read above it.
+/// What a model is: a program, or the first line that can't be read, and what was read above it.
 pub fn read_parts(alloc: Global, bytes: &[u8]) -> Result<Program, Unread>
     ensures { IsReadAs bytes.now result }
 {
@@ -242,7 +242,7 @@ pub fn read_parts(alloc: Global, bytes: &[u8]) -> Result<Program, Unread>
     reader.end()
 }
 
-/// What a text is: a program, or the first line that can't be read.
+/// What a model is: a program, or the first line that can't be read.
 pub fn read_program(alloc: Global, bytes: &[u8]) -> Result<Program, ReadFault>
     ensures { IsAnswer bytes.now result }
 {

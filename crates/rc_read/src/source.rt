@@ -1,4 +1,4 @@
-//! The lines of a text, and the words of a line as they are printed.
+//! The lines of a model, and the words of a line as they are printed.
 
 ghost use Rattle.std.specs.Prelude.{◌≡◌, ◌<◌, ◌≤◌, ◌++◌, [], ◌∷◌, IfOk, MatchOption, length, slice_index_or, take, drop, false};
 ghost use Rattle.rc_read.specs.Words.{text_lines, word_if_any, words_of};
@@ -10,14 +10,14 @@ use rc_text::text::{put_piece, put_pieces};
 use std::alloc::{AllocError, Global};
 use std::marker::Model;
 
-/// A text whose lines are found.
+/// A model whose lines are found.
 #[derive(Drop)]
 pub struct Lines<'a> {
     text: &'a [u8],
     lines: Vec<&'a [u8]>,
 }
 
-// In contracts it is the text.
+// In contracts it is the model.
 impl<'a> Model for Lines<'a> {
     ghost use Rattle.std.specs.Prelude.{◌≡◌, ℕ, List, map};
     ghost use Rattle.rc_read.specs.Words.{text_lines};
@@ -30,7 +30,7 @@ impl<'a> Model for Lines<'a> {
 }
 
 impl<'a> Lines<'a> {
-    /// Finds the lines of a text. Answers an error only where memory ran out.
+    /// Finds the lines of a model. Answers an error only where memory ran out.
     pub fn of(alloc: Global, text: &'a [u8]) -> Result<Lines<'a>, AllocError>
         ensures { IfOk result (λ lines. lines ≡ text.now) }
     {
@@ -59,7 +59,7 @@ impl<'a> Lines<'a> {
 }
 
 /// Adds the words of the line with this number, from 1, without its comment, with one blank between two. Nothing is added
-/// where the line has no word, or the text no such line.
+/// where the line has no word, or the model no such line.
 pub fn put_line_words(text: &mut Vec<u8>, lines: &Lines<'_>, number: u32) -> Result<(), AllocError>
     ensures { Puts text.old text.new (line_words lines.now number) result }
 {
@@ -94,7 +94,7 @@ fn put_after_blanks(text: &mut Vec<u8>, line: &[u8]) -> Result<(), AllocError>
     Ok(())
 }
 
-/// The first line of a text that isn't empty, and what comes after its line feed.
+/// The first line of a model that isn't empty, and what comes after its line feed.
 fn first_line(text: &[u8]) -> (&[u8], &[u8])
     requires { 0 < length text.now }
     ensures lines { text_lines text.now ≡ result.0.now ∷ text_lines result.1.now }

@@ -231,7 +231,7 @@ fn any_reserved(version: u32, spots: &[Spot]) -> bool
     false
 }
 
-// Whether a text of this version has such a form, with these places.
+// Whether a model of this version has such a form, with these places.
 fn is_form(version: u32, row: Row, spots: &[Spot]) -> bool
     ensures { result ≡ spec.is_form version row (view_spots spots.now) }
 {
@@ -303,7 +303,7 @@ fn find_row<'a>(spots: &mut Vec<Spot<'a>>, words: &[&'a [u8]]) -> Result<Option<
     Ok(first_row(spots, assignments(), words)?)
 }
 
-/// The form of a line with these words in a text of this version, whose places are put there.
+/// The form of a line with these words in a model of this version, whose places are put there.
 #[inline(always)]
 pub fn put_spots<'a>(
     version: u32,

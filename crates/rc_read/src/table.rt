@@ -112,7 +112,7 @@ pub enum Row {
     Close,
 }
 
-/// Where in a text a form may be.
+/// Where in a model a form may be.
 #[derive(Clone, Copy)]
 pub enum Stand {
     /// As the first line.
@@ -350,7 +350,7 @@ pub fn parts_of(row: Row) -> &'static [Part]
     }
 }
 
-/// The version of the notation from which on a form is in texts.
+/// The version of the notation from which on a form is in models.
 pub fn version_of(row: Row) -> u32
     ensures { result ≡ spec.version_of row }
 {

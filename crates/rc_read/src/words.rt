@@ -10,7 +10,7 @@ ghost use Rattle.rc_read.specs.Words as spec;
 use crate::reserved::is_reserved;
 use std::alloc::AllocError;
 
-/// Whether a word is this text.
+/// Whether a word has these bytes.
 pub fn is(word: &[u8], text: &[u8]) -> bool
     ensures { result ≡ bytes_eq word.now text.now }
 {

@@ -1,4 +1,4 @@
--- What follows a line that can't be read doesn't change the answer of a text.
+-- What follows a line that can't be read doesn't change the answer of a model.
 use Rattle.std.proofs.Common.{◌≡◌, ℕ, zero, suc, ◌+◌, ◌*◌, ◌<◌, ◌≤◌, length, List, [], ◌∷◌, ◌++◌, take, inl, inr, Bool, true, false, cond, eqb, Option, Some, None, Result, Ok, Err, refl, sym, ap, subst, ◌∙◌, append_assoc, arith, length-append}
 use Rattle.std.specs.Prelude.{IfOk, max}
 use Rattle.std.specs.Io.KnownBytes.{Consumes}
@@ -83,7 +83,7 @@ settled_by_strange s bytes h strange more =
 
 -- ---- a reader
 
--- A reader that was fed the text has met a fault.
+-- A reader that was fed the model has met a fault.
 pub settled : (r : Reading) (text : List ℕ) (fed : Result (Unit {0}) ReadFault) → HasRead r text → IsAnswerSoFar text fed → ((fault : ReadFault) → r.fault ≡ Some fault → fed ≡ Err fault) → IsFault fed r.pending → IsSettled text
 settled r text (Err OutOfMemory) h so_far kept is = absurd is
 settled r text (Err (Text line cause)) h so_far kept is = settled_by_line text line (number_of_cause cause) so_far

@@ -1,4 +1,4 @@
--- What is written where a text or a schedule can't be read.
+-- What is written where a model or a schedule can't be read.
 use Rattle.std.proofs.Common.{◌≡◌, ℕ, List, Result, Ok, Err, ap, refl, subst, sym, ◌∙◌}
 use Rattle.std.specs.Prelude.{IfOk}
 use Rattle.rc_lang.specs.Program.{Program}

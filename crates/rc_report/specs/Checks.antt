@@ -1,4 +1,4 @@
--- What the engine that checks a text answers and writes.
+-- What the engine that checks a model answers and writes.
 use Rattle.std.specs.Prelude.{ℕ, ◌≡◌, Bool, List, Option, None, Result, Ok, Err}
 use Rattle.rc_lang.specs.Program.{Program}
 use Rattle.rc_read.specs.Answer.{answer_of}
@@ -17,13 +17,13 @@ IsProgramVerdict P Accepted = Accepts P
 IsProgramVerdict P (Refused r) = IsRefused P r.line (premise_number r.cause)
 IsProgramVerdict P (Unreadable line cause) = ⊥
 
--- A text can't be read at this line, for the cause with this number.
+-- A model can't be read at this line, for the cause with this number.
 abbrev pub IsFaultVerdict : ℕ → ℕ → Verdict → Type 0
 IsFaultVerdict line number Accepted = ⊥
 IsFaultVerdict line number (Refused r) = ⊥
 IsFaultVerdict line number (Unreadable l cause) = (l ≡ line) × (number_of_cause cause ≡ number)
 
--- The verdict is the one on what a text reads as.
+-- The verdict is the one on what a model reads as.
 abbrev pub IsVerdict : Result Program (ℕ × ℕ) → Verdict → Type 0
 IsVerdict (Ok P) verdict = IsProgramVerdict P verdict
 IsVerdict (Err (line, number)) verdict = IsFaultVerdict line number verdict
@@ -39,7 +39,7 @@ GivesVerdict answer (Err (Unreadable line cause)) = IsVerdict answer (Unreadable
 abbrev pub told : Bool → Verdict → List ℕ
 told json verdict = printed None json verdict
 
--- The verdict on the bytes, and the text that tells it.
+-- The verdict on the bytes, and how it is printed.
 abbrev pub TellsVerdict : List ℕ → Bool → Verdict → List ℕ → Type 0
 TellsVerdict bytes json verdict text = IsVerdict (answer_of bytes) verdict × (text ≡ printed None json verdict)
 

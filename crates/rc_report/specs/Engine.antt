@@ -34,7 +34,7 @@ abbrev pub items_text : (Program → Trace → List ℕ) → Program → Result 
 items_text traced program (Ok items) = traced program (trace_of program items)
 items_text traced program (Err i) = schedule_line i
 
--- The text for what a text reads as: an unreadable one is answered with its verdict.
+-- The text for what a model reads as: an unreadable one is answered with its verdict.
 abbrev pub answer_text : (Program → Trace → List ℕ) → Result Program (ℕ × ℕ) → List ℕ → List ℕ
 answer_text traced (Ok program) schedule = items_text traced program (items_of program schedule)
 answer_text traced (Err (line, number)) schedule = unreadable_text line number

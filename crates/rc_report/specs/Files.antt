@@ -1,4 +1,4 @@
--- Verdicts on the texts of files: where something is comes first, as compilers tell it.
+-- Verdicts on the models of files: where something is comes first, as compilers print it.
 use Rattle.std.specs.Prelude.{ℕ, Bool, true, false, List, [], ◌∷◌, ◌++◌, codes, decimal, Option, Some, None}
 use Rattle.serde_json.specs.Written.{compact_text}
 use Rattle.rc_report.specs.declared.verdict.Verdict.{Verdict}

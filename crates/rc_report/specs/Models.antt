@@ -1,4 +1,4 @@
--- How much of a text its verdict depends on.
+-- How much of a model its verdict depends on.
 use Rattle.std.specs.Global.{Vec}
 use Rattle.std.specs.Prelude.{ℕ, ◌≡◌, ◌⊎◌, Bool, true, false, List, [], ◌++◌, take, Result, Ok, Err}
 use Rattle.std.specs.Io.KnownBytes.{Consumes, IsAtEnd}
@@ -10,7 +10,7 @@ use Rattle.rc_report.specs.declared.engine_fault.EngineFault.{EngineFault}
 use Rattle.rc_report.specs.declared.engine_fault.EngineFault.TheVariants.{Write}
 use Rattle.rc_report.specs.Streams.{Given}
 
--- What follows the text doesn't change its answer.
+-- What follows the model doesn't change its answer.
 abbrev pub IsSettled : List ℕ → Type 0
 IsSettled text = (more : List ℕ) → answer_of (text ++ more) ≡ answer_of text
 
@@ -29,7 +29,7 @@ IsFault (Ok u) pending = any_strange (take 256 pending) ≡ true
 IsFault (Err (Text line cause)) pending = Unit {0}
 IsFault (Err Memory) pending = ⊥
 
--- The text is what the source gave, up to its end, or enough of it.
+-- The model is what the source gave, up to its end, or enough of it.
 abbrev pub ReadsModel : Given → Given → Result (Vec ℕ) EngineFault → Type 0
 ReadsModel old new (Ok text) =
     (rest : List ℕ) × Consumes old.remaining new.remaining (text.items ++ rest) × IsAtEnd new.remaining × KeepsEnough text.items rest

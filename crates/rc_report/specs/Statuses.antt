@@ -1,4 +1,4 @@
--- The exit status of each answer: 0 where nothing is wrong, 1 where a fault was found, 2 for a text that is no program,
+-- The exit status of each answer: 0 where nothing is wrong, 1 where a fault was found, 2 for a model that is no program,
 -- 3 where there is no answer.
 use Rattle.std.specs.Prelude.{ℕ}
 use Rattle.rc_report.specs.declared.step_engine.StepEnd.{StepEnd}

@@ -1,4 +1,4 @@
--- What a text and a schedule name: the steps of a program, or what can't be read.
+-- What a model and a schedule name: the steps of a program, or what can't be read.
 use Rattle.std.specs.Prelude.{ℕ, ◌≡◌, List, Result, Ok, Err}
 use Rattle.rc_lang.specs.Program.{Program}
 use Rattle.rc_read.specs.Causes.{number_of_cause}
@@ -15,14 +15,14 @@ use Rattle.rc_report.specs.Engine.{text_of_trace}
 use Rattle.rc_report.specs.Printed.{schedule_line}
 use Rattle.rc_report.specs.Verdicts.{verdict_text}
 
--- This can't be read, of the text or of the schedule.
+-- This can't be read, of the model or of the schedule.
 abbrev pub IsUnread : Result Program (ℕ × ℕ) → List ℕ → Unread → Type 0
 IsUnread (Ok program) schedule (Text line cause) = ⊥
 IsUnread (Ok program) schedule (Schedule i) = items_of program schedule ≡ Err i
 IsUnread (Err (line, number)) schedule (Text l cause) = (l ≡ line) × (number_of_cause cause ≡ number)
 IsUnread (Err (line, number)) schedule (Schedule i) = ⊥
 
--- The program is the text's, and the items are the schedule's; or one of them can't be read.
+-- The program is the model's, and the items are the schedule's; or one of them can't be read.
 abbrev pub ReadsSteps : Result Program (ℕ × ℕ) → List ℕ → Result Steps Unread → Type 0
 ReadsSteps answer schedule (Ok steps) = (answer ≡ Ok steps.program) × (items_of steps.program schedule ≡ Ok steps.items.items)
 ReadsSteps answer schedule (Err unread) = IsUnread answer schedule unread

@@ -86,9 +86,9 @@ Answers says state old new (Err Read) = ⊥
 Answers {X = X} says state old new (Err Write) = (x : X) × (text : List ℕ) × says x text × Began (state old) (state new) text Write
 Answers says state old new (Err OutOfMemory) = state new ≡ state old
 
--- ---- a text that is read
+-- ---- a model that is read
 
--- The text is what the source gave, up to its end.
+-- The model is what the source gave, up to its end.
 abbrev pub ReadsText : Given → Given → Result (Vec ℕ) EngineFault → Type 0
 ReadsText old new (Ok text) = Consumes old.remaining new.remaining text.items × IsAtEnd new.remaining
 ReadsText old new (Err e) = ¬ (e ≡ Write)

@@ -20,7 +20,7 @@ pub record Finding : Type 0 where
 abbrev pub finding_of : CodeFinding → Finding
 finding_of f = record { word = f.word.now; line = f.line; letter = f.letter.now; number = f.number; name = f.name.now }
 
--- a text whose line can't be read, for the cause with this number
+-- a model whose line can't be read, for the cause with this number
 abbrev pub unreadable : ℕ → ℕ → Finding
 unreadable line number = record { word = codes "unreadable"; line = line; letter = codes "P"; number = number; name = reading.name_numbered number }
 

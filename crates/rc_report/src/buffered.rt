@@ -58,7 +58,7 @@ impl<S: Sink> Buffered<S> {
         Ok(())
     }
 
-    /// Writes what is kept back, and keeps back what it has room for of this piece. It is no part of its caller, so that
+    /// Writes what is kept back, and keeps back what it has room for of this piece. Not inlined, so that
     /// a small piece is kept back where it is made.
     #[inline(never)]
     fn write_over(&mut self, piece: &[u8]) -> Result<usize, DeviceFailed>

@@ -38,7 +38,7 @@ pub fn check_engine<R: Source, W: Sink>(
     check_bytes(alloc, &text, json, writer)
 }
 
-/// Writes the verdict on a text. Answers `Write` where a write failed: then a beginning of the verdict is written; and
+/// Writes the verdict on a model. Answers `Write` where a write failed: then a beginning of the verdict is written; and
 /// `OutOfMemory` where a growth was refused: then nothing is.
 fn check_bytes<W: Sink>(
     alloc: Global,
@@ -55,7 +55,7 @@ fn check_bytes<W: Sink>(
     Ok(verdict)
 }
 
-/// Adds the verdict on a text, as JSON or as text.
+/// Adds the verdict on a model, as JSON or as text.
 pub fn put_checked(
     answer: &mut Vec<u8>,
     alloc: Global,
@@ -69,7 +69,7 @@ pub fn put_checked(
     Ok(verdict)
 }
 
-/// The verdict on a text.
+/// The verdict on a model.
 pub fn verdict_on(alloc: Global, text: &[u8]) -> Result<Verdict, AllocError>
     ensures { IfOk result (IsVerdict (answer_of text.now)) }
 {
@@ -79,7 +79,7 @@ pub fn verdict_on(alloc: Global, text: &[u8]) -> Result<Verdict, AllocError>
     }
 }
 
-/// The program of a text, where it is admitted, or the verdict that says why it isn't.
+/// The program of a model, where it is admitted, or the verdict that says why it isn't.
 pub fn judged(alloc: Global, text: &[u8]) -> Result<Result<Admitted, Verdict>, AllocError>
     ensures { IfOk result (GivesVerdict (answer_of text.now)) }
 {
@@ -94,7 +94,7 @@ pub fn judged(alloc: Global, text: &[u8]) -> Result<Result<Admitted, Verdict>, A
     }
 }
 
-/// The verdict on a text that isn't admitted. There is none where memory ran out.
+/// The verdict on a model that isn't admitted. There is none where memory ran out.
 pub fn verdict_of(fault: AdmitFault) -> Result<Verdict, AllocError>
     ensures verdict { IfOk result (λ verdict. (text : List ℕ) → Admits text (Err fault) → IsVerdict (answer_of text) verdict) }
     ensures other { IfOk result (λ verdict. ¬ (verdict ≡ Accepted)) }

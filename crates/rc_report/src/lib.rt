@@ -1,6 +1,6 @@
 //! What is written: verdicts, and traces of programs that are stepped.
 //!
-//! An engine reads a text from a [`Source`](streams::Source) and writes its answer to a [`Sink`](streams::Sink). It
+//! An engine reads a model from a [`Source`](streams::Source) and writes its answer to a [`Sink`](streams::Sink). It
 //! answers `Read` and `Write` only where that device failed, `Read` also where 2,097,152 reads met no end of the input.
 #![tactic(auto)]
 

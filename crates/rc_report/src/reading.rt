@@ -1,4 +1,4 @@
-//! The text of an engine.
+//! The model that an engine reads.
 
 ghost use Rattle.std.specs.Prelude.{◌≡◌, ◌≤◌, ◌<◌, ◌+◌, IfOk, false, length, max, true};
 ghost use Rattle.rc_report.specs.Models.{IsFault, IsSettled, KeepsPiece, ReadsModel};
@@ -37,15 +37,16 @@ pub fn read_text<R: Source>(alloc: Global, reader: &mut R) -> Result<Vec<u8>, En
     Err(EngineFault::Read)
 }
 
-/// A text of so many bytes may have a line by which its verdict is settled: each line has at most 256 bytes, and there are
-/// at most 4,096 lines.
+/// A model of so many bytes may have a line by which its verdict is settled: each line has at most 256 bytes, and there
+/// are at most 4,096 lines.
 const LONG: usize = 2_097_152;
 
-/// How many bytes are read at most at a time of a longer text without such a line, so that 16 MiB more are kept at most.
+/// How many bytes are read at most at a time of a longer model without such a line, so that 16 MiB more are kept at
+/// most.
 const SHORT_PIECE: usize = 8;
 
-/// The bytes of a source, up to its end, as far as the verdict on them depends on them: of a text of more than 2 MiB with a
-/// line that can't be read, what follows is read and not kept. At most 20 MiB are kept.
+/// The bytes of a source, up to its end, as far as the verdict on them depends on them: of a model of more than 2 MiB
+/// with a line that can't be read, what follows is read and not kept. At most 20 MiB are kept.
 ///
 /// Answers `Read` where a read failed, or where 2,097,152 reads met no end of input.
 pub fn read_model<R: Source>(alloc: Global, reader: &mut R) -> Result<Vec<u8>, EngineFault>
@@ -69,7 +70,7 @@ pub fn read_model<R: Source>(alloc: Global, reader: &mut R) -> Result<Vec<u8>, E
     Err(EngineFault::Read)
 }
 
-/// How many bytes are read next at most, after a text of this length.
+/// How many bytes are read next at most, after a model of this length.
 fn room_of(is_settled: bool, length: usize) -> usize
     ensures some { 0 < result }
     ensures most { result ≤ 512 }
@@ -82,7 +83,7 @@ fn room_of(is_settled: bool, length: usize) -> usize
     }
 }
 
-/// Keeps a piece of a text, unless its verdict is settled. Answers whether it is settled now.
+/// Keeps a piece of a model, unless its verdict is settled. Answers whether it is settled now.
 fn keep(
     alloc: Global,
     text: &mut Vec<u8>,
@@ -102,7 +103,7 @@ fn keep(
     has_fault(alloc, text)
 }
 
-/// Whether a line of a text can't be read, whatever follows the text.
+/// Whether a line of a model can't be read, whatever follows.
 fn has_fault(alloc: Global, text: &[u8]) -> Result<bool, AllocError>
     ensures { IfOk result (λ b. b ≡ true → IsSettled text.now) }
 {

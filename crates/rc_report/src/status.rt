@@ -11,13 +11,13 @@ use crate::verdict::Verdict;
 pub const GOOD_STATUS: u8 = 0;
 /// Refused, or a fault was found.
 pub const FAULT_STATUS: u8 = 1;
-/// The text can't be read.
+/// The model can't be read.
 pub const UNREADABLE_STATUS: u8 = 2;
 /// Wrong words, an unreadable schedule, an item that isn't enabled, memory, a limit, or a device that failed.
 pub const DEVICE_STATUS: u8 = 3;
 
 impl Verdict {
-    /// The exit status of a text with this verdict: 0 to 2.
+    /// The exit status of a model with this verdict: 0 to 2.
     pub fn status(&self) -> u8
         ensures status { result ≡ status_of_verdict self.now }
         ensures bound { result ≤ 3 }

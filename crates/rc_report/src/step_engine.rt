@@ -21,10 +21,10 @@ use rc_world::schedule::{ScheduleFault, read_schedule};
 use rc_world::world::World;
 use std::alloc::{AllocError, Global};
 
-/// Which text a stepped program was answered with.
+/// What a stepped program was answered with.
 #[derive(Clone, Copy)]
 pub enum StepEnd {
-    /// The text can't be read, and its verdict was written.
+    /// The model can't be read, and its verdict was written.
     Unreadable(ReadFault),
     /// The item of the schedule with this number, from 1, can't be read.
     Schedule(u64),
@@ -39,17 +39,17 @@ pub struct Steps {
     pub items: Vec<Item>,
 }
 
-/// Why a text and a schedule name no steps.
+/// Why a model and a schedule name no steps.
 #[derive(Clone, Copy)]
 pub enum Unread {
-    /// The line of the text that can't be read, from 1, and why.
+    /// The line of the model that can't be read, from 1, and why.
     Text { line: u32, cause: ReadCause },
     /// The item of the schedule with this number, from 1, can't be read.
     Schedule(u64),
 }
 
-/// Reads a text and steps its program through a schedule. The trace is written: a line for each event, and one that
-/// says how it ended. An unreadable text or schedule is answered with one line of its own.
+/// Reads a model and steps its program through a schedule. The trace is written: a line for each event, and one that
+/// says how it ended. An unreadable model or schedule is answered with one line of its own.
 ///
 /// Answers `Read` where a read failed or 2,097,152 reads met no end of input, and then nothing is written; `Write` where
 /// a write failed, and `OutOfMemory` where a growth was refused: then a beginning of the answer is written. Nothing is
@@ -90,7 +90,7 @@ pub fn read_steps(
     }
 }
 
-/// Writes the line that says what can't be read, and answers that this text was written.
+/// Writes the line that says what can't be read, and answers that this was written.
 pub fn write_unread<W: Sink>(writer: &mut W, unread: Unread) -> Result<StepEnd, EngineFault>
     requires { CanWrite (W.state writer.old) }
     ensures text { Writes W.state writer.old writer.new (unread_text unread) result }
@@ -111,7 +111,7 @@ pub fn write_unread<W: Sink>(writer: &mut W, unread: Unread) -> Result<StepEnd, 
     }
 }
 
-/// Steps the program of a text through a schedule. The memory of the text is given back before a world takes some.
+/// Steps the program of a model through a schedule. The memory of the model is given back before a world takes some.
 pub fn step_bytes<W: Sink>(
     alloc: Global,
     text: Vec<u8>,

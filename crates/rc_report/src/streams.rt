@@ -1,4 +1,4 @@
-//! What a text is read from, and what an answer is written to.
+//! What a model is read from, and what an answer is written to.
 
 ghost use Rattle.std.specs.Prelude.{◌≡◌, ◌≤◌};
 ghost use Rattle.rc_report.specs.Streams.{CanRead, CanWrite, Given, Reads, Taken, Takes};
@@ -9,7 +9,7 @@ use std::io::{Read, Write};
 #[derive(Clone, Copy, PartialEq, Eq, Debug)]
 pub struct DeviceFailed;
 
-/// What a text is read from.
+/// What a model is read from.
 pub trait Source {
     // What it will give, and how its reads went.
     ghost state: { Self → Given };

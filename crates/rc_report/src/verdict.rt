@@ -22,14 +22,14 @@ pub use rc_verify::refusal::Refusal;
 use serde_json::{Map, Value};
 use std::alloc::{AllocError, Global};
 
-/// What is said of a text.
+/// What is said of a model.
 #[derive(Clone, Copy)]
 pub enum Verdict {
     /// The program keeps the rules.
     Accepted,
     /// The program has a line that doesn't.
     Refused(Refusal),
-    /// The text is no program: the first line that can't be read, from 1, and why.
+    /// The model is no program: the first line that can't be read, from 1, and why.
     Unreadable { line: u32, cause: ReadCause },
 }
 
@@ -162,7 +162,7 @@ pub fn verdict_json<W: Sink>(
 
 /// Adds a verdict as it is printed: as JSON or as text, with the name of a file or without, and a line feed.
 ///
-/// Text is `accepted`, `refused line L Vn NAME` or `unreadable line L Pn NAME`; of a file, as compilers tell it, `FILE:
+/// Text is `accepted`, `refused line L Vn NAME` or `unreadable line L Pn NAME`; of a file, as compilers print it, `FILE:
 /// accepted`, `FILE:L: refused Vn NAME` or `FILE:L: unreadable Pn NAME`, with the file's name as it is shown. JSON is one
 /// object without spaces, its keys in order. Of a file, what isn't shown as it is is as `\u` and four hex digits, so the
 /// file's name is the one that is decoded.
@@ -282,7 +282,7 @@ fn put_finding(
     put_text(alloc, members, "verdict", finding.word)
 }
 
-/// Adds a member that is a text.
+/// Adds a member that is a string.
 fn put_text(
     alloc: Global,
     members: &mut Map<String, Value>,

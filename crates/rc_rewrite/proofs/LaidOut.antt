@@ -1,4 +1,4 @@
--- Lines of a text, and those that are laid out of them.
+-- Lines of a model, and those that are laid out of them.
 use Rattle.std.proofs.Common.{◌≡◌, ℕ, ◌<◌, List, [], ◌∷◌, ◌++◌, Bool, true, false, eqb, ◌||◌, ◌&&◌, length, get_or, take, drop, suc, refl, sym, subst, append_assoc, drop-cons}
 use Rattle.std.specs.List.{list_all}
 use Rattle.std.proofs.lemmas.Bool.{and_parts, eqb-true, false_from_ne_true}
@@ -82,7 +82,7 @@ last_laid old new laid h = rw (cut_last old h, cut_last new (laid_feed old new l
 line_laid : (old new after behind : List ℕ) → IsLineLaidOut old new → has_byte 10 old ≡ false → IsLaidOut after behind → IsLaidOut (old ++ 10 ∷ after) (new ++ 10 ∷ behind)
 line_laid old new after behind laid h s = rw (cut_line old after h, cut_line new behind (laid_feed old new laid h)) ((laid, s.0), s.1)
 
--- What is laid out so far goes with each text that the rest may become.
+-- What is laid out so far goes with each model that the rest may become.
 abbrev pub GoesOn : List ℕ → List ℕ → List ℕ → Type 0
 GoesOn source rest done = (t : List ℕ) → IsLaidOut rest t → IsLaidOut source (done ++ t)
 

@@ -1,4 +1,4 @@
--- Lines of a text, and those that come of them.
+-- Lines of a model, and those that come of them.
 use Rattle.std.proofs.Common.{◌≡◌, ℕ, List, [], ◌∷◌, ◌++◌, Bool, true, false, cond, eqb, ◌||◌, inl, inr, Ok, refl, sym, subst, append_assoc}
 use Rattle.std.specs.List.{list_all}
 use Rattle.std.proofs.lemmas.Bool.{and_parts, eqb-true, false_from_ne_true}
@@ -84,7 +84,7 @@ last_refilled old new r h = rw (cut_last old h, cut_last new (refilled_feed old 
 pub line_refilled : (old new after behind : List ℕ) → IsLineRefilled old new → has_byte 10 old ≡ false → IsRefilled after behind → IsRefilled (old ++ 10 ∷ after) (new ++ 10 ∷ behind)
 line_refilled old new after behind r h s = rw (cut_line old after h, cut_line new behind (refilled_feed old new r h)) ((r, s.0), s.1)
 
--- ---- a text, line by line
+-- ---- a model, line by line
 
 lines_stay : (lines : List (List ℕ)) → AreLinesRefilled lines lines
 lines_stay [] = tt
@@ -96,7 +96,7 @@ as_it_is bytes text e read = subst (IsKept bytes) (sym e) (read, read, (lines_st
 pub other_items : (bytes text : List ℕ) (P : Program) → CanBeRead bytes → IsRefilled bytes text → answer_of text ≡ Ok P → IsKept bytes text
 other_items bytes text P first fits read = (first, (P, read), fits)
 
--- What is printed so far goes with each text that the rest may become.
+-- What is printed so far goes with each model that the rest may become.
 abbrev pub GoesOn : List ℕ → List ℕ → List ℕ → Type 0
 GoesOn source rest printed = (t : List ℕ) → IsRefilled rest t → IsRefilled source (printed ++ t)
 

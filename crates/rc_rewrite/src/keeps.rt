@@ -1,4 +1,4 @@
-//! A model is written with the items of its loops as large as the loops can keep them.
+//! A model is written with what each loop keeps filled in.
 
 ghost use Rattle.std.specs.Prelude.{◌≡◌, IfOk, IfSome, Ok};
 ghost use Rattle.rc_read.specs.Answer.{answer_of};
@@ -19,7 +19,7 @@ pub struct UnreadLine {
     pub cause: ReadCause,
 }
 
-/// The model with the items of its loops as large as the loops can keep them: each loop gets what is held where it is
+/// The model with what each loop keeps filled in: each loop gets what is held where it is
 /// entered, less what isn't held where it ends, unless a line in it needs that. What is written is no verdict. A loop
 /// stays as it is if an entry is open at its top or its end, since no items help then; if nothing reaches it; and below
 /// a line of its thread that stays refused. Of a model that can't be read the first such line is answered.

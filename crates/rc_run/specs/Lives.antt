@@ -20,7 +20,7 @@ use Rattle.rc_world.specs.Laws.{HoldsLock}
 use Rattle.rc_world.specs.Machine.{Pending, World, bytes_of, start_world, thread_step, without}
 
 -- The events so far, the world to which they lead, whether the open entry is an fsync that asks for fdatasync(2), which
--- no world tells, and the serial numbers of the requests whose jobs are out.
+-- no world says, and the serial numbers of the requests whose jobs are out.
 pub record Live : Type 0 where
   pub history : List Event
   pub world : World

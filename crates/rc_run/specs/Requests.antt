@@ -74,7 +74,7 @@ is_open VacantSlot = true
 is_open (PreparedSlot bytes) = true
 
 -- What clauses see of a ring of requests: the numbers of entries, the open entry, whether it is an fsync that asks for
--- fdatasync(2), which no request tells, the queued requests and the completions from the front, and how many requests
+-- fdatasync(2), which no request says, the queued requests and the completions from the front, and how many requests
 -- were made.
 pub record RequestRing : Type 0 where
   pub entries : ℕ

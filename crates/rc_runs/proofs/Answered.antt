@@ -1,4 +1,4 @@
--- What is answered where memory runs out, or where a text or its script can't be read.
+-- What is answered where memory runs out, or where a model or its script can't be read.
 use Rattle.std.proofs.Common.{◌≡◌, ℕ, List, Result, Ok, Err, ap, refl, subst, sym, ◌∙◌}
 use Rattle.std.specs.Prelude.{IfOk, IsErrAnd}
 use Rattle.rc_lang.specs.Program.{Program}

@@ -13,7 +13,7 @@ use Rattle.rc_report.specs.declared.trace.End.{End}
 use Rattle.rc_report.specs.declared.trace.End.TheVariants as ends
 use Rattle.rc_report.specs.Engine.{end_of, text_of_trace}
 
--- What the moves of a text spell is the schedule of the text.
+-- What the moves of a model spell is a schedule of it.
 pub spelled : (program : Program) (text : List ℕ) (moves : List Move) (items : List Item) → moves_of program text ≡ Ok moves → items ≡ schedule_of program moves → moved_items program text ≡ Ok items
 spelled program text moves items m s = ap (spelled_or program) m ∙ ap (λ x. Ok x) (sym s)
 

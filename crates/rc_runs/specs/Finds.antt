@@ -32,7 +32,7 @@ IsSearched answer walks (Refused r) None = ⊥
 IsSearched answer walks verdict (Some s) = ⊥
 IsSearched answer walks verdict None = Unit {0}
 
--- The verdict on what a text reads as, and what so many walks found in it.
+-- The verdict on what a model reads as, and what so many walks found in it.
 abbrev pub IsFound : Result Program (ℕ × ℕ) → ℕ → Found → Type 0
 IsFound answer walks f = IsVerdict answer f.verdict × IsSearched answer walks f.verdict f.searched
 

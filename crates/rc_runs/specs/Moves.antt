@@ -13,7 +13,7 @@ use Rattle.rc_world.specs.Schedule.{halves, item_of, items_or, thread_named}
 use Rattle.rc_runs.specs.declared.moves.Move.{Move}
 use Rattle.rc_runs.specs.declared.moves.Move.TheVariants.{One, Steps, Until}
 
--- ---- the pieces of a text
+-- ---- the pieces of moves
 
 -- Comma, space, tab and carriage return stand between pieces.
 abbrev pub is_separator : ℕ → Bool

@@ -23,14 +23,14 @@ abbrev pub script_items : Program → Script → Result (List Item) ℕ
 script_items program (script.Schedule schedule) = items_of program schedule.now
 script_items program (script.Moves moves) = moved_items program moves.items
 
--- This can't be read, of the text or of what names the steps.
+-- This can't be read, of the model or of what names the steps.
 abbrev pub IsNotRead : (Program → Result (List Item) ℕ) → Result Program (ℕ × ℕ) → Unread → Type 0
 IsNotRead items (Ok program) (Text line cause) = ⊥
 IsNotRead items (Ok program) (Schedule i) = items program ≡ Err i
 IsNotRead items (Err (line, number)) (Text l cause) = (l ≡ line) × (number_of_cause cause ≡ number)
 IsNotRead items (Err (line, number)) (Schedule i) = ⊥
 
--- The program is the text's, and the items are these of it; or one of them can't be read.
+-- The program is the model's, and the items are these of it; or one of them can't be read.
 abbrev pub ReadsItems : (Program → Result (List Item) ℕ) → Result Program (ℕ × ℕ) → Result Moved Unread → Type 0
 ReadsItems items answer (Ok moved) = (answer ≡ Ok moved.steps.program) × (items moved.steps.program ≡ Ok moved.steps.items.items)
 ReadsItems items answer (Err unread) = IsNotRead items answer unread
@@ -40,7 +40,7 @@ ReadsScript answer script read = ReadsItems (λ program. script_items program sc
 
 -- ---- what a program that is stepped so is answered with
 
--- The text for what a text reads as: an unreadable one is answered with its verdict.
+-- The text for what a model reads as: an unreadable one is answered with its verdict.
 abbrev pub script_text : (Program → Trace → List ℕ) → Result Program (ℕ × ℕ) → Script → List ℕ
 script_text traced (Ok program) script = items_text traced program (script_items program script)
 script_text traced (Err (line, number)) script = unreadable_text line number

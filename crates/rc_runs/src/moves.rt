@@ -12,7 +12,7 @@ use rc_world::event::Item;
 use rc_world::schedule::{ScheduleFault, halves, item_of, thread_named};
 use std::alloc::Global;
 
-/// What a piece of a text of moves names.
+/// What a piece of moves names.
 #[derive(Clone, Copy)]
 pub enum Move {
     /// An item of a schedule.
@@ -23,7 +23,7 @@ pub enum Move {
     Until { thread: u32, line: u32 },
 }
 
-/// The moves of a text: pieces with commas, blanks (space, tab, carriage return) and line feeds between them. From `#`
+/// Moves: pieces with commas, blanks (space, tab, carriage return) and line feeds between them. From `#`
 /// on a line is a comment. A piece is an item of a schedule, `NAME*N` or `NAME@L`: NAME is a thread's, N is 1 to
 /// 65,536, and L the number of a line of the thread at which it can stand, so none that goes with the step before it.
 pub fn read_moves(

@@ -1,4 +1,4 @@
-//! Items as the text of moves.
+//! Items, written as moves.
 
 use crate::moves::Move;
 use crate::notes::put_move;

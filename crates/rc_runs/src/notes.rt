@@ -137,7 +137,7 @@ fn put_unread_move(notes: &mut Vec<u8>, moves: &[u8], number: u64) -> Result<(),
     put_piece(notes, b"`\n")
 }
 
-// The piece of a text of moves with this number, from 1.
+// The piece of moves with this number, from 1.
 fn move_numbered(moves: &[u8], number: u64) -> Option<&[u8]> {
     let mut left = number;
     for line in moves.split(|b| *b == b'\n') {

@@ -8,8 +8,8 @@ use rc_read::source::Lines;
 use rc_world::world::World;
 use std::alloc::{AllocError, Global};
 
-/// The text of a world whose program was read from this text: what each thread has next, its variables, the open entry, the
-/// requests, the pools, and what is enabled.
+/// A world in words, whose program was read from these bytes: what each thread has next, its variables, the open entry,
+/// the requests, the pools, and what is enabled.
 pub fn state_text(alloc: Global, text: &[u8], world: &World<'_>) -> Result<Vec<u8>, AllocError> {
     let mut state = Vec::new(alloc);
     put_threads(&mut state, &Lines::of(alloc, text)?, world)?;

@@ -21,10 +21,10 @@ use rc_report::writing::write_piece;
 use rc_world::world::World;
 use std::alloc::{AllocError, Global};
 
-/// Steps the program of a text through a schedule, or through the one that moves spell. Its run is shown: its trace, the
-/// world in which it ends after it, or its picture. Why an item isn't enabled is added to the notes, whether one that
-/// can't be read is a move, and which moves ended at their most steps. An unreadable text or script is answered with one
-/// line of its own.
+/// Steps the program of a model through a schedule, or through the one that moves spell. Its run is shown: its trace,
+/// the world in which it ends after it, or its picture. Why an item isn't enabled is added to the notes, whether one
+/// that can't be read is a move, and which moves ended at their most steps. An unreadable model or script is answered
+/// with one line of its own.
 ///
 /// Answers `Write` where a write failed, and `OutOfMemory` where memory ran out: then a beginning of the answer is
 /// written. Nothing is tried again (`write(2)`).

@@ -1,4 +1,4 @@
-//! A text, and the steps of its program.
+//! A model, and the steps of its program.
 
 ghost use Rattle.std.specs.Prelude.{IfOk};
 ghost use Rattle.rc_read.specs.Answer.{answer_of};

@@ -9,7 +9,7 @@ use rc_world::controls::Next;
 use rc_world::world::World;
 use std::alloc::AllocError;
 
-/// Adds each thread of a world: what it has next, and its variables. The lines are those of its program's text.
+/// Adds each thread of a world: what it has next, and its variables. The lines are those of its model.
 pub fn put_threads(
     text: &mut Vec<u8>,
     lines: &Lines<'_>,

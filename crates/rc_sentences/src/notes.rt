@@ -25,8 +25,8 @@ pub struct Note {
     pub text: Vec<u8>,
 }
 
-/// A note on each `if take` that asks for more than the lines of the program put into its pool, in text order: its first
-/// branch is never taken, since each pool starts empty.
+/// A note on each `if take` that asks for more than the lines of the program put into its pool, in the order of their
+/// lines: its first branch is never taken, since each pool starts empty.
 pub fn notes_on(alloc: Global, lines: &Lines, program: &Program) -> Result<Vec<Note>, AllocError> {
     let mut notes = Vec::new(alloc);
     let puts = Puts::of(alloc, program)?;

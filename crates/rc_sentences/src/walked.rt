@@ -25,7 +25,7 @@ impl Walked<'_> {
     }
 }
 
-/// Walks over a thread. It is no part of its caller, as it needs room for labels.
+/// Walks over a thread. Not inlined: its labels need room on the stack.
 #[inline(never)]
 pub fn walk(alloc: Global, program: &Program, number: u32) -> Result<Walked<'_>, AllocError>
     requires { number < length program.now.threads }

@@ -1,4 +1,4 @@
-//! What appends to a text: pieces, numbers, and the names of a program's parts.
+//! What appends to bytes in memory: pieces, numbers, and the names of a program's parts.
 #![tactic(auto)]
 
 pub mod names;

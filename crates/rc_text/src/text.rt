@@ -1,4 +1,4 @@
-//! Texts that grow in memory. Each call adds to the end of a text, and answers an error only where memory ran out.
+//! Bytes that grow in memory. Each call adds to their end, and answers an error only where memory ran out.
 
 ghost use Rattle.std.specs.Prelude.{◌++◌, decimal};
 ghost use Rattle.std.specs.Fmt.{signed_decimal};

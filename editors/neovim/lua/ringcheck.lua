@@ -15,7 +15,7 @@ function M.find()
   local params = { command = 'ringcheck.find', arguments = { vim.uri_from_bufnr(0) } }
   vim.lsp.buf_request(0, 'workspace/executeCommand', params, function(why, told)
     if why or not told then
-      vim.notify(why and why.message or 'nothing is told', vim.log.levels.ERROR)
+      vim.notify(why and why.message or 'nothing was answered', vim.log.levels.ERROR)
       return
     end
     local lines = { told.verdict }
@@ -31,7 +31,7 @@ function M.find()
   end)
 end
 
---- Indents the text by its blocks.
+--- Indents the model by its blocks.
 function M.format()
   if vim.lsp.buf.format then
     vim.lsp.buf.format()
@@ -62,7 +62,7 @@ function M.attach()
     config.init_options = { docs = vim.uri_from_fname(docs) }
   end
   if vim.lsp.start then
-    -- The same server for each folder: a text stands alone.
+    -- The same server for each folder: a model stands alone.
     vim.lsp.start(config, { reuse_client = function(client) return client.name == config.name end })
     return
   end

@@ -29,7 +29,7 @@ impl Read for Scripted {
     }
 }
 
-/// Pieces, the text that is read of them, or none where that fails, and how many calls were made.
+/// Pieces, the bytes that are read of them, or none where that fails, and how many calls were made.
 type Reading = (&'static [Option<&'static str>], Option<&'static str>, usize);
 
 const READINGS: [Reading; 6] = [
@@ -86,7 +86,8 @@ impl Read for Slow {
     }
 }
 
-/// How many bytes there are, whether a read fails after them, how many reads are made, and how many failures are told.
+/// How many bytes there are, whether a read fails after them, how many reads are made, and how many failures are
+/// answered.
 const ENDS: [(u32, bool, u64, u64); 8] = [
     (0, false, 1, 0),
     (1, false, 2, 0),

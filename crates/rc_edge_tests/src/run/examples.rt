@@ -6,7 +6,7 @@ use std::alloc::Global;
 use std::sync::Arc;
 use std::test::*;
 
-/// The program of a text that the rules accept.
+/// The program of a model that the rules accept.
 pub fn admitted(alloc: Global, text: &str) -> Result<Arc<Admitted, Global>, Fail> {
     let admitted = admit(alloc, text.as_bytes()).ok().ok_or("admitted")?;
     Ok(Arc::new(alloc, admitted)?)

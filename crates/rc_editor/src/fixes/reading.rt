@@ -156,7 +156,7 @@ fn push_declared(
     push_nearest(actions, faulty, &name.name, nearest)
 }
 
-/// Offers ends for the blocks that are open at the text's end, or to leave out an end that is one too many.
+/// Offers ends for the blocks that are open at the model's end, or to leave out an end that is one too many.
 fn push_ends(actions: &mut Vec<Action>, faulty: &Faulty, above: &Parts) -> Result<(), AllocError> {
     let edit = ends_after(faulty, above)?;
     let _ = faulty.offer_one(actions, b"End the open blocks", edit)?;

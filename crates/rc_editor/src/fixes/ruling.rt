@@ -64,7 +64,7 @@ fn push_lock(actions: &mut Vec<Action>, faulty: &Faulty, lock: &[u8]) -> Result<
     Ok(())
 }
 
-/// Offers this lock around the lines up to another, and says whether the text is better with it.
+/// Offers this lock around the lines up to another, and says whether the model is better with it.
 fn offer_lock(
     actions: &mut Vec<Action>,
     faulty: &Faulty,

@@ -143,7 +143,7 @@ fn workers_after<D: Device, L: Ledger + RunConfig>(run: &LockedRun<D, L>, turn: 
     if may_wait { run.workers() } else { 0 }
 }
 
-// What a thread is about to do, as far as its event doesn't tell.
+// What a thread is about to do, as far as its event doesn't say.
 #[derive(Clone, Copy)]
 enum Step {
     // It asks a pool for items.

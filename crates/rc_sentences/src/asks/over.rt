@@ -6,7 +6,7 @@ use rc_text::names::buffer_name;
 use rc_text::text::{put_counted, put_number, put_pieces};
 use std::alloc::AllocError;
 
-/// The threads up to this one, in text order.
+/// The threads up to this one, in the order of their lines.
 fn threads_up_to(program: &Program, thread: u32) -> &[Thread] {
     let threads = program.threads();
     let count = threads.len().min(thread as usize + 1);

@@ -67,7 +67,7 @@ impl<'a> World<'a> {
         }
     }
 
-    // Most statements can do no harm: they are told by their kind, and aren't copied.
+    // Most statements can do no harm: their kind says so, and they aren't copied.
     fn is_harmful(&self, thread: u32, stmt: &Stmt) -> bool
         requires { thread ≤ 16 }
         ensures { result ≡ harm.is_harmful self.now thread stmt.now }
@@ -85,7 +85,7 @@ impl<'a> World<'a> {
         }
     }
 
-    // It is no part of its caller, so that nothing is made ready for it where a statement can do no harm.
+    // Not inlined, so that nothing is made ready for it where a statement can do no harm.
     #[inline(never)]
     fn harms(&self, thread: u32, stmt: &Stmt) -> bool
         requires { thread ≤ 16 }
