@@ -20,7 +20,7 @@ use Rattle.rc_rules.specs.declared.mode.Slot.TheVariants.{Closed, Vacant}
 use Rattle.rc_rules.specs.declared.mode.Submitting.{Submitting}
 use Rattle.rc_rules.specs.Premises.{Meets}
 use Rattle.rc_rules.specs.Needs.{line_premises}
-use Rattle.rc_rules.specs.Rules.{is_seen, kind_of, limit, leave_needs, owned, premises_of, release_needs, same_slot, sq_of}
+use Rattle.rc_rules.specs.Rules.{is_seen, kind_of, limit, leave_needs, premises_of, release_needs, same_slot, sq_of}
 use Rattle.rc_rules.proofs.Weaker.{same_slot_is}
 use Rattle.rc_split.specs.Bags.{Part, ShareOf, TokenOf, Credit, bag_of, lacking}
 use Rattle.rc_split.specs.Pools.{all_pooled, overfills}
@@ -32,10 +32,10 @@ use Rattle.rc_world.specs.Faults.{Access, access_at, access_by, access_of, clash
 use Rattle.rc_world.specs.Machine.{Pending, World, is_read, slot_len, used_entries}
 use Rattle.rc_world.proofs.Lists.{found}
 use Rattle.rc_admit.proofs.Flight.{data_in, front_is}
-use Rattle.rc_admit.proofs.Lists.{sum_to, sum_to_one, sum_to_two, sum_over, sum_over_one, Each-get}
+use Rattle.rc_admit.proofs.Lists.{sum_over, sum_over_one, Each-get}
 use Rattle.rc_admit.proofs.Moves.{cq_has, sq_has}
 use Rattle.rc_admit.proofs.Ops.{slot_closed, slot_vacant, slot_prepared}
-use Rattle.rc_admit.proofs.Owned.{Stand, EdgeAt, HasEdge, owns, owns_pending, unheld, SlotFits, StartsWith, IsNonempty, FrontFits, held, HasKind, HasKindPending, Owned, WellOwned}
+use Rattle.rc_admit.proofs.Owned.{Stand, EdgeAt, HasEdge, owns, owns_pending, unheld, SlotFits, StartsWith, IsNonempty, FrontFits, HasKind, HasKindPending, Owned, WellOwned, bound_one, bound_two, bound_unheld}
 use Rattle.rc_admit.proofs.Pool.{room_in_pools}
 use Rattle.rc_admit.proofs.Rule.{asks_lock, called, can_queue_by, has_both, held_of, known_sq, met, prepared_as, put_covered}
 use Rattle.rc_admit.proofs.Shares.{buffer_shared, credits_owned, data_owned, data_pending, fills_all, names_one, no_clash}
@@ -106,20 +106,13 @@ module _ (w : World) (made : IsProgram w.program) (S : Stand) (edge : HasEdge w.
 
   -- one thread, and what no thread holds
   one_and_flight : (p : Part) (i : ℕ) → i < length w.controls.threads → bags i p + unheld P w p ≤ limit P p
-  one_and_flight p i lt =
-      let f : ℕ → ℕ = λ j. held P (bags j) (modes j) p in
-      let a : f i ≤ sum_to f (length w.controls.threads) = sum_to_one f (length w.controls.threads) i lt in
-      let b : sum_to f (length w.controls.threads) + unheld P w p ≤ limit P p = o.total p in
-      omega arith
+  one_and_flight p i lt = bound_one P S w bags modes o p i lt
 
   flight_most : (p : Part) → unheld P w p ≤ limit P p
-  flight_most p =
-      let f : ℕ → ℕ = λ j. held P (bags j) (modes j) p in
-      let b : sum_to f (length w.controls.threads) + unheld P w p ≤ limit P p = o.total p in
-      omega arith
+  flight_most p = bound_unheld P S w bags modes o p
 
-  pending_most : (p : Part) (k : ℕ) (x : Pending) → slice_get w.pending k ≡ Some x → owned P x.request.user_data p ≤ unheld P w p
-  pending_most p k x e = let a : owned P x.request.user_data p ≤ sum_over (owns_pending P p) w.pending = sum_over_one (owns_pending P p) k w.pending x e in omega arith
+  pending_most : (p : Part) (k : ℕ) (x : Pending) → slice_get w.pending k ≡ Some x → owns P p x.request ≤ unheld P w p
+  pending_most p k x e = let a : owns P p x.request ≤ sum_over (owns_pending P p) w.pending = sum_over_one (owns_pending P p) k w.pending x e in omega arith
 
   kind_at : (k : ℕ) (x : Pending) → slice_get w.pending k ≡ Some x → HasKind P x.request
   kind_at k x e = Each-get (HasKindPending P) k w.pending x e o.pending
@@ -157,8 +150,8 @@ module _ (w : World) (made : IsProgram w.program) (S : Stand) (edge : HasEdge w.
           let t = and_parts a.writes (is_named w.pending b) h in
           let x = found (λ (p : Pending). names b p.request) w.pending t.1 in
           let mine : shares_at P.buffers b ≤ bags i (ShareOf b) = all_shares i s n a e t.0 in
-          let its : 1 ≤ owned P x.1.request.user_data (ShareOf b) = names_one P made x.1.request b (kind_at x.0 x.1 x.2) x.3 in
-          let le : owned P x.1.request.user_data (ShareOf b) ≤ unheld P w (ShareOf b) = pending_most (ShareOf b) x.0 x.1 x.2 in
+          let its : 1 ≤ owns P (ShareOf b) x.1.request = names_one P made x.1.request b (kind_at x.0 x.1 x.2) x.3 in
+          let le : owns P (ShareOf b) x.1.request ≤ unheld P w (ShareOf b) = pending_most (ShareOf b) x.0 x.1 x.2 in
           let all : bags i (ShareOf b) + unheld P w (ShareOf b) ≤ shares_at P.buffers b = one_and_flight (ShareOf b) i (within i s n) in
           omega arith
 
@@ -173,8 +166,8 @@ module _ (w : World) (made : IsProgram w.program) (S : Stand) (edge : HasEdge w.
           let x = found (λ (p : Pending). reads_into b p.request) w.pending t.1 in
           let r = and_parts (is_read x.1.request.kind) (nat_eq x.1.request.buffer b) x.3 in
           let mine : 1 ≤ bags i (ShareOf b) = one_share i s n a e in
-          let its : shares_at P.buffers b ≤ owned P x.1.request.user_data (ShareOf b) = fills_all P x.1.request b (kind_at x.0 x.1 x.2) r.0 (eqb-true x.1.request.buffer b r.1) in
-          let le : owned P x.1.request.user_data (ShareOf b) ≤ unheld P w (ShareOf b) = pending_most (ShareOf b) x.0 x.1 x.2 in
+          let its : shares_at P.buffers b ≤ owns P (ShareOf b) x.1.request = fills_all P x.1.request b (kind_at x.0 x.1 x.2) r.0 (eqb-true x.1.request.buffer b r.1) in
+          let le : owns P (ShareOf b) x.1.request ≤ unheld P w (ShareOf b) = pending_most (ShareOf b) x.0 x.1 x.2 in
           let all : bags i (ShareOf b) + unheld P w (ShareOf b) ≤ shares_at P.buffers b = one_and_flight (ShareOf b) i (within i s n) in
           omega arith
 
@@ -187,9 +180,7 @@ module _ (w : World) (made : IsProgram w.program) (S : Stand) (edge : HasEdge w.
       let c : ℕ = a.buffer in
       let x = and_parts (nat_eq a.buffer b.buffer) (a.writes || b.writes) h in
       let q : b.buffer ≡ c = sym (eqb-true a.buffer b.buffer x.0) in
-      let f : ℕ → ℕ = λ k. held P (bags k) (modes k) (ShareOf c) in
-      let two : f i + f j ≤ sum_to f (length w.controls.threads) = sum_to_two f (length w.controls.threads) i j (λ e. omega arith) (within i s n) (within j t m) in
-      let all : sum_to f (length w.controls.threads) + unheld P w (ShareOf c) ≤ shares_at P.buffers c = o.total (ShareOf c) in
+      let all : bags i (ShareOf c) + bags j (ShareOf c) + unheld P w (ShareOf c) ≤ shares_at P.buffers c = bound_two P S w bags modes o (ShareOf c) i j (λ e. omega arith) (within i s n) (within j t m) in
       let one_i : 1 ≤ bags i (ShareOf c) = one_share i s n a ea in
       let one_j : 1 ≤ bags j (ShareOf c) = subst (λ k. 1 ≤ bags j (ShareOf k)) q (one_share j t m b eb) in
       elim (or_cases a.writes b.writes x.1) [
@@ -311,7 +302,7 @@ module _ (w : World) (made : IsProgram w.program) (S : Stand) (edge : HasEdge w.
   no_overflow : (ps : List Pending) → w.pending ≡ ps → overflows w ps ≡ false
   no_overflow [] e = refl
   no_overflow (p ∷ ps) e =
-      let x : sum_over (owns_pending P Credit) w.pending ≡ owned P p.request.user_data Credit + sum_over (owns_pending P Credit) ps = ap (sum_over (owns_pending P Credit)) e in
+      let x : sum_over (owns_pending P Credit) w.pending ≡ owns P Credit p.request + sum_over (owns_pending P Credit) ps = ap (sum_over (owns_pending P Credit)) e in
       let y : length w.completed ≤ sum_over (owns P Credit) w.completed = credits_owned P w.completed in
       let z : length w.completions ≡ length w.completed = sym (length-map w.completions (λ (c : Completion). c.user_data)) ∙ (ap length (sym o.agree) ∙ length-map w.completed (λ (r : Request). r.user_data)) in
       let t : unheld P w Credit ≤ P.completion_entries = flight_most Credit in
@@ -340,8 +331,8 @@ module _ (w : World) (made : IsProgram w.program) (S : Stand) (edge : HasEdge w.
       let u : ℕ = d.user_data in
       let p : Part = TokenOf u in
       let f = front_is w.completed d ds (o.agree ∙ ap data_in e) in
-      let fl : sum_over (owns P p) w.completed ≡ owned P f.request.user_data p + sum_over (owns P p) f.others = ap (sum_over (owns P p)) f.is in
-      let one : 1 ≤ owned P f.request.user_data p = subst (λ u. 1 ≤ owned P u p) (sym f.same) (token_owned P u) in
+      let fl : sum_over (owns P p) w.completed ≡ owns P p f.request + sum_over (owns P p) f.others = ap (sum_over (owns P p)) f.is in
+      let one : 1 ≤ owns P p f.request = token_owned P f.request u f.same in
       let tot : unheld P w p ≤ 1 = flight_most p in
       let few : count_of u f.others ≤ sum_over (owns P p) f.others = count_most P u f.others in
       let first : count_of u (f.request ∷ f.others) ≡ 1 + count_of u f.others = ap (λ (t : Bool). (if t then 1 else 0) + count_of u f.others) (eq-eqb f.request.user_data u f.same) in

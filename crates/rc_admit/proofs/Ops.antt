@@ -17,7 +17,7 @@ use Rattle.rc_rules.specs.declared.mode.Slot.{Slot}
 use Rattle.rc_rules.specs.declared.mode.Slot.TheVariants.{Closed, Vacant, Prepared}
 use Rattle.rc_rules.specs.declared.mode.Submitting.{Submitting}
 use Rattle.rc_rules.specs.Needs.{line_premises}
-use Rattle.rc_rules.specs.Rules.{can_queue, is_seen, kind_bag, kind_of, line_bag, op_effect, owned, reaped}
+use Rattle.rc_rules.specs.Rules.{can_queue, is_seen, kind_bag, kind_of, line_bag, op_effect, reaped}
 use Rattle.rc_rules.specs.Premises.{Meets}
 use Rattle.rc_rules.proofs.Weaker.{same_slot_is}
 use Rattle.rc_split.specs.Bags.{Part, ShareOf, TokenOf, Credit, shares_bag, token_bag, credits_bag, lacking, minus, plus}
@@ -73,6 +73,10 @@ pub slot_prepared : (s : Entry) (kind : TokenKind) → SlotFits s (Prepared kind
 slot_prepared entries.Closed kind h = absurd h
 slot_prepared entries.Vacant kind h = absurd h
 slot_prepared (entries.Prepared r) kind h = (r, refl, h)
+
+-- What comes back with a completion is at most what its request owns.
+given_back : (P : Program) (r : Request) (u : ℕ) (p : Part) → r.user_data ≡ u → reaped P (Sees u) p ≤ owns P p r
+given_back P r u p e = subst (λ v. reaped P (Sees v) p ≤ owns P p r) e (omega arith)
 
 -- ---- what changes
 
@@ -177,7 +181,7 @@ module _ (P : Program) (S : Stand) (w : World) (bags : ℕ → Part → ℕ) (mo
               let y : slot_bag P s.slot p ≡ kind_bag P kind p + credits_bag 1 p = ap (λ z. slot_bag P z p) f in
               let v : mode_bag P (modes i) p ≡ slot_bag P s.slot p = owned_by_slot p in
               let k : line_bag P (kind_of P u) p ≡ kind_bag P kind p = ap (λ z. line_bag P z p) is in
-              let a : sum_over (owns P p) (w.queued ++ new ∷ []) ≡ sum_over (owns P p) w.queued + (owned P u p + 0) = sum_over-append (owns P p) w.queued (new ∷ []) in
+              let a : sum_over (owns P p) (w.queued ++ new ∷ []) ≡ sum_over (owns P p) w.queued + (owns P p new + 0) = sum_over-append (owns P p) w.queued (new ∷ []) in
               omega arith;
           submits = sq_step P S w bags modes i o (length (w.queued ++ new ∷ [])) entries.Closed s (record s { slot = Closed }) e (omega arith) tt;
           reaps = cq_still P S w bags modes i o;
@@ -216,15 +220,15 @@ module _ (P : Program) (S : Stand) (w : World) (bags : ℕ → Part → ℕ) (mo
   -- ---- calls on the completion side
 
   -- The front completion and its request go away.
-  pub seen : (k : Peeked) → (modes i).cq ≡ Some k → (b : Part → ℕ) (c : Completion) (cs : List Completion) (f : FrontOf w.completed c cs) → w.completions ≡ c ∷ cs → ((p : Part) → b p ≤ bags i p + owned P f.request.user_data p) → Moved P w (record w { completions = cs; completed = without_data c.user_data w.completed; controls = record w.controls { peeked = false } }) bags modes i b (record (modes i) { cq = Some Unseen })
+  pub seen : (k : Peeked) → (modes i).cq ≡ Some k → (b : Part → ℕ) (c : Completion) (cs : List Completion) (f : FrontOf w.completed c cs) → w.completions ≡ c ∷ cs → ((p : Part) → b p ≤ bags i p + owns P p f.request) → Moved P w (record w { completions = cs; completed = without_data c.user_data w.completed; controls = record w.controls { peeked = false } }) bags modes i b (record (modes i) { cq = Some Unseen })
   seen k e b c cs f ec local = record {
     of = o.of;
     room = o.room;
     same = refl;
     local = λ p.
-        let x : b p ≤ bags i p + owned P f.request.user_data p = local p in
+        let x : b p ≤ bags i p + owns P p f.request = local p in
         let a : sum_over (owns P p) (without_data c.user_data w.completed) ≡ sum_over (owns P p) f.others = ap (sum_over (owns P p)) f.gone in
-        let d : sum_over (owns P p) w.completed ≡ owned P f.request.user_data p + sum_over (owns P p) f.others = ap (sum_over (owns P p)) f.is in
+        let d : sum_over (owns P p) w.completed ≡ owns P p f.request + sum_over (owns P p) f.others = ap (sum_over (owns P p)) f.is in
         omega (arith, x);
     submits = sq_still P S w bags modes i o;
     reaps = cq_step P S w bags modes i o false cs k Unseen e tt;
@@ -324,21 +328,20 @@ module _ (P : Program) (S : Stand) (edge : HasEdge P S) (w : World) (bags : ℕ 
       go false = tt
 
   -- A completion is there, and the state after it has no more than its request gives back.
-  seen_keeps : (k : Peeked) (b : Part → ℕ) (d : Completion) (ds : List Completion) → (modes i).cq ≡ Some k → w.completions ≡ d ∷ ds → ((p : Part) → b p ≤ bags i p + owned P d.user_data p) → Leads S i b (record (modes i) { cq = Some Unseen }) t.variables (t.place + 1) → Keeps P S w.controls i (reaps_front w w.completions) (reaps w.controls t (front_of w.completions))
+  seen_keeps : (k : Peeked) (b : Part → ℕ) (d : Completion) (ds : List Completion) → (modes i).cq ≡ Some k → w.completions ≡ d ∷ ds → ((x : Request) → x.user_data ≡ d.user_data → (p : Part) → b p ≤ bags i p + owns P p x) → Leads S i b (record (modes i) { cq = Some Unseen }) t.variables (t.place + 1) → Keeps P S w.controls i (reaps_front w w.completions) (reaps w.controls t (front_of w.completions))
   seen_keeps k b d ds e ec local l =
       let f = front_is w.completed d ds (o.agree ∙ ap data_in ec) in
-      let le : (p : Part) → b p ≤ bags i p + owned P f.request.user_data p = λ p. subst (λ u. b p ≤ bags i p + owned P u p) (sym f.same) (local p) in
       subst (λ cs. Keeps P S w.controls i (reaps_front w cs) (reaps w.controls t (front_of cs))) (sym ec)
-      (goes _ t.variables b (record (modes i) { cq = Some Unseen }) (seen P S w bags modes i o k e b d ds f ec le) l)
+      (goes _ t.variables b (record (modes i) { cq = Some Unseen }) (seen P S w bags modes i o k e b d ds f ec (local f.request f.same)) l)
 
   reap_keeps : (k : Peeked) → (modes i).cq ≡ Some k → is_seen k ≡ true → Leads S i (plus (bags i) (reaped P k)) (record (modes i) { cq = Some Unseen }) t.variables (t.place + 1) → Keeps P S w.controls i (reaps_front w w.completions) (reaps w.controls t (front_of w.completions))
   reap_keeps Unseen e h l = absurd (cc)
   reap_keeps (Sees u) e h l =
       let a = starts_head u w.completions (cq_has P S w bags modes i o (Sees u) e).1.1 in
-      seen_keeps (Sees u) (plus (bags i) (owned P u)) a.0 a.1 e a.2 (λ p. subst (λ v. bags i p + owned P u p ≤ bags i p + owned P v p) (sym a.3) (omega arith)) l
+      seen_keeps (Sees u) (plus (bags i) (reaped P (Sees u))) a.0 a.1 e a.2 (λ x is p. omega (arith, given_back P x u p (is ∙ a.3))) l
   reap_keeps SeesOther e h l =
       let a = nonempty_head w.completions (cq_has P S w bags modes i o SeesOther e).1.1 in
-      seen_keeps SeesOther (plus (bags i) (credits_bag 1)) a.0 a.1 e a.2 (λ p. omega arith) l
+      seen_keeps SeesOther (plus (bags i) (credits_bag 1)) a.0 a.1 e a.2 (λ x is p. omega arith) l
 
   -- what the rule of a statement says after it
   abbrev Behind : Op → Claim

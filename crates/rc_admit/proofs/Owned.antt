@@ -1,5 +1,5 @@
 -- What is true of each world of an accepted program, over any claim of how a thread may stand.
-use Rattle.std.proofs.Common.{◌≡◌, ℕ, zero, suc, ◌+◌, ◌≤◌, Bool, true, false, ◌||◌, List, [], ◌∷◌, length, Option, Some, None, refl, sym, ◌∙◌, subst, ◌⊎◌, inl, inr, arith}
+use Rattle.std.proofs.Common.{◌≡◌, ℕ, zero, suc, ◌+◌, ◌<◌, ◌≤◌, Bool, true, false, ◌||◌, List, [], ◌∷◌, length, Option, Some, None, refl, sym, ◌∙◌, subst, ◌⊎◌, arith}
 use Rattle.std.specs.Prelude.{is_some, option_map, replicate, slice_get, slice_set, slice_index_or, ℤ, pos}
 use Rattle.rc_lang.specs.Comparisons.{compares}
 use Rattle.rc_lang.specs.declared.lines.Op.{Op}
@@ -22,10 +22,10 @@ use Rattle.rc_rules.specs.declared.mode.Slot.TheVariants.{Closed, Vacant, Prepar
 use Rattle.rc_rules.specs.declared.mode.Submitting.{Submitting}
 use Rattle.rc_rules.specs.Labels.{Live, UnderLock, WeakerMode, WeakerPeeked, WeakerSubmitting}
 use Rattle.rc_rules.specs.Premises.{Meets}
-use Rattle.rc_rules.proofs.Weaker.{mode_refl, mode_trans}
+use Rattle.rc_rules.proofs.Weaker.{mode_refl, mode_trans, peeked_less, unseen_least}
 use Rattle.rc_rules.specs.Needs.{line_premises}
-use Rattle.rc_rules.specs.Rules.{broken, freed, kind_bag, kind_of, limit, locked, locks_of, op_effect, owned, sq_of, test_effect, unlocked, with_peeked}
-use Rattle.rc_split.specs.Bags.{Part, TokenOf, bag_of, credits_bag, minus}
+use Rattle.rc_rules.specs.Rules.{broken, freed, kind_bag, kind_of, limit, line_bag, locked, locks_of, op_effect, sq_of, test_effect, unlocked, with_peeked}
+use Rattle.rc_split.specs.Bags.{Part, TokenOf, bag_of, credits_bag, minus, token_bag}
 use Rattle.rc_split.specs.Pools.{all_pooled}
 use Rattle.rc_world.specs.declared.event.Completion.{Completion}
 use Rattle.rc_world.specs.declared.world.Slot.{Slot as Entry}
@@ -34,7 +34,7 @@ use Rattle.rc_world.specs.Controls.{Standing, arm_for, ends_arm, hop_of, is_arm_
 use Rattle.rc_world.specs.Faults.{is_holder}
 use Rattle.rc_world.specs.Machine.{Pending, World, slot_len}
 use Rattle.rc_admit.proofs.Flight.{data_in, data_of, in_flight, of_pending}
-use Rattle.rc_admit.proofs.Lists.{sum_to, Each}
+use Rattle.rc_admit.proofs.Lists.{sum_to, sum_to_one, sum_to_two, Each}
 use Rattle.rc_admit.proofs.Rule.{AtLive}
 
 -- ---- claims of how a thread may stand
@@ -112,9 +112,9 @@ slot_bag P (Prepared kind) p = kind_bag P kind p + credits_bag 1 p
 abbrev pub mode_bag : Program → Mode → Part → ℕ
 mode_bag P m p = slot_bag P (sq_of m).slot p
 
--- what a request in flight owns
+-- what a request in flight owns: the shares of its token's line, the token and a credit
 abbrev pub owns : Program → Part → Request → ℕ
-owns P p r = owned P r.user_data p
+owns P p r = line_bag P (kind_of P r.user_data) p + token_bag r.user_data p + credits_bag 1 p
 
 abbrev pub owns_pending : Program → Part → Pending → ℕ
 owns_pending P p = of_pending (owns P p)
@@ -192,6 +192,23 @@ pub record Owned (P : Program) (S : ℕ → (Part → ℕ) → Mode → List ℤ
 abbrev pub WellOwned : Program → Stand → World → Type 0
 WellOwned P S w = (bags : ℕ → Part → ℕ) × (modes : ℕ → Mode) × Owned P S w bags modes
 
+-- ---- nothing is owned twice
+
+module _ (P : Program) (S : Stand) (w : World) (bags : ℕ → Part → ℕ) (modes : ℕ → Mode) (o : Owned P S w bags modes) (p : Part) where
+  -- What threads hold, requests own and pools have is at most what there is.
+  pub bound : sum_to (λ i. held P (bags i) (modes i) p) (length w.controls.threads) + unheld P w p ≤ limit P p
+  bound = o.total p
+
+  -- so without what threads hold, and with what one or two of them hold
+  pub bound_unheld : unheld P w p ≤ limit P p
+  bound_unheld = omega (arith, bound)
+
+  pub bound_one : (i : ℕ) → i < length w.controls.threads → bags i p + unheld P w p ≤ limit P p
+  bound_one i lt = omega (arith, bound, sum_to_one (λ j. held P (bags j) (modes j) p) (length w.controls.threads) i lt)
+
+  pub bound_two : (i j : ℕ) → (i ≡ j → ⊥) → i < length w.controls.threads → j < length w.controls.threads → bags i p + bags j p + unheld P w p ≤ limit P p
+  bound_two i j ne lt lt' = omega (arith, bound, sum_to_two (λ k. held P (bags k) (modes k) p) (length w.controls.threads) i j ne lt lt')
+
 -- ---- weaker modes
 
 abbrev pub IsUnseen : Option Peeked → Type 0
@@ -204,7 +221,7 @@ unseen_in (Some p) e = refl
 
 pub front_below : (o : Option Peeked) → UnderLock WeakerPeeked (option_map (λ _. Unseen) o) o
 front_below None = tt
-front_below (Some p) = inr refl
+front_below (Some p) = unseen_least p
 
 unseen_below : (m : Mode) → WeakerMode (with_peeked Unseen m) m
 unseen_below m = ((mode_refl m).0, front_below m.cq)
@@ -213,7 +230,7 @@ unseen_weaker : (o p : Option Peeked) → UnderLock WeakerPeeked o p → IsUnsee
 unseen_weaker None None w u = u
 unseen_weaker None (Some q) w u = absurd w
 unseen_weaker (Some p) None w u = absurd w
-unseen_weaker (Some p) (Some q) w u = elim w [ inl e ↦ e ∙ u | inr e ↦ e ]
+unseen_weaker (Some p) (Some q) w u = peeked_less (λ x. x ≡ Unseen) refl p q w u
 
 -- ---- what fits under a lock
 
@@ -248,7 +265,7 @@ module _ {A : Type 0} (F : A → Type 0) where
   held_weaker W g true (Some s) (Some t) w f = g s t w f
 
 pub front_weaker : (b : Bool) (cs : List Completion) (x y : Peeked) → WeakerPeeked y x → FrontFits b cs x → FrontFits b cs y
-front_weaker b cs x y e f = elim e [ inl d ↦ subst (λ z. FrontFits b cs z) (sym d) f | inr d ↦ subst (λ z. FrontFits b cs z) (sym d) tt ]
+front_weaker b cs x y w f = peeked_less (FrontFits b cs) tt y x w f
 
 pub queue_weaker : (n : ℕ) (slot : Entry) (s t : Submitting) → WeakerSubmitting t s → QueueFits n slot s → QueueFits n slot t
 queue_weaker n slot s t w f = (omega (arith, w.queued, f.0), subst (λ x. SlotFits slot x) (sym w.slot) f.1)

@@ -7,7 +7,7 @@ use Rattle.rc_lang.specs.declared.program.TokenKind.{TokenKind}
 use Rattle.rc_lang.specs.declared.program.TokenKind.TheVariants.{Read, Write, Fsync, Nop}
 use Rattle.rc_lang.specs.declared.request.Request.{Request}
 use Rattle.rc_lang.specs.Program.{IsProgram, IsTokenKind, Program, no_buffer, shares_at}
-use Rattle.rc_rules.specs.Rules.{kind_bag, kind_of, line_bag, owned}
+use Rattle.rc_rules.specs.Rules.{kind_bag, kind_of, line_bag}
 use Rattle.rc_rules.specs.States.{IsLine}
 use Rattle.rc_rules.proofs.Lines.{line_of}
 use Rattle.rc_split.specs.Bags.{ShareOf, TokenOf, Credit, shares_bag}
@@ -30,16 +30,16 @@ token_kind : (P : Program) → IsProgram P → (u : ℕ) (kind : TokenKind) → 
 token_kind P made u kind e = subst (IsLine P) e (line_of P u made)
 
 -- what a request owns, as its token's line says
-owned_is : (P : Program) (u : ℕ) (kind : TokenKind) (b : ℕ) → kind_of P u ≡ Some kind → owned P u (ShareOf b) ≡ kind_bag P kind (ShareOf b)
-owned_is P u kind b e = let h : line_bag P (kind_of P u) (ShareOf b) ≡ kind_bag P kind (ShareOf b) = ap (λ x. line_bag P x (ShareOf b)) e in omega arith
+owned_is : (P : Program) (r : Request) (kind : TokenKind) (b : ℕ) → kind_of P r.user_data ≡ Some kind → owns P (ShareOf b) r ≡ kind_bag P kind (ShareOf b)
+owned_is P r kind b e = let h : line_bag P (kind_of P r.user_data) (ShareOf b) ≡ kind_bag P kind (ShareOf b) = ap (λ x. line_bag P x (ShareOf b)) e in omega arith
 
-pub names_one : (P : Program) → IsProgram P → (r : Request) (b : ℕ) → HasKind P r → names b r ≡ true → 1 ≤ owned P r.user_data (ShareOf b)
-names_one P made r b h n = go h.0 (token_kind P made r.user_data h.0 h.1) h.2 (owned_is P r.user_data h.0 b h.1)
+pub names_one : (P : Program) → IsProgram P → (r : Request) (b : ℕ) → HasKind P r → names b r ≡ true → 1 ≤ owns P (ShareOf b) r
+names_one P made r b h n = go h.0 (token_kind P made r.user_data h.0 h.1) h.2 (owned_is P r h.0 b h.1)
   where
     parts : (has_buffer r.kind ≡ true) × (r.buffer ≡ b)
     parts = let a = and_parts (has_buffer r.kind) (nat_eq r.buffer b) n in (a.0, eqb-true r.buffer b a.1)
 
-    go : (kind : TokenKind) → IsTokenKind P kind → FitsKind r kind → owned P r.user_data (ShareOf b) ≡ kind_bag P kind (ShareOf b) → 1 ≤ owned P r.user_data (ShareOf b)
+    go : (kind : TokenKind) → IsTokenKind P kind → FitsKind r kind → owns P (ShareOf b) r ≡ kind_bag P kind (ShareOf b) → 1 ≤ owns P (ShareOf b) r
     go (Read c) k f e =
         let y : shares_bag c (shares_at P.buffers c) (ShareOf b) ≡ shares_at P.buffers c = same_shares c b (shares_at P.buffers c) (sym f.1 ∙ parts.1) in
         let z : 1 ≤ shares_at P.buffers c = buffer_shared P made c k in
@@ -51,10 +51,10 @@ names_one P made r b h n = go h.0 (token_kind P made r.user_data h.0 h.1) h.2 (o
     go Fsync k f e = let x : has_buffer r.kind ≡ false = ap has_buffer f in let y : has_buffer r.kind ≡ true = parts.0 in absurd (cc)
     go Nop k f e = let x : has_buffer r.kind ≡ false = ap has_buffer f in let y : has_buffer r.kind ≡ true = parts.0 in absurd (cc)
 
-pub fills_all : (P : Program) (r : Request) (b : ℕ) → HasKind P r → is_read r.kind ≡ true → r.buffer ≡ b → shares_at P.buffers b ≤ owned P r.user_data (ShareOf b)
-fills_all P r b h reads is = go h.0 h.2 (owned_is P r.user_data h.0 b h.1)
+pub fills_all : (P : Program) (r : Request) (b : ℕ) → HasKind P r → is_read r.kind ≡ true → r.buffer ≡ b → shares_at P.buffers b ≤ owns P (ShareOf b) r
+fills_all P r b h reads is = go h.0 h.2 (owned_is P r h.0 b h.1)
   where
-    go : (kind : TokenKind) → FitsKind r kind → owned P r.user_data (ShareOf b) ≡ kind_bag P kind (ShareOf b) → shares_at P.buffers b ≤ owned P r.user_data (ShareOf b)
+    go : (kind : TokenKind) → FitsKind r kind → owns P (ShareOf b) r ≡ kind_bag P kind (ShareOf b) → shares_at P.buffers b ≤ owns P (ShareOf b) r
     go (Read c) f e =
         let q : c ≡ b = sym f.1 ∙ is in
         let y : shares_bag c (shares_at P.buffers c) (ShareOf b) ≡ shares_at P.buffers c = same_shares c b (shares_at P.buffers c) q in
@@ -67,7 +67,7 @@ fills_all P r b h reads is = go h.0 h.2 (owned_is P r.user_data h.0 b h.1)
 -- Pending requests that own together no more than there is don't clash.
 pub no_clash : (P : Program) → IsProgram P → (ps : List Pending) → Each (HasKindPending P) ps → ((b : ℕ) → sum_over (owns_pending P (ShareOf b)) ps ≤ shares_at P.buffers b) → clashes ps ≡ false
 no_clash P made [] a t = refl
-no_clash P made (p ∷ ps) a t = or_from (clashes_with p.request ps) (clashes ps) (false_from_ne_true (clashes_with p.request ps) one) (no_clash P made ps a.1 (λ b. let s : owned P p.request.user_data (ShareOf b) + sum_over (owns_pending P (ShareOf b)) ps ≤ shares_at P.buffers b = t b in omega arith))
+no_clash P made (p ∷ ps) a t = or_from (clashes_with p.request ps) (clashes ps) (false_from_ne_true (clashes_with p.request ps) one) (no_clash P made ps a.1 (λ b. let s : owns P (ShareOf b) p.request + sum_over (owns_pending P (ShareOf b)) ps ≤ shares_at P.buffers b = t b in omega arith))
   where
     two : (q : Pending) (k : ℕ) → slice_get ps k ≡ Some q → clash p.request q.request ≡ true → ⊥
     two q k e c =
@@ -76,14 +76,14 @@ no_clash P made (p ∷ ps) a t = or_from (clashes_with p.request ps) (clashes ps
         let y = and_parts (has_buffer p.request.kind) (names b q.request) x.0 in
         let hq : HasKind P q.request = Each-get (HasKindPending P) k ps q e a.1 in
         let mine : names b p.request ≡ true = and_from (has_buffer p.request.kind) (nat_eq b b) y.0 (eq-eqb b b refl) in
-        let first : 1 ≤ owned P p.request.user_data (ShareOf b) = names_one P made p.request b a.0 mine in
-        let second : 1 ≤ owned P q.request.user_data (ShareOf b) = names_one P made q.request b hq y.1 in
+        let first : 1 ≤ owns P (ShareOf b) p.request = names_one P made p.request b a.0 mine in
+        let second : 1 ≤ owns P (ShareOf b) q.request = names_one P made q.request b hq y.1 in
         let is : q.request.buffer ≡ b = eqb-true q.request.buffer b (and_parts (has_buffer q.request.kind) (nat_eq q.request.buffer b) y.1).1 in
-        let le : owned P q.request.user_data (ShareOf b) ≤ sum_over (owns_pending P (ShareOf b)) ps = sum_over_one (owns_pending P (ShareOf b)) k ps q e in
-        let s : owned P p.request.user_data (ShareOf b) + sum_over (owns_pending P (ShareOf b)) ps ≤ shares_at P.buffers b = t b in
+        let le : owns P (ShareOf b) q.request ≤ sum_over (owns_pending P (ShareOf b)) ps = sum_over_one (owns_pending P (ShareOf b)) k ps q e in
+        let s : owns P (ShareOf b) p.request + sum_over (owns_pending P (ShareOf b)) ps ≤ shares_at P.buffers b = t b in
         elim (or_cases (is_read p.request.kind) (is_read q.request.kind) x.1) [
-          | inl r ↦ let f : shares_at P.buffers b ≤ owned P p.request.user_data (ShareOf b) = fills_all P p.request b a.0 r refl in omega arith
-          | inr r ↦ let f : shares_at P.buffers b ≤ owned P q.request.user_data (ShareOf b) = fills_all P q.request b hq r is in omega arith
+          | inl r ↦ let f : shares_at P.buffers b ≤ owns P (ShareOf b) p.request = fills_all P p.request b a.0 r refl in omega arith
+          | inr r ↦ let f : shares_at P.buffers b ≤ owns P (ShareOf b) q.request = fills_all P q.request b hq r is in omega arith
         ]
 
     one : clashes_with p.request ps ≡ true → ⊥
@@ -95,17 +95,15 @@ no_clash P made (p ∷ ps) a t = or_from (clashes_with p.request ps) (clashes ps
 pub data_owned : (P : Program) (u : ℕ) (rs : List Request) → list_any (has_data u) rs ≡ true → 1 ≤ sum_over (owns P (TokenOf u)) rs
 data_owned P u rs e =
     let x = found (has_data u) rs e in
-    let q : x.1.user_data ≡ u = eqb-true x.1.user_data u x.3 in
-    let y : 1 ≤ owned P x.1.user_data (TokenOf u) = subst (λ v. 1 ≤ owned P v (TokenOf u)) (sym q) (token_owned P u) in
-    let z : owned P x.1.user_data (TokenOf u) ≤ sum_over (owns P (TokenOf u)) rs = sum_over_one (owns P (TokenOf u)) x.0 rs x.1 x.2 in
+    let y : 1 ≤ owns P (TokenOf u) x.1 = token_owned P x.1 u (eqb-true x.1.user_data u x.3) in
+    let z : owns P (TokenOf u) x.1 ≤ sum_over (owns P (TokenOf u)) rs = sum_over_one (owns P (TokenOf u)) x.0 rs x.1 x.2 in
     omega arith
 
 pub data_pending : (P : Program) (u : ℕ) (ps : List Pending) → list_any (λ (p : Pending). has_data u p.request) ps ≡ true → 1 ≤ sum_over (owns_pending P (TokenOf u)) ps
 data_pending P u ps e =
     let x = found (λ (p : Pending). has_data u p.request) ps e in
-    let q : x.1.request.user_data ≡ u = eqb-true x.1.request.user_data u x.3 in
-    let y : 1 ≤ owned P x.1.request.user_data (TokenOf u) = subst (λ v. 1 ≤ owned P v (TokenOf u)) (sym q) (token_owned P u) in
-    let z : owned P x.1.request.user_data (TokenOf u) ≤ sum_over (owns_pending P (TokenOf u)) ps = sum_over_one (owns_pending P (TokenOf u)) x.0 ps x.1 x.2 in
+    let y : 1 ≤ owns P (TokenOf u) x.1.request = token_owned P x.1.request u (eqb-true x.1.request.user_data u x.3) in
+    let z : owns P (TokenOf u) x.1.request ≤ sum_over (owns_pending P (TokenOf u)) ps = sum_over_one (owns_pending P (TokenOf u)) x.0 ps x.1 x.2 in
     omega arith
 
 pub credits_owned : (P : Program) (rs : List Request) → length rs ≤ sum_over (owns P Credit) rs

@@ -23,7 +23,7 @@ use Rattle.rc_rules.specs.declared.mode.Submitting.{Submitting}
 use Rattle.rc_rules.specs.Labels.{Label, Dead, Live}
 use Rattle.rc_rules.specs.Premises.{Meets}
 use Rattle.rc_rules.specs.Needs.{line_premises}
-use Rattle.rc_rules.specs.Rules.{at_most, can_take, freed, has_room, leave_needs, limit, locked, locks_of, names_peeked, owned, peeked_of, premises_of, release_needs, same_slot, take_effect, test_effect, test_mode, with_peeked}
+use Rattle.rc_rules.specs.Rules.{at_most, can_take, freed, has_room, leave_needs, limit, locked, locks_of, names_peeked, peeked_of, premises_of, release_needs, same_slot, take_effect, test_effect, test_mode, with_peeked}
 use Rattle.rc_rules.proofs.Weaker.{same_slot_is}
 use Rattle.rc_split.specs.Bags.{Part, TokenOf, bag_of, minus, plus}
 use Rattle.rc_split.specs.Pools.{all_pooled, includes, overfills, pool_of, pooled, put_into, taken_from}
@@ -37,10 +37,10 @@ use Rattle.rc_world.specs.Controls.{Standing, acts, are_free, arm_for, branches,
 use Rattle.rc_world.specs.Machine.{World, front_of, in_rings, slot_len, stmt_answer, test_answer, used_entries}
 use Rattle.rc_world.specs.Stray.{strays}
 use Rattle.rc_admit.proofs.Flight.{data_in, front_is}
-use Rattle.rc_admit.proofs.Lists.{sum_to, sum_over, sum_to_one}
+use Rattle.rc_admit.proofs.Lists.{sum_over}
 use Rattle.rc_admit.proofs.Moves.{CqPart, Moved, SqPart, moves, put, with_locks, cq_frees, cq_has, cq_step, cq_takes, sq_frees, sq_has, sq_step, sq_still, sq_takes, cq_still, taken}
 use Rattle.rc_admit.proofs.Ops.{Keeps, slot_closed, op_keeps, pooling, quiet, starts_head}
-use Rattle.rc_admit.proofs.Owned.{Stand, Leads, MayPass, EdgeAt, HasEdge, slot_bag, mode_bag, owns, unheld, SlotFits, StartsWith, IsNonempty, FrontFits, held, Owned, WellOwned}
+use Rattle.rc_admit.proofs.Owned.{Stand, Leads, MayPass, EdgeAt, HasEdge, slot_bag, mode_bag, owns, unheld, SlotFits, StartsWith, IsNonempty, FrontFits, Owned, WellOwned, bound_one}
 use Rattle.rc_admit.proofs.Pool.{items_of, room_for, token_there}
 use Rattle.rc_admit.proofs.Rule.{AtLive, Claim, asks_lock, held_of, known_sq, put_covered}
 use Rattle.rc_admit.proofs.Tokens.{token_owned}
@@ -184,10 +184,9 @@ twice : (P : Program) (S : Stand) (w : World) (bags : ℕ → Part → ℕ) (mod
 twice P S w bags modes i t d ds o get e h =
     let p : Part = TokenOf d.user_data in
     let f = front_is w.completed d ds (o.agree ∙ ap data_in e) in
-    let fl : sum_over (owns P p) w.completed ≡ owned P f.request.user_data p + sum_over (owns P p) f.others = ap (sum_over (owns P p)) f.is in
-    let one : 1 ≤ owned P f.request.user_data p = subst (λ u. 1 ≤ owned P u p) (sym f.same) (token_owned P d.user_data) in
-    let mine : held P (bags i) (modes i) p ≤ sum_to (λ i. held P (bags i) (modes i) p) (length w.controls.threads) = sum_to_one (λ i. held P (bags i) (modes i) p) (length w.controls.threads) i (slice_get_within w.controls.threads i t get) in
-    let tot : sum_to (λ i. held P (bags i) (modes i) p) (length w.controls.threads) + unheld P w p ≤ 1 = o.total p in
+    let fl : sum_over (owns P p) w.completed ≡ owns P p f.request + sum_over (owns P p) f.others = ap (sum_over (owns P p)) f.is in
+    let one : 1 ≤ owns P p f.request = token_owned P f.request d.user_data f.same in
+    let tot : bags i p + unheld P w p ≤ 1 = bound_one P S w bags modes o p i (slice_get_within w.controls.threads i t get) in
     omega arith
 
 module _ (P : Program) (made : IsProgram P) (S : Stand) (edge : HasEdge P S) (w : World) (bags : ℕ → Part → ℕ) (modes : ℕ → Mode) (i : ℕ) (t : Standing) (r : ℤ) (o : Owned P S w bags modes) (get : slice_get w.controls.threads i ≡ Some t) where
@@ -244,11 +243,7 @@ module _ (P : Program) (made : IsProgram P) (S : Stand) (edge : HasEdge P S) (w 
   -- what pools have, no thread and no request has
   module _ (items : Items) (there : (p : Part) → bag_of items p ≤ all_pooled P w.controls.pools p) where
     few : (p : Part) → bags i p + bag_of items p ≤ limit P p
-    few p =
-        let f : ℕ → ℕ = λ j. held P (bags j) (modes j) p in
-        let x : f i ≤ sum_to f (length w.controls.threads) = sum_to_one f (length w.controls.threads) i (slice_get_within w.controls.threads i t get) in
-        let y : sum_to f (length w.controls.threads) + unheld P w p ≤ limit P p = o.total p in
-        omega (arith, x, y, there p)
+    few p = omega (arith, bound_one P S w bags modes o p i (slice_get_within w.controls.threads i t get), there p)
 
     -- the token of the peeked completion
     not_peeked : (c : Option Peeked) → (modes i).cq ≡ c → names_peeked items.tokens (unwrap_or c Unseen) ≡ false

@@ -11,21 +11,21 @@ use Rattle.rc_lang.specs.declared.program.TokenKind.{TokenKind}
 use Rattle.rc_lang.specs.declared.request.Request.{Request}
 use Rattle.rc_lang.specs.Program.{Program, token_place}
 use Rattle.rc_rules.specs.declared.mode.Mode.{Mode}
-use Rattle.rc_rules.specs.Rules.{kind_at, kind_in, kind_of, owned}
+use Rattle.rc_rules.specs.Rules.{kind_at, kind_in, kind_of}
 use Rattle.rc_split.specs.Bags.{Part, TokenOf, lacking, token_bag}
 use Rattle.rc_split.proofs.PoolBags.{same_or_not}
 use Rattle.rc_world.specs.Faults.{count_of}
 use Rattle.rc_world.specs.Machine.{World}
 use Rattle.rc_world.proofs.Lists.{any_at}
-use Rattle.rc_admit.proofs.Lists.{Each, sum_over, sum_to, sum_to_one}
-use Rattle.rc_admit.proofs.Owned.{HasKind, Owned, Stand, held, owns, unheld}
+use Rattle.rc_admit.proofs.Lists.{Each, sum_over}
+use Rattle.rc_admit.proofs.Owned.{HasKind, Owned, Stand, bound_one, owns, unheld}
 
 abbrev one_if : Bool → ℕ
 one_if b = cond b 1 0
 
 -- A request owns its token.
-pub token_owned : (P : Program) (u : ℕ) → 1 ≤ owned P u (TokenOf u)
-token_owned P u = let h : nat_eq u u ≡ true = eq-eqb u u refl in let y : token_bag u (TokenOf u) ≡ 1 = ap (λ t. cond t 1 0) h in omega arith
+pub token_owned : (P : Program) (r : Request) (u : ℕ) → r.user_data ≡ u → 1 ≤ owns P (TokenOf u) r
+token_owned P r u e = let y : token_bag r.user_data (TokenOf u) ≡ 1 = ap (λ t. cond t 1 0) (eq-eqb r.user_data u e) in omega arith
 
 pub count_most : (P : Program) (u : ℕ) (rs : List Request) → count_of u rs ≤ sum_over (owns P (TokenOf u)) rs
 count_most P u [] = omega arith
@@ -159,9 +159,7 @@ few_queued P S w bags modes i o lt = len_allowed P.tokens (bags i) w.queued (λ 
     one : (u : ℕ) → bags i (TokenOf u) + count_of u w.queued ≤ 1
     one u =
         let p : Part = TokenOf u in
-        let f : ℕ → ℕ = λ j. held P (bags j) (modes j) p in
-        let x : f i ≤ sum_to f (length w.controls.threads) = sum_to_one f (length w.controls.threads) i lt in
-        let y : sum_to f (length w.controls.threads) + unheld P w p ≤ 1 = o.total p in
+        let y : bags i p + unheld P w p ≤ 1 = bound_one P S w bags modes o p i lt in
         let z : count_of u w.queued ≤ sum_over (owns P p) w.queued = count_most P u w.queued in
         omega arith
 

@@ -26,7 +26,7 @@ use Rattle.rc_rules.specs.Laws.{EachWeaker, IsStronger, GrowsAt}
 use Rattle.rc_rules.specs.declared.flag.Write.TheVariants.{Anything}
 use Rattle.rc_rules.specs.Sides.{Sides, gate, brings, turns, write_to, write_of, forgets, test_goes, may_skip}
 use Rattle.rc_rules.proofs.Room.{still_can}
-use Rattle.rc_rules.proofs.Weaker.{lock_freed, lock_maps, lock_taken, peeked_grows, sq_weaker, label_drop, meets_append, meets_left, meets_right, below_append, below_left, below_right}
+use Rattle.rc_rules.proofs.Weaker.{lock_freed, lock_maps, lock_taken, peeked_grows, peeked_less, peeked_refl, sq_weaker, label_drop, meets_append, meets_left, meets_right, below_append, below_left, below_right}
 
 -- ---- lists of premises
 
@@ -103,7 +103,7 @@ slot_of : (s t : Submitting) (x : Slot) → WeakerSubmitting s t → same_slot s
 slot_of s t x v e = subst (λ y. same_slot y x ≡ true) v.slot e
 
 seen : (p q : Peeked) → WeakerPeeked p q → is_seen p ≡ true → is_seen q ≡ true
-seen p q d e = elim d [ inl h ↦ subst (λ y. is_seen y ≡ true) h e | inr h ↦ absurd (let x : is_seen p ≡ false = ap is_seen h in cc) ]
+seen p q w = peeked_less (λ x. is_seen x ≡ true → is_seen q ≡ true) (λ e. absurd (cc)) p q w (λ e. e)
 
 -- what is asked of a lock first, and what is left under it
 locked_less : {A : Type 0} (W : A → A → Type 0) (F G : A → List (ℕ × Premise)) (o p : Option A) → ((s t : A) → W s t → Less (F s) (G t)) → UnderLock W o p → Less (with_lock 1 o F) (with_lock 1 p G)
@@ -136,8 +136,8 @@ asks_less P lists z _ b c m n w v = tt
 unchanged : (b c : Part → ℕ) (m n : Mode) (s t : Submitting) (x : Slot) → IsWithin b c → WeakerMode m n → WeakerSubmitting s t → Weaker (Live b (with_slot x s m)) (Live c (with_slot x t n))
 unchanged b c m n s t x w v u = (w, (record { queued = u.queued; slot = refl }, v.1))
 
-reaps_more : (P : Program) (p q : Peeked) → WeakerPeeked p q → is_seen p ≡ true → (x : Part) → reaped P p x ≤ reaped P q x
-reaps_more P p q d e x = elim d [ inl h ↦ subst (λ y. reaped P p x ≤ reaped P y x) h (omega arith) | inr h ↦ absurd (let g : is_seen p ≡ false = ap is_seen h in cc) ]
+reaps_more : (P : Program) (p q : Peeked) → WeakerPeeked p q → (x : Part) → reaped P p x ≤ reaped P q x
+reaps_more P p q w x = peeked_less (λ y. reaped P y x ≤ reaped P q x) (omega arith) p q w (omega arith)
 
 grows : (P : Program) (lists : List Items) (z : Bool) (op : Op) → Grows (λ b m. premises_of P lists z b m (op_needs op)) (λ b m. op_effect P b m op)
 grows P lists z ops.GetSqe b c m n w v h = locked_grows WeakerSubmitting _ _ _ m.sq n.sq h (λ s t a u. (λ p. omega (arith, w p), (record { queued = omega (arith, u.queued); slot = refl }, v.1))) v.0
@@ -146,7 +146,7 @@ grows P lists z (ops.PrepWrite f d l o k) b c m n w v h = locked_grows WeakerSub
 grows P lists z (ops.PrepFsync f d) b c m n w v h = locked_grows WeakerSubmitting _ _ _ m.sq n.sq h (λ s t a u. unchanged b c m n s t _ w v u) v.0
 grows P lists z ops.PrepNop b c m n w v h = locked_grows WeakerSubmitting _ _ _ m.sq n.sq h (λ s t a u. unchanged b c m n s t _ w v u) v.0
 grows P lists z (ops.SetData64 u) b c m n w v h = locked_grows WeakerSubmitting _ _ _ m.sq n.sq h (λ s t a x. unchanged _ _ m n s t _ (λ p. omega (arith, w p)) v x) v.0
-grows P lists z ops.CqeSeen b c m n w v h = locked_grows WeakerPeeked _ _ _ m.cq n.cq h (λ p q a u. (λ x. omega (arith, w x, reaps_more P p q u a.0 x), (v.0, inl refl))) v.1
+grows P lists z ops.CqeSeen b c m n w v h = locked_grows WeakerPeeked _ _ _ m.cq n.cq h (λ p q a u. (λ x. omega (arith, w x, reaps_more P p q u x), (v.0, peeked_refl Unseen))) v.1
 grows P lists z _ b c m n w v h = (w, v)
 
 -- ---- blocks
@@ -226,13 +226,13 @@ loop_less P k items z b c m n w v = (refl, queue_grows P items m n v, (refl, λ 
 top_grows : (P : Program) (items : Items) (z : Bool) (s t : Label) → Weaker s t → Weaker (top P items z s) (top P items z t)
 top_grows P items z s Dead w = tt
 top_grows P items z Dead (Live c n) w = absurd w
-top_grows P items z (Live b m) (Live c n) w = (λ p. omega arith, (lock_maps WeakerSubmitting WeakerSubmitting (λ _. top_sq P items) (λ s t u. record { queued = omega arith; slot = refl }) m.sq n.sq w.1.0, lock_maps WeakerPeeked WeakerPeeked (λ _. Unseen) (λ p q u. inl refl) m.cq n.cq w.1.1))
+top_grows P items z (Live b m) (Live c n) w = (λ p. omega arith, (lock_maps WeakerSubmitting WeakerSubmitting (λ _. top_sq P items) (λ s t u. record { queued = omega arith; slot = refl }) m.sq n.sq w.1.0, lock_maps WeakerPeeked WeakerPeeked (λ _. Unseen) (λ p q u. peeked_refl Unseen) m.cq n.cq w.1.1))
 
 peek_grows : (p : Peeked) (s t : Label) → Weaker s t → Weaker (peek_at p s) (peek_at p t)
 peek_grows p = plain_grow (λ b m. Live b (with_peeked p m)) (λ b c m n w v h. (w, peeked_grows p m n v))
 
 taken_grows : (P : Program) (l : Locks) (m n : Mode) → WeakerMode m n → WeakerMode (locked P l m) (locked P l n)
-taken_grows P l m n w = (lock_taken WeakerSubmitting l.sq _ m.sq n.sq (record { queued = omega arith; slot = refl }) w.0, lock_taken WeakerPeeked l.cq _ m.cq n.cq (inl refl) w.1)
+taken_grows P l m n w = (lock_taken WeakerSubmitting l.sq _ m.sq n.sq (record { queued = omega arith; slot = refl }) w.0, lock_taken WeakerPeeked l.cq _ m.cq n.cq (peeked_refl Unseen) w.1)
 
 entered_grows : (P : Program) (l : Locks) (s t : Label) → Weaker s t → Weaker (entered P l s) (entered P l t)
 entered_grows P l = plain_grow (λ b m. Live b (locked P l m)) (λ b c m n w v h. (w, taken_grows P l m n v))

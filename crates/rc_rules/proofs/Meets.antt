@@ -1,5 +1,5 @@
 -- Two states that join.
-use Rattle.std.proofs.Common.{◌≡◌, ℕ, ◌⊎◌, inl, inr, Bool, true, false, cond, [], ◌∷◌, Option, Some, None, refl, sym, ap, subst, ◌∙◌, arith}
+use Rattle.std.proofs.Common.{◌≡◌, ℕ, Bool, true, false, cond, [], ◌∷◌, Option, Some, None, refl, sym, ap, subst, ◌∙◌, arith}
 use Rattle.std.specs.Prelude.{is_some, unwrap_or}
 use Rattle.std.proofs.lemmas.Bool.{eqb-true, eq-eqb}
 use Rattle.rc_lang.specs.declared.lines.Locks.{Locks}
@@ -10,11 +10,11 @@ use Rattle.rc_rules.specs.declared.mode.Mode.{Mode}
 use Rattle.rc_rules.specs.declared.mode.Peeked.{Peeked}
 use Rattle.rc_rules.specs.declared.mode.Peeked.TheVariants.{Unseen, Sees, SeesOther}
 use Rattle.rc_rules.specs.declared.mode.Submitting.{Submitting}
-use Rattle.rc_rules.specs.Labels.{Label, Dead, Live, UnderLock, Weaker, WeakerMode, WeakerPeeked, WeakerSubmitting, IsStrongest}
+use Rattle.rc_rules.specs.Labels.{Label, Dead, Live, UnderLock, Weaker, WeakerMode, WeakerPeeked, Same, Unknown, WeakerSubmitting, IsStrongest}
 use Rattle.rc_rules.specs.Rules.{agree, agree_sq, same_slot}
 use Rattle.rc_rules.specs.States.{Side, side_of, side_label, label_in, live_of, same_peeked, of_both, both_submitting, both_peeked, both, IsFreeIn, IsFreeFor, AgreeOnLocks}
 use Rattle.rc_rules.proofs.Moves.{fewer_free}
-use Rattle.rc_rules.proofs.Weaker.{same_slot_is}
+use Rattle.rc_rules.proofs.Weaker.{peeked_refl, same_slot_is, unseen_least}
 
 same_peeked_is : (p q : Peeked) → same_peeked p q ≡ true → p ≡ q
 same_peeked_is Unseen Unseen e = refl
@@ -27,20 +27,20 @@ same_refl Unseen = refl
 same_refl (Sees u) = eq-eqb u u refl
 same_refl SeesOther = refl
 
-left_peeked : (p q : Peeked) → (cond (same_peeked p q) p Unseen ≡ p) ⊎ (cond (same_peeked p q) p Unseen ≡ Unseen)
-left_peeked p q = elim (same_peeked p q) as (λ b. (cond b p Unseen ≡ p) ⊎ (cond b p Unseen ≡ Unseen)) [ true ↦ inl refl | false ↦ inr refl ]
+left_peeked : (p q : Peeked) → WeakerPeeked (both_peeked p q) p
+left_peeked p q = elim (same_peeked p q) as (λ b. WeakerPeeked (cond b p Unseen) p) [ true ↦ peeked_refl p | false ↦ unseen_least p ]
 
-right_peeked : (p q : Peeked) → (cond (same_peeked p q) p Unseen ≡ q) ⊎ (cond (same_peeked p q) p Unseen ≡ Unseen)
+right_peeked : (p q : Peeked) → WeakerPeeked (both_peeked p q) q
 right_peeked p q = go (same_peeked p q) refl
   where
-    go : (b : Bool) → same_peeked p q ≡ b → (cond b p Unseen ≡ q) ⊎ (cond b p Unseen ≡ Unseen)
-    go true e = inl (same_peeked_is p q e)
-    go false e = inr refl
+    go : (b : Bool) → same_peeked p q ≡ b → WeakerPeeked (cond b p Unseen) q
+    go true e = Same (same_peeked_is p q e)
+    go false e = unseen_least q
 
-best_peeked : (x p q : Peeked) → (x ≡ p) ⊎ (x ≡ Unseen) → (x ≡ q) ⊎ (x ≡ Unseen) → (x ≡ cond (same_peeked p q) p Unseen) ⊎ (x ≡ Unseen)
-best_peeked x p q (inr e) f = inr e
-best_peeked x p q (inl e) (inr f) = inr f
-best_peeked x p q (inl e) (inl f) = inl (rw (← e, ← f, same_refl x) refl)
+best_peeked : (x p q : Peeked) → WeakerPeeked x p → WeakerPeeked x q → WeakerPeeked x (both_peeked p q)
+best_peeked x p q (Unknown e) v = Unknown e
+best_peeked x p q (Same e) (Unknown f) = Unknown f
+best_peeked x p q (Same e) (Same f) = Same (rw (← e, ← f, same_refl x) refl)
 
 -- ---- under a lock of both
 

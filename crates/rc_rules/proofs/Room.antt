@@ -15,7 +15,7 @@ use Rattle.rc_rules.specs.declared.mode.Peeked.TheVariants.{Unseen, Sees, SeesOt
 use Rattle.rc_rules.specs.Labels.{WeakerMode, WeakerPeeked}
 use Rattle.rc_rules.specs.Rules.{limit, is_within_limit, has_room, names_peeked, peeked_of, can_take}
 use Rattle.rc_rules.specs.States.{IsFreeIn, IsFreeFor}
-use Rattle.rc_rules.proofs.Weaker.{peeked_weaker}
+use Rattle.rc_rules.proofs.Weaker.{peeked_less, peeked_weaker}
 
 -- ---- tests of all of a list
 
@@ -136,8 +136,7 @@ taken_free P a m items e f = free_with P a (peeked_of m) items (not_true _ (and_
 -- ---- who holds less
 
 fewer_named : (tokens : List ℕ) (p q : Peeked) → WeakerPeeked p q → names_peeked tokens q ≡ false → names_peeked tokens p ≡ false
-fewer_named tokens p q (inl e) f = ap (names_peeked tokens) e ∙ f
-fewer_named tokens p q (inr e) f = ap (names_peeked tokens) e
+fewer_named tokens p q w f = peeked_less (λ x. names_peeked tokens x ≡ false) refl p q w f
 
 still_fits : (P : Program) (items : Items) (b c : Part → ℕ) → IsWithin b c → (p : Part) → is_within_limit P c items p ≡ true → is_within_limit P b items p ≡ true
 still_fits P items b c w p e = let l : c p + bag_of items p ≤ limit P p = leb-true _ _ e in le-leb _ _ (omega (arith, l, w p))

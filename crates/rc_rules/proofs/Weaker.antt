@@ -1,5 +1,5 @@
 -- Labels that say less than others or the same, and what tests of slots tell.
-use Rattle.std.proofs.Common.{◌≡◌, ℕ, ◌+◌, inl, inr, Bool, true, false, cond, not, ◌&&◌, ◌||◌, ◌≤◌, Option, Some, None, Result, Ok, Err, List, [], ◌∷◌, ◌++◌, drop, nat_eq, suc, refl, sym, ap, subst, ◌∙◌, arith}
+use Rattle.std.proofs.Common.{◌≡◌, ℕ, ◌+◌, Bool, true, false, cond, not, ◌&&◌, ◌||◌, ◌≤◌, Option, Some, None, Result, Ok, Err, List, [], ◌∷◌, ◌++◌, drop, nat_eq, suc, refl, sym, ap, subst, ◌∙◌, arith}
 use Rattle.std.specs.Prelude.{is_some, option_map, unwrap_or}
 use Rattle.std.proofs.lemmas.Bool.{and_parts, eqb-true}
 use Rattle.rc_lang.specs.declared.lines.Locks.{Locks}
@@ -15,7 +15,7 @@ use Rattle.rc_rules.specs.declared.mode.Peeked.TheVariants.{Unseen}
 use Rattle.rc_rules.specs.declared.mode.Slot.{Slot}
 use Rattle.rc_rules.specs.declared.mode.Slot.TheVariants.{Closed, Vacant, Prepared}
 use Rattle.rc_rules.specs.declared.mode.Submitting.{Submitting}
-use Rattle.rc_rules.specs.Labels.{Label, Dead, Live, UnderLock, Weaker, WeakerMode, WeakerPeeked, WeakerSubmitting, WeakerThanEach, IsStrongest, IsSame}
+use Rattle.rc_rules.specs.Labels.{Label, Dead, Live, UnderLock, Weaker, WeakerMode, WeakerPeeked, Same, Unknown, WeakerSubmitting, WeakerThanEach, IsStrongest, IsSame}
 use Rattle.rc_rules.specs.Labellings.{label_at}
 use Rattle.rc_rules.specs.Sides.{Sides}
 use Rattle.rc_rules.specs.declared.cause.Cause.{Cause}
@@ -77,21 +77,37 @@ module _ {A : Type 0} (F : A → A → Type 0) where
   lock_freed true o p v = tt
   lock_freed false o p v = v
 
+-- ---- what is peeked
+
+pub peeked_refl : (p : Peeked) → WeakerPeeked p p
+peeked_refl p = Same refl
+
+-- Where nothing is known, least is.
+pub unseen_least : (p : Peeked) → WeakerPeeked Unseen p
+unseen_least p = Unknown refl
+
+-- What is true of what is peeked, and where that isn't known, is true where less is known.
+pub peeked_less : (F : Peeked → Type 0) → F Unseen → (p q : Peeked) → WeakerPeeked p q → F q → F p
+peeked_less F u p q (Same e) f = subst F (sym e) f
+peeked_less F u p q (Unknown e) f = subst F (sym e) u
+
+peeked_trans : (p q r : Peeked) → WeakerPeeked p q → WeakerPeeked q r → WeakerPeeked p r
+peeked_trans p q r w v = peeked_less (λ x. WeakerPeeked x r) (unseen_least r) p q w v
+
+pub peeked_same : (p q : Peeked) → WeakerPeeked p q → WeakerPeeked q p → p ≡ q
+peeked_same p q (Same e) v = e
+peeked_same p q (Unknown e) v = peeked_less (λ x. p ≡ x) e q p v refl
+
 -- ---- modes
 
 submitting_refl : (s : Submitting) → WeakerSubmitting s s
 submitting_refl s = record { queued = omega arith; slot = refl }
 
 pub mode_refl : (m : Mode) → WeakerMode m m
-mode_refl m = (lock_refl WeakerSubmitting submitting_refl m.sq, lock_refl WeakerPeeked (λ p. inl refl) m.cq)
+mode_refl m = (lock_refl WeakerSubmitting submitting_refl m.sq, lock_refl WeakerPeeked peeked_refl m.cq)
 
 submitting_trans : (s t u : Submitting) → WeakerSubmitting s t → WeakerSubmitting t u → WeakerSubmitting s u
 submitting_trans s t u v w = record { queued = omega (arith, v.queued, w.queued); slot = v.slot ∙ w.slot }
-
-peeked_trans : (p q r : Peeked) → WeakerPeeked p q → WeakerPeeked q r → WeakerPeeked p r
-peeked_trans p q r (inr e) f = inr e
-peeked_trans p q r (inl e) (inl f) = inl (e ∙ f)
-peeked_trans p q r (inl e) (inr f) = inr (e ∙ f)
 
 pub mode_trans : (m n o : Mode) → WeakerMode m n → WeakerMode n o → WeakerMode m o
 mode_trans m n o v w = (lock_trans WeakerSubmitting submitting_trans m.sq n.sq o.sq v.0 w.0, lock_trans WeakerPeeked peeked_trans m.cq n.cq o.cq v.1 w.1)
@@ -100,7 +116,7 @@ pub sq_weaker : (m n : Mode) → WeakerMode m n → WeakerSubmitting (sq_of m) (
 sq_weaker m n v = lock_known WeakerSubmitting (record { queued = 0; slot = Closed }) (submitting_refl _) m.sq n.sq v.0
 
 pub peeked_weaker : (m n : Mode) → WeakerMode m n → WeakerPeeked (peeked_of m) (peeked_of n)
-peeked_weaker m n v = lock_known WeakerPeeked Unseen (inl refl) m.cq n.cq v.1
+peeked_weaker m n v = lock_known WeakerPeeked Unseen (peeked_refl Unseen) m.cq n.cq v.1
 
 -- ---- locks
 
@@ -207,7 +223,7 @@ pub only_itself : (s : Label) → IsStrongest s (s ∷ [])
 only_itself s = record { weaker = (weaker_refl s, tt); strongest = λ t w. w.0 }
 
 pub peeked_grows : (p : Peeked) (m n : Mode) → WeakerMode m n → WeakerMode (with_peeked p m) (with_peeked p n)
-peeked_grows p m n v = (v.0, lock_maps WeakerPeeked WeakerPeeked (λ _. p) (λ s t w. inl refl) m.cq n.cq v.1)
+peeked_grows p m n v = (v.0, lock_maps WeakerPeeked WeakerPeeked (λ _. p) (λ s t w. peeked_refl p) m.cq n.cq v.1)
 
 pub label_drop : (labels : List Sides) (k : ℕ) (z : Bool) → label_at (drop 1 labels) k z ≡ label_at labels (suc k) z
 label_drop [] k z = refl

@@ -1,5 +1,5 @@
 -- What is known at a point of a thread, and when one label says less than another.
-use Rattle.std.specs.Prelude.{ℕ, ◌≡◌, ◌≤◌, ◌⊎◌, List, [], ◌∷◌, Option, Some, None}
+use Rattle.std.specs.Prelude.{ℕ, ◌≡◌, ◌≤◌, List, [], ◌∷◌, Option, Some, None}
 use Rattle.rc_rules.specs.declared.mode.Mode.{Mode}
 use Rattle.rc_rules.specs.declared.mode.Peeked.{Peeked}
 use Rattle.rc_rules.specs.declared.mode.Peeked.TheVariants.{Unseen}
@@ -23,9 +23,10 @@ pub record WeakerSubmitting (s t : Submitting) : Type 0 where
   pub queued : t.queued ≤ s.queued
   pub slot : s.slot ≡ t.slot
 
--- What is peeked is known or not.
-abbrev pub WeakerPeeked : Peeked → Peeked → Type 0
-WeakerPeeked s t = (s ≡ t) ⊎ (s ≡ Unseen)
+-- What is peeked is the same, or isn't known.
+pub data WeakerPeeked (s t : Peeked) : Type 0 where
+  Same : s ≡ t → WeakerPeeked s t
+  Unknown : s ≡ Unseen → WeakerPeeked s t
 
 abbrev pub WeakerMode : Mode → Mode → Type 0
 WeakerMode m n = UnderLock WeakerSubmitting m.sq n.sq × UnderLock WeakerPeeked m.cq n.cq

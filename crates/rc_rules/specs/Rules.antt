@@ -61,10 +61,6 @@ abbrev pub line_bag : Program → Option TokenKind → Part → ℕ
 line_bag P None p = 0
 line_bag P (Some kind) p = kind_bag P kind p
 
--- what a request in flight owns: the shares of its token's line, the token and a credit
-abbrev pub owned : Program → ℕ → Part → ℕ
-owned P u p = line_bag P (kind_of P u) p + token_bag u p + credits_bag 1 p
-
 -- ---- words of premises
 
 abbrev pub same_kind : TokenKind → TokenKind → Bool
@@ -239,10 +235,11 @@ opened P s m = record m { sq = Some (record { queued = min (s.queued + 1) P.entr
 abbrev pub with_slot : Slot → Submitting → Mode → Mode
 with_slot slot s m = record m { sq = Some (record s { slot = slot }) }
 
--- a reaped request gives back what it owned, as far as it is known which one it was
+-- a reaped request gives back what it owned, as far as it is known which one it was: the shares of its token's line, the
+-- token and a credit
 abbrev pub reaped : Program → Peeked → Part → ℕ
 reaped P Unseen p = 0
-reaped P (Sees u) p = owned P u p
+reaped P (Sees u) p = line_bag P (kind_of P u) p + token_bag u p + credits_bag 1 p
 reaped P SeesOther p = credits_bag 1 p
 
 abbrev pub op_effect : Program → (Part → ℕ) → Mode → Op → Label

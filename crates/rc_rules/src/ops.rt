@@ -142,7 +142,7 @@ fn reap(holding: &mut Holding, peeked: Peeked)
 fn reap_request(holding: &mut Holding, user_data: u64)
     requires small { (p : bags.Part) → bag holding.old p ≤ 2 ^ 19 }
     requires free { states.IsFreeFor holding.old.program (bag holding.old) (peeks.Sees user_data) }
-    ensures { Gains holding.old holding.new (rules.owned holding.old.program user_data) }
+    ensures { Gains holding.old holding.new (rules.reaped holding.old.program (peeks.Sees user_data)) }
 {
     give_line(holding, kind_of(holding.program(), user_data));
     holding.give(Part::Token(user_data));

@@ -18,7 +18,6 @@ use Rattle.rc_lang.proofs.Closing.{closes_if, turns as turns_at}
 use Rattle.rc_lang.proofs.Lookups.{blocks_next}
 use Rattle.rc_rules.specs.declared.cause.Cause.{Cause}
 use Rattle.rc_rules.specs.declared.mode.Mode.{Mode}
-use Rattle.rc_rules.specs.declared.mode.Peeked.{Peeked}
 use Rattle.rc_rules.specs.declared.mode.Submitting.{Submitting}
 use Rattle.rc_rules.specs.Labels.{Label, Dead, Live, UnderLock, Weaker, WeakerMode, WeakerPeeked, WeakerSubmitting, IsStrongest}
 use Rattle.rc_rules.specs.Labellings.{here, label_at, skipped}
@@ -35,7 +34,7 @@ use Rattle.rc_verify.specs.Walk.{AreKept, Fits, IsBranch, OnKept, PassesLine, Re
 use Rattle.rc_verify.proofs.Fit.{fits_alike, fits_more, gate_fits, strongest_fits, test_fits}
 use Rattle.rc_verify.proofs.Joining.{above, below}
 use Rattle.rc_rules.proofs.Rising.{asks_same, test_asked, test_same}
-use Rattle.rc_rules.proofs.Weaker.{meets_append, only_itself}
+use Rattle.rc_rules.proofs.Weaker.{meets_append, only_itself, peeked_same}
 use Rattle.rc_verify.proofs.Keeping.{KeepsLast, few_branches, few_places, keep_more, kept_length, last_kept, places_pushed, pushed_none, same_last, some_last}
 use Rattle.rc_verify.proofs.Plainly.{fits_behind, fits_known, loops_same, opens_none, peek_same}
 use Rattle.rc_verify.proofs.Standing.{AreStrongestOf, Gave, branches_stay, fits_here, gives_stays, here_is, lead_at, of_same, onward, passes, same_of, seen_at, took}
@@ -45,11 +44,6 @@ on_ok A (Ok z) y h e = h
 on_ok A (Err c) y h e = absurd (cc)
 
 -- ---- labels that each say as much as the other
-
-same_peeked : (p q : Peeked) → WeakerPeeked p q → WeakerPeeked q p → p ≡ q
-same_peeked p q (inl e) g = e
-same_peeked p q (inr e) (inl f) = sym f
-same_peeked p q (inr e) (inr f) = e ∙ sym f
 
 same_submitting : (s t : Submitting) → WeakerSubmitting s t → WeakerSubmitting t s → s ≡ t
 same_submitting s t v w =
@@ -63,7 +57,7 @@ same_under F h (Some s) None v w = absurd v
 same_under F h (Some s) (Some t) v w = ap Some (h s t v w)
 
 same_mode : (m n : Mode) → WeakerMode m n → WeakerMode n m → m ≡ n
-same_mode m n v w = ap (λ x. record m { sq = x }) (same_under WeakerSubmitting same_submitting m.sq n.sq v.0 w.0) ∙ ap (λ x. record n { cq = x }) (same_under WeakerPeeked same_peeked m.cq n.cq v.1 w.1)
+same_mode m n v w = ap (λ x. record m { sq = x }) (same_under WeakerSubmitting same_submitting m.sq n.sq v.0 w.0) ∙ ap (λ x. record n { cq = x }) (same_under WeakerPeeked peeked_same m.cq n.cq v.1 w.1)
 
 same_label : (s t : Label) → Weaker s t → Weaker t s → s ≡ t
 same_label Dead Dead v w = refl
