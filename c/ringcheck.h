@@ -96,6 +96,13 @@
 #undef _GNU_SOURCE
 #endif
 
+/* A file that included fcntl.h first, without _GNU_SOURCE, has no O_DIRECT. */
+#ifdef O_DIRECT
+#define RINGCHECK_DIRECT O_DIRECT
+#else
+#define RINGCHECK_DIRECT __O_DIRECT
+#endif
+
 #ifdef RINGCHECK_POISON
 #if defined(__has_feature)
 #if __has_feature(address_sanitizer)
@@ -983,14 +990,14 @@ RINGCHECK_INSIDE int ringcheck_is_stream(const struct io_uring_sqe *sqe)
         return 0;
     if (S_ISSOCK(is.st_mode))
         return getsockopt(sqe->fd, SOL_SOCKET, SO_TYPE, &kind, &size) == 0 && kind == SOCK_STREAM;
-    return S_ISFIFO(is.st_mode) && (fcntl(sqe->fd, F_GETFL) & O_DIRECT) == 0;
+    return S_ISFIFO(is.st_mode) && (fcntl(sqe->fd, F_GETFL) & RINGCHECK_DIRECT) == 0;
 }
 
 /* A length below this one that the kernel may answer, or the same. Past the page cache it goes by sectors. */
 RINGCHECK_INSIDE size_t ringcheck_shorter(const struct io_uring_sqe *sqe, size_t length, uint64_t choice)
 {
     const int has_places = ringcheck_has_places(sqe);
-    const int is_direct = has_places && (fcntl(sqe->fd, F_GETFL) & O_DIRECT) != 0;
+    const int is_direct = has_places && (fcntl(sqe->fd, F_GETFL) & RINGCHECK_DIRECT) != 0;
     const size_t unit = !is_direct ? 1 : length % 4096 == 0 ? 4096 : 512;
 
     if (!has_places && !ringcheck_is_stream(sqe))

@@ -107,14 +107,17 @@ def same_code(folder, compilers):
 
 
 def compiles():
-    """Alone; by -include, in a file that knows nothing of it; and with all calls."""
+    """Alone; by -include, in a file that knows nothing of it; after other headers, in a C file that doesn't ask for
+    _GNU_SOURCE; and with all calls."""
     knows_nothing = "#include <liburing.h>\nint f(struct io_uring *ring) { return io_uring_submit(ring); }\n"
+    comes_last = f'#include <fcntl.h>\n{knows_nothing}#include "ringcheck.h"\n'
     for language in LANGUAGES:
-        define = "" if language[0] == "g++" else "#define _GNU_SOURCE 1\n"
+        define, gnu = ("", []) if language[0] == "g++" else ("#define _GNU_SOURCE 1\n", ["-std=gnu11"])
         for flags in FLAGS:
             words = [*language, *STRICT, f"-I{HEADER}", *flags, "-fsyntax-only"]
             compiled([*words, "-"], "the header alone", input='#include "ringcheck.h"\nint one;\n')
             compiled([*words, "-include", "ringcheck.h", "-"], "the header by -include", input=define + knows_nothing)
+            compiled([*words, *gnu, "-"], "the header after others", input=comes_last)
             compiled([*words, AUDIT / "follow-calls.c"], "follow-calls.c")
     return f"{len(LANGUAGES)} languages, {len(FLAGS)} sets of flags, without a warning"
 
@@ -256,6 +259,9 @@ def tries_seeds(folder, command):
         status, said = tried(folder, source.stem, text, flags, words)
         if status != 1 or not re.match(r"seed \d+: " + wanted, said):
             raise Wrong(f"ringcheck-try says of {bug}, with status {status}:\n{said[:2000]}")
+    cut = called([HEADER / "ringcheck-try", "sh", "-c", "echo ERROR: AddressSanitizer: cut; kill -ABRT $$"])
+    if cut.returncode != 1 or not re.match(r"seed 1: AddressSanitizer: cut\n(    .*\n)*    ended by SIGABRT\n", cut.stdout):
+        raise Wrong(f"ringcheck-try says of a report that is cut short, with status {cut.returncode}:\n{cut.stdout[:2000]}")
     correct = (EXAMPLES / "page_writer.c").read_text()
     status, said = tried(folder, "page_writer", correct, LOG + POISON, follows)
     if status or not said.startswith("20 runs, no report, no departure, all came to an end: "):
