@@ -6,7 +6,7 @@ usage: ci/program.py PROGRAM
 Of each command it sees each exit status that the command has, 0 to 3, with what is on standard output and what is on
 standard error, apart. It names several files, one that isn't there, a folder, one that may not be read, and standard
 input; it closes the standard streams, and gives a full device, a pipe that nobody reads and an input without an end; it
-gives texts with carriage returns, in pieces, and a text at the limits of the notation; reads fail after the text, and
+gives models with carriage returns, in pieces, and a model at the limits of the notation; reads fail after the model, and
 writes after some bytes. A run makes the choices of its seed, is made again by the schedule of its events, and has each
 of them in its summary; its threads take turns; one whose threads can't be made is out of memory. What a file may be and
 how many processes there may be is no obstacle for root: for that the program is run as a user that has nothing.
@@ -118,7 +118,7 @@ FILES = {
     "a b\n.rc": GOOD,
 }
 
-# What is told of a file, after its name, of a stream, and of wrong words.
+# What is reported of a file, after its name, of a stream, and of wrong words.
 MISSING = "No such file or directory"
 FOLDER = "Is a directory"
 NO_FOLDER = "Not a directory"
@@ -155,7 +155,7 @@ NOT_FOUND = KEPT + "no fault in 7 walks: the model may lack detail, or try more 
 NOT_FOUND_JSON = '{"cause":"LoopEntry","code":13,"line":5,"moves":null,"trace":null,"verdict":"refused","walk":null}\n'
 RUN = ("run", "--seed", "1", "--limit", "5")
 
-# Words, the text on standard input, and what follows: the exit status, standard output, and what standard error tells.
+# Words, the model on standard input, and what follows: the exit status, standard output, and standard error.
 # Of what ends with an ellipsis the beginning is held.
 ROWS = [
     (("check",), GOOD, 0, ACCEPTED, ""),
@@ -234,7 +234,7 @@ ROWS = [
     (("--version",), b"", 0, "ringcheck 0.1.0\n", ""),
     (("--help",), b"", 0, "Checks threaded programs ...", ""),
     (("check", "--help"), b"", 0, "Check models, ...", ""),
-    # Files, with a text on standard input that is none of theirs.
+    # Files, with a model on standard input that is none of theirs.
     (("check", "good.rc"), UNREADABLE, 0, "good.rc: accepted\n", ""),
     (("check", "refused.rc"), GOOD, 1, "refused.rc:4: refused V1 Unlocked\n", ""),
     (("check", "unreadable.rc"), GOOD, 2, "unreadable.rc:4: unreadable P3 BadLine\n", ""),
@@ -285,12 +285,12 @@ ROWS = [
     (("step", "--schedule", "t0"), GOOD.replace(b"\n", b"\r\n"), 0, ONE_EVENT, ""),
 ]
 
-# Several files, of which some can't be read: what is told of them, and the status is the greatest.
+# Several files, of which some can't be read: what is reported of them, and the status is the greatest.
 MIXED = ("check", "missing.rc", "refused.rc", "folder", "unreadable.rc", "good.rc")
 MIXED_OUTPUT = "refused.rc:4: refused V1 Unlocked\nunreadable.rc:4: unreadable P3 BadLine\ngood.rc: accepted\n"
 MIXED_TOLD = f"ringcheck: missing.rc: {MISSING}\nringcheck: folder: {FOLDER}\n"
 
-# What a shell does before the program, words, a text, the status and what is told; nothing is written. Where the input
+# What a shell does before the program, words, a model, the status and what is reported; nothing is written. Where the input
 # has no end the program can't keep it: memory is bounded.
 STREAMS = [
     ("exec >&-", ("check",), GOOD, 3, NO_OUTPUT),
@@ -334,7 +334,7 @@ CUTS = 16
 # How many bytes the program is given at a read.
 PIECES = (1, 7, 320, 4096)
 
-# The last line of a large text, its exit status and the verdict.
+# The last line of a large model, its exit status and the verdict.
 LARGE = [
     (b"x = 1", 0, ACCEPTED),
     (b"r = submit", 1, "refused line 4095 V1 Unlocked\n"),
@@ -346,7 +346,7 @@ MULTIPLIER = 6364136223846793005
 SEEDING = 11634580027462260723
 WORKERS = 2
 
-# How many seeds a text is run with, so that each choice comes: that of a short read comes with one in eight.
+# How many seeds a model is run with, so that each choice comes: that of a short read comes with one in eight.
 SEEDS = 100
 
 
@@ -435,7 +435,7 @@ def hold_streams(bench):
 
 
 def hold_pieces(bench):
-    """A text that comes in pieces, each of which a read gives alone."""
+    """A model that comes in pieces, each of which a read gives alone."""
     words = ("step", "--schedule", HANDED)
     whole = bench.ran(words, SENDING)
     for size in PIECES:
@@ -452,7 +452,7 @@ def hold_pieces(bench):
 
 
 def hold_failing_inputs(bench):
-    """Inputs that fail after their text, as a terminal does that is hung up."""
+    """Inputs that fail after their model, as a terminal does that is hung up."""
     for words, text in STEADY:
         ours, theirs = os.openpty()
         tty.setraw(theirs)
@@ -481,13 +481,13 @@ def hold_failing_outputs(bench):
 
 
 def large(last):
-    """A text of 4,096 lines of 256 bytes, whose thread ends with this line."""
+    """A model of 4,096 lines of 256 bytes, whose thread ends with this line."""
     lines = [*HEAD.split(b"\n")[:-1], *[b"x = 1"] * (4096 - 5), last, b"}"]
     return b"".join((line + b" #").ljust(256, b"x") + b"\n" for line in lines)
 
 
 def hold_large(bench):
-    """Texts of a megabyte, at the limits of the notation, in a file and on standard input."""
+    """Models of a megabyte, at the limits of the notation, in a file and on standard input."""
     note = " of a megabyte"
     for last, status, verdict in LARGE:
         text = large(last)
@@ -571,7 +571,7 @@ def hold_run(bench, name, seed):
 
 
 def hold_runs(bench):
-    """Runs of texts, whatever the order in which their threads run."""
+    """Runs of models, whatever the order in which their threads run."""
     for seed in range(1, 6):
         for name in ("handoff.rc", "share.rc", "gather.rc", "hand_back.rc", "pool.rc"):
             hold_run(bench, name, seed)
@@ -607,7 +607,7 @@ def hold_turns(bench):
     puts = sum(line.endswith(" put") for line in trace.splitlines())
     bench.hold("a run of threads that ask pools", (f"it has {puts} puts", puts > 100))
     _, summary, _ = bench.ran(("run", "--seed", "1", "--limit", "20000", "--summary"), POLLING)
-    completions = sum(map(int, re.findall(r"^completions .*?: (\d+)", summary, re.MULTILINE)))
+    completions = sum(map(int, re.findall(r"^request .*?: (\d+)", summary, re.MULTILINE)))
     turns = [int(count) for count in re.findall(r"^thread \w+: (\d+)", summary, re.MULTILINE)]
     right = completions > 40 and len(turns) == 2 and min(turns) > 1000
     bench.hold("a run of threads that poll", (f"it has {completions} completions, and turns {turns}", right))
@@ -618,18 +618,19 @@ def hold_summaries(bench):
     for name in ("handoff.rc", "share.rc"):
         text = (TOP / "examples" / name).read_bytes()
         status, summary, told = bench.ran(("run", "--seed", "1", "--limit", "1000000", "--summary"), text)
-        counts = re.findall(r"^(?:thread|completions) .*?: (\d+)", summary, re.MULTILINE)
+        counts = re.findall(r"^(?:thread|request) .*?: (\d+)", summary, re.MULTILINE)
         end = re.search(r"^ended after (\d+) events\n\Z", summary, re.MULTILINE)
-        right = end and int(end[1]) == sum(map(int, counts)) > 0 and " of " in summary
+        right = end and int(end[1]) == sum(map(int, counts)) > 0
         bench.hold(f"summary of {name}", (f"{status} and {told!r}", (status, told) == (0, "")), (summary, right))
         if name == "handoff.rc":
-            # A request that is reaped once has its arm counted once.
-            right = "line 22, peek_cqe r: case 7: 1, other 0, none " in summary
-            bench.hold(f"summary of {name}, its arm", (summary, right))
+            # A request that is reaped once has its result and its arm counted once.
+            right = "request 7 (read): 1 completions, 1 with result " in summary
+            right = right and "line 22, peek_cqe r: case 7: 1, other 0, none " in summary
+            bench.hold(f"summary of {name}, its result and its arm", (summary, right))
 
 
 def hold_threads(bench, how):
-    """Runs whose threads can't all be made. There are four: for two threads of the text, and two workers."""
+    """Runs whose threads can't all be made. There are four: for two threads of the model, and two workers."""
     for most in range(1, 5 if how else 2):
 
         def bounded():

@@ -14,7 +14,7 @@ use rc_text::text::{put_counted, put_piece, put_pieces, put_signed};
 use rc_world::event::Event;
 use std::alloc::{AllocError, Global};
 
-/// How many results of a token are told one by one.
+/// How many results of a token are printed one by one.
 const MOST_RESULTS: usize = 8;
 
 /// Events of one thread, with none of another thread between.
@@ -126,9 +126,9 @@ fn put_token(
 
 /// Adds a token's user data and kind, and how many completions it has.
 fn put_token_head(text: &mut Vec<u8>, token: Token, count: u64) -> Result<(), AllocError> {
-    put_counted(text, b"completions of ", token.user_data, b", ")?;
+    put_counted(text, b"request ", token.user_data, b" (")?;
     put_piece(text, kind_name(token.kind).as_bytes())?;
-    put_counted(text, b": ", count, b"")
+    put_counted(text, b"): ", count, b" completions")
 }
 
 /// The name of a kind of request.
@@ -224,17 +224,17 @@ fn put_common(text: &mut Vec<u8>, common: &[(i32, u64)]) -> Result<(), AllocErro
 /// Adds a result, and how often it came.
 fn put_result(text: &mut Vec<u8>, counted: (i32, u64)) -> Result<(), AllocError> {
     let (res, times) = counted;
-    put_counted(text, b"; ", times, b" of ")?;
+    put_counted(text, b", ", times, b" with result ")?;
     put_signed(text, i64::from(res))
 }
 
-/// Adds how many of so many results aren't told one by one, and ends the line.
+/// Adds how many of so many results aren't printed one by one, and ends the line.
 fn put_others(text: &mut Vec<u8>, results: usize) -> Result<(), AllocError> {
     if results <= MOST_RESULTS {
         return put_piece(text, b"\n");
     }
     let others = (results - MOST_RESULTS) as u64;
-    put_counted(text, b"; ", others, b" other results\n")
+    put_counted(text, b", ", others, b" other results\n")
 }
 
 /// The first of the longest stretches.

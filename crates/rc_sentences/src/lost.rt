@@ -55,13 +55,13 @@ fn put_loss(
             put_part(text, page.refused.program(), part)?;
             put_piece(text, b" belongs to the peeked request until cqe_seen")
         }
-        Loss::At(point, tells) => {
+        Loss::At(point, by_flag) => {
             put_part(text, page.refused.program(), missing.part)?;
-            put_at(text, page, point, tells)
+            put_at(text, page, point, by_flag)
         }
-        Loss::Ends(lacking, tells, holding) => {
+        Loss::Ends(lacking, by_flag, holding) => {
             put_part(text, page.refused.program(), missing.part)?;
-            put_pieces(text, &[b" isn't held", flag_text(tells, lacking.zero)])?;
+            put_pieces(text, &[b" isn't held", flag_text(by_flag, lacking.zero)])?;
             put_ends(text, page, lacking.place, holding)
         }
         Loss::Never => {
@@ -74,10 +74,10 @@ fn put_loss(
 }
 
 /// Adds at which line a part is lost, and how.
-fn put_at(text: &mut Vec<u8>, page: Page, point: Point, tells: bool) -> Result<(), AllocError> {
+fn put_at(text: &mut Vec<u8>, page: Page, point: Point, by_flag: bool) -> Result<(), AllocError> {
     put_piece(text, b" is held before ")?;
     put_line(text, page, point.place)?;
-    let flag = flag_text(tells, point.zero);
+    let flag = flag_text(by_flag, point.zero);
     put_pieces(text, &[b", and not after it", flag, b": "])?;
     put_how(text, page, point.place)
 }
@@ -94,9 +94,9 @@ fn put_ends(
     put_end(text, page, holding)
 }
 
-/// With which flag, where that tells.
-fn flag_text(tells: bool, zero: bool) -> &'static [u8] {
-    match (tells, zero) {
+/// With which flag, where that matters.
+fn flag_text(by_flag: bool, zero: bool) -> &'static [u8] {
+    match (by_flag, zero) {
         (false, _) => b"",
         (true, true) => b" with flag 0",
         (true, false) => b" with flag not 0",

@@ -100,7 +100,7 @@ pub fn put_when(text: &mut Vec<u8>, refused: Refused, holding: usize) -> Result<
     }
     put_pieces(
         text,
-        &[b"Let a loop name `", name, b"`, which tells what is held: "],
+        &[b"Let a loop name `", name, b"`, which says what is held: "],
     )?;
     put_named(text, refused, name)?;
     if refused.program().version() < 2 {
@@ -139,7 +139,7 @@ fn put_named(text: &mut Vec<u8>, refused: Refused, name: &[u8]) -> Result<(), Al
     put_line(text, refused, kept, Some(name))
 }
 
-/// Whether a test tells 0 from all other numbers.
+/// Whether a test is one of 0 against all other numbers.
 fn is_against_zero(stmt: Stmt) -> bool {
     match stmt {
         Stmt::If(Test::Compare(_, Comparison::Equal | Comparison::NotEqual, n)) => n == 0,

@@ -117,9 +117,9 @@ fn goes_to(flag: Option<usize>, stmt: Stmt, zero: bool, first: bool) -> bool {
     if zero {
         return holds == first;
     }
-    // Of another number only a test against 0 tells what it says.
-    let tells = n == 0 && comparison.compares(1, 0) == comparison.compares(-1, 0);
-    !tells || holds != first
+    // What another number answers is known of a test against 0 alone.
+    let is_known = n == 0 && comparison.compares(1, 0) == comparison.compares(-1, 0);
+    !is_known || holds != first
 }
 
 /// The place before which a line takes up what is known: that of the test of an else, and of the peek of an arm.
@@ -225,13 +225,13 @@ impl Ways<'_> {
             point.zero
         };
         if self.at(place, zero) == Known::Holds || self.is_on_other(place, point) {
-            let tells = self.at(point.place, !point.zero) == Known::Holds;
+            let by_flag = self.at(point.place, !point.zero) == Known::Holds;
             return Err(Loss::At(
                 Point {
                     place,
                     zero: point.zero,
                 },
-                tells,
+                by_flag,
             ));
         }
         Ok(Point { place, zero })
@@ -259,8 +259,8 @@ impl Ways<'_> {
                     zero,
                 };
                 if let Some(holding) = self.end_of(start, closing, last, zero, Known::Holds) {
-                    let tells = self.at(lacking, !zero) == Known::Holds;
-                    found = Loss::Ends(point, tells, holding);
+                    let by_flag = self.at(lacking, !zero) == Known::Holds;
+                    found = Loss::Ends(point, by_flag, holding);
                     opening = start;
                 }
                 continue;
