@@ -10,8 +10,8 @@ use Rattle.rc_rules.specs.declared.mode.Mode.{Mode}
 use Rattle.rc_rules.specs.declared.mode.Peeked.{Peeked}
 use Rattle.rc_rules.specs.declared.mode.Peeked.TheVariants.{Unseen, Sees, SeesOther}
 use Rattle.rc_rules.specs.declared.mode.Submitting.{Submitting}
-use Rattle.rc_rules.specs.Labels.{Label, Dead, Live, UnderLock, Weaker, WeakerMode, WeakerPeeked, Same, Unknown, WeakerSubmitting, IsStrongest}
-use Rattle.rc_rules.specs.Rules.{agree, agree_sq, same_slot}
+use Rattle.rc_rules.specs.Labels.{Label, Dead, Live, UnderLock, Weaker, WeakerPeeked, Same, Unknown, WeakerSubmitting, IsStrongest}
+use Rattle.rc_rules.specs.Rules.{agree, agree_sq}
 use Rattle.rc_rules.specs.States.{Side, side_of, side_label, label_in, live_of, same_peeked, of_both, both_submitting, both_peeked, both, IsFreeIn, IsFreeFor, AgreeOnLocks}
 use Rattle.rc_rules.proofs.Moves.{fewer_free}
 use Rattle.rc_rules.proofs.Weaker.{peeked_refl, same_slot_is, unseen_least}
