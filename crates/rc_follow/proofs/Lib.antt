@@ -1,4 +1,5 @@
 pub mod Added
 pub mod Followed
 pub mod Held
+pub mod Made
 pub mod Runs

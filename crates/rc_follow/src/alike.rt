@@ -1,5 +1,5 @@
-//! Worlds that are alike: what can come next is the same in both, but for bytes, serial numbers and the order of requests
-//! that are pending.
+//! Worlds that are alike: what can come next is the same in both, but for bytes, serial numbers, what can't show any more,
+//! and the order of requests that are pending.
 
 use crate::reads::Reads;
 use rc_lang::program::Program;
@@ -47,14 +47,9 @@ fn slots_alike(one: Slot, other: Slot) -> bool {
     }
 }
 
-/// The same but for the serial number.
+/// The same but for the serial number, and for the file, the buffer and the place in the file, which show at no completion.
 fn requests_alike(one: Request, other: Request) -> bool {
-    one.kind == other.kind
-        && one.fd == other.fd
-        && one.buffer == other.buffer
-        && one.len == other.len
-        && one.off == other.off
-        && one.user_data == other.user_data
+    one.kind == other.kind && one.len == other.len && one.user_data == other.user_data
 }
 
 fn lists_alike(one: &[Request], other: &[Request]) -> bool {

@@ -5,7 +5,7 @@ ghost use Rattle.std.specs.Prelude.{◌≡◌, ◌<◌, length, true, All, Conta
 use crate::alike::{are_alike, are_alike_beside};
 use crate::hidden::Ground;
 use crate::node::Node;
-use crate::room::{Room, has_made_all};
+use crate::room::Room;
 use rc_world::world::World;
 use std::alloc::AllocError;
 
@@ -43,7 +43,7 @@ fn is_led_to(ground: Ground<'_, '_>, worlds: &[Node<'_>], at: usize, node: &Node
     for (place, other) in worlds.iter().enumerate() {
         if place != at
             && comes_to(ground, other.world(), node.world())
-            && has_made_all(other.made(), node.made())
+            && other.has_made_all(node)
         {
             return true;
         }

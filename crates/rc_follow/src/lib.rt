@@ -7,6 +7,7 @@ pub mod follower;
 mod hidden;
 mod kept;
 pub mod laws;
+mod live;
 mod loops;
 mod node;
 mod noted;

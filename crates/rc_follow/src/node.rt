@@ -1,6 +1,6 @@
 //! The candidates of a search.
 
-ghost use Rattle.std.specs.Prelude.{◌≡◌, IfOk, IfSome};
+ghost use Rattle.std.specs.Prelude.{◌≡◌, IfOk, IfSome, false, slice_index_or};
 ghost use Rattle.rc_follow.specs.Ways as ways;
 ghost use Rattle.rc_world.specs.Machine as machine;
 ghost use Rattle.rc_world.specs.WeakRuns.{IsWeakStep};
@@ -13,14 +13,16 @@ use rc_world::world::World;
 use rc_world::world::weak::Lists;
 use std::alloc::{AllocError, Global};
 use std::marker::Model;
+use std::rc::Rc;
 
 /// A world of a search, and the lines of the text whose calls the log made on the way to it. The world is on the heap, so
 /// that a search moves it cheaply.
 #[derive(Drop)]
 pub struct Node<'a> {
     world: Box<World<'a>>,
-    // Of each number of a line whether its call was made. Those of numbers behind the last weren't.
-    made: Vec<bool>,
+    // Of each number of a line whether its call was made. Those of numbers behind the last weren't. Copies share it until
+    // one of them makes another call.
+    made: Rc<Vec<bool>>,
 }
 
 impl<'a> Model for Node<'a> {
@@ -28,7 +30,7 @@ impl<'a> Model for Node<'a> {
 
     ghost Value = { ways.Way };
 
-    ghost view = { λ n. record { world = n.world.value; made = n.made.items } };
+    ghost view = { λ n. record { world = n.world.value; made = n.made.value.items } };
 }
 
 impl<'a> Node<'a> {
@@ -39,7 +41,7 @@ impl<'a> Node<'a> {
         let world = World::start(alloc, program)?;
         Ok(Node {
             world: Box::new(alloc, world)?,
-            made: Vec::new(alloc),
+            made: Rc::new(alloc, Vec::new(alloc))?,
         })
     }
 
@@ -50,7 +52,7 @@ impl<'a> Node<'a> {
         let world = self.world.copy(alloc)?;
         Ok(Node {
             world: Box::new(alloc, world)?,
-            made: Vec::from_slice(alloc, &self.made)?,
+            made: self.made.clone()?,
         })
     }
 
@@ -63,8 +65,7 @@ impl<'a> Node<'a> {
     ) -> Result<(), AllocError>
         ensures { IfOk result (λ _. self.new ≡ other.now) }
     {
-        self.made.clear();
-        self.made.extend_from_slice(&other.made)?;
+        self.made = other.made.clone()?;
         self.world.copy_from(alloc, lists, &other.world)
     }
 
@@ -79,21 +80,47 @@ impl<'a> Node<'a> {
     pub fn made(&self) -> &[bool]
         ensures { result.now ≡ self.now.made }
     {
-        &self.made
+        self.made.as_ref().as_slice()
+    }
+
+    /// Whether the call of the line of this number was made.
+    fn has_made(&self, number: usize) -> bool
+        ensures { result ≡ slice_index_or self.now.made number false }
+    {
+        self.made().get(number).copied().unwrap_or(false)
+    }
+
+    /// Whether the calls of all lines were made that the other has made.
+    pub fn has_made_all(&self, other: &Node<'_>) -> bool {
+        Rc::ptr_eq(&self.made, &other.made) || are_all_in(other.made(), self.made())
     }
 
     /// Notes that the call of this line of the text was made.
+    #[tactic(auto, using(crate::proofs::Made::noted_again))]
     pub fn note(&mut self, line: Option<Line>) -> Result<(), AllocError>
         ensures { IfOk result (λ _. self.new ≡ record self.old { made = ways.made_by line self.old.made }) }
     {
         let Some(line) = line else {
             return Ok(());
         };
-        let number = line.number as usize;
-        if self.made.len() <= number {
-            self.made.resize(number + 1, false)?;
+        if self.has_made(line.number as usize) {
+            return Ok(());
         }
-        self.made[number] = true;
+        self.note_new(line.number)
+    }
+
+    /// Notes that the call of the line of this number was made, which wasn't before.
+    fn note_new(&mut self, number: u32) -> Result<(), AllocError>
+        ensures { IfOk result (λ _. self.new ≡ record self.old { made = ways.with_made number self.old.made }) }
+    {
+        let number = number as usize;
+        let alloc = *self.made.as_ref().allocator();
+        let mut made = Vec::from_slice(alloc, self.made())?;
+        if made.len() <= number {
+            made.resize(number + 1, false)?;
+        }
+        made[number] = true;
+        self.made = Rc::new(alloc, made)?;
         Ok(())
     }
 
@@ -114,4 +141,17 @@ impl<'a> Node<'a> {
     {
         stray(&mut self.world, thread, byte)
     }
+}
+
+/// Whether the calls of all of these lines are among the others. The last line of each was made.
+fn are_all_in(one: &[bool], other: &[bool]) -> bool {
+    if one.len() > other.len() {
+        return false;
+    }
+    for number in 0..one.len() {
+        if one[number] && !other[number] {
+            return false;
+        }
+    }
+    true
 }

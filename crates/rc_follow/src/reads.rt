@@ -1,5 +1,6 @@
 //! What the ifs of each thread depend on.
 
+use crate::live::{has, live_at, live_variables};
 use rc_lang::lines::{Op, Operand, Stmt, Test};
 use rc_lang::program::{Program, Thread};
 use rc_world::world::World;
@@ -8,12 +9,13 @@ use std::alloc::{AllocError, Global};
 /// How many variables a thread has at most.
 const VARIABLES: usize = 64;
 
-/// The variables that a thread's ifs depend on, directly or through others, and the bytes that a load of one is tried
-/// with.
+/// The variables that a thread's ifs depend on, directly or through others, the bytes that a load of one is tried with,
+/// and which variables can still show at each place.
 #[derive(Drop)]
 struct Depends {
     variables: Vec<usize>,
     bytes: Vec<u8>,
+    live: Vec<u64>,
 }
 
 /// What the ifs of each thread depend on. What they don't depend on changes no run.
@@ -43,7 +45,8 @@ impl Reads {
         }
     }
 
-    /// Whether each variable on which an if of its thread depends has the same value in both worlds.
+    /// Whether each variable on which an if of its thread depends has the same value in both worlds, if it can still show
+    /// in one of them.
     pub fn are_same(&self, one: &World<'_>, other: &World<'_>) -> bool {
         for (thread, depends) in self.threads.iter().enumerate() {
             if !is_same(thread, depends, one, other) {
@@ -59,8 +62,12 @@ fn is_same(thread: usize, depends: &Depends, one: &World<'_>, other: &World<'_>)
     let Ok(thread) = u32::try_from(thread) else {
         return true;
     };
+    let live = live_at(&depends.live, one.place(thread))
+        | live_at(&depends.live, other.place(thread));
     for variable in &depends.variables {
-        if one.variable(thread, *variable) != other.variable(thread, *variable) {
+        if has(live, *variable)
+            && one.variable(thread, *variable) != other.variable(thread, *variable)
+        {
             return false;
         }
     }
@@ -80,7 +87,11 @@ fn depends_of(alloc: Global, thread: &Thread) -> Result<Depends, AllocError> {
             variables.push(variable)?;
         }
     }
-    Ok(Depends { variables, bytes })
+    Ok(Depends {
+        variables,
+        bytes,
+        live: live_variables(alloc, thread)?,
+    })
 }
 
 /// Of each variable whether an if depends on it.

@@ -87,24 +87,11 @@ pub fn is_there(reads: &Reads, node: &Node<'_>, nodes: &[Node<'_>]) -> bool {
     let mut alike = 0usize;
     for there in nodes {
         if are_alike(reads, there.world(), node.world()) {
-            if has_made_all(there.made(), node.made()) {
+            if there.has_made_all(node) {
                 return true;
             }
             alike = alike.saturating_add(1);
         }
     }
     alike >= MOST_ALIKE
-}
-
-/// Whether the one has made the calls of all lines that the other has made. The last that it has made is each one's last.
-pub fn has_made_all(one: &[bool], other: &[bool]) -> bool {
-    if one.len() < other.len() {
-        return false;
-    }
-    for number in 0..other.len() {
-        if other[number] && !one[number] {
-            return false;
-        }
-    }
-    true
 }

@@ -6,7 +6,7 @@ ghost use Rattle.rc_follow.specs.Ways.{Leads};
 ghost use Rattle.rc_follow.specs.Searches.{AsksIn, Finds, Visits};
 
 use crate::covered::drop_covered;
-use crate::hidden::{Ground, Way, go, way_on};
+use crate::hidden::{Ground, Step, Way, go, way_on};
 use crate::kept::{Found, keep, keep_made};
 use crate::node::Node;
 use crate::onward::{look_further, look_on};
@@ -15,6 +15,7 @@ use crate::room::{Room, is_there};
 use crate::visible::{asks, holds_none, may_be_next};
 use rc_lang::lines::Locks;
 use rc_log::call::Call;
+use rc_world::world::World;
 use std::alloc::AllocError;
 
 /// How many worlds a search begins from and sees, at most.
@@ -349,7 +350,7 @@ fn visit_made<'a>(
         room.give(node)?;
         return Ok(());
     }
-    let way = way_on(ground, node.world());
+    let way = way_besides(ground, node.world());
     if let Way::None = way {
         keep_made(ground, node, found, room)?;
         return Ok(());
@@ -358,4 +359,16 @@ fn visit_made<'a>(
     keep_made(ground, again, found, room)?;
     look_on(ground, node, way, is_begun, found, room)?;
     Ok(())
+}
+
+/// How the thread goes on besides from a world in which its next step is the call. A take that is hidden here and made at
+/// another place may as well be made here and hidden there; so may a put, where no other thread waits for it.
+fn way_besides(ground: Ground<'_, '_>, world: &World<'_>) -> Way {
+    let way = way_on(ground, world);
+    match (ground.call, way) {
+        (Call::Take(_), Way::Take) => Way::On(Step::Stray(0)),
+        (Call::Take(_), Way::On(Step::Own)) => Way::None,
+        (Call::Put(_), _) if world.program().threads().len() == 1 => Way::None,
+        _ => way,
+    }
 }

@@ -3,9 +3,9 @@
 ghost use Rattle.std.specs.Prelude.{◌<◌, length};
 
 use crate::fill::{Fill, Fills, Listed, Progress};
+use crate::held::Held;
 use crate::kept::{Kept, sq_on};
 use crate::parted::has_when;
-use crate::row::held_if_live;
 use crate::source::{Source, end_of};
 use rc_lang::lines::{Line, Stmt};
 use rc_lang::program::{Program, Thread};
@@ -16,14 +16,17 @@ use rc_rules::state::State;
 use rc_verify::labels::Labels;
 use std::alloc::AllocError;
 
-/// A stretch as it is walked over: its program, what is added to the numbers of its lines for those of the source, and
-/// the place after its lines.
+/// A stretch as it is walked over: its program, what is added to the numbers of its lines for those of the source, the
+/// place of its first line, and the one after its lines.
 #[derive(Clone, Copy)]
 pub struct Trial<'a> {
     pub source: Source<'a>,
     pub program: &'a Program,
     pub shift: u32,
+    pub begin: usize,
     pub end: usize,
+    /// How many blocks are open there.
+    pub blocks: usize,
 }
 
 /// What a walk came to.
@@ -38,10 +41,7 @@ pub enum Walked {
     /// It can't be read as a model of its own.
     Unread,
     /// All of its lines were walked over. This is held after them, and where its breaks join, if something comes there.
-    Ended {
-        held: Option<Vec<u32>>,
-        left: Option<Vec<u32>>,
-    },
+    Ended { held: Held, left: Held },
 }
 
 /// A loop of a thread: the numbers of its line and of the line that ends it, in the source, and that of its items among
@@ -67,18 +67,18 @@ pub fn walk(trial: Trial<'_>, fills: &mut Fills) -> Result<Walked, AllocError>
         if labels.place() == trial.end {
             break;
         }
-        if is_filled(trial, fills, part, *line, &labels)? {
+        if labels.place() >= trial.begin && is_filled(trial, fills, part, *line, &labels)? {
             return Ok(Walked::Filled(trial.number(*line)));
         }
         if let Err(cause) = labels.next() {
             return refused(trial, fills, part, *line, cause, labels.state());
         }
     }
-    let held = held_if_live(trial.source.alloc, labels.state().on(true))?;
-    for _ in 0..3 {
+    let held = Held::of(trial.source.alloc, labels.state())?;
+    for _ in 0..trial.blocks.saturating_add(2) {
         let _ = labels.next();
     }
-    let left = held_if_live(trial.source.alloc, labels.state().on(true))?;
+    let left = Held::of(trial.source.alloc, labels.state())?;
     Ok(Walked::Ended { held, left })
 }
 
@@ -246,22 +246,17 @@ fn spelt(
     kept: Kept,
 ) -> Result<Listed, AllocError> {
     let flag = if names_flag(trial, at) {
-        flag_of(at.part)
+        trial.source.flag()
     } else {
         None
     };
     let mut text = Vec::new(trial.source.alloc);
     kept.put(&mut text, trial.program, flag, is_locked(state))?;
     Ok(Listed {
-        row: kept.zero,
+        zero: kept.zero,
+        other: kept.other,
         text,
     })
-}
-
-/// The name of a thread's flag.
-fn flag_of(part: &Thread) -> Option<&[u8]> {
-    let flag = part.flag()?;
-    Some(part.variables.get(flag)?.as_slice())
 }
 
 /// Whether an entry is open.

@@ -13,10 +13,11 @@ pub enum Progress {
     Left,
 }
 
-/// What a loop keeps while its flag is 0, as a row, and all of it as its line has it.
+/// What a loop keeps while its flag is 0, and while it isn't, as rows, and that as its line has it.
 #[derive(Drop)]
 pub struct Listed {
-    pub row: Vec<u32>,
+    pub zero: Vec<u32>,
+    pub other: Vec<u32>,
     pub text: Vec<u8>,
 }
 
@@ -24,7 +25,8 @@ impl Listed {
     /// The same again.
     pub fn again(&self) -> Result<Listed, AllocError> {
         Ok(Listed {
-            row: self.row.clone()?,
+            zero: self.zero.clone()?,
+            other: self.other.clone()?,
             text: self.text.clone()?,
         })
     }
@@ -64,12 +66,12 @@ impl Fill {
         self.progress != Progress::Left && self.items.text.as_slice() != self.own.text.as_slice()
     }
 
-    /// What it keeps while the flag is 0.
-    pub fn row(&self) -> &[u32] {
+    /// What it keeps.
+    pub fn kept(&self) -> &Listed {
         if self.progress == Progress::Left {
-            &self.own.row
+            &self.own
         } else {
-            &self.items.row
+            &self.items
         }
     }
 

@@ -2,13 +2,15 @@
 
 use crate::change::{Trial, Walked, walk};
 use crate::fill::{Fill, Fills, Listed, Progress};
-use crate::row::{common, covers, declared, lessen, put_row, row_of};
+use crate::held::Held;
+use crate::kept::Kept;
+use crate::parted::has_when;
+use crate::row::row_of;
 use crate::source::{Source, end_of};
 use crate::stretch::{Stretch, stretch_end};
 use rc_lang::lines::{Line, Stmt};
 use rc_lang::program::{Program, Thread};
 use rc_read::source::Lines;
-use rc_text::text::put_piece;
 use std::alloc::{AllocError, Global};
 
 /// A loop that is gone through, with no other block than loops around it.
@@ -17,16 +19,15 @@ struct OpenLoop {
     line: u32,
     /// The place of its line.
     place: usize,
-    /// What is held where its breaks so far join, if something comes there.
-    left: Option<Vec<u32>>,
+    /// What is held where its breaks so far join.
+    left: Held,
 }
 
-/// Where the filling of a thread has come to: a place, what is held there if something comes there, and which loops are
-/// open. No other block is.
+/// Where the filling of a thread has come to: a place, what is held there, and which loops are open. No other block is.
 #[derive(Drop)]
 struct Front {
     place: usize,
-    held: Option<Vec<u32>>,
+    held: Held,
     open: Vec<OpenLoop>,
 }
 
@@ -67,14 +68,14 @@ fn fill_part<'a>(
 }
 
 /// Fills the loops of a thread. What a loop keeps has to be held where it begins and where it ends: no more is asked of
-/// one that no other block is around, if no flag is named. So only what is between such loops is walked over.
+/// one that no other block is around. So only what is between such loops is walked over.
 fn fill_thread(source: Source<'_>, fills: &mut Fills) -> Result<(), AllocError> {
-    if source.part.flag().is_some() {
-        return fill_whole(source, fills);
-    }
     let mut front = Front {
         place: 0,
-        held: Some(row_of(source.alloc, source.program, &source.part.items)?),
+        held: Held {
+            zero: Some(row_of(source.alloc, source.program, &source.part.items)?),
+            other: None,
+        },
         open: Vec::new(source.alloc),
     };
     let steps = source.most_changes()?.saturating_mul(4097);
@@ -90,7 +91,7 @@ fn fill_thread(source: Source<'_>, fills: &mut Fills) -> Result<(), AllocError> 
 
 /// Fills the loops of a thread by walks over all of it.
 fn fill_whole(source: Source<'_>, fills: &mut Fills) -> Result<(), AllocError> {
-    let stretch = Stretch::whole(source);
+    let stretch = Stretch::whole(source)?;
     for _ in 0..source.most_changes()? {
         let Walked::GoneBack(_) = walked(source, fills, &stretch)? else {
             return Ok(());
@@ -131,7 +132,9 @@ fn read_and_walked(
         source,
         program: &program,
         shift: stretch.shift(source),
+        begin: stretch.begin,
         end: stretch.end,
+        blocks: stretch.blocks(),
     };
     walk(trial, fills)
 }
@@ -156,47 +159,47 @@ fn enter(
     line: Line,
     list: usize,
 ) -> Result<Goes, AllocError> {
-    let Some(held) = &front.held else {
-        front.place = source
-            .part
-            .ends
-            .get(front.place)
-            .copied()
-            .unwrap_or(front.place)
-            .saturating_add(1);
+    if !front.held.is_reached() {
+        front.place = after_block(source.part, front.place);
         return Ok(Goes::On);
-    };
+    }
     let fill = match fills.on(line.number) {
-        None => Some(first_fill(source, front.place, line, list, held)?),
-        Some(old) => lesser_fill(source, old, held, false)?,
+        None => Some(first_fill(source, front, line, list)?),
+        Some(old) => lesser_fill(source, old, &front.held, false)?,
     };
     if let Some(fill) = fill {
         put_if_room(source, fills, fill)?;
     }
     match fills.on(line.number) {
-        Some(fill) if covers(held, fill.row()) => front.begin(fill, front.place),
+        Some(fill) if front.has(fill.kept()) => front.begin(source, fill, front.place),
         _ => Ok(Goes::Done),
     }
+}
+
+/// The place after the block that begins at this one.
+fn after_block(part: &Thread, place: usize) -> usize {
+    let end = part.ends.get(place).copied();
+    end.unwrap_or(place).saturating_add(1)
 }
 
 /// A loop that wasn't met before is filled with what is there.
 fn first_fill(
     source: Source<'_>,
-    place: usize,
+    front: &Front,
     line: Line,
     list: usize,
-    held: &[u32],
 ) -> Result<Fill, AllocError> {
     let (alloc, program) = (source.alloc, source.program);
-    let most = declared(alloc, program)?;
     let own = match source.part.lists.get(list) {
-        Some(items) => row_of(alloc, program, items)?,
-        None => declared(alloc, program)?,
+        Some(items) => Kept::of(alloc, program, items)?,
+        None => Kept::most(alloc, program)?,
     };
-    let end = end_of(source.part, place).unwrap_or(line.number);
+    let mut kept = Kept::most(alloc, program)?;
+    kept.lessen_to(&front.held, names_flag(source, line.number));
+    let end = end_of(source.part, front.place).unwrap_or(line.number);
     let (own, items) = (
-        spelt(source, own)?,
-        spelt(source, common(alloc, held, &most)?)?,
+        spelt(source, line.number, own)?,
+        spelt(source, line.number, kept)?,
     );
     Ok(Fill::first(line.number, end, own, items))
 }
@@ -205,22 +208,38 @@ fn first_fill(
 fn lesser_fill(
     source: Source<'_>,
     old: &Fill,
-    held: &[u32],
+    held: &Held,
     is_end: bool,
 ) -> Result<Option<Fill>, AllocError> {
-    if old.progress != Progress::Open || covers(held, old.row()) {
+    let Listed { zero, other, .. } = old.kept();
+    if old.progress != Progress::Open || held.covers(zero, other) {
         return Ok(None);
     }
-    let items = spelt(source, common(source.alloc, old.row(), held)?)?;
+    let mut kept = Kept::rows(source.alloc, zero, other)?;
+    kept.lessen_to(held, names_flag(source, old.line));
+    let items = spelt(source, old.line, kept)?;
     Ok(Some(old.lesser(items, is_end)?))
 }
 
-/// What a loop keeps, and that as its line has it.
-fn spelt(source: Source<'_>, row: Vec<u32>) -> Result<Listed, AllocError> {
+/// Whether the line with this number names the flag.
+fn names_flag(source: Source<'_>, number: u32) -> bool {
+    has_when(source.lines.line(number))
+}
+
+/// What the loop of the line with this number keeps, and that as the line has it.
+fn spelt(source: Source<'_>, number: u32, kept: Kept) -> Result<Listed, AllocError> {
+    let flag = if names_flag(source, number) {
+        source.flag()
+    } else {
+        None
+    };
     let mut text = Vec::new(source.alloc);
-    put_row(&mut text, source.program, &row)?;
-    put_piece(&mut text, b" ")?;
-    Ok(Listed { row, text })
+    kept.put(&mut text, source.program, flag, false)?;
+    Ok(Listed {
+        zero: kept.zero,
+        other: kept.other,
+        text,
+    })
 }
 
 /// Puts the items of a loop in the place of those that it had. If its line gets too long, it stays as it is.
@@ -242,23 +261,15 @@ fn leave(source: Source<'_>, fills: &mut Fills, front: &mut Front) -> Result<Goe
     let Some(fill) = fills.on(open.line) else {
         return Ok(Goes::Done);
     };
-    let is_good = match &front.held {
-        Some(held) => covers(held, fill.row()),
-        None => true,
-    };
-    if is_good {
+    if front.has(fill.kept()) {
         front.held = open.left;
         front.place = front.place.saturating_add(1);
         return Ok(Goes::On);
     }
-    let lesser = match &front.held {
-        Some(held) => lesser_fill(source, fill, held, true)?,
-        None => None,
-    };
-    let Some(lesser) = lesser else {
+    let Some(lesser) = lesser_fill(source, fill, &front.held, true)? else {
         return Ok(Goes::Done);
     };
-    let goes = front.begin(&lesser, open.place)?;
+    let goes = front.begin(source, &lesser, open.place)?;
     fills.put(lesser)?;
     Ok(goes)
 }
@@ -266,11 +277,13 @@ fn leave(source: Source<'_>, fills: &mut Fills, front: &mut Front) -> Result<Goe
 /// Goes over a stretch. What nothing reaches is passed over.
 fn pass(source: Source<'_>, fills: &mut Fills, front: &mut Front) -> Result<Goes, AllocError> {
     let end = stretch_end(source.part, front.place);
-    let Some(held) = &front.held else {
+    if !front.held.is_reached() {
         front.place = end;
         return Ok(Goes::On);
+    }
+    let Some(stretch) = Stretch::between(source, front.place, end, &front.held)? else {
+        return Ok(Goes::Whole);
     };
-    let stretch = Stretch::between(source, front.place, end, held)?;
     match walked(source, fills, &stretch)? {
         Walked::Ended { held, left } => {
             front.place = end;
@@ -278,47 +291,59 @@ fn pass(source: Source<'_>, fills: &mut Fills, front: &mut Front) -> Result<Goes
             front.join(left);
             Ok(Goes::On)
         }
-        Walked::GoneBack(line) => front.go_back(fills, line),
+        Walked::GoneBack(line) => front.go_back(source, fills, line),
         Walked::Unread => Ok(Goes::Whole),
         Walked::Filled(_) | Walked::Refused => Ok(Goes::Done),
     }
 }
 
 impl Front {
+    /// Whether all of this is held.
+    fn has(&self, kept: &Listed) -> bool {
+        self.held.covers(&kept.zero, &kept.other)
+    }
+
     /// Is at the top of a loop.
-    fn begin(&mut self, fill: &Fill, place: usize) -> Result<Goes, AllocError> {
-        let alloc = *self.open.allocator();
-        self.held = Some(Vec::from_slice(alloc, fill.row())?);
+    fn begin(&mut self, source: Source<'_>, fill: &Fill, place: usize) -> Result<Goes, AllocError> {
+        let Listed { zero, other, .. } = fill.kept();
+        self.held = Held {
+            zero: Some(zero.clone()?),
+            other: match source.flag() {
+                Some(_) => Some(other.clone()?),
+                None => None,
+            },
+        };
         self.place = place.saturating_add(1);
         self.open.push(OpenLoop {
             line: fill.line,
             place,
-            left: None,
+            left: Held::nowhere(),
         })?;
         Ok(Goes::On)
     }
 
     /// Is at the top of the loop on this line, if it is gone through.
-    fn go_back(&mut self, fills: &Fills, line: u32) -> Result<Goes, AllocError> {
+    fn go_back(
+        &mut self,
+        source: Source<'_>,
+        fills: &Fills,
+        line: u32,
+    ) -> Result<Goes, AllocError> {
         let Some(depth) = self.open.iter().position(|open| open.line == line) else {
             return Ok(Goes::On);
         };
         let place = self.open[depth].place;
         self.open.truncate(depth);
         match fills.on(line) {
-            Some(fill) => self.begin(fill, place),
+            Some(fill) => self.begin(source, fill, place),
             None => Ok(Goes::Done),
         }
     }
 
     /// Breaks of the innermost loop join those before.
-    fn join(&mut self, left: Option<Vec<u32>>) {
-        let (Some(open), Some(row)) = (self.open.last_mut(), left) else {
-            return;
-        };
-        match &mut open.left {
-            Some(others) => lessen(others, &row),
-            None => open.left = Some(row),
+    fn join(&mut self, left: Held) {
+        if let Some(open) = self.open.last_mut() {
+            open.left.join(left);
         }
     }
 }

@@ -1,6 +1,7 @@
 //! What a loop keeps.
 
-use crate::row::{above, added, declared, held, lessen, listed, put_row, row_of};
+use crate::held::Held;
+use crate::row::{above, added, declared, lessen, listed, put_row, row_of};
 use rc_lang::program::{Items, Program};
 use rc_rules::mode::{Submitting, sq_of, unlocked};
 use rc_rules::side::Side;
@@ -12,7 +13,7 @@ use std::alloc::{AllocError, Global};
 #[derive(Drop)]
 pub struct Kept {
     pub zero: Vec<u32>,
-    other: Vec<u32>,
+    pub other: Vec<u32>,
     queued: u32,
 }
 
@@ -39,17 +40,35 @@ impl Kept {
         })
     }
 
+    /// So much.
+    pub fn rows(alloc: Global, zero: &[u32], other: &[u32]) -> Result<Kept, AllocError> {
+        Ok(Kept {
+            zero: Vec::from_slice(alloc, zero)?,
+            other: Vec::from_slice(alloc, other)?,
+            queued: 0,
+        })
+    }
+
     /// Keeps no more than a state has where it comes to the loop's top. Without `when` both sides keep the same.
     pub fn lessen(&mut self, alloc: Global, state: &State, when: bool) -> Result<(), AllocError> {
         let (zero, other) = (state.on(true), state.on(false));
-        lessen_to(&mut self.zero, alloc, zero)?;
-        lessen_to(&mut self.other, alloc, other)?;
         self.queued = self.queued.max(sq_on(zero).queued).max(sq_on(other).queued);
+        self.lessen_to(&Held::of(alloc, state)?, when);
+        Ok(())
+    }
+
+    /// Keeps no more than is held.
+    pub fn lessen_to(&mut self, held: &Held, when: bool) {
+        if let Some(row) = &held.zero {
+            lessen(&mut self.zero, row);
+        }
+        if let Some(row) = &held.other {
+            lessen(&mut self.other, row);
+        }
         lessen(&mut self.zero, &self.other);
         if !when {
             lessen(&mut self.other, &self.zero);
         }
-        Ok(())
     }
 
     /// Adds the items as a loop's line has them, with a blank before each and one behind them: in a lock with the bound
@@ -72,14 +91,6 @@ impl Kept {
         }
         put_piece(text, b" ")
     }
-}
-
-/// Keeps of each part no more than is held on a side, where something reaches it.
-fn lessen_to(row: &mut Vec<u32>, alloc: Global, side: &Side) -> Result<(), AllocError> {
-    if side.is_live() {
-        lessen(row, &held(alloc, side)?);
-    }
-    Ok(())
 }
 
 /// What is known of the submission side of the ring.

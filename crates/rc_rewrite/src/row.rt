@@ -19,7 +19,7 @@ pub fn declared(alloc: Global, program: &Program) -> Result<Vec<u32>, AllocError
 }
 
 /// As much as is held on a side.
-pub fn held(alloc: Global, side: &Side) -> Result<Vec<u32>, AllocError> {
+fn held(alloc: Global, side: &Side) -> Result<Vec<u32>, AllocError> {
     let program = side.program();
     let mut row = Vec::new(alloc);
     for buffer in 0..program.buffers().len() {
@@ -87,6 +87,13 @@ pub fn lessen(row: &mut Vec<u32>, other: &[u32]) {
     }
 }
 
+/// Has of each part as much as another row, or more.
+pub fn larger(row: &mut Vec<u32>, other: &[u32]) {
+    for (place, count) in row.as_mut_slice().iter_mut().enumerate() {
+        *count = (*count).max(count_at(other, place));
+    }
+}
+
 /// Whether a row has of each part as much as another.
 pub fn covers(row: &[u32], other: &[u32]) -> bool {
     for (place, count) in other.iter().enumerate() {
@@ -95,13 +102,6 @@ pub fn covers(row: &[u32], other: &[u32]) -> bool {
         }
     }
     true
-}
-
-/// What two rows both have.
-pub fn common(alloc: Global, row: &[u32], other: &[u32]) -> Result<Vec<u32>, AllocError> {
-    let mut least = Vec::from_slice(alloc, row)?;
-    lessen(&mut least, other);
-    Ok(least)
 }
 
 /// What two rows have together.

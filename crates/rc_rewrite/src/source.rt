@@ -20,13 +20,29 @@ pub struct Source<'a> {
     pub part: &'a Thread,
 }
 
-impl Source<'_> {
+impl<'a> Source<'a> {
     /// The number of the first thread's header.
     pub fn first_header(&self) -> u32 {
         match self.program.threads().first() {
             Some(part) => part.line,
             None => 1,
         }
+    }
+
+    /// The name of the thread's flag.
+    pub fn flag(&self) -> Option<&'a [u8]> {
+        let flag = self.part.flag()?;
+        Some(self.part.variables.get(flag)?.as_slice())
+    }
+
+    /// How many parts a row has.
+    pub fn width(&self) -> usize {
+        let parts = self
+            .program
+            .buffers()
+            .len()
+            .saturating_add(self.program.tokens().len());
+        parts.saturating_add(1)
     }
 
     /// Whether the loop's line has not too many bytes with these items.

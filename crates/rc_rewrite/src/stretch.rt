@@ -1,84 +1,82 @@
 //! A stretch of a thread, as a model of its own.
 
+use crate::around::{Around, lines_around};
 use crate::fill::Fills;
+use crate::held::Held;
 use crate::refill::put_line;
-use crate::row::put_row;
 use crate::source::Source;
 use rc_lang::lines::Stmt;
 use rc_lang::program::{Program, Thread};
 use rc_read::{ReadFault, read_program};
-use rc_text::text::{put_piece, put_pieces};
+use rc_text::text::put_piece;
 use std::alloc::AllocError;
 
 /// As many lines as a stretch has at least, where no block is open after fewer.
 const LEAST: usize = 32;
 
 /// Lines of a thread and what is around them, so that with the declarations they are a model: the whole thread, or some
-/// lines between its loops. Before and after those, no lock, if or peek is open. They are in a loop that keeps what is
-/// held there: so their breaks have a loop, and what holds after it is what holds where they join. At its end is one
-/// more loop: what comes to that is what the stretch ends with, and nothing goes on after it.
+/// lines between its loops. Before and after those, no lock, if or peek is open.
 #[derive(Drop)]
 pub struct Stretch {
-    above: Vec<u8>,
+    around: Around,
     /// The numbers of its first line and of its last.
     first: u32,
     last: u32,
-    below: &'static [u8],
-    /// The place, in its own model, of what is after its lines.
+    /// The places, in its own model, of its first line and of what is after its lines.
+    pub begin: usize,
     pub end: usize,
 }
 
 impl Stretch {
     /// The whole thread.
-    pub fn whole(source: Source<'_>) -> Stretch {
+    pub fn whole(source: Source<'_>) -> Result<Stretch, AllocError> {
         let part = source.part;
-        Stretch {
-            above: Vec::new(source.alloc),
+        Ok(Stretch {
+            around: Around {
+                above: Vec::new(source.alloc),
+                lines: 0,
+                below: b"}\n".to_vec(source.alloc)?,
+                blocks: 0,
+            },
             first: part.line,
             last: match part.lines.last() {
                 Some(line) => line.number,
                 None => part.line,
             },
-            below: b"}\n",
+            begin: 0,
             end: part.lines.len(),
-        }
+        })
     }
 
-    /// The lines from one place up to another, before which this is held.
+    /// The lines from one place up to another, before which this is held, if a model can say so.
     pub fn between(
         source: Source<'_>,
         from: usize,
         to: usize,
-        held: &[u32],
-    ) -> Result<Stretch, AllocError> {
+        held: &Held,
+    ) -> Result<Option<Stretch>, AllocError> {
         let part = source.part;
-        let mut items = Vec::new(source.alloc);
-        put_row(&mut items, source.program, held)?;
-        let mut above = Vec::new(source.alloc);
-        put_pieces(
-            &mut above,
-            &[
-                b"thread ",
-                &part.name,
-                b" holds",
-                &items,
-                b" {\nloop keeps",
-                &items,
-                b" {\n",
-            ],
-        )?;
-        Ok(Stretch {
-            above,
+        let Some(around) = lines_around(source, held)? else {
+            return Ok(None);
+        };
+        let begin = around.lines.saturating_sub(1);
+        Ok(Some(Stretch {
+            around,
             first: number_at(part, from),
             last: number_at(part, to.saturating_sub(1)),
-            below: b"loop keeps {\n}\n}\n}\n",
-            end: to.saturating_sub(from).saturating_add(1),
-        })
+            begin,
+            end: to.saturating_sub(from).saturating_add(begin),
+        }))
+    }
+
+    /// How many blocks are open at its end.
+    pub fn blocks(&self) -> usize {
+        self.around.blocks
     }
 
     /// What is added to the number of a line of the stretch's own model for that of the source.
     pub fn shift(&self, source: Source<'_>) -> u32 {
-        let above: u32 = if self.above.is_empty() { 0 } else { 2 };
+        let above = u32::try_from(self.around.lines).unwrap_or(0);
         self.first
             .wrapping_sub(source.first_header().wrapping_add(above))
     }
@@ -87,7 +85,7 @@ impl Stretch {
     pub fn read(&self, source: Source<'_>, fills: &Fills) -> Result<Option<Program>, AllocError> {
         let mut text = Vec::new(source.alloc);
         put_lines(&mut text, source, fills, 1, source.first_header())?;
-        put_piece(&mut text, &self.above)?;
+        put_piece(&mut text, &self.around.above)?;
         put_lines(
             &mut text,
             source,
@@ -95,7 +93,7 @@ impl Stretch {
             self.first,
             self.last.saturating_add(1),
         )?;
-        put_piece(&mut text, self.below)?;
+        put_piece(&mut text, &self.around.below)?;
         match read_program(source.alloc, &text) {
             Ok(program) => Ok(Some(program)),
             Err(ReadFault::Text { .. }) => Ok(None),
