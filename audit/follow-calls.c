@@ -20,7 +20,7 @@
 static struct io_uring ring, other;
 static pthread_mutex_t submitting = PTHREAD_MUTEX_INITIALIZER, another = PTHREAD_MUTEX_INITIALIZER;
 static pthread_cond_t never = PTHREAD_COND_INITIALIZER;
-static char page[256], spare[64];
+static char page[256], spare[64], early[8];
 static int object, file;
 
 /* The call is expected to answer so. */
@@ -46,13 +46,17 @@ static void begin(void)
     MUST(io_uring_queue_init(8, &ring, 0), 0);
     MUST(io_uring_queue_init(8, &other, 0), 0);
     file = 1000000; /* there is none */
-    RINGCHECK_RING_SIDES(&ring, &submitting, NULL);
+    RINGCHECK_BUFFER(early, 4, "early");
+    RINGCHECK_BUFFER(early + 4, 4, "early");
+    RINGCHECK_RING_SIDES(&ring, &submitting, NULL); /*: buffer early 4 */
     RINGCHECK_THREAD("a_thread");
-    RINGCHECK_FILE(file, 3);
-    RINGCHECK_BUFFER(page, 16, "first");
-    RINGCHECK_BUFFER(page + 8, 16, "second");
-    RINGCHECK_BUFFER(page, sizeof page, "page");
-    RINGCHECK_TOKEN(&object, 7);
+    RINGCHECK_FILE(file, 3); /*: file 3 */
+    RINGCHECK_BUFFER(page, 16, "first"); /*: buffer first 16 */
+    RINGCHECK_BUFFER(page + 8, 16, "second"); /*: buffer second 16 */
+    RINGCHECK_BUFFER(page, sizeof page, "page"); /*: buffer page 256 */
+    RINGCHECK_BUFFER(early, sizeof early, "early");
+    RINGCHECK_TOKEN(&object, 7); /*: token 7 */
+    RINGCHECK_TOKEN(&file, 7);
     RINGCHECK_READS(page + 255); /*: reads page */
     RINGCHECK_WRITES(page); /*: writes page */
     RINGCHECK_PUT("free"); /*: put free */
@@ -377,6 +381,18 @@ static void use_many_rings(void)
         io_uring_queue_exit(&rings[i]);
 }
 
+/* All count as seen, though none is given back: no line. */
+static void exit_seen(void)
+{
+    struct io_uring_cqe *cqe;
+    unsigned head;
+
+    submit_nops(20, 2); /*: get_sqe 1 */ /*: prep_nop */ /*: set_data64 20 */ /*: get_sqe 1 */ /*: prep_nop */ /*: set_data64 20 */ /*: submit 2 */
+    io_uring_for_each_cqe(&ring, head, cqe) /*: peek_cqe 20 0 */ /*: cqe_seen 20 */ /*: peek_cqe 20 0 */ /*: cqe_seen 20 */
+        ;
+    say_again();
+}
+
 static void exit_early(void)
 {
     submit_nops(20, 1); /*: get_sqe 1 */ /*: prep_nop */ /*: set_data64 20 */ /*: submit 1 */
@@ -399,6 +415,7 @@ int main(void)
     pass_twice();
     leave_loop();
     use_many_rings();
+    exit_seen();
     exit_early();
     RINGCHECK_ENDS(); /*: ends */
     return 0;

@@ -13,7 +13,6 @@
  *   -DRINGCHECK_LOG      calls and marks go to the file that the environment's RINGCHECK_LOG_FILE names (%p in it is the
  *                        process's number), so that `ringcheck follow` can hold the program to its model; without that
  *                        name nothing is logged. RINGCHECK_LOG_SIZE is the most bytes that the log may have (64 MiB).
- *                        With RINGCHECK_LOG_HEAD=1 it also says what buffers, files and tokens the program has.
  *
  * Without any it adds no instruction. docs/sanitize.md says how poison and faults are used, docs/follow.md the log.
  */
@@ -144,6 +143,8 @@ struct ringcheck_meaning {
 struct ringcheck_table {
     struct ringcheck_meaning *rows;
     size_t count, room;
+    struct ringcheck_meaning *declared; /* of each name or number the one that is logged */
+    size_t declared_count, declared_room;
 };
 
 /* A piece of memory that a queued or pending request names. */
@@ -187,7 +188,6 @@ struct ringcheck_state {
     size_t grown;                 /* bytes that the log's file has */
     size_t end;                   /* of a log that got full; else 0 */
     int is_full;                  /* it can't grow any more */
-    int has_head;                 /* what the program says once is logged */
     int is_told;                  /* that a ring isn't logged is printed */
     int descriptor;
     const struct io_uring *ring; /* the one that is logged */
@@ -457,22 +457,31 @@ RINGCHECK_INSIDE struct ringcheck_meaning ringcheck_meaning_of(const struct ring
     return found;
 }
 
-/* What the program says of itself is logged, where that is wanted: each name or number once. */
-RINGCHECK_INSIDE int ringcheck_is_said(const struct ringcheck_table *table, uint64_t number, const char *name)
+/* Whether the log has this name or number. From now on it has. */
+RINGCHECK_INSIDE int ringcheck_is_declared(struct ringcheck_table *table, const struct ringcheck_meaning *row)
 {
-    size_t i;
-    int is_said = 0;
+    size_t i = 0;
+    int is_there;
 
     ringcheck_enter();
-    for (i = 0; i < table->count && !is_said; i++)
-        is_said = table->rows[i].number == number && strcmp(table->rows[i].name, name) == 0;
+    while (i < table->declared_count &&
+           (table->declared[i].number != row->number || strcmp(table->declared[i].name, row->name) != 0))
+        i++;
+    is_there = i < table->declared_count;
+    if (!is_there) {
+        table->declared = (struct ringcheck_meaning *)ringcheck_grown(table->declared, i, &table->declared_room, sizeof *row);
+        table->declared[table->declared_count++] = *row;
+    }
     ringcheck_leave();
-    return is_said;
+    return is_there;
 }
 
-RINGCHECK_INSIDE void ringcheck_say_line(const struct ringcheck_meaning *row, const char *what, const char *file,
-                                         int line)
+/* What the program says that it has is logged: each name or number once. */
+RINGCHECK_INSIDE void ringcheck_declare(struct ringcheck_table *table, const struct ringcheck_meaning *row,
+                                        const char *what, const char *file, int line)
 {
+    if (ringcheck_is_declared(table, row))
+        return;
     if (row->name[0] != '\0')
         ringcheck_line(file, line, "buffer %s %llu", row->name, (unsigned long long)(row->last - row->first + 1));
     else
@@ -482,25 +491,22 @@ RINGCHECK_INSIDE void ringcheck_say_line(const struct ringcheck_meaning *row, co
 RINGCHECK_INSIDE void ringcheck_say(struct ringcheck_table *table, const char *what, uint64_t first, uint64_t size,
                                     uint64_t number, const char *name, const char *file, int line)
 {
-    const int is_new = ringcheck_state.map != NULL && ringcheck_state.has_head && size > 0 &&
-                       !ringcheck_is_said(table, number, name);
-
     ringcheck_mean(table, first, size, number, name);
-    if (is_new) {
+    if (ringcheck_state.map != NULL && size > 0) {
         const struct ringcheck_meaning row = ringcheck_meaning_of(table, first);
 
-        ringcheck_say_line(&row, what, file, line);
+        ringcheck_declare(table, &row, what, file, line);
     }
 }
 
 /* What was said before the log was opened. */
-RINGCHECK_INSIDE void ringcheck_say_all(const struct ringcheck_table *table, const char *what, const char *file,
-                                        int line)
+RINGCHECK_INSIDE void ringcheck_declare_all(struct ringcheck_table *table, const char *what, const char *file, int line)
 {
     size_t i;
 
+    table->declared_count = 0;
     for (i = 0; i < table->count; i++)
-        ringcheck_say_line(&table->rows[i], what, file, line);
+        ringcheck_declare(table, &table->rows[i], what, file, line);
 }
 
 /* The buffer that has these bytes: `?` if nobody said so of the first, `!` if they go past the buffer's end. */
@@ -536,7 +542,7 @@ RINGCHECK_INSIDE unsigned long long ringcheck_token_of(uint64_t data)
 /* Opens the log. */
 RINGCHECK_INSIDE void ringcheck_open_log(const char *form, const struct io_uring *ring)
 {
-    const char *size = getenv("RINGCHECK_LOG_SIZE"), *head = getenv("RINGCHECK_LOG_HEAD"), *number = strstr(form, "%p");
+    const char *size = getenv("RINGCHECK_LOG_SIZE"), *number = strstr(form, "%p");
     char path[4096];
     void *map;
     int error;
@@ -565,7 +571,6 @@ RINGCHECK_INSIDE void ringcheck_open_log(const char *form, const struct io_uring
     ringcheck_state.at = (size_t)snprintf((char *)map, 64, "ringcheck log 1\nring %u %u\n", *ring->sq.kring_entries,
                                           *ring->cq.kring_entries);
     ringcheck_state.map = (char *)map;
-    ringcheck_state.has_head = head != NULL && strcmp(head, "1") == 0;
     atexit(ringcheck_end);
     pthread_atfork(NULL, NULL, ringcheck_forked);
 }
@@ -611,10 +616,10 @@ RINGCHECK_INSIDE void ringcheck_log_ring(const struct io_uring *ring, int has_si
     ringcheck_state.mutexes[RINGCHECK_SQ] = submitting;
     ringcheck_state.mutexes[RINGCHECK_CQ] = reaping;
     __atomic_store_n(&ringcheck_state.ring, ring, __ATOMIC_RELAXED);
-    if (is_first && ringcheck_state.has_head) {
-        ringcheck_say_all(&ringcheck_state.files, "file", file, line);
-        ringcheck_say_all(&ringcheck_state.buffers, "buffer", file, line);
-        ringcheck_say_all(&ringcheck_state.tokens, "token", file, line);
+    if (is_first) {
+        ringcheck_declare_all(&ringcheck_state.files, "file", file, line);
+        ringcheck_declare_all(&ringcheck_state.buffers, "buffer", file, line);
+        ringcheck_declare_all(&ringcheck_state.tokens, "token", file, line);
     }
 }
 
@@ -1672,10 +1677,12 @@ RINGCHECK_INSIDE struct io_uring *ringcheck_forget(struct io_uring *ring)
     return ring;
 }
 
-/* The requests that the kernel took and whose completions weren't given back to it. */
+/* The requests that the kernel took and whose completions don't count as seen. */
 RINGCHECK_INSIDE unsigned ringcheck_count_out(const struct io_uring *ring)
 {
-    const int out = (int)(*ring->sq.khead - *ring->cq.khead);
+    const struct ringcheck_ring *known = ringcheck_known(ring);
+    const unsigned seen_to = known->is_ahead ? known->seen_to : *ring->cq.khead + (known->is_spared != 0);
+    const int out = (int)(*ring->sq.khead - seen_to);
 
     return out > 0 ? (unsigned)out : 0;
 }

@@ -46,7 +46,7 @@ static void die(const char *what, int error)
 
 static void free_frame(struct cache *cache, struct frame *frame)
 {
-    RINGCHECK_PUT("free");
+    RINGCHECK_PUT("free", frame->bytes);
     frame->state = FREE;
     pthread_cond_signal(&cache->freed);
 }
@@ -65,7 +65,7 @@ static void reap_one(struct cache *cache)
     result = cqe->res;
     io_uring_cqe_seen(&cache->ring, cqe);
     cache->in_flight--;
-    RINGCHECK_PUT("loaded");
+    RINGCHECK_PUT("loaded", frame->bytes);
     frame->result = result;
     frame->state = LOADED;
 }
@@ -94,7 +94,7 @@ static struct frame *take_frame(struct cache *cache)
             reap_one(cache);
         else
             pthread_cond_wait(&cache->freed, &cache->mutex);
-    RINGCHECK_TAKE("free");
+    RINGCHECK_TAKE("free", frame->bytes);
     frame->state = LOADING;
     return frame;
 }
@@ -120,7 +120,7 @@ static void wait_for(struct cache *cache, struct frame *frame)
 {
     while (frame->state != LOADED)
         reap_one(cache);
-    RINGCHECK_TAKE("loaded");
+    RINGCHECK_TAKE("loaded", frame->bytes);
 }
 
 /* Has a page read. */

@@ -6,11 +6,12 @@ use Rattle.serde_json.specs.Written.{compact_text}
 use Rattle.rc_report.specs.Printed.{joined}
 use Rattle.rc_report.specs.Shown.{shown}
 use Rattle.rc_command.specs.declared.departures.ending.Ending.{Ending}
-use Rattle.rc_command.specs.declared.departures.ending.Ending.TheVariants.{Followed, Departs, Unreadable, TooMany}
+use Rattle.rc_command.specs.declared.departures.ending.Ending.TheVariants.{Followed, Full, Departs, Unreadable, TooMany}
 
 -- Only what is followed has the status 0.
 abbrev pub status_of : Ending → ℕ
 status_of (Followed calls) = 0
+status_of (Full calls) = 3
 status_of (Departs number place says why) = 1
 status_of (Unreadable number why) = 2
 status_of (TooMany number) = 3
@@ -19,6 +20,7 @@ status_of (TooMany number) = 3
 
 abbrev pub after_name : Ending → List ℕ
 after_name (Followed calls) = codes ": followed " ++ decimal calls ++ codes " calls\n"
+after_name (Full calls) = codes ": followed " ++ decimal calls ++ codes " calls, then the log was full\n"
 after_name (Departs number place says why) =
     joined (codes ":" ∷ decimal number ∷ codes ": " ∷ place.items ∷ codes ": " ∷ says.items ∷ codes "; " ∷ why.items ∷ codes "\n" ∷ [])
 after_name (Unreadable number why) = joined (codes ": log line " ∷ decimal number ∷ codes " unreadable: " ∷ why.items ∷ codes "\n" ∷ [])
@@ -32,6 +34,8 @@ ending_text log ending = shown log ++ after_name ending
 abbrev pub ending_object : List ℕ → Ending → Data
 ending_object log (Followed calls) =
     object (member (codes "answer") (string (codes "followed")) (member (codes "calls") (json_number (unsigned calls)) (member (codes "log") (string log) no_members)))
+ending_object log (Full calls) =
+    object (member (codes "answer") (string (codes "full")) (member (codes "calls") (json_number (unsigned calls)) (member (codes "log") (string log) no_members)))
 ending_object log (Departs number place says why) =
     object (member (codes "answer") (string (codes "departs")) (member (codes "at") (string (utf8_lossy place.items)) (member (codes "line") (json_number (unsigned number))
     (member (codes "log") (string log) (member (codes "says") (string (utf8_lossy says.items)) (member (codes "why") (string (utf8_lossy why.items)) no_members))))))

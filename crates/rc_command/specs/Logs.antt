@@ -1,21 +1,26 @@
 -- Logs that are followed in a program.
-use Rattle.std.specs.Prelude.{ℕ, ◌≡◌, ◌≤◌, ◌⊎◌, ◌++◌, Bool, true, List, [], ◌∷◌, Option, Some, None, Result, Ok, Err}
+use Rattle.std.specs.Prelude.{ℕ, ◌≡◌, ◌≤◌, ◌⊎◌, ◌++◌, Bool, true, false, List, [], ◌∷◌, Option, Some, None, Result, Ok, Err}
 use Rattle.rc_lang.specs.Program.{Program}
 use Rattle.rc_log.specs.declared.call.Said.{Said}
 use Rattle.rc_log.specs.Heads.{is_head, ring}
-use Rattle.rc_log.specs.Lines.{log_lines}
+use Rattle.rc_log.specs.Lines.{is_full, log_lines}
 use Rattle.rc_log.specs.Said.{said}
+use Rattle.rc_log.specs.Things.{Thing, declared, lack_of}
 use Rattle.rc_follow.specs.Followed.{IsFollowed}
 use Rattle.rc_follow.specs.Follower.{Follower, Follows, with_ways}
 use Rattle.rc_command.specs.declared.departures.ending.Ending.{Ending}
-use Rattle.rc_command.specs.declared.departures.ending.Ending.TheVariants.{Followed}
+use Rattle.rc_command.specs.declared.departures.ending.Ending.TheVariants.{Followed, Full}
 
--- What lines say, one after another.
+-- The line declares something that the program has.
+abbrev pub Declares : Program → List ℕ → Type 0
+Declares p line = (t : Thing) × (declared line ≡ Ok t) × (lack_of p t ≡ None)
+
+-- What lines say, one after another, but for those that declare something.
 abbrev pub Say : Program → List (List ℕ) → List Said → Type 0
 Say p [] [] = Unit {0}
 Say p [] (s ∷ ss) = ⊥
-Say p (line ∷ lines) [] = ⊥
-Say p (line ∷ lines) (s ∷ ss) = (said p line ≡ Ok s) × Say p lines ss
+Say p (line ∷ lines) [] = Declares p line × Say p lines []
+Say p (line ∷ lines) (s ∷ ss) = ((said p line ≡ Ok s) × Say p lines ss) ⊎ (Declares p line × Say p lines (s ∷ ss))
 
 -- Rings with so many entries have room for those of the program.
 abbrev pub HasRoom : Program → Option (ℕ × ℕ) → Type 0
@@ -32,14 +37,17 @@ IsLog p (head ∷ rings ∷ lines) ss = (is_head head ≡ true) × HasRoom p (ri
 abbrev pub IsFollowedLog : Program → List ℕ → Type 0
 IsFollowedLog p bytes = (ss : List Said) × IsLog p (log_lines bytes) ss × IsFollowed p ss
 
--- If the answer is `Followed`, the log is followed. Nothing is said where its bytes aren't known.
+-- If the answer is `Followed` or `Full`, the log is followed, and it wasn't full or was. Nothing is said where its bytes
+-- aren't known.
 abbrev pub Ends : Program → Option (List ℕ) → Ending → Type 0
-Ends p (Some bytes) (Followed calls) = IsFollowedLog p bytes
+Ends p (Some bytes) (Followed calls) = IsFollowedLog p bytes × (is_full bytes ≡ false)
+Ends p (Some bytes) (Full calls) = IsFollowedLog p bytes × (is_full bytes ≡ true)
 Ends p _ _ = Unit {0}
 
 -- It isn't said that it is followed.
 abbrev pub IsOther : Ending → Type 0
 IsOther (Followed calls) = ⊥
+IsOther (Full calls) = ⊥
 IsOther _ = Unit {0}
 
 -- ---- what was reached
@@ -52,6 +60,7 @@ IsBegun p lines ss =
 -- These lines were followed: all of a log that is followed, and of another those before the one at which it ends.
 abbrev pub AreFollowed : Program → Option (List ℕ) → Ending → List Said → Type 0
 AreFollowed p (Some bytes) (Followed calls) ss = IsLog p (log_lines bytes) ss
+AreFollowed p (Some bytes) (Full calls) ss = IsLog p (log_lines bytes) ss
 AreFollowed p (Some bytes) _ ss = IsBegun p (log_lines bytes) ss
 AreFollowed p None ending ss = Unit {0}
 
@@ -70,14 +79,15 @@ Reaches old bytes new ending = (f : Follower) × Stops old bytes f ending × (ne
 -- The first two lines were read, and these bytes are left.
 abbrev pub IsHeaded : Program → List ℕ → List ℕ → Type 0
 IsHeaded p bytes left =
-    (head rings : List ℕ) × (log_lines bytes ≡ head ∷ rings ∷ log_lines left) × (is_head head ≡ true) × HasRoom p (ring rings)
+    (head rings : List ℕ) × (log_lines bytes ≡ head ∷ rings ∷ log_lines left) × (is_full bytes ≡ is_full left)
+    × (is_head head ≡ true) × HasRoom p (ring rings)
 
 -- Lines were read after them, and they are followed.
 abbrev pub IsUnder : Program → List ℕ → List ℕ → Follower → Type 0
 IsUnder p bytes left f =
     (head rings : List ℕ) × (lines : List (List ℕ)) × (ss : List Said)
-    × (log_lines bytes ≡ head ∷ rings ∷ (lines ++ log_lines left)) × (is_head head ≡ true) × HasRoom p (ring rings)
-    × Say p lines ss × Follows ss f × (f.program ≡ p)
+    × (log_lines bytes ≡ head ∷ rings ∷ (lines ++ log_lines left)) × (is_full bytes ≡ is_full left)
+    × (is_head head ≡ true) × HasRoom p (ring rings) × Say p lines ss × Follows ss f × (f.program ≡ p)
 
 -- The same of bytes that may be unknown.
 abbrev pub Knows : (List ℕ → List ℕ → Type 0) → Option (List ℕ) → Option (List ℕ) → Type 0
@@ -92,17 +102,26 @@ IsRoomy p line (Some ending) = IsOther ending
 
 -- The next line was read, and tells of such rings.
 abbrev pub IsRinged : Program → List ℕ → List ℕ → Type 0
-IsRinged p old new = (rings : List ℕ) × (log_lines old ≡ rings ∷ log_lines new) × HasRoom p (ring rings)
+IsRinged p old new = (rings : List ℕ) × (log_lines old ≡ rings ∷ log_lines new) × (is_full old ≡ is_full new) × HasRoom p (ring rings)
 
 abbrev pub Ringed : Program → Option (List ℕ) → Option (List ℕ) → Option Ending → Type 0
 Ringed p old new None = Knows (IsRinged p) old new
 Ringed p old new (Some ending) = IsOther ending
 
--- The line was followed after those before it, or it is said why not.
-abbrev pub FollowsLine : Follower → List ℕ → Follower → Option Ending → Type 0
-FollowsLine old line new None =
+-- The line declares something that the program has, or it is said that it doesn't.
+abbrev pub IsDeclared : Program → List ℕ → Option Ending → Type 0
+IsDeclared p line None = Declares p line
+IsDeclared p line (Some ending) = IsOther ending
+
+-- What the line says was followed after the lines before it.
+abbrev pub FollowsSaid : Follower → List ℕ → Follower → Type 0
+FollowsSaid old line new =
     (s : Said) × (said old.program line ≡ Ok s) × (new.program ≡ old.program) × (new.reached ≡ old.reached)
     × ((ss : List Said) → Follows ss old → Follows (ss ++ s ∷ []) new)
+
+-- The line was followed, or declares something that the program has, or it is said why not.
+abbrev pub FollowsLine : Follower → List ℕ → Follower → Option Ending → Type 0
+FollowsLine old line new None = FollowsSaid old line new ⊎ (Declares old.program line × (new ≡ old))
 FollowsLine old line new (Some ending) = IsOther ending × (new ≡ old)
 
 abbrev pub Headed : Program → Option (List ℕ) → Option (List ℕ) → Option Ending → Type 0

@@ -1,9 +1,10 @@
 -- A line that goes on is followed, and what is followed is a weak run.
-use Rattle.std.proofs.Common.{◌≡◌, ◌<◌, Bool, length, arith, List, [], ◌∷◌, ◌++◌, get_or, refl, sym, ap, subst, ◌∙◌, inl, inr, ℕ, Some}
+use Rattle.std.proofs.Common.{◌≡◌, ◌<◌, Bool, length, arith, List, [], ◌∷◌, ◌++◌, get_or, refl, sym, ap, subst, ◌∙◌, inl, inr, ℕ, Option, Some, None}
 use Rattle.std.specs.Prelude.{All}
 use Rattle.std.proofs.lemmas.List.Elements.{All-cons, All-contains, All-get_or, All-nil, All-same, All-weaker}
 use Rattle.rc_lang.specs.Program.{Program}
 use Rattle.rc_log.specs.declared.call.Call.{Call}
+use Rattle.rc_log.specs.declared.call.Call.TheVariants.{Exit}
 use Rattle.rc_log.specs.declared.call.Said.{Said}
 use Rattle.rc_world.specs.declared.event.Event.{Event}
 use Rattle.rc_world.specs.Machine.{World, start_world}
@@ -11,7 +12,7 @@ use Rattle.rc_world.specs.WeakRuns.{IsWeakRun}
 use Rattle.rc_follow.specs.Answers.{Answers, FollowsMore}
 use Rattle.rc_follow.specs.declared.follower.Answer.{Answer}
 use Rattle.rc_follow.specs.declared.follower.Answer.TheVariants as answer
-use Rattle.rc_follow.specs.Followed.{Goes, IsFollowed, Noted, Says, noted_line, start_noted}
+use Rattle.rc_follow.specs.Followed.{Goes, IsBy, IsFollowed, Noted, Says, noted_line, start_noted}
 use Rattle.rc_follow.specs.Follower.{ComesBy, Follower, Follows, GoesOn, noted_lines, reached_below, with_ways}
 use Rattle.rc_follow.specs.Laws.{FollowedIsRun}
 use Rattle.rc_follow.specs.Ways.{GoesOver, Leads, Makes, Way, start_way}
@@ -28,7 +29,7 @@ goes_on P n w v u [] g h = leads_both n w v u g h
 goes_on P n w v u (l ∷ ls) g h = (g.0, g.1, g.2, g.3, g.4, g.5, goes_on P (noted_line P n l) g.4 v u ls g.6 h)
 
 -- one more line
-goes_line : (P : Program) (n : Noted) (w v u : Way) (ls : List Said) (l : Said) (i : ℕ) → GoesOver P n w ls v → l.thread ≡ Some i → Makes P (noted_lines P n ls) v i l.call u → GoesOver P n w (ls ++ l ∷ []) u
+goes_line : (P : Program) (n : Noted) (w v u : Way) (ls : List Said) (l : Said) (i : ℕ) → GoesOver P n w ls v → IsBy l i → Makes P (noted_lines P n ls) v i l.call u → GoesOver P n w (ls ++ l ∷ []) u
 goes_line P n w v u [] l i g t s = (v, g, i, t, u, s, leads_none (noted_line P n l) u)
 goes_line P n w v u (m ∷ ls) l i g t s = (g.0, g.1, g.2, g.3, g.4, g.5, goes_line P (noted_line P n m) g.4 v u ls l i g.6 t s)
 
@@ -63,6 +64,17 @@ follows_on ls l old new f g = record {
 pub follows_more : (ls : List Said) (l : Said) (old new : Follower) (a : Answer) → Follows ls old → Answers old l new a → FollowsMore ls l new a
 follows_more ls l old new answer.Followed f g = follows_on ls l old new f g
 follows_more ls l old new _ f g = tt
+
+-- whichever thread a ring is gone by
+anybody : (old new : Follower) (t : Option ℕ) (i k : ℕ) (a : Answer) → Answers old (record { thread = Some i; call = Exit k }) new a → Answers old (record { thread = t; call = Exit k }) new a
+anybody old new None i k answer.Followed h = (h.0, inr refl, h.2, h.3, h.4, h.5, h.6)
+anybody old new (Some j) i k answer.Followed h = (h.0, inr refl, h.2, h.3, h.4, h.5, h.6)
+anybody old new t i k _ h = h
+
+pub by_anybody : (old new : Follower) (l : Said) (i k : ℕ) (a : Answer) → l.call ≡ Exit k → Answers old (record { thread = Some i; call = Exit k }) new a → Answers old l new a
+by_anybody old new l i k a e h =
+    let line : Call → Said = λ c. record { thread = l.thread; call = c } in
+    subst (λ (x : Said). Answers old x new a) (ap line (sym e)) (anybody old new l.thread i k a h)
 
 pub answers_same : (old old2 : Follower) (l l2 : Said) (new : Follower) (a : Answer) → old2 ≡ old → l2 ≡ l → Answers old2 l2 new a → Answers old l new a
 answers_same old old2 l l2 new a e f h = subst (λ (x : Follower). Answers x l new a) e (subst (λ (x : Said). Answers old2 x new a) f h)

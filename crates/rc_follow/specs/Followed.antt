@@ -1,5 +1,6 @@
 -- When a log is followed: a weak run of the program makes each line of it, with nothing but hidden steps in between.
-use Rattle.std.specs.Prelude.{ℕ, ◌≡◌, ◌⊎◌, ◌-◌, Bool, true, false, ◌&&◌, ◌||◌, not, if◌then◌else◌, min, List, [], ◌∷◌, length, position, replicate, Option, Some, None, nat_eq, slice_get, slice_index_or, slice_set, ℤ, pos, negsuc}
+use Rattle.std.specs.Prelude.{ℕ, ◌≡◌, ◌⊎◌, ◌+◌, ◌-◌, Bool, true, false, ◌&&◌, ◌||◌, not, if◌then◌else◌, min, List, [], ◌∷◌, length, position, replicate, Option, Some, None, nat_eq, slice_get, slice_index_or, slice_set, ℤ, pos, negsuc}
+use Rattle.std.specs.List.{list_any}
 use Rattle.std.specs.Ordering.{int_eq}
 use Rattle.rc_lang.specs.declared.lines.Line.{Line}
 use Rattle.rc_lang.specs.declared.lines.Locks.{Locks}
@@ -7,10 +8,11 @@ use Rattle.rc_lang.specs.declared.lines.Op.TheVariants as op
 use Rattle.rc_lang.specs.declared.lines.Stmt.{Stmt}
 use Rattle.rc_lang.specs.declared.lines.Stmt.TheVariants as stmt
 use Rattle.rc_lang.specs.declared.lines.Test.TheVariants as test
+use Rattle.rc_lang.specs.declared.program.Share.{Share}
 use Rattle.rc_lang.specs.declared.request.Request.{Request}
-use Rattle.rc_lang.specs.Program.{Program, shares_at, token_place}
+use Rattle.rc_lang.specs.Program.{Items, Program, items_at, lists_of, shares_at, token_place}
 use Rattle.rc_log.specs.declared.call.Call.{Call}
-use Rattle.rc_log.specs.declared.call.Call.TheVariants.{GetSqe, PrepRead, PrepWrite, PrepFsync, PrepNop, SetData64, Submit, Peek, PeekNone, CqeSeen, SqReady, SqSpaceLeft, Lock, Unlock, Reads, Writes, Put, Take, Ends}
+use Rattle.rc_log.specs.declared.call.Call.TheVariants.{GetSqe, PrepRead, PrepWrite, PrepFsync, PrepNop, SetData64, Submit, Peek, PeekNone, CqeSeen, SqReady, SqSpaceLeft, Exit, Lock, Unlock, Reads, Writes, Put, Take, Ends}
 use Rattle.rc_log.specs.declared.call.Said.{Said}
 use Rattle.rc_world.specs.declared.controls.Holders.{Holders}
 use Rattle.rc_world.specs.declared.event.Action.{Action}
@@ -182,14 +184,14 @@ fits_action n w (SetData64 u) s (action.DataSet v) = nat_eq u v
 fits_action n w (Submit r) s (action.Submitted v) = int_eq r v
 fits_action n w (Peek u r) s (action.Peeked c) = same_completion (scaled_peek n w u r) c
 fits_action n w (CqeSeen u) s (action.Reaped v) = nat_eq u v
-fits_action n w (Put pool) s action.ItemsPut = is_put_into pool s
-fits_action n w (Take pool) s (action.Branched true) = is_take_from pool s
+fits_action n w (Put mark) s action.ItemsPut = is_put_into mark.pool s
+fits_action n w (Take mark) s (action.Branched true) = is_take_from mark.pool s
 fits_action n w _ s _ = false
 
 -- A call on the ring comes after a mutex was locked; marks of puts and takes are no calls.
 abbrev pub may_come : Noted → Call → Bool
-may_come n (Put pool) = true
-may_come n (Take pool) = true
+may_come n (Put mark) = true
+may_come n (Take mark) = true
 may_come n _ = not n.alone
 
 abbrev pub fits_event : Noted → World → ℕ → Call → Stmt → Event → Bool
@@ -200,9 +202,26 @@ abbrev pub fits : Noted → World → ℕ → Call → Option Line → Event →
 fits n w i call None e = false
 fits n w i call (Some l) e = fits_event n w i call l.stmt e
 
+-- Of the buffer that a mark of a pool names, if it names one, a share is among these items.
+abbrev pub has_named : Option ℕ → Items → Bool
+has_named None items = true
+has_named (Some b) items = list_any (λ (s : Share). nat_eq s.buffer b) items.shares
+
+-- It is among those that the thread's statement puts or takes.
+abbrev pub moves_named : Program → ℕ → Call → Stmt → Bool
+moves_named P i (Put mark) (stmt.Put pool k) = has_named mark.buffer (items_at (lists_of P i) k)
+moves_named P i (Take mark) (stmt.If (test.Take pool k)) = has_named mark.buffer (items_at (lists_of P i) k)
+moves_named P i _ s = true
+
+abbrev pub names_right : Program → ℕ → Call → Option Line → Bool
+names_right P i call None = true
+names_right P i call (Some l) = moves_named P i call l.stmt
+
 -- A step of the thread is the call.
 abbrev pub Calls : Noted → World → ℕ → Call → World → Type 0
-Calls n w i call after = (e : Event) × IsWeakStep w e after × (fits n w i call (next_line w.program w.controls i) e ≡ true)
+Calls n w i call after =
+    (e : Event) × IsWeakStep w e after × (fits n w i call (next_line w.program w.controls i) e ≡ true)
+    × (names_right w.program i call (next_line w.program w.controls i) ≡ true)
 
 -- ---- lines that change nothing in the world
 
@@ -216,10 +235,15 @@ cq_alone = record { sq = false; cq = true }
 abbrev pub holds_none : World → ℕ → Locks → Bool
 holds_none w i released = not (released.sq && is_holder w.controls.holders.sq i) && not (released.cq && is_holder w.controls.holders.cq i)
 
+-- how many requests submits took that aren't reaped
+abbrev pub requests_out : World → ℕ
+requests_out w = length w.pending + length w.completed
+
 abbrev pub Asks : Program → Noted → World → ℕ → Call → Type 0
 Asks P n w i PeekNone = (has_mutexes n i cq_alone ≡ true)
 Asks P n w i (SqReady k) = (has_mutexes n i sq_alone ≡ true) × (used_entries w ≡ k)
 Asks P n w i SqSpaceLeft = (has_mutexes n i sq_alone ≡ true)
+Asks P n w i (Exit k) = requests_out w ≡ k
 Asks P n w i (Submit r) = (has_mutexes n i sq_alone ≡ true) × (r ≡ pos 0) × (w.queued ≡ [])
 Asks P n w i (Lock wanted) = (are_free wanted n.mutexes ≡ true)
 Asks P n w i (Unlock released) = (has_mutexes n i released ≡ true) × (holds_none w i released ≡ true)
@@ -234,12 +258,20 @@ Asks P n w i _ = ⊥
 abbrev pub Says : Program → Noted → World → ℕ → Call → World → Type 0
 Says P n w i call after = Calls n w i call after ⊎ (Asks P n w i call × (w ≡ after))
 
+-- The line is this thread's. A ring may also be ended by a thread that the program hasn't.
+abbrev pub is_exit : Call → Bool
+is_exit (Exit k) = true
+is_exit _ = false
+
+abbrev pub IsBy : Said → ℕ → Type 0
+IsBy l i = (l.thread ≡ Some i) ⊎ (is_exit l.call ≡ true)
+
 -- The lines, one after another, with hidden steps before and after each.
 abbrev pub Goes : Program → Noted → World → List Said → World → Type 0
 Goes P n w [] after = (es : List Event) × Hides n w es after
 Goes P n w (l ∷ ls) after =
     (es : List Event) × (before : World) × Hides n w es before
-    × (i : ℕ) × (l.thread ≡ Some i) × (next : World) × Says P n before i l.call next
+    × (i : ℕ) × IsBy l i × (next : World) × Says P n before i l.call next
     × Goes P (noted_line P n l) next ls after
 
 -- Such lines are followed in the program.

@@ -1,12 +1,12 @@
 -- What a follower has after some lines of a log, and what one more line makes of it.
-use Rattle.std.specs.Prelude.{ℕ, zero, suc, ◌≡◌, ◌<◌, ◌++◌, length, Bool, true, false, if◌then◌else◌, All, Contains, List, [], ◌∷◌, Some, slice_index_or, slice_set}
+use Rattle.std.specs.Prelude.{ℕ, zero, suc, ◌≡◌, ◌<◌, ◌++◌, length, Bool, true, false, if◌then◌else◌, All, Contains, List, [], ◌∷◌, slice_index_or, slice_set}
 use Rattle.std.specs.List.{list_any}
 use Rattle.rc_lang.specs.Program.{Program}
 use Rattle.rc_log.specs.declared.call.Said.{Said}
 use Rattle.rc_log.specs.declared.call.Call.{Call}
 use Rattle.rc_world.specs.declared.event.Event.{Event}
 use Rattle.rc_world.specs.WeakRuns.{IsWeakStep}
-use Rattle.rc_follow.specs.Followed.{Noted, is_hidden, noted_line, start_noted}
+use Rattle.rc_follow.specs.Followed.{IsBy, Noted, is_hidden, noted_line, start_noted}
 use Rattle.rc_follow.specs.Ways.{GoesOver, Leads, Makes, Way, start_way}
 
 -- The program, what the lines say beside the world, ways on which they can have been made, and of each number of a line
@@ -40,7 +40,7 @@ ComesBy P n ws i call u = (w : Way) × Contains ws w × LeadsBy P n w i call u
 -- The line was followed: each way that is left comes from one of before by hidden steps and the line.
 abbrev pub GoesOn : Follower → Said → Follower → Type 0
 GoesOn old l new =
-    (i : ℕ) × (l.thread ≡ Some i) × (new.program ≡ old.program) × (new.noted ≡ noted_line old.program old.noted l)
+    (i : ℕ) × IsBy l i × (new.program ≡ old.program) × (new.noted ≡ noted_line old.program old.noted l)
     × All (ComesBy old.program old.noted old.ways i l.call) new.ways × (0 < length new.ways) × (new.reached ≡ old.reached)
 
 -- ---- after all lines so far

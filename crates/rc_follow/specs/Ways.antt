@@ -7,7 +7,7 @@ use Rattle.rc_log.specs.declared.call.Said.{Said}
 use Rattle.rc_world.specs.Controls.{next_line}
 use Rattle.rc_world.specs.declared.event.Event.{Event}
 use Rattle.rc_world.specs.Machine.{World, start_world}
-use Rattle.rc_follow.specs.Followed.{Asks, Calls, Hides, Noted, noted_line}
+use Rattle.rc_follow.specs.Followed.{Asks, Calls, Hides, IsBy, Noted, noted_line}
 
 -- Where a way is, and of each number of a line of the text whether a line of the log was its call on the way. Numbers
 -- behind the last weren't.
@@ -40,5 +40,5 @@ Makes P n w i call u =
 abbrev pub GoesOver : Program → Noted → Way → List Said → Way → Type 0
 GoesOver P n w [] after = Leads n w after
 GoesOver P n w (l ∷ ls) after =
-    (before : Way) × Leads n w before × (i : ℕ) × (l.thread ≡ Some i) × (next : Way) × Makes P n before i l.call next
+    (before : Way) × Leads n w before × (i : ℕ) × IsBy l i × (next : Way) × Makes P n before i l.call next
     × GoesOver P (noted_line P n l) next ls after

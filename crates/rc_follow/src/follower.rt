@@ -141,6 +141,17 @@ impl<'a> Follower<'a> {
         self.reached.get(number as usize).copied().unwrap_or(false)
     }
 
+    /// How many requests submits took that aren't reaped, on the first way that is left.
+    pub fn requests_out(&self) -> usize {
+        match self.worlds.first() {
+            Some(node) => {
+                let world = node.world();
+                world.pending_len().saturating_add(world.completed().len())
+            }
+            None => 0,
+        }
+    }
+
     /// The program.
     pub fn program(&self) -> &'a Program
         ensures { result.now ≡ self.now.program }
@@ -164,19 +175,36 @@ impl<'a> Follower<'a> {
     }
 
     /// Holds one more line to the program.
+    #[tactic(auto, using(crate::proofs::Followed::follows_more))]
     pub fn follow(&mut self, alloc: Global, said: Said) -> Result<Answer, AllocError>
         ensures program { self.new.program ≡ self.old.program }
         ensures answers { IfOk result (Answers self.old said self.new) }
         ensures follows { (lines : List SpecSaid) → Follows lines self.old → IfOk result (FollowsMore lines said self.new) }
     {
         let Some(thread) = said.thread else {
-            return Ok(Answer::Departs);
+            let stranger = self.follow_stranger(alloc, said)?;
+            return Ok(stranger);
         };
         if let Some(misuse) = self.misuse(thread, said.call) {
             return Ok(misuse);
         }
         let answer = self.follow_line(alloc, thread, said.call)?;
         Ok(answer)
+    }
+
+    // Holds a line of a thread to the program that hasn't it: it may end the ring.
+    #[tactic(auto, using(crate::proofs::Followed::by_anybody))]
+    fn follow_stranger(&mut self, alloc: Global, said: Said) -> Result<Answer, AllocError>
+        ensures program { self.new.program ≡ self.old.program }
+        ensures answers { IfOk result (Answers self.old said self.new) }
+    {
+        match said.call {
+            Call::Exit(count) => {
+                let answer = self.follow_line(alloc, 0, Call::Exit(count))?;
+                Ok(answer)
+            }
+            _ => Ok(Answer::Departs),
+        }
     }
 
     // A mutex that somebody has is locked, or one that the thread hasn't is unlocked.
@@ -214,6 +242,9 @@ impl<'a> Follower<'a> {
         if stay(ground, &mut self.rights)? {
             self.noted.note(self.rights.program(), thread, call);
             return Ok(Answer::Followed);
+        }
+        if let Call::Exit(_) = call {
+            return Ok(Answer::Departs);
         }
         if !search(ground, &mut self.rights, &mut self.found, &mut self.room)? {
             return Ok(Answer::TooMany);

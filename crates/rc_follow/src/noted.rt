@@ -239,8 +239,8 @@ impl Noted {
                 user_data == completion.user_data && wanted == i64::from(completion.res)
             }
             (Call::CqeSeen(wanted), Action::Reaped(given)) => wanted == given,
-            (Call::Put(pool), Action::ItemsPut) => is_put_into(pool, stmt),
-            (Call::Take(pool), Action::Branched(true)) => is_take_from(pool, stmt),
+            (Call::Put(mark), Action::ItemsPut) => is_put_into(mark.pool, stmt),
+            (Call::Take(mark), Action::Branched(true)) => is_take_from(mark.pool, stmt),
             _ => false,
         }
     }

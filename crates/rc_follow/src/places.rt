@@ -5,6 +5,7 @@ use crate::hidden::{Ground, Way, go, may_take, push_hidden, way_on};
 use crate::node::Node;
 use crate::reach::Calls;
 use crate::room::{Room, is_there};
+use crate::visible::moves_named;
 use rc_lang::lines::{Locks, Op, Stmt, Test};
 use rc_log::call::{Call, Lack, Said};
 use rc_world::event::Completion;
@@ -30,6 +31,8 @@ pub enum Departure {
     NoCqLock,
     /// The text has so many entries in use, and the line says another number.
     Used(usize),
+    /// So many requests of the text are out, and the line says another number.
+    Out(usize),
     /// The thread can be at these places, and at none of them it makes the call.
     Elsewhere(Places),
     /// There are more worlds to look at than are looked at.
@@ -95,6 +98,9 @@ pub fn why_departs(
     follower: &Follower<'_>,
     said: Said,
 ) -> Result<Departure, AllocError> {
+    if let Call::Exit(_) = said.call {
+        return Ok(Departure::Out(follower.requests_out()));
+    }
     let Some(thread) = said.thread else {
         return Ok(Departure::NoThread);
     };
@@ -341,7 +347,9 @@ fn needed(ground: Ground<'_, '_>, world: &World<'_>, stmt: Stmt) -> Need {
             Some(front) => Need::Front(front.user_data),
             None => Need::OtherCall,
         },
-        (Call::Take(pool), Stmt::If(Test::Take(Some(of), _))) if pool == of => Need::NotThere,
+        (Call::Take(mark), Stmt::If(Test::Take(Some(of), _)))
+            if mark.pool == of && moves_named(world.program(), ground.thread, ground.call, stmt) =>
+            Need::NotThere,
         _ => Need::OtherCall,
     }
 }

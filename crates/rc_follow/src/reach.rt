@@ -59,8 +59,8 @@ impl Calls {
             Call::Peek { .. } => PEEK,
             Call::CqeSeen(_) => CQE_SEEN,
             Call::Unlock(_) => RELEASE,
-            Call::Put(pool) => of_pool(FIRST_PUT, pool),
-            Call::Take(pool) => of_pool(FIRST_TAKE, pool),
+            Call::Put(mark) => of_pool(FIRST_PUT, mark.pool),
+            Call::Take(mark) => of_pool(FIRST_TAKE, mark.pool),
             Call::Ends => END,
             _ => ANYWHERE,
         };

@@ -1,7 +1,8 @@
 //! The steps and questions that a line of a log is.
 
-ghost use Rattle.std.specs.Prelude.{◌≡◌, IfOk, true};
-ghost use Rattle.rc_lang.specs.Program.{Program};
+ghost use Rattle.std.specs.Prelude.{◌≡◌, IfOk, nat_eq, true};
+ghost use Rattle.std.specs.List.{list_any};
+ghost use Rattle.rc_lang.specs.Program.{Program as SpecProgram, items_at, lists_of};
 ghost use Rattle.rc_follow.specs.Followed as spec;
 ghost use Rattle.rc_follow.specs.Follower.{IsHiddenStep};
 ghost use Rattle.rc_follow.specs.Ways.{Makes};
@@ -10,7 +11,8 @@ use crate::alike::pending_of;
 use crate::hidden::{Ground, has_items, hide, line_of};
 use crate::node::Node;
 use crate::noted::Noted;
-use rc_lang::lines::{Locks, Op, Stmt, Test};
+use rc_lang::lines::{Line, Locks, Op, Stmt, Test};
+use rc_lang::program::{Program, Share};
 use rc_log::call::Call;
 use rc_world::event::Item;
 use rc_world::world::World;
@@ -29,7 +31,7 @@ const CQ: Locks = Locks {
 /// Whether the line asks something that changes nothing in the world, and the answer is so. Marks of buffers are
 /// asked elsewhere.
 pub fn asks(noted: &Noted, node: &Node<'_>, thread: u32, call: Call) -> bool
-    ensures { result ≡ true → (P : Program) → spec.Asks P noted.now node.now.world thread call }
+    ensures { result ≡ true → (P : SpecProgram) → spec.Asks P noted.now node.now.world thread call }
 {
     let world = node.world();
     match call {
@@ -38,6 +40,7 @@ pub fn asks(noted: &Noted, node: &Node<'_>, thread: u32, call: Call) -> bool
             noted.has_mutexes(thread, SQ) && world.used_entries() == count as usize
         }
         Call::SqSpaceLeft => noted.has_mutexes(thread, SQ),
+        Call::Exit(count) => has_out(world, count as usize),
         Call::Submit(taken) => {
             noted.has_mutexes(thread, SQ) && taken == 0 && world.queued().is_empty()
         }
@@ -47,6 +50,16 @@ pub fn asks(noted: &Noted, node: &Node<'_>, thread: u32, call: Call) -> bool
         }
         Call::Ends => world.line(thread).is_none(),
         _ => false,
+    }
+}
+
+/// Whether so many requests are out: submits took them, and they aren't reaped.
+fn has_out(world: &World<'_>, count: usize) -> bool
+    ensures { result ≡ true → spec.requests_out world.now ≡ count }
+{
+    match count.checked_sub(world.pending_len()) {
+        Some(rest) => rest == world.completed().len(),
+        None => false,
     }
 }
 
@@ -63,7 +76,11 @@ pub fn holds_none(node: &Node<'_>, thread: u32, released: Locks) -> bool
 /// Whether the thread's next statement may be the call.
 pub fn may_be_next(ground: Ground<'_, '_>, world: &World<'_>) -> bool {
     match line_of(world, ground.thread) {
-        Some(line) => may_be(ground.call, line.stmt) && has_what_it_needs(ground, world, line.stmt),
+        Some(line) => {
+            may_be(ground.call, line.stmt)
+                && moves_named(world.program(), ground.thread, ground.call, line.stmt)
+                && has_what_it_needs(ground, world, line.stmt)
+        }
         None => false,
     }
 }
@@ -82,7 +99,7 @@ fn has_what_it_needs(ground: Ground<'_, '_>, world: &World<'_>, stmt: Stmt) -> b
 
 /// Makes a step of the thread, and answers whether it was made and is the call. Then its line is noted.
 pub fn make(ground: Ground<'_, '_>, node: &mut Node<'_>) -> Result<bool, AllocError>
-    ensures { IfOk result (λ is. is ≡ true → (P : Program) → Makes P ground.entry.noted.now node.old ground.entry.thread ground.entry.call node.new) }
+    ensures { IfOk result (λ is. is ≡ true → (P : SpecProgram) → Makes P ground.entry.noted.now node.old ground.entry.thread ground.entry.call node.new) }
 {
     let line = node.world().line(ground.thread);
     if calls(ground, node)? {
@@ -104,14 +121,62 @@ fn calls(ground: Ground<'_, '_>, node: &mut Node<'_>) -> Result<bool, AllocError
     };
     let line = node.world().line(ground.thread);
     let wanted = ground.noted.wanted(node.world(), ground.call);
+    let is_right = names_right(node.world().program(), ground.thread, ground.call, line);
     match node.step(&item)? {
-        Some(event) => Ok(
+        Some(event) if is_right => Ok(
             ground
                 .noted
                 .fits(wanted, ground.thread, ground.call, line, event),
         ),
-        None => Ok(false),
+        _ => Ok(false),
     }
+}
+
+/// Whether the thread's line moves the buffer that a mark of a pool names, if it names one.
+fn names_right(program: &Program, thread: u32, call: Call, line: Option<Line>) -> bool
+    ensures { result ≡ spec.names_right program.now thread call line }
+{
+    match line {
+        Some(line) => moves_named(program, thread, call, line.stmt),
+        None => true,
+    }
+}
+
+/// Whether the buffer that a mark of a pool names is among what this statement of the thread puts or takes.
+pub fn moves_named(program: &Program, thread: u32, call: Call, stmt: Stmt) -> bool
+    ensures { result ≡ spec.moves_named program.now thread call stmt }
+{
+    match (call, stmt) {
+        (Call::Put(mark), Stmt::Put(_, list)) => has_named(program, thread, list, mark.buffer),
+        (Call::Take(mark), Stmt::If(Test::Take(_, list))) => {
+            has_named(program, thread, list, mark.buffer)
+        }
+        _ => true,
+    }
+}
+
+/// Whether a share of the named buffer is among the thread's items of this number.
+fn has_named(program: &Program, thread: u32, list: usize, buffer: Option<usize>) -> bool
+    ensures { result ≡ spec.has_named buffer (items_at (lists_of program.now thread) list) }
+{
+    let Some(buffer) = buffer else {
+        return true;
+    };
+    match program.lists_of(thread as usize).get(list) {
+        Some(items) => has_share(&items.shares, buffer),
+        None => false,
+    }
+}
+
+fn has_share(shares: &[Share], buffer: usize) -> bool
+    ensures { result ≡ list_any (λ s. nat_eq s.buffer buffer) shares.now }
+{
+    for share in shares {
+        if share.buffer == buffer {
+            return true;
+        }
+    }
+    false
 }
 
 /// How many entries a submit takes, where the call is one.
@@ -138,8 +203,8 @@ fn may_be(call: Call, stmt: Stmt) -> bool {
         (Call::Submit(_), Stmt::Do(Op::Submit(_) | Op::SubmitAndWait(_, _))) => true,
         (Call::Peek { .. }, Stmt::Peek(_)) => true,
         (Call::CqeSeen(_), Stmt::Do(Op::CqeSeen)) => true,
-        (Call::Put(pool), Stmt::Put(Some(into), _)) => pool == into,
-        (Call::Take(pool), Stmt::If(Test::Take(Some(from), _))) => pool == from,
+        (Call::Put(mark), Stmt::Put(Some(into), _)) => mark.pool == into,
+        (Call::Take(mark), Stmt::If(Test::Take(Some(from), _))) => mark.pool == from,
         _ => false,
     }
 }

@@ -6,7 +6,7 @@ use Rattle.std.proofs.lemmas.List.{drop_more, get_or-take, get_or_default, lengt
 use Rattle.std.proofs.lemmas.Bool.{eqb-true, false_from_ne_true, or_cases}
 use Rattle.std.proofs.lemmas.List.Elements.{All-head, All-tail}
 use Rattle.rc_read.specs.Words.{before_line, cut}
-use Rattle.rc_log.specs.Lines.{before_nul, begun, log_lines}
+use Rattle.rc_log.specs.Lines.{EndsIn, GoesOn, before_nul, begun, log_lines, log_rest}
 
 -- Neither a line feed nor 0.
 abbrev pub goes_on : ℕ → Bool
@@ -23,6 +23,14 @@ before_line_none : (b : ℕ) (c : List (List ℕ) × List ℕ) → c.0 ≡ [] �
 before_line_none b ([], rest) e = refl
 before_line_none b (first ∷ others, rest) e = absurd cc
 
+before_line_rest : (b : ℕ) (c : List (List ℕ) × List ℕ) (line : List ℕ) (lines : List (List ℕ)) → c.0 ≡ line ∷ lines → (before_line b c).1 ≡ c.1
+before_line_rest b ([], rest) line lines e = absurd cc
+before_line_rest b (first ∷ others, rest) line lines e = refl
+
+before_line_last : (b : ℕ) (c : List (List ℕ) × List ℕ) → c.0 ≡ [] → (before_line b c).1 ≡ b ∷ c.1
+before_line_last b ([], rest) e = refl
+before_line_last b (first ∷ others, rest) e = absurd cc
+
 both_false : (x y : Bool) → (x || y) ≡ false → (x ≡ false) × (y ≡ false)
 both_false true y e = absurd cc
 both_false false y e = (refl, e)
@@ -33,31 +41,41 @@ nul_on b bytes e = ap (λ v. cond v [] (b ∷ before_nul bytes)) e
 cut_on : (b : ℕ) (bytes : List ℕ) → eqb b 10 ≡ false → cut (b ∷ bytes) ≡ before_line b (cut bytes)
 cut_on b bytes e = ap (λ v. cond v ([] ∷ (cut bytes).0, (cut bytes).1) (before_line b (cut bytes))) e
 
-one_more : (b : ℕ) (bytes : List ℕ) → goes_on b ≡ false → log_lines (b ∷ bytes) ≡ (before_line b (cut (before_nul bytes))).0
+one_more : (b : ℕ) (bytes : List ℕ) → goes_on b ≡ false → cut (before_nul (b ∷ bytes)) ≡ before_line b (cut (before_nul bytes))
 one_more b bytes e =
     let both = both_false (eqb b 10) (eqb b 0) e in
-    ap (λ v. (cut v).0) (nul_on b bytes both.1) ∙ ap (λ c. c.0) (cut_on b (before_nul bytes) both.0)
+    ap cut (nul_on b bytes both.1) ∙ cut_on b (before_nul bytes) both.0
 
-pub line_first : (line bytes : List ℕ) → IsClean line → log_lines (line ++ 10 ∷ bytes) ≡ line ∷ log_lines bytes
-line_first [] bytes h = refl
+-- a byte before what goes on, and before what ends
+line_more : (b : ℕ) (line bytes left : List ℕ) → goes_on b ≡ false → GoesOn bytes line left → GoesOn (b ∷ bytes) (b ∷ line) left
+line_more b line bytes left e g =
+    let one = one_more b bytes e in
+    let c = cut (before_nul bytes) in
+    (ap (λ v. v.0) one ∙ before_line_first b c line (log_lines left) g.0, ap (λ v. v.1) one ∙ before_line_rest b c line (log_lines left) g.0 ∙ g.1)
+
+end_more : (b : ℕ) (bytes rest : List ℕ) → goes_on b ≡ false → EndsIn bytes rest → EndsIn (b ∷ bytes) (b ∷ rest)
+end_more b bytes rest e g =
+    let one = one_more b bytes e in
+    let c = cut (before_nul bytes) in
+    (ap (λ v. v.0) one ∙ before_line_none b c g.0, ap (λ v. v.1) one ∙ before_line_last b c g.0 ∙ ap (λ v. b ∷ v) g.1)
+
+pub line_first : (line bytes : List ℕ) → IsClean line → GoesOn (line ++ 10 ∷ bytes) line bytes
+line_first [] bytes h = (refl, refl)
 line_first (b ∷ line) bytes h =
     let e = All-head (λ b. goes_on b ≡ false) b line h in
-    let more = line_first line bytes (All-tail (λ b. goes_on b ≡ false) b line h) in
-    one_more b (line ++ 10 ∷ bytes) e ∙ before_line_first b (cut (before_nul (line ++ 10 ∷ bytes))) line (log_lines bytes) more
+    line_more b line (line ++ 10 ∷ bytes) bytes e (line_first line bytes (All-tail (λ b. goes_on b ≡ false) b line h))
 
-pub ends_first : (line bytes : List ℕ) → IsClean line → log_lines (line ++ 0 ∷ bytes) ≡ []
-ends_first [] bytes h = refl
+pub ends_first : (line bytes : List ℕ) → IsClean line → EndsIn (line ++ 0 ∷ bytes) line
+ends_first [] bytes h = (refl, refl)
 ends_first (b ∷ line) bytes h =
     let e = All-head (λ b. goes_on b ≡ false) b line h in
-    let more = ends_first line bytes (All-tail (λ b. goes_on b ≡ false) b line h) in
-    one_more b (line ++ 0 ∷ bytes) e ∙ before_line_none b (cut (before_nul (line ++ 0 ∷ bytes))) more
+    end_more b (line ++ 0 ∷ bytes) line e (ends_first line bytes (All-tail (λ b. goes_on b ≡ false) b line h))
 
-pub no_line : (line : List ℕ) → IsClean line → log_lines line ≡ []
-no_line [] h = refl
+pub no_line : (line : List ℕ) → IsClean line → EndsIn line line
+no_line [] h = (refl, refl)
 no_line (b ∷ line) h =
     let e = All-head (λ b. goes_on b ≡ false) b line h in
-    let more = no_line line (All-tail (λ b. goes_on b ≡ false) b line h) in
-    one_more b line e ∙ before_line_none b (cut (before_nul line)) more
+    end_more b line line e (no_line line (All-tail (λ b. goes_on b ≡ false) b line h))
 
 begun_on : (b : ℕ) (bytes : List ℕ) → goes_on b ≡ false → begun (b ∷ bytes) ≡ b ∷ begun bytes
 begun_on b bytes e = ap (λ v. cond v [] (b ∷ begun bytes)) e
@@ -90,15 +108,15 @@ parted bytes i b lt e = sym (take-append-drop i bytes) ∙ ap (λ v. take i byte
 appended : (bytes : List ℕ) (i b : ℕ) (more : List ℕ) → i < length bytes → get_or bytes i 0 ≡ b → bytes ++ more ≡ take i bytes ++ b ∷ (drop (i + 1) bytes ++ more)
 appended bytes i b more lt e = ap (λ v. v ++ more) (parted bytes i b lt e) ∙ append_assoc (take i bytes) (b ∷ drop (i + 1) bytes) more
 
-pub sees_end : (bytes : List ℕ) (count i : ℕ) (more : List ℕ) → i ≤ count → i < length bytes → IsCleanTo bytes count i → get_or bytes i 0 ≡ 0 → log_lines (bytes ++ more) ≡ []
+pub sees_end : (bytes : List ℕ) (count i : ℕ) (more : List ℕ) → i ≤ count → i < length bytes → IsCleanTo bytes count i → get_or bytes i 0 ≡ 0 → EndsIn (bytes ++ more) (take i bytes)
 sees_end bytes count i more le lt clean e =
-    ap log_lines (appended bytes i 0 more lt e) ∙ ends_first (take i bytes) (drop (i + 1) bytes ++ more) (clean_front bytes count i le clean)
+    subst (λ v. EndsIn v (take i bytes)) (sym (appended bytes i 0 more lt e)) (ends_first (take i bytes) (drop (i + 1) bytes ++ more) (clean_front bytes count i le clean))
 
-pub sees_line : (bytes : List ℕ) (count i : ℕ) (more : List ℕ) → i ≤ count → i < length bytes → IsCleanTo bytes count i → get_or bytes i 0 ≡ 10 → log_lines (bytes ++ more) ≡ take i bytes ∷ log_lines (drop (i + 1) bytes ++ more)
+pub sees_line : (bytes : List ℕ) (count i : ℕ) (more : List ℕ) → i ≤ count → i < length bytes → IsCleanTo bytes count i → get_or bytes i 0 ≡ 10 → GoesOn (bytes ++ more) (take i bytes) (drop (i + 1) bytes ++ more)
 sees_line bytes count i more le lt clean e =
-    ap log_lines (appended bytes i 10 more lt e) ∙ line_first (take i bytes) (drop (i + 1) bytes ++ more) (clean_front bytes count i le clean)
+    subst (λ v. GoesOn v (take i bytes) (drop (i + 1) bytes ++ more)) (sym (appended bytes i 10 more lt e)) (line_first (take i bytes) (drop (i + 1) bytes ++ more) (clean_front bytes count i le clean))
 
-pub sees_nothing : (bytes : List ℕ) (count : ℕ) → length bytes ≤ count → IsCleanTo bytes count (length (take count bytes)) → log_lines bytes ≡ []
+pub sees_nothing : (bytes : List ℕ) (count : ℕ) → length bytes ≤ count → IsCleanTo bytes count (length (take count bytes)) → EndsIn bytes bytes
 sees_nothing bytes count le clean =
     let n = length-take count bytes in
     let all = take_all (length bytes) bytes (omega arith) in

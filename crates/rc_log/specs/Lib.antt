@@ -2,4 +2,5 @@ pub mod Cuts
 pub mod Heads
 pub mod Lines
 pub mod Said
+pub mod Things
 pub mod Waiting

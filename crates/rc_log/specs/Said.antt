@@ -11,9 +11,10 @@ use Rattle.rc_lang.specs.Numbers.{number_of, signed_number_of}
 use Rattle.rc_lang.specs.Program.{Buffer, Program, Thread}
 use Rattle.rc_log.specs.declared.arguments.Transfer.{Transfer}
 use Rattle.rc_log.specs.declared.call.Call.{Call}
-use Rattle.rc_log.specs.declared.call.Call.TheVariants.{GetSqe, PrepRead, PrepWrite, PrepFsync, PrepNop, SetData64, Submit, Peek, PeekNone, CqeSeen, SqReady, SqSpaceLeft, Lock, Unlock, Reads, Writes, Put, Take, Ends, Foreign}
+use Rattle.rc_log.specs.declared.call.Call.TheVariants.{GetSqe, PrepRead, PrepWrite, PrepFsync, PrepNop, SetData64, Submit, Peek, PeekNone, CqeSeen, SqReady, SqSpaceLeft, Exit, Lock, Unlock, Reads, Writes, Put, Take, Ends, Foreign}
 use Rattle.rc_log.specs.declared.call.Lack.{Lack}
 use Rattle.rc_log.specs.declared.call.Lack.TheVariants.{NoEntry, NoSuchRequest, NoFlags, FsyncFlags, UnsaidFile, NoFile, UnsaidBuffer, PastBuffer, NoBuffer, NoPool}
+use Rattle.rc_log.specs.declared.call.PoolMark.{PoolMark}
 use Rattle.rc_log.specs.declared.call.Said.{Said}
 use Rattle.rc_log.specs.declared.call.Why.{Why}
 use Rattle.rc_log.specs.declared.call.Why.TheVariants.{TooLong, NoHead, NoRing, NoPlace, NoCall, WrongWords}
@@ -83,9 +84,12 @@ answer w = signed_number_of (negsuc (2 ^ 31 - 1)) (pos (2 ^ 31 - 1)) w
 abbrev pub thread_named : Program → List ℕ → Option ℕ
 thread_named p w = position (λ (t : Thread). bytes_eq t.name w) p.threads
 
+abbrev pub buffer_named : Program → List ℕ → Option ℕ
+buffer_named p w = position (λ (b : Buffer). bytes_eq b.name w) p.buffers
+
 -- The buffer that a word names, or why there is none; nothing where the word is no name.
 abbrev pub named_buffer : Program → List ℕ → Option (Result ℕ Lack)
-named_buffer p w = if is_name w then Some (ok_or (position (λ (b : Buffer). bytes_eq b.name w) p.buffers) NoBuffer) else None
+named_buffer p w = if is_name w then Some (ok_or (buffer_named p w) NoBuffer) else None
 
 abbrev pub buffer_of : Program → List ℕ → Option (Result ℕ Lack)
 buffer_of p w =
@@ -154,7 +158,7 @@ prep_fsync p ws = option_and_then (λ w. fsync_by (file_of p w.0) (count w.1)) (
 abbrev pub foreign : Lack → List (List ℕ) → Option Call
 foreign lack ws = option_and_then (λ w. option_map (λ n. Foreign lack) (number_of 0 255 w)) (one_of ws)
 
--- `set_data64 TOKEN` and `cqe_seen TOKEN`; `sq_ready N` and `sq_space_left N`
+-- `set_data64 TOKEN` and `cqe_seen TOKEN`; `sq_ready N`, `sq_space_left N` and `exit N`
 abbrev pub of_token : (ℕ → Call) → List (List ℕ) → Option Call
 of_token call ws = option_map call (option_and_then long (one_of ws))
 
@@ -194,12 +198,33 @@ sides (w ∷ ws) = if is_end ws then side w else None
 abbrev pub of_sides : (Locks → Call) → List (List ℕ) → Option Call
 of_sides call ws = option_map call (sides ws)
 
--- `reads BUFFER` and `writes BUFFER`; `put POOL` and `take POOL`
+-- `reads BUFFER` and `writes BUFFER`
 abbrev pub of_buffer : (ℕ → Call) → Program → List (List ℕ) → Option Call
 of_buffer call p ws = option_map (of call) (option_and_then (buffer_of p) (one_of ws))
 
-abbrev pub of_pool : (ℕ → Call) → Program → List (List ℕ) → Option Call
-of_pool call p ws = option_map (of call) (option_and_then (pool_of p) (one_of ws))
+-- `put POOL` and `put POOL BUFFER`; `take POOL` and `take POOL BUFFER`
+abbrev pub unnamed : Result ℕ Lack → Result PoolMark Lack
+unnamed (Ok pool) = Ok (record { pool = pool; buffer = None })
+unnamed (Err lack) = Err lack
+
+abbrev pub named : Result ℕ Lack → Result ℕ Lack → Result PoolMark Lack
+named (Ok pool) (Ok buffer) = Ok (record { pool = pool; buffer = Some buffer })
+named (Ok pool) (Err lack) = Err lack
+named (Err lack) buffer = Err lack
+
+abbrev pub pool_mark_by : Program → List (List ℕ) → Result ℕ Lack → Option (Result PoolMark Lack)
+pool_mark_by p ws pool = if is_end ws then Some (unnamed pool) else option_map (named pool) (option_and_then (buffer_of p) (one_of ws))
+
+abbrev pub pool_mark : Program → List (List ℕ) → Option (Result PoolMark Lack)
+pool_mark p [] = None
+pool_mark p (w ∷ ws) = option_and_then (pool_mark_by p ws) (pool_of p w)
+
+abbrev pub of_mark : (PoolMark → Call) → Result PoolMark Lack → Call
+of_mark call (Ok mark) = call mark
+of_mark call (Err lack) = Foreign lack
+
+abbrev pub of_pool : (PoolMark → Call) → Program → List (List ℕ) → Option Call
+of_pool call p ws = option_map (of_mark call) (pool_mark p ws)
 
 -- ---- the table
 
@@ -225,7 +250,8 @@ ring_call call ws =
     else (if bytes_eq call (codes "cqe_seen") then Some (of_token CqeSeen ws)
     else (if bytes_eq call (codes "sq_ready") then Some (of_count SqReady ws)
     else (if bytes_eq call (codes "sq_space_left") then Some (of_count (λ n. SqSpaceLeft) ws)
-    else None)))))
+    else (if bytes_eq call (codes "exit") then Some (of_count Exit ws)
+    else None))))))
 
 -- and the mutexes and the marks.
 abbrev pub mark : Program → List ℕ → List (List ℕ) → Option (Option Call)

@@ -169,3 +169,10 @@ pub fn sq_space_left(rest: &[u8]) -> Option<Call>
     let _ = count(one_word(rest)?)?;
     Some(Call::SqSpaceLeft)
 }
+
+/// `exit N`.
+pub fn exit(rest: &[u8]) -> Option<Call>
+    ensures { result ≡ spec.of_count Call.Exit (words_after rest.now) }
+{
+    Some(Call::Exit(count(one_word(rest)?)?))
+}

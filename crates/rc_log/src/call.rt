@@ -5,7 +5,7 @@ ghost use Rattle.rc_log.specs.Said.{words_of_why};
 
 use rc_lang::lines::Locks;
 
-/// Why no line of a program makes a call.
+/// Why no line of a program makes a call, or why a program hasn't what a log declares.
 #[derive(Clone, Copy)]
 pub enum Lack {
     /// `get_sqe 0`: no entry was free.
@@ -28,6 +28,19 @@ pub enum Lack {
     NoBuffer,
     /// The program has no pool with this name.
     NoPool,
+    /// The program has no token with this user data.
+    NoToken,
+    /// The program's buffer has so many bytes, which are more.
+    SmallBuffer(u32),
+}
+
+/// What a mark of a pool says.
+#[derive(Clone, Copy)]
+pub struct PoolMark {
+    /// The pool's place among the declared ones.
+    pub pool: usize,
+    /// The buffer that it names, if it names one.
+    pub buffer: Option<usize>,
 }
 
 /// A call or a mark of a log, in the terms of a program: buffers and pools are by their places among the declared
@@ -59,6 +72,8 @@ pub enum Call {
     SqReady(u32),
     /// `sq_space_left N`: how many entries are free, which isn't kept (`io_uring_sq_space_left(3)`).
     SqSpaceLeft,
+    /// `exit N`: the ring is gone, and so many requests are out (`io_uring_queue_exit(3)`).
+    Exit(u32),
     /// `lock`, `lock sq` or `lock cq`: the mutexes of these sides were locked.
     Lock(Locks),
     /// `unlock`, `unlock sq` or `unlock cq`: they are unlocked next.
@@ -67,10 +82,10 @@ pub enum Call {
     Reads(usize),
     /// `writes BUFFER`: the program changes it here.
     Writes(usize),
-    /// `put POOL`: items go to the pool.
-    Put(usize),
-    /// `take POOL`: items were taken from the pool.
-    Take(usize),
+    /// `put POOL` and `put POOL BUFFER`: items go to the pool.
+    Put(PoolMark),
+    /// `take POOL` and `take POOL BUFFER`: items were taken from the pool.
+    Take(PoolMark),
     /// `ends`: the thread makes no more calls.
     Ends,
     /// A call that no line of the program makes, and why.

@@ -3,6 +3,7 @@
 
 pub mod arguments;
 pub mod call;
+pub mod declared;
 pub mod head;
 pub mod line;
 pub mod marks;

@@ -5,8 +5,8 @@ ghost use Rattle.rc_log.specs.Cuts.{words_after};
 ghost use Rattle.rc_log.specs.Said as spec;
 
 use crate::arguments::{
-    alone, cqe_seen, foreign, get_sqe, peek_cqe, prep_fsync, prep_read, prep_write, set_data64,
-    sq_ready, sq_space_left, submit, submit_and_wait,
+    alone, cqe_seen, exit, foreign, get_sqe, peek_cqe, prep_fsync, prep_read, prep_write,
+    set_data64, sq_ready, sq_space_left, submit, submit_and_wait,
 };
 use crate::call::{Call, Lack, Said, Why};
 use crate::marks::{lock, put, reads, take, unlock, writes};
@@ -58,6 +58,8 @@ fn ring_call(call: &[u8], rest: &[u8]) -> Option<Option<Call>>
         Some(sq_ready(rest))
     } else if is(call, b"sq_space_left") {
         Some(sq_space_left(rest))
+    } else if is(call, b"exit") {
+        Some(exit(rest))
     } else {
         None
     }

@@ -4,7 +4,7 @@ ghost use Rattle.std.specs.Prelude.{◌≡◌};
 ghost use Rattle.rc_log.specs.Cuts.{words_after};
 ghost use Rattle.rc_log.specs.Said as spec;
 
-use crate::call::Call;
+use crate::call::{Call, Lack, PoolMark};
 use crate::parts::{buffer_of, pool_of};
 use crate::words::{is, is_end, next_word, one_word};
 use rc_lang::lines::Locks;
@@ -73,22 +73,53 @@ pub fn writes(program: &Program, rest: &[u8]) -> Option<Call>
     }
 }
 
-/// `put POOL`.
+fn unnamed(pool: Result<usize, Lack>) -> Result<PoolMark, Lack>
+    ensures { result ≡ spec.unnamed pool }
+{
+    Ok(PoolMark {
+        pool: pool?,
+        buffer: None,
+    })
+}
+
+fn named(pool: Result<usize, Lack>, buffer: Result<usize, Lack>) -> Result<PoolMark, Lack>
+    ensures { result ≡ spec.named pool buffer }
+{
+    Ok(PoolMark {
+        pool: pool?,
+        buffer: Some(buffer?),
+    })
+}
+
+/// `POOL` and `POOL BUFFER`.
+fn pool_mark(program: &Program, rest: &[u8]) -> Option<Result<PoolMark, Lack>>
+    ensures { result ≡ spec.pool_mark program.now (words_after rest.now) }
+{
+    let (pool, rest) = next_word(rest)?;
+    let pool = pool_of(program, pool)?;
+    if is_end(rest) {
+        return Some(unnamed(pool));
+    }
+    let buffer = buffer_of(program, one_word(rest)?)?;
+    Some(named(pool, buffer))
+}
+
+/// `put POOL` and `put POOL BUFFER`.
 pub fn put(program: &Program, rest: &[u8]) -> Option<Call>
     ensures { result ≡ spec.of_pool Call.Put program.now (words_after rest.now) }
 {
-    match pool_of(program, one_word(rest)?)? {
-        Ok(pool) => Some(Call::Put(pool)),
+    match pool_mark(program, rest)? {
+        Ok(mark) => Some(Call::Put(mark)),
         Err(lack) => Some(Call::Foreign(lack)),
     }
 }
 
-/// `take POOL`.
+/// `take POOL` and `take POOL BUFFER`.
 pub fn take(program: &Program, rest: &[u8]) -> Option<Call>
     ensures { result ≡ spec.of_pool Call.Take program.now (words_after rest.now) }
 {
-    match pool_of(program, one_word(rest)?)? {
-        Ok(pool) => Some(Call::Take(pool)),
+    match pool_mark(program, rest)? {
+        Ok(mark) => Some(Call::Take(mark)),
         Err(lack) => Some(Call::Foreign(lack)),
     }
 }

@@ -113,11 +113,18 @@ fn place_of_buffer(buffers: &[Buffer], name: &[u8]) -> Option<usize>
         .position(|buffer| buffer.name.as_slice() == name)
 }
 
+/// The place of the buffer with this name, if the program has one.
+pub fn buffer_named(program: &Program, name: &[u8]) -> Option<usize>
+    ensures { result ≡ spec.buffer_named program.now name.now }
+{
+    place_of_buffer(program.buffers(), name)
+}
+
 fn named_buffer(program: &Program, word: &[u8]) -> Option<Result<usize, Lack>>
     ensures { result ≡ spec.named_buffer program.now word.now }
 {
     if is_name(word) {
-        Some(place_of_buffer(program.buffers(), word).ok_or(Lack::NoBuffer))
+        Some(buffer_named(program, word).ok_or(Lack::NoBuffer))
     } else {
         None
     }
@@ -153,7 +160,8 @@ pub fn pool_of(program: &Program, word: &[u8]) -> Option<Result<usize, Lack>>
     }
 }
 
-fn has_file(files: &[File], number: u32) -> bool
+/// Whether one of the files has this number.
+pub fn has_file(files: &[File], number: u32) -> bool
     ensures { result ≡ list_any (λ f. f.number == number) files.now }
 {
     files.iter().any(|file| file.number == number)

@@ -14,8 +14,8 @@ pub enum Seen {
     Line(usize),
     /// Nothing that has ended.
     More,
-    /// A byte 0, where the log ends, in a line or before one.
-    End,
+    /// A byte 0 after so many bytes: the log ends here, in a line or before one.
+    End(usize),
     /// A line of more than 4,096 bytes.
     TooLong,
 }
@@ -26,7 +26,7 @@ fn look(bytes: &[u8]) -> Seen
 {
     let count = bytes.len().min(MOST_BYTES + 1);
     match memchr2(b'\n', 0, &bytes[..count]) {
-        Some(i) if bytes[i] == 0 => Seen::End,
+        Some(i) if bytes[i] == 0 => Seen::End(i),
         Some(i) => Seen::Line(i),
         None if count > MOST_BYTES => Seen::TooLong,
         None => Seen::More,
@@ -80,13 +80,20 @@ impl Pending {
         ensures seen { BeginsWith (waiting self.old) result }
         ensures gave { Gave self.old self.new result }
     {
-        let seen = look(&self.bytes[self.at..]);
+        let seen = look(self.waiting());
         if let Seen::Line(len) = seen {
             self.start = self.at;
             self.end = self.at + len;
             self.at = self.end + 1;
         }
         seen
+    }
+
+    /// The bytes that wait.
+    pub fn waiting(&self) -> &[u8]
+        ensures { result.now ≡ waiting self.now }
+    {
+        &self.bytes[self.at..]
     }
 
     /// The line that was given last.

@@ -1,13 +1,37 @@
 //! A reader of the lines of a log.
 
-ghost use Rattle.std.specs.Prelude.{◌<◌, IfOk, vec_len};
+ghost use Rattle.std.specs.Prelude.{◌≡◌, ◌<◌, IfOk, vec_len};
+ghost use Rattle.rc_log.specs.Lines.{end_of};
 
 use crate::pending::{Pending, Seen};
+use crate::words::is;
 use std::alloc::{AllocError, Global};
 use std::io::{self, Read};
 
 /// How many bytes are read at most at a time.
 const PIECE: usize = 65536;
+
+/// What comes next in a log.
+#[derive(Clone, Copy)]
+pub enum Next {
+    /// A line.
+    Line,
+    /// Its end.
+    End,
+    /// Its end, since it was full.
+    Full,
+}
+
+// The end of a log, where these bytes come after its last line.
+fn end_of(rest: &[u8]) -> Next
+    ensures { result ≡ end_of rest.now }
+{
+    if is(rest, b"full") {
+        Next::Full
+    } else {
+        Next::End
+    }
+}
 
 /// Why the next line of a log isn't given.
 #[derive(Drop)]
@@ -79,20 +103,20 @@ impl<R: Read> LogReader<R> {
         }
     }
 
-    /// Finds the next line of the log, and answers whether it has one: it hasn't from its first byte 0 or the end of
-    /// the input on, and bytes without a line feed after them are no line.
-    pub fn next_line(&mut self) -> Result<bool, LogFault>
+    /// Finds the next line of the log, or its end: it has no line more from its first byte 0 or the end of the input on,
+    /// and bytes without a line feed after them are no line. They are `full` where the log was.
+    pub fn next_line(&mut self) -> Result<Next, LogFault>
         ensures { Gives (left R.remaining self.old) (left R.remaining self.new) (given self.new.pending) result }
     {
         loop {
             match self.pending.step() {
-                Seen::Line(_) => return Ok(true),
-                Seen::End => return Ok(false),
+                Seen::Line(_) => return Ok(Next::Line),
+                Seen::End(count) => return Ok(end_of(&self.pending.waiting()[..count])),
                 Seen::TooLong => return Err(LogFault::TooLong),
                 Seen::More => {}
             }
             if !self.read_more()? {
-                return Ok(false);
+                return Ok(end_of(self.pending.waiting()));
             }
         }
     }

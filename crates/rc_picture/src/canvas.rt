@@ -1,23 +1,27 @@
-//! Elements of SVG, each drawn in its layer.
+//! Elements of SVG, each drawn in its layer, and lengths in px.
 
 use crate::layers::Layer;
-use rc_story::pen::{Pen, Piece, length_of};
+use rc_story::pen::Piece::{self, Number};
+use rc_story::pen::{Pen, length_of};
 use std::alloc::{AllocError, Global};
 
-/// A place, in px from the left and from the top.
-#[derive(Clone, Copy)]
-pub struct Point {
-    pub x: u64,
-    pub y: u64,
+/// The sum of these lengths. What would pass 2^64 - 1 is that long.
+pub fn sum(lengths: &[u64]) -> u64 {
+    let mut length: u64 = 0;
+    for part in lengths {
+        length = length.saturating_add(*part);
+    }
+    length
 }
 
-/// A rectangle: its left upper corner, and how wide and how high it is.
-#[derive(Clone, Copy)]
-pub struct Rect {
-    pub x: u64,
-    pub y: u64,
-    pub wide: u64,
-    pub high: u64,
+/// The sum of two lengths.
+pub fn plus(a: u64, b: u64) -> u64 {
+    a.saturating_add(b)
+}
+
+/// So many times a length.
+pub fn times(count: u64, length: u64) -> u64 {
+    count.saturating_mul(length)
 }
 
 /// Where a text is.
@@ -50,124 +54,70 @@ impl Canvas {
         Ok(Canvas { pens })
     }
 
-    /// Adds these pieces to a layer.
-    pub fn put(&mut self, layer: Layer, pieces: &[Piece<'_>]) {
+    /// Adds a form to a layer, with a piece in place of each `{}`.
+    pub fn put(&mut self, layer: Layer, form: &[u8], pieces: &[Piece<'_>]) {
         if let Some(pen) = self.pens.get_mut(layer as usize) {
-            pen.put(pieces);
+            pen.write(form, pieces);
         }
     }
 
-    pub fn rect(&mut self, layer: Layer, rect: Rect) {
+    /// A rectangle from one height to another; that of a lock has round corners.
+    pub fn rect(&mut self, layer: Layer, x: u64, wide: u64, top: u64, bottom: u64) {
+        let form: &[u8] = match layer {
+            Layer::Lock => b"<rect x=\"{}\" y=\"{}\" width=\"{}\" height=\"{}\" rx=\"3\"/>\n",
+            _ => b"<rect x=\"{}\" y=\"{}\" width=\"{}\" height=\"{}\"/>\n",
+        };
+        let high = bottom.saturating_sub(top);
         self.put(
             layer,
-            &[
-                Piece::Word(b"<rect x=\""),
-                Piece::Number(rect.x),
-                Piece::Word(b"\" y=\""),
-                Piece::Number(rect.y),
-                Piece::Word(b"\" width=\""),
-                Piece::Number(rect.wide),
-                Piece::Word(b"\" height=\""),
-                Piece::Number(rect.high),
-                Piece::Word(b"\""),
-                Piece::Word(layer.corners()),
-                Piece::Word(b"/>\n"),
-            ],
+            form,
+            &[Number(x), Number(top), Number(wide), Number(high)],
         );
     }
 
     /// A line from one point to another.
-    fn line(&mut self, layer: Layer, from: Point, to: Point) {
+    fn line(&mut self, layer: Layer, from: (u64, u64), to: (u64, u64)) {
+        let form = b"<path d=\"M{} {} {} {}\"/>\n";
         self.put(
             layer,
-            &[
-                Piece::Word(b"<path d=\"M"),
-                Piece::Number(from.x),
-                Piece::Word(b" "),
-                Piece::Number(from.y),
-                Piece::Word(b" "),
-                Piece::Number(to.x),
-                Piece::Word(b" "),
-                Piece::Number(to.y),
-                Piece::Word(b"\"/>\n"),
-            ],
+            form,
+            &[Number(from.0), Number(from.1), Number(to.0), Number(to.1)],
         );
     }
 
     /// A line across, at a height.
     pub fn across(&mut self, layer: Layer, from: u64, to: u64, y: u64) {
-        self.line(layer, Point { x: from, y }, Point { x: to, y });
+        self.line(layer, (from, y), (to, y));
     }
 
     /// A line down, at a place from the left.
     pub fn down(&mut self, layer: Layer, x: u64, from: u64, to: u64) {
-        self.line(layer, Point { x, y: from }, Point { x, y: to });
+        self.line(layer, (x, from), (x, to));
     }
 
-    pub fn circle(&mut self, layer: Layer, centre: Point, radius: u64) {
-        self.put(
-            layer,
-            &[
-                Piece::Word(b"<circle cx=\""),
-                Piece::Number(centre.x),
-                Piece::Word(b"\" cy=\""),
-                Piece::Number(centre.y),
-                Piece::Word(b"\" r=\""),
-                Piece::Number(radius),
-                Piece::Word(b"\"/>\n"),
-            ],
-        );
+    pub fn circle(&mut self, layer: Layer, x: u64, y: u64, radius: u64) {
+        let form = b"<circle cx=\"{}\" cy=\"{}\" r=\"{}\"/>\n";
+        self.put(layer, form, &[Number(x), Number(y), Number(radius)]);
     }
 
     /// A text; no words are no element.
-    pub fn text(&mut self, layer: Layer, at: Point, anchor: Anchor, words: &[Piece<'_>]) {
-        self.text_with(layer, at, anchor, words, &[]);
-    }
-
-    /// A text with a result after it.
-    pub fn text_with(
-        &mut self,
-        layer: Layer,
-        at: Point,
-        anchor: Anchor,
-        words: &[Piece<'_>],
-        res: &[Piece<'_>],
-    ) {
-        if length_of(words) == 0 {
-            return;
-        }
+    pub fn text(&mut self, layer: Layer, x: u64, y: u64, anchor: Anchor, words: &[Piece<'_>]) {
         let Some(pen) = self.pens.get_mut(layer as usize) else {
             return;
         };
-        put_start(pen, at, anchor);
+        if length_of(words) == 0 {
+            return;
+        }
+        let (x, y) = (Number(x), Number(y));
+        pen.write(b"<text x=\"{}\" y=\"{}\"", &[x, y]);
+        match anchor {
+            Anchor::Start => {}
+            Anchor::End => pen.write(b" text-anchor=\"end\"", &[]),
+            Anchor::Middle => pen.write(b" text-anchor=\"middle\"", &[]),
+            Anchor::Turned => pen.write(b" transform=\"rotate(-45 {} {})\"", &[x, y]),
+        }
+        pen.write(b">", &[]);
         pen.put_escaped(words);
-        if length_of(res) > 0 {
-            pen.put(&[Piece::Word(b" &#8594; <tspan font-weight=\"bold\">")]);
-            pen.put_escaped(res);
-            pen.put(&[Piece::Word(b"</tspan>")]);
-        }
-        pen.put(&[Piece::Word(b"</text>\n")]);
+        pen.write(b"</text>\n", &[]);
     }
-}
-
-/// Opens a text.
-fn put_start(pen: &mut Pen, at: Point, anchor: Anchor) {
-    let (x, y) = (Piece::Number(at.x), Piece::Number(at.y));
-    pen.put(&[
-        Piece::Word(b"<text x=\""),
-        x,
-        Piece::Word(b"\" y=\""),
-        y,
-        Piece::Word(b"\""),
-    ]);
-    match anchor {
-        Anchor::Start => {}
-        Anchor::End => pen.put(&[Piece::Word(b" text-anchor=\"end\"")]),
-        Anchor::Middle => pen.put(&[Piece::Word(b" text-anchor=\"middle\"")]),
-        Anchor::Turned => {
-            pen.put(&[Piece::Word(b" transform=\"rotate(-45 "), x]);
-            pen.put(&[Piece::Word(b" "), y, Piece::Word(b")\"")]);
-        }
-    }
-    pen.put(&[Piece::Word(b">")]);
 }

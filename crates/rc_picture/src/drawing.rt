@@ -1,26 +1,26 @@
 //! The picture of a run.
 
-ghost use Rattle.std.specs.Prelude.{◌≡◌, IfOk};
+ghost use Rattle.std.specs.Prelude.{◌≡◌, ◌+◌, ◌<◌, ◌≤◌, ◌^◌, IfOk};
 ghost use Rattle.rc_report.specs.Engine.{end_of};
 ghost use Rattle.rc_world.specs.Machine.{start_world};
 ghost use Rattle.rc_world.specs.Trace.{trace_of};
 
 use crate::file::put_file;
-use crate::frames::frames_of;
 use crate::picture::picture_of;
+use rc_lang::program::Program;
 use rc_read::source::Lines;
 use rc_report::stepping::write_run;
 use rc_report::streams::WriteSink;
 use rc_report::trace::End;
-use rc_story::frames::Frame;
+use rc_story::frames::{Frame, line_of, moment_of};
 use rc_story::run::Run;
 use rc_story::story::story_of;
 use rc_world::event::Item;
 use rc_world::fault::Fault;
-use rc_world::world::World;
+use rc_world::world::{Stop, World};
 use std::alloc::{AllocError, Global};
 
-/// A run as it was stepped: its events, its trace as text, without the last line feed, and the fault in which it ends.
+/// A run as it was stepped: its events, its trace as text, and the fault in which it ends.
 #[derive(Drop)]
 struct Stepped {
     frames: Vec<Frame>,
@@ -47,49 +47,64 @@ pub fn put_picture(
     let Ok(end) = write_run(world, items, &mut sink) else {
         return Err(AllocError);
     };
-    let stepped = stepped_of(alloc, world, items, sink.writer, end)?;
+    let stepped = Stepped {
+        frames: frames_of(alloc, world.program(), items)?,
+        trace: sink.writer,
+        fault: match end {
+            End::Fault(fault) => Some(fault),
+            _ => None,
+        },
+    };
     put_stepped(drawn, alloc, text, world, &stepped, from)?;
     Ok(end)
 }
 
-/// The run that these items name, which has this trace and ends so.
-fn stepped_of(
-    alloc: Global,
-    world: &World<'_>,
-    items: &[Item],
-    trace: Vec<u8>,
-    end: End,
-) -> Result<Stepped, AllocError> {
-    let mut trace = trace;
-    trace.truncate(trace.len().saturating_sub(1));
-    let fault = match end {
-        End::Fault(fault) => Some(fault),
-        _ => None,
-    };
-    Ok(Stepped {
-        frames: frames_of(alloc, world.program(), items)?,
-        trace,
-        fault,
-    })
-}
-
 /// Adds the picture of a run that ends in this world.
-fn put_stepped<'a>(
+fn put_stepped<'s, 'a>(
     drawn: &mut Vec<u8>,
     alloc: Global,
     text: &'a [u8],
-    world: &World<'a>,
-    stepped: &Stepped,
+    world: &'s World<'a>,
+    stepped: &'s Stepped,
     from: u64,
 ) -> Result<(), AllocError> {
     let lines = Lines::of(alloc, text)?;
-    let run = Run {
-        lines: &lines,
-        world,
-        frames: &stepped.frames,
-        fault: stepped.fault,
-        cut: from.saturating_sub(1).min(stepped.frames.len() as u64),
-    };
+    let frames = &stepped.frames;
+    let cut = from.saturating_sub(1).min(frames.len() as u64);
+    let run = Run::of(&lines, world, frames, stepped.fault, cut);
     let picture = picture_of(alloc, story_of(alloc, run)?)?;
-    put_file(drawn, alloc, &picture, &stepped.trace)
+    let trace = stepped.trace.strip_suffix(b"\n").unwrap_or(&stepped.trace);
+    put_file(drawn, alloc, &picture, trace)
+}
+
+/// The events of the run that these items name from the start world on.
+fn frames_of(alloc: Global, program: &Program, items: &[Item]) -> Result<Vec<Frame>, AllocError> {
+    let mut world = World::start(alloc, program)?;
+    let mut frames = Vec::new(alloc);
+    for (place, item) in items.iter().enumerate() {
+        match frame_by(&mut world, item)? {
+            Some(frame) => frames.push(frame)?,
+            None => return Ok(frames),
+        }
+    }
+    Ok(frames)
+}
+
+/// Makes the step that an item names, where the world has no fault and the item is enabled.
+fn frame_by(world: &mut World<'_>, item: &Item) -> Result<Option<Frame>, AllocError>
+    requires { world.old.made + 1 < 2 ^ 64 }
+    ensures { world.new.made ≤ world.old.made + 1 }
+{
+    if !world.enabled(item) {
+        return Ok(None);
+    }
+    let line = line_of(world, item);
+    match world.apply(item) {
+        Ok(event) => {
+            let after = moment_of(world);
+            Ok(Some(Frame { event, line, after }))
+        }
+        Err(Stop::Fault(_)) => Ok(None),
+        Err(Stop::OutOfMemory) => Err(AllocError),
+    }
 }

@@ -1,22 +1,23 @@
 //! The file of a picture.
 
-use crate::canvas::{Canvas, Rect};
-use crate::fault_marks::draw_fault;
+use crate::canvas::Canvas;
+use crate::fault::{Target, draw_fault, targets_of};
 use crate::head::draw_head;
-use crate::layers::Layer;
+use crate::layers::{Colour, Layer};
 use crate::legend::draw_legend;
 use crate::picture::Picture;
 use crate::requests::draw_requests;
 use crate::rings::{draw_locks, draw_rings, draw_strips};
 use crate::rows::draw_rows;
 use crate::turns::{draw_buffers, draw_lanes, draw_order, draw_turns};
-use rc_story::pen::{Pen, Piece};
-use rc_text::text::{put_piece, put_pieces};
+use rc_story::pen::Pen;
+use rc_story::pen::Piece::{Number, Word};
+use rc_text::text::put_piece;
 use std::alloc::{AllocError, Global};
 
-/// What the first tag says after the sizes.
-const FONT: &[u8] =
-    b"\" role=\"img\" font-family=\"Menlo,Consolas,'DejaVu Sans Mono','Liberation Mono',monospace\" font-size=\"11.5\">\n";
+/// The first tag, up to the title.
+const START: &[u8] =
+    b"<svg xmlns=\"http://www.w3.org/2000/svg\" width=\"{}\" height=\"{}\" viewBox=\"0 0 {} {}\" role=\"img\" font-family=\"Menlo,Consolas,'DejaVu Sans Mono','Liberation Mono',monospace\" font-size=\"11.5\">\n<title>";
 
 /// Adds the file of a picture of a run with this trace.
 pub fn put_file(
@@ -27,13 +28,17 @@ pub fn put_file(
 ) -> Result<(), AllocError> {
     let ending = last_line(trace);
     let mut canvas = Canvas::new(alloc)?;
-    let height = draw(&mut canvas, picture, ending);
-    put_piece(
-        text,
-        &start_of(alloc, picture.width, height, ending, trace)?,
-    )?;
-    put_layers(text, canvas)?;
-    put_piece(text, b"</svg>\n")
+    let targets = targets_of(alloc, picture)?;
+    let high = draw(&mut canvas, picture, &targets, ending);
+    let mut pen = Pen::new(alloc);
+    let (width, height) = (Number(picture.width), Number(high));
+    pen.write(START, &[width, height, width, height]);
+    pen.put_escaped(&[Word(ending)]);
+    pen.write(b"</title>\n<desc>", &[]);
+    pen.put_escaped(&[Word(trace)]);
+    put_dark(&mut pen);
+    put_layers(&mut pen, canvas)?;
+    put_piece(text, &pen.text()?)
 }
 
 /// The last line of a text that ends without a line feed.
@@ -48,7 +53,7 @@ fn last_line(text: &[u8]) -> &[u8] {
 }
 
 /// Draws all that is in a picture. Answers how high it is.
-fn draw(canvas: &mut Canvas, picture: &Picture<'_, '_>, ending: &[u8]) -> u64 {
+fn draw(canvas: &mut Canvas, picture: &Picture<'_, '_>, targets: &[Target], ending: &[u8]) -> u64 {
     draw_head(canvas, picture, ending);
     draw_turns(canvas, picture);
     draw_lanes(canvas, picture);
@@ -59,107 +64,56 @@ fn draw(canvas: &mut Canvas, picture: &Picture<'_, '_>, ending: &[u8]) -> u64 {
     draw_requests(canvas, picture);
     draw_rings(canvas, picture);
     draw_strips(canvas, picture);
-    draw_fault(canvas, picture);
+    draw_fault(canvas, picture, targets);
     let high = draw_legend(canvas, picture);
-    let ground = Rect {
-        x: 0,
-        y: 0,
-        wide: picture.width,
-        high,
-    };
-    canvas.rect(Layer::Bg, ground);
+    canvas.rect(Layer::Bg, 0, picture.width, 0, high);
     high
 }
 
-/// What comes before the layers: the sizes, how the trace ends, the trace, and the colours on a dark ground.
-fn start_of(
-    alloc: Global,
-    width: u64,
-    height: u64,
-    ending: &[u8],
-    trace: &[u8],
-) -> Result<Vec<u8>, AllocError> {
-    let mut pen = Pen::new(alloc);
-    put_open(&mut pen, width, height);
-    pen.put(&[Piece::Word(b"<title>")]);
-    pen.put_escaped(&[Piece::Word(ending)]);
-    pen.put(&[Piece::Word(b"</title>\n<desc>")]);
-    pen.put_escaped(&[Piece::Word(trace)]);
-    pen.put(&[Piece::Word(b"</desc>\n<style>@media(prefers-color-scheme:dark){")]);
+/// Adds the colours of the layers on a dark ground.
+fn put_dark(pen: &mut Pen) {
+    pen.write(b"</desc>\n<style>@media(prefers-color-scheme:dark)", &[]);
+    pen.put(Word(b"{"));
     for layer in Layer::ALL {
-        put_dark(&mut pen, layer);
+        let (name, fill, stroke, _, _) = layer.style();
+        pen.write(b".rc-{}", &[Word(name)]);
+        let mut before: &[u8] = b"{";
+        if let Some(Colour(_, dark)) = fill {
+            pen.write(b"{}fill:{}", &[Word(before), Word(dark)]);
+            before = b";";
+        }
+        if let Some(Colour(_, dark)) = stroke {
+            pen.write(b"{}stroke:{}", &[Word(before), Word(dark)]);
+        }
+        pen.put(Word(b"}"));
     }
-    pen.put(&[Piece::Word(b"}</style>\n")]);
-    pen.text()
+    pen.write(b"{}</style>\n", &[Word(b"}")]);
 }
 
-fn put_open(pen: &mut Pen, width: u64, height: u64) {
-    let (width, height) = (Piece::Number(width), Piece::Number(height));
-    pen.put(&[
-        Piece::Word(b"<svg xmlns=\"http://www.w3.org/2000/svg\" width=\""),
-        width,
-        Piece::Word(b"\" height=\""),
-        height,
-        Piece::Word(b"\" viewBox=\"0 0 "),
-        width,
-        Piece::Word(b" "),
-        height,
-        Piece::Word(FONT),
-    ]);
-}
-
-/// The colours of a layer on a dark ground.
-fn put_dark(pen: &mut Pen, layer: Layer) {
-    let (fill, stroke) = (layer.fill(), layer.stroke());
-    pen.put(&[
-        Piece::Word(b".rc-"),
-        Piece::Word(layer.name()),
-        Piece::Word(b"{"),
-    ]);
-    if let Some(fill) = fill {
-        pen.put(&[Piece::Word(b"fill:"), Piece::Word(fill.dark())]);
-    }
-    if fill.is_some() && stroke.is_some() {
-        pen.put(&[Piece::Word(b";")]);
-    }
-    if let Some(stroke) = stroke {
-        pen.put(&[Piece::Word(b"stroke:"), Piece::Word(stroke.dark())]);
-    }
-    pen.put(&[Piece::Word(b"}")]);
-}
-
-/// Adds the layers in which something is drawn.
-fn put_layers(text: &mut Vec<u8>, canvas: Canvas) -> Result<(), AllocError> {
+/// Adds the layers in which something is drawn, with the colours on a light ground.
+fn put_layers(pen: &mut Pen, canvas: Canvas) -> Result<(), AllocError> {
     let Canvas { pens } = canvas;
-    for (layer, pen) in Layer::ALL.into_iter().zip(pens) {
-        if !pen.is_empty() {
-            put_layer(text, layer, pen)?;
+    for (layer, elements) in Layer::ALL.into_iter().zip(pens) {
+        if !elements.is_empty() {
+            put_layer(pen, layer, &elements.text()?);
         }
     }
+    pen.write(b"</svg>\n", &[]);
     Ok(())
 }
 
-/// Adds the group of a layer with what is drawn there, with the colours on a light ground.
-fn put_layer(text: &mut Vec<u8>, layer: Layer, pen: Pen) -> Result<(), AllocError> {
-    let elements = pen.text()?;
-    let fill = match layer.fill() {
-        Some(colour) => colour.light(),
+/// Adds the group of a layer with what is drawn there.
+fn put_layer(pen: &mut Pen, layer: Layer, elements: &[u8]) {
+    let (name, fill, stroke, breadth, more) = layer.style();
+    let fill = match fill {
+        Some(Colour(light, _)) => light,
         None => b"none",
     };
-    let name = layer.name();
-    put_pieces(text, &[b"<g class=\"rc-", name, b"\" fill=\"", fill, b"\""])?;
-    put_stroke(text, layer)?;
-    put_pieces(text, &[layer.more(), b">\n", &elements, b"</g>\n"])
-}
-
-/// What the lines of a layer are drawn in, and how wide they are.
-fn put_stroke(text: &mut Vec<u8>, layer: Layer) -> Result<(), AllocError> {
-    let Some(colour) = layer.stroke() else {
-        return Ok(());
-    };
-    let (colour, breadth) = (colour.light(), layer.breadth());
-    put_pieces(
-        text,
-        &[b" stroke=\"", colour, b"\" stroke-width=\"", breadth, b"\""],
-    )
+    pen.write(b"<g class=\"rc-{}\" fill=\"{}\"", &[Word(name), Word(fill)]);
+    if let Some(Colour(light, _)) = stroke {
+        let form = b" stroke=\"{}\" stroke-width=\"{}\"";
+        pen.write(form, &[Word(light), Word(breadth)]);
+    }
+    pen.write(b"{}>\n", &[Word(more)]);
+    pen.write(b"{}</g>\n", &[Word(elements)]);
 }

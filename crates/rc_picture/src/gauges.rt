@@ -1,102 +1,103 @@
-//! Runs of rows in which something stays the same.
+//! Phases: rows one after another in which something stays the same.
 
 use crate::picture::Picture;
-use rc_world::controls::Holders;
+use rc_story::fault::Side;
+use rc_story::story::Story;
 use rc_world::world::Slot;
-
-/// A side of the ring.
-#[derive(Clone, Copy)]
-pub enum Side {
-    Submission,
-    Completion,
-}
 
 /// What may stay the same from row to row.
 #[derive(Clone, Copy)]
-pub enum Gauge {
+pub enum Gauge<'p> {
+    /// Who moves.
+    Mover,
     /// Who holds the lock of a side.
     Lock(Side),
-    /// How many entries of the submission ring are queued, and whether one is open.
-    Submissions,
-    /// How many completions aren't reaped.
-    Completions,
-    /// How many there are of the item of a pool that has this place among all.
-    Stock(usize),
+    /// How many entries of the ring of a side are used.
+    Ring(Side),
+    /// How many there are of an item of a pool, by row.
+    Levels(&'p [u64]),
 }
 
-/// The entries of a ring: those that are filled, and the open one.
+/// What a gauge shows: a lane, and how many entries or items there are, and of the submission ring how many are open.
 #[derive(Clone, Copy, PartialEq)]
-pub struct Fill {
+pub struct Shown {
+    pub lane: Option<u32>,
     pub filled: u64,
     pub opened: u64,
 }
 
-impl Fill {
+/// Rows in which a gauge shows the same: where they end, and their heights.
+#[derive(Clone, Copy)]
+pub struct Phase {
+    pub shown: Shown,
+    pub end: usize,
+    pub top: u64,
+    pub bottom: u64,
+}
+
+impl Shown {
     /// How many entries are used.
     pub fn used(self) -> u64 {
         self.filled.saturating_add(self.opened)
     }
 }
 
-/// What is shown at a row.
-pub fn fill_at(picture: &Picture<'_, '_>, gauge: Gauge, row: usize) -> Fill {
-    let filled = filled_at(picture, gauge, row).unwrap_or(0);
-    let opened = match (gauge, picture.story.rows.get(row)) {
-        (Gauge::Submissions, Some(row)) if !matches!(row.after.slot, Slot::Closed) => 1,
-        _ => 0,
+/// What a gauge shows at a row.
+pub fn shown_at(story: &Story<'_, '_>, gauge: Gauge<'_>, row: usize) -> Shown {
+    let mut shown = Shown {
+        lane: None,
+        filled: 0,
+        opened: 0,
     };
-    Fill { filled, opened }
-}
-
-fn filled_at(picture: &Picture<'_, '_>, gauge: Gauge, row: usize) -> Option<u64> {
-    let after = picture.story.rows.get(row)?.after;
+    let Some(here) = story.rows.get(row) else {
+        return shown;
+    };
     match gauge {
-        Gauge::Submissions => Some(after.queued),
-        Gauge::Completions => Some(after.completions),
-        Gauge::Lock(side) => Some(u64::from(holder_of(side, after.holders)?) + 1),
-        Gauge::Stock(place) => picture.story.stocks.get(place)?.levels.get(row).copied(),
+        Gauge::Mover => shown.lane = here.mover,
+        Gauge::Lock(Side::Submission) => shown.lane = here.after.holders.sq,
+        Gauge::Lock(Side::Completion) => shown.lane = here.after.holders.cq,
+        Gauge::Ring(Side::Submission) => {
+            shown.filled = here.after.queued;
+            shown.opened = u64::from(!matches!(here.after.slot, Slot::Closed));
+        }
+        Gauge::Ring(Side::Completion) => shown.filled = here.after.completions,
+        Gauge::Levels(levels) => shown.filled = levels.get(row).copied().unwrap_or(0),
     }
+    shown
 }
 
-/// Who holds the lock of a side.
-fn holder_of(side: Side, holders: Holders) -> Option<u32> {
-    match side {
-        Side::Submission => holders.sq,
-        Side::Completion => holders.cq,
+/// Whether a phase begins at a row.
+pub fn begins(story: &Story<'_, '_>, gauge: Gauge<'_>, row: usize) -> bool {
+    row == 0 || shown_at(story, gauge, row) != shown_at(story, gauge, row - 1)
+}
+
+/// The phase that begins at a row, if one does.
+pub fn phase_at(picture: &Picture<'_, '_>, gauge: Gauge<'_>, row: usize) -> Option<Phase> {
+    let story = &picture.story;
+    if !begins(story, gauge, row) {
+        return None;
     }
+    let count = story.rows.len();
+    let mut end = count;
+    for later in row.saturating_add(1)..count {
+        if begins(story, gauge, later) {
+            end = later;
+            break;
+        }
+    }
+    Some(Phase {
+        shown: shown_at(story, gauge, row),
+        end,
+        top: phase_top(picture, row),
+        bottom: picture.height(end.saturating_add(1)),
+    })
 }
 
-/// Who holds the lock of a side at a row.
-pub fn holder_at(picture: &Picture<'_, '_>, side: Side, row: usize) -> Option<u32> {
-    holder_of(side, picture.story.rows.get(row)?.after.holders)
-}
-
-/// Whether a run begins at a row.
-pub fn begins(picture: &Picture<'_, '_>, gauge: Gauge, row: usize) -> bool {
-    row == 0 || fill_at(picture, gauge, row) != fill_at(picture, gauge, row - 1)
-}
-
-/// How high up the run begins that begins at a row: at the top where it was there before.
-pub fn run_top(picture: &Picture<'_, '_>, row: usize) -> u64 {
+/// How high up a phase begins that begins at a row: at the top where it was there before.
+pub fn phase_top(picture: &Picture<'_, '_>, row: usize) -> u64 {
     if row == 0 && picture.story.run.cut > 0 {
-        picture.top()
+        picture.top
     } else {
         picture.mid(row)
     }
-}
-
-/// How far down the run goes that a row belongs to.
-pub fn run_bottom(picture: &Picture<'_, '_>, gauge: Gauge, row: usize) -> u64 {
-    picture.height(run_end(picture, gauge, row).saturating_add(1))
-}
-
-/// The first row after a row at which a run begins; how many rows there are where none does.
-fn run_end(picture: &Picture<'_, '_>, gauge: Gauge, row: usize) -> usize {
-    let count = picture.story.rows.len();
-    for end in row.saturating_add(1)..count {
-        if begins(picture, gauge, end) {
-            return end;
-        }
-    }
-    count
 }

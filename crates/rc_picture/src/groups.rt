@@ -1,49 +1,135 @@
 //! The requests of each buffer: how many beside each other, and where.
 
-use crate::lengths::{plus, sum, times};
+use crate::canvas::{plus, sum, times};
 use rc_story::courses::{Course, Stage};
-use rc_story::labels::{label_of, old_label_of};
 use rc_story::pen::length_of;
 use rc_story::story::Story;
 use rc_text::names::buffer_name;
 use std::alloc::{AllocError, Global};
 
-/// The requests of a buffer, or those without one: where they begin, and whether there is anything to draw.
-#[derive(Clone, Copy)]
+/// The requests of a buffer, or those without one.
+#[derive(Drop)]
 pub struct Group {
-    pub start: u64,
+    /// How many bytes its title has.
+    bytes: u64,
+    pub has_buffer: bool,
+    /// Whether there is anything to draw: it has a request, or its buffer is touched.
     pub is_drawn: bool,
+    /// Where it begins.
+    pub start: u64,
+    lanes: Vec<Lane>,
 }
 
-/// A lane of a group: the place where the last request in it ends, and the bytes of the longest label.
+/// A lane of a group: the place where the last request in it ends, the bytes of the longest label, and the middle of its
+/// bars.
 #[derive(Clone, Copy)]
 struct Lane {
-    group: usize,
     end: usize,
     bytes: u64,
+    middle: u64,
 }
 
-/// The lanes of all groups, and the place among them of each request's lane.
+/// Where a request is: its group, its lane there, and the middle of its bar.
+#[derive(Clone, Copy)]
+pub struct Bar {
+    pub group: usize,
+    lane: usize,
+    pub x: u64,
+}
+
+/// All groups, and where each request is.
 #[derive(Drop)]
-pub struct Lanes {
-    lanes: Vec<Lane>,
-    of_courses: Vec<usize>,
+pub struct Groups {
+    pub all: Vec<Group>,
+    pub bars: Vec<Bar>,
+    /// Whether there are so many that labels are short.
+    pub is_narrow: bool,
+    /// Where the last ends.
+    pub end: u64,
 }
 
-/// The number of the group of the requests without a buffer: that after all buffers.
-pub fn no_buffer(story: &Story<'_, '_>) -> usize {
-    story.run.program().buffers().len()
+impl Group {
+    /// Lays a request, which is alone in this lane, in the first lane that is free at the place where it begins. Answers
+    /// which that is.
+    fn lay(&mut self, lane: Lane, top: usize) -> Result<usize, AllocError> {
+        let count = self.lanes.len();
+        for place in 0..count {
+            if let Some(there) = self.lanes.get_mut(place)
+                && there.end < top
+            {
+                there.end = lane.end;
+                there.bytes = there.bytes.max(lane.bytes);
+                return Ok(place);
+            }
+        }
+        self.lanes.push(lane)?;
+        Ok(count)
+    }
+
+    /// Has it begin here, if it is drawn; a buffer has its own line before the lanes. Answers where it ends.
+    fn set(&mut self, start: u64) -> u64 {
+        self.start = start;
+        if !self.is_drawn {
+            return start;
+        }
+        let mut x = plus(start, if self.has_buffer { 20 } else { 8 });
+        for lane in &mut self.lanes {
+            lane.middle = plus(x, 7);
+            x = sum(&[x, 30, times(6, lane.bytes)]);
+        }
+        plus(x.max(sum(&[start, times(7, self.bytes), 8])), 6)
+    }
 }
 
-/// The group of a request: the number of its buffer, or that after all buffers.
-pub fn group_of(story: &Story<'_, '_>, course: &Course) -> usize {
-    course.buffer().unwrap_or(no_buffer(story))
+/// The groups from here on.
+pub fn groups_of(alloc: Global, story: &Story<'_, '_>, start: u64) -> Result<Groups, AllocError> {
+    let mut groups = Groups {
+        all: empty_groups(alloc, story)?,
+        bars: Vec::new(alloc),
+        is_narrow: false,
+        end: start,
+    };
+    let mut count: u64 = 0;
+    for group in &groups.all {
+        count = count.saturating_add(u64::from(group.is_drawn));
+    }
+    groups.is_narrow = count > 8;
+    for course in &story.courses {
+        groups.push_bar(story, course)?;
+    }
+    groups.set();
+    Ok(groups)
+}
+
+/// A group for each buffer, and one for the requests without one, before they are set.
+fn empty_groups(alloc: Global, story: &Story<'_, '_>) -> Result<Vec<Group>, AllocError> {
+    let count = story.run.program.buffers().len();
+    let mut groups = Vec::new(alloc);
+    for place in 0..count.saturating_add(1) {
+        groups.push(Group {
+            bytes: title_of(story, place).len() as u64,
+            has_buffer: place < count,
+            is_drawn: is_drawn(story, place),
+            start: 0,
+            lanes: Vec::new(alloc),
+        })?;
+    }
+    Ok(groups)
+}
+
+/// The name of a group's buffer.
+pub fn title_of<'a>(story: &Story<'_, 'a>, group: usize) -> &'a [u8] {
+    if group < story.run.program.buffers().len() {
+        buffer_name(story.run.program, group)
+    } else {
+        b"no buffer"
+    }
 }
 
 /// Whether a group is drawn: it has a request, or its buffer is touched.
 fn is_drawn(story: &Story<'_, '_>, group: usize) -> bool {
     for course in &story.courses {
-        if group_of(story, course) == group {
+        if story.group_of(course) == group {
             return true;
         }
     }
@@ -55,155 +141,43 @@ fn is_drawn(story: &Story<'_, '_>, group: usize) -> bool {
     false
 }
 
-/// Whether there are so many groups that labels are short.
-pub fn is_narrow(story: &Story<'_, '_>) -> bool {
-    let mut count: u64 = 0;
-    for group in 0..no_buffer(story).saturating_add(1) {
-        if is_drawn(story, group) {
-            count = count.saturating_add(1);
+impl Groups {
+    /// Lays a request in a lane of its group.
+    fn push_bar(&mut self, story: &Story<'_, '_>, course: &Course) -> Result<(), AllocError> {
+        let cut = story.run.cut;
+        let mut bytes = 0;
+        if course.event(Stage::Opened) <= cut {
+            bytes = length_of(&course.old_label(cut, self.is_narrow));
         }
-    }
-    count > 8
-}
-
-/// The title of a group.
-pub fn title_of<'a>(story: &Story<'_, 'a>, group: usize) -> &'a [u8] {
-    if group == no_buffer(story) {
-        b"no buffer"
-    } else {
-        buffer_name(story.run.program(), group)
-    }
-}
-
-/// The bytes of a request's longest label.
-fn label_bytes(story: &Story<'_, '_>, course: &Course, is_narrow: bool) -> u64 {
-    let cut = story.run.cut;
-    let mut most = 0;
-    if course.event(Stage::Opened) <= cut {
-        most = length_of(&old_label_of(course, cut, is_narrow));
-    }
-    for stage in Stage::ALL {
-        if cut < course.event(stage) {
-            most = length_of(&label_of(course, stage, is_narrow)).max(most);
-        }
-    }
-    most
-}
-
-/// Lays each request in the first lane of its group that is free where it begins.
-pub fn lanes_of(
-    alloc: Global,
-    story: &Story<'_, '_>,
-    is_narrow: bool,
-) -> Result<Lanes, AllocError> {
-    let mut lanes = Lanes {
-        lanes: Vec::new(alloc),
-        of_courses: Vec::new(alloc),
-    };
-    for course in &story.courses {
-        let lane = Lane {
-            group: group_of(story, course),
-            end: story.until(course, Stage::Reaped),
-            bytes: label_bytes(story, course, is_narrow),
-        };
-        lanes.lay(lane, story.start_of(course, Stage::Opened))?;
-    }
-    Ok(lanes)
-}
-
-impl Lanes {
-    /// Lays a request, which is alone in this lane, in the first lane that is free at the place where it begins.
-    fn lay(&mut self, lane: Lane, top: usize) -> Result<(), AllocError> {
-        let place = self.free(lane.group, top);
-        self.of_courses.push(place)?;
-        match self.lanes.get_mut(place) {
-            Some(there) => {
-                there.end = lane.end;
-                there.bytes = there.bytes.max(lane.bytes);
+        for stage in Stage::ALL {
+            if cut < course.event(stage) {
+                bytes = length_of(&course.label(stage, self.is_narrow)).max(bytes);
             }
-            None => self.lanes.push(lane)?,
+        }
+        let lane = Lane {
+            end: story.place_at(course, Stage::Reaped),
+            bytes,
+            middle: 0,
+        };
+        let group = story.group_of(course);
+        if let Some(there) = self.all.get_mut(group) {
+            let lane = there.lay(lane, story.place_at(course, Stage::Opened))?;
+            self.bars.push(Bar { group, lane, x: 0 })?;
         }
         Ok(())
     }
 
-    /// The place of the first lane of a group that is free at a place; the end where none is.
-    fn free(&self, group: usize, top: usize) -> usize {
-        for (place, lane) in self.lanes.iter().enumerate() {
-            if lane.group == group && lane.end < top {
-                return place;
+    /// Sets the groups one beside the other.
+    fn set(&mut self) {
+        for group in &mut self.all {
+            self.end = group.set(self.end);
+        }
+        for bar in &mut self.bars {
+            if let Some(group) = self.all.get(bar.group)
+                && let Some(lane) = group.lanes.get(bar.lane)
+            {
+                bar.x = lane.middle;
             }
         }
-        self.lanes.len()
     }
-
-    /// How wide the lanes of a group are that are before a place among all lanes.
-    fn wide(&self, group: usize, before: usize) -> u64 {
-        let mut wide = 0;
-        for (place, lane) in self.lanes.iter().enumerate() {
-            if lane.group == group && place < before {
-                wide = sum(&[wide, 30, times(6, lane.bytes)]);
-            }
-        }
-        wide
-    }
-
-    /// The middle of each request's bar, where the groups are there.
-    pub fn bars(
-        &self,
-        alloc: Global,
-        story: &Story<'_, '_>,
-        groups: &[Group],
-    ) -> Result<Vec<u64>, AllocError> {
-        let mut bars = Vec::new(alloc);
-        for (course, place) in story.courses.iter().zip(&self.of_courses) {
-            let group = group_of(story, course);
-            let start = first_lane(story, group, start_at(groups, group));
-            bars.push(sum(&[start, self.wide(group, *place), 7]))?;
-        }
-        Ok(bars)
-    }
-}
-
-/// Where a group begins, or 0 if there is no such group.
-pub fn start_at(groups: &[Group], group: usize) -> u64 {
-    match groups.get(group) {
-        Some(group) => group.start,
-        None => 0,
-    }
-}
-
-/// Where the lanes of a group that begins here begin: a buffer has its own line before them.
-fn first_lane(story: &Story<'_, '_>, group: usize, start: u64) -> u64 {
-    if group == no_buffer(story) {
-        plus(start, 8)
-    } else {
-        plus(start, 20)
-    }
-}
-
-/// Where a group that begins here ends.
-fn group_end(story: &Story<'_, '_>, lanes: &Lanes, group: usize, start: u64) -> u64 {
-    let wide = lanes.wide(group, lanes.lanes.len());
-    let title = times(7, title_of(story, group).len() as u64);
-    let end = plus(first_lane(story, group, start), wide);
-    plus(end.max(sum(&[start, title, 8])), 6)
-}
-
-/// The groups from here on, and where the last ends.
-pub fn groups_of(
-    alloc: Global,
-    story: &Story<'_, '_>,
-    lanes: &Lanes,
-    start: u64,
-) -> Result<(Vec<Group>, u64), AllocError> {
-    let mut groups = Vec::new(alloc);
-    let mut x = start;
-    for group in 0..no_buffer(story).saturating_add(1) {
-        let is_drawn = is_drawn(story, group);
-        groups.push(Group { start: x, is_drawn })?;
-        if is_drawn {
-            x = group_end(story, lanes, group, x);
-        }
-    }
-    Ok((groups, x))
 }

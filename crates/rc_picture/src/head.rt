@@ -1,15 +1,70 @@
 //! The head of a picture: how the trace ends, why, and the titles of the columns.
 
-use crate::canvas::{Anchor, Canvas, Point};
-use crate::groups::{no_buffer, title_of};
-use crate::heading::longest_item;
+use crate::canvas::{Anchor, Canvas, plus, sum, times};
+use crate::groups::title_of;
 use crate::layers::Layer;
-use crate::lengths::{plus, sum, times};
 use crate::picture::Picture;
-use crate::strips::Strip;
-use rc_story::pen::Piece;
-use rc_story::pools::{item_name, pool_title};
-use rc_story::stocks::Stock;
+use rc_story::pen::Piece::{self, Number, Word};
+use rc_story::pen::length_of;
+use rc_story::story::Story;
+use std::alloc::{AllocError, Global};
+
+/// A line of a sentence: where it begins, and where it ends.
+#[derive(Clone, Copy)]
+pub struct Span {
+    pub start: usize,
+    pub end: usize,
+}
+
+/// The lines of a sentence in a picture that is so wide.
+pub fn spans_of(alloc: Global, text: &[u8], width: u64) -> Result<Vec<Span>, AllocError> {
+    let room = width.saturating_sub(28) / 7;
+    let mut spans = Vec::new(alloc);
+    let mut start: usize = 0;
+    for _ in 0..text.len() {
+        if start < text.len() {
+            let end = line_end(text, start, room);
+            spans.push(Span { start, end })?;
+            start = end.saturating_add(1);
+        }
+    }
+    Ok(spans)
+}
+
+/// Where the line that begins at `start` ends: at the end of the text if at most `room` bytes are left, else at the last
+/// blank within `room`, else at the first blank.
+fn line_end(text: &[u8], start: usize, room: u64) -> usize {
+    let mut end = start;
+    for place in start..text.len().saturating_add(1) {
+        let may_end = end <= start || place.saturating_sub(start) as u64 <= room;
+        if may_end && *text.get(place).unwrap_or(&b' ') == b' ' {
+            end = place;
+        }
+    }
+    end
+}
+
+/// The bytes of the longest name of an item of a pool.
+pub fn longest_item(story: &Story<'_, '_>) -> u64 {
+    let mut most = 0;
+    for stock in &story.stocks {
+        most = length_of(&stock.name).max(most);
+    }
+    most
+}
+
+/// Where the head ends, if the sentence has so many lines: there is room for the turned names.
+pub fn head_of(story: &Story<'_, '_>, lines: usize) -> u64 {
+    let mut lane: u64 = 6;
+    for thread in story.run.program.threads() {
+        lane = lane.max(thread.name.len() as u64);
+    }
+    let mut high = plus(times(5, lane), 16);
+    if !story.stocks.is_empty() {
+        high = high.max(plus(times(5, longest_item(story)), 34));
+    }
+    sum(&[28, times(18, lines as u64), high])
+}
 
 /// Draws the head, with these words on how the trace ends.
 pub fn draw_head(canvas: &mut Canvas, picture: &Picture<'_, '_>, ending: &[u8]) {
@@ -17,98 +72,53 @@ pub fn draw_head(canvas: &mut Canvas, picture: &Picture<'_, '_>, ending: &[u8]) 
         Some(_) => Layer::Red,
         None => Layer::Bold,
     };
-    let at = Point { x: 14, y: 28 };
-    canvas.text(layer, at, Anchor::Start, &[Piece::Word(ending)]);
-    draw_sentence(canvas, picture);
-    draw_lane_names(canvas, picture);
-    draw_group_titles(canvas, picture);
-    draw_ring_title(canvas, picture, b"sq ", picture.sq, picture.sq_entries());
-    draw_ring_title(canvas, picture, b"cq ", picture.cq, picture.cq_entries());
-    draw_strip_titles(canvas, picture);
-}
-
-/// Draws the lines of why there is a fault.
-fn draw_sentence(canvas: &mut Canvas, picture: &Picture<'_, '_>) {
+    canvas.text(layer, 14, 28, Anchor::Start, &[Word(ending)]);
     for (place, span) in picture.spans.iter().enumerate() {
         let y = plus(28, times(18, place as u64 + 1));
         if let Some(line) = picture.story.why.words.get(span.start..span.end) {
-            let at = Point { x: 14, y };
-            canvas.text(Layer::Text, at, Anchor::Start, &[Piece::Word(line)]);
+            canvas.text(Layer::Text, 14, y, Anchor::Start, &[Word(line)]);
         }
     }
+    for lane in 0..picture.story.run.kernel().saturating_add(1) {
+        let name = Word(picture.story.run.lane_name(lane));
+        draw_turned(canvas, picture, picture.lane(lane), &[name]);
+    }
+    draw_titles(canvas, picture);
 }
 
 /// A name over a column, turned.
 fn draw_turned(canvas: &mut Canvas, picture: &Picture<'_, '_>, middle: u64, name: &[Piece<'_>]) {
-    let at = Point {
-        x: plus(middle, 3),
-        y: picture.head.saturating_sub(4),
-    };
-    canvas.text(Layer::Bold, at, Anchor::Turned, name);
+    let (x, y) = (plus(middle, 3), picture.head.saturating_sub(4));
+    canvas.text(Layer::Bold, x, y, Anchor::Turned, name);
 }
 
-fn draw_lane_names(canvas: &mut Canvas, picture: &Picture<'_, '_>) {
-    for lane in 0..picture.story.run.kernel().saturating_add(1) {
-        let name = Piece::Word(picture.story.lane_name(lane));
-        draw_turned(canvas, picture, picture.lane(lane), &[name]);
-    }
-}
-
-/// A title over a column, or over several.
-fn draw_title(
-    canvas: &mut Canvas,
-    picture: &Picture<'_, '_>,
-    layer: Layer,
-    x: u64,
-    title: &[Piece<'_>],
-) {
+/// The titles over the groups and the rings, the names over the strips, and over the first strip of each pool its title.
+fn draw_titles(canvas: &mut Canvas, picture: &Picture<'_, '_>) {
     let y = picture.head.saturating_sub(6);
-    canvas.text(layer, Point { x, y }, Anchor::Start, title);
-}
-
-fn draw_group_titles(canvas: &mut Canvas, picture: &Picture<'_, '_>) {
-    for (place, group) in picture.groups.iter().enumerate() {
+    for (place, group) in picture.groups.all.iter().enumerate() {
+        let layer = if group.has_buffer {
+            Layer::Bold
+        } else {
+            Layer::Dim
+        };
         if group.is_drawn {
-            let layer = if place == no_buffer(&picture.story) {
-                Layer::Dim
-            } else {
-                Layer::Bold
-            };
-            let title = Piece::Word(title_of(&picture.story, place));
-            draw_title(canvas, picture, layer, group.start, &[title]);
+            let title = Word(title_of(&picture.story, place));
+            canvas.text(layer, group.start, y, Anchor::Start, &[title]);
         }
     }
-}
-
-fn draw_ring_title(
-    canvas: &mut Canvas,
-    picture: &Picture<'_, '_>,
-    word: &[u8],
-    x: u64,
-    entries: u64,
-) {
-    let title = [Piece::Word(word), Piece::Number(entries)];
-    draw_title(canvas, picture, Layer::Bold, x, &title);
-}
-
-/// The titles of the strips: the names of their items, and over the first of each pool that of the pool.
-fn draw_strip_titles(canvas: &mut Canvas, picture: &Picture<'_, '_>) {
+    for ring in picture.rings() {
+        let title = [Word(ring.title()), Number(ring.entries)];
+        canvas.text(Layer::Bold, ring.x, y, Anchor::Start, &title);
+    }
+    let names = sum(&[times(5, longest_item(&picture.story)), 14]);
     for (stock, strip) in picture.story.stocks.iter().zip(&picture.strips) {
-        let name = item_name(picture.story.run.program(), stock.item);
-        draw_turned(canvas, picture, strip.middle, &name);
+        draw_turned(canvas, picture, strip.middle, &stock.name);
         if strip.is_first {
-            draw_pool_title(canvas, picture, stock, strip);
+            let (x, y) = (
+                strip.middle.saturating_sub(8),
+                picture.head.saturating_sub(names),
+            );
+            canvas.text(Layer::Dim, x, y, Anchor::Start, &[Word(stock.title)]);
         }
     }
-}
-
-/// The name of the pool that begins with a strip.
-fn draw_pool_title(canvas: &mut Canvas, picture: &Picture<'_, '_>, stock: &Stock, strip: &Strip) {
-    let high = sum(&[times(5, longest_item(&picture.story)), 14]);
-    let at = Point {
-        x: strip.middle.saturating_sub(8),
-        y: picture.head.saturating_sub(high),
-    };
-    let title = Piece::Word(pool_title(picture.story.run.program(), stock.pool));
-    canvas.text(Layer::Dim, at, Anchor::Start, &[title]);
 }

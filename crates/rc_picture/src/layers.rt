@@ -1,5 +1,7 @@
 //! The layers of a picture, from the ground up.
 
+use self::Layer::*;
+
 /// A layer.
 #[derive(Clone, Copy)]
 pub enum Layer {
@@ -36,218 +38,106 @@ pub enum Layer {
     Smallred,
 }
 
-/// A colour, by what it is used for.
+/// A colour on a light ground, and on a dark one.
 #[derive(Clone, Copy)]
-pub enum Colour {
-    Ground,
-    Text,
-    Dim,
-    Grid,
-    Band,
-    Axis,
-    Lock,
-    LockLine,
-    Queued,
-    QueuedLine,
-    Pending,
-    Completed,
-    CompletedLine,
-    Pool,
-    PoolLine,
-    Fault,
-    FaultBand,
-}
+pub struct Colour(pub &'static [u8], pub &'static [u8]);
 
-impl Colour {
-    /// On a light ground.
-    pub fn light(self) -> &'static [u8] {
-        match self {
-            Colour::Ground => b"#ffffff",
-            Colour::Text => b"#1f2328",
-            Colour::Dim => b"#59636e",
-            Colour::Grid => b"#d1d9e0",
-            Colour::Band => b"#f3f5f7",
-            Colour::Axis => b"#818b98",
-            Colour::Lock => b"#ffdf80",
-            Colour::LockLine => b"#8a6100",
-            Colour::Queued => b"#c8e1ff",
-            Colour::QueuedLine => b"#0b5cad",
-            Colour::Pending => b"#0b5cad",
-            Colour::Completed => b"#d5f2dc",
-            Colour::CompletedLine => b"#1a7f37",
-            Colour::Pool => b"#d9c8f5",
-            Colour::PoolLine => b"#6639ba",
-            Colour::Fault => b"#cf222e",
-            Colour::FaultBand => b"#ffe7e5",
-        }
-    }
+const GROUND: Option<Colour> = Some(Colour(b"#ffffff", b"#0d1117"));
 
-    /// On a dark ground.
-    pub fn dark(self) -> &'static [u8] {
-        match self {
-            Colour::Ground => b"#0d1117",
-            Colour::Text => b"#e6edf3",
-            Colour::Dim => b"#9198a1",
-            Colour::Grid => b"#30363d",
-            Colour::Band => b"#161b22",
-            Colour::Axis => b"#6e7681",
-            Colour::Lock => b"#5c4500",
-            Colour::LockLine => b"#e3b341",
-            Colour::Queued => b"#0c2d57",
-            Colour::QueuedLine => b"#79b8ff",
-            Colour::Pending => b"#58a6ff",
-            Colour::Completed => b"#0f3d1d",
-            Colour::CompletedLine => b"#56d364",
-            Colour::Pool => b"#3c2a66",
-            Colour::PoolLine => b"#bc9cff",
-            Colour::Fault => b"#ff7b72",
-            Colour::FaultBand => b"#3d1518",
-        }
-    }
-}
+const TEXT: Option<Colour> = Some(Colour(b"#1f2328", b"#e6edf3"));
+
+const DIM: Option<Colour> = Some(Colour(b"#59636e", b"#9198a1"));
+
+const GRID: Option<Colour> = Some(Colour(b"#d1d9e0", b"#30363d"));
+
+const BAND: Option<Colour> = Some(Colour(b"#f3f5f7", b"#161b22"));
+
+const AXIS: Option<Colour> = Some(Colour(b"#818b98", b"#6e7681"));
+
+const LOCK: Option<Colour> = Some(Colour(b"#ffdf80", b"#5c4500"));
+
+const LOCK_LINE: Option<Colour> = Some(Colour(b"#8a6100", b"#e3b341"));
+
+const QUEUED: Option<Colour> = Some(Colour(b"#c8e1ff", b"#0c2d57"));
+
+const QUEUED_LINE: Option<Colour> = Some(Colour(b"#0b5cad", b"#79b8ff"));
+
+const PENDING: Option<Colour> = Some(Colour(b"#0b5cad", b"#58a6ff"));
+
+const COMPLETED: Option<Colour> = Some(Colour(b"#d5f2dc", b"#0f3d1d"));
+
+const COMPLETED_LINE: Option<Colour> = Some(Colour(b"#1a7f37", b"#56d364"));
+
+const POOL: Option<Colour> = Some(Colour(b"#d9c8f5", b"#3c2a66"));
+
+const POOL_LINE: Option<Colour> = Some(Colour(b"#6639ba", b"#bc9cff"));
+
+const FAULT: Option<Colour> = Some(Colour(b"#cf222e", b"#ff7b72"));
+
+const FAULT_BAND: Option<Colour> = Some(Colour(b"#ffe7e5", b"#3d1518"));
+
+const CRISP: &[u8] = b" shape-rendering=\"crispEdges\"";
+
+const DASHED: &[u8] = b" stroke-dasharray=\"3 2\"";
+
+const WEIGHT: &[u8] = b" font-weight=\"bold\"";
+
+const SIZE: &[u8] = b" font-size=\"9.8\"";
+
+const BOTH: &[u8] = b" font-size=\"9.8\" font-weight=\"bold\"";
+
+/// How the elements of a layer are drawn: the layer's name, what they are filled with, what their lines are drawn in and
+/// how wide, and what else is said of them.
+pub type Style = (
+    &'static [u8],
+    Option<Colour>,
+    Option<Colour>,
+    &'static [u8],
+    &'static [u8],
+);
 
 impl Layer {
     /// All layers, in the order in which they are drawn, which is that of their numbers.
     pub const ALL: [Layer; 31] = [
-        Layer::Bg,
-        Layer::Band,
-        Layer::Faultband,
-        Layer::Grid,
-        Layer::Axis,
-        Layer::Order,
-        Layer::Taken,
-        Layer::Lock,
-        Layer::Open,
-        Layer::Queued,
-        Layer::Completed,
-        Layer::Tail,
-        Layer::Pending,
-        Layer::Pool,
-        Layer::Full,
-        Layer::Cap,
-        Layer::Dot,
-        Layer::Load,
-        Layer::Touch,
-        Layer::Gap,
-        Layer::Halo,
-        Layer::Link,
-        Layer::Hit,
-        Layer::Hitload,
-        Layer::Text,
-        Layer::Dim,
-        Layer::Bold,
-        Layer::Red,
-        Layer::Small,
-        Layer::Smallbold,
-        Layer::Smallred,
+        Bg, Band, Faultband, Grid, Axis, Order, Taken, Lock, Open, Queued, Completed, Tail,
+        Pending, Pool, Full, Cap, Dot, Load, Touch, Gap, Halo, Link, Hit, Hitload, Text, Dim, Bold,
+        Red, Small, Smallbold, Smallred,
     ];
 
-    /// The layer's name.
-    pub fn name(self) -> &'static [u8] {
+    /// How its elements are drawn.
+    pub fn style(self) -> Style {
         match self {
-            Layer::Bg => b"bg",
-            Layer::Band => b"band",
-            Layer::Faultband => b"faultband",
-            Layer::Grid => b"grid",
-            Layer::Axis => b"axis",
-            Layer::Order => b"order",
-            Layer::Taken => b"taken",
-            Layer::Lock => b"lock",
-            Layer::Open => b"open",
-            Layer::Queued => b"queued",
-            Layer::Completed => b"completed",
-            Layer::Tail => b"tail",
-            Layer::Pending => b"pending",
-            Layer::Pool => b"pool",
-            Layer::Full => b"full",
-            Layer::Cap => b"cap",
-            Layer::Dot => b"dot",
-            Layer::Load => b"load",
-            Layer::Touch => b"touch",
-            Layer::Gap => b"gap",
-            Layer::Halo => b"halo",
-            Layer::Link => b"link",
-            Layer::Hit => b"hit",
-            Layer::Hitload => b"hitload",
-            Layer::Text => b"text",
-            Layer::Dim => b"dim",
-            Layer::Bold => b"bold",
-            Layer::Red => b"red",
-            Layer::Small => b"small",
-            Layer::Smallbold => b"smallbold",
-            Layer::Smallred => b"smallred",
-        }
-    }
-
-    /// What its elements are filled with.
-    pub fn fill(self) -> Option<Colour> {
-        match self {
-            Layer::Bg | Layer::Open | Layer::Load | Layer::Hitload => Some(Colour::Ground),
-            Layer::Band => Some(Colour::Band),
-            Layer::Faultband => Some(Colour::FaultBand),
-            Layer::Lock => Some(Colour::Lock),
-            Layer::Queued => Some(Colour::Queued),
-            Layer::Completed => Some(Colour::Completed),
-            Layer::Tail => Some(Colour::CompletedLine),
-            Layer::Pending => Some(Colour::Pending),
-            Layer::Pool => Some(Colour::Pool),
-            Layer::Dot | Layer::Touch | Layer::Text | Layer::Bold => Some(Colour::Text),
-            Layer::Small | Layer::Smallbold => Some(Colour::Text),
-            Layer::Hit | Layer::Red | Layer::Smallred => Some(Colour::Fault),
-            Layer::Dim => Some(Colour::Dim),
-            _ => None,
-        }
-    }
-
-    /// What its lines are drawn in.
-    pub fn stroke(self) -> Option<Colour> {
-        match self {
-            Layer::Grid => Some(Colour::Grid),
-            Layer::Axis | Layer::Order => Some(Colour::Axis),
-            Layer::Taken | Layer::Pending => Some(Colour::Pending),
-            Layer::Lock => Some(Colour::LockLine),
-            Layer::Open => Some(Colour::Dim),
-            Layer::Queued => Some(Colour::QueuedLine),
-            Layer::Completed => Some(Colour::CompletedLine),
-            Layer::Pool => Some(Colour::PoolLine),
-            Layer::Full | Layer::Cap | Layer::Load => Some(Colour::Text),
-            Layer::Dot | Layer::Touch | Layer::Gap | Layer::Halo | Layer::Hit => {
-                Some(Colour::Ground)
-            }
-            Layer::Link | Layer::Hitload => Some(Colour::Fault),
-            _ => None,
-        }
-    }
-
-    /// How wide its lines are.
-    pub fn breadth(self) -> &'static [u8] {
-        match self {
-            Layer::Taken => b"5",
-            Layer::Full => b"3",
-            Layer::Cap | Layer::Load => b"1.5",
-            Layer::Gap | Layer::Halo => b"6",
-            Layer::Link | Layer::Hitload => b"2",
-            _ => b"1",
-        }
-    }
-
-    /// What the corners of its boxes are: those of the lock are round.
-    pub fn corners(self) -> &'static [u8] {
-        match self {
-            Layer::Lock => b" rx=\"3\"",
-            _ => b"",
-        }
-    }
-
-    /// What else its group says.
-    pub fn more(self) -> &'static [u8] {
-        match self {
-            Layer::Grid | Layer::Axis => b" shape-rendering=\"crispEdges\"",
-            Layer::Open => b" stroke-dasharray=\"3 2\"",
-            Layer::Bold | Layer::Red => b" font-weight=\"bold\"",
-            Layer::Small => b" font-size=\"9.8\"",
-            Layer::Smallbold | Layer::Smallred => b" font-size=\"9.8\" font-weight=\"bold\"",
-            _ => b"",
+            Bg => (b"bg", GROUND, None, b"", b""),
+            Band => (b"band", BAND, None, b"", b""),
+            Faultband => (b"faultband", FAULT_BAND, None, b"", b""),
+            Grid => (b"grid", None, GRID, b"1", CRISP),
+            Axis => (b"axis", None, AXIS, b"1", CRISP),
+            Order => (b"order", None, AXIS, b"1", b""),
+            Taken => (b"taken", None, PENDING, b"5", b""),
+            Lock => (b"lock", LOCK, LOCK_LINE, b"1", b""),
+            Open => (b"open", GROUND, DIM, b"1", DASHED),
+            Queued => (b"queued", QUEUED, QUEUED_LINE, b"1", b""),
+            Completed => (b"completed", COMPLETED, COMPLETED_LINE, b"1", b""),
+            Tail => (b"tail", COMPLETED_LINE, None, b"", b""),
+            Pending => (b"pending", PENDING, PENDING, b"1", b""),
+            Pool => (b"pool", POOL, POOL_LINE, b"1", b""),
+            Full => (b"full", None, TEXT, b"3", b""),
+            Cap => (b"cap", None, TEXT, b"1.5", b""),
+            Dot => (b"dot", TEXT, GROUND, b"1", b""),
+            Load => (b"load", GROUND, TEXT, b"1.5", b""),
+            Touch => (b"touch", TEXT, GROUND, b"1", b""),
+            Gap => (b"gap", None, GROUND, b"6", b""),
+            Halo => (b"halo", None, GROUND, b"6", b""),
+            Link => (b"link", None, FAULT, b"2", b""),
+            Hit => (b"hit", FAULT, GROUND, b"1", b""),
+            Hitload => (b"hitload", GROUND, FAULT, b"2", b""),
+            Text => (b"text", TEXT, None, b"", b""),
+            Dim => (b"dim", DIM, None, b"", b""),
+            Bold => (b"bold", TEXT, None, b"", WEIGHT),
+            Red => (b"red", FAULT, None, b"", WEIGHT),
+            Small => (b"small", TEXT, None, b"", SIZE),
+            Smallbold => (b"smallbold", TEXT, None, b"", BOTH),
+            Smallred => (b"smallred", FAULT, None, b"", BOTH),
         }
     }
 }

@@ -1,6 +1,9 @@
 //! The courses of requests, from `get_sqe` to `cqe_seen`.
 
-use crate::frames::{Frame, Moment};
+use crate::fault::is_at_fault;
+use crate::frames::Frame;
+use crate::pen::NOTHING;
+use crate::pen::Piece::{self, Number, Word};
 use crate::run::Run;
 use rc_lang::request::{Kind, Request};
 use rc_world::event::{Action, Event};
@@ -33,6 +36,17 @@ impl Stage {
     pub fn next(self) -> Option<Stage> {
         Stage::ALL.get(self as usize + 1).copied()
     }
+
+    /// Its name in labels and sentences.
+    pub fn name(self) -> &'static [u8] {
+        match self {
+            Stage::Opened | Stage::Prepared => b"open",
+            Stage::Queued => b"queued",
+            Stage::Pending => b"pending",
+            Stage::Completed => b"completed",
+            Stage::Reaped => b"reaped",
+        }
+    }
 }
 
 /// A request.
@@ -63,13 +77,16 @@ impl Course {
         self.event(stage) > 0
     }
 
-    /// Whether it is with the kernel.
-    pub fn is_pending(&self) -> bool {
-        self.stage == Stage::Pending
+    /// The event since which it has been in a stage; an entry is open since its `get_sqe`.
+    pub fn since(&self, stage: Stage) -> u64 {
+        match stage {
+            Stage::Prepared => self.event(Stage::Opened),
+            _ => self.event(stage),
+        }
     }
 
     /// The last stage that begins at this event or before it.
-    pub fn stage_at(&self, number: u64) -> Stage {
+    fn stage_at(&self, number: u64) -> Stage {
         let mut last = Stage::Opened;
         for stage in Stage::ALL {
             if self.has(stage) && self.event(stage) <= number {
@@ -93,60 +110,78 @@ impl Course {
         matches!(self.request, Some(request) if request.kind == Kind::Read)
     }
 
+    /// What it asks for.
+    pub fn kind_name(&self) -> &'static [u8] {
+        let Some(request) = self.request else {
+            return b"";
+        };
+        match request.kind {
+            Kind::Read => b"read",
+            Kind::Write => b"write",
+            Kind::Fsync => b"fsync",
+            Kind::Nop => b"nop",
+        }
+    }
+
+    /// What is written beside a stage. Where there is no room, only the user data is left.
+    pub fn label(&self, stage: Stage, is_narrow: bool) -> [Piece<'static>; 2] {
+        let user_data = Number(self.user_data);
+        match stage {
+            Stage::Queued if is_narrow => [user_data, NOTHING],
+            _ if is_narrow => [NOTHING; 2],
+            Stage::Prepared => [Word(self.kind_name()), NOTHING],
+            Stage::Queued => [user_data, Word(b" queued")],
+            _ => [Word(stage.name()), NOTHING],
+        }
+    }
+
+    /// The same of a request that was opened in events that are left out, up to this: the stage that it has there.
+    pub fn old_label(&self, cut: u64, is_narrow: bool) -> [Piece<'static>; 5] {
+        let stage = self.stage_at(cut);
+        let name = Word(stage.name());
+        let user_data = Number(self.user_data);
+        let since = [Word(b" since "), Number(self.since(stage))];
+        match stage {
+            _ if is_narrow && !self.has(Stage::Queued) => [NOTHING; 5],
+            _ if is_narrow => [user_data, NOTHING, NOTHING, NOTHING, NOTHING],
+            Stage::Opened | Stage::Prepared => [name, since[0], since[1], NOTHING, NOTHING],
+            _ => [user_data, Word(b" "), name, since[0], since[1]],
+        }
+    }
+
     /// Goes on to its next stage, if that begins at this event.
     fn advance(&mut self, number: u64, frame: &Frame) {
         let Some(next) = self.stage.next() else {
             return;
         };
-        let mark = mark_of(frame.event);
-        if !self.is_begun(next, mark, frame.after) {
+        let (marked, user_data) = mark_of(frame.event);
+        let after = frame.after;
+        let is_begun = match next {
+            Stage::Pending => self.serial <= after.made.saturating_sub(after.queued),
+            Stage::Queued => marked == Some(next),
+            _ => marked == Some(next) && user_data == self.user_data,
+        };
+        if !is_begun {
             return;
         }
         self.stage = next;
         if let Some(event) = self.events.get_mut(next as usize) {
             *event = number;
         }
-        if next == Stage::Queued {
-            self.user_data = mark.user_data;
+        match (next, after.slot) {
+            (Stage::Queued, _) => self.user_data = user_data,
+            (Stage::Prepared, Slot::Prepared(request)) => self.request = Some(request),
+            _ => {}
         }
-        if next == Stage::Prepared {
-            self.request = prepared_in(frame.after.slot);
-        }
-    }
-
-    /// Whether its next stage, which is this one, begins at an event with this mark, after which the world is such.
-    fn is_begun(&self, next: Stage, mark: Mark, after: Moment) -> bool {
-        if next == Stage::Pending {
-            return self.serial <= after.made.saturating_sub(after.queued);
-        }
-        mark.stage == Some(next) && (next == Stage::Queued || mark.user_data == self.user_data)
-    }
-}
-
-/// The request of a prepared entry.
-fn prepared_in(slot: Slot) -> Option<Request> {
-    match slot {
-        Slot::Prepared(request) => Some(request),
-        _ => None,
     }
 }
 
 /// Which stage of a request an event begins, and the user data that it names, else 0.
-#[derive(Clone, Copy)]
-struct Mark {
-    stage: Option<Stage>,
-    user_data: u64,
-}
-
-fn mark_of(event: Event) -> Mark {
-    let (stage, user_data) = match event {
-        Event::ByThread { action, .. } => mark_by(action),
-        Event::ByKernel(completion) => (Some(Stage::Completed), completion.user_data),
+fn mark_of(event: Event) -> (Option<Stage>, u64) {
+    let action = match event {
+        Event::ByThread { action, .. } => action,
+        Event::ByKernel(completion) => return (Some(Stage::Completed), completion.user_data),
     };
-    Mark { stage, user_data }
-}
-
-fn mark_by(action: Action) -> (Option<Stage>, u64) {
     match action {
         Action::EntryOpened => (Some(Stage::Opened), 0),
         Action::ReadPrepared | Action::WritePrepared => (Some(Stage::Prepared), 0),
@@ -160,10 +195,15 @@ fn mark_by(action: Action) -> (Option<Stage>, u64) {
 /// The requests of a run that aren't reaped in the events that are left out.
 pub fn courses_of(alloc: Global, run: &Run<'_, '_>) -> Result<Vec<Course>, AllocError> {
     let courses = all_courses(alloc, run.frames)?;
+    let clash = clash_of(&courses);
     let mut drawn = Vec::new(alloc);
     for course in &courses {
         if !course.has(Stage::Reaped) || run.cut < course.event(Stage::Reaped) {
-            drawn.push(*course)?;
+            let is_at_fault = is_at_fault(run, course, clash);
+            drawn.push(Course {
+                is_at_fault,
+                ..*course
+            })?;
         }
     }
     Ok(drawn)
@@ -171,42 +211,59 @@ pub fn courses_of(alloc: Global, run: &Run<'_, '_>) -> Result<Vec<Course>, Alloc
 
 /// The requests of these events.
 fn all_courses(alloc: Global, frames: &[Frame]) -> Result<Vec<Course>, AllocError> {
-    let mut courses = Vec::new(alloc);
+    let mut courses: Vec<Course> = Vec::new(alloc);
     // The place of the first request that isn't reaped, or of one before it.
-    let mut first = 0;
+    let mut first: usize = 0;
     for (place, frame) in frames.iter().enumerate() {
         let number = place as u64 + 1;
-        first = advance_all(&mut courses, first, number, frame);
-        push_opened(&mut courses, number, frame)?;
+        advance_all(&mut courses, first, number, frame);
+        if matches!(courses.get(first), Some(course) if course.stage == Stage::Reaped) {
+            first = first.saturating_add(1);
+        }
+        if mark_of(frame.event).0 == Some(Stage::Opened) {
+            courses.push(Course {
+                events: [number, 0, 0, 0, 0, 0],
+                stage: Stage::Opened,
+                serial: frame.after.made.saturating_add(1),
+                request: None,
+                user_data: 0,
+                is_at_fault: false,
+            })?;
+        }
     }
     Ok(courses)
 }
 
-/// Lets the requests from a place on go on by an event. Answers from where on to look at the next.
-fn advance_all(courses: &mut Vec<Course>, first: usize, number: u64, frame: &Frame) -> usize {
-    for place in first..courses.len() {
+/// Lets the requests from a place on go on by an event.
+fn advance_all(courses: &mut Vec<Course>, from: usize, number: u64, frame: &Frame) {
+    for place in from..courses.len() {
         if let Some(course) = courses.get_mut(place) {
             course.advance(number, frame);
         }
     }
-    match courses.get(first) {
-        Some(course) if course.stage == Stage::Reaped => first.saturating_add(1),
-        _ => first,
-    }
 }
 
-/// Adds the request whose entry an event opens, if it opens one.
-fn push_opened(courses: &mut Vec<Course>, number: u64, frame: &Frame) -> Result<(), AllocError> {
-    if mark_of(frame.event).stage != Some(Stage::Opened) {
-        return Ok(());
+/// The serial numbers of the first two requests that clash.
+fn clash_of(courses: &[Course]) -> Option<(u64, u64)> {
+    for (place, course) in courses.iter().enumerate() {
+        if let Some(other) = clashing(course, courses.get(place + 1..)?) {
+            return Some((course.serial, other.serial));
+        }
     }
-    courses.push(Course {
-        events: [number, 0, 0, 0, 0, 0],
-        stage: Stage::Opened,
-        serial: frame.after.made.saturating_add(1),
-        request: None,
-        user_data: 0,
-        is_at_fault: false,
-    })?;
-    Ok(())
+    None
+}
+
+/// The first of these requests that clashes with this one: both are pending and name one buffer, and one is a read.
+fn clashing<'c>(course: &Course, others: &'c [Course]) -> Option<&'c Course> {
+    let buffer = course.buffer()?;
+    if course.stage != Stage::Pending {
+        return None;
+    }
+    for other in others {
+        let is_one = other.stage == Stage::Pending && other.buffer() == Some(buffer);
+        if is_one && (course.is_read() || other.is_read()) {
+            return Some(other);
+        }
+    }
+    None
 }

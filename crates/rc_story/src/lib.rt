@@ -3,18 +3,13 @@
 #![tactic(auto)]
 
 pub mod courses;
-mod double_put;
 pub mod fault;
 pub mod frames;
-pub mod labels;
 pub mod pen;
-pub mod pools;
-mod rounds;
+pub mod rows;
 pub mod run;
-mod said;
 pub mod sentence;
 pub mod stocks;
 pub mod story;
 pub mod stretches;
-pub mod touches;
 mod why;

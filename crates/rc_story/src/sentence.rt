@@ -1,9 +1,11 @@
-//! A sentence on requests, and the events that it names.
+//! A sentence on a fault, and the events that it names.
 
 use crate::courses::{Course, Stage};
-use crate::labels::name_of;
-use crate::pen::{Pen, Piece};
+use crate::pen::Piece::{Number, Word};
+use crate::pen::{Pen, split_form};
+use crate::stocks::{Over, PoolItem};
 use rc_lang::program::Program;
+use rc_text::names::buffer_name;
 use std::alloc::{AllocError, Global};
 
 /// Why there is a fault; nothing without one.
@@ -14,16 +16,26 @@ pub struct Why {
     pub events: Vec<u64>,
 }
 
-impl Why {
-    /// Whether the sentence names this event.
-    pub fn names(&self, number: u64) -> bool {
-        self.events.contains(&number)
-    }
+/// What can be in place of a `{}` in a sentence.
+#[derive(Clone, Copy)]
+pub enum Part<'a> {
+    Word(&'a [u8]),
+    Number(u64),
+    /// The name of a request.
+    Name(&'a Course),
+    /// Since when a request has been in its stage.
+    Since(&'a Course),
+    /// Requests as a list.
+    Requests(&'a [Course], Naming),
+    /// Items that are put, and how many where they may be there more than once.
+    Put(&'a [Over]),
+    /// How many of these items are there already.
+    There(&'a [Over]),
 }
 
 /// How a request is named in a list.
 #[derive(Clone, Copy)]
-pub enum Told {
+pub enum Naming {
     /// By its name and since when.
     Long,
     /// The same, or as an open entry.
@@ -54,93 +66,117 @@ impl<'a> Sentence<'a> {
         }
     }
 
-    /// Adds these pieces.
-    pub fn say(&mut self, pieces: &[Piece<'_>]) {
-        self.pen.put(pieces);
-    }
-
-    /// Adds a word.
-    pub fn say_word(&mut self, word: &[u8]) {
-        self.pen.put(&[Piece::Word(word)]);
-    }
-
-    /// Adds the name of a request.
-    pub fn say_name(&mut self, course: &Course) {
-        self.pen.put(&name_of(self.program, course));
-    }
-
-    /// Adds since when a request has been in its stage, and names that event.
-    pub fn say_since(&mut self, course: &Course) {
-        let (before, after): (&[u8], &[u8]) = match course.stage {
-            Stage::Opened | Stage::Prepared => (b"open since event ", b""),
-            Stage::Queued => (b"queued since event ", b""),
-            Stage::Pending => (b"pending since event ", b""),
-            Stage::Completed | Stage::Reaped => (b"completed at event ", b" and not reaped"),
-        };
-        let event = since(course);
-        let pushed = self.events.push(event);
-        self.is_out = self.is_out || pushed.is_err();
-        self.say(&[
-            Piece::Word(before),
-            Piece::Number(event),
-            Piece::Word(after),
-        ]);
-    }
-
-    /// Adds a request, its name and since when.
-    fn say_request(&mut self, course: &Course) {
-        let user_data = Piece::Number(course.user_data);
-        self.say(&[Piece::Word(b"request "), user_data, Piece::Word(b", ")]);
-        self.say_name(course);
-        self.say_word(b", is ");
-        self.say_since(course);
-    }
-
-    /// Adds a request by its user data, and since when.
-    fn say_short(&mut self, word: &[u8], course: &Course) {
-        let user_data = Piece::Number(course.user_data);
-        self.say(&[Piece::Word(word), user_data, Piece::Word(b" is ")]);
-        self.say_since(course);
-    }
-
-    /// Adds the request at a place of a list.
-    fn say_told(&mut self, course: &Course, told: Told, place: u64) {
-        match told {
-            Told::Entry if !course.has(Stage::Queued) => {
-                self.say_word(b"an entry is ");
-                self.say_since(course);
-            }
-            Told::Long | Told::Entry => self.say_request(course),
-            Told::First if place == 0 => self.say_short(b"Request ", course),
-            Told::First | Told::Short => self.say_short(b"request ", course),
+    /// Adds a form, with a part in place of each `{}`.
+    pub fn say(&mut self, form: &[u8], parts: &[Part<'_>]) {
+        let mut rest = form;
+        for part in parts {
+            let (before, after) = split_form(rest);
+            self.pen.put(Word(before));
+            self.say_part(*part);
+            rest = after;
         }
+        self.pen.put(Word(rest));
     }
 
-    /// Adds requests as a list.
-    pub fn say_list(&mut self, courses: &[Course], told: Told) {
-        let count = courses.len() as u64;
-        for (place, course) in courses.iter().enumerate() {
-            if self.goes_on(place as u64, count) {
-                self.say_told(course, told, place as u64);
+    fn say_part(&mut self, part: Part<'_>) {
+        match part {
+            Part::Word(word) => self.pen.put(Word(word)),
+            Part::Number(number) => self.pen.put(Number(number)),
+            Part::Name(course) => self.say_name(course),
+            Part::Since(course) => self.say_since(course),
+            Part::Requests(courses, naming) => {
+                for (place, course) in courses.iter().enumerate() {
+                    if self.goes_on(place, courses.len()) {
+                        self.say_request(course, naming, place);
+                    }
+                }
+            }
+            Part::Put(over) => {
+                for (place, one) in over.iter().enumerate() {
+                    if self.goes_on(place, over.len()) {
+                        self.say_put(one);
+                    }
+                }
+            }
+            Part::There(over) => {
+                for (place, one) in over.iter().enumerate() {
+                    if self.goes_on(place, over.len()) {
+                        self.say_there(one);
+                    }
+                }
             }
         }
     }
 
     /// Adds what is before the part at a place of a list. Of more than three parts the first two are said, and how many
     /// there are more. Answers whether this one is.
-    pub fn goes_on(&mut self, place: u64, count: u64) -> bool {
+    fn goes_on(&mut self, place: usize, count: usize) -> bool {
         match place {
-            0 => {}
-            1 if count == 2 => self.say_word(b" and "),
-            1 => self.say_word(b", "),
-            2 if count == 3 => self.say_word(b" and "),
+            1 if count == 2 => self.pen.put(Word(b" and ")),
+            1 => self.pen.put(Word(b", ")),
+            2 if count == 3 => self.pen.put(Word(b" and ")),
             2 => {
-                let more = Piece::Number(count.saturating_sub(2));
-                self.say(&[Piece::Word(b" and "), more, Piece::Word(b" more")]);
+                let more = count.saturating_sub(2) as u64;
+                self.pen.write(b" and {} more", &[Number(more)]);
             }
             _ => {}
         }
         place < 2 || place == 2 && count == 3
+    }
+
+    /// Adds what a request asks for, with the buffer and the length where it has them.
+    fn say_name(&mut self, course: &Course) {
+        self.pen.put(Word(course.kind_name()));
+        if let (Some(buffer), Some(request)) = (course.buffer(), course.request) {
+            let name = Word(buffer_name(self.program, buffer));
+            let len = Number(u64::from(request.len));
+            self.pen.write(b" {} {}", &[name, len]);
+        }
+    }
+
+    /// Adds since when a request has been in its stage, and names that event.
+    fn say_since(&mut self, course: &Course) {
+        let event = course.since(course.stage);
+        let pushed = self.events.push(event);
+        self.is_out = self.is_out || pushed.is_err();
+        let (name, event) = (Word(course.stage.name()), Number(event));
+        match course.stage {
+            Stage::Completed => self
+                .pen
+                .write(b"{} at event {} and not reaped", &[name, event]),
+            _ => self.pen.write(b"{} since event {}", &[name, event]),
+        }
+    }
+
+    /// Adds the request at a place of a list.
+    fn say_request(&mut self, course: &Course, naming: Naming, place: usize) {
+        let user_data = Number(course.user_data);
+        match naming {
+            Naming::Entry if !course.has(Stage::Queued) => self.pen.write(b"an entry is ", &[]),
+            Naming::Long | Naming::Entry => {
+                self.pen.write(b"request {}, ", &[user_data]);
+                self.say_name(course);
+                self.pen.write(b", is ", &[]);
+            }
+            Naming::First if place == 0 => self.pen.write(b"Request {} is ", &[user_data]),
+            Naming::First | Naming::Short => self.pen.write(b"request {} is ", &[user_data]),
+        }
+        self.say_since(course);
+    }
+
+    fn say_put(&mut self, over: &Over) {
+        self.pen.write(b"{}{}", &over.item.name(self.program));
+        if !matches!(over.item, PoolItem::Token(_)) {
+            self.pen.write(b":{}", &[Number(over.put)]);
+        }
+    }
+
+    fn say_there(&mut self, over: &Over) {
+        let (there, bound) = (Number(over.there), Number(over.bound));
+        match over.item {
+            PoolItem::Token(_) => self.pen.write(b"it already", &[]),
+            _ => self.pen.write(b"{} of {} already", &[there, bound]),
+        }
     }
 
     /// The sentence, or an error where memory ran out.
@@ -156,15 +192,5 @@ impl<'a> Sentence<'a> {
             return Err(AllocError);
         }
         Ok(Why { words, events })
-    }
-}
-
-/// The event since which a request has been in its stage; an entry is open since its `get_sqe`.
-pub fn since(course: &Course) -> u64 {
-    match course.stage {
-        Stage::Opened | Stage::Prepared => course.event(Stage::Opened),
-        Stage::Queued => course.event(Stage::Queued),
-        Stage::Pending => course.event(Stage::Pending),
-        Stage::Completed | Stage::Reaped => course.event(Stage::Completed),
     }
 }

@@ -1,46 +1,48 @@
 //! The sentence that says why there is a fault.
 
 use crate::courses::{Course, Stage};
-use crate::double_put::say_twice;
-use crate::fault::{call_of, fault_touch, items_at_fault, lacked_at_fault, put_at_fault};
-use crate::pen::Piece;
-use crate::pools::PoolItem;
-use crate::run::{Run, are_both, has_sides};
-use crate::sentence::{Sentence, Told, Why};
-use crate::touches::{Verb, next_touch};
-use rc_lang::lines::{Locks, Op, Stmt, Test};
-use rc_lang::program::Program;
+use crate::fault::{Blame, call_of};
+use crate::run::{BOTH, Run, Touch, Turn, Verb, touch_of};
+use crate::sentence::Part::{self, Name, Number, Put, Requests, Since, There, Word};
+use crate::sentence::{Naming, Sentence, Why};
+use crate::stocks::Over;
+use rc_lang::lines::{Op, Stmt, Test};
 use rc_text::names::{buffer_name, side_of, thread_name};
-use rc_world::controls::Holders;
 use rc_world::fault::FaultKind;
 use rc_world::world::Slot;
 use std::alloc::{AllocError, Global};
 
-/// Who and what a sentence is on: the requests at fault, those whose completions are in the ring, from its front, and the
-/// items for which the pools have no room.
-#[derive(Drop)]
-struct Parties {
-    found: Vec<Course>,
-    completed: Vec<Course>,
-    over: Vec<PoolItem>,
-}
-
 /// The sentence that says why there is a fault.
-pub fn why_of(alloc: Global, run: &Run<'_, '_>, courses: &[Course]) -> Result<Why, AllocError> {
-    let mut sentence = Sentence::new(alloc, run.program());
+pub fn why_of(
+    alloc: Global,
+    run: &Run<'_, '_>,
+    courses: &[Course],
+    over: &[Over],
+    blame: Blame,
+) -> Result<Why, AllocError> {
+    let mut sentence = Sentence::new(alloc, run.program);
+    let to = &mut sentence;
+    let found = found_in(alloc, courses)?;
+    let completed = completed_in(alloc, run, courses)?;
+    let culprit = Word(run.lane_name(run.fault_lane()));
     if let Some(fault) = run.fault {
-        let parties = parties_of(alloc, run, courses)?;
-        say_fault(&mut sentence, run, &parties, fault.kind);
+        match fault.kind {
+            FaultKind::WriteOfPending | FaultKind::ReadOfFilling => {
+                say_touched(to, run, culprit, &found);
+            }
+            FaultKind::ThreadRace => say_race(to, run, culprit),
+            FaultKind::KernelClash => say_clash(to, run, &found),
+            FaultKind::RingFull => say_full(to, run, culprit, &found),
+            FaultKind::Overflow => say_overflow(to, run, &found, &completed),
+            FaultKind::AmbiguousData => say_ambiguous(to, culprit, &found),
+            FaultKind::UnknownReap => say_unknown(to, run, culprit),
+            FaultKind::NoLock => say_no_lock(to, run, culprit, blame),
+            FaultKind::RawEntry => say_raw(to, run, culprit, &found),
+            FaultKind::OutOfBuffer => say_out(to, run, culprit),
+            FaultKind::DoublePut => say_double(to, run, culprit, over),
+        }
     }
     sentence.why()
-}
-
-fn parties_of(alloc: Global, run: &Run<'_, '_>, courses: &[Course]) -> Result<Parties, AllocError> {
-    Ok(Parties {
-        found: found_in(alloc, courses)?,
-        completed: completed_of(alloc, run, courses)?,
-        over: items_at_fault(alloc, run)?,
-    })
 }
 
 /// The requests at fault.
@@ -55,331 +57,224 @@ fn found_in(alloc: Global, courses: &[Course]) -> Result<Vec<Course>, AllocError
 }
 
 /// The requests whose completions are in the ring, from its front.
-fn completed_of(
+fn completed_in(
     alloc: Global,
     run: &Run<'_, '_>,
     courses: &[Course],
 ) -> Result<Vec<Course>, AllocError> {
     let mut found = Vec::new(alloc);
     for completion in run.world.completions() {
-        push_owner(&mut found, courses, completion.user_data)?;
+        for course in courses {
+            if course.stage == Stage::Completed && course.user_data == completion.user_data {
+                found.push(*course)?;
+            }
+        }
     }
     Ok(found)
 }
 
-/// Adds the completed request with this user data.
-fn push_owner(
-    found: &mut Vec<Course>,
-    courses: &[Course],
-    user_data: u64,
-) -> Result<(), AllocError> {
-    for course in courses {
-        if course.stage == Stage::Completed && course.user_data == user_data {
-            found.push(*course)?;
-        }
-    }
-    Ok(())
-}
-
-fn say_fault(to: &mut Sentence<'_>, run: &Run<'_, '_>, parties: &Parties, kind: FaultKind) {
-    match kind {
-        FaultKind::WriteOfPending => say_touched(to, run, &parties.found),
-        FaultKind::ReadOfFilling => say_touched(to, run, &parties.found),
-        FaultKind::KernelClash => say_clash(to, run.program(), &parties.found),
-        FaultKind::ThreadRace => say_race(to, run),
-        FaultKind::RingFull => say_full(to, run, &parties.found),
-        FaultKind::Overflow => say_overflow(to, run, parties),
-        FaultKind::AmbiguousData => say_ambiguous(to, run, parties.found.first()),
-        FaultKind::UnknownReap => say_unknown(to, run),
-        FaultKind::NoLock => say_no_lock(to, run),
-        FaultKind::RawEntry => say_raw(to, run, parties.found.first()),
-        FaultKind::OutOfBuffer => say_out(to, run),
-        FaultKind::DoublePut => say_double(to, run, &parties.over),
-    }
-}
-
-/// Says who is about to do something.
-fn say_about(to: &mut Sentence<'_>, run: &Run<'_, '_>) {
-    to.say(&[
-        Piece::Word(culprit_name(run)),
-        Piece::Word(b" is about to "),
-    ]);
-}
-
-fn culprit_name<'a>(run: &Run<'_, 'a>) -> &'a [u8] {
-    match run.culprit() {
-        Some(thread) => thread_name(run.program(), thread),
-        None => b"kernel",
-    }
-}
-
-/// What is done with a buffer.
-fn verb_words(verb: Verb) -> &'static [u8] {
-    match verb {
-        Verb::Load => b"load from",
-        Verb::Store => b"store to",
-        Verb::Fill => b"fill",
-    }
-}
-
-/// Says what the thread at fault is about to do with a buffer.
-fn say_touch(to: &mut Sentence<'_>, run: &Run<'_, '_>) {
-    say_about(to, run);
-    if let Some(touch) = fault_touch(run) {
-        let name = buffer_name(run.program(), touch.buffer);
-        to.say(&[
-            Piece::Word(verb_words(touch.verb)),
-            Piece::Word(b" "),
-            Piece::Word(name),
-        ]);
-    }
+/// What is done with a buffer, and the buffer's name.
+fn touch_words<'a>(run: &Run<'_, 'a>, touch: Option<Touch>) -> [Part<'a>; 2] {
+    let Some(Touch { verb, buffer }) = touch else {
+        return [Word(b""); 2];
+    };
+    let verb = match verb {
+        Verb::Load => Word(b"load from"),
+        Verb::Store => Word(b"store to"),
+        Verb::Fill => Word(b"fill"),
+    };
+    [verb, Word(buffer_name(run.program, buffer))]
 }
 
 /// F1 and F2.
-fn say_touched(to: &mut Sentence<'_>, run: &Run<'_, '_>, found: &[Course]) {
+fn say_touched(to: &mut Sentence<'_>, run: &Run<'_, '_>, culprit: Part<'_>, found: &[Course]) {
+    let [verb, buffer] = touch_words(run, run.fault_touch());
     let does = match found.first() {
-        Some(course) if course.is_read() => "fills",
-        _ => "still reads",
+        Some(course) if course.is_read() => Word(b"fills"),
+        _ => Word(b"still reads"),
     };
-    say_touch(to, run);
-    to.say(&[
-        Piece::Word(b", and the kernel "),
-        Piece::Word(does.as_bytes()),
-        Piece::Word(b" it: "),
-    ]);
-    to.say_list(found, Told::Long);
-    to.say_word(b".");
+    to.say(b"{} is about to {} {}, and ", &[culprit, verb, buffer]);
+    to.say(
+        b"the kernel {} it: {}.",
+        &[does, Requests(found, Naming::Long)],
+    );
 }
 
 /// F3: what two requests do that clash.
-fn say_clash(to: &mut Sentence<'_>, program: &Program, found: &[Course]) {
+fn say_clash(to: &mut Sentence<'_>, run: &Run<'_, '_>, found: &[Course]) {
     let [first, second, ..] = found else {
         return;
     };
-    to.say_word(b"Two pending requests name ");
-    if let Some(buffer) = first.buffer() {
-        to.say_word(buffer_name(program, buffer));
-    }
-    to.say_word(b": ");
-    to.say_list(&[*first], Told::Long);
-    to.say_word(b", and ");
-    to.say_list(&[*second], Told::Long);
-    to.say_word(b".");
+    let buffer = match first.buffer() {
+        Some(buffer) => Word(buffer_name(run.program, buffer)),
+        None => Word(b""),
+    };
+    to.say(
+        b"Two pending requests name {}: {}, and {}.",
+        &[
+            buffer,
+            Requests(&[*first], Naming::Long),
+            Requests(&[*second], Naming::Long),
+        ],
+    );
 }
 
 /// F4.
-fn say_race(to: &mut Sentence<'_>, run: &Run<'_, '_>) {
-    say_touch(to, run);
-    to.say_word(b", and ");
-    if let Some(rival) = run.rival() {
-        let name = thread_name(run.program(), rival);
-        let verb = match next_touch(run.world, rival) {
-            Some(touch) => verb_words(touch.verb),
-            None => b"",
-        };
-        to.say(&[
-            Piece::Word(name),
-            Piece::Word(b" is about to "),
-            Piece::Word(verb),
-        ]);
-    }
-    to.say_word(b" it: nothing says which comes first.");
+fn say_race(to: &mut Sentence<'_>, run: &Run<'_, '_>, culprit: Part<'_>) {
+    let Some(rival) = run.rival else {
+        return;
+    };
+    let [verb, buffer] = touch_words(run, run.fault_touch());
+    let [other, _] = touch_words(run, touch_of(rival.stmt));
+    let rival = Word(thread_name(run.program, rival.thread));
+    to.say(
+        b"{} is about to {} {}, and {} is about to {} it: nothing says which comes first.",
+        &[culprit, verb, buffer, rival, other],
+    );
 }
 
 /// F5.
-fn say_full(to: &mut Sentence<'_>, run: &Run<'_, '_>, found: &[Course]) {
-    say_about(to, run);
-    let entries = run.program().entries();
-    say_filled(to, b"get_sqe, and the submission ring is full, ", entries);
-    to.say_list(found, Told::Entry);
-    to.say_word(b".");
-}
-
-/// Says how many entries a full ring has.
-fn say_filled(to: &mut Sentence<'_>, words: &[u8], entries: u32) {
-    let entries = Piece::Number(u64::from(entries));
-    to.say(&[
-        Piece::Word(words),
-        entries,
-        Piece::Word(b" of "),
-        entries,
-        Piece::Word(b": "),
-    ]);
+fn say_full(to: &mut Sentence<'_>, run: &Run<'_, '_>, culprit: Part<'_>, found: &[Course]) {
+    let entries = Number(u64::from(run.program.entries()));
+    to.say(
+        b"{} is about to get_sqe, and the submission ring is full, ",
+        &[culprit],
+    );
+    to.say(
+        b"{} of {}: {}.",
+        &[entries, entries, Requests(found, Naming::Entry)],
+    );
 }
 
 /// F6.
-fn say_overflow(to: &mut Sentence<'_>, run: &Run<'_, '_>, parties: &Parties) {
-    let entries = run.program().completion_entries();
-    to.say_list(&parties.found, Told::First);
-    say_filled(to, b", and the completion ring is full, ", entries);
-    to.say_list(&parties.completed, Told::Short);
-    to.say_word(b".");
+fn say_overflow(to: &mut Sentence<'_>, run: &Run<'_, '_>, found: &[Course], completed: &[Course]) {
+    let entries = Number(u64::from(run.program.completion_entries()));
+    to.say(
+        b"{}, and the completion ring is full, ",
+        &[Requests(found, Naming::First)],
+    );
+    to.say(b"{} of {}: ", &[entries, entries]);
+    to.say(b"{}.", &[Requests(completed, Naming::Short)]);
 }
 
 /// F7.
-fn say_ambiguous(to: &mut Sentence<'_>, run: &Run<'_, '_>, course: Option<&Course>) {
-    say_about(to, run);
-    let Some(course) = course else {
-        return;
-    };
-    let user_data = Piece::Number(course.user_data);
-    to.say(&[
-        Piece::Word(b"queue an entry as "),
-        user_data,
-        Piece::Word(b", and request "),
-        user_data,
-        Piece::Word(b" is in flight: "),
-    ]);
-    to.say_name(course);
-    to.say_word(b", ");
-    to.say_since(course);
-    to.say_word(b".");
-}
-
-/// F8.
-fn say_unknown(to: &mut Sentence<'_>, run: &Run<'_, '_>) {
-    let held = if has_sides(run.program()) {
-        " has the lock cq,"
-    } else {
-        ""
-    };
-    to.say(&[
-        Piece::Word(culprit_name(run)),
-        Piece::Word(held.as_bytes()),
-        Piece::Word(b" is about to take a completion away, and has peeked at none."),
-    ]);
-}
-
-/// F9.
-fn say_no_lock(to: &mut Sentence<'_>, run: &Run<'_, '_>) {
-    let lacked = lacked_at_fault(run);
-    say_about(to, run);
-    to.say(&[
-        Piece::Word(b"make a call on the "),
-        Piece::Word(place_called(run)),
-        Piece::Word(b" without the lock"),
-        Piece::Word(side_of(lacked).as_bytes()),
-        Piece::Word(b": "),
-    ]);
-    say_holders(to, run.program(), lacked, run.world.holders());
-}
-
-/// What the call at fault is made on.
-fn place_called(run: &Run<'_, '_>) -> &'static [u8] {
-    let Some(line) = run.fault_line() else {
-        return b"ring";
-    };
-    match line.stmt {
-        Stmt::Put(_, _) | Stmt::If(Test::Take(_, _)) => b"pool",
-        _ => b"ring",
+fn say_ambiguous(to: &mut Sentence<'_>, culprit: Part<'_>, found: &[Course]) {
+    if let Some(course) = found.first() {
+        let data = Number(course.user_data);
+        to.say(b"{} is about to queue an entry as ", &[culprit]);
+        to.say(b"{}, and request {} is in flight: ", &[data, data]);
+        to.say(b"{}, ", &[Name(course)]);
+        to.say(b"{}.", &[Since(course)]);
     }
 }
 
-/// Says who has these locks.
-fn say_holders(to: &mut Sentence<'_>, program: &Program, locks: Locks, holders: Holders) {
-    let (sq, cq) = (
-        holder_name(program, holders.sq),
-        holder_name(program, holders.cq),
-    );
-    if are_both(locks) && holders.sq != holders.cq {
-        to.say(&[Piece::Word(sq), Piece::Word(b" has sq, and ")]);
-        to.say(&[Piece::Word(cq), Piece::Word(b" has cq.")]);
+/// F8.
+fn say_unknown(to: &mut Sentence<'_>, run: &Run<'_, '_>, culprit: Part<'_>) {
+    let held = if run.has_sides {
+        Word(b" has the lock cq,")
     } else {
-        let name = if locks.sq { sq } else { cq };
-        to.say(&[Piece::Word(name), Piece::Word(b" has it.")]);
+        Word(b"")
+    };
+    to.say(
+        b"{}{} is about to take a completion away, and has peeked at none.",
+        &[culprit, held],
+    );
+}
+
+/// F9.
+fn say_no_lock(to: &mut Sentence<'_>, run: &Run<'_, '_>, culprit: Part<'_>, blame: Blame) {
+    let called = match run.culprit {
+        Some(
+            Turn {
+                stmt: Stmt::Put(_, _) | Stmt::If(Test::Take(_, _)),
+                ..
+            },
+        ) => Word(b"pool"),
+        _ => Word(b"ring"),
+    };
+    let lacked = Word(side_of(blame.lacked).as_bytes());
+    to.say(
+        b"{} is about to make a call on the {} without the lock{}: ",
+        &[culprit, called, lacked],
+    );
+    let holders = run.world.holders();
+    let (sq, cq) = (holder(run, holders.sq), holder(run, holders.cq));
+    if blame.lacked == BOTH && holders.sq != holders.cq {
+        to.say(b"{} has sq, and {} has cq.", &[sq, cq]);
+    } else {
+        let holder = if blame.lacked.sq { sq } else { cq };
+        to.say(b"{} has it.", &[holder]);
     }
 }
 
 /// The name of the thread that has a lock.
-fn holder_name(program: &Program, holder: Option<u32>) -> &[u8] {
-    match holder {
-        Some(thread) => thread_name(program, thread),
-        None => b"nobody",
+fn holder<'a>(run: &Run<'_, 'a>, thread: Option<u32>) -> Part<'a> {
+    match thread {
+        Some(thread) => Word(thread_name(run.program, thread)),
+        None => Word(b"nobody"),
     }
 }
 
 /// F10.
-fn say_raw(to: &mut Sentence<'_>, run: &Run<'_, '_>, course: Option<&Course>) {
-    say_about(to, run);
-    to.say(&[Piece::Word(call_at_fault(run)), Piece::Word(b", and ")]);
-    let words: &[u8] = match run.world.slot() {
-        Slot::Closed => b"no entry is open.",
-        Slot::Vacant => b"the open entry is vacant: ",
-        Slot::Prepared(_) => b"the open entry is prepared and not queued: ",
-    };
-    to.say_word(words);
-    if matches!(run.world.slot(), Slot::Closed) {
+fn say_raw(to: &mut Sentence<'_>, run: &Run<'_, '_>, culprit: Part<'_>, found: &[Course]) {
+    let Some(Turn { stmt, .. }) = run.culprit else {
         return;
-    }
-    if let Some(course) = course {
-        to.say_since(course);
-    }
-    to.say_word(b".");
-}
-
-/// What the line at fault calls.
-fn call_at_fault(run: &Run<'_, '_>) -> &'static [u8] {
-    let Some(line) = run.fault_line() else {
-        return b"";
     };
-    match line.stmt {
+    let call: &[u8] = match stmt {
         Stmt::Do(op) => call_of(op),
-        Stmt::EndLock(_, locks) if are_both(locks) => b"release the lock",
+        Stmt::EndLock(_, locks) if locks == BOTH => b"release the lock",
         Stmt::EndLock(_, _) => b"release the lock sq",
-        Stmt::Break(_, locks, _) if are_both(locks) => b"break out of the lock",
+        Stmt::Break(_, locks, _) if locks == BOTH => b"break out of the lock",
         Stmt::Break(_, _, _) => b"break out of the lock sq",
         _ => b"",
+    };
+    to.say(b"{} is about to {}, and ", &[culprit, Word(call)]);
+    match (run.world.slot(), found.first()) {
+        (Slot::Vacant, Some(course)) => {
+            to.say(b"the open entry is vacant: {}.", &[Since(course)]);
+        }
+        (Slot::Prepared(_), Some(course)) => {
+            let form = b"the open entry is prepared and not queued: {}.";
+            to.say(form, &[Since(course)]);
+        }
+        _ => to.say(b"no entry is open.", &[]),
     }
 }
 
 /// F11.
-fn say_out(to: &mut Sentence<'_>, run: &Run<'_, '_>) {
-    say_about(to, run);
-    let Some(line) = run.fault_line() else {
+fn say_out(to: &mut Sentence<'_>, run: &Run<'_, '_>, culprit: Part<'_>) {
+    let Some(Turn { stmt, .. }) = run.culprit else {
         return;
     };
-    match line.stmt {
-        Stmt::Do(Op::Load(_, buffer, i)) => say_byte(to, run.program(), b"load byte ", buffer, i),
-        Stmt::Do(Op::Store(buffer, i, _)) => say_byte(to, run.program(), b"store byte ", buffer, i),
-        Stmt::Do(Op::PrepRead(_, buffer, len, _)) => say_length(to, run.program(), buffer, len),
-        Stmt::Do(Op::PrepWrite(_, buffer, len, _, _)) => say_length(to, run.program(), buffer, len),
-        _ => {}
-    }
-}
-
-fn say_byte(to: &mut Sentence<'_>, program: &Program, words: &[u8], buffer: usize, i: u32) {
-    to.say(&[
-        Piece::Word(words),
-        Piece::Number(u64::from(i)),
-        Piece::Word(b" of "),
-    ]);
-    say_bytes(to, program, buffer);
-    to.say_word(b" bytes, the first at 0.");
-}
-
-fn say_length(to: &mut Sentence<'_>, program: &Program, buffer: usize, len: u32) {
-    to.say(&[
-        Piece::Word(b"prepare "),
-        Piece::Number(u64::from(len)),
-        Piece::Word(b" bytes of "),
-    ]);
-    say_bytes(to, program, buffer);
-    to.say_word(b".");
-}
-
-/// Says how many bytes a buffer has.
-fn say_bytes(to: &mut Sentence<'_>, program: &Program, buffer: usize) {
-    to.say(&[
-        Piece::Word(buffer_name(program, buffer)),
-        Piece::Word(b", which has "),
-        Piece::Number(u64::from(program.bytes_at(buffer))),
-    ]);
+    let (form, number, buffer): (&[u8], u32, usize) = match stmt {
+        Stmt::Do(Op::Load(_, buffer, i)) => (
+            b"load byte {} of {}, which has {} bytes, the first at 0.",
+            i,
+            buffer,
+        ),
+        Stmt::Do(Op::Store(buffer, i, _)) => (
+            b"store byte {} of {}, which has {} bytes, the first at 0.",
+            i,
+            buffer,
+        ),
+        Stmt::Do(Op::PrepRead(_, buffer, len, _) | Op::PrepWrite(_, buffer, len, _, _)) => {
+            (b"prepare {} bytes of {}, which has {}.", len, buffer)
+        }
+        _ => return,
+    };
+    let name = Word(buffer_name(run.program, buffer));
+    let bytes = Number(u64::from(run.program.bytes_at(buffer)));
+    to.say(b"{} is about to ", &[culprit]);
+    to.say(form, &[Number(u64::from(number)), name, bytes]);
 }
 
 /// F12.
-fn say_double(to: &mut Sentence<'_>, run: &Run<'_, '_>, over: &[PoolItem]) {
-    if let Some(items) = put_at_fault(run) {
-        say_about(to, run);
-        say_twice(to, run, items, over);
-    }
+fn say_double(to: &mut Sentence<'_>, run: &Run<'_, '_>, culprit: Part<'_>, over: &[Over]) {
+    let have = if run.program.pools().is_empty() {
+        Word(b"the pool has")
+    } else {
+        Word(b"the pools have")
+    };
+    to.say(b"{} is about to put ", &[culprit]);
+    to.say(b"{}, and {} {}.", &[Put(over), have, There(over)]);
 }

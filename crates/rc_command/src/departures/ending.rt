@@ -12,6 +12,10 @@ pub enum Ending {
     Followed {
         calls: u64,
     },
+    /// A run makes all its lines, and then it was full. So many are its calls.
+    Full {
+        calls: u64,
+    },
     /// No run that was looked at makes this line. The place in the C program that it names, what it says that its thread
     /// does, and why it departs.
     Departs {
@@ -39,6 +43,7 @@ impl Ending {
     {
         match self {
             Ending::Followed { .. } => GOOD_STATUS,
+            Ending::Full { .. } => DEVICE_STATUS,
             Ending::Departs { .. } => FAULT_STATUS,
             Ending::Unreadable { .. } => UNREADABLE_STATUS,
             Ending::TooMany { .. } => DEVICE_STATUS,

@@ -3,7 +3,7 @@
 ghost use Rattle.std.specs.Prelude.{ℕ, ◌≡◌, List, Option, None, IfOk};
 ghost use Rattle.rc_follow.specs.Follower.{Follower as SpecFollower};
 ghost use Rattle.rc_log.specs.Waiting.{left};
-ghost use Rattle.rc_command.specs.Logs.{Ends, FollowsLine, Headed, IsOther, IsRoomy, Reaches, Ringed, Stops, Under};
+ghost use Rattle.rc_command.specs.Logs.{Ends, FollowsLine, Headed, IsDeclared, IsOther, IsRoomy, Reaches, Ringed, Stops, Under};
 
 use crate::departures::ending::Ending;
 use crate::departures::why::{put_says, put_why};
@@ -12,9 +12,10 @@ use rc_follow::follower::{Answer, Follower};
 use rc_follow::places::{Departure, why_departs};
 use rc_lang::program::Program;
 use rc_log::call::{Said, Why};
+use rc_log::declared::{lack_of, read_declared};
 use rc_log::head::{is_head, read_ring};
 use rc_log::line::read_line;
-use rc_log::reader::{LogFault, LogReader};
+use rc_log::reader::{LogFault, LogReader, Next};
 use rc_log::words::word_at;
 use rc_report::source::Lines;
 use rc_text::text::put_pieces;
@@ -63,7 +64,7 @@ fn follow_lines<'a, R: Read + Drop>(
 }
 
 /// Reads the next line, which has this number, and holds it to the program. Answers how the log ends here if it does.
-#[tactic(auto, using(crate::proofs::Under::under_line, crate::proofs::Under::under_end, crate::proofs::Under::under_stop))]
+#[tactic(auto, using(crate::proofs::Under::under_line, crate::proofs::Under::under_end, crate::proofs::Under::under_full, crate::proofs::Under::under_stop))]
 fn follow_next<'a, R: Read>(
     alloc: Global,
     lines: &Lines<'_>,
@@ -75,8 +76,11 @@ fn follow_next<'a, R: Read>(
     ensures under { (old : SpecFollower) → (bytes : Option (List ℕ)) → Under old bytes (left R.remaining log.old) follower.old None → IfOk result (Under old bytes (left R.remaining log.new) follower.new) }
 {
     match log.next_line() {
-        Ok(true) => Ok(follow_line(alloc, lines, follower, number, log.line())?),
-        Ok(false) => Ok(Some(Ending::Followed {
+        Ok(Next::Line) => Ok(follow_line(alloc, lines, follower, number, log.line())?),
+        Ok(Next::End) => Ok(Some(Ending::Followed {
+            calls: follower.calls(),
+        })),
+        Ok(Next::Full) => Ok(Some(Ending::Full {
             calls: follower.calls(),
         })),
         Err(fault) => Ok(Some(too_long(alloc, number, fault)?)),
@@ -103,13 +107,13 @@ fn read_heads<R: Read>(
     ensures { IfOk result (Headed program.now (left R.remaining log.old) (left R.remaining log.new)) }
 {
     match log.next_line() {
-        Ok(true) => {
+        Ok(Next::Line) => {
             if !is_head(log.line()) {
                 return Ok(Some(unreadable(alloc, 1, Why::NoHead)?));
             }
             read_rings(alloc, program, log)
         }
-        Ok(false) => Ok(Some(unreadable(alloc, 1, Why::NoHead)?)),
+        Ok(_) => Ok(Some(unreadable(alloc, 1, Why::NoHead)?)),
         Err(fault) => Ok(Some(too_long(alloc, 1, fault)?)),
     }
 }
@@ -124,8 +128,8 @@ fn read_rings<R: Read>(
     ensures { IfOk result (Ringed program.now (left R.remaining log.old) (left R.remaining log.new)) }
 {
     match log.next_line() {
-        Ok(true) => Ok(without_room(alloc, program, log.line())?),
-        Ok(false) => Ok(Some(unreadable(alloc, 2, Why::NoRing)?)),
+        Ok(Next::Line) => Ok(without_room(alloc, program, log.line())?),
+        Ok(_) => Ok(Some(unreadable(alloc, 2, Why::NoRing)?)),
         Err(fault) => Ok(Some(too_long(alloc, 2, fault)?)),
     }
 }
@@ -182,7 +186,7 @@ fn unreadable(alloc: Global, number: u64, why: Why) -> Result<Ending, AllocError
 }
 
 /// Holds one line to the program, and answers how the log ends there if it does.
-#[tactic(auto, using(crate::proofs::Under::line_followed, crate::proofs::Under::line_stops))]
+#[tactic(auto, using(crate::proofs::Under::line_followed, crate::proofs::Under::line_stops, crate::proofs::Under::line_declares))]
 fn follow_line<'a>(
     alloc: Global,
     lines: &Lines<'_>,
@@ -195,6 +199,9 @@ fn follow_line<'a>(
 {
     let said = match read_line(follower.program(), line) {
         Ok(said) => said,
+        Err(Why::NoCall) => {
+            return Ok(read_declaration(alloc, lines, follower.program(), number, line)?);
+        }
         Err(why) => return Ok(Some(wrong_line(alloc, number, line, why)?)),
     };
     let answer = follower.follow(alloc, said)?;
@@ -202,6 +209,29 @@ fn follow_line<'a>(
         return Ok(None);
     }
     Ok(Some(stopped(alloc, lines, follower, number, line, said, answer)?))
+}
+
+/// Holds a line that is no call to the program, whose parts it may declare, and answers how the log ends there if it does.
+fn read_declaration(
+    alloc: Global,
+    lines: &Lines<'_>,
+    program: &Program,
+    number: u64,
+    line: &[u8],
+) -> Result<Option<Ending>, AllocError>
+    ensures { IfOk result (IsDeclared program.now line.now) }
+{
+    let declared = match read_declared(line) {
+        Ok(declared) => declared,
+        Err(why) => return Ok(Some(wrong_line(alloc, number, line, why)?)),
+    };
+    match lack_of(program, declared) {
+        Some(lack) => {
+            let departure = Departure::Lacks(lack);
+            Ok(Some(departs(alloc, lines, number, line, &departure)?))
+        }
+        None => Ok(None),
+    }
 }
 
 /// How a log ends at a line that isn't followed.
@@ -273,13 +303,26 @@ fn departed<'a>(
     ensures { IfOk result IsOther }
 {
     let departure = why_departs(alloc, follower, said)?;
-    if let Departure::TooMany = departure {
-        return Ok(Ending::TooMany { number });
+    match departure {
+        Departure::TooMany => Ok(Ending::TooMany { number }),
+        departure => departs(alloc, lines, number, line, &departure),
     }
+}
+
+/// A line that departs, and why.
+fn departs(
+    alloc: Global,
+    lines: &Lines<'_>,
+    number: u64,
+    line: &[u8],
+    departure: &Departure,
+) -> Result<Ending, AllocError>
+    ensures { IfOk result IsOther }
+{
     let mut says = Vec::new(alloc);
-    put_says(&mut says, line, &departure)?;
+    put_says(&mut says, line, departure)?;
     let mut why = Vec::new(alloc);
-    put_why(&mut why, alloc, lines, line, &departure)?;
+    put_why(&mut why, alloc, lines, line, departure)?;
     Ok(Ending::Departs {
         number,
         place: word_at(line, 1).to_vec(alloc)?,

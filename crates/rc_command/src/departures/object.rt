@@ -59,6 +59,9 @@ fn object_of(alloc: Global, log: &str, ending: &Ending) -> Result<Value, AllocEr
         Ending::Followed { calls } => {
             json!(in alloc; {"answer": "followed", "calls": *calls, "log": log})
         }
+        Ending::Full { calls } => {
+            json!(in alloc; {"answer": "full", "calls": *calls, "log": log})
+        }
         Ending::Departs {
             number,
             place,

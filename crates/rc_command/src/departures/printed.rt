@@ -44,6 +44,14 @@ fn put_after_name(text: &mut Vec<u8>, ending: &Ending) -> Result<(), AllocError>
     let mut line = Buffer::new();
     match ending {
         Ending::Followed { calls } => put_counted(text, b": followed ", *calls, b" calls\n"),
+        Ending::Full { calls } => {
+            put_counted(
+                text,
+                b": followed ",
+                *calls,
+                b" calls, then the log was full\n",
+            )
+        }
         Ending::Departs {
             number,
             place,

@@ -11,7 +11,7 @@ use std::alloc::{AllocError, Global};
 /// Adds what a line says that its thread does: the call with the words after it.
 pub fn put_says(text: &mut Vec<u8>, line: &[u8], departure: &Departure) -> Result<(), AllocError> {
     let call = word_at(line, 2);
-    let verb: &[u8] = if is_mark(call) { b" " } else { b" calls " };
+    let verb = verb_of(call);
     put_pieces(text, &[word_at(line, 0), verb, call])?;
     for number in 3..7 {
         let word = word_at(line, number);
@@ -38,9 +38,21 @@ pub fn put_why(
         Departure::Lacks(lack) => put_lack(text, line, *lack),
         Departure::NoSqLock => put_piece(text, b"it hasn't locked sq"),
         Departure::NoCqLock => put_piece(text, b"it hasn't locked cq"),
+        Departure::Out(out) => put_counted(text, b"the model has ", *out as u64, b" out"),
         Departure::Used(used) => put_counted(text, b"the text has ", *used as u64, b""),
         Departure::Elsewhere(places) => put_places(text, alloc, lines, line, places),
         Departure::TooMany => Ok(()),
+    }
+}
+
+/// How a thread does this.
+fn verb_of(call: &[u8]) -> &'static [u8] {
+    if is_mark(call) {
+        b" "
+    } else if is(call, b"buffer") || is(call, b"token") || is(call, b"file") {
+        b" says "
+    } else {
+        b" calls "
     }
 }
 
@@ -60,7 +72,7 @@ fn missing(call: &[u8]) -> &'static [u8] {
     }
 }
 
-/// Adds why no line of a program makes a call.
+/// Adds why no line of a program makes a call, or why it hasn't what a line declares.
 fn put_lack(text: &mut Vec<u8>, line: &[u8], lack: Lack) -> Result<(), AllocError> {
     let first = word_at(line, 3);
     match lack {
@@ -74,12 +86,17 @@ fn put_lack(text: &mut Vec<u8>, line: &[u8], lack: Lack) -> Result<(), AllocErro
         Lack::PastBuffer => put_piece(text, b"that goes past the end of its buffer"),
         Lack::NoBuffer => put_pieces(text, &[b"the text has no buffer ", buffer_word(line)]),
         Lack::NoPool => put_pieces(text, &[b"the text has no pool ", first]),
+        Lack::NoToken => put_pieces(text, &[b"the model has no token ", first]),
+        Lack::SmallBuffer(bytes) => {
+            put_counted(text, b"the model's has ", u64::from(bytes), b" bytes")
+        }
     }
 }
 
-/// The word that names the line's buffer: the first one after a mark, the second one after a call.
+/// The word that names the line's buffer: the first one after a mark of it and where it is declared, else the second one.
 fn buffer_word(line: &[u8]) -> &[u8] {
-    if is_mark(word_at(line, 2)) {
+    let call = word_at(line, 2);
+    if is_mark(call) || is(call, b"buffer") {
         word_at(line, 3)
     } else {
         word_at(line, 4)

@@ -4,12 +4,14 @@ use Rattle.rc_log.proofs.Logs.{is_line_feed, sees_end, sees_line, sees_long, see
 use Rattle.rc_log.proofs.pending.look.Goals as goal
 
 pub returns-in-Some : goal.returns-in-Some
-returns-in-Some c = λ more.
+returns-in-Some c =
     let bytes = c.args.bytes.now in
     let count = c.min-count.result in
     let high = c.in-Some.ensures.0.high in
-    let n = length-take count bytes in
-    sees_end bytes count c.in-Some.i more (omega (arith, n, high)) (omega (arith, n, high)) c.in-Some.ensures.0.before c.if-bytes-i-eq0.true
+    let n = length-take count bytes in (
+      omega (arith, n, high),
+      λ more. sees_end bytes count c.in-Some.i more (omega (arith, n, high)) (omega (arith, n, high)) c.in-Some.ensures.0.before c.if-bytes-i-eq0.true,
+    )
 
 pub returns-in-Some-2 : goal.returns-in-Some-2
 returns-in-Some-2 c =

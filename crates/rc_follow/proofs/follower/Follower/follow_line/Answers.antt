@@ -1,4 +1,4 @@
-use Rattle.std.proofs.Common.{rules, ◌<◌, length, ◌∙◌, ap, refl, subst, sym, Some}
+use Rattle.std.proofs.Common.{rules, ◌<◌, length, ◌∙◌, ap, refl, subst, sym, inl, Some}
 use Rattle.std.specs.Global.{Vec}
 use Rattle.std.proofs.lemmas.List.Elements.{All-same}
 use Rattle.rc_lang.specs.Program.{Program}
@@ -18,7 +18,7 @@ returns-then-branch-clause-answers c =
     let new : Follower = record { program = c.stay.new.rights; noted = c.note.new.self; ways = c.self.inside.worlds.items; reached = c.self.inside.reached.items } in
     subst (λ (old : Follower). Answers old line new Followed) c.self.view_is (
       c.args.thread,
-      refl,
+      inl refl,
       c.stay.ensures.same,
       c.note.ensures ∙ ap (λ (P : Program). noted_call P c.self.inside.noted c.args.thread c.args.call) (c.program.ensures ∙ c.stay.ensures.same),
       stay_found c.self.inside.rights c.self.inside.noted c.self.inside.worlds.items c.args.thread c.args.call (c.in_ok-stay.ensures.asks c.if-branch.true),
@@ -36,7 +36,7 @@ returns-clause-answers c =
     let some : 0 < length c.search.new.found.worlds.items = search rules in
     subst (λ (old : Follower). Answers old line new Followed) c.self.view_is (
       c.args.thread,
-      refl,
+      inl refl,
       same,
       c.note-2.ensures ∙ ap (λ (P : Program). noted_call P c.self.inside.noted c.args.thread c.args.call) (c.program-2.ensures ∙ same),
       All-same (ComesBy c.self.inside.rights c.self.inside.noted c.self.inside.worlds.items c.args.thread c.args.call) c.swap.new.x.items c.search.new.found.worlds.items (ap (λ (v : Vec Way). v.items) c.swap.ensures.x_after) found,
