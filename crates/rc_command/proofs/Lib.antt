@@ -1,3 +1,4 @@
 mod Commands
+pub mod Following
 pub mod Objects
 pub mod Under

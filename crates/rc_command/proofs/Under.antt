@@ -2,8 +2,11 @@
 use Rattle.std.specs.Str.{bytes_eq}
 use Rattle.std.specs.Prelude.{codes}
 use Rattle.std.proofs.Common.{◌≡◌, ℕ, ◌<◌, Bool, true, false, true≢false, List, [], ◌∷◌, ◌++◌, length, Option, Some, None, Result, Ok, Err, refl, sym, ap, subst, ◌∙◌, append_assoc, append-nil, arith, inl, inr}
+use Rattle.std.specs.Prelude.{IfErr, IsErrAnd}
 use Rattle.rc_lang.specs.Program.{Program}
 use Rattle.rc_log.specs.declared.call.Said.{Said}
+use Rattle.rc_log.specs.declared.reader.LogFault.{LogFault}
+use Rattle.rc_log.specs.declared.reader.LogFault.TheVariants.{TooLong, Failed, OutOfMemory}
 use Rattle.rc_log.specs.Heads.{is_head}
 use Rattle.rc_log.specs.Lines.{Gives, is_full, log_lines}
 use Rattle.rc_log.specs.declared.reader.Next.TheVariants as next
@@ -16,7 +19,7 @@ use Rattle.rc_follow.specs.Followed.{IsFollowed}
 use Rattle.rc_follow.specs.Follower.{Follower, Follows}
 use Rattle.rc_command.specs.declared.departures.ending.Ending.{Ending}
 use Rattle.rc_command.specs.declared.departures.ending.Ending.TheVariants.{Followed, Full}
-use Rattle.rc_command.specs.Logs.{AreFollowed, Declares, Ends, FollowsLine, FollowsSaid, HasFollowed, HasRoom, Headed, IsBegun, IsDeclared, IsFollowedLog, IsLog, IsOther, IsRoomy, IsUnder, Ringed, Say, Stops, Under}
+use Rattle.rc_command.specs.Logs.{AreFollowed, Declares, Ends, FollowsLine, FollowsSaid, HasFollowed, HasRoom, Headed, IsBegun, IsDeclared, IsFollowedLog, IsLog, IsOther, IsRoomy, IsUnder, KeepsReached, Ringed, Say, Stops, Under}
 
 -- ---- the first two lines
 
@@ -195,3 +198,32 @@ under_full old None left more line f calls u g = (tt, u.0, u.1, u.2.0, u.2.1, tt
 under_full old (Some b) None more line f calls u g = absurd u.2
 under_full old (Some b) (Some l) more line f calls u g =
     ((is_followed_log old.program b l f u.2 g.0, u.2.5 ∙ g.1), u.0, u.1, u.2.3, u.2.9, whole_log old.program b l f u.2 g.0)
+
+-- ---- a read that failed
+
+keeps_after : (old mid new : Follower) (e : LogFault) → mid.reached ≡ old.reached → KeepsReached mid new e → KeepsReached old new e
+keeps_after old mid new TooLong same h = tt
+keeps_after old mid new (Failed e) same h = h ∙ same
+keeps_after old mid new OutOfMemory same h = tt
+
+keeps_same : (old new : Follower) (e : LogFault) → new.reached ≡ old.reached → KeepsReached old new e
+keeps_same old new TooLong same = tt
+keeps_same old new (Failed e) same = same
+keeps_same old new OutOfMemory same = tt
+
+module _ {X : Type 0} (old new : Follower) (r : Result X LogFault) (e : LogFault) where
+  pub keeps_as : IsErrAnd r (λ y. y ≡ e) → KeepsReached old new e → IfErr r (KeepsReached old new)
+  keeps_as is h = by r is
+    where
+      by : (r : Result X LogFault) → IsErrAnd r (λ y. y ≡ e) → IfErr r (KeepsReached old new)
+      by (Ok x) is = tt
+      by (Err y) is = subst (KeepsReached old new) (sym is) h
+
+  pub keeps_next : (mid : Follower) → IsErrAnd r (λ y. y ≡ e) → mid.reached ≡ old.reached → KeepsReached mid new e → IfErr r (KeepsReached old new)
+  keeps_next mid is same h = keeps_as is (keeps_after old mid new e same h)
+
+  pub keeps_still : IsErrAnd r (λ y. y ≡ e) → new.reached ≡ old.reached → IfErr r (KeepsReached old new)
+  keeps_still is same = keeps_as is (keeps_same old new e same)
+
+pub keeps_memory : {X : Type 0} (old new : Follower) (r : Result X LogFault) → IsErrAnd r (λ y. y ≡ OutOfMemory) → IfErr r (KeepsReached old new)
+keeps_memory old new r is = keeps_as old new r OutOfMemory is tt

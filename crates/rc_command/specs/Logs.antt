@@ -2,6 +2,8 @@
 use Rattle.std.specs.Prelude.{ℕ, ◌≡◌, ◌≤◌, ◌⊎◌, ◌++◌, Bool, true, false, List, [], ◌∷◌, Option, Some, None, Result, Ok, Err}
 use Rattle.rc_lang.specs.Program.{Program}
 use Rattle.rc_log.specs.declared.call.Said.{Said}
+use Rattle.rc_log.specs.declared.reader.LogFault.{LogFault}
+use Rattle.rc_log.specs.declared.reader.LogFault.TheVariants.{TooLong, Failed, OutOfMemory}
 use Rattle.rc_log.specs.Heads.{is_head, ring}
 use Rattle.rc_log.specs.Lines.{is_full, log_lines}
 use Rattle.rc_log.specs.Said.{said}
@@ -73,6 +75,12 @@ Stops old bytes f ending =
 -- What is reached besides are the calls that were made on the ways that are left where the log ends.
 abbrev pub Reaches : Follower → Option (List ℕ) → Follower → Ending → Type 0
 Reaches old bytes new ending = (f : Follower) × Stops old bytes f ending × (new ≡ with_ways f)
+
+-- Where a read failed nothing more is reached.
+abbrev pub KeepsReached : Follower → Follower → LogFault → Type 0
+KeepsReached old new TooLong = Unit {0}
+KeepsReached old new (Failed e) = new.reached ≡ old.reached
+KeepsReached old new OutOfMemory = Unit {0}
 
 -- ---- a log under way
 

@@ -1,12 +1,17 @@
--- The calls of a program that no log makes.
-use Rattle.std.specs.Prelude.{ℕ, Bool, not, ◌&&◌, List, [], ◌∷◌, codes, slice_index_or, true, false}
+-- The calls of a program that no log makes, and what is printed of them.
+use Rattle.std.specs.Prelude.{ℕ, Bool, not, ◌&&◌, List, [], ◌∷◌, ◌++◌, codes, decimal, map, slice_index_or, true, false}
 use Rattle.std.specs.List.{filter, flat_map}
+use Rattle.serde_json.specs.Data.{Data, array, member, no_members, number as json_number, object, string, unsigned}
+use Rattle.serde_json.specs.View.{items_of}
+use Rattle.serde_json.specs.Written.{compact_text}
 use Rattle.rc_lang.specs.declared.lines.Line.{Line}
 use Rattle.rc_lang.specs.declared.lines.Op.{Op}
 use Rattle.rc_lang.specs.declared.lines.Op.TheVariants as op
 use Rattle.rc_lang.specs.declared.lines.Stmt.{Stmt}
 use Rattle.rc_lang.specs.declared.lines.Stmt.TheVariants as stmt
 use Rattle.rc_lang.specs.Program.{Program, Thread}
+use Rattle.rc_report.specs.Printed.{joined}
+use Rattle.rc_report.specs.Shown.{shown}
 
 -- the word of the call on the ring that a statement is; no bytes where it is none
 abbrev pub word_of_op : Op → List ℕ
@@ -40,3 +45,18 @@ unmade_in reached lines = filter (is_unmade reached) lines
 -- in the order of the program
 abbrev pub unmade : Program → List Bool → List Line
 unmade P reached = flat_map (λ (t : Thread). unmade_in reached t.lines) P.threads
+
+-- ---- as text: a line for each; as JSON: one object, without spaces, as it is shown, and with a line feed
+
+abbrev pub unmade_line : Line → List ℕ
+unmade_line line = joined (codes "never: line " ∷ decimal line.number ∷ codes ", " ∷ call_word line.stmt ∷ codes "\n" ∷ [])
+
+abbrev pub call_object : Line → Data
+call_object line = object (member (codes "call") (string (call_word line.stmt)) (member (codes "line") (json_number (unsigned line.number)) no_members))
+
+abbrev pub unmade_object : List Line → Data
+unmade_object lines = object (member (codes "never") (array (items_of (map call_object lines))) no_members)
+
+abbrev pub unmade_printed : Bool → List Line → List ℕ
+unmade_printed true lines = shown (compact_text (unmade_object lines)) ++ codes "\n"
+unmade_printed false lines = flat_map unmade_line lines

@@ -1,5 +1,6 @@
 //! Logs, held to a program from their first line to their last, and what is printed of them.
 
+mod answer;
 pub mod answers;
 pub mod ending;
 pub mod following;

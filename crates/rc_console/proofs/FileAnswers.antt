@@ -24,7 +24,7 @@ told_along a b s t e h = subst (λ us. IsTold a b us) e h
 
 -- ---- one file more
 
-greatest_more : (ns : List ℕ) (n : ℕ) → greatest (ns ++ n ∷ []) ≡ max (greatest ns) n
+pub greatest_more : (ns : List ℕ) (n : ℕ) → greatest (ns ++ n ∷ []) ≡ max (greatest ns) n
 greatest_more [] n = omega arith
 greatest_more (m ∷ ns) n = ap (λ k. max m k) (greatest_more ns n) ∙ omega arith
 

@@ -49,10 +49,11 @@ greatest [] = 0
 greatest (n ∷ ns) = max n (greatest ns)
 
 -- The status of several files is the greatest of theirs, and what is said of each is written and told, in their order.
+abbrev pub together : List Said → Said
+together each = record { status = greatest (map (λ said. said.status) each); text = flat_map (λ said. said.text) each; told = flat_map (λ said. said.told) each }
+
 abbrev pub SaysAll : {N : Type 0} → (N → Said → Type 0) → List N → Said → Type 0
-SaysAll says names said =
-    (each : List Said) × SaysEach says names each
-    × (said ≡ record { status = greatest (map (λ said. said.status) each); text = flat_map (λ said. said.text) each; told = flat_map (λ said. said.told) each })
+SaysAll says names said = (each : List Said) × SaysEach says names each × (said ≡ together each)
 
 -- This was told, where no write to standard error failed; after one that failed nothing more is told.
 abbrev pub IsTold : Taken → Taken → List ℕ → Type 0

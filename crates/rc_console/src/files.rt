@@ -1,6 +1,6 @@
 //! Texts that are in files, and what is told of files that can't be read.
 
-ghost use Rattle.std.specs.Prelude.{◌≡◌, ◌≤◌, ℕ, IfOk, IfSome, IsErr, List, Result};
+ghost use Rattle.std.specs.Prelude.{◌≡◌, ◌≤◌, ◌++◌, ℕ, IfOk, IfSome, IsErr, List, Result};
 ghost use Rattle.rc_console.specs.declared.files.Unread.{Unread};
 ghost use Rattle.rc_console.specs.Files.{IsTold, bytes_of, line_told};
 ghost use Rattle.rc_report.specs.Streams.{CanWrite, Writes};
@@ -139,7 +139,9 @@ pub fn put_unread(
     alloc: Global,
     name: &str,
     unread: &Unread,
-) -> Result<(), AllocError> {
+) -> Result<(), AllocError>
+    ensures { IfOk result (λ _. (why : List ℕ) × (told.new.items ≡ told.old.items ++ line_told name.now why)) }
+{
     let why = words_of(alloc, unread)?;
     put_line(told, name, why.as_str())
 }

@@ -1,8 +1,9 @@
 //! Standard output.
 
-ghost use Rattle.std.specs.Prelude.{◌≡◌, ◌+◌, ◌<◌, ◌^◌, IfErr, IfOk};
+ghost use Rattle.std.specs.Prelude.{◌≡◌, ◌+◌, ◌<◌, ◌≤◌, ◌^◌, IfErr, IfOk};
 ghost use Rattle.rc_console.specs.declared.fault.CommandFault.TheVariants.{Engine};
 ghost use Rattle.rc_console.specs.Answers.{Does};
+ghost use Rattle.rc_console.specs.Files.{IsTold};
 ghost use Rattle.rc_report.specs.declared.engine_fault.EngineFault.TheVariants.{Write as FailedWrite};
 ghost use Rattle.rc_report.specs.Streams.{CanWrite};
 
@@ -70,9 +71,11 @@ pub fn written_out<O: Write + Drop>(
     }
 }
 
-/// Tells what is to be said besides the answer. After a write to `errors` that failed nothing more is told.
-pub fn tell_notes<E: Sink>(notes: &[u8], errors: &mut E) {
-    if !notes.is_empty() && errors.failures() == 0 {
+/// Reports what is to be said besides the answer. After a write to `errors` that failed nothing more is reported.
+pub fn tell_notes<E: Sink>(notes: &[u8], errors: &mut E)
+    ensures { (E.state errors.old).failures ≤ 1 → IsTold (E.state errors.old) (E.state errors.new) notes.now }
+{
+    if errors.failures() == 0 {
         let _ = write_piece(errors, notes);
     }
 }

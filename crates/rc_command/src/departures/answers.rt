@@ -1,29 +1,28 @@
-//! Logs of C programs, held to an accepted text.
+//! Logs of C programs, held to an accepted model.
 
-ghost use Rattle.std.specs.Prelude.{◌≡◌, ◌≤◌, ◌++◌, IfOk};
-ghost use Rattle.rc_command.specs.Endings.{ending_printed, status_of};
+ghost use Rattle.std.specs.Prelude.{◌≡◌, ◌≤◌, IfOk, List, option_copied as named};
+ghost use Rattle.rc_command.specs.Following.{AnswersWhole, HasSaid, SaysAsked, SaysFollowed, SaysLog, SaysLogs, SaysModel, SaysMore, said_of, verdict_said, with_unmade};
+ghost use Rattle.rc_console.specs.Files.{Said, together};
 ghost use Rattle.rc_report.specs.Streams.{CanWrite};
 
-use crate::departures::ending::Ending;
+use crate::departures::answer::Answer;
 use crate::departures::following::follow_log;
 use crate::departures::logs::Logs;
-use crate::departures::printed::{put_ending, put_unmade};
+use crate::departures::printed::put_unmade;
 use crate::departures::unmade::unmade_calls;
 use rc_console::command::Following;
-use rc_console::files::{Texts, Unread, put_unread, tell_unread};
+use rc_console::files::{Texts, Unread, tell_unread};
 use rc_console::output::tell_notes;
 use rc_follow::follower::Follower;
 use rc_lang::program::Program;
 use rc_log::reader::LogFault;
 use rc_report::check_engine::judged;
 use rc_report::engine_fault::EngineFault;
-use rc_report::file_verdict::{put_file_object, put_file_verdict};
 use rc_report::reading::read_text;
 use rc_report::source::Lines;
-use rc_report::status::{DEVICE_STATUS, GOOD_STATUS};
 use rc_report::streams::{ReadSource, Sink};
-use rc_report::verdict::{Verdict, put_verdict, put_verdict_json};
-use rc_report::writing::{write_piece, write_pieces};
+use rc_report::verdict::{Verdict, print_verdict};
+use rc_report::writing::write_piece;
 use std::alloc::{AllocError, Global};
 use std::io::Read;
 
@@ -41,176 +40,142 @@ pub fn follow_logs<T: Texts + Logs, I: Read + Drop, S: Sink, E: Sink>(
 ) -> Result<u8, EngineFault>
     requires writes { CanWrite (S.state sink.old) }
     requires told { (E.state errors.old).failures ≤ 1 }
+    ensures answer { AnswersWhole (SaysAsked (T.gives texts.now) (T.opens texts.now) asked.now (I.remaining reader)) S.state sink.old sink.new E.state errors.old errors.new result }
     ensures status { IfOk result (λ status. status ≤ 3) }
     ensures failures { IfOk result (λ _. (S.state sink.new).failures ≡ (S.state sink.old).failures) }
 {
-    let text = match asked.text {
+    match asked.text {
         Some(name) => match texts.read(alloc, name) {
-            Ok(text) => text,
-            Err(unread) => return Ok(tell_unread(alloc, name, &unread, errors)),
+            Ok(model) => follow_model(texts, alloc, &model, asked, sink, errors),
+            Err(unread) => Ok(tell_unread(alloc, name, &unread, errors)),
         },
-        None => read_text(alloc, &mut ReadSource::new(reader))?,
-    };
-    match judged(alloc, &text)? {
-        Ok(admitted) => {
-            let lines = Lines::of(alloc, &text)?;
-            let program = admitted.program();
-            let status = follow_each(texts, alloc, program, &lines, asked, sink, errors)?;
-            Ok(status)
-        }
-        Err(verdict) => {
-            let mut answer = Vec::new(alloc);
-            put_refused(&mut answer, alloc, asked, &verdict)?;
-            write_piece(sink, &answer)?;
-            Ok(verdict.status())
+        None => {
+            let model = read_text(alloc, &mut ReadSource::new(reader))?;
+            follow_model(texts, alloc, &model, asked, sink, errors)
         }
     }
 }
 
-/// Adds the verdict on a text that isn't accepted, as `check` does.
-fn put_refused(
-    answer: &mut Vec<u8>,
-    alloc: Global,
-    asked: &Following<'_>,
-    verdict: &Verdict,
-) -> Result<(), AllocError> {
-    match (asked.text, asked.json) {
-        (Some(name), true) => put_file_object(answer, alloc, name, verdict),
-        (Some(name), false) => put_file_verdict(answer, name, verdict),
-        (None, true) => put_verdict_json(answer, alloc, verdict),
-        (None, false) => put_verdict(answer, verdict),
-    }
-}
-
-/// Follows each log, and answers the greatest status. What can't be read is reported after the last.
-fn follow_each<T: Texts + Logs, S: Sink, E: Sink>(
+/// Holds logs to the program of this model, and writes the answer.
+fn follow_model<T: Logs, S: Sink, E: Sink>(
     texts: &T,
     alloc: Global,
-    program: &Program,
-    lines: &Lines<'_>,
+    model: &[u8],
     asked: &Following<'_>,
     sink: &mut S,
     errors: &mut E,
 ) -> Result<u8, EngineFault>
-    requires { CanWrite (S.state sink.old) }
+    requires writes { CanWrite (S.state sink.old) }
+    requires told { (E.state errors.old).failures ≤ 1 }
+    ensures answer { AnswersWhole (SaysModel (T.opens texts.now) asked.now model.now) S.state sink.old sink.new E.state errors.old errors.new result }
     ensures status { IfOk result (λ status. status ≤ 3) }
     ensures failures { IfOk result (λ _. (S.state sink.new).failures ≡ (S.state sink.old).failures) }
 {
-    let mut follower = Follower::start(alloc, program)?;
-    let mut answers = Answers {
-        answer: Vec::new(alloc),
-        unread: Vec::new(alloc),
-        has_ending: false,
-    };
-    let status = put_logs(
-        texts,
-        alloc,
-        lines,
-        &mut follower,
-        &asked.logs,
-        asked.json,
-        &mut answers,
-    )?;
-    let is_listed = status == GOOD_STATUS || asked.never && answers.has_ending;
-    let never = never_made(alloc, program, &follower, asked.json, is_listed)?;
-    write_pieces(sink, &[&answers.answer, &never])?;
-    tell_notes(&answers.unread, errors);
-    Ok(status)
+    let answer = answer_to(texts, alloc, model, asked)?;
+    write_piece(sink, &answer.written)?;
+    tell_notes(&answer.reported, errors);
+    Ok(answer.status)
 }
 
-/// What is written of the logs, what is reported besides, and whether one could be read.
-#[derive(Drop)]
-struct Answers {
-    answer: Vec<u8>,
-    unread: Vec<u8>,
-    has_ending: bool,
+/// The answer to a model with its logs.
+fn answer_to<T: Logs>(
+    texts: &T,
+    alloc: Global,
+    model: &[u8],
+    asked: &Following<'_>,
+) -> Result<Answer, AllocError>
+    ensures { IfOk result (HasSaid (SaysModel (T.opens texts.now) asked.now model.now)) }
+{
+    match judged(alloc, model)? {
+        Ok(admitted) => follow_all(texts, alloc, admitted.program(), model, asked),
+        Err(verdict) => refuse(alloc, asked, &verdict),
+    }
 }
 
-/// The lines that list the calls that no log makes, if they are listed.
-fn never_made(
+/// The answer to a model that isn't accepted, as that of `check`.
+fn refuse(alloc: Global, asked: &Following<'_>, verdict: &Verdict) -> Result<Answer, AllocError>
+    ensures { IfOk result (HasSaid (λ said. said ≡ verdict_said (named asked.now.text) asked.now.json verdict.now)) }
+{
+    let mut answer = Answer::new(alloc);
+    print_verdict(&mut answer.written, alloc, asked.text, asked.json, verdict)?;
+    answer.status = verdict.status();
+    Ok(answer)
+}
+
+/// The answer to the logs of this program, which is that of the model.
+fn follow_all<T: Logs>(
+    texts: &T,
     alloc: Global,
     program: &Program,
-    follower: &Follower<'_>,
-    json: bool,
-    is_listed: bool,
-) -> Result<Vec<u8>, AllocError> {
-    let mut never = Vec::new(alloc);
-    if is_listed {
-        let unmade = unmade_calls(alloc, program, follower)?;
-        put_unmade(&mut never, alloc, &unmade, json)?;
-    }
-    Ok(never)
+    model: &[u8],
+    asked: &Following<'_>,
+) -> Result<Answer, AllocError>
+    ensures { IfOk result (HasSaid (SaysFollowed (T.opens texts.now) asked.now program.now)) }
+{
+    let lines = Lines::of(alloc, model)?;
+    let mut follower = Follower::start(alloc, program)?;
+    let mut answer = follow_each(texts, alloc, &lines, &mut follower, asked)?;
+    list_unmade(&mut answer, alloc, program, &follower, asked)?;
+    Ok(answer)
 }
 
-/// Follows each log, adds how it ends, and answers the greatest status.
-fn put_logs<T: Logs>(
+/// Follows each log, and answers how each ends.
+fn follow_each<T: Logs>(
     texts: &T,
     alloc: Global,
     lines: &Lines<'_>,
     follower: &mut Follower<'_>,
-    logs: &[&str],
-    json: bool,
-    answers: &mut Answers,
-) -> Result<u8, AllocError>
-    ensures { IfOk result (λ status. status ≤ 3) }
+    asked: &Following<'_>,
+) -> Result<Answer, AllocError>
+    ensures program { follower.new.program ≡ follower.old.program }
+    ensures answer { IfOk result (HasSaid (λ said. (each : List Said) × SaysLogs (λ name. SaysLog (T.opens texts.now) asked.now.json name.now) asked.now.logs.items follower.old follower.new each × (said ≡ together each))) }
 {
-    let mut status = 0u8;
-    for name in logs {
-        status = status.max(follow_one(texts, alloc, lines, follower, name, json, answers)?);
+    let mut answer = Answer::new(alloc);
+    for name in &asked.logs {
+        follow_one(&mut answer, texts, alloc, lines, follower, name, asked.json)?;
     }
-    Ok(status)
+    Ok(answer)
 }
 
-/// Follows a log, adds how it ends, and answers its status. Where it can't be read that is reported.
+/// Follows a log, and adds how it ends. Where it can't be read that is reported.
+#[tactic(auto, using(crate::proofs::Following::of_ended, crate::proofs::Following::of_failed, crate::proofs::Following::of_closed))]
 fn follow_one<T: Logs>(
+    answer: &mut Answer,
     texts: &T,
     alloc: Global,
     lines: &Lines<'_>,
     follower: &mut Follower<'_>,
     name: &str,
     json: bool,
-    answers: &mut Answers,
-) -> Result<u8, AllocError>
-    ensures { IfOk result (λ status. status ≤ 3) }
+) -> Result<(), AllocError>
+    ensures program { follower.new.program ≡ follower.old.program }
+    ensures answer { IfOk result (λ _. SaysMore (SaysLog (T.opens texts.now) json name.now follower.old follower.new) answer.old answer.new) }
 {
     let log = match texts.open(name) {
         Ok(log) => log,
-        Err(unread) => return unread_log(alloc, name, &unread, answers),
+        Err(unread) => return answer.report(alloc, name, &unread),
     };
     match follow_log(alloc, lines, follower, log) {
-        Ok(ending) => put_followed(answers, alloc, name, &ending, json),
-        Err(LogFault::Failed(error)) => unread_log(alloc, name, &Unread::Failed(error), answers),
+        Ok(ending) => answer.print(alloc, name, &ending, json),
+        Err(LogFault::Failed(error)) => answer.report(alloc, name, &Unread::Failed(error)),
         Err(_) => Err(AllocError),
     }
 }
 
-/// Adds how a log ends, and answers its status.
-fn put_followed(
-    answers: &mut Answers,
+/// Adds the calls that no log makes, if they are listed.
+#[tactic(auto, using(crate::proofs::Following::not_listed, crate::proofs::Following::with_listed))]
+fn list_unmade(
+    answer: &mut Answer,
     alloc: Global,
-    name: &str,
-    ending: &Ending,
-    json: bool,
-) -> Result<u8, AllocError>
-    ensures answer { IfOk result (λ status. (status ≡ status_of ending.now) × (answers.new.answer.items ≡ answers.old.answer.items ++ ending_printed json name.now ending.now)) }
-    ensures bound { IfOk result (λ status. status ≤ 3) }
+    program: &Program,
+    follower: &Follower<'_>,
+    asked: &Following<'_>,
+) -> Result<(), AllocError>
+    ensures { IfOk result (λ _. said_of answer.new ≡ with_unmade asked.now.never asked.now.json program.now follower.now (said_of answer.old)) }
 {
-    answers.has_ending = true;
-    put_ending(&mut answers.answer, alloc, name, ending, json)?;
-    Ok(ending.status())
-}
-
-/// A log that can't be read is reported.
-fn unread_log(
-    alloc: Global,
-    name: &str,
-    unread: &Unread,
-    answers: &mut Answers,
-) -> Result<u8, AllocError>
-    ensures status { IfOk result (λ status. status ≡ 3) }
-    ensures bound { IfOk result (λ status. status ≤ 3) }
-    ensures answer { answers.new.answer ≡ answers.old.answer }
-{
-    put_unread(&mut answers.unread, alloc, name, unread)?;
-    Ok(DEVICE_STATUS)
+    if !answer.is_listed(asked.never) {
+        return Ok(());
+    }
+    let unmade = unmade_calls(alloc, program, follower)?;
+    put_unmade(&mut answer.written, alloc, &unmade, asked.json)
 }

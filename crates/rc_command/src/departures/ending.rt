@@ -24,7 +24,7 @@ pub enum Ending {
         says: Vec<u8>,
         why: Vec<u8>,
     },
-    /// This line can't be read, or it locks what is taken or unlocks what isn't; why.
+    /// This line can't be read, or it locks a mutex that is held, or unlocks one that its thread doesn't hold; why.
     Unreadable {
         number: u64,
         why: Vec<u8>,

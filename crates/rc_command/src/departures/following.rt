@@ -1,9 +1,9 @@
 //! A log, followed from its first line to its last.
 
-ghost use Rattle.std.specs.Prelude.{ℕ, ◌≡◌, List, Option, None, IfOk};
+ghost use Rattle.std.specs.Prelude.{ℕ, ◌≡◌, List, Option, None, IfErr, IfOk};
 ghost use Rattle.rc_follow.specs.Follower.{Follower as SpecFollower};
 ghost use Rattle.rc_log.specs.Waiting.{left};
-ghost use Rattle.rc_command.specs.Logs.{Ends, FollowsLine, Headed, IsDeclared, IsOther, IsRoomy, Reaches, Ringed, Stops, Under};
+ghost use Rattle.rc_command.specs.Logs.{Ends, FollowsLine, Headed, IsDeclared, IsOther, IsRoomy, KeepsReached, Reaches, Ringed, Stops, Under};
 
 use crate::departures::ending::Ending;
 use crate::departures::why::{put_says, put_why};
@@ -23,7 +23,8 @@ use std::alloc::{AllocError, Global};
 use std::io::Read;
 
 /// Follows a log, held to the program of a model with these lines, and notes which of its calls the log made. Answers
-/// `Failed` where a read failed and `OutOfMemory` where a growth was refused, and no other `Err`.
+/// `Failed` where a read failed, and then nothing is noted; `OutOfMemory` where a growth was refused; and no other `Err`.
+#[tactic(auto, using(crate::proofs::Under::keeps_as))]
 pub fn follow_log<'a, R: Read + Drop>(
     alloc: Global,
     lines: &Lines<'_>,
@@ -33,6 +34,7 @@ pub fn follow_log<'a, R: Read + Drop>(
     ensures program { follower.new.program ≡ follower.old.program }
     ensures ends { IfOk result (Ends follower.old.program (R.remaining reader)) }
     ensures reached { IfOk result (Reaches follower.old (R.remaining reader) follower.new) }
+    ensures unread { IfErr result (KeepsReached follower.old follower.new) }
 {
     let ending = follow_lines(alloc, lines, follower, reader)?;
     follower.end();
@@ -40,7 +42,7 @@ pub fn follow_log<'a, R: Read + Drop>(
 }
 
 /// Follows a log up to its end, or to the line at which it ends otherwise.
-#[tactic(auto, using(crate::proofs::Under::begun, crate::proofs::Under::stops_at_once, crate::proofs::Under::under_stop))]
+#[tactic(auto, using(crate::proofs::Under::begun, crate::proofs::Under::stops_at_once, crate::proofs::Under::under_stop, crate::proofs::Under::keeps_next, crate::proofs::Under::keeps_still, crate::proofs::Under::keeps_memory))]
 fn follow_lines<'a, R: Read + Drop>(
     alloc: Global,
     lines: &Lines<'_>,
@@ -48,6 +50,7 @@ fn follow_lines<'a, R: Read + Drop>(
     reader: R,
 ) -> Result<Ending, LogFault>
     ensures program { follower.new.program ≡ follower.old.program }
+    ensures unread { IfErr result (KeepsReached follower.old follower.new) }
     ensures stops { IfOk result (Stops follower.old (R.remaining reader) follower.new) }
 {
     follower.begin(alloc)?;
@@ -64,7 +67,7 @@ fn follow_lines<'a, R: Read + Drop>(
 }
 
 /// Reads the next line, which has this number, and holds it to the program. Answers how the log ends here if it does.
-#[tactic(auto, using(crate::proofs::Under::under_line, crate::proofs::Under::under_end, crate::proofs::Under::under_full, crate::proofs::Under::under_stop))]
+#[tactic(auto, using(crate::proofs::Under::under_line, crate::proofs::Under::under_end, crate::proofs::Under::under_full, crate::proofs::Under::under_stop, crate::proofs::Under::keeps_still, crate::proofs::Under::keeps_memory))]
 fn follow_next<'a, R: Read>(
     alloc: Global,
     lines: &Lines<'_>,
@@ -73,6 +76,7 @@ fn follow_next<'a, R: Read>(
     number: u64,
 ) -> Result<Option<Ending>, LogFault>
     ensures program { follower.new.program ≡ follower.old.program }
+    ensures unread { IfErr result (KeepsReached follower.old follower.new) }
     ensures under { (old : SpecFollower) → (bytes : Option (List ℕ)) → Under old bytes (left R.remaining log.old) follower.old None → IfOk result (Under old bytes (left R.remaining log.new) follower.new) }
 {
     match log.next_line() {
@@ -166,7 +170,7 @@ fn too_small(
             first.format(entries).as_bytes(),
             b" and ",
             second.format(completions).as_bytes(),
-            b" entries, the text ",
+            b" entries, the model ",
             third.format(program.entries()).as_bytes(),
             b" and ",
             fourth.format(program.completion_entries()).as_bytes(),
@@ -250,7 +254,10 @@ fn stopped<'a>(
         Answer::Taken(holder) => taken(alloc, follower.program(), number, line, holder),
         Answer::NotHeld => {
             let mut why = Vec::new(alloc);
-            put_pieces(&mut why, &[word_at(line, 0), b" unlocks what it hasn't"])?;
+            put_pieces(
+                &mut why,
+                &[word_at(line, 0), b" unlocks a mutex it doesn't hold"],
+            )?;
             Ok(Ending::Unreadable { number, why })
         }
         Answer::TooMany => Ok(Ending::TooMany { number }),
@@ -269,7 +276,7 @@ fn wrong_line(alloc: Global, number: u64, line: &[u8], why: Why) -> Result<Endin
     Ok(Ending::Unreadable { number, why: words })
 }
 
-/// A line that locks a mutex that this thread has.
+/// A line that locks a mutex that this thread holds.
 fn taken(
     alloc: Global,
     program: &Program,
@@ -286,7 +293,7 @@ fn taken(
     };
     put_pieces(
         &mut why,
-        &[word_at(line, 0), b" locks what ", name, b" has"],
+        &[word_at(line, 0), b" locks a mutex that ", name, b" holds"],
     )?;
     Ok(Ending::Unreadable { number, why })
 }

@@ -1,9 +1,13 @@
 //! What is printed of logs, as JSON objects: without spaces, the keys in order, each with a line feed.
 
-ghost use Rattle.std.specs.Prelude.{◌≡◌, ◌++◌, codes, false, IfOk};
-ghost use Rattle.serde_json.specs.View.{view};
+ghost use Rattle.std.specs.Prelude.{◌≡◌, ◌++◌, ◌∷◌, [], codes, false, map, true, IfOk};
+ghost use Rattle.serde_json.specs.Data.{array};
+ghost use Rattle.serde_json.specs.View.{items_of, view};
 ghost use Rattle.serde_json.specs.Written.{compact_text, has_float};
+ghost use Rattle.rc_command.specs.declared.departures.ending.Ending.TheVariants.{Full};
 ghost use Rattle.rc_command.specs.Endings.{ending_json, ending_object};
+ghost use Rattle.rc_command.specs.Unmade as spec;
+ghost use Rattle.rc_command.specs.Unmade.{call_object, unmade_printed};
 ghost use Rattle.rc_report.specs.Shown.{shown};
 ghost use Rattle.rc_text.specs.Text.{Puts};
 
@@ -33,14 +37,36 @@ pub fn put_unmade_object(
     text: &mut Vec<u8>,
     alloc: Global,
     unmade: &[Line],
-) -> Result<(), AllocError> {
+) -> Result<(), AllocError>
+    ensures { Puts text.old text.new (unmade_printed true unmade.now) result }
+{
+    let object = unmade_object(alloc, unmade)?;
+    put_object(text, alloc, &object)
+}
+
+fn unmade_object(alloc: Global, unmade: &[Line]) -> Result<Value, AllocError>
+    ensures { IfOk result (λ v. view v ≡ spec.unmade_object unmade.now) }
+{
+    let calls = calls_of(alloc, unmade)?;
+    json!(in alloc; {"never": calls})
+}
+
+fn calls_of(alloc: Global, unmade: &[Line]) -> Result<Value, AllocError>
+    ensures { IfOk result (λ v. view v ≡ array (items_of (map call_object unmade.now))) }
+{
     let mut calls = Vec::new(alloc);
     for line in unmade {
-        calls.push(json!(in alloc; {"call": word_of(line.stmt), "line": line.number})?)?;
+        push_call(&mut calls, alloc, *line)?;
     }
-    let calls = Value::Array(calls);
-    let object = json!(in alloc; {"never": calls})?;
-    put_object(text, alloc, &object)
+    Ok(Value::Array(calls))
+}
+
+fn push_call(calls: &mut Vec<Value>, alloc: Global, line: Line) -> Result<(), AllocError>
+    ensures { IfOk result (λ _. map view calls.new.items ≡ map view calls.old.items ++ call_object line ∷ []) }
+{
+    let call = json!(in alloc; {"call": word_of(line.stmt), "line": line.number})?;
+    calls.push(call)?;
+    Ok(())
 }
 
 /// Adds an object. What isn't shown as it is is as `\u` and four hex digits.
@@ -59,9 +85,7 @@ fn object_of(alloc: Global, log: &str, ending: &Ending) -> Result<Value, AllocEr
         Ending::Followed { calls } => {
             json!(in alloc; {"answer": "followed", "calls": *calls, "log": log})
         }
-        Ending::Full { calls } => {
-            json!(in alloc; {"answer": "full", "calls": *calls, "log": log})
-        }
+        Ending::Full { calls } => full_object(alloc, log, *calls),
         Ending::Departs {
             number,
             place,
@@ -81,4 +105,11 @@ fn object_of(alloc: Global, log: &str, ending: &Ending) -> Result<Value, AllocEr
             json!(in alloc; {"answer": "too many", "line": *number, "log": log})
         }
     }
+}
+
+/// A log that was full after so many calls.
+fn full_object(alloc: Global, log: &str, calls: u64) -> Result<Value, AllocError>
+    ensures { IfOk result (λ v. view v ≡ ending_object log.now (Full calls)) }
+{
+    json!(in alloc; {"answer": "full", "calls": calls, "log": log})
 }

@@ -1,4 +1,4 @@
-//! Places of a text, in words.
+//! Places of a model, in words.
 
 use itoa::Buffer;
 use rc_follow::places::{Need, Place, Places};
@@ -7,10 +7,10 @@ use rc_report::source::{Lines, put_line_words};
 use rc_text::text::{put_piece, put_pieces};
 use std::alloc::{AllocError, Global};
 
-/// How many places are told at most.
+/// How many places are printed at most.
 const MOST_PLACES: usize = 3;
 
-/// Adds that the text is at the first three of these places, with what the call of a line of a log would have needed there.
+/// Adds that the model is at the first three of these places, with what the call of a line of a log would have needed there.
 pub fn put_places(
     text: &mut Vec<u8>,
     alloc: Global,
@@ -18,7 +18,7 @@ pub fn put_places(
     line: &[u8],
     places: &Places,
 ) -> Result<(), AllocError> {
-    put_piece(text, b"the text is at ")?;
+    put_piece(text, b"the model is at ")?;
     for (index, place) in places.lines.iter().take(MOST_PLACES).enumerate() {
         put_piece(text, before(index))?;
         put_place(text, alloc, lines, line, *place)?;
@@ -59,7 +59,7 @@ fn put_place(
     put_need(text, line, place.need)
 }
 
-/// The words of a line of the text, without the brace at its end.
+/// The words of a line of the model, without the brace at its end.
 fn words_of(alloc: Global, lines: &Lines<'_>, number: u32) -> Result<Vec<u8>, AllocError> {
     let mut words = Vec::new(alloc);
     put_line_words(&mut words, lines, number)?;

@@ -1,6 +1,8 @@
 //! What is printed of logs, as text and as JSON.
 
+ghost use Rattle.std.specs.Prelude.{false};
 ghost use Rattle.rc_command.specs.Endings.{after_name, ending_printed, ending_text};
+ghost use Rattle.rc_command.specs.Unmade.{unmade_line, unmade_printed};
 ghost use Rattle.rc_text.specs.Text.{Puts};
 
 use crate::departures::ending::Ending;
@@ -83,17 +85,29 @@ pub fn put_unmade(
     alloc: Global,
     unmade: &[Line],
     json: bool,
-) -> Result<(), AllocError> {
+) -> Result<(), AllocError>
+    ensures { Puts text.old text.new (unmade_printed json unmade.now) result }
+{
     if json {
-        return put_unmade_object(text, alloc, unmade);
+        put_unmade_object(text, alloc, unmade)
+    } else {
+        put_unmade_lines(text, unmade)
     }
+}
+
+/// Adds a line for each of these calls.
+fn put_unmade_lines(text: &mut Vec<u8>, unmade: &[Line]) -> Result<(), AllocError>
+    ensures { Puts text.old text.new (unmade_printed false unmade.now) result }
+{
     for line in unmade {
         put_unmade_line(text, *line)?;
     }
     Ok(())
 }
 
-fn put_unmade_line(text: &mut Vec<u8>, line: Line) -> Result<(), AllocError> {
+fn put_unmade_line(text: &mut Vec<u8>, line: Line) -> Result<(), AllocError>
+    ensures { Puts text.old text.new (unmade_line line) result }
+{
     let mut number = Buffer::new();
     let number = number.format(line.number).as_bytes();
     let word = word_of(line.stmt).as_bytes();

@@ -34,19 +34,19 @@ pub fn put_why(
     departure: &Departure,
 ) -> Result<(), AllocError> {
     match departure {
-        Departure::NoThread => put_pieces(text, &[b"the text has no thread ", word_at(line, 0)]),
+        Departure::NoThread => put_pieces(text, &[b"the model has no thread ", word_at(line, 0)]),
         Departure::Lacks(lack) => put_lack(text, line, *lack),
-        Departure::NoSqLock => put_piece(text, b"it hasn't locked sq"),
-        Departure::NoCqLock => put_piece(text, b"it hasn't locked cq"),
+        Departure::NoSqLock => put_piece(text, b"the thread doesn't hold the submission lock"),
+        Departure::NoCqLock => put_piece(text, b"the thread doesn't hold the completion lock"),
         Departure::Out(out) => put_counted(text, b"the model has ", *out as u64, b" out"),
-        Departure::Used(used) => put_counted(text, b"the text has ", *used as u64, b""),
+        Departure::Used(used) => put_counted(text, b"the model has ", *used as u64, b""),
         Departure::Elsewhere(places) => put_places(text, alloc, lines, line, places),
         Departure::TooMany => Ok(()),
     }
 }
 
 /// How a thread does this.
-fn verb_of(call: &[u8]) -> &'static [u8] {
+fn verb_of<'a>(call: &'a [u8]) -> &'a [u8] {
     if is_mark(call) {
         b" "
     } else if is(call, b"buffer") || is(call, b"token") || is(call, b"file") {
@@ -76,16 +76,16 @@ fn missing(call: &[u8]) -> &'static [u8] {
 fn put_lack(text: &mut Vec<u8>, line: &[u8], lack: Lack) -> Result<(), AllocError> {
     let first = word_at(line, 3);
     match lack {
-        Lack::NoEntry => put_piece(text, b"in the text an entry is always free"),
-        Lack::NoSuchRequest => put_piece(text, b"the text has no such request"),
-        Lack::NoFlags => put_piece(text, b"the text has no flags"),
-        Lack::FsyncFlags => put_piece(text, b"the text has no such flags"),
+        Lack::NoEntry => put_piece(text, b"the model never finds the ring full"),
+        Lack::NoSuchRequest => put_piece(text, b"the model has no such request"),
+        Lack::NoFlags => put_piece(text, b"the model has no flags"),
+        Lack::FsyncFlags => put_piece(text, b"the model has no such flags"),
         Lack::UnsaidFile => put_piece(text, b"nobody said which file that is"),
-        Lack::NoFile => put_pieces(text, &[b"the text has no file ", first]),
+        Lack::NoFile => put_pieces(text, &[b"the model has no file ", first]),
         Lack::UnsaidBuffer => put_piece(text, b"nobody said which buffer that is"),
         Lack::PastBuffer => put_piece(text, b"that goes past the end of its buffer"),
-        Lack::NoBuffer => put_pieces(text, &[b"the text has no buffer ", buffer_word(line)]),
-        Lack::NoPool => put_pieces(text, &[b"the text has no pool ", first]),
+        Lack::NoBuffer => put_pieces(text, &[b"the model has no buffer ", buffer_word(line)]),
+        Lack::NoPool => put_pieces(text, &[b"the model has no pool ", first]),
         Lack::NoToken => put_pieces(text, &[b"the model has no token ", first]),
         Lack::SmallBuffer(bytes) => {
             put_counted(text, b"the model's has ", u64::from(bytes), b" bytes")
