@@ -46,6 +46,7 @@ static void begin(void)
     MUST(io_uring_queue_init(8, &ring, 0), 0);
     MUST(io_uring_queue_init(8, &other, 0), 0);
     file = 1000000; /* there is none */
+    (void)early;    /* without flags nothing else uses it */
     RINGCHECK_BUFFER(early, 4, "early");
     RINGCHECK_BUFFER(early + 4, 4, "early");
     RINGCHECK_RING_SIDES(&ring, &submitting, NULL); /*: buffer early 4 */
