@@ -7,9 +7,8 @@ ghost use Rattle.rc_read.specs.OneAnswer.{HasAnswer};
 ghost use Rattle.rc_read.specs.Sheets.{empty};
 ghost use Rattle.rc_read.specs.Words.{cut};
 
-/// Each model has exactly one answer. It names a line exactly where that line is the first of which a fault sentence is
-/// true, and then the least number of such a sentence; a fault of the model's end, or a program, comes only where no
-/// line has one.
+/// Each model has exactly one answer. If some line has a fault, it is the first such line and the lowest-numbered fault
+/// there. Otherwise it is a fault at the end of the model, or the program.
 pub fn each_text_has_one_answer()
     ensures some { (bytes : List ℕ) → HasAnswer bytes (answer_of bytes) }
     ensures one { (bytes : List ℕ) (a b : Result Program (ℕ × ℕ))

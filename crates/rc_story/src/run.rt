@@ -54,7 +54,7 @@ pub struct Run<'s, 'a> {
 }
 
 impl<'s, 'a> Run<'s, 'a> {
-    /// The run with these events, of which so many aren't drawn, that ends in this world with this fault.
+    /// A run that ends in `world`, at `fault` if there is one. The first `cut` events aren't drawn.
     pub fn of(
         lines: &'s Lines<'a>,
         world: &'s World<'a>,
