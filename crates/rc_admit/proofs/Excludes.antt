@@ -1,18 +1,18 @@
 -- A world of which those facts are true has no fault.
-use Rattle.std.proofs.Common.{◌≡◌, ℕ, ◌+◌, ◌<◌, ◌≤◌, Bool, true, false, ◌&&◌, ◌||◌, List, [], ◌∷◌, length, drop, Option, Some, None, refl, sym, ap, ◌∙◌, subst, inl, inr, arith}
-use Rattle.std.proofs.lemmas.Option.{same_Some, slice_get_within}
+use Rattle.std.proofs.Common.{◌≡◌, ℕ, ◌+◌, ◌<◌, ◌≤◌, Bool, true, false, ◌&&◌, ◌||◌, List, ◌∷◌, length, drop, Option, Some, None, refl, sym, ap, ◌∙◌, subst, inl, inr, arith, []}
+use Rattle.std.proofs.lemmas.Option.{slice_get_within}
 use Rattle.std.proofs.lemmas.Bool.{and_from, and_parts, and_right, eq-eqb, eqb-true, false_from_ne_true, leb-true, lt-leb, ltb-true, not_from_true, or_cases, or_from}
 use Rattle.std.proofs.lemmas.List.{length-map}
 use Rattle.std.specs.List.{list_any}
 use Rattle.std.specs.Prelude.{is_some, nat_eq, nat_le, not, slice_get, ℤ, if◌then◌else◌}
 use Rattle.rc_lang.specs.declared.lines.Line.{Line}
 use Rattle.rc_lang.specs.declared.lines.Op.{Op}
-use Rattle.rc_lang.specs.declared.lines.Op.TheVariants.{Load, Store, Fill, GetSqe, PrepRead, PrepWrite, PrepFsync, PrepNop, SetData64, Submit, SubmitAndWait, CqeSeen}
+use Rattle.rc_lang.specs.declared.lines.Op.TheVariants.{Load, Store, GetSqe, PrepRead, PrepWrite, PrepFsync, PrepNop, PrepOther, SetData64, Submit, SubmitAndWait, CqeSeen}
 use Rattle.rc_lang.specs.declared.lines.Stmt.{Stmt}
 use Rattle.rc_lang.specs.declared.lines.Stmt.TheVariants.{Do, Put, EndLock, If, Peek, Break}
 use Rattle.rc_lang.specs.declared.lines.Test.TheVariants.{ReadyZero, SpaceAtLeast, Take}
 use Rattle.rc_lang.specs.declared.request.Request.{Request}
-use Rattle.rc_lang.specs.Program.{IsProgram, IsResolved, Items, Program, Thread, bytes_at, items_at, lines_in, lines_of, lists_of, shares_at, stmt_at, stmt_of}
+use Rattle.rc_lang.specs.Program.{IsProgram, IsResolved, Items, Program, bytes_at, items_at, lists_of, shares_at}
 use Rattle.rc_rules.specs.declared.mode.Mode.{Mode}
 use Rattle.rc_rules.specs.declared.mode.Peeked.{Peeked}
 use Rattle.rc_rules.specs.declared.mode.Peeked.TheVariants.{Unseen, Sees, SeesOther}
@@ -22,13 +22,13 @@ use Rattle.rc_rules.specs.Premises.{Meets}
 use Rattle.rc_rules.specs.Needs.{line_premises}
 use Rattle.rc_rules.specs.Rules.{is_seen, kind_of, limit, leave_needs, premises_of, release_needs, same_slot, sq_of}
 use Rattle.rc_rules.proofs.Weaker.{same_slot_is}
-use Rattle.rc_split.specs.Bags.{Part, ShareOf, TokenOf, Credit, bag_of, lacking}
+use Rattle.rc_split.specs.Bags.{Part, ShareOf, TokenOf, Credit, bag_of}
 use Rattle.rc_split.specs.Pools.{all_pooled, overfills}
 use Rattle.rc_world.specs.declared.event.Completion.{Completion}
 use Rattle.rc_world.specs.declared.fault.FaultKind.{FaultKind}
 use Rattle.rc_world.specs.declared.fault.FaultKind.TheVariants.{WriteOfPending, ReadOfFilling, KernelClash, ThreadRace, RingFull, Overflow, AmbiguousData, UnknownReap, NoLock, RawEntry, OutOfBuffer, DoublePut}
-use Rattle.rc_world.specs.Controls.{Standing, next_at, next_line}
-use Rattle.rc_world.specs.Faults.{Access, access_at, access_by, access_of, clashes, conflicts, count_of, fault_of, front_is_one, has_cq, has_data, has_fault, has_sq, is_closed, is_cq_call, is_filling, is_full_at, is_in_flight, is_named, is_ambiguous_at, is_double_at, is_out_at, is_prepared, is_raw_at, is_sq_call, is_sq_op, is_unknown_at, lacks_lock, is_vacant, may_put, names, op_is_out, op_is_raw, overflows, races_from, reads_filling, reads_into, writes_pending}
+use Rattle.rc_world.specs.Controls.{Standing, next_line}
+use Rattle.rc_world.specs.Faults.{Access, access_at, access_of, clashes, conflicts, count_of, fault_of, front_is_one, has_cq, has_data, has_fault, has_sq, is_closed, is_cq_call, is_filling, is_full_at, is_in_flight, is_named, is_ambiguous_at, is_double_at, is_out_at, is_prepared, is_raw_at, is_sq_call, is_sq_op, is_unknown_at, lacks_lock, is_vacant, may_put, names, op_is_out, op_is_raw, overflows, races_from, reads_filling, reads_into, writes_pending}
 use Rattle.rc_world.specs.Machine.{Pending, World, is_read, slot_len, used_entries}
 use Rattle.rc_world.proofs.Lists.{found}
 use Rattle.rc_admit.proofs.Flight.{data_in, front_is}
@@ -37,60 +37,17 @@ use Rattle.rc_admit.proofs.Moves.{cq_has, sq_has}
 use Rattle.rc_admit.proofs.Ops.{slot_closed, slot_vacant, slot_prepared}
 use Rattle.rc_admit.proofs.Owned.{Stand, EdgeAt, HasEdge, owns, owns_pending, unheld, SlotFits, StartsWith, IsNonempty, FrontFits, HasKind, HasKindPending, Owned, WellOwned, bound_one, bound_two, bound_unheld}
 use Rattle.rc_admit.proofs.Pool.{room_in_pools}
-use Rattle.rc_admit.proofs.Rule.{asks_lock, called, can_queue_by, has_both, held_of, known_sq, met, prepared_as, put_covered}
-use Rattle.rc_admit.proofs.Shares.{buffer_shared, credits_owned, data_owned, data_pending, fills_all, names_one, no_clash}
-use Rattle.rc_admit.proofs.Tokens.{count_most, few_queued, token_owned}
+use Rattle.rc_admit.proofs.Rule.{asks_lock, called, has_both, held_of, known_sq, met, prepared_as, put_covered}
+use Rattle.rc_admit.proofs.Shares.{data_owned, data_pending, fills_all, names_one, no_clash}
+use Rattle.rc_admit.proofs.Tokens.{count_most, credits_owned, entry_free, token_owned}
 use Rattle.rc_world.proofs.LawFaultless.{without_fault}
+use Rattle.rc_admit.proofs.Accesses.{Next, all_by, next_is, one_by, resolved_at}
 
 -- ---- what the rules ask of a lock
 
 none_lacking : (c h : Bool) → (c ≡ true → h ≡ true) → (c && not h) ≡ false
 none_lacking false h f = refl
 none_lacking true h f = ap not (f refl)
-
--- ---- what the rules ask of an access
-
--- A statement that writes a buffer has all its shares.
-all_by : (P : Program) (b : Part → ℕ) (m : Mode) (op : Op) → Meets (line_premises P [] b m (Do op)) → (a : Access) → access_by op ≡ Some a → a.writes ≡ true → shares_at P.buffers a.buffer ≤ b (ShareOf a.buffer)
-all_by P b m (Load x c j) h a e y = let z : false ≡ a.writes = ap (λ (x : Access). x.writes) (same_Some (record { buffer = c; writes = false }) a e) in absurd (cc)
-all_by P b m (Store c j x) h a e y = subst (λ (x : Access). shares_at P.buffers x.buffer ≤ b (ShareOf x.buffer)) (same_Some (record { buffer = c; writes = true }) a e) (leb-true _ _ (met 7 (line_premises P [] b m (Do (Store c j x))) h))
-all_by P b m (Fill c x) h a e y = subst (λ (x : Access). shares_at P.buffers x.buffer ≤ b (ShareOf x.buffer)) (same_Some (record { buffer = c; writes = true }) a e) (leb-true _ _ (met 7 (line_premises P [] b m (Do (Fill c x))) h))
-all_by P b m _ h a e y = absurd (cc)
-
--- One that reads or writes it has a share.
-one_by : (P : Program) → IsProgram P → (b : Part → ℕ) (m : Mode) (n k : ℕ) (op : Op) → Meets (line_premises P [] b m (Do op)) → IsResolved P n k (Do op) → (a : Access) → access_by op ≡ Some a → 1 ≤ b (ShareOf a.buffer)
-one_by P made b m n k (Load x c j) h r a e = subst (λ (x : Access). 1 ≤ b (ShareOf x.buffer)) (same_Some (record { buffer = c; writes = false }) a e) (leb-true 1 _ (met 8 (line_premises P [] b m (Do (Load x c j))) h))
-one_by P made b m n k (Store c j x) h r a e =
-    let s : 1 ≤ shares_at P.buffers c = buffer_shared P made c r.0 in
-    let g : shares_at P.buffers c ≤ b (ShareOf c) = leb-true _ _ (met 7 (line_premises P [] b m (Do (Store c j x))) h) in
-    subst (λ (x : Access). 1 ≤ b (ShareOf x.buffer)) (same_Some (record { buffer = c; writes = true }) a e) (omega arith)
-one_by P made b m n k (Fill c x) h r a e =
-    let s : 1 ≤ shares_at P.buffers c = buffer_shared P made c r.0 in
-    let g : shares_at P.buffers c ≤ b (ShareOf c) = leb-true _ _ (met 7 (line_premises P [] b m (Do (Fill c x))) h) in
-    subst (λ (x : Access). 1 ≤ b (ShareOf x.buffer)) (same_Some (record { buffer = c; writes = true }) a e) (omega arith)
-one_by P made b m n k _ h r a e = absurd (cc)
-
--- ---- where a thread is
-
-pub record Next (w : World) (i : ℕ) (s : Stmt) : Type 0 where
-  pub thread : Standing
-  pub stands : slice_get w.controls.threads i ≡ Some thread
-  pub line : stmt_at (lines_of w.program i) thread.place ≡ Some s
-
-pub next_is : (w : World) (i : ℕ) (l : Line) → next_line w.program w.controls i ≡ Some l → Next w i l.stmt
-next_is w i l e = go (slice_get w.controls.threads i) refl e
-  where
-    go : (x : Option Standing) → slice_get w.controls.threads i ≡ x → next_at w.program i x ≡ Some l → Next w i l.stmt
-    go None f h = absurd (cc)
-    go (Some t) f h = record { thread = t; stands = f; line = ap stmt_of h }
-
--- The names of its line are resolved.
-resolved_at : (P : Program) → IsProgram P → (i k : ℕ) (s : Stmt) → stmt_at (lines_of P i) k ≡ Some s → (n : ℕ) × (lists : ℕ) × IsResolved P n lists s
-resolved_at P made i k s e = go (slice_get P.threads i) refl e
-  where
-    go : (x : Option Thread) → slice_get P.threads i ≡ x → stmt_at (lines_in x) k ≡ Some s → (n : ℕ) × (lists : ℕ) × IsResolved P n lists s
-    go None f h = absurd (cc)
-    go (Some t) f h = (length t.variables, length t.lists, (made.each i t f).resolved k s h)
 
 -- ---- the faults, each alone
 
@@ -218,6 +175,7 @@ module _ (w : World) (made : IsProgram w.program) (S : Stand) (edge : HasEdge w.
   is_not_raw i (PrepWrite fd b len off k) h = let x = called (modes i).sq _ h in wants_vacant i x.known x.is (x.asked 5)
   is_not_raw i (PrepFsync fd datasync) h = let x = called (modes i).sq _ h in wants_vacant i x.known x.is (x.asked 5)
   is_not_raw i PrepNop h = let x = called (modes i).sq _ h in wants_vacant i x.known x.is (x.asked 5)
+  is_not_raw i PrepOther h = let x = called (modes i).sq _ h in wants_vacant i x.known x.is (x.asked 5)
   is_not_raw i (SetData64 u) h =
       let x = called (modes i).sq _ h in
       let k = prepared_as (kind_of P u) x.known.slot (x.asked 6) in
@@ -259,6 +217,7 @@ module _ (w : World) (made : IsProgram w.program) (S : Stand) (edge : HasEdge w.
   op_locked i (PrepWrite fd b len off k) h r = knows_sq i (asks_lock (modes i).sq _ h)
   op_locked i (PrepFsync fd datasync) h r = knows_sq i (asks_lock (modes i).sq _ h)
   op_locked i PrepNop h r = knows_sq i (asks_lock (modes i).sq _ h)
+  op_locked i PrepOther h r = knows_sq i (asks_lock (modes i).sq _ h)
   op_locked i (SetData64 u) h r = knows_sq i (asks_lock (modes i).sq _ h)
   op_locked i (Submit x) h r = knows_sq i (asks_lock (modes i).sq _ h)
   op_locked i (SubmitAndWait x n) h r = knows_sq i (asks_lock (modes i).sq _ h)
@@ -291,10 +250,8 @@ module _ (w : World) (made : IsProgram w.program) (S : Stand) (edge : HasEdge w.
       let s = called (modes i).sq _ h.0 in
       let f = sq_at i s.known s.is in
       let none : slot_len w.slot ≡ 0 = ap slot_len (slot_closed w.slot (subst (λ x. SlotFits w.slot x) (same_slot_is s.known.slot Closed (s.asked 4)) f.2)) in
-      let some : length w.queued < P.entries = elim (can_queue_by P (bags i) s.known.queued (s.asked 3)) [
-        | inl y ↦ let x : length w.queued + slot_len w.slot ≤ s.known.queued = f.1 in omega (arith, x, y)
-        | inr y ↦ let x : length w.queued ≤ lacking P.tokens (bags i) = few_queued P S w bags modes i o lt in omega (arith, x, y)
-      ] in
+      let few : length w.queued + slot_len w.slot ≤ s.known.queued = f.1 in
+      let some : length w.queued < P.entries = entry_free P S w bags modes i o lt s.known.queued (omega (arith, few)) (s.asked 3) in
       lt-leb P.entries (used_entries w) (omega (arith, none, some))
   no_ring_full i (Do _) vars k lt h = refl
   no_ring_full i _ vars k lt h = refl

@@ -1,5 +1,5 @@
 -- A labelling that obeys the rules gives the edge law: a claim of how each thread of an accepted program may stand.
-use Rattle.std.proofs.Common.{◌≡◌, ℕ, ◌+◌, ◌<◌, ◌≤◌, Bool, true, false, cond, List, [], ◌∷◌, ◌++◌, take, Option, Some, refl, sym, ap, ◌∙◌, subst, ◌⊎◌, inl, inr, arith}
+use Rattle.std.proofs.Common.{◌≡◌, ℕ, ◌+◌, ◌<◌, ◌≤◌, Bool, true, false, cond, List, ◌∷◌, ◌++◌, take, Option, Some, refl, sym, ap, ◌∙◌, subst, ◌⊎◌, inl, inr, arith, []}
 use Rattle.std.specs.Prelude.{nat_lt, slice_get, slice_set, ℤ}
 use Rattle.std.proofs.lemmas.Bool.{ltb-true, or_left, or_right}
 use Rattle.std.proofs.lemmas.List.{get_or-take}
@@ -38,36 +38,10 @@ use Rattle.rc_world.specs.Controls.{arm_for, none_arm}
 use Rattle.rc_admit.proofs.FlatLooks.{arm_in, arm_is, break_in, get_take, len_take, none_is_at}
 use Rattle.rc_admit.proofs.FlatRules.{IsBelow, behind_op, behind_test, below, covered, for_each, top_same, where_known}
 use Rattle.rc_admit.proofs.Lists.{Each, Each-append}
-use Rattle.rc_admit.proofs.Owned.{EdgeAt, HasEdge, Leads, MayBecome, MayPass, Stand}
+use Rattle.rc_admit.proofs.Owned.{EdgeAt, HasEdge, Leads, MayBecome, MayPass}
 use Rattle.rc_admit.proofs.Rule.{AtLive, asks_lock}
 use Rattle.rc_admit.proofs.Sides.{IsStored, any_turns, brought, loop_turns, meets_side, op_turns, side_of, stored_set, test_may, ungate}
-
--- ---- how a thread stands
-
--- With some variables, a label on their side that is live, with the locks in which its place is.
-pub record Entered (flag : Option ℕ) (lines : List Line) (labels : List Sides) (o : ℕ) : Type 0 where
-  pub variables : List ℤ
-  pub bag : Part → ℕ
-  pub mode : Mode
-  pub label : label_at labels o (side_of flag variables) ≡ Live bag mode
-  pub locked : locks_of mode ≡ locks_in (blocks_at lines o)
-
--- A loop and a peek were entered with a live label.
-abbrev pub Enters : Option ℕ → List Line → List Sides → Block → Type 0
-Enters flag lines labels (InPeek o) = Entered flag lines labels o
-Enters flag lines labels (InLoop o k) = Entered flag lines labels o
-Enters flag lines labels _ = Unit {0}
-
--- A thread is at a place with the label on the side of its flag, which is live, in blocks that were entered so.
-pub record At (flag : Option ℕ) (lines : List Line) (labels : List Sides) (b : Part → ℕ) (m : Mode) (vars : List ℤ) (k : ℕ) : Type 0 where
-  pub label : label_at labels k (side_of flag vars) ≡ Live b m
-  pub stored : IsStored flag vars
-  pub locked : locks_of m ≡ locks_in (blocks_at lines k)
-  pub openers : Each (Enters flag lines labels) (blocks_at lines k)
-
--- with the labels of some labelling that obeys the rules
-abbrev pub Labelled : Program → Stand
-Labelled P i b m vars k = (thread : Thread) × (labels : List Sides) × (lists_of P i ≡ thread.lists) × IsGood P thread (lines_of P i) labels × At thread.flag (lines_of P i) labels b m vars k
+use Rattle.rc_admit.proofs.FlatPlaces.{At, Entered, Enters, Labelled}
 
 -- ---- lists
 

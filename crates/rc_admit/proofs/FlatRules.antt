@@ -5,7 +5,7 @@ use Rattle.std.proofs.lemmas.Bool.{and_parts, leb-true}
 use Rattle.rc_lang.specs.declared.lines.Locks.{Locks}
 use Rattle.rc_lang.specs.declared.lines.Op.{Op}
 use Rattle.rc_lang.specs.declared.lines.Test.{Test}
-use Rattle.rc_lang.specs.declared.lines.Test.TheVariants.{Compare, ReadyZero, SpaceAtLeast, Take}
+use Rattle.rc_lang.specs.declared.lines.Test.TheVariants.{Compare, ReadyZero, SpaceAtLeast, Take, Any}
 use Rattle.rc_lang.specs.Program.{IsProgram, Items, Program, items_at}
 use Rattle.rc_rules.specs.declared.mode.Mode.{Mode}
 use Rattle.rc_rules.specs.declared.mode.Peeked.TheVariants.{Unseen}
@@ -56,6 +56,7 @@ behind_test P lists b m (Take pool k) K t w f = go (can_take P b m (items_at lis
 behind_test P lists b m (Compare x c n) K t w f = f b m refl w
 behind_test P lists b m ReadyZero K t w f = f b (test_mode P ReadyZero m) (test_locks P ReadyZero m) w
 behind_test P lists b m (SpaceAtLeast n) K t w f = f b (test_mode P (SpaceAtLeast n) m) (test_locks P (SpaceAtLeast n) m) w
+behind_test P lists b m Any K t w f = f b m refl w
 
 -- ---- loops
 

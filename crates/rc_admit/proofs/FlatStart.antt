@@ -11,7 +11,8 @@ use Rattle.rc_rules.specs.Premises.{Meets}
 use Rattle.rc_rules.specs.Rules.{limit, unlocked}
 use Rattle.rc_split.specs.Bags.{Part, ShareOf, TokenOf, Credit, bag_of}
 use Rattle.rc_rules.proofs.Weaker.{same_below}
-use Rattle.rc_admit.proofs.Flat.{Labelled, lead}
+use Rattle.rc_admit.proofs.Flat.{lead}
+use Rattle.rc_admit.proofs.FlatPlaces.{Labelled}
 use Rattle.rc_admit.proofs.Owned.{HasStart}
 use Rattle.rc_admit.proofs.Sides.{IsStored, side_of}
 

@@ -7,7 +7,7 @@ use Rattle.rc_lang.specs.Program.{IsProgram, Program, lines_of, stmt_of}
 use Rattle.rc_lang.specs.Requests.{may_complete}
 use Rattle.rc_rules.specs.declared.mode.Peeked.{Peeked}
 use Rattle.rc_rules.specs.declared.mode.Peeked.TheVariants.{Unseen, Sees, SeesOther}
-use Rattle.rc_rules.specs.Rules.{limit}
+use Rattle.rc_rules.specs.Labellings.{headers_bag}
 use Rattle.rc_world.specs.declared.event.Completion.{Completion}
 use Rattle.rc_world.specs.declared.event.Event.{Event}
 use Rattle.rc_world.specs.Controls.{Controls, Move, Standing, acts, acts_on, as_event, made, next_at, next_line}
@@ -61,8 +61,9 @@ completes_keeps P S w k res x bs e h =
         stands = o.stands;
         total = λ p.
             let a : sum_over (owns_pending P p) (without k w.pending) + sum_over (owns P p) (w.completed ++ r ∷ []) ≡ sum_over (owns_pending P p) w.pending + sum_over (owns P p) w.completed = completed_sum (owns P p) k w.pending w.completed x e in
-            let t : sum_to (λ i. held P (h.0 i) (h.1 i) p) (length w.controls.threads) + unheld P w p ≤ limit P p = o.total p in
+            let t : sum_to (λ i. held P (h.0 i) (h.1 i) p) (length w.controls.threads) + unheld P w p ≤ headers_bag P.threads p = o.total p in
             omega arith;
+        within = o.within;
         free = o.free;
         submits = o.submits;
         reaps = λ i. held_map (FrontFits w.controls.peeked w.completions) (FrontFits w.controls.peeked (w.completions ++ completion_of r res ∷ [])) (front_more w.controls.peeked w.completions (completion_of r res ∷ [])) (is_holder w.controls.holders.cq i) (h.1 i).cq (o.reaps i);

@@ -10,10 +10,12 @@ pub mod Steps
 pub mod Kernel
 pub mod Start
 pub mod Shares
+pub mod Accesses
 pub mod Excludes
 pub mod Sides
 pub mod FlatRules
 pub mod FlatLooks
+pub mod FlatPlaces
 pub mod Flat
 pub mod FlatStart
 pub mod Safe

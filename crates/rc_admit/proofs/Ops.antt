@@ -5,7 +5,7 @@ use Rattle.std.specs.Prelude.{slice_get, slice_set, unwrap_or, min, nat_lt, ℤ,
 use Rattle.std.proofs.lemmas.Option.{slice_get_within}
 use Rattle.rc_lang.specs.declared.lines.Stmt.TheVariants.{Do}
 use Rattle.rc_lang.specs.declared.lines.Op.{Op}
-use Rattle.rc_lang.specs.declared.lines.Op.TheVariants.{Set, Load, Store, Fill, Print, GetSqe, PrepRead, PrepWrite, PrepFsync, PrepNop, SetData64, Submit, SubmitAndWait, CqeSeen}
+use Rattle.rc_lang.specs.declared.lines.Op.TheVariants.{Set, Load, Store, Fill, Print, GetSqe, PrepRead, PrepWrite, PrepFsync, PrepNop, PrepOther, SetData64, Submit, SubmitAndWait, CqeSeen}
 use Rattle.rc_lang.specs.declared.program.TokenKind.{TokenKind}
 use Rattle.rc_lang.specs.declared.program.TokenKind.TheVariants as tokens
 use Rattle.rc_lang.specs.declared.request.Request.{Request}
@@ -20,7 +20,7 @@ use Rattle.rc_rules.specs.Needs.{line_premises}
 use Rattle.rc_rules.specs.Rules.{can_queue, is_seen, kind_bag, kind_of, line_bag, op_effect, reaped}
 use Rattle.rc_rules.specs.Premises.{Meets}
 use Rattle.rc_rules.proofs.Weaker.{same_slot_is}
-use Rattle.rc_split.specs.Bags.{Part, ShareOf, TokenOf, Credit, shares_bag, token_bag, credits_bag, lacking, minus, plus}
+use Rattle.rc_split.specs.Bags.{Part, ShareOf, TokenOf, Credit, shares_bag, token_bag, credits_bag, minus, plus}
 use Rattle.rc_split.specs.Pools.{Pools, all_pooled}
 use Rattle.rc_world.specs.declared.controls.Answer.{Answer}
 use Rattle.rc_world.specs.declared.controls.Answer.TheVariants.{Byte}
@@ -35,8 +35,8 @@ use Rattle.rc_split.proofs.PoolBags.{same_or_not}
 use Rattle.rc_admit.proofs.Lists.{sum_over, sum_over-append, Each, Each-append, Each-take, Each-drop, Each-map}
 use Rattle.rc_admit.proofs.Moves.{Moved, SqPart, moves, put, cq_has, cq_step, cq_still, sq_has, sq_step, sq_still}
 use Rattle.rc_admit.proofs.Owned.{Stand, Leads, MayBecome, HasEdge, slot_bag, owns, owns_pending, FitsKind, SlotFits, StartsWith, IsNonempty, mode_bag, HasKind, HasKindPending, Owned, WellOwned}
-use Rattle.rc_admit.proofs.Rule.{AtLive, Claim, called, can_queue_by, prepared_as, then_known}
-use Rattle.rc_admit.proofs.Tokens.{few_queued}
+use Rattle.rc_admit.proofs.Rule.{AtLive, Claim, called, prepared_as, then_known}
+use Rattle.rc_admit.proofs.Tokens.{entry_free}
 
 pub credit_covered : (b : Part → ℕ) → 1 ≤ b Credit → (p : Part) → credits_bag 1 p ≤ b p
 credit_covered b h (ShareOf c) = omega arith
@@ -196,6 +196,7 @@ module _ (P : Program) (S : Stand) (w : World) (bags : ℕ → Part → ℕ) (mo
         kept (tokens.Write b n) f = f
         kept tokens.Fsync f = f
         kept tokens.Nop f = f
+        kept tokens.Other f = f
 
     pub submit : (n : ℕ) (ps : List Pending) (bs : List (Option (List ℕ))) → map (λ (x : Pending). x.request) ps ≡ take n w.queued → Moved P w (record w { queued = drop n w.queued; pending = w.pending ++ ps; buffers = bs }) bags modes i (bags i) (modes i)
     submit n ps bs are =
@@ -279,12 +280,10 @@ module _ (P : Program) (S : Stand) (edge : HasEdge P S) (w : World) (bags : ℕ 
   fill_keeps b byte action None h = tt
   fill_keeps b byte action (Some bytes) h = quietly _ t.variables h
 
-  -- An entry is free, as the label says, or as the tokens do that the thread doesn't hold.
   room : (s : Submitting) → (modes i).sq ≡ Some s → can_queue P (bags i) s.queued ≡ true → length w.queued < P.entries
-  room s e c = elim (can_queue_by P (bags i) s.queued c) [
-    | inl lt ↦ let h : length w.queued + slot_len w.slot ≤ s.queued = (has P S w bags modes i o s e).0 in omega (arith, lt, h)
-    | inr lt ↦ let h : length w.queued ≤ lacking P.tokens (bags i) = few_queued P S w bags modes i o (slice_get_within w.controls.threads i t get) in omega (arith, lt, h)
-  ]
+  room s e c =
+      let h : length w.queued + slot_len w.slot ≤ s.queued = (has P S w bags modes i o s e).0 in
+      entry_free P S w bags modes i o (slice_get_within w.controls.threads i t get) s.queued (omega (arith, h)) c
 
   -- a slot that opens, and one that is filled
   open_keeps : (s : Submitting) (action : Action) (x : Entry) → (modes i).sq ≡ Some s → 1 ≤ bags i Credit → can_queue P (bags i) s.queued ≡ true → s.slot ≡ Closed → Leads S i (minus (bags i) (credits_bag 1)) (record (modes i) { sq = Some (record { queued = min (s.queued + 1) P.entries; slot = Vacant }) }) t.variables (t.place + 1) → Keeps P S w.controls i (opens_entry w x) (Some (goes_on w.controls t action))
@@ -368,6 +367,9 @@ module _ (P : Program) (S : Stand) (edge : HasEdge P S) (w : World) (bags : ℕ 
   op_keeps PrepNop h =
       let x = called (modes i).sq _ h.0 in
       prep_keeps x.known _ tokens.Nop _ w.slot x.is refl (λ p. omega arith) (same_slot_is x.known.slot Vacant (x.asked 5)) (same_bag (bags i) (record (modes i) { sq = Some (record x.known { slot = Prepared tokens.Nop }) }) t.variables (minus (bags i) (kind_bag P tokens.Nop)) (λ p. omega arith) (then_known (modes i).sq _ (Behind PrepNop) x.known x.is h.1 t.variables refl))
+  op_keeps PrepOther h =
+      let x = called (modes i).sq _ h.0 in
+      prep_keeps x.known _ tokens.Other _ w.slot x.is refl (λ p. omega arith) (same_slot_is x.known.slot Vacant (x.asked 5)) (same_bag (bags i) (record (modes i) { sq = Some (record x.known { slot = Prepared tokens.Other }) }) t.variables (minus (bags i) (kind_bag P tokens.Other)) (λ p. omega arith) (then_known (modes i).sq _ (Behind PrepOther) x.known x.is h.1 t.variables refl))
   op_keeps (SetData64 u) h =
       let x = called (modes i).sq _ h.0 in
       let k = prepared_as (kind_of P u) x.known.slot (x.asked 6) in

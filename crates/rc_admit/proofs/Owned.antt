@@ -1,5 +1,5 @@
 -- What is true of each world of an accepted program, over any claim of how a thread may stand.
-use Rattle.std.proofs.Common.{◌≡◌, ℕ, zero, suc, ◌+◌, ◌<◌, ◌≤◌, Bool, true, false, ◌||◌, List, [], ◌∷◌, length, Option, Some, None, refl, sym, ◌∙◌, subst, ◌⊎◌, arith}
+use Rattle.std.proofs.Common.{◌≡◌, ℕ, zero, suc, ◌+◌, ◌<◌, ◌≤◌, Bool, true, false, ◌||◌, List, [], ◌∷◌, length, Option, Some, None, refl, sym, subst, ◌⊎◌, arith}
 use Rattle.std.specs.Prelude.{is_some, option_map, replicate, slice_get, slice_set, slice_index_or, ℤ, pos}
 use Rattle.rc_lang.specs.Comparisons.{compares}
 use Rattle.rc_lang.specs.declared.lines.Op.{Op}
@@ -7,10 +7,10 @@ use Rattle.rc_lang.specs.declared.lines.Op.TheVariants.{Set, Assign, Add, Subtra
 use Rattle.rc_lang.specs.declared.lines.Stmt.{Stmt}
 use Rattle.rc_lang.specs.declared.lines.Stmt.TheVariants.{Do, Put, Lock, EndLock, If, Else, EndIf, Peek, EndArm, Loop, EndLoop, Break}
 use Rattle.rc_lang.specs.declared.lines.Test.{Test}
-use Rattle.rc_lang.specs.declared.lines.Test.TheVariants.{Compare, ReadyZero, SpaceAtLeast, Take}
+use Rattle.rc_lang.specs.declared.lines.Test.TheVariants.{Compare, ReadyZero, SpaceAtLeast, Take, Any}
 use Rattle.rc_lang.specs.declared.program.TokenKind.{TokenKind}
 use Rattle.rc_lang.specs.declared.program.TokenKind.TheVariants as tokens
-use Rattle.rc_lang.specs.declared.request.Kind.TheVariants.{Nop, Fsync, Read, Write}
+use Rattle.rc_lang.specs.declared.request.Kind.TheVariants.{Nop, Fsync, Read, Write, Other}
 use Rattle.rc_lang.specs.declared.request.Request.{Request}
 use Rattle.rc_lang.specs.Program.{Program, Thread, end_at, items_at, lines_of, lists_of, stmt_at}
 use Rattle.rc_lang.proofs.Closing.{AreAmong}
@@ -24,6 +24,7 @@ use Rattle.rc_rules.specs.Labels.{Live, UnderLock, WeakerMode, WeakerPeeked, Wea
 use Rattle.rc_rules.specs.Premises.{Meets}
 use Rattle.rc_rules.proofs.Weaker.{mode_refl, mode_trans, peeked_less, unseen_least}
 use Rattle.rc_rules.specs.Needs.{line_premises}
+use Rattle.rc_rules.specs.Labellings.{headers_bag}
 use Rattle.rc_rules.specs.Rules.{broken, freed, kind_bag, kind_of, limit, line_bag, locked, locks_of, op_effect, sq_of, test_effect, unlocked, with_peeked}
 use Rattle.rc_split.specs.Bags.{Part, TokenOf, bag_of, credits_bag, minus, token_bag}
 use Rattle.rc_split.specs.Pools.{all_pooled}
@@ -68,6 +69,7 @@ MayPass (Compare x c n) vars b = compares c (slice_index_or vars x (pos 0)) n �
 MayPass ReadyZero vars b = Unit {0}
 MayPass (SpaceAtLeast n) vars b = Unit {0}
 MayPass (Take pool k) vars b = Unit {0}
+MayPass Any vars b = Unit {0}
 
 -- The edge law at the line k of thread i: the state before it meets the premises of the line, and the rule's state
 -- after it leads to one in which the thread may be.
@@ -129,6 +131,7 @@ FitsKind r (tokens.Read b) = (r.kind ≡ Read) × (r.buffer ≡ b)
 FitsKind r (tokens.Write b k) = (r.kind ≡ Write) × (r.buffer ≡ b)
 FitsKind r tokens.Fsync = r.kind ≡ Fsync
 FitsKind r tokens.Nop = r.kind ≡ Nop
+FitsKind r tokens.Other = r.kind ≡ Other
 
 abbrev pub SlotFits : Entry → Slot → Type 0
 SlotFits entries.Closed Closed = Unit {0}
@@ -180,7 +183,8 @@ pub record Owned (P : Program) (S : ℕ → (Part → ℕ) → Mode → List ℤ
   pub of : w.program ≡ P
   pub room : length w.queued + slot_len w.slot ≤ P.entries
   pub stands : (i : ℕ) (t : Standing) → slice_get w.controls.threads i ≡ Some t → S i (bags i) (modes i) t.variables t.place
-  pub total : (p : Part) → sum_to (λ i. held P (bags i) (modes i) p) (length w.controls.threads) + unheld P w p ≤ limit P p
+  pub total : (p : Part) → sum_to (λ i. held P (bags i) (modes i) p) (length w.controls.threads) + unheld P w p ≤ headers_bag P.threads p
+  pub within : (p : Part) → headers_bag P.threads p ≤ limit P p
   pub free : w.controls.holders.sq ≡ None → (length w.queued ≤ P.left) × (w.slot ≡ entries.Closed)
   pub submits : (i : ℕ) → SqFits (length w.queued) w.slot (is_holder w.controls.holders.sq i) (modes i).sq
   pub reaps : (i : ℕ) → CqFits w.controls.peeked w.completions (is_holder w.controls.holders.cq i) (modes i).cq
@@ -197,7 +201,11 @@ WellOwned P S w = (bags : ℕ → Part → ℕ) × (modes : ℕ → Mode) × Own
 module _ (P : Program) (S : Stand) (w : World) (bags : ℕ → Part → ℕ) (modes : ℕ → Mode) (o : Owned P S w bags modes) (p : Part) where
   -- What threads hold, requests own and pools have is at most what there is.
   pub bound : sum_to (λ i. held P (bags i) (modes i) p) (length w.controls.threads) + unheld P w p ≤ limit P p
-  bound = o.total p
+  bound = omega (arith, o.total p, o.within p)
+
+  -- It is at most what threads begin with: nothing is made anew.
+  pub bound_given : (i : ℕ) → i < length w.controls.threads → bags i p + unheld P w p ≤ headers_bag P.threads p
+  bound_given i lt = omega (arith, o.total p, sum_to_one (λ j. held P (bags j) (modes j) p) (length w.controls.threads) i lt)
 
   -- so without what threads hold, and with what one or two of them hold
   pub bound_unheld : unheld P w p ≤ limit P p

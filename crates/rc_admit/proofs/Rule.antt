@@ -1,5 +1,5 @@
 -- What the rules say of a live state, premise by premise, and of the state after a line.
-use Rattle.std.proofs.Common.{◌≡◌, ℕ, ◌<◌, ◌&&◌, true, false, cond, nat_eq, List, [], ◌∷◌, Option, Some, None, refl, ap, subst, ◌⊎◌, inl, inr}
+use Rattle.std.proofs.Common.{◌≡◌, ℕ, ◌-◌, ◌<◌, ◌||◌, true, false, cond, nat_eq, List, [], ◌∷◌, Option, Some, None, refl, ap, subst, ◌⊎◌, inl, inr}
 use Rattle.std.specs.Prelude.{is_some, nat_le, nat_lt, unwrap_or}
 use Rattle.std.proofs.lemmas.Bool.{and_parts, ltb-true, or_cases}
 use Rattle.rc_lang.specs.declared.lines.Stmt.TheVariants.{Put}
@@ -12,9 +12,9 @@ use Rattle.rc_rules.specs.declared.mode.Submitting.{Submitting}
 use Rattle.rc_rules.specs.Labels.{Label, Dead, Live}
 use Rattle.rc_rules.specs.Needs.{line_premises}
 use Rattle.rc_rules.specs.Premises.{Premise, Is, IsMet, Meets}
-use Rattle.rc_rules.specs.Rules.{can_queue, if_locked, is_prepared_as, sq_of, with_lock}
+use Rattle.rc_rules.specs.Rules.{can_queue, few_credits, few_tokens, if_locked, is_prepared_as, sq_of, with_lock}
 use Rattle.rc_rules.proofs.Weaker.{same_slot_is}
-use Rattle.rc_split.specs.Bags.{Part, IsWithin, bag_of, lacking}
+use Rattle.rc_split.specs.Bags.{Part, Credit, IsWithin, bag_of, credits_given, lacking}
 
 -- A claim of a live state; of a dead one nothing is claimed.
 abbrev pub Claim : Type 1
@@ -82,9 +82,12 @@ pub put_covered : (P : Program) (items : Items) (b : Part → ℕ) (m : Mode) (p
 put_covered P items b m None h = (has_both m.sq m.cq _ h).asked.0
 put_covered P items b m (Some n) h = h.0
 
--- The two ways in which one more entry has room.
-pub can_queue_by : (P : Program) (b : Part → ℕ) (n : ℕ) → can_queue P b n ≡ true → (n < P.entries) ⊎ (lacking P.tokens b < P.entries)
-can_queue_by P b n e = elim (or_cases (nat_lt n P.entries) (nat_le 4 P.version && nat_lt (lacking P.tokens b) P.entries) e) [
+-- The three ways in which one more entry has room.
+pub can_queue_by : (P : Program) (b : Part → ℕ) (n : ℕ) → can_queue P b n ≡ true → (n < P.entries) ⊎ (lacking P.tokens b < P.entries) ⊎ (credits_given P.threads - b Credit < P.entries)
+can_queue_by P b n e = elim (or_cases (nat_lt n P.entries) (few_tokens P b || few_credits P b) e) [
   | inl x ↦ inl (ltb-true n P.entries x)
-  | inr x ↦ inr (ltb-true (lacking P.tokens b) P.entries (and_parts (nat_le 4 P.version) (nat_lt (lacking P.tokens b) P.entries) x).1)
+  | inr y ↦ inr (elim (or_cases (few_tokens P b) (few_credits P b) y) [
+    | inl x ↦ inl (ltb-true (lacking P.tokens b) P.entries (and_parts (nat_le 4 P.version) (nat_lt (lacking P.tokens b) P.entries) x).1)
+    | inr x ↦ inr (ltb-true (credits_given P.threads - b Credit) P.entries (and_parts (nat_le 5 P.version) (nat_lt (credits_given P.threads - b Credit) P.entries) x).1)
+  ])
 ]

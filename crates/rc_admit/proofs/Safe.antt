@@ -12,7 +12,8 @@ use Rattle.rc_world.specs.Runs.{IsRun, IsSafe, IsStep}
 use Rattle.rc_world.specs.WeakRuns.{IsWeakRun, IsWeakStep, IsWeaklySafe}
 use Rattle.rc_admit.specs.Laws.{AcceptedIsSafe, AcceptedIsWeaklySafe}
 use Rattle.rc_admit.proofs.Excludes.{no_fault}
-use Rattle.rc_admit.proofs.Flat.{Labelled, labelled_edge}
+use Rattle.rc_admit.proofs.Flat.{labelled_edge}
+use Rattle.rc_admit.proofs.FlatPlaces.{Labelled}
 use Rattle.rc_admit.proofs.FlatStart.{headers_within, labelled_start}
 use Rattle.rc_admit.proofs.Kernel.{AfterStep, kernel_keeps, stray_step_keeps, thread_keeps}
 use Rattle.rc_admit.proofs.Owned.{Stand, HasEdge, HasStart, WellOwned}

@@ -4,13 +4,13 @@ use Rattle.std.proofs.lemmas.Bool.{and_from, and_parts, eq-eqb, eqb-true, false_
 use Rattle.std.specs.List.{list_any}
 use Rattle.std.specs.Prelude.{nat_eq, slice_get}
 use Rattle.rc_lang.specs.declared.program.TokenKind.{TokenKind}
-use Rattle.rc_lang.specs.declared.program.TokenKind.TheVariants.{Read, Write, Fsync, Nop}
+use Rattle.rc_lang.specs.declared.program.TokenKind.TheVariants.{Read, Write, Fsync, Nop, Other}
 use Rattle.rc_lang.specs.declared.request.Request.{Request}
 use Rattle.rc_lang.specs.Program.{IsProgram, IsTokenKind, Program, no_buffer, shares_at}
 use Rattle.rc_rules.specs.Rules.{kind_bag, kind_of, line_bag}
 use Rattle.rc_rules.specs.States.{IsLine}
 use Rattle.rc_rules.proofs.Lines.{line_of}
-use Rattle.rc_split.specs.Bags.{ShareOf, TokenOf, Credit, shares_bag}
+use Rattle.rc_split.specs.Bags.{ShareOf, TokenOf, shares_bag}
 use Rattle.rc_world.specs.Faults.{clash, clashes, clashes_with, has_buffer, has_data, names}
 use Rattle.rc_world.specs.Machine.{Pending, is_read}
 use Rattle.rc_world.proofs.Lists.{found}
@@ -50,6 +50,7 @@ names_one P made r b h n = go h.0 (token_kind P made r.user_data h.0 h.1) h.2 (o
         omega arith
     go Fsync k f e = let x : has_buffer r.kind ≡ false = ap has_buffer f in let y : has_buffer r.kind ≡ true = parts.0 in absurd (cc)
     go Nop k f e = let x : has_buffer r.kind ≡ false = ap has_buffer f in let y : has_buffer r.kind ≡ true = parts.0 in absurd (cc)
+    go Other k f e = let x : has_buffer r.kind ≡ false = ap has_buffer f in let y : has_buffer r.kind ≡ true = parts.0 in absurd (cc)
 
 pub fills_all : (P : Program) (r : Request) (b : ℕ) → HasKind P r → is_read r.kind ≡ true → r.buffer ≡ b → shares_at P.buffers b ≤ owns P (ShareOf b) r
 fills_all P r b h reads is = go h.0 h.2 (owned_is P r h.0 b h.1)
@@ -63,6 +64,7 @@ fills_all P r b h reads is = go h.0 h.2 (owned_is P r h.0 b h.1)
     go (Write c n) f e = let x : is_read r.kind ≡ false = ap is_read f.0 in absurd (cc)
     go Fsync f e = let x : is_read r.kind ≡ false = ap is_read f in absurd (cc)
     go Nop f e = let x : is_read r.kind ≡ false = ap is_read f in absurd (cc)
+    go Other f e = let x : is_read r.kind ≡ false = ap is_read f in absurd (cc)
 
 -- Pending requests that own together no more than there is don't clash.
 pub no_clash : (P : Program) → IsProgram P → (ps : List Pending) → Each (HasKindPending P) ps → ((b : ℕ) → sum_over (owns_pending P (ShareOf b)) ps ≤ shares_at P.buffers b) → clashes ps ≡ false
@@ -105,7 +107,3 @@ data_pending P u ps e =
     let y : 1 ≤ owns P (TokenOf u) x.1.request = token_owned P x.1.request u (eqb-true x.1.request.user_data u x.3) in
     let z : owns P (TokenOf u) x.1.request ≤ sum_over (owns_pending P (TokenOf u)) ps = sum_over_one (owns_pending P (TokenOf u)) x.0 ps x.1 x.2 in
     omega arith
-
-pub credits_owned : (P : Program) (rs : List Request) → length rs ≤ sum_over (owns P Credit) rs
-credits_owned P [] = omega arith
-credits_owned P (r ∷ rs) = let h : length rs ≤ sum_over (owns P Credit) rs = credits_owned P rs in omega arith

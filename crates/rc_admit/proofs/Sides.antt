@@ -11,7 +11,7 @@ use Rattle.rc_lang.specs.declared.lines.Comparison.TheVariants.{Equal, NotEqual,
 use Rattle.rc_lang.specs.declared.lines.Op.{Op}
 use Rattle.rc_lang.specs.declared.lines.Op.TheVariants.{Set, Assign, Add, Subtract, Load, Submit, SubmitAndWait}
 use Rattle.rc_lang.specs.declared.lines.Test.{Test}
-use Rattle.rc_lang.specs.declared.lines.Test.TheVariants.{Compare, ReadyZero, SpaceAtLeast, Take}
+use Rattle.rc_lang.specs.declared.lines.Test.TheVariants.{Compare, ReadyZero, SpaceAtLeast, Take, Any}
 use Rattle.rc_rules.specs.Labels.{Label, Weaker, WeakerThanEach}
 use Rattle.rc_rules.specs.Premises.{Meets, Premise}
 use Rattle.rc_rules.specs.declared.flag.Write.{Write}
@@ -123,6 +123,7 @@ test_may (Some f) (Compare x c n) vars b h = elim (cases_eq f x) [
 test_may flag ReadyZero vars b h = refl
 test_may flag (SpaceAtLeast n) vars b h = refl
 test_may flag (Take pool k) vars b h = refl
+test_may flag Any vars b h = refl
 
 -- ---- ways
 

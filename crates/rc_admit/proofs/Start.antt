@@ -90,9 +90,9 @@ module _ (P : Program) (S : Stand) (start : HasStart P S) where
           let n : ℕ = length (map first_standing P.threads) in
           let x : sum_to f n ≤ sum_to g n = sum_to_most f g n (λ j. let h : first_bag j (slice_get P.threads j) refl p ≤ bag_in (slice_get P.threads j) p = first_most j (slice_get P.threads j) refl p in omega arith) in
           let y : sum_to g n ≡ headers_bag P.threads p = sum_headers P.threads p in
-          let z : headers_bag P.threads p ≤ limit P p = within p in
           let none : all_pooled P (empty_pools (length P.pools)) p ≡ 0 = none_pooled P (length P.pools) p in
           omega (arith, x, y, none);
+      within = within;
       free = λ n. (omega arith, refl);
       submits = λ i. tt;
       reaps = λ i. tt;

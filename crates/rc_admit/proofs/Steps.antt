@@ -12,7 +12,7 @@ use Rattle.rc_lang.specs.declared.lines.Op.TheVariants.{Load}
 use Rattle.rc_lang.specs.declared.lines.Stmt.{Stmt}
 use Rattle.rc_lang.specs.declared.lines.Stmt.TheVariants.{Do, Put, Lock, EndLock, If, Peek, Loop, EndLoop, Break}
 use Rattle.rc_lang.specs.declared.lines.Test.{Test}
-use Rattle.rc_lang.specs.declared.lines.Test.TheVariants.{Compare, ReadyZero, SpaceAtLeast, Take}
+use Rattle.rc_lang.specs.declared.lines.Test.TheVariants.{Compare, ReadyZero, SpaceAtLeast, Take, Any}
 use Rattle.rc_lang.proofs.Closing.{AreAmong}
 use Rattle.rc_lang.specs.Program.{IsItems, IsProgram, Items, Program, end_at, items_at, lists_of}
 use Rattle.rc_rules.specs.declared.mode.Mode.{Mode}
@@ -33,7 +33,7 @@ use Rattle.rc_world.specs.declared.controls.Answer.TheVariants.{Plain}
 use Rattle.rc_world.specs.declared.event.Action.TheVariants.{ItemsPut}
 use Rattle.rc_world.specs.declared.event.Completion.{Completion}
 use Rattle.rc_world.specs.declared.world.Slot.TheVariants as entries
-use Rattle.rc_world.specs.Controls.{Standing, acts, are_free, arm_for, branches, decides, goes_on, held_by, is_free, locks, none_arm, peeks, plainly, puts_items, takes_locks, tries_to_take}
+use Rattle.rc_world.specs.Controls.{Standing, acts, are_free, arm_for, branches, decides, goes_on, held_by, is_choice, is_free, locks, none_arm, peeks, plainly, puts_items, takes_locks, tries_to_take}
 use Rattle.rc_world.specs.Machine.{World, front_of, in_rings, slot_len, stmt_answer, test_answer, used_entries}
 use Rattle.rc_world.specs.Stray.{strays}
 use Rattle.rc_admit.proofs.Flight.{data_in, front_is}
@@ -230,6 +230,11 @@ module _ (P : Program) (made : IsProgram P) (S : Stand) (edge : HasEdge P S) (w 
   compare_keeps true a b = goes _ _ _ _ _ still (a refl)
   compare_keeps false a b = goes _ _ _ _ _ still (b refl)
 
+  -- either branch of a free choice
+  choice_keeps : (may : Bool) → Leads S i (bags i) (modes i) t.variables (t.place + 1) → Leads S i (bags i) (modes i) t.variables (end_at P i t.place + 1) → Keeps P S w.controls i (Some w) (if may then Some (branches P w.controls i t (int_eq r (pos 1))) else None)
+  choice_keeps true a b = compare_keeps (int_eq r (pos 1)) (λ e. a) (λ e. b)
+  choice_keeps false a b = tt
+
   -- ---- pools
 
   -- items that go to one
@@ -270,11 +275,12 @@ module _ (P : Program) (made : IsProgram P) (S : Stand) (edge : HasEdge P S) (w 
           goes _ _ _ _ _ (pooling P S w (taken_from P pool items w.controls.pools) bags modes i (plus (bags i) (bag_of items)) o (λ p. omega (arith, all_without P w.controls.pools pool items there p)))
           (subst (λ c. AtLive (cond c (Live (plus (bags i) (bag_of items)) (modes i)) Dead) (λ c n. Leads S i c n t.variables (t.place + 1))) (may_be_taken items in_all) a)
 
-  if_keeps : (test : Test) → Meets (line_premises P [] (bags i) (modes i) (If test)) → AtLive (test_effect P (lists_of P i) (bags i) (modes i) test) (λ c n. MayPass test t.variables true → Leads S i c n t.variables (t.place + 1)) → (MayPass test t.variables false → Leads S i (bags i) (modes i) t.variables (end_at P i t.place + 1)) → Keeps P S w.controls i (Some w) (decides P w.controls i t test (test_answer w test))
+  if_keeps : (test : Test) → Meets (line_premises P [] (bags i) (modes i) (If test)) → AtLive (test_effect P (lists_of P i) (bags i) (modes i) test) (λ c n. MayPass test t.variables true → Leads S i c n t.variables (t.place + 1)) → (MayPass test t.variables false → Leads S i (bags i) (modes i) t.variables (end_at P i t.place + 1)) → Keeps P S w.controls i (Some w) (decides P w.controls i t test (test_answer w r test))
   if_keeps (Compare x c n) q a b = compare_keeps (compares c (slice_index_or t.variables x (pos 0)) n) a b
   if_keeps ReadyZero q a b = ready_keeps (int_eq (pos (used_entries w)) (pos 0)) refl q (a tt) (b tt)
   if_keeps (SpaceAtLeast n) q a b = space_keeps n (int_le (pos n) (pos (w.program.entries - used_entries w))) refl q (a tt) (b tt)
   if_keeps (Take pool k) q a b = let items : Items = items_at (lists_of P i) k in take_keeps pool items (items_of P made i k) (as_passed (take_effect P (bags i) (modes i) items) (λ c n. Leads S i c n t.variables (t.place + 1)) a) (b tt)
+  if_keeps Any q a b = choice_keeps (is_choice r) (a tt) (b tt)
 
   -- an arm of a peek
   arm_keeps : (pe : Bool) (s x : Peeked) (k : ℕ) (vars : List ℤ) → (modes i).cq ≡ Some s → FrontFits pe w.completions x → Leads S i (bags i) (with_peeked x (modes i)) vars k → WellOwned P S (put P (with_locks w w.controls.holders pe) i k vars)

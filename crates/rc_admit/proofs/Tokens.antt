@@ -1,4 +1,5 @@
--- At most as many requests are queued as there are tokens that a thread doesn't hold: each has a token of its own.
+-- At most as many requests are queued as there are tokens that a thread doesn't hold, and as there are credits that it
+-- doesn't hold: each has a token and a credit of its own.
 use Rattle.std.proofs.Common.{◌≡◌, ℕ, suc, ◌+◌, ◌<◌, ◌≤◌, Bool, true, false, ◌||◌, cond, List, [], ◌∷◌, length, get_or, Option, Some, None, refl, sym, ap, ◌∙◌, subst, inl, inr, arith}
 use Rattle.std.proofs.lemmas.Bool.{eq-eqb, eqb-true, false_from_ne_true}
 use Rattle.std.proofs.lemmas.List.Quantifiers.{position-Some}
@@ -9,16 +10,18 @@ use Rattle.std.specs.Prelude.{nat_eq, slice_get}
 use Rattle.rc_lang.specs.declared.program.Token.{Token}
 use Rattle.rc_lang.specs.declared.program.TokenKind.{TokenKind}
 use Rattle.rc_lang.specs.declared.request.Request.{Request}
-use Rattle.rc_lang.specs.Program.{Program, token_place}
+use Rattle.rc_lang.specs.Program.{Program, Thread, token_place}
 use Rattle.rc_rules.specs.declared.mode.Mode.{Mode}
-use Rattle.rc_rules.specs.Rules.{kind_at, kind_in, kind_of}
-use Rattle.rc_split.specs.Bags.{Part, TokenOf, lacking, token_bag}
+use Rattle.rc_rules.specs.Labellings.{headers_bag}
+use Rattle.rc_rules.specs.Rules.{can_queue, kind_at, kind_in, kind_of}
+use Rattle.rc_split.specs.Bags.{Part, TokenOf, Credit, credits_given, lacking, token_bag}
 use Rattle.rc_split.proofs.PoolBags.{same_or_not}
 use Rattle.rc_world.specs.Faults.{count_of}
 use Rattle.rc_world.specs.Machine.{World}
 use Rattle.rc_world.proofs.Lists.{any_at}
 use Rattle.rc_admit.proofs.Lists.{Each, sum_over}
-use Rattle.rc_admit.proofs.Owned.{HasKind, Owned, Stand, bound_one, owns, unheld}
+use Rattle.rc_admit.proofs.Owned.{HasKind, Owned, Stand, bound_given, bound_one, owns, unheld}
+use Rattle.rc_admit.proofs.Rule.{can_queue_by}
 
 abbrev one_if : Bool → ℕ
 one_if b = cond b 1 0
@@ -152,6 +155,21 @@ len_allowed (t ∷ ts) b rs h =
     ]) in
     omega (arith, all, here, is, rest, lacking_more t ts b)
 
+pub credits_owned : (P : Program) (rs : List Request) → length rs ≤ sum_over (owns P Credit) rs
+credits_owned P [] = omega arith
+credits_owned P (r ∷ rs) = let h : length rs ≤ sum_over (owns P Credit) rs = credits_owned P rs in omega arith
+
+-- Each queued request owns a credit, and threads hold and requests own no more than the threads began with.
+credits_of_headers : (ts : List Thread) → headers_bag ts Credit ≡ credits_given ts
+credits_of_headers [] = refl
+credits_of_headers (t ∷ ts) = ap (λ n. t.items.credits + n) (credits_of_headers ts) ∙ sym (sum_by-cons (λ (x : Thread). x.items.credits) t ts)
+
+few_by_credits : (P : Program) (S : Stand) (w : World) (bags : ℕ → Part → ℕ) (modes : ℕ → Mode) (i : ℕ) → Owned P S w bags modes → i < length w.controls.threads → length w.queued + bags i Credit ≤ credits_given P.threads
+few_by_credits P S w bags modes i o lt =
+    let given : bags i Credit + unheld P w Credit ≤ headers_bag P.threads Credit = bound_given P S w bags modes o Credit i lt in
+    let queued : length w.queued ≤ sum_over (owns P Credit) w.queued = credits_owned P w.queued in
+    omega (arith, given, queued, credits_of_headers P.threads)
+
 -- The tokens of queued requests are declared, no two are the same, and no thread holds one of them.
 pub few_queued : (P : Program) (S : Stand) (w : World) (bags : ℕ → Part → ℕ) (modes : ℕ → Mode) (i : ℕ) → Owned P S w bags modes → i < length w.controls.threads → length w.queued ≤ lacking P.tokens (bags i)
 few_queued P S w bags modes i o lt = len_allowed P.tokens (bags i) w.queued (λ u. go u (list_any (is_token u) P.tokens) refl)
@@ -166,3 +184,14 @@ few_queued P S w bags modes i o lt = len_allowed P.tokens (bags i) w.queued (λ 
     go : (u : ℕ) (b : Bool) → list_any (is_token u) P.tokens ≡ b → count_of u w.queued ≤ allowed P.tokens (bags i) u
     go u true e = one_allowed P.tokens (bags i) u (count_of u w.queued) (one u) e
     go u false e = omega (arith, none_undeclared P u w.queued o.queued e)
+
+-- Where so many entries are queued at most, and a label says that there is room behind them, one is free: as it says, or
+-- as the tokens or the credits do that the thread doesn't hold.
+pub entry_free : (P : Program) (S : Stand) (w : World) (bags : ℕ → Part → ℕ) (modes : ℕ → Mode) (i : ℕ) → Owned P S w bags modes → i < length w.controls.threads → (n : ℕ) → length w.queued ≤ n → can_queue P (bags i) n ≡ true → length w.queued < P.entries
+entry_free P S w bags modes i o lt n few e = elim (can_queue_by P (bags i) n e) [
+  | inl x ↦ omega (arith, x, few)
+  | inr y ↦ elim y [
+    | inl x ↦ let h : length w.queued ≤ lacking P.tokens (bags i) = few_queued P S w bags modes i o lt in omega (arith, x, h)
+    | inr x ↦ let h : length w.queued + bags i Credit ≤ credits_given P.threads = few_by_credits P S w bags modes i o lt in omega (arith, x, h)
+  ]
+]

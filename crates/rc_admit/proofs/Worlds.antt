@@ -6,7 +6,7 @@ use Rattle.std.proofs.lemmas.List.Elements.{All-from_get_or}
 use Rattle.std.specs.List.{list_any}
 use Rattle.std.specs.Prelude.{nat_eq, nat_le, nat_lt, not, slice_get, ℤ, if◌then◌else◌}
 use Rattle.rc_lang.specs.declared.lines.Op.{Op}
-use Rattle.rc_lang.specs.declared.lines.Op.TheVariants.{Load, Store, Fill, GetSqe, PrepRead, PrepWrite, PrepFsync, PrepNop, SetData64, Submit, SubmitAndWait, CqeSeen}
+use Rattle.rc_lang.specs.declared.lines.Op.TheVariants.{Load, Store, Fill, GetSqe, PrepRead, PrepWrite, PrepFsync, PrepNop, PrepOther, SetData64, Submit, SubmitAndWait, CqeSeen}
 use Rattle.rc_lang.specs.declared.lines.Stmt.{Stmt}
 use Rattle.rc_lang.specs.declared.lines.Stmt.TheVariants.{Do, Put, EndLock, If, Peek, Break}
 use Rattle.rc_lang.specs.declared.lines.Test.TheVariants.{ReadyZero, SpaceAtLeast, Take}
@@ -27,7 +27,7 @@ use Rattle.rc_world.specs.Faults.{Access, access_at, access_by, access_of, clash
 use Rattle.rc_world.specs.Machine.{Pending, World, in_rings, is_read, reaps_front, stmt_answer, thread_step, thread_step_at, used_entries, with_controls, without_data}
 use Rattle.rc_world.proofs.LawFaultless.{none_at, none_in_kernel, none_of_kind}
 use Rattle.rc_admit.specs.Worlds.{DataIsFresh, CallsUnderLock, EachReapsOne, EntrySuits, Fills, FindsEntry, HasRoom, IsCqCall, IsNext, IsPending, IsSqCall, Names, NoKernelClash, NoReadOfFilling, NoThreadRace, NothingPutTwice, NoWriteOfPending, OfSafeWorlds, ReadsBuffer, StaysWithinBuffers, Suits, WritesBuffer}
-use Rattle.rc_admit.proofs.Excludes.{next_is}
+use Rattle.rc_admit.proofs.Accesses.{next_is}
 use Rattle.rc_world.proofs.Lists.{any_at}
 use Rattle.rc_world.proofs.LawGoes.{and_false}
 
@@ -72,6 +72,7 @@ calls_sq (Do (PrepRead fd b len off)) c = refl
 calls_sq (Do (PrepWrite fd b len off k)) c = refl
 calls_sq (Do (PrepFsync fd datasync)) c = refl
 calls_sq (Do PrepNop) c = refl
+calls_sq (Do PrepOther) c = refl
 calls_sq (Do (SetData64 u)) c = refl
 calls_sq (Do (Submit x)) c = refl
 calls_sq (Do (SubmitAndWait x n)) c = refl
@@ -268,6 +269,7 @@ module _ (w : World) (none : fault_of w ≡ None) where
   suits_at i (Do (PrepWrite fd b len off k)) e = vacant_is w.slot e
   suits_at i (Do (PrepFsync fd datasync)) e = vacant_is w.slot e
   suits_at i (Do PrepNop) e = vacant_is w.slot e
+  suits_at i (Do PrepOther) e = vacant_is w.slot e
   suits_at i (Do (SetData64 u)) e = prepared_is w.slot e
   suits_at i (Do (Submit x)) e = closed_is w.slot e
   suits_at i (Do (SubmitAndWait x n)) e = closed_is w.slot e

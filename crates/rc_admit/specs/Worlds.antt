@@ -2,7 +2,7 @@
 use Rattle.std.specs.Prelude.{ℕ, ◌≡◌, ◌≢◌, ◌⊎◌, ◌<◌, ◌≤◌, ◌+◌, true, List, ◌∷◌, length, map, Option, Some, None, slice_get, ℤ, All}
 use Rattle.rc_lang.specs.declared.lines.Line.{Line}
 use Rattle.rc_lang.specs.declared.lines.Op.{Op}
-use Rattle.rc_lang.specs.declared.lines.Op.TheVariants.{Load, Store, Fill, GetSqe, PrepRead, PrepWrite, PrepFsync, PrepNop, SetData64, Submit, SubmitAndWait, CqeSeen}
+use Rattle.rc_lang.specs.declared.lines.Op.TheVariants.{Load, Store, Fill, GetSqe, PrepRead, PrepWrite, PrepFsync, PrepNop, PrepOther, SetData64, Submit, SubmitAndWait, CqeSeen}
 use Rattle.rc_lang.specs.declared.lines.Stmt.{Stmt}
 use Rattle.rc_lang.specs.declared.lines.Stmt.TheVariants.{Do, Put, EndLock, If, Peek, Break}
 use Rattle.rc_lang.specs.declared.lines.Test.TheVariants.{ReadyZero, SpaceAtLeast, Take}
@@ -82,15 +82,17 @@ StaysWithinBuffers w = (i : ℕ) (op : Op) → IsNext w i (Do op) → IsInBuffer
 -- ---- the rings
 
 -- The calls of the submission side: io_uring_get_sqe(3), io_uring_prep_read(3), io_uring_prep_write(3),
--- io_uring_prep_fsync(3), io_uring_prep_nop(3), io_uring_sqe_set_data64(3), io_uring_submit(3),
--- io_uring_submit_and_wait(3), io_uring_sq_ready(3) and io_uring_sq_space_left(3). Those on the pool without a name,
--- which is plain memory under both locks, go with them; a pool with a name has a mutex of its own.
+-- io_uring_prep_fsync(3), io_uring_prep_nop(3) and the preps of other requests without a buffer, as
+-- io_uring_prep_poll_add(3); io_uring_sqe_set_data64(3), io_uring_submit(3), io_uring_submit_and_wait(3),
+-- io_uring_sq_ready(3) and io_uring_sq_space_left(3). Those on the pool without a name, which is plain memory under both
+-- locks, go with them; a pool with a name has a mutex of its own.
 abbrev pub IsSqCall : Stmt → Type 0
 IsSqCall (Do GetSqe) = Unit {0}
 IsSqCall (Do (PrepRead fd b len off)) = Unit {0}
 IsSqCall (Do (PrepWrite fd b len off k)) = Unit {0}
 IsSqCall (Do (PrepFsync fd datasync)) = Unit {0}
 IsSqCall (Do PrepNop) = Unit {0}
+IsSqCall (Do PrepOther) = Unit {0}
 IsSqCall (Do (SetData64 u)) = Unit {0}
 IsSqCall (Do (Submit x)) = Unit {0}
 IsSqCall (Do (SubmitAndWait x n)) = Unit {0}
@@ -123,6 +125,7 @@ Suits x (Do (PrepRead fd b len off)) = x ≡ Vacant
 Suits x (Do (PrepWrite fd b len off k)) = x ≡ Vacant
 Suits x (Do (PrepFsync fd datasync)) = x ≡ Vacant
 Suits x (Do PrepNop) = x ≡ Vacant
+Suits x (Do PrepOther) = x ≡ Vacant
 Suits x (Do (SetData64 u)) = (r : Request) × (x ≡ Prepared r)
 Suits x (Do (Submit y)) = x ≡ Closed
 Suits x (Do (SubmitAndWait y n)) = x ≡ Closed

@@ -4,7 +4,8 @@ ghost use Rattle.rc_admit.specs.Laws.{AcceptedIsSafe, AcceptedIsWeaklySafe};
 ghost use Rattle.rc_admit.specs.Worlds as worlds;
 
 /// An accepted program is safe: no world of any run of it has a fault, whatever the order in which its threads and the
-/// kernel make their steps, whatever its submits are answered and whatever its reads bring.
+/// kernel make their steps, whatever its submits are answered, whichever branch each `if any` takes and whatever its
+/// reads bring.
 pub fn accepted_is_safe()
     ensures { AcceptedIsSafe }
 {}

@@ -3,7 +3,7 @@ use Rattle.std.specs.Prelude.{ℕ, ◌+◌, ◌-◌, ℤ, pos, negsuc, min, ◌=
 use Rattle.std.specs.Ordering.{int_eq}
 use Rattle.rc_lang.specs.declared.program.File.{File}
 use Rattle.rc_lang.specs.declared.request.Kind.{Kind}
-use Rattle.rc_lang.specs.declared.request.Kind.TheVariants.{Nop, Fsync, Read, Write}
+use Rattle.rc_lang.specs.declared.request.Kind.TheVariants.{Nop, Fsync, Read, Write, Other}
 use Rattle.rc_lang.specs.declared.request.Request.{Request}
 
 -- a file of a disk: its number and its bytes
@@ -90,13 +90,15 @@ served_write files bytes off len count (Some k) =
     else let moved = take (min count (65536 - off)) bytes in
     record { answer = pos (length moved); files = with_content files k (written_to (content_at files k) off moved); bytes = bytes }
 
--- A request with a grant of so many bytes moves at most these, and at most its length.
+-- A request with a grant of so many bytes moves at most these, and at most its length. One of any other kind moves none
+-- and is answered with the grant.
 abbrev pub granted : List DiskFile → Request → List ℕ → ℕ → Kind → Served
 granted files request bytes grant Nop = nothing_moved files bytes (pos 0)
 granted files request bytes grant Fsync = served_fsync files bytes (place_of files request.fd)
 granted files request bytes grant Read = served_read files bytes request.off (min request.len grant) (place_of files request.fd)
 granted files request bytes grant Write =
     served_write files bytes request.off request.len (min request.len grant) (place_of files request.fd)
+granted files request bytes grant Other = nothing_moved files bytes (pos grant)
 
 -- A request with any grant: how many bytes it moves at most, or the negative errno with which it fails.
 abbrev pub served : List DiskFile → Request → List ℕ → ℤ → Served

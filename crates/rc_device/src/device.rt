@@ -11,11 +11,11 @@ pub trait Device {
 
     ghost gives: { ℕ → ℤ → Type 0 };
 
-    /// Serves a request, whose bytes are the first `len` of `bytes`, and answers its result: how many bytes it moved,
-    /// or a negative errno (`io_uring_enter(2)`).
+    /// Serves a request, whose bytes are the first `len` of `bytes`, and answers its result: how many bytes it moved, what
+    /// another request without a buffer gives, or a negative errno (`io_uring_enter(2)`).
     ///
-    /// The `grant` asks it to move at most so many bytes, 0 to 4096, or to fail with so much, -4095 to -1. That a device
-    /// heeds it is not promised here. The bytes after the first `len` stay.
+    /// The `grant` asks it to move at most so many bytes or to give so much, 0 to 4096, or to fail with so much, -4095 to
+    /// -1. That a device heeds it is not promised here. The bytes after the first `len` stay.
     fn serve(&mut self, request: &Request, bytes: &mut [u8], grant: i32) -> i32
         requires len { request.now.len ≤ length bytes.old }
         requires grant { (negsuc 4094 ≤ℤ grant) × (grant ≤ℤ pos 4096) }

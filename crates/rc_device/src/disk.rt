@@ -56,14 +56,14 @@ impl Disk {
         }
     }
 
-    /// Serves a request, whose bytes are the first `len` of `bytes`, and answers its result: how many bytes it moved,
-    /// or a negative errno.
+    /// Serves a request, whose bytes are the first `len` of `bytes`, and answers its result: how many bytes it moved, what
+    /// another request without a buffer gives, or a negative errno.
     ///
     /// A `grant` from -4095 to -1 is the answer. Else a request for a file that isn't declared is answered with -9
     /// (`EBADF`). A read moves up to `grant` bytes, and none from the file's end on (`pread(2)`). A write moves up to
     /// `grant` bytes within the first 65,536 of the file, after zeros where the file ended before `off`
     /// (`pwrite(2)`), and is answered with -28 (`ENOSPC`) where it has bytes and `off` is 65,536 or more. An fsync and a
-    /// nop are answered with 0. Takes no memory.
+    /// nop are answered with 0, and any other request without a buffer with the grant. Takes no memory.
     pub fn serve(&mut self, request: &Request, bytes: &mut [u8], grant: i32) -> i32
         requires len { request.now.len ≤ length bytes.old }
         requires grant { (negsuc 4094 ≤ℤ grant) × (grant ≤ℤ pos 4096) }
@@ -96,6 +96,7 @@ impl Disk {
             Kind::Fsync => self.fsync(request.fd),
             Kind::Read => self.read(request, bytes, grant),
             Kind::Write => self.write(request, bytes, grant),
+            Kind::Other => grant as i32,
         }
     }
 

@@ -44,10 +44,15 @@ is_reserved w = is_heading w || is_acting w || is_calling w || is_branching w
 abbrev pub is_of_pool : List ℕ → Bool
 is_of_pool w = bytes_eq w (codes "put") || bytes_eq w (codes "take")
 
+-- those of version 5
+abbrev pub is_of_fifth : List ℕ → Bool
+is_of_fifth w =
+    bytes_eq w (codes "any") || bytes_eq w (codes "by") || bytes_eq w (codes "or") || bytes_eq w (codes "cqe_get_data64") || bytes_eq w (codes "prep_other")
+
 -- The words that a later version of the notation reserves besides: in its models they are no names either.
 abbrev pub is_reserved_by : ℕ → List ℕ → Bool
 is_reserved_by version w =
-    (nat_le 2 version && bytes_eq w (codes "when")) || (nat_le 3 version && is_of_pool w) || (nat_le 4 version && bytes_eq w (codes "pool"))
+    (nat_le 2 version && bytes_eq w (codes "when")) || (nat_le 3 version && is_of_pool w) || (nat_le 4 version && bytes_eq w (codes "pool")) || (nat_le 5 version && is_of_fifth w)
 
 -- A name: a lower case letter, then up to 15 lower case letters, digits or _, and no reserved word.
 abbrev pub is_spelt : List ℕ → Bool

@@ -12,7 +12,7 @@ use Rattle.rc_lang.specs.declared.lines.Operand.TheVariants.{Variable, Number}
 use Rattle.rc_lang.specs.declared.lines.Stmt.{Stmt}
 use Rattle.rc_lang.specs.declared.lines.Stmt.TheVariants.{Do, Put, Lock, If, Else, EndIf, Peek, Case, Other, Nothing, EndArm, EndPeek, Loop, EndLoop, Break}
 use Rattle.rc_lang.specs.declared.lines.Test.{Test}
-use Rattle.rc_lang.specs.declared.lines.Test.TheVariants.{Compare, ReadyZero, SpaceAtLeast, Take}
+use Rattle.rc_lang.specs.declared.lines.Test.TheVariants.{Compare, ReadyZero, SpaceAtLeast, Take, Any}
 use Rattle.rc_lang.specs.declared.program.File.{File}
 use Rattle.rc_lang.specs.declared.program.Share.{Share}
 use Rattle.rc_lang.specs.declared.program.Token.{Token}
@@ -200,6 +200,7 @@ IsResolvedTest program variables lists (Compare x c n) = x < variables
 IsResolvedTest program variables lists ReadyZero = Unit {0}
 IsResolvedTest program variables lists (SpaceAtLeast n) = n ≤ program.entries
 IsResolvedTest program variables lists (Take pool k) = DeclaresPool program pool × (k < lists)
+IsResolvedTest program variables lists Any = Unit {0}
 
 abbrev pub IsResolved : Program → (variables lists : ℕ) → Stmt → Type 0
 IsResolved program variables lists (Do op) = IsResolvedOp program variables op
@@ -330,7 +331,7 @@ line_numbers threads = flat_map (λ (t : Thread). numbers_from t.line t.lines) t
 -- What each made program keeps: the limits, nesting, resolved names, and that from the first header on each line has a
 -- higher number than the one before.
 pub record IsProgram (program : Program) : Type 0 where
-  pub version : (1 ≤ program.version) × (program.version ≤ 4)
+  pub version : (1 ≤ program.version) × (program.version ≤ 5)
   pub entries : IsRingSize 1024 program.entries
   pub completion_entries : IsRingSize 2048 program.completion_entries
   pub room : program.entries ≤ program.completion_entries

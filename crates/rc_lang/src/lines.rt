@@ -88,6 +88,9 @@ pub enum Op {
     PrepFsync(u32, bool),
     /// `prep_nop`: makes the open entry a nop (`io_uring_prep_nop(3)`).
     PrepNop,
+    /// `prep_other`: makes the open entry a request without a buffer that isn't a nop, as a poll, a timeout, a cancel, an
+    /// accept or an openat.
+    PrepOther,
     /// `set_data64 U`: gives the open entry its user data and queues it (`io_uring_sqe_set_data64(3)`).
     SetData64(u64),
     /// `x = submit`: hands queued entries to the kernel (`io_uring_submit(3)`).
@@ -110,6 +113,8 @@ pub enum Test {
     /// `if take ITEMS` or `if take NAME ITEMS`: whether the pool has at least the items, which then leave it. The
     /// number of the declared pool, none for the pool without a name; and that of the items among the thread's lists.
     Take(Option<usize>, usize),
+    /// `if any`: the model doesn't say which branch is taken.
+    Any,
 }
 
 /// What is on a line. The blocks of a program are lines of their own, and a closing line names the place of the

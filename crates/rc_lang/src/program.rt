@@ -7,8 +7,8 @@ use std::marker::Model;
 /// (`io_uring_setup(2)`).
 #[derive(Clone, Copy)]
 pub struct Head {
-    /// The version of the notation, 1 to 4. From version 2 on a thread may have a flag, from version 3 on there is a
-    /// pool, and in version 4 there are pools with names, and each of the two locks may be taken alone.
+    /// The version of the notation, 1 to 5. From version 2 on a thread may have a flag, from version 3 on there is a
+    /// pool, and from version 4 on there are pools with names, and each of the two locks may be taken alone.
     pub version: u32,
     /// Entries of the submission ring, 1 to 1024.
     pub entries: u32,
@@ -50,6 +50,8 @@ pub enum TokenKind {
     Fsync,
     /// A nop.
     Nop,
+    /// Any other request without a buffer.
+    Other,
 }
 
 /// A token: the user data of a request, and what that request is.
@@ -182,7 +184,7 @@ impl Program {
         }
     }
 
-    /// The version of the notation: 1 to 4.
+    /// The version of the notation: 1 to 5.
     pub fn version(&self) -> u32
         ensures value { result ≡ self.now.version }
         ensures made { IsProgram self.now }

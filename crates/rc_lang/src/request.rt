@@ -11,11 +11,15 @@ pub enum Kind {
     Read,
     /// Bytes of a buffer into a file: `IORING_OP_WRITE`.
     Write,
+    /// Anything else that has no buffer, as `IORING_OP_POLL_ADD`, `IORING_OP_TIMEOUT`, `IORING_OP_ASYNC_CANCEL` or
+    /// `IORING_OP_ACCEPT`.
+    Other,
 }
 
 /// A request, from `io_uring_sqe_set_data64(3)` until its completion is reaped.
 ///
-/// What a kind doesn't use is 0, and the file number of a nop is -1 (`io_uring_prep_nop(3)`).
+/// What a kind doesn't use is 0, and the file number of a nop and of another request without a buffer is -1
+/// (`io_uring_prep_nop(3)`).
 #[derive(Clone, Copy, PartialEq)]
 pub struct Request {
     /// The number of the request among all that the program made, from 1.

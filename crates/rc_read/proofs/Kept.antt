@@ -201,6 +201,7 @@ token_kind p (kind.Read b) h = h
 token_kind p (kind.Write b n) h = (h.0, record { some = h.1; within = h.2 })
 token_kind p kind.Fsync h = tt
 token_kind p kind.Nop h = tt
+token_kind p kind.Other h = tt
 
 program_made : (s : Sheet) → IsKept s.threads s → AreThreads (program_in s) s.threads × RiseTo s.count (line_numbers s.threads) → IsProgram (program_in s)
 program_made s k threads = record {

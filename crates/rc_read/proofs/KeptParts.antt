@@ -14,7 +14,7 @@ use Rattle.rc_lang.specs.declared.program.File.{File}
 use Rattle.rc_lang.specs.declared.program.Head.{Head}
 use Rattle.rc_lang.specs.declared.program.Token.{Token}
 use Rattle.rc_lang.specs.declared.program.TokenKind.{TokenKind}
-use Rattle.rc_lang.specs.declared.program.TokenKind.TheVariants.{Read, Write, Fsync, Nop}
+use Rattle.rc_lang.specs.declared.program.TokenKind.TheVariants.{Read, Write, Fsync, Nop, Other}
 use Rattle.rc_lang.specs.Names.{is_name}
 use Rattle.rc_lang.specs.Program.{Buffer, IsBuffer, IsFile, IsThread, Program, Thread, line_numbers, no_buffer, numbers_from, shares_at}
 use Rattle.rc_lang.proofs.Lookups.{get_push}
@@ -101,6 +101,7 @@ kind_on buffers b (Write i k) h =
     (omega arith, h.1, subst (λ n. k ≤ n) (sym s) h.2)
 kind_on buffers b Fsync h = tt
 kind_on buffers b Nop h = tt
+kind_on buffers b Other h = tt
 
 pub tokens_on : (buffers : List Buffer) (b : Buffer) (tokens : List Token) → AreTokens buffers tokens → AreTokens (buffers ++ b ∷ []) tokens
 tokens_on buffers b tokens k = record { few = k.few; each = λ i d lt. kind_on buffers b _ (k.each i d lt); distinct = k.distinct }

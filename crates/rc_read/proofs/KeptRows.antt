@@ -85,7 +85,7 @@ pub record AreRings (rings : Rings) : Type 0 where
 
 -- The head says a version and such rings.
 pub record IsHead (h : Head) : Type 0 where
-  pub version : (1 ≤ h.version) × (h.version ≤ 4)
+  pub version : (1 ≤ h.version) × (h.version ≤ 5)
   pub rings : AreRings (record { entries = h.entries; completion_entries = h.completion_entries; left = h.left })
 
 submission : (size : ℕ) → size ≤ 1024 → IsRingSize 1024 (rounded_up size)
@@ -117,6 +117,7 @@ IsKind buffers (kind.Read b) = b < length buffers
 IsKind buffers (kind.Write b k) = (b < length buffers) × (1 ≤ k) × (k ≤ shares_at buffers b)
 IsKind buffers kind.Fsync = Unit {0}
 IsKind buffers kind.Nop = Unit {0}
+IsKind buffers kind.Other = Unit {0}
 
 -- The word is a name, and none of these.
 abbrev pub IsNewName : List (List ℕ) → List ℕ → Type 0
@@ -125,7 +126,7 @@ IsNewName names w = (is_name w ≡ true) × (is_among names w ≡ false)
 module _ (threads : List ThreadOf) (s : Sheet) (d : Draft) (ws : List (List ℕ)) (its : List Item) where
   -- A line says this, in a form that is there.
   abbrev pub IsTold : Stand → Says → Type 0
-  IsTold st (says.Version n) = (st ≡ stand.First) × (1 ≤ n) × (n ≤ 4)
+  IsTold st (says.Version n) = (st ≡ stand.First) × (1 ≤ n) × (n ≤ 5)
   IsTold st (says.Ring rings) = (st ≡ stand.Second) × AreRings rings
   IsTold st (says.File f) = (st ≡ stand.Declaration) × IsFile f × (has_file s.files f.number ≡ false) × (length s.files < 16)
   IsTold st (says.Buffer bytes shares) = (st ≡ stand.Declaration) × ((1 ≤ bytes) × (bytes ≤ 4096)) × ((1 ≤ shares) × (shares ≤ 16)) × (length s.buffers < 64) × IsNewName (buffer_names s.buffers) (second_of ws)
@@ -173,6 +174,7 @@ module _ (threads : List ThreadOf) (s : Sheet) (d : Draft) (ws : List (List ℕ)
   told row.SecondVersion vs f m = (refl, omega arith, omega arith)
   told row.ThirdVersion vs f m = (refl, omega arith, omega arith)
   told row.FourthVersion vs f m = (refl, omega arith, omega arith)
+  told row.FifthVersion vs f m = (refl, omega arith, omega arith)
   told row.Ring vs f m = (refl, one_size _ 0 f.0 (omega arith))
   told row.RingCq vs f m = (refl, two_sizes (small vs 0) (small vs 1) 0 f.0 f.1.0 (omega arith))
   told row.RingLeft vs f m = (refl, one_size _ _ f.0 f.1.0)
@@ -183,6 +185,7 @@ module _ (threads : List ThreadOf) (s : Sheet) (d : Draft) (ws : List (List ℕ)
   told row.TokenWrite vs f m = (refl, (f.1.0, f.1.1.0.0, f.1.1.0.1), f.0.0, f.0.1)
   told row.TokenFsync vs f m = (refl, tt, f.0.0, f.0.1)
   told row.TokenNop vs f m = (refl, tt, f.0.0, f.0.1)
+  told row.TokenOther vs f m = (refl, tt, f.0.0, f.0.1)
   told row.Pool vs f m = (refl, m.0, f.0, m.1)
   told row.Thread vs f m = (refl, f.0, m.0, m.1)
   told row.Set vs f m = set_told _ _ f.0 f.1.0
@@ -202,6 +205,7 @@ module _ (threads : List ThreadOf) (s : Sheet) (d : Draft) (ws : List (List ℕ)
   told row.PrepWrite vs f m = (refl, (record { file = f.0; buffer = f.1.0; length_within = f.1.1.0.1; place_within = f.1.1.1.0.1 }, record { some = f.1.1.1.1.0.0; within = f.1.1.1.1.0.1 }))
   told row.PrepFsync vs f m = (refl, f.0)
   told row.PrepNop vs f m = (refl, tt)
+  told row.PrepOther vs f m = (refl, tt)
   told row.SetData64 vs f m = (refl, f.0)
   told row.Submit vs f m = (refl, f.0)
   told row.SubmitAndWait vs f m = (refl, (f.0, f.1.0.1))
@@ -215,6 +219,7 @@ module _ (threads : List ThreadOf) (s : Sheet) (d : Draft) (ws : List (List ℕ)
   told row.IfSpace vs f m = (refl, f.0)
   told row.IfTake vs f m = (refl, tt, m)
   told row.IfTakeNamed vs f m = (refl, f.0, m)
+  told row.IfAny vs f m = (refl, tt)
   told row.Else vs f m = tt
   told row.Loop vs f m = (refl, m)
   told row.LoopWhen vs f m = (refl, m)

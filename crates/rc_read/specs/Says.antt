@@ -77,6 +77,7 @@ says_of row.Version v = says.Version 1
 says_of row.SecondVersion v = says.Version 2
 says_of row.ThirdVersion v = says.Version 3
 says_of row.FourthVersion v = says.Version 4
+says_of row.FifthVersion v = says.Version 5
 says_of row.Ring v = with_rings (small v 0) 0
 says_of row.RingCq v = with_both (small v 0) (small v 1) 0
 says_of row.RingLeft v = with_rings (small v 0) (small v 1)
@@ -87,6 +88,7 @@ says_of row.TokenRead v = says.Token (record { user_data = user_data v 0; kind =
 says_of row.TokenWrite v = says.Token (record { user_data = user_data v 0; kind = kind.Write (named v 1) (small v 2) })
 says_of row.TokenFsync v = says.Token (record { user_data = user_data v 0; kind = kind.Fsync })
 says_of row.TokenNop v = says.Token (record { user_data = user_data v 0; kind = kind.Nop })
+says_of row.TokenOther v = says.Token (record { user_data = user_data v 0; kind = kind.Other })
 says_of row.Pool v = says.Pool
 says_of row.Thread v = says.Thread
 says_of row.Set v = sets (named v 0) (operand v 1)
@@ -106,6 +108,7 @@ says_of row.PrepRead v = says.Op (op.PrepRead (small v 0) (named v 1) (small v 2
 says_of row.PrepWrite v = says.Op (op.PrepWrite (small v 0) (named v 1) (small v 2) (small v 3) (small v 4))
 says_of row.PrepFsync v = says.Op (op.PrepFsync (small v 0) (small v 1 == 1))
 says_of row.PrepNop v = says.Op op.PrepNop
+says_of row.PrepOther v = says.Op op.PrepOther
 says_of row.SetData64 v = says.Op (op.SetData64 (user_data v 0))
 says_of row.Submit v = says.Op (op.Submit (named v 0))
 says_of row.SubmitAndWait v = says.Op (op.SubmitAndWait (named v 0) (small v 1))
@@ -119,6 +122,7 @@ says_of row.IfReady v = says.If test.ReadyZero
 says_of row.IfSpace v = says.If (test.SpaceAtLeast (small v 0))
 says_of row.IfTake v = says.Take None
 says_of row.IfTakeNamed v = says.Take (Some (named v 0))
+says_of row.IfAny v = says.If test.Any
 says_of row.Else v = says.Else
 says_of row.Loop v = says.Loop
 says_of row.LoopWhen v = says.Loop

@@ -31,7 +31,7 @@ is_strange b = nat_lt 126 b || (nat_lt b 32 && not (b == 9) && not (b == 13))
 abbrev pub any_strange : List ℕ → Bool
 any_strange bytes = list_any is_strange bytes
 
--- ---- P2: the first line with words isn't `ringcheck` and a number from 1 to 4, the second doesn't begin with `ring`
+-- ---- P2: the first line with words isn't `ringcheck` and a number from 1 to 5, the second doesn't begin with `ring`
 
 abbrev pub is_version : Option Row → Bool
 is_version None = false

@@ -19,6 +19,7 @@ text_of words.One = codes "1"
 text_of words.Two = codes "2"
 text_of words.Three = codes "3"
 text_of words.Four = codes "4"
+text_of words.Five = codes "5"
 text_of words.Ring = codes "ring"
 text_of words.Cq = codes "cq"
 text_of words.Left = codes "left"
@@ -48,6 +49,7 @@ text_of words.PrepRead = codes "prep_read"
 text_of words.PrepWrite = codes "prep_write"
 text_of words.PrepFsync = codes "prep_fsync"
 text_of words.PrepNop = codes "prep_nop"
+text_of words.PrepOther = codes "prep_other"
 text_of words.SetData64 = codes "set_data64"
 text_of words.Submit = codes "submit"
 text_of words.SubmitAndWait = codes "submit_and_wait"
@@ -69,6 +71,7 @@ text_of words.When = codes "when"
 text_of words.Break = codes "break"
 text_of words.Put = codes "put"
 text_of words.Take = codes "take"
+text_of words.Any = codes "any"
 
 -- ---- the table
 
@@ -77,6 +80,7 @@ parts_of row.Version = Fixed words.Ringcheck ∷ Fixed words.One ∷ []
 parts_of row.SecondVersion = Fixed words.Ringcheck ∷ Fixed words.Two ∷ []
 parts_of row.ThirdVersion = Fixed words.Ringcheck ∷ Fixed words.Three ∷ []
 parts_of row.FourthVersion = Fixed words.Ringcheck ∷ Fixed words.Four ∷ []
+parts_of row.FifthVersion = Fixed words.Ringcheck ∷ Fixed words.Five ∷ []
 parts_of row.Ring = Fixed words.Ring ∷ Number Size ∷ []
 parts_of row.RingCq = Fixed words.Ring ∷ Number Size ∷ Fixed words.Cq ∷ Number CompletionSize ∷ []
 parts_of row.RingLeft = Fixed words.Ring ∷ Number Size ∷ Fixed words.Left ∷ Number Rounded ∷ []
@@ -87,6 +91,7 @@ parts_of row.TokenRead = Fixed words.Token ∷ NewToken ∷ Fixed words.Read ∷
 parts_of row.TokenWrite = Fixed words.Token ∷ NewToken ∷ Fixed words.Write ∷ Buffer ∷ Number Shares ∷ []
 parts_of row.TokenFsync = Fixed words.Token ∷ NewToken ∷ Fixed words.Fsync ∷ []
 parts_of row.TokenNop = Fixed words.Token ∷ NewToken ∷ Fixed words.Nop ∷ []
+parts_of row.TokenOther = Fixed words.Token ∷ NewToken ∷ Fixed words.Other ∷ []
 parts_of row.Pool = Fixed words.Pool ∷ NewPool ∷ []
 parts_of row.Thread = Fixed words.Thread ∷ NewThread ∷ Fixed words.Holds ∷ Items ∷ Fixed words.Open ∷ []
 parts_of row.Set = Variable ∷ Fixed words.Is ∷ Operand ∷ []
@@ -106,6 +111,7 @@ parts_of row.PrepRead = Fixed words.PrepRead ∷ File ∷ Buffer ∷ Number (Wit
 parts_of row.PrepWrite = Fixed words.PrepWrite ∷ File ∷ Buffer ∷ Number (Within 0 4096) ∷ Number (Within 0 1048576) ∷ Number Shares ∷ []
 parts_of row.PrepFsync = Fixed words.PrepFsync ∷ File ∷ Number (Within 0 1) ∷ []
 parts_of row.PrepNop = Fixed words.PrepNop ∷ []
+parts_of row.PrepOther = Fixed words.PrepOther ∷ []
 parts_of row.SetData64 = Fixed words.SetData64 ∷ Token ∷ []
 parts_of row.Submit = Variable ∷ Fixed words.Is ∷ Fixed words.Submit ∷ []
 parts_of row.SubmitAndWait = Variable ∷ Fixed words.Is ∷ Fixed words.SubmitAndWait ∷ Number (Within 0 2048) ∷ []
@@ -119,6 +125,7 @@ parts_of row.IfReady = Fixed words.If ∷ Fixed words.SqReady ∷ Fixed words.Eq
 parts_of row.IfSpace = Fixed words.If ∷ Fixed words.SqSpaceLeft ∷ Fixed words.AtLeast ∷ Number Entries ∷ Fixed words.Open ∷ []
 parts_of row.IfTake = Fixed words.If ∷ Fixed words.Take ∷ Items ∷ Fixed words.Open ∷ []
 parts_of row.IfTakeNamed = Fixed words.If ∷ Fixed words.Take ∷ Pool ∷ Items ∷ Fixed words.Open ∷ []
+parts_of row.IfAny = Fixed words.If ∷ Fixed words.Any ∷ Fixed words.Open ∷ []
 parts_of row.Else = Fixed words.Close ∷ Fixed words.Else ∷ Fixed words.Open ∷ []
 parts_of row.Loop = Fixed words.Loop ∷ Fixed words.Keeps ∷ Items ∷ Fixed words.Open ∷ []
 parts_of row.LoopWhen = Fixed words.Loop ∷ Fixed words.Keeps ∷ Items ∷ Fixed words.When ∷ Flag ∷ Items ∷ Fixed words.Open ∷ []
@@ -135,6 +142,9 @@ version_of row.PutNamed = 4
 version_of row.LockSq = 4
 version_of row.LockCq = 4
 version_of row.IfTakeNamed = 4
+version_of row.TokenOther = 5
+version_of row.PrepOther = 5
+version_of row.IfAny = 5
 version_of _ = 1
 
 abbrev pub stand_of : Row → Stand
@@ -142,6 +152,7 @@ stand_of row.Version = stand.First
 stand_of row.SecondVersion = stand.First
 stand_of row.ThirdVersion = stand.First
 stand_of row.FourthVersion = stand.First
+stand_of row.FifthVersion = stand.First
 stand_of row.Ring = stand.Second
 stand_of row.RingCq = stand.Second
 stand_of row.RingLeft = stand.Second
@@ -152,6 +163,7 @@ stand_of row.TokenRead = stand.Declaration
 stand_of row.TokenWrite = stand.Declaration
 stand_of row.TokenFsync = stand.Declaration
 stand_of row.TokenNop = stand.Declaration
+stand_of row.TokenOther = stand.Declaration
 stand_of row.Pool = stand.Declaration
 stand_of row.Thread = stand.Header
 stand_of row.Else = stand.Brace
@@ -161,10 +173,10 @@ stand_of _ = stand.Inside
 -- The forms whose first word is fixed, those that begin with a variable, and all, in the order in which they are tried.
 abbrev pub fixed_rows : List Row
 fixed_rows =
-    row.Close ∷ row.Else ∷ row.Break ∷ row.GetSqe ∷ row.CqeSeen ∷ row.Case ∷ row.PrepNop ∷ row.Peek ∷ row.Print ∷ row.PrepRead ∷ row.PrepWrite
-    ∷ row.PrepFsync ∷ row.Put ∷ row.PutNamed ∷ row.Pool ∷ row.Lock ∷ row.Loop ∷ row.LoopWhen ∷ row.LockSq ∷ row.LockCq ∷ row.Other ∷ row.Nothing ∷ row.SetData64 ∷ row.Store ∷ row.Fill ∷ row.IfReady ∷ row.If ∷ row.IfSpace ∷ row.IfTake ∷ row.IfTakeNamed
-    ∷ row.Thread ∷ row.TokenRead ∷ row.TokenWrite ∷ row.TokenFsync ∷ row.TokenNop ∷ row.File ∷ row.Buffer ∷ row.Ring ∷ row.RingCq ∷ row.RingLeft
-    ∷ row.RingCqLeft ∷ row.Version ∷ row.SecondVersion ∷ row.ThirdVersion ∷ row.FourthVersion ∷ []
+    row.Close ∷ row.Else ∷ row.Break ∷ row.GetSqe ∷ row.CqeSeen ∷ row.Case ∷ row.PrepNop ∷ row.PrepOther ∷ row.Peek ∷ row.Print ∷ row.PrepRead ∷ row.PrepWrite
+    ∷ row.PrepFsync ∷ row.Put ∷ row.PutNamed ∷ row.Pool ∷ row.Lock ∷ row.Loop ∷ row.LoopWhen ∷ row.LockSq ∷ row.LockCq ∷ row.Other ∷ row.Nothing ∷ row.SetData64 ∷ row.Store ∷ row.Fill ∷ row.IfReady ∷ row.If ∷ row.IfSpace ∷ row.IfTake ∷ row.IfTakeNamed ∷ row.IfAny
+    ∷ row.Thread ∷ row.TokenRead ∷ row.TokenWrite ∷ row.TokenFsync ∷ row.TokenNop ∷ row.TokenOther ∷ row.File ∷ row.Buffer ∷ row.Ring ∷ row.RingCq ∷ row.RingLeft
+    ∷ row.RingCqLeft ∷ row.Version ∷ row.SecondVersion ∷ row.ThirdVersion ∷ row.FourthVersion ∷ row.FifthVersion ∷ []
 
 abbrev pub assignments : List Row
 assignments = row.Submit ∷ row.Set ∷ row.Add ∷ row.Subtract ∷ row.Load ∷ row.SubmitAndWait ∷ []

@@ -155,7 +155,8 @@ fn put_list(
     match stmt {
         Stmt::Loop(_) => push_items(alloc, lists, items),
         Stmt::Put(_, _) | Stmt::If(Test::Take(_, _)) => push_pool(alloc, lists, items),
-        Stmt::If(Test::Compare(_, _, _) | Test::ReadyZero | Test::SpaceAtLeast(_)) => Ok(()),
+        Stmt::If(Test::Compare(_, _, _) | Test::ReadyZero) => Ok(()),
+        Stmt::If(Test::SpaceAtLeast(_) | Test::Any) => Ok(()),
         Stmt::Do(_) | Stmt::Lock(_) | Stmt::EndLock(_, _) => Ok(()),
         Stmt::Else(_) | Stmt::EndIf(_) | Stmt::Peek(_) | Stmt::Case(_, _) => Ok(()),
         Stmt::Other(_) | Stmt::Nothing(_) | Stmt::EndArm(_) | Stmt::EndPeek(_) => Ok(()),

@@ -12,7 +12,7 @@ use std::fmt;
 pub enum ReadCause {
     /// Among the line's first 256 bytes is one above 126, or below 32 other than tab and carriage return.
     NotAscii = 1,
-    /// The model doesn't begin with `ringcheck` and a number from 1 to 4, and a line that begins with `ring`.
+    /// The model doesn't begin with `ringcheck` and a number from 1 to 5, and a line that begins with `ring`.
     BadHead,
     /// The words are no form, or one that may not be in this part of the model.
     BadLine,

@@ -11,6 +11,7 @@ pub enum Word {
     Two,
     Three,
     Four,
+    Five,
     Ring,
     Cq,
     Left,
@@ -40,6 +41,7 @@ pub enum Word {
     PrepWrite,
     PrepFsync,
     PrepNop,
+    PrepOther,
     SetData64,
     Submit,
     SubmitAndWait,
@@ -61,6 +63,7 @@ pub enum Word {
     Break,
     Put,
     Take,
+    Any,
 }
 
 /// The bytes of a fixed word.
@@ -73,6 +76,7 @@ pub fn text_of(word: Word) -> &'static [u8]
         Word::Two => b"2",
         Word::Three => b"3",
         Word::Four => b"4",
+        Word::Five => b"5",
         Word::Ring => b"ring",
         Word::Cq => b"cq",
         Word::Left => b"left",
@@ -102,6 +106,7 @@ pub fn text_of(word: Word) -> &'static [u8]
         Word::PrepWrite => b"prep_write",
         Word::PrepFsync => b"prep_fsync",
         Word::PrepNop => b"prep_nop",
+        Word::PrepOther => b"prep_other",
         Word::SetData64 => b"set_data64",
         Word::Submit => b"submit",
         Word::SubmitAndWait => b"submit_and_wait",
@@ -123,5 +128,6 @@ pub fn text_of(word: Word) -> &'static [u8]
         Word::Break => b"break",
         Word::Put => b"put",
         Word::Take => b"take",
+        Word::Any => b"any",
     }
 }

@@ -11,6 +11,7 @@ pub mod laws;
 mod lists;
 mod names;
 mod noted;
+mod order;
 pub mod parts;
 mod reader;
 pub mod reserved;

@@ -65,6 +65,17 @@ fn is_of_pool(w: &[u8]) -> bool
     is(w, b"put") || is(w, b"take")
 }
 
+// Whether a word is one of those that version 5 reserves besides.
+fn is_of_fifth(w: &[u8]) -> bool
+    ensures { result ≡ spec.is_of_fifth w.now }
+{
+    is(w, b"any")
+        || is(w, b"by")
+        || is(w, b"or")
+        || is(w, b"cqe_get_data64")
+        || is(w, b"prep_other")
+}
+
 /// Whether a later version of the notation reserves a word besides.
 pub fn is_reserved_by(version: u32, w: &[u8]) -> bool
     ensures { result ≡ spec.is_reserved_by version w.now }
@@ -72,6 +83,7 @@ pub fn is_reserved_by(version: u32, w: &[u8]) -> bool
     (version >= 2 && is(w, b"when"))
         || (version >= 3 && is_of_pool(w))
         || (version >= 4 && is(w, b"pool"))
+        || (version >= 5 && is_of_fifth(w))
 }
 
 /// Whether a word is reserved.

@@ -1,10 +1,10 @@
 //! The table of the notation's forms.
 
 ghost use Rattle.std.specs.Prelude.{◌≡◌};
-ghost use Rattle.rc_read.specs.Quick.{beginning};
 ghost use Rattle.rc_read.specs.Table as spec;
 
 use crate::fixed::Word;
+pub use crate::order::{assignments, rows_of, version_of};
 
 /// The range of a number.
 #[derive(Clone, Copy)]
@@ -63,6 +63,7 @@ pub enum Row {
     SecondVersion,
     ThirdVersion,
     FourthVersion,
+    FifthVersion,
     Ring,
     RingCq,
     RingLeft,
@@ -73,6 +74,7 @@ pub enum Row {
     TokenWrite,
     TokenFsync,
     TokenNop,
+    TokenOther,
     Pool,
     Thread,
     Set,
@@ -92,6 +94,7 @@ pub enum Row {
     PrepWrite,
     PrepFsync,
     PrepNop,
+    PrepOther,
     SetData64,
     Submit,
     SubmitAndWait,
@@ -105,6 +108,7 @@ pub enum Row {
     IfSpace,
     IfTake,
     IfTakeNamed,
+    IfAny,
     Else,
     Loop,
     LoopWhen,
@@ -138,6 +142,7 @@ pub fn parts_of(row: Row) -> &'static [Part]
         Row::SecondVersion => &[Part::Fixed(Word::Ringcheck), Part::Fixed(Word::Two)],
         Row::ThirdVersion => &[Part::Fixed(Word::Ringcheck), Part::Fixed(Word::Three)],
         Row::FourthVersion => &[Part::Fixed(Word::Ringcheck), Part::Fixed(Word::Four)],
+        Row::FifthVersion => &[Part::Fixed(Word::Ringcheck), Part::Fixed(Word::Five)],
         Row::Ring => &[Part::Fixed(Word::Ring), Part::Number(Range::Size)],
         Row::RingCq => &[
             Part::Fixed(Word::Ring),
@@ -192,6 +197,11 @@ pub fn parts_of(row: Row) -> &'static [Part]
             Part::Fixed(Word::Token),
             Part::NewToken,
             Part::Fixed(Word::Nop),
+        ],
+        Row::TokenOther => &[
+            Part::Fixed(Word::Token),
+            Part::NewToken,
+            Part::Fixed(Word::Other),
         ],
         Row::Pool => &[Part::Fixed(Word::Pool), Part::NewPool],
         Row::Thread => &[
@@ -266,6 +276,7 @@ pub fn parts_of(row: Row) -> &'static [Part]
             Part::Number(Range::Within(0, 1)),
         ],
         Row::PrepNop => &[Part::Fixed(Word::PrepNop)],
+        Row::PrepOther => &[Part::Fixed(Word::PrepOther)],
         Row::SetData64 => &[Part::Fixed(Word::SetData64), Part::Token],
         Row::Submit => &[
             Part::Variable,
@@ -325,6 +336,11 @@ pub fn parts_of(row: Row) -> &'static [Part]
             Part::Items,
             Part::Fixed(Word::Open),
         ],
+        Row::IfAny => &[
+            Part::Fixed(Word::If),
+            Part::Fixed(Word::Any),
+            Part::Fixed(Word::Open),
+        ],
         Row::Else => &[
             Part::Fixed(Word::Close),
             Part::Fixed(Word::Else),
@@ -350,24 +366,13 @@ pub fn parts_of(row: Row) -> &'static [Part]
     }
 }
 
-/// The version of the notation from which on a form is in models.
-pub fn version_of(row: Row) -> u32
-    ensures { result ≡ spec.version_of row }
-{
-    match row {
-        Row::LoopWhen => 2,
-        Row::Put | Row::IfTake => 3,
-        Row::Pool | Row::PutNamed | Row::LockSq | Row::LockCq | Row::IfTakeNamed => 4,
-        _ => 1,
-    }
-}
-
 /// Where a form may be.
 pub fn stand_of(row: Row) -> Stand
     ensures { result ≡ spec.stand_of row }
 {
     match row {
-        Row::Version | Row::SecondVersion | Row::ThirdVersion | Row::FourthVersion => Stand::First,
+        Row::Version | Row::SecondVersion | Row::ThirdVersion => Stand::First,
+        Row::FourthVersion | Row::FifthVersion => Stand::First,
         Row::Ring | Row::RingCq | Row::RingLeft | Row::RingCqLeft => Stand::Second,
         Row::File
         | Row::Buffer
@@ -375,6 +380,7 @@ pub fn stand_of(row: Row) -> Stand
         | Row::TokenWrite
         | Row::TokenFsync
         | Row::TokenNop
+        | Row::TokenOther
         | Row::Pool => Stand::Declaration,
         Row::Thread => Stand::Header,
         Row::Else | Row::Close => Stand::Brace,
@@ -384,79 +390,6 @@ pub fn stand_of(row: Row) -> Stand
         Row::SubmitAndWait | Row::CqeSeen | Row::Peek | Row::Case | Row::Other => Stand::Inside,
         Row::Nothing | Row::If | Row::IfReady | Row::IfSpace | Row::IfTake => Stand::Inside,
         Row::Put | Row::Loop | Row::LoopWhen | Row::Break | Row::PutNamed => Stand::Inside,
-        Row::LockSq | Row::LockCq | Row::IfTakeNamed => Stand::Inside,
+        Row::LockSq | Row::LockCq | Row::IfTakeNamed | Row::PrepOther | Row::IfAny => Stand::Inside,
     }
-}
-
-/// The forms whose first word is fixed and begins with this byte, in the order in which they are tried.
-pub fn rows_of(first: u8) -> &'static [Row]
-    ensures { result.now ≡ beginning first spec.fixed_rows }
-{
-    match first {
-        b'}' => &[Row::Close, Row::Else],
-        b'b' => &[Row::Break, Row::Buffer],
-        b'g' => &[Row::GetSqe],
-        b'c' => &[Row::CqeSeen, Row::Case],
-        b'p' => &[
-            Row::PrepNop,
-            Row::Peek,
-            Row::Print,
-            Row::PrepRead,
-            Row::PrepWrite,
-            Row::PrepFsync,
-            Row::Put,
-            Row::PutNamed,
-            Row::Pool,
-        ],
-        b'l' => &[
-            Row::Lock,
-            Row::Loop,
-            Row::LoopWhen,
-            Row::LockSq,
-            Row::LockCq,
-        ],
-        b'o' => &[Row::Other],
-        b'n' => &[Row::Nothing],
-        b's' => &[Row::SetData64, Row::Store],
-        b'f' => &[Row::Fill, Row::File],
-        b'i' => &[
-            Row::IfReady,
-            Row::If,
-            Row::IfSpace,
-            Row::IfTake,
-            Row::IfTakeNamed,
-        ],
-        b't' => &[
-            Row::Thread,
-            Row::TokenRead,
-            Row::TokenWrite,
-            Row::TokenFsync,
-            Row::TokenNop,
-        ],
-        b'r' => &[
-            Row::Ring,
-            Row::RingCq,
-            Row::RingLeft,
-            Row::RingCqLeft,
-            Row::Version,
-            Row::SecondVersion,
-            Row::ThirdVersion,
-            Row::FourthVersion,
-        ],
-        _ => &[],
-    }
-}
-
-/// The forms that begin with a variable, in the order in which they are tried.
-pub fn assignments() -> &'static [Row]
-    ensures { result.now ≡ spec.assignments }
-{
-    &[
-        Row::Submit,
-        Row::Set,
-        Row::Add,
-        Row::Subtract,
-        Row::Load,
-        Row::SubmitAndWait,
-    ]
 }

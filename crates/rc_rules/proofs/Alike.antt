@@ -7,8 +7,9 @@ use Rattle.rc_lang.specs.declared.lines.Op.{Op}
 use Rattle.rc_lang.specs.declared.lines.Op.TheVariants as ops
 use Rattle.rc_lang.specs.declared.lines.Test.{Test}
 use Rattle.rc_lang.specs.declared.lines.Test.TheVariants as tests
-use Rattle.rc_lang.specs.declared.lines.Test.TheVariants.{Compare, ReadyZero, SpaceAtLeast}
+use Rattle.rc_lang.specs.declared.lines.Test.TheVariants.{Compare, ReadyZero, SpaceAtLeast, Any}
 use Rattle.rc_lang.specs.declared.program.TokenKind.{TokenKind}
+use Rattle.rc_lang.specs.declared.program.TokenKind.TheVariants as kinds
 use Rattle.rc_lang.specs.declared.program.TokenKind.TheVariants.{Read, Write, Fsync, Nop}
 use Rattle.rc_lang.specs.Parts.{view_items}
 use Rattle.rc_lang.specs.Program.{Program, Items}
@@ -44,6 +45,7 @@ kind_refl (Read b) = eq-eqb b b refl
 kind_refl (Write b k) = and_from _ _ (eq-eqb b b refl) (eq-eqb k k refl)
 kind_refl Fsync = refl
 kind_refl Nop = refl
+kind_refl kinds.Other = refl
 
 pub slot_refl : (s : Slot) → same_slot s s ≡ true
 slot_refl Closed = refl
@@ -134,6 +136,7 @@ effect_alike P a b m n op l = go op
     go (ops.PrepWrite fd c len off k) = lock_alike _ _ m.sq n.sq sq (λ s t. (refl, l.1))
     go (ops.PrepFsync fd d) = lock_alike _ _ m.sq n.sq sq (λ s t. (refl, l.1))
     go ops.PrepNop = lock_alike _ _ m.sq n.sq sq (λ s t. (refl, l.1))
+    go ops.PrepOther = lock_alike _ _ m.sq n.sq sq (λ s t. (refl, l.1))
     go (ops.SetData64 u) = lock_alike _ _ m.sq n.sq sq (λ s t. (refl, l.1))
     go ops.CqeSeen = lock_alike _ _ m.cq n.cq l.1 (λ p q. (l.0, refl))
     go _ = l
@@ -146,6 +149,7 @@ test_alike P (Compare x c k) m n l = l
 test_alike P ReadyZero m n l = most_alike 0 m n l
 test_alike P (SpaceAtLeast k) m n l = most_alike (P.entries - k) m n l
 test_alike P (tests.Take pool k) m n l = l
+test_alike P Any m n l = l
 
 locked_alike : (P : Program) (locks : Locks) (m n : Mode) → AlikeModes m n → AlikeModes (locked P locks m) (locked P locks n)
 locked_alike P locks m n l = (lock_taken SameStage locks.sq _ m.sq n.sq refl l.0, taken_held locks.cq Unseen m.cq ∙ ap (λ b. b || locks.cq) l.1 ∙ sym (taken_held locks.cq Unseen n.cq))

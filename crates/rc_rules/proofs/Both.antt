@@ -212,6 +212,7 @@ module _ (P : Program) where
   computes (ops.PrepWrite fd b len off k) a m e = absurd (cc)
   computes (ops.PrepFsync fd datasync) a m e = absurd (cc)
   computes ops.PrepNop a m e = absurd (cc)
+  computes ops.PrepOther a m e = absurd (cc)
   computes (ops.SetData64 u) a m e = absurd (cc)
   computes (ops.Submit x) a m e = absurd (cc)
   computes (ops.SubmitAndWait x n) a m e = absurd (cc)

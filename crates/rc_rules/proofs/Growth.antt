@@ -1,5 +1,5 @@
 -- Stronger states are asked for less and give stronger states.
-use Rattle.std.proofs.Common.{◌≡◌, ℕ, suc, ◌+◌, ◌<◌, ◌≤◌, inl, inr, Bool, true, false, cond, nat_eq, nat_lt, nat_le, ◌&&◌, ◌||◌, List, [], ◌∷◌, ◌++◌, length, drop, Option, Some, None, refl, sym, subst, arith}
+use Rattle.std.proofs.Common.{◌≡◌, ℕ, suc, ◌+◌, ◌-◌, ◌<◌, ◌≤◌, inl, inr, Bool, true, false, cond, nat_eq, nat_lt, nat_le, ◌||◌, List, [], ◌∷◌, ◌++◌, length, drop, Option, Some, None, refl, sym, subst, arith}
 use Rattle.std.proofs.lemmas.Bool.{and_from, and_parts, leb-true, le-leb, ltb-true, or_cases, or_left, or_right}
 use Rattle.rc_lang.specs.declared.lines.Line.{Line}
 use Rattle.rc_lang.specs.declared.lines.Locks.{Locks}
@@ -8,9 +8,9 @@ use Rattle.rc_lang.specs.declared.lines.Op.TheVariants as ops
 use Rattle.rc_lang.specs.declared.lines.Stmt.{Stmt}
 use Rattle.rc_lang.specs.declared.lines.Stmt.TheVariants.{Do, Put, Lock, EndLock, If, Else, EndIf, Peek, Case, Other, Nothing, EndArm, EndPeek, Loop, EndLoop, Break}
 use Rattle.rc_lang.specs.declared.lines.Test.{Test}
-use Rattle.rc_lang.specs.declared.lines.Test.TheVariants.{Compare, ReadyZero, SpaceAtLeast, Take}
+use Rattle.rc_lang.specs.declared.lines.Test.TheVariants.{Compare, ReadyZero, SpaceAtLeast, Take, Any}
 use Rattle.rc_lang.specs.Program.{Program, Thread, Items, items_at, stmt_at}
-use Rattle.rc_split.specs.Bags.{Part, ShareOf, TokenOf, Credit, bag_of, bag_on, lacking, plus, IsWithin}
+use Rattle.rc_split.specs.Bags.{Part, ShareOf, TokenOf, Credit, bag_of, bag_on, credits_given, lacking, plus, IsWithin}
 use Rattle.rc_split.proofs.Lacking.{lacking_less}
 use Rattle.rc_rules.specs.declared.mode.Mode.{Mode}
 use Rattle.rc_rules.specs.declared.mode.Peeked.{Peeked}
@@ -20,7 +20,7 @@ use Rattle.rc_rules.specs.declared.mode.Slot.TheVariants.{Closed, Vacant}
 use Rattle.rc_rules.specs.declared.mode.Submitting.{Submitting}
 use Rattle.rc_rules.specs.Labels.{Label, Dead, Live, UnderLock, Weaker, WeakerMode, WeakerPeeked, WeakerSubmitting}
 use Rattle.rc_rules.specs.Premises.{Premise, Is, Covers, IsMet, Meets, MeetsBelow}
-use Rattle.rc_rules.specs.Rules.{kind_of, same_slot, has_kind, is_prepared_as, is_seen, sq_of, can_queue, with_lock, premises_of, op_needs, pool_needs, test_needs, leave_needs, release_needs, stmt_needs, if_locked, op_effect, reaped, asks, asks_both, joins_both, goes, locked, entered, released, put_effect, can_take, take_effect, test_effect, freed, with_slot, at_most, with_peeked, peek_at, case_at, agree_sq, agree, agree_each, agree_all, queue_on, keeps_queue, top_sq, top, broken}
+use Rattle.rc_rules.specs.Rules.{kind_of, same_slot, has_kind, is_prepared_as, is_seen, sq_of, can_queue, few_credits, few_tokens, with_lock, premises_of, op_needs, pool_needs, test_needs, leave_needs, release_needs, stmt_needs, if_locked, op_effect, reaped, asks, asks_both, joins_both, goes, locked, entered, released, put_effect, can_take, take_effect, test_effect, freed, with_slot, at_most, with_peeked, peek_at, case_at, agree_sq, agree, agree_each, agree_all, queue_on, keeps_queue, top_sq, top, broken}
 use Rattle.rc_rules.specs.Labellings.{label_at, here, skipped, arm_end, arm_ends, break_end, break_ends, befores, premises}
 use Rattle.rc_rules.specs.Laws.{EachWeaker, IsStronger, GrowsAt}
 use Rattle.rc_rules.specs.declared.flag.Write.TheVariants.{Anything}
@@ -94,10 +94,21 @@ below a b k h e = let x : b ≤ k = leb-true b k e in le-leb a k (omega arith)
 or_grows : (x y u v : Bool) → (x ≡ true → u ≡ true) → (y ≡ true → v ≡ true) → (x || y) ≡ true → (u || v) ≡ true
 or_grows x y u v f g e = elim (or_cases x y e) [ inl h ↦ or_left u v (f h) | inr h ↦ or_right u v (g h) ]
 
+tokens_grow : (P : Program) (b c : Part → ℕ) → IsWithin b c → few_tokens P b ≡ true → few_tokens P c ≡ true
+tokens_grow P b c w e =
+    let h = and_parts (nat_le 4 P.version) (nat_lt (lacking P.tokens b) P.entries) e in
+    and_from _ _ h.0 (fewer (lacking P.tokens c) (lacking P.tokens b) P.entries (lacking_less P.tokens b c w) h.1)
+
+credits_grow : (P : Program) (b c : Part → ℕ) → IsWithin b c → few_credits P b ≡ true → few_credits P c ≡ true
+credits_grow P b c w e =
+    let given = credits_given P.threads in
+    let h = and_parts (nat_le 5 P.version) (nat_lt (given - b Credit) P.entries) e in
+    and_from _ _ h.0 (fewer (given - c Credit) (given - b Credit) P.entries (omega (arith, w Credit)) h.1)
+
 -- who holds more, and knows of fewer queued, has room where one who holds less has it
 room_grows : (P : Program) (b c : Part → ℕ) (s t : Submitting) → IsWithin b c → WeakerSubmitting s t → can_queue P b s.queued ≡ true → can_queue P c t.queued ≡ true
-room_grows P b c s t w v = or_grows (nat_lt s.queued P.entries) (nat_le 4 P.version && nat_lt (lacking P.tokens b) P.entries) (nat_lt t.queued P.entries) (nat_le 4 P.version && nat_lt (lacking P.tokens c) P.entries) (fewer t.queued s.queued P.entries v.queued)
-    (λ e. let h = and_parts (nat_le 4 P.version) (nat_lt (lacking P.tokens b) P.entries) e in and_from _ _ h.0 (fewer (lacking P.tokens c) (lacking P.tokens b) P.entries (lacking_less P.tokens b c w) h.1))
+room_grows P b c s t w v = or_grows (nat_lt s.queued P.entries) (few_tokens P b || few_credits P b) (nat_lt t.queued P.entries) (few_tokens P c || few_credits P c) (fewer t.queued s.queued P.entries v.queued)
+    (or_grows (few_tokens P b) (few_credits P b) (few_tokens P c) (few_credits P c) (tokens_grow P b c w) (credits_grow P b c w))
 
 slot_of : (s t : Submitting) (x : Slot) → WeakerSubmitting s t → same_slot s.slot x ≡ true → same_slot t.slot x ≡ true
 slot_of s t x v e = subst (λ y. same_slot y x ≡ true) v.slot e
@@ -127,6 +138,7 @@ asks_less P lists z (ops.PrepRead f d l o) b c m n w v = locked_less WeakerSubmi
 asks_less P lists z (ops.PrepWrite f d l o k) b c m n w v = locked_less WeakerSubmitting _ _ m.sq n.sq (λ i j v. (refl, slot_of i j Vacant v, (refl, more k (b (ShareOf d)) (c (ShareOf d)) (w (ShareOf d)), (refl, λ h. h, tt)))) v.0
 asks_less P lists z (ops.PrepFsync f d) b c m n w v = locked_less WeakerSubmitting _ _ m.sq n.sq (λ i j v. (refl, slot_of i j Vacant v, tt)) v.0
 asks_less P lists z ops.PrepNop b c m n w v = locked_less WeakerSubmitting _ _ m.sq n.sq (λ i j v. (refl, slot_of i j Vacant v, tt)) v.0
+asks_less P lists z ops.PrepOther b c m n w v = locked_less WeakerSubmitting _ _ m.sq n.sq (λ i j v. (refl, slot_of i j Vacant v, tt)) v.0
 asks_less P lists z (ops.SetData64 u) b c m n w v = locked_less WeakerSubmitting _ _ m.sq n.sq (λ i j v. (refl, subst (λ y. has_kind y ≡ true) v.slot, (refl, subst (λ y. is_prepared_as (kind_of P u) y ≡ true) v.slot, (refl, more 1 (b (TokenOf u)) (c (TokenOf u)) (w (TokenOf u)), tt)))) v.0
 asks_less P lists z (ops.Submit x) b c m n w v = locked_less WeakerSubmitting _ _ m.sq n.sq (λ i j v. (refl, slot_of i j Closed v, tt)) v.0
 asks_less P lists z (ops.SubmitAndWait x k) b c m n w v = locked_less WeakerSubmitting _ _ m.sq n.sq (λ i j v. (refl, slot_of i j Closed v, tt)) v.0
@@ -145,6 +157,7 @@ grows P lists z (ops.PrepRead f d l o) b c m n w v h = locked_grows WeakerSubmit
 grows P lists z (ops.PrepWrite f d l o k) b c m n w v h = locked_grows WeakerSubmitting _ _ _ m.sq n.sq h (λ s t a u. unchanged _ _ m n s t _ (λ p. omega (arith, w p)) v u) v.0
 grows P lists z (ops.PrepFsync f d) b c m n w v h = locked_grows WeakerSubmitting _ _ _ m.sq n.sq h (λ s t a u. unchanged b c m n s t _ w v u) v.0
 grows P lists z ops.PrepNop b c m n w v h = locked_grows WeakerSubmitting _ _ _ m.sq n.sq h (λ s t a u. unchanged b c m n s t _ w v u) v.0
+grows P lists z ops.PrepOther b c m n w v h = locked_grows WeakerSubmitting _ _ _ m.sq n.sq h (λ s t a u. unchanged b c m n s t _ w v u) v.0
 grows P lists z (ops.SetData64 u) b c m n w v h = locked_grows WeakerSubmitting _ _ _ m.sq n.sq h (λ s t a x. unchanged _ _ m n s t _ (λ p. omega (arith, w p)) v x) v.0
 grows P lists z ops.CqeSeen b c m n w v h = locked_grows WeakerPeeked _ _ _ m.cq n.cq h (λ p q a u. (λ x. omega (arith, w x, reaps_more P p q u x), (v.0, peeked_refl Unseen))) v.1
 grows P lists z _ b c m n w v h = (w, v)
@@ -174,6 +187,7 @@ test_less P lists z (Compare x k n) b d m o w v = tt
 test_less P lists z ReadyZero b d m o w v = sq_less b d m o w v
 test_less P lists z (SpaceAtLeast n) b d m o w v = sq_less b d m o w v
 test_less P lists z (Take pool k) b d m o w v = pool_less P lists z pool b d m o w v
+test_less P lists z Any b d m o w v = tt
 
 put_less : (P : Program) (lists : List Items) (z : Bool) (pool : Option ℕ) (k : ℕ) → AsksLess (λ b m. premises_of P lists z b m (stmt_needs (Put pool k)))
 put_less P lists z None k b c m n w v = locked_less WeakerSubmitting _ _ m.sq n.sq (λ s t u. locked_less WeakerPeeked _ _ m.cq n.cq (λ p q x. (refl, λ h y. omega (arith, h y, w y), tt)) v.1) v.0
@@ -199,6 +213,7 @@ test_grows P lists (Compare x k n) b d m o w v h = (w, v)
 test_grows P lists ReadyZero b d m o w v h = (w, most_grows _ m o v)
 test_grows P lists (SpaceAtLeast n) b d m o w v h = (w, most_grows _ m o v)
 test_grows P lists (Take pool k) b d m o w v h = take_grows P (items_at lists k) b d m o w v
+test_grows P lists Any b d m o w v h = (w, v)
 
 closed_less : (m n : Mode) → WeakerMode m n → same_slot (sq_of m).slot Closed ≡ true → same_slot (sq_of n).slot Closed ≡ true
 closed_less m n v h = slot_of (sq_of m) (sq_of n) Closed (sq_weaker m n v) h

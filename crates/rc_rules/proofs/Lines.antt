@@ -6,7 +6,7 @@ use Rattle.rc_lang.specs.declared.lines.Op.{Op}
 use Rattle.rc_lang.specs.declared.lines.Op.TheVariants as ops
 use Rattle.rc_lang.specs.declared.program.Token.{Token}
 use Rattle.rc_lang.specs.declared.program.TokenKind.{TokenKind}
-use Rattle.rc_lang.specs.declared.program.TokenKind.TheVariants.{Read, Write, Fsync, Nop}
+use Rattle.rc_lang.specs.declared.program.TokenKind.TheVariants.{Read, Write, Fsync, Nop, Other}
 use Rattle.rc_lang.specs.Program.{Program, IsProgram, IsTokenKind, token_place}
 use Rattle.rc_split.specs.Bags.{Part, ShareOf, TokenOf, Credit, token_bag, credits_bag}
 use Rattle.rc_split.proofs.Named.{few_shares}
@@ -41,6 +41,7 @@ kind_few P (Read b) (ShareOf c) h l = few b c _ (few_shares P b h)
 kind_few P (Write b k) (ShareOf c) h l = few b c k (let m = few_shares P b h in let n = l.1.within in omega (arith, m, n))
 kind_few P Fsync p h l = omega arith
 kind_few P Nop p h l = omega arith
+kind_few P Other p h l = omega arith
 kind_few P (Read b) (TokenOf u) h l = omega arith
 kind_few P (Read b) Credit h l = omega arith
 kind_few P (Write b k) (TokenOf u) h l = omega arith
@@ -56,6 +57,7 @@ line_token P (Some (Read b)) u = refl
 line_token P (Some (Write b k)) u = refl
 line_token P (Some Fsync) u = refl
 line_token P (Some Nop) u = refl
+line_token P (Some Other) u = refl
 
 pub one_at_most : (u : ℕ) (p : Part) → token_bag u p ≤ 1
 one_at_most u (ShareOf b) = omega arith
@@ -93,6 +95,7 @@ effect_by P a m (ops.PrepRead fd b len off) h Q d f = by_lock m.sq _ Q d (λ s e
 effect_by P a m (ops.PrepWrite fd b len off k) h Q d f = by_lock m.sq _ Q d (λ s e. f _ _ (sq_given m s e) (λ p. omega arith))
 effect_by P a m (ops.PrepFsync fd datasync) h Q d f = by_lock m.sq _ Q d (λ s e. f _ _ (sq_given m s e) (λ p. omega arith))
 effect_by P a m ops.PrepNop h Q d f = by_lock m.sq _ Q d (λ s e. f _ _ (sq_given m s e) (λ p. omega arith))
+effect_by P a m ops.PrepOther h Q d f = by_lock m.sq _ Q d (λ s e. f _ _ (sq_given m s e) (λ p. omega arith))
 effect_by P a m (ops.SetData64 u) h Q d f = by_lock m.sq _ Q d (λ s e. f _ _ (sq_given m s e) (λ p. omega arith))
 effect_by P a m ops.CqeSeen h Q d f = by_lock m.cq _ Q d (λ x e. f _ _ (cq_given m x e) (λ p. omega (arith, reaped_few P x p h)))
 effect_by P a m _ h Q d f = f a m refl (λ p. omega arith)

@@ -6,7 +6,7 @@ use Rattle.rc_lang.specs.declared.lines.Op.{Op}
 use Rattle.rc_lang.specs.declared.lines.Op.TheVariants as ops
 use Rattle.rc_lang.specs.declared.lines.Test.{Test}
 use Rattle.rc_lang.specs.declared.lines.Test.TheVariants as tests
-use Rattle.rc_lang.specs.declared.lines.Test.TheVariants.{Compare, ReadyZero, SpaceAtLeast}
+use Rattle.rc_lang.specs.declared.lines.Test.TheVariants.{Compare, ReadyZero, SpaceAtLeast, Any}
 use Rattle.rc_lang.specs.declared.program.TokenKind.TheVariants.{Read, Write}
 use Rattle.rc_lang.specs.Parts.{view_items}
 use Rattle.rc_lang.specs.Program.{Program, Items, DeclaresToken}
@@ -41,6 +41,7 @@ effect_free P a m (ops.PrepRead fd b len off) f = free_in P m.sq _ (λ s. fewer_
 effect_free P a m (ops.PrepWrite fd b len off k) f = free_in P m.sq _ (λ s. fewer_free P a (minus a (kind_bag P (Write b k))) (peeked_of m) (λ u. omega arith) f)
 effect_free P a m (ops.PrepFsync fd d) f = free_in P m.sq _ (λ s. f)
 effect_free P a m ops.PrepNop f = free_in P m.sq _ (λ s. f)
+effect_free P a m ops.PrepOther f = free_in P m.sq _ (λ s. f)
 effect_free P a m (ops.SetData64 u) f = free_in P m.sq _ (λ s. fewer_free P a (minus a (token_bag u)) (peeked_of m) (λ v. omega arith) f)
 effect_free P a m ops.CqeSeen f = free_in P m.cq _ (λ p. tt)
 effect_free P a m _ f = f
@@ -72,6 +73,7 @@ test_free P a (Compare x c n) m f = f
 test_free P a ReadyZero m f = f
 test_free P a (SpaceAtLeast n) m f = f
 test_free P a (tests.Take pool k) m f = f
+test_free P a Any m f = f
 
 locked_free : (P : Program) (a : Part → ℕ) (b : Bool) (o : Option Peeked) → IsFreeFor P a (unwrap_or o Unseen) → IsFreeFor P a (unwrap_or (cond b (Some Unseen) o) Unseen)
 locked_free P a true o f = tt

@@ -7,7 +7,7 @@ use Rattle.rc_lang.specs.declared.lines.Stmt.{Stmt}
 use Rattle.rc_lang.specs.declared.lines.Stmt.TheVariants as stmts
 use Rattle.rc_lang.specs.declared.lines.Stmt.TheVariants.{Do, Put, EndLock, If, EndIf, Peek, EndPeek, EndLoop, Break}
 use Rattle.rc_lang.specs.declared.lines.Test.{Test}
-use Rattle.rc_lang.specs.declared.lines.Test.TheVariants.{Compare, Take}
+use Rattle.rc_lang.specs.declared.lines.Test.TheVariants.{Compare, Take, Any}
 use Rattle.rc_lang.specs.Program.{Program, Items, items_at}
 use Rattle.rc_split.specs.Bags.{Part}
 use Rattle.rc_rules.specs.declared.mode.Mode.{Mode}
@@ -33,6 +33,7 @@ ordered (Do (ops.PrepRead fd b len off)) = (omega arith, (omega arith, (omega ar
 ordered (Do (ops.PrepWrite fd b len off k)) = (omega arith, (omega arith, (omega arith, (omega arith, tt))))
 ordered (Do (ops.PrepFsync fd datasync)) = (omega arith, (omega arith, tt))
 ordered (Do ops.PrepNop) = (omega arith, (omega arith, tt))
+ordered (Do ops.PrepOther) = (omega arith, (omega arith, tt))
 ordered (Do (ops.SetData64 u)) = (omega arith, (omega arith, (omega arith, (omega arith, tt))))
 ordered (Do (ops.Submit x)) = (omega arith, (omega arith, tt))
 ordered (Do (ops.SubmitAndWait x n)) = (omega arith, (omega arith, tt))
@@ -44,6 +45,7 @@ ordered (EndLock o l) = release_ordered l.sq
 ordered (If (Compare x c n)) = tt
 ordered (If (Take None k)) = (omega arith, (omega arith, tt))
 ordered (If (Take (Some n) k)) = tt
+ordered (If Any) = tt
 ordered (If _) = (omega arith, tt)
 ordered (EndIf o) = (omega arith, tt)
 ordered (Peek x) = (omega arith, tt)
@@ -64,6 +66,7 @@ op_same P lists z bag m (ops.PrepRead fd b len off) = refl
 op_same P lists z bag m (ops.PrepWrite fd b len off k) = refl
 op_same P lists z bag m (ops.PrepFsync fd datasync) = refl
 op_same P lists z bag m ops.PrepNop = refl
+op_same P lists z bag m ops.PrepOther = refl
 op_same P lists z bag m (ops.SetData64 u) = refl
 op_same P lists z bag m (ops.Submit x) = refl
 op_same P lists z bag m (ops.SubmitAndWait x n) = refl

@@ -5,9 +5,9 @@ use Rattle.std.proofs.lemmas.Bool.{and_parts, eqb-true}
 use Rattle.rc_lang.specs.declared.lines.Locks.{Locks}
 use Rattle.rc_lang.specs.Locks.{with_locks, without_locks}
 use Rattle.rc_lang.specs.declared.lines.Test.{Test}
-use Rattle.rc_lang.specs.declared.lines.Test.TheVariants.{Compare, ReadyZero, SpaceAtLeast, Take}
+use Rattle.rc_lang.specs.declared.lines.Test.TheVariants.{Compare, ReadyZero, SpaceAtLeast, Take, Any}
 use Rattle.rc_lang.specs.declared.program.TokenKind.{TokenKind}
-use Rattle.rc_lang.specs.declared.program.TokenKind.TheVariants.{Read, Write, Fsync, Nop}
+use Rattle.rc_lang.specs.declared.program.TokenKind.TheVariants.{Read, Write, Fsync, Nop, Other}
 use Rattle.rc_lang.specs.Program.{Program, Items}
 use Rattle.rc_rules.specs.declared.mode.Mode.{Mode}
 use Rattle.rc_rules.specs.declared.mode.Peeked.{Peeked}
@@ -169,6 +169,7 @@ test_locks P (Compare x c n) m = refl
 test_locks P ReadyZero m = most_locks _ m
 test_locks P (SpaceAtLeast n) m = most_locks _ m
 test_locks P (Take pool k) m = refl
+test_locks P Any m = refl
 
 pub top_locks : (P : Program) (items : Items) (m : Mode) → locks_of (top_mode P items m) ≡ locks_of m
 top_locks P items m = locks_equal (top_mode P items m) m (map_held _ m.sq) (map_held _ m.cq)
@@ -240,6 +241,7 @@ same_kind_is (Write b k) (Write c l) e =
     cc
 same_kind_is Fsync Fsync e = refl
 same_kind_is Nop Nop e = refl
+same_kind_is Other Other e = refl
 same_kind_is _ _ e = absurd (cc)
 
 pub same_slot_is : (s t : Slot) → same_slot s t ≡ true → s ≡ t

@@ -7,11 +7,11 @@ use Rattle.rc_lang.specs.declared.lines.Op.TheVariants as ops
 use Rattle.rc_lang.specs.declared.lines.Stmt.{Stmt}
 use Rattle.rc_lang.specs.declared.lines.Stmt.TheVariants as stmts
 use Rattle.rc_lang.specs.declared.lines.Test.{Test}
-use Rattle.rc_lang.specs.declared.lines.Test.TheVariants.{Compare, ReadyZero, SpaceAtLeast, Take}
+use Rattle.rc_lang.specs.declared.lines.Test.TheVariants.{Compare, ReadyZero, SpaceAtLeast, Take, Any}
 use Rattle.rc_lang.specs.declared.program.Share.{Share}
 use Rattle.rc_lang.specs.declared.program.Token.{Token}
 use Rattle.rc_lang.specs.declared.program.TokenKind.{TokenKind}
-use Rattle.rc_lang.specs.declared.program.TokenKind.TheVariants.{Read, Write, Fsync, Nop}
+use Rattle.rc_lang.specs.declared.program.TokenKind.TheVariants.{Read, Write, Fsync, Nop, Other}
 use Rattle.rc_lang.specs.Program.{Program, Items, bytes_at, items_at, shares_at, token_place}
 use Rattle.rc_rules.specs.declared.needs.Asks.{Asks}
 use Rattle.rc_rules.specs.declared.needs.Asks.TheVariants as needs
@@ -23,7 +23,7 @@ use Rattle.rc_rules.specs.declared.mode.Peeked.TheVariants.{Unseen, Sees, SeesOt
 use Rattle.rc_rules.specs.declared.mode.Slot.{Slot}
 use Rattle.rc_rules.specs.declared.mode.Slot.TheVariants.{Closed, Vacant, Prepared}
 use Rattle.rc_rules.specs.declared.mode.Submitting.{Submitting}
-use Rattle.rc_split.specs.Bags.{Part, ShareOf, TokenOf, Credit, shares_bag, token_bag, credits_bag, bag_of, bag_on, lacking, plus, minus}
+use Rattle.rc_split.specs.Bags.{Part, ShareOf, TokenOf, Credit, shares_bag, token_bag, credits_bag, bag_of, bag_on, credits_given, lacking, plus, minus}
 use Rattle.rc_split.specs.declared.part.Part.TheVariants as parts
 use Rattle.rc_split.specs.Holdings.{covers_part}
 use Rattle.rc_rules.specs.Causes.{premise_number}
@@ -56,6 +56,7 @@ kind_bag P (Read b) p = shares_bag b (shares_at P.buffers b) p
 kind_bag P (Write b k) p = shares_bag b k p
 kind_bag P Fsync p = 0
 kind_bag P Nop p = 0
+kind_bag P Other p = 0
 
 abbrev pub line_bag : Program → Option TokenKind → Part → ℕ
 line_bag P None p = 0
@@ -68,6 +69,7 @@ same_kind (Read b) (Read c) = nat_eq b c
 same_kind (Write b k) (Write c l) = nat_eq b c && nat_eq k l
 same_kind Fsync Fsync = true
 same_kind Nop Nop = true
+same_kind Other Other = true
 same_kind _ _ = false
 
 abbrev pub same_slot : Slot → Slot → Bool
@@ -110,10 +112,22 @@ sq_of m = unwrap_or m.sq (record { queued = 0; slot = Closed })
 abbrev pub peeked_of : Mode → Peeked
 peeked_of m = unwrap_or m.cq Unseen
 
--- Behind so many queued entries there is room for one more. From version 4 on there is room too where the tokens that
--- aren't held are fewer than the ring's entries: each queued entry owns one of them.
+-- how many of the credits that threads begin with aren't held
+abbrev pub credits_out : Program → (Part → ℕ) → ℕ
+credits_out P bag = credits_given P.threads - bag Credit
+
+-- The tokens that aren't held are fewer than the ring's entries; and so are the credits. Each queued entry owns one token
+-- and one credit.
+abbrev pub few_tokens : Program → (Part → ℕ) → Bool
+few_tokens P bag = nat_le 4 P.version && nat_lt (lacking P.tokens bag) P.entries
+
+abbrev pub few_credits : Program → (Part → ℕ) → Bool
+few_credits P bag = nat_le 5 P.version && nat_lt (credits_out P bag) P.entries
+
+-- Behind so many queued entries there is room for one more, from version 4 on where few tokens are out, too, and from
+-- version 5 on where few credits are.
 abbrev pub can_queue : Program → (Part → ℕ) → ℕ → Bool
-can_queue P bag queued = nat_lt queued P.entries || (nat_le 4 P.version && nat_lt (lacking P.tokens bag) P.entries)
+can_queue P bag queued = nat_lt queued P.entries || (few_tokens P bag || few_credits P bag)
 
 -- no slot is open, and no more entries are queued than this
 abbrev pub keeps_queue : ℕ → Mode → Bool
@@ -186,6 +200,7 @@ op_needs (ops.PrepRead fd b len off) = sq_lock ∷ (causes.NoSlot, needs.Vacant)
 op_needs (ops.PrepWrite fd b len off k) = sq_lock ∷ (causes.NoSlot, needs.Vacant) ∷ (causes.NoShare, needs.Part (parts.Shares b k)) ∷ (causes.OutOfBuffer, needs.Length b len) ∷ []
 op_needs (ops.PrepFsync fd datasync) = sq_lock ∷ (causes.NoSlot, needs.Vacant) ∷ []
 op_needs ops.PrepNop = sq_lock ∷ (causes.NoSlot, needs.Vacant) ∷ []
+op_needs ops.PrepOther = sq_lock ∷ (causes.NoSlot, needs.Vacant) ∷ []
 op_needs (ops.SetData64 u) = sq_lock ∷ (causes.NoSlot, needs.Prepared) ∷ (causes.WrongKind, needs.Line u) ∷ (causes.NoToken, needs.Part (parts.Token u)) ∷ []
 op_needs (ops.Submit x) = sq_lock ∷ (causes.SlotOpen, needs.Closed) ∷ []
 op_needs (ops.SubmitAndWait x n) = sq_lock ∷ (causes.SlotOpen, needs.Closed) ∷ []
@@ -197,6 +212,7 @@ test_needs (Compare x c n) = []
 test_needs ReadyZero = sq_lock ∷ []
 test_needs (SpaceAtLeast n) = sq_lock ∷ []
 test_needs (Take pool k) = pool_needs pool
+test_needs Any = []
 
 -- where a loop is left, by whether the lock of the submission side is released there
 abbrev pub leave_needs : Bool → List (Cause × Asks)
@@ -248,6 +264,7 @@ op_effect P bag m (ops.PrepRead fd b len off) = if_locked m.sq (λ s. Live (minu
 op_effect P bag m (ops.PrepWrite fd b len off k) = if_locked m.sq (λ s. Live (minus bag (kind_bag P (Write b k))) (with_slot (Prepared (Write b k)) s m))
 op_effect P bag m (ops.PrepFsync fd datasync) = if_locked m.sq (λ s. Live bag (with_slot (Prepared Fsync) s m))
 op_effect P bag m ops.PrepNop = if_locked m.sq (λ s. Live bag (with_slot (Prepared Nop) s m))
+op_effect P bag m ops.PrepOther = if_locked m.sq (λ s. Live bag (with_slot (Prepared Other) s m))
 op_effect P bag m (ops.SetData64 u) = if_locked m.sq (λ s. Live (minus bag (token_bag u)) (with_slot Closed s m))
 op_effect P bag m ops.CqeSeen = if_locked m.cq (λ p. Live (plus bag (reaped P p)) (record m { cq = Some Unseen }))
 op_effect P bag m _ = Live bag m
@@ -335,6 +352,7 @@ test_mode P (Compare x c n) m = m
 test_mode P ReadyZero m = at_most 0 m
 test_mode P (SpaceAtLeast n) m = at_most (P.entries - n) m
 test_mode P (Take pool k) m = m
+test_mode P Any m = m
 
 -- the first branch, in a thread with these lists of items
 abbrev pub test_effect : Program → List Items → (Part → ℕ) → Mode → Test → Label

@@ -21,7 +21,7 @@ use Rattle.rc_rules.specs.Causes.{premise_number}
 use Rattle.rc_rules.specs.Labellings.{start_of}
 use Rattle.rc_rules.specs.Labels.{Label, Dead, Live, IsStrongest, IsSame}
 use Rattle.rc_rules.specs.Needs.{IsMetOn, line_premises}
-use Rattle.rc_rules.specs.Rules.{agree, asked, asks, asks_both, entered, goes, locks_of, op_effect, peeked_of, premises_of, put_effect, stmt_needs, test_effect, top}
+use Rattle.rc_rules.specs.Rules.{agree, asked, asks, asks_both, credits_out, entered, goes, locks_of, op_effect, peeked_of, premises_of, put_effect, stmt_needs, test_effect, top}
 use Rattle.rc_rules.specs.declared.flag.Write.{Write}
 use Rattle.rc_rules.specs.Sides.{Sides, brings, forgets, gate, on, turns, write_of}
 use Rattle.rc_rules.specs.Premises.{Premise, Meets, FailsFirst}
@@ -51,6 +51,11 @@ held_at (Live bag m) p = bag p
 abbrev pub lacked_at : Program → Label → ℕ
 lacked_at P Dead = 0
 lacked_at P (Live bag m) = lacking P.tokens bag
+
+-- how many of the credits that threads begin with aren't held: none where nothing reaches the label
+abbrev pub credits_out_at : Program → Label → ℕ
+credits_out_at P Dead = 0
+credits_out_at P (Live bag m) = credits_out P bag
 
 -- a side that holds this, where something reaches its point
 abbrev pub live_of : Holding → Option Mode → Option (Holding × Mode)

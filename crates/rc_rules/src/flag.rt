@@ -52,6 +52,7 @@ pub fn write_of(flag: Option<usize>, op: Op) -> Write
         Op::PrepWrite(_, _, _, _, _) => Write::Untouched,
         Op::PrepFsync(_, _) => Write::Untouched,
         Op::PrepNop => Write::Untouched,
+        Op::PrepOther => Write::Untouched,
         Op::SetData64(_) => Write::Untouched,
         Op::CqeSeen => Write::Untouched,
     }

@@ -33,8 +33,8 @@ pub enum Asks {
     /// At a loop's top or its end: that no entry is open, that no more are queued than the loop's items say, and that
     /// these are held; the number of their list.
     Loop(usize),
-    /// Room for one more entry in the queue: fewer are queued than the ring has entries, or from version 4 on fewer
-    /// tokens aren't held.
+    /// Room for one more entry in the queue: fewer are queued than the ring has entries; or fewer tokens aren't held, from
+    /// version 4 on; or fewer of the credits that threads begin with, from version 5 on.
     Room,
     /// That no entry is open.
     Closed,
@@ -130,6 +130,7 @@ fn op_needs(op: Op) -> Needs
         ],
         Op::PrepFsync(_, _) => two(SQ_LOCK, VACANT),
         Op::PrepNop => two(SQ_LOCK, VACANT),
+        Op::PrepOther => two(SQ_LOCK, VACANT),
         Op::SetData64(user_data) => [
             Some(SQ_LOCK),
             Some((Cause::NoSlot, Asks::Prepared)),
@@ -193,6 +194,7 @@ fn test_needs(test: Test) -> Needs
         Test::ReadyZero => one(SQ_LOCK),
         Test::SpaceAtLeast(_) => one(SQ_LOCK),
         Test::Take(pool, _) => pool_needs(pool),
+        Test::Any => [None; 4],
     }
 }
 
@@ -286,14 +288,35 @@ pub fn is_met(holding: &Holding, lists: &[Items], zero: bool, mode: Mode, asks: 
     }
 }
 
-/// Whether after so many queued entries there is room for one more. From version 4 on the tokens that aren't held say it
-/// too: each queued entry owns one of them.
+/// Whether after so many queued entries there is room for one more.
 fn can_queue(holding: &Holding, queued: u32) -> bool
     ensures { result ≡ rules.can_queue holding.now.program (bag holding.now) queued }
 {
+    queued < holding.program().entries() || few_tokens(holding) || few_credits(holding)
+}
+
+/// Whether the tokens that aren't held are fewer than the ring's entries, from version 4 on. Each queued entry owns one.
+fn few_tokens(holding: &Holding) -> bool
+    ensures { result ≡ rules.few_tokens holding.now.program (bag holding.now) }
+{
     let program = holding.program();
-    let entries = program.entries();
-    queued < entries || program.version() >= 4 && holding.lacking() < entries
+    program.version() >= 4 && holding.lacking() < program.entries()
+}
+
+/// Whether the credits that threads begin with and that aren't held are fewer than the ring's entries, from version 5 on.
+/// Each queued entry owns one.
+fn few_credits(holding: &Holding) -> bool
+    ensures { result ≡ rules.few_credits holding.now.program (bag holding.now) }
+{
+    let program = holding.program();
+    program.version() >= 5 && credits_out(holding) < program.entries()
+}
+
+/// How many of the credits that threads begin with aren't held.
+pub(crate) fn credits_out(holding: &Holding) -> u32
+    ensures { result ≡ rules.credits_out holding.now.program (bag holding.now) }
+{
+    holding.credits_given().saturating_sub(holding.credits())
 }
 
 /// Whether all shares of the buffer are held.

@@ -46,6 +46,7 @@ pub fn after(holding: &mut Holding, mode: Mode, op: &Op) -> Mode
         }
         Op::PrepFsync(_, _) => prepared(holding, mode, TokenKind::Fsync),
         Op::PrepNop => prepared(holding, mode, TokenKind::Nop),
+        Op::PrepOther => prepared(holding, mode, TokenKind::Other),
         Op::SetData64(user_data) => queued(holding, mode, user_data),
         Op::CqeSeen => seen(holding, mode),
         _ => mode,
@@ -99,6 +100,7 @@ fn prepared(holding: &mut Holding, mode: Mode, kind: TokenKind) -> Mode
         }
         TokenKind::Fsync => {}
         TokenKind::Nop => {}
+        TokenKind::Other => {}
     }
     with_slot(Slot::Prepared(kind), mode)
 }
@@ -175,5 +177,6 @@ fn give_shares(holding: &mut Holding, kind: TokenKind)
         TokenKind::Write(buffer, count) => holding.give(Part::Shares(buffer, count)),
         TokenKind::Fsync => {}
         TokenKind::Nop => {}
+        TokenKind::Other => {}
     }
 }

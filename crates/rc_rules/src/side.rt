@@ -15,7 +15,7 @@ ghost use Rattle.rc_split.specs.Bags.{Credit, ShareOf, TokenOf, bag_on, bag_of};
 use crate::blocks::{self, freed, in_arm};
 use crate::cause::Cause;
 use crate::mode::{Mode, Peeked, unlocked};
-use crate::needs::{Asks, checked, is_met};
+use crate::needs::{Asks, checked, credits_out, is_met};
 use crate::rule::{Rule, follow};
 use rc_lang::lines::{Locks, Stmt};
 use rc_lang::program::{Items, Program};
@@ -152,6 +152,16 @@ impl<'a> Side<'a> {
     {
         match self.mode {
             Some(_) => self.holding.lacking(),
+            None => 0,
+        }
+    }
+
+    /// How many of the credits that the program's threads begin with aren't held: none where nothing reaches the side.
+    pub fn credits_out(&self) -> u32
+        ensures { result ≡ spec.credits_out_at self.now.program (spec.side_label self.now) }
+    {
+        match self.mode {
+            Some(_) => credits_out(&self.holding),
             None => 0,
         }
     }

@@ -8,3 +8,4 @@ pub mod PoolBags
 pub mod Named
 pub mod AllPools
 pub mod Lacking
+pub mod Given

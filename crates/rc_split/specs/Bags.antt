@@ -2,7 +2,7 @@
 use Rattle.std.specs.Prelude.{ℕ, ◌≡◌, ◌+◌, ◌-◌, ◌≤◌, Bool, true, false, cond, min, nat_eq, sum_by, count_by, List, [], None}
 use Rattle.rc_lang.specs.declared.program.Share.{Share}
 use Rattle.rc_lang.specs.declared.program.Token.{Token}
-use Rattle.rc_lang.specs.Program.{Items, besides, no_more}
+use Rattle.rc_lang.specs.Program.{Items, Thread, besides, no_more}
 
 -- what holdings are made of: shares of the buffer with a number, the token with a user data, credits for completions
 pub data Part : Type 0 where
@@ -63,6 +63,10 @@ bag_on false items = plus (bag_of items) (bag_of (besides items))
 -- how many of these tokens a bag hasn't
 abbrev pub lacking : List Token → (Part → ℕ) → ℕ
 lacking tokens b = count_by (λ (t : Token). nat_eq (b (TokenOf t.user_data)) 0) tokens
+
+-- how many credits these threads begin with
+abbrev pub credits_given : List Thread → ℕ
+credits_given threads = sum_by (λ (t : Thread). t.items.credits) threads
 
 -- The second bag covers the first.
 abbrev pub IsWithin : (Part → ℕ) → (Part → ℕ) → Type 0

@@ -145,6 +145,19 @@ impl<'a> Holding<'a> {
             .count() as u32
     }
 
+    /// How many credits the program's threads begin with, at most 32,768.
+    pub fn credits_given(&self) -> u32
+        ensures value { result ≡ bags.credits_given self.now.program.threads }
+        ensures few { result ≤ 32768 }
+    {
+        let mut given = 0;
+        let threads = self.program.threads();
+        for thread in threads {
+            given += thread.items.credits;
+        }
+        given
+    }
+
     fn lacks_token(&self, user_data: u64) -> bool
         ensures { result ≡ nat_eq (spec.bag self.now (bags.TokenOf user_data)) 0 }
     {

@@ -10,7 +10,7 @@ use Rattle.rc_lang.specs.declared.lines.Comparison.{Comparison}
 use Rattle.rc_lang.specs.declared.lines.Line.{Line}
 use Rattle.rc_lang.specs.declared.lines.Stmt.TheVariants.{If, Else, EndIf}
 use Rattle.rc_lang.specs.declared.lines.Test.{Test}
-use Rattle.rc_lang.specs.declared.lines.Test.TheVariants.{Compare, ReadyZero, SpaceAtLeast, Take}
+use Rattle.rc_lang.specs.declared.lines.Test.TheVariants.{Compare, ReadyZero, SpaceAtLeast, Take, Any}
 use Rattle.rc_lang.specs.Nesting.{blocks_at, locks_in}
 use Rattle.rc_lang.specs.Program.{Items, Program, Thread, items_at, no_items, stmt_at}
 use Rattle.rc_lang.proofs.Along.{same_locks}
@@ -89,6 +89,13 @@ compared lists s new test x c n e h = subst (Tested lists s new) (sym e) (meets_
     each : (z : Bool) → IsStrongest (label_of new z) (gate (test_goes s.flag (Compare x c n) z true) (goes (label_of s z) Live) ∷ [])
     each z = subst (λ l. IsStrongest (label_of new z) (gate (test_goes s.flag (Compare x c n) z true) l ∷ [])) (sym (same_too (label_of s z))) (subst (λ k. IsStrongest (label_of new z) (gate (test_goes s.flag k z true) (label_of s z) ∷ [])) e (h.each z))
 
+-- A free choice asks nothing either, and lets through what there is.
+pub chosen : (lists : List Items) (s : State) (test : Test) → test ≡ Any → Tested lists s s test
+chosen lists s test e = subst (Tested lists s s) (sym e) (meets_append (asks (label_of s true) (λ bag m. [])) (asks (label_of s false) (λ bag m. [])) (none_asked (label_of s true)) (none_asked (label_of s false)), record { each = each; of = record { program = refl; flag = refl } })
+  where
+    each : (z : Bool) → IsStrongest (label_of s z) (goes (label_of s z) Live ∷ [])
+    each z = subst (λ l. IsStrongest (label_of s z) (l ∷ [])) (sym (same_too (label_of s z))) (only_itself (label_of s z))
+
 -- A take gives what the items do that it names, and asks no list.
 pub taken_from : {X : Type 0} (lists : List Items) (s new : State) (x : Result X Cause) (test : Test) (pool : Option ℕ) (k : ℕ) (items : Items) → test ≡ Take pool k → items ≡ items_at lists k → Gives s new x (asked_alike s (items ∷ []) (If (Take pool 0))) (λ z. goes (label_of s z) (λ bag m. take_effect (program_of s) bag m items) ∷ []) → Gives s new x (asked_alike s [] (If test)) (λ z. gate (test_goes s.flag test z true) (goes (label_of s z) (λ bag m. test_effect (program_of s) lists bag m test)) ∷ [])
 taken_from lists s new x test pool k items e q g =
@@ -139,6 +146,7 @@ module _ (P : Program) (t : Thread) (j : ℕ) (w : Walk) (r : Reaches P t j w) w
   tests_here (Compare x c n) e = tt
   tests_here ReadyZero e = tt
   tests_here (SpaceAtLeast n) e = tt
+  tests_here Any e = tt
   tests_here (Take pool k) e = let lt : k < length t.lists = (r.thread.resolved j (If (Take pool k)) e).1 in (lt, (r.thread.lists k no_items lt).first)
 
   pub may_test : (test : Test) (lists : List Items) → stmt_at t.lines j ≡ Some (If test) → lists ≡ t.lists → MayTest (program_of w.state) lists test

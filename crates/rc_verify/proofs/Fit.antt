@@ -4,7 +4,7 @@ use Rattle.rc_lang.specs.declared.lines.Locks.{Locks}
 use Rattle.rc_lang.specs.declared.lines.Stmt.TheVariants.{Break}
 use Rattle.rc_lang.specs.declared.lines.Op.{Op}
 use Rattle.rc_lang.specs.declared.lines.Test.{Test}
-use Rattle.rc_lang.specs.declared.lines.Test.TheVariants.{Compare, ReadyZero, SpaceAtLeast, Take}
+use Rattle.rc_lang.specs.declared.lines.Test.TheVariants.{Compare, ReadyZero, SpaceAtLeast, Take, Any}
 use Rattle.rc_lang.specs.Locks.{no_lock, with_locks, without_locks}
 use Rattle.rc_lang.specs.Program.{Program, Items, Thread, IsProgram, IsItems, IsList, besides, items_at}
 use Rattle.rc_split.specs.Bags.{Part, TokenOf, bag_of, bag_on, plus}
@@ -122,6 +122,7 @@ test_fits P lists (Compare x c v) held n (Live a m) made may l f = (test_locks P
 test_fits P lists ReadyZero held n (Live a m) made may l f = (test_locks P ReadyZero m ∙ f.0, f.1)
 test_fits P lists (SpaceAtLeast v) held n (Live a m) made may l f = (test_locks P (SpaceAtLeast v) m ∙ f.0, f.1)
 test_fits P lists (Take pool k) held n (Live a m) made may l f = take_fits P (items_at lists k) held n a m made may.1 l f
+test_fits P lists Any held n (Live a m) made may l f = (test_locks P Any m ∙ f.0, f.1)
 
 pub peek_fits : (pk : Peeked) (held : Locks) (n : ℕ) (s : Label) → Fits held n s → Fits held n (peek_at pk s)
 peek_fits pk held n Dead f = tt

@@ -37,6 +37,7 @@ fn test_state(state: &mut State, test: Test, lists: &[Items]) -> Result<(), Caus
             take_branch(state, test, true);
             Ok(())
         }
+        Test::Any => Ok(()),
         Test::ReadyZero => state.ready_zero(),
         Test::SpaceAtLeast(n) => state.space_at_least(n),
         Test::Take(pool, k) => state.take(pool, &lists[k]),

@@ -2,7 +2,7 @@
 use Rattle.std.proofs.Common.{◌≡◌, ℕ, ℤ, pos, ◌+◌, ◌<◌, Bool, true, false, if◌then◌else◌, List, [], ◌∷◌, ◌++◌, length, Option, Some, None, nat_lt, slice_set, refl}
 use Rattle.std.proofs.lemmas.Bool.{ltb-true}
 use Rattle.std.proofs.lemmas.List.{length-replicate, length-set}
-use Rattle.rc_lang.specs.declared.lines.Op.TheVariants.{Store, Fill, GetSqe, PrepRead, PrepWrite, PrepFsync, PrepNop, SetData64, Submit, SubmitAndWait, CqeSeen}
+use Rattle.rc_lang.specs.declared.lines.Op.TheVariants.{Store, Fill, GetSqe, PrepRead, PrepWrite, PrepFsync, PrepNop, PrepOther, SetData64, Submit, SubmitAndWait, CqeSeen}
 use Rattle.rc_lang.specs.declared.lines.Stmt.{Stmt}
 use Rattle.rc_lang.specs.declared.lines.Stmt.TheVariants.{Do}
 use Rattle.rc_lang.specs.declared.request.Kind.TheVariants.{Fsync, Read, Write}
@@ -11,7 +11,7 @@ use Rattle.rc_world.specs.declared.event.Completion.{Completion}
 use Rattle.rc_world.specs.declared.world.Slot.{Slot}
 use Rattle.rc_world.specs.declared.world.Slot.TheVariants.{Closed, Vacant, Prepared}
 use Rattle.rc_world.specs.Controls.{Standing, low_byte, variable}
-use Rattle.rc_world.specs.Machine.{World, bytes_of, count_in, fills, fits_buffer, hands_over, in_rings, is_take, new_request, opens_entry, prepared_nop, prepares, queues, reaps_front, stores, submits_by, with_bytes, without_data}
+use Rattle.rc_world.specs.Machine.{World, bytes_of, count_in, fills, fits_buffer, hands_over, in_rings, is_take, new_request, opens_entry, prepared_nop, prepared_other, prepares, queues, reaps_front, stores, submits_by, with_bytes, without_data}
 
 -- It holds of the world after a step, where that can be made.
 abbrev pub OnSome : (World → Type 0) → Option World → Type 0
@@ -28,6 +28,7 @@ prepared_by (Do (PrepRead fd b len off)) = Some (new_request Read (pos fd) b len
 prepared_by (Do (PrepWrite fd b len off k)) = Some (new_request Write (pos fd) b len off)
 prepared_by (Do (PrepFsync fd datasync)) = Some (new_request Fsync (pos fd) 0 0 0)
 prepared_by (Do PrepNop) = Some prepared_nop
+prepared_by (Do PrepOther) = Some prepared_other
 prepared_by _ = None
 
 -- It holds of the world itself, and after each change that the statement may make in it.
@@ -86,6 +87,7 @@ in_rings_by F w t r (Do (PrepRead fd b len off)) h = on_prepared F w _ w.slot (h
 in_rings_by F w t r (Do (PrepWrite fd b len off k)) h = on_prepared F w _ w.slot (h.prepares _ refl)
 in_rings_by F w t r (Do (PrepFsync fd datasync)) h = on_prepared F w _ w.slot (h.prepares _ refl)
 in_rings_by F w t r (Do PrepNop) h = on_prepared F w _ w.slot (h.prepares _ refl)
+in_rings_by F w t r (Do PrepOther) h = on_prepared F w _ w.slot (h.prepares _ refl)
 in_rings_by F w t r (Do (SetData64 u)) h = on_queued F w u w.slot (λ q e. h.queues u q refl e)
 in_rings_by F w t r (Do (Submit x)) h = on_submitted F w r (λ y. h.submits (count_in r))
 in_rings_by F w t r (Do (SubmitAndWait x n)) h = on_submitted F w r (λ y. h.submits (count_in r))

@@ -4,7 +4,7 @@ use Rattle.rc_lang.specs.declared.lines.Locks.{Locks}
 use Rattle.rc_lang.specs.declared.lines.Op.{Op}
 use Rattle.rc_lang.specs.declared.lines.Stmt.TheVariants.{Do, Put, If, Peek, EndLoop, Break}
 use Rattle.rc_lang.specs.declared.lines.Test.{Test}
-use Rattle.rc_lang.specs.declared.lines.Test.TheVariants.{Compare, ReadyZero, SpaceAtLeast, Take}
+use Rattle.rc_lang.specs.declared.lines.Test.TheVariants.{Compare, ReadyZero, SpaceAtLeast, Take, Any}
 use Rattle.rc_lang.specs.Nesting.{Way}
 use Rattle.rc_lang.specs.Program.{Program, end_at, lines_of, lists_of}
 use Rattle.rc_lang.proofs.Lookups.{nested_here}
@@ -40,6 +40,7 @@ module _ (P : Program) (c : Controls) (i j : ℕ) where
   test_small (Compare x comparison n) s = let r = resolved_in P s.made i j _ s.line in let le : r.0 ≤ 64 = r.2 in let lt : x < r.0 = r.3 in omega arith
   test_small ReadyZero s = tt
   test_small (SpaceAtLeast n) s = tt
+  test_small Any s = tt
   test_small (Take pool k) s = listed_in P s.made i j (If (Take pool k)) s.line
 
   -- the items of a put are those of a made program

@@ -4,10 +4,10 @@ use Rattle.std.proofs.lemmas.Bool.{eqb-true, leb-true, and_parts}
 use Rattle.std.proofs.lemmas.List.Quantifiers.{position-Some}
 use Rattle.std.proofs.lemmas.Option.{get_or_from_slice_get}
 use Rattle.rc_lang.specs.declared.request.Kind.{Kind}
-use Rattle.rc_lang.specs.declared.request.Kind.TheVariants.{Nop, Fsync, Read, Write}
+use Rattle.rc_lang.specs.declared.request.Kind.TheVariants.{Read}
 use Rattle.rc_lang.specs.declared.request.Request.{Request}
 use Rattle.rc_lang.specs.Program.{bytes_at}
-use Rattle.rc_lang.specs.Requests.{may_complete, most_moved}
+use Rattle.rc_lang.specs.Requests.{largest, may_complete}
 use Rattle.rc_world.specs.declared.event.Completion.{Completion}
 use Rattle.rc_world.specs.declared.event.Event.{Event}
 use Rattle.rc_world.specs.declared.event.Event.TheVariants.{ByKernel}
@@ -24,16 +24,14 @@ pub if_some : {A : Type 0} (b : Bool) (x : Option A) → IsSome (if b then x els
 if_some true x h = (refl, h)
 if_some false x h = absurd (cc)
 
--- a result counts no more bytes than the request moves
-pub count_within : (k : Kind) (len : ℕ) (r : Request) → r.kind ≡ k → r.len ≡ len → (res : ℤ) → may_complete r res ≡ true → count_in res ≤ len
-count_within k len r a b (pos n) e = go k (sym (ap (λ x. nat_le n (most_moved r.len x)) a ∙ ap (λ x. nat_le n (most_moved x k)) b) ∙ e)
+-- the result of a read counts no more bytes than it asks for
+pub count_within : (r : Request) → is_read r.kind ≡ true → (res : ℤ) → may_complete r res ≡ true → count_in res ≤ r.len
+count_within r read (pos n) e = go r.kind read e
   where
-    go : (k : Kind) → nat_le n (most_moved len k) ≡ true → n ≤ len
-    go Nop h = let z : n ≤ 0 = leb-true n 0 h in omega arith
-    go Fsync h = let z : n ≤ 0 = leb-true n 0 h in omega arith
-    go Read h = leb-true n len h
-    go Write h = leb-true n len h
-count_within k len r a b (negsuc n) e = omega arith
+    go : (k : Kind) → is_read k ≡ true → nat_le n (largest r.len k) ≡ true → n ≤ r.len
+    go Read q h = leb-true n r.len h
+    go _ q h = absurd (cc)
+count_within r read (negsuc n) e = omega arith
 
 -- what is cut in two is put together
 whole : (l : ℕ) (xs : List ℕ) → take l xs ++ drop l xs ≡ xs
@@ -69,15 +67,15 @@ module _ (w : World) (k : IsKept w) (u n : ℕ) (res : ℤ) (fill : ℕ) (p : Pe
   held : IsKeptPending w.program w.pending p
   held = k.memory.pending n p here
 
-  pub counted : count_in res ≤ p.request.len
-  counted = count_within p.request.kind p.request.len p.request refl refl res may
+  pub counted : (stood : List ℕ) → p.bytes ≡ Some stood → count_in res ≤ p.request.len
+  counted stood e = count_within p.request (held.of_read stood e) res may
 
   -- the bytes that are with a read are enough, and its buffer is there
   pub enough : (stood : List ℕ) → p.bytes ≡ Some stood → count_in res ≤ length stood
   enough stood e =
       let s : length stood ≡ bytes_at w.program.buffers p.request.buffer = held.sized stood e in
       let le : p.request.len ≤ bytes_at w.program.buffers p.request.buffer = leb-true p.request.len _ held.fitting.room in
-      let c : count_in res ≤ p.request.len = counted in
+      let c : count_in res ≤ p.request.len = counted stood e in
       omega arith
 
   pub there : (stood : List ℕ) → p.bytes ≡ Some stood → p.request.buffer < length w.buffers
@@ -108,7 +106,7 @@ module _ (w : World) (k : IsKept w) (u n : ℕ) (res : ℤ) (fill : ℕ) (p : Pe
   gives (Some stood) e =
       ap (given_back w p.request (item_bytes res fill (Some p))) e
       ∙ ap (λ xs. Some (slice_set w.buffers p.request.buffer (Some (xs ++ drop p.request.len stood)))) (bytes_are stood e)
-      ∙ ap (λ xs. Some (slice_set w.buffers p.request.buffer (Some xs))) (refilled_is (count_in res) fill p.request.len stood counted)
+      ∙ ap (λ xs. Some (slice_set w.buffers p.request.buffer (Some xs))) (refilled_is (count_in res) fill p.request.len stood (counted stood e))
       ∙ ap (λ o. Some (given_in w.buffers p.request.buffer (option_map (refilled (count_in res) fill) o))) (sym e)
 
   pub completed_as : kernel_item w res fill (pending_place w u) ≡ Some (ByKernel (completion_of p.request res), completes w n res p.request (given_in w.buffers p.request.buffer (option_map (refilled (count_in res) fill) p.bytes)))

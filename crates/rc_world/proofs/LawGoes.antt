@@ -1,14 +1,15 @@
 -- In a world of a run without a fault each thread with something left has a step, and each pending request can complete.
 use Rattle.std.proofs.Common.{◌≡◌, ℕ, ◌+◌, ◌<◌, ◌≤◌, Bool, true, false, ◌&&◌, not, if◌then◌else◌, List, [], ◌∷◌, ◌++◌, length, nat_eq, nat_le, nat_lt, Option, Some, None, refl, sym, ap, ◌∙◌, subst, slice_get, slice_index, slice_index_or, slice_set, replicate, inl, inr, ℤ, pos, arith, eq-eqb, leb-false, lt-ltb}
+use Rattle.std.specs.Ordering.{int_eq}
 use Rattle.std.proofs.lemmas.Bool.{le-leb, and_parts, and_from, false_from_ne_true, or_cases, or_left, or_parts, or_right, not-false, true≢false}
 use Rattle.rc_lang.specs.declared.lines.Line.{Line}
 use Rattle.rc_lang.specs.declared.lines.Locks.{Locks}
 use Rattle.rc_lang.specs.declared.lines.Op.{Op}
-use Rattle.rc_lang.specs.declared.lines.Op.TheVariants.{Load, Store, Fill, GetSqe, PrepRead, PrepWrite, PrepFsync, PrepNop, SetData64, Submit, SubmitAndWait, CqeSeen}
+use Rattle.rc_lang.specs.declared.lines.Op.TheVariants.{Load, Store, Fill, GetSqe, PrepRead, PrepWrite, PrepFsync, PrepNop, PrepOther, SetData64, Submit, SubmitAndWait, CqeSeen}
 use Rattle.rc_lang.specs.declared.lines.Stmt.{Stmt}
 use Rattle.rc_lang.specs.declared.lines.Stmt.TheVariants.{Do, Put, Lock, EndLock, If, Peek, Loop, EndLoop, Break}
 use Rattle.rc_lang.specs.declared.lines.Test.{Test}
-use Rattle.rc_lang.specs.declared.lines.Test.TheVariants.{Compare, ReadyZero, SpaceAtLeast, Take}
+use Rattle.rc_lang.specs.declared.lines.Test.TheVariants.{Compare, ReadyZero, SpaceAtLeast, Take, Any}
 use Rattle.rc_lang.specs.declared.request.Kind.TheVariants.{Fsync, Read, Write}
 use Rattle.rc_lang.specs.declared.request.Request.{Request}
 use Rattle.rc_lang.specs.Program.{IsResolvedOp, Items, Program, bytes_at, items_at, line_at, lines_of, lists_of, stmt_of}
@@ -24,13 +25,12 @@ use Rattle.rc_world.specs.declared.fault.FaultKind.{FaultKind}
 use Rattle.rc_world.specs.declared.fault.FaultKind.TheVariants.{WriteOfPending, ReadOfFilling, RingFull, UnknownReap, NoLock, RawEntry, OutOfBuffer, DoublePut}
 use Rattle.rc_world.specs.declared.world.Slot.{Slot}
 use Rattle.rc_world.specs.declared.world.Slot.TheVariants.{Closed, Vacant, Prepared}
-use Rattle.rc_world.specs.Controls.{Move, Standing, acts, are_free, as_event, goes_on, loads, low_byte, made, moved, number_of_event, peeks, reaps, takes_locks, variable}
+use Rattle.rc_world.specs.Controls.{Move, Standing, acts, are_free, as_event, branches, goes_on, loads, low_byte, made, moved, number_of_event, peeks, reaps, takes_locks, variable}
 use Rattle.rc_world.specs.Faults.{clashes, fault_of, front_is_one, has_buffer, has_cq, has_fault, has_sq, is_closed, is_cq_call, is_filling, is_named, is_prepared, is_sq_call, is_vacant, may_put, names, reads_into}
-use Rattle.rc_world.specs.Items.{is_submit}
 use Rattle.rc_world.specs.Harm.{IsHarmless}
 use Rattle.rc_world.specs.Laws.{CompletesFreely, GoesOn, NoHiddenHarm, IsAtEnd}
 use Rattle.rc_world.specs.Kept.{IsKept, IsMemory}
-use Rattle.rc_world.specs.Machine.{Pending, World, byte_of, bytes_brought, completes, completion_of, count_in, fills, fits_buffer, front_of, given_back, hands_over, in_rings, is_read, is_take, kernel_event, kernel_step_of, new_request, opens_entry, prepared_nop, prepares, queues, reaps_front, slot_len, start_world, stmt_answer, stores, thread_step, with_bytes, with_controls}
+use Rattle.rc_world.specs.Machine.{Pending, World, byte_of, bytes_brought, completes, completion_of, count_in, fills, fits_buffer, front_of, given_back, hands_over, in_rings, is_read, is_take, kernel_event, kernel_step_of, may_be_given, new_request, opens_entry, prepared_nop, prepared_other, prepares, queues, reaps_front, slot_len, start_world, stmt_answer, stores, thread_step, with_bytes, with_controls}
 use Rattle.rc_world.proofs.Laid.{resolved_in}
 use Rattle.rc_world.proofs.LawFaultless.{calm_in, harmless_in}
 use Rattle.rc_world.proofs.LawLists.{get_at, get_past}
@@ -142,7 +142,7 @@ module _ (w : World) (i : ℕ) (t : Standing) (r : ℤ) where
         let n : length s.bytes ≡ bytes_at w.program.buffers b = s.many in
         lt-ltb k (length s.bytes) (omega arith)
 
-    can_do : (n : ℕ) (op : Op) → IsResolvedOp w.program n op → HasNoFault w i (Do op) → (is_submit (Do op) ≡ true → is_take w r ≡ true) → CanDo w i t r (Do op)
+    can_do : (n : ℕ) (op : Op) → IsResolvedOp w.program n op → HasNoFault w i (Do op) → may_be_given w r (Do op) ≡ true → CanDo w i t r (Do op)
     can_do n (Load x b k) a f u =
         let s = stands b a.1 (f ReadOfFilling) in
         record {
@@ -170,21 +170,25 @@ module _ (w : World) (i : ℕ) (t : Standing) (r : ℤ) where
     can_do n (PrepWrite fd b len off k) a f u = can_prepare (PrepWrite fd b len off k) (new_request Write (pos fd) b len off) _ refl f (f RawEntry) (not-false (nat_le len (bytes_at w.program.buffers b)) (f OutOfBuffer)) refl refl
     can_do n (PrepFsync fd datasync) a f u = can_prepare (PrepFsync fd datasync) (new_request Fsync (pos fd) 0 0 0) _ refl f (f RawEntry) (le-leb 0 (bytes_at w.program.buffers 0) (omega arith)) refl refl
     can_do n PrepNop a f u = can_prepare PrepNop prepared_nop _ refl f (f RawEntry) (le-leb 0 (bytes_at w.program.buffers 0) (omega arith)) refl refl
+    can_do n PrepOther a f u = can_prepare PrepOther prepared_other _ refl f (f RawEntry) (le-leb 0 (bytes_at w.program.buffers 0) (omega arith)) refl refl
     can_do n (SetData64 d) a f u =
         let v = queues_prepared w d w.slot (and_false (has_sq w i) _ (f RawEntry) (holds_sq (Do (SetData64 d)) refl f)) in
         record { rings = v.0; move = _; in_the_rings = v.1; acted = refl }
-    can_do n (Submit x) a f u = record { rings = hands_over w (count_in r); move = _; in_the_rings = can_submit r (u refl); acted = refl }
-    can_do n (SubmitAndWait x k) a f u = record { rings = hands_over w (count_in r); move = _; in_the_rings = can_submit r (u refl); acted = refl }
+    can_do n (Submit x) a f u = record { rings = hands_over w (count_in r); move = _; in_the_rings = can_submit r u; acted = refl }
+    can_do n (SubmitAndWait x k) a f u = record { rings = hands_over w (count_in r); move = _; in_the_rings = can_submit r u; acted = refl }
     can_do n CqeSeen a f u =
         let c = has_front w w.controls.peeked w.completions (and_false (has_cq w i) _ (f UnknownReap) (holds_cq (Do CqeSeen) refl f)) in
         record { rings = _; move = _; in_the_rings = ap (reaps_front w) c.2; acted = ap (λ cs. reaps w.controls t (front_of cs)) c.2 }
     can_do n _ a f u = record { rings = w; move = _; in_the_rings = refl; acted = refl }
 
-  can_decide : (test : Test) → CanDo w i t r (If test)
-  can_decide (Compare x comparison n) = record { rings = w; move = _; in_the_rings = refl; acted = refl }
-  can_decide ReadyZero = record { rings = w; move = _; in_the_rings = refl; acted = refl }
-  can_decide (SpaceAtLeast n) = record { rings = w; move = _; in_the_rings = refl; acted = refl }
-  can_decide (Take pool k) = record { rings = w; move = _; in_the_rings = refl; acted = refl }
+  can_decide : (test : Test) → may_be_given w r (If test) ≡ true → CanDo w i t r (If test)
+  can_decide (Compare x comparison n) u = record { rings = w; move = _; in_the_rings = refl; acted = refl }
+  can_decide ReadyZero u = record { rings = w; move = _; in_the_rings = refl; acted = refl }
+  can_decide (SpaceAtLeast n) u = record { rings = w; move = _; in_the_rings = refl; acted = refl }
+  can_decide (Take pool k) u = record { rings = w; move = _; in_the_rings = refl; acted = refl }
+  can_decide Any u =
+      let chosen : Move = branches w.program w.controls i t (int_eq r (pos 1)) in
+      record { rings = w; move = chosen; in_the_rings = refl; acted = ap (λ b. if b then Some chosen else None) u }
 
   -- the locks that a put asks for
   put_held : (pool : Option ℕ) (k : ℕ) → HasNoFault w i (Put pool k) → may_put w i pool ≡ true
@@ -227,13 +231,13 @@ module _ (w : World) (kept : IsKept w) (i : ℕ) (harmless : IsHarmless w i) (t 
   no_fault : (l : Line) → StandsAt w i t l → HasNoFault w i l.stmt
   no_fault l s kind = harmless kind l (next_of_standing w i t l s)
 
-  ready : (l : Line) → StandsAt w i t l → (s : Stmt) → l.stmt ≡ s → ((r : ℤ) → is_take w r ≡ true → CanDo w i t r s) → GoesOn w i
-  ready l a s e d = inr (inr (λ r u. steps w i t r l a (subst (λ x. CanDo w i t r x) (sym e) (d r u))))
+  ready : (l : Line) → StandsAt w i t l → (s : Stmt) → l.stmt ≡ s → ((r : ℤ) → may_be_given w r s ≡ true → CanDo w i t r s) → GoesOn w i
+  ready l a s e d = inr (inr (l, next_of_standing w i t l a, λ r u. steps w i t r l a (subst (λ x. CanDo w i t r x) (sym e) (d r (subst (λ x. may_be_given w r x ≡ true) e u)))))
 
   op_goes : (l : Line) → StandsAt w i t l → (op : Op) → l.stmt ≡ Do op → GoesOn w i
   op_goes l a op e =
       let h = resolved_in w.program kept.made i t.place (Do op) (ap stmt_of a.line ∙ ap Some e) in
-      ready l a (Do op) e (λ r u. can_do w i t r kept.memory h.0 op h.3 (subst (λ x. HasNoFault w i x) e (no_fault l a)) (λ x. u))
+      ready l a (Do op) e (λ r u. can_do w i t r kept.memory h.0 op h.3 (subst (λ x. HasNoFault w i x) e (no_fault l a)) u)
 
   lock_goes : (l : Line) → StandsAt w i t l → (wanted : Locks) → l.stmt ≡ Lock wanted → (free : Bool) → are_free wanted w.controls.holders ≡ free → GoesOn w i
   lock_goes l a wanted e true h = ready l a (Lock wanted) e (λ r u. can_lock w i t r wanted h)
@@ -245,7 +249,7 @@ module _ (w : World) (kept : IsKept w) (i : ℕ) (harmless : IsHarmless w i) (t 
   line_goes l a (Put pool k) e h = ready l a (Put pool k) e (λ r u. can_put w i t r pool k (subst (λ x. HasNoFault w i x) e (no_fault l a)))
   line_goes l a (Lock wanted) e h = lock_goes l a wanted e (are_free wanted w.controls.holders) refl
   line_goes l a (EndLock o released) e h = ready l a (EndLock o released) e (λ r u. record { rings = w; move = _; in_the_rings = refl; acted = refl })
-  line_goes l a (If test) e h = ready l a (If test) e (λ r u. can_decide w i t r test)
+  line_goes l a (If test) e h = ready l a (If test) e (λ r u. can_decide w i t r test u)
   line_goes l a (Peek x) e h = ready l a (Peek x) e (λ r u. can_peek w i t r x)
   line_goes l a (Loop k) e h = ready l a (Loop k) e (λ r u. record { rings = w; move = _; in_the_rings = refl; acted = refl })
   line_goes l a (EndLoop o k) e h = ready l a (EndLoop o k) e (λ r u. record { rings = w; move = _; in_the_rings = refl; acted = refl })

@@ -1,5 +1,5 @@
--- A thread holds exactly the locks that are open at its place, and so no threads wait for each other.
-use Rattle.std.proofs.Common.{◌≡◌, ℕ, zero, suc, ◌+◌, ◌<◌, Bool, true, false, ◌&&◌, ◌||◌, not, if◌then◌else◌, List, [], ◌∷◌, ◌++◌, length, nat_eq, Option, Some, None, unwrap_or, refl, sym, ap, ◌∙◌, subst, slice_get, slice_set, ◌⊎◌, inl, inr, ℤ, pos, arith, eq-eqb}
+-- A thread holds exactly the locks that are open at its place.
+use Rattle.std.proofs.Common.{◌≡◌, ℕ, zero, suc, ◌+◌, ◌<◌, Bool, true, false, ◌&&◌, ◌||◌, not, if◌then◌else◌, List, ◌∷◌, ◌++◌, length, nat_eq, Option, Some, None, unwrap_or, refl, sym, ap, ◌∙◌, subst, slice_get, slice_set, ◌⊎◌, inl, inr, ℤ, pos, eq-eqb, []}
 use Rattle.std.specs.Prelude.{◌≢◌, ◌+ℤ◌, ◌-ℤ◌, int_le}
 use Rattle.std.specs.Ordering.{int_eq}
 use Rattle.std.proofs.Math.Bool.{or-false}
@@ -10,45 +10,42 @@ use Rattle.rc_lang.specs.Comparisons.{compares}
 use Rattle.rc_lang.specs.declared.lines.Block.TheVariants.{InIf, InElse, InPeek, InArm}
 use Rattle.rc_lang.specs.declared.lines.Locks.{Locks}
 use Rattle.rc_lang.specs.declared.lines.Op.{Op}
-use Rattle.rc_lang.specs.declared.lines.Op.TheVariants.{Set, Assign, Add, Subtract, Load, Store, Fill, Print, GetSqe, PrepRead, PrepWrite, PrepFsync, PrepNop, SetData64, Submit, SubmitAndWait, CqeSeen}
+use Rattle.rc_lang.specs.declared.lines.Op.TheVariants.{Set, Assign, Add, Subtract, Load, Store, Fill, Print, GetSqe, PrepRead, PrepWrite, PrepFsync, PrepNop, PrepOther, SetData64, Submit, SubmitAndWait, CqeSeen}
 use Rattle.rc_lang.specs.declared.lines.Stmt.{Stmt}
 use Rattle.rc_lang.specs.declared.lines.Stmt.TheVariants.{Do, Put, Lock, EndLock, If, Else, EndIf, Peek, Case, Other, Nothing, EndArm, Loop, EndLoop, Break}
 use Rattle.rc_lang.specs.declared.lines.Test.{Test}
-use Rattle.rc_lang.specs.declared.lines.Test.TheVariants.{Compare, ReadyZero, SpaceAtLeast, Take}
-use Rattle.rc_lang.specs.Locks.{no_lock, with_locks, without_locks}
-use Rattle.rc_lang.specs.Nesting.{blocks_at, breaks_order, locks_in}
-use Rattle.rc_lang.specs.Program.{HasArms, IsProgram, Items, Program, Thread, end_at, ends_in, items_at, lines_in, lines_of, lists_of, stmt_at, stmt_of}
+use Rattle.rc_lang.specs.declared.lines.Test.TheVariants.{Compare, ReadyZero, SpaceAtLeast, Take, Any}
+use Rattle.rc_lang.specs.Locks.{with_locks, without_locks}
+use Rattle.rc_lang.specs.Nesting.{blocks_at, locks_in}
+use Rattle.rc_lang.specs.Program.{HasArms, IsProgram, Items, Program, end_at, ends_in, items_at, lines_of, lists_of, stmt_at, stmt_of}
 use Rattle.rc_lang.proofs.Along.{locks_next, locks_pushed, same_locks}
 use Rattle.rc_lang.proofs.Closing.{closes_arm, closes_lock, leaves_loop, turns}
-use Rattle.rc_lang.proofs.Fitting.{no_cq_in_cq, none_in_sq}
 use Rattle.rc_lang.proofs.Jumps.{IsLaid, arm_leads, back_leads, break_leads, case_lands, else_leads, false_leads, nothing_lands, other_lands}
-use Rattle.rc_lang.proofs.Lookups.{locks_more, nested_here, same_sides, with_none}
+use Rattle.rc_lang.proofs.Lookups.{locks_more, same_sides, with_none}
 use Rattle.rc_lang.proofs.Rests.{laid_in}
 use Rattle.rc_lang.proofs.Spans.{nothing_between, other_between}
 use Rattle.rc_split.specs.Pools.{Pools, all_pooled, includes, overfills, pool_of, put_into, taken_from}
 use Rattle.rc_world.specs.declared.controls.Answer.{Answer}
 use Rattle.rc_world.specs.declared.controls.Answer.TheVariants.{Plain, Number, Byte, Front}
 use Rattle.rc_world.specs.declared.controls.Holders.{Holders}
-use Rattle.rc_world.specs.declared.event.Action.TheVariants.{VariableSet, Stored, Filled, Printed, EntryOpened, ReadPrepared, WritePrepared, FsyncPrepared, NopPrepared, DataSet, Looped, ItemsPut}
+use Rattle.rc_world.specs.declared.event.Action.TheVariants.{VariableSet, Stored, Filled, Printed, EntryOpened, ReadPrepared, WritePrepared, FsyncPrepared, NopPrepared, OtherPrepared, DataSet, Looped, ItemsPut}
 use Rattle.rc_world.specs.declared.event.Event.{Event}
-use Rattle.rc_world.specs.Controls.{Controls, Move, Standing, acts, are_free, arm_for, arms_of, assigns, branches, breaks, decides, does, first_place, goes_on, held_by, hop_of, is_case, is_free, is_none_arm, is_other, loads, low_byte, next_at, none_arm, operand_value, or_from, peeks, plainly, puts_items, reaps, releases_locks, rest_at, returns_to, sets_variable, settled, submits, takes_locks, tries_to_take, variable, wrapped}
+use Rattle.rc_world.specs.Controls.{Controls, Move, Standing, acts, are_free, arm_for, arms_of, assigns, branches, breaks, decides, does, first_place, goes_on, held_by, hop_of, is_case, is_choice, is_free, is_none_arm, is_other, loads, low_byte, none_arm, operand_value, or_from, peeks, plainly, puts_items, reaps, releases_locks, rest_at, returns_to, sets_variable, settled, submits, takes_locks, tries_to_take, variable, wrapped}
 use Rattle.rc_world.specs.Faults.{is_holder}
-use Rattle.rc_world.specs.Laws.{GoesOn, HasStep, HoldsLock, IsAtEnd, NoDeadlock, WaitsForLock}
 use Rattle.rc_world.specs.Machine.{World, start_world, stmt_answer}
 use Rattle.rc_world.specs.Runs.{IsRun, IsStep}
-use Rattle.rc_world.proofs.LawGoes.{threads_go}
-use Rattle.rc_world.proofs.LawLists.{get_at, get_in_range}
+use Rattle.rc_world.proofs.LawLists.{get_in_range}
 use Rattle.rc_world.proofs.LawPlaces.{arm_found, arms, op_place, place_passes, put_place}
-use Rattle.rc_world.proofs.LawRuns.{IsSound, after_step, run_sound, sound_at_start, start_of}
+use Rattle.rc_world.proofs.LawRuns.{IsSound, after_step, start_of}
 use Rattle.rc_world.proofs.LawSteps.{Completed, Stepped, completed, stepped}
 use Rattle.rc_world.proofs.Lists.{get_set}
 use Rattle.rc_world.proofs.RingSteps.{rings_same, small_stmt}
 
 -- the locks that are open at a place of a thread, and those that a thread holds
-abbrev locks_at : Program → ℕ → ℕ → Locks
+abbrev pub locks_at : Program → ℕ → ℕ → Locks
 locks_at P i j = locks_in (blocks_at (lines_of P i) j)
 
-abbrev held : Holders → ℕ → Locks
+abbrev pub held : Holders → ℕ → Locks
 held h i = record { sq = is_holder h.sq i; cq = is_holder h.cq i }
 
 -- ---- one lock that thread i takes if it is wanted, or releases
@@ -83,10 +80,6 @@ freed_other false o i k n h = refl
 freed_by_whom : (r : Bool) (o : Option ℕ) (j : ℕ) → (if r then None else o) ≡ Some j → o ≡ Some j
 freed_by_whom true o j e = absurd (cc)
 freed_by_whom false o j e = e
-
-free_none : (a : Bool) → is_free a None ≡ true
-free_none true = refl
-free_none false = refl
 
 -- ---- a step of thread i
 
@@ -245,6 +238,7 @@ module _ (P : Program) (is : IsProgram P) (i : ℕ) where
     op_keeps (PrepWrite fd b len off k) e = keeps_by _ (plain_move (goes_on c t WritePrepared) a e)
     op_keeps (PrepFsync fd datasync) e = keeps_by _ (plain_move (goes_on c t FsyncPrepared) a e)
     op_keeps PrepNop e = keeps_by _ (plain_move (goes_on c t NopPrepared) a e)
+    op_keeps PrepOther e = keeps_by _ (plain_move (goes_on c t OtherPrepared) a e)
     op_keeps (SetData64 u) e = keeps_by _ (plain_move (goes_on c t (DataSet u)) a e)
     op_keeps (Submit x) e = submit_keeps x a e
     op_keeps (SubmitAndWait x n) e = submit_keeps x a e
@@ -308,6 +302,10 @@ module _ (P : Program) (is : IsProgram P) (i : ℕ) where
         take_turns pools true e = by_move _ e yes
         take_turns pools false e = by_move _ e no
 
+        choice_turns : (may holds : Bool) → (if may then Some (branches P c i t holds) else None) ≡ Some m → Done
+        choice_turns true holds e = branch_turns holds (same_move _ e)
+        choice_turns false holds e = absurd (cc)
+
         decide_turns : (x : Test) (b : Answer) → decides P c i t x b ≡ Some m → Done
         decide_turns (Compare x comparison n) b e = branch_turns (compares comparison (variable t x) n) (plain_move (branches P c i t (compares comparison (variable t x) n)) b e)
         decide_turns ReadyZero (Number n) e = branch_turns (int_eq n (pos 0)) (same_move _ e)
@@ -317,6 +315,8 @@ module _ (P : Program) (is : IsProgram P) (i : ℕ) where
         decide_turns (Take pool k) b e =
             let items : Items = items_at (lists_of P i) k in
             take_turns (taken_from P pool items c.pools) (includes P (pool_of c.pools pool) items) (plain_move (tries_to_take P c i t pool items) b e)
+        decide_turns Any (Number n) e = choice_turns (is_choice n) (int_eq n (pos 1)) e
+        decide_turns Any _ e = absurd (cc)
 
       peek_turns : (x : ℕ) → stmt_at (lines_of P i) t.place ≡ Some (Peek x) → (b : Answer) → peeks P c i t x b ≡ Some m → Done
       peek_turns x h Plain e = by_move _ (same_move _ e) (stays P c.holders i (none_arm P i t.place + 1) (none_arm_locks t.place x h ∙ fits))
@@ -341,12 +341,12 @@ module _ (P : Program) (is : IsProgram P) (i : ℕ) where
 -- ---- runs
 
 -- Each thread holds the locks that are open at its place, and who holds a lock is a thread.
-record Fits (w : World) : Type 0 where
-  each : (i : ℕ) (t : Standing) → slice_get w.controls.threads i ≡ Some t → locks_at w.program i t.place ≡ held w.controls.holders i
-  sq : (j : ℕ) → w.controls.holders.sq ≡ Some j → j < length w.controls.threads
-  cq : (j : ℕ) → w.controls.holders.cq ≡ Some j → j < length w.controls.threads
+pub record Fits (w : World) : Type 0 where
+  pub each : (i : ℕ) (t : Standing) → slice_get w.controls.threads i ≡ Some t → locks_at w.program i t.place ≡ held w.controls.holders i
+  pub sq : (j : ℕ) → w.controls.holders.sq ≡ Some j → j < length w.controls.threads
+  pub cq : (j : ℕ) → w.controls.holders.cq ≡ Some j → j < length w.controls.threads
 
-fits_at_start : (program : Program) → Fits (start_world program)
+pub fits_at_start : (program : Program) → Fits (start_world program)
 fits_at_start program = record {
   each = λ i t e. ap (λ j. locks_at program i j) (start_of program.threads i t e);
   sq = λ j e. absurd (cc);
@@ -382,85 +382,6 @@ module _ (program : Program) (w : World) (h : IsSound program w) (f : Fits w) wh
     | inr q ↦ after_kernel q.0 q.1 q.2 after (completed w q.0 q.1 q.2 e after (slice_get w.pending q.0) refl q.3)
   ]
 
-run_fits : (program : Program) (events : List Event) (w after : World) → IsSound program w → Fits w → IsRun w events after → Fits after
+pub run_fits : (program : Program) (events : List Event) (w after : World) → IsSound program w → Fits w → IsRun w events after → Fits after
 run_fits program [] w after h f r = subst (λ y. Fits y) r f
 run_fits program (e ∷ events) w after h f r = run_fits program events r.0 after (after_step program w r.0 e h r.1) (fits_after program w h f r.0 e r.1) r.2
-
--- ---- who holds a lock goes on
-
--- at the end no block is open
-closed_at_end : (P : Program) → IsProgram P → (i : ℕ) → blocks_at (lines_of P i) (length (lines_of P i)) ≡ []
-closed_at_end P made i = go (slice_get P.threads i) refl
-  where
-    go : (o : Option Thread) → slice_get P.threads i ≡ o → blocks_at (lines_in o) (length (lines_in o)) ≡ []
-    go None e = refl
-    go (Some t) e = (made.each i t e).nested.closed
-
-module _ (w : World) (made : IsProgram w.program) (f : Fits w) (j : ℕ) (t : Standing) (e : slice_get w.controls.threads j ≡ Some t) where
-  open_here : locks_at w.program j t.place ≡ held w.controls.holders j
-  open_here = f.each j t e
-
-  has_own : (o : Option ℕ) → o ≡ Some j → is_holder o j ≡ true
-  has_own o q = ap (λ x. is_holder x j) q ∙ eq-eqb j j refl
-
-  at_end : IsAtEnd w j → held w.controls.holders j ≡ no_lock
-  at_end z = sym (f.each j z.0 z.1) ∙ ap (λ k. locks_at w.program j k) z.2 ∙ ap locks_in (closed_at_end w.program made j)
-
-  order : (z : WaitsForLock w j) → breaks_order (blocks_at (lines_of w.program j) t.place) z.1 ≡ false
-  order z =
-      let here : stmt_at (lines_of w.program j) t.place ≡ Some (Lock z.1) = ap stmt_of (sym (ap (next_at w.program j) e) ∙ z.2) ∙ ap Some z.3 in
-      (nested_here (lines_of w.program j) (laid_in w.program made j).each t.place (Lock z.1) here).0
-
-  -- who has the submission side wants no lock
-  sq_goes : w.controls.holders.sq ≡ Some j → GoesOn w j → HasStep w j
-  sq_goes q (inl z) = let a : true ≡ false = sym (has_own w.controls.holders.sq q) ∙ ap (λ (l : Locks). l.sq) (at_end z) in absurd (cc)
-  sq_goes q (inr (inl z)) =
-      let taken : (locks_at w.program j t.place).sq ≡ true = ap (λ (l : Locks). l.sq) open_here ∙ has_own w.controls.holders.sq q in
-      let none : z.1 ≡ no_lock = none_in_sq (blocks_at (lines_of w.program j) t.place) z.1 (order z) taken in
-      let free : are_free z.1 w.controls.holders ≡ true = ap (λ (l : Locks). are_free l w.controls.holders) none in
-      absurd (cc (free, z.4))
-  sq_goes q (inr (inr step)) = step
-
-  -- and who has the completion side at most that of the submission side, which is free
-  cq_goes : w.controls.holders.sq ≡ None → w.controls.holders.cq ≡ Some j → GoesOn w j → HasStep w j
-  cq_goes s q (inl z) = let a : true ≡ false = sym (has_own w.controls.holders.cq q) ∙ ap (λ (l : Locks). l.cq) (at_end z) in absurd (cc)
-  cq_goes s q (inr (inl z)) =
-      let taken : (locks_at w.program j t.place).cq ≡ true = ap (λ (l : Locks). l.cq) open_here ∙ has_own w.controls.holders.cq q in
-      let none : z.1.cq ≡ false = no_cq_in_cq (blocks_at (lines_of w.program j) t.place) z.1 (order z) taken in
-      let free : are_free z.1 w.controls.holders ≡ true =
-      ap (λ b. is_free z.1.sq w.controls.holders.sq && is_free b w.controls.holders.cq) none
-      ∙ ap (λ o. is_free z.1.sq o && true) s
-      ∙ ap (λ b. b && true) (free_none z.1.sq) in
-      absurd (cc (free, z.4))
-  cq_goes s q (inr (inr step)) = step
-
-pub none_deadlocked : NoDeadlock
-none_deadlocked program events w i made run safe z = go w.controls.holders.sq refl w.controls.holders.cq refl
-  where
-    sound : IsSound program w
-    sound = run_sound program events (start_world program) w (sound_at_start program made) run
-
-    fits : Fits w
-    fits = run_fits program events (start_world program) w (sound_at_start program made) (fits_at_start program) run
-
-    goes : (j : ℕ) → j < length w.controls.threads → GoesOn w j
-    goes j lt =
-        let many : length w.controls.threads ≡ length program.threads = sound.rest.as_many ∙ ap (λ (p : Program). length p.threads) sound.same in
-        threads_go program w safe sound j (omega arith)
-
-    go : (s : Option ℕ) → w.controls.holders.sq ≡ s → (c : Option ℕ) → w.controls.holders.cq ≡ c → (j : ℕ) × HoldsLock w j × HasStep w j
-    go (Some j) a c b =
-        let lt : j < length w.controls.threads = fits.sq j a in
-        let t = get_at w.controls.threads j lt in
-        (j, inl a, sq_goes w sound.kept.made fits j t.0 t.1 a (goes j lt))
-    go None a (Some j) b =
-        let lt : j < length w.controls.threads = fits.cq j b in
-        let t = get_at w.controls.threads j lt in
-        (j, inr b, cq_goes w sound.kept.made fits j t.0 t.1 a b (goes j lt))
-    go None a None b =
-        let free : are_free z.1 w.controls.holders ≡ true =
-        ap (λ o. is_free z.1.sq o && is_free z.1.cq w.controls.holders.cq) a
-        ∙ ap (λ x. x && is_free z.1.cq w.controls.holders.cq) (free_none z.1.sq)
-        ∙ ap (is_free z.1.cq) b
-        ∙ free_none z.1.cq in
-        absurd (cc (free, z.4))

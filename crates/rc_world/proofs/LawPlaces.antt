@@ -10,11 +10,11 @@ use Rattle.rc_lang.specs.Comparisons.{compares}
 use Rattle.rc_lang.specs.declared.lines.Line.{Line}
 use Rattle.rc_lang.specs.declared.lines.Locks.{Locks}
 use Rattle.rc_lang.specs.declared.lines.Op.{Op}
-use Rattle.rc_lang.specs.declared.lines.Op.TheVariants.{Set, Assign, Add, Subtract, Load, Store, Fill, Print, GetSqe, PrepRead, PrepWrite, PrepFsync, PrepNop, SetData64, Submit, SubmitAndWait, CqeSeen}
+use Rattle.rc_lang.specs.declared.lines.Op.TheVariants.{Set, Assign, Add, Subtract, Load, Store, Fill, Print, GetSqe, PrepRead, PrepWrite, PrepFsync, PrepNop, PrepOther, SetData64, Submit, SubmitAndWait, CqeSeen}
 use Rattle.rc_lang.specs.declared.lines.Stmt.{Stmt}
 use Rattle.rc_lang.specs.declared.lines.Stmt.TheVariants.{Do, Put, Lock, EndLock, If, Else, EndIf, Peek, Case, Other, Nothing, EndArm, Loop, EndLoop, Break}
 use Rattle.rc_lang.specs.declared.lines.Test.{Test}
-use Rattle.rc_lang.specs.declared.lines.Test.TheVariants.{Compare, ReadyZero, SpaceAtLeast, Take}
+use Rattle.rc_lang.specs.declared.lines.Test.TheVariants.{Compare, ReadyZero, SpaceAtLeast, Take, Any}
 use Rattle.rc_lang.specs.Program.{HasArms, IsProgram, Items, Program, end_at, ends_in, items_at, lines_of, lists_of, stmt_at, stmt_of}
 use Rattle.rc_lang.proofs.Jumps.{IsLaid, IsOpen, back_open, break_open, false_open, leads_open, open_behind}
 use Rattle.rc_lang.proofs.Lookups.{line_with}
@@ -23,8 +23,8 @@ use Rattle.rc_lang.proofs.Spans.{nothing_between, other_between}
 use Rattle.rc_split.specs.Pools.{Pools, all_pooled, includes, overfills, pool_of, put_into, taken_from}
 use Rattle.rc_world.specs.declared.controls.Answer.{Answer}
 use Rattle.rc_world.specs.declared.controls.Answer.TheVariants.{Plain, Number, Byte, Front}
-use Rattle.rc_world.specs.declared.event.Action.TheVariants.{VariableSet, Stored, Filled, Printed, EntryOpened, ReadPrepared, WritePrepared, FsyncPrepared, NopPrepared, DataSet, Looped, ItemsPut}
-use Rattle.rc_world.specs.Controls.{Controls, Move, Standing, acts, are_free, arm_for, arms_of, assigns, branches, breaks, decides, does, first_place, goes_on, hop_of, is_case, is_none_arm, is_other, loads, locks, low_byte, none_arm, operand_value, or_from, peeks, plainly, puts_items, reaps, releases_locks, rest_at, returns_to, sets_variable, settled, submits, takes_locks, tries_to_take, variable, wrapped}
+use Rattle.rc_world.specs.declared.event.Action.TheVariants.{VariableSet, Stored, Filled, Printed, EntryOpened, ReadPrepared, WritePrepared, FsyncPrepared, NopPrepared, OtherPrepared, DataSet, Looped, ItemsPut}
+use Rattle.rc_world.specs.Controls.{Controls, Move, Standing, acts, are_free, arm_for, arms_of, assigns, branches, breaks, decides, does, first_place, goes_on, hop_of, is_case, is_choice, is_none_arm, is_other, loads, locks, low_byte, none_arm, operand_value, or_from, peeks, plainly, puts_items, reaps, releases_locks, rest_at, returns_to, sets_variable, settled, submits, takes_locks, tries_to_take, variable, wrapped}
 use Rattle.rc_world.proofs.Laid.{laid}
 use Rattle.rc_world.proofs.LawLists.{get_in_range, range_has}
 
@@ -169,6 +169,7 @@ module _ (program : Program) (is : IsProgram program) (i : ℕ) where
     op_place (PrepWrite fd b len off k) e = plain_place (goes_on c t WritePrepared) a e
     op_place (PrepFsync fd datasync) e = plain_place (goes_on c t FsyncPrepared) a e
     op_place PrepNop e = plain_place (goes_on c t NopPrepared) a e
+    op_place PrepOther e = plain_place (goes_on c t OtherPrepared) a e
     op_place (SetData64 u) e = plain_place (goes_on c t (DataSet u)) a e
     op_place (Submit x) e = submit_place x a e
     op_place (SubmitAndWait x n) e = submit_place x a e
@@ -189,6 +190,10 @@ module _ (program : Program) (is : IsProgram program) (i : ℕ) where
       take_open pool true e = branch_open true e
       take_open pool false e = branch_open false e
 
+      choice_open : (may holds : Bool) → (if may then Some (branches program c i t holds) else None) ≡ Some m → IsOpen (lines_of program i) m.place
+      choice_open true holds e = branch_open holds (same_place _ e)
+      choice_open false holds e = absurd (cc)
+
       decide_open : (x : Test) (b : Answer) → decides program c i t x b ≡ Some m → IsOpen (lines_of program i) m.place
       decide_open (Compare x comparison n) b e = branch_open (compares comparison (variable t x) n) (plain_place (branches program c i t (compares comparison (variable t x) n)) b e)
       decide_open ReadyZero (Number n) e = branch_open (int_eq n (pos 0)) (same_place _ e)
@@ -198,6 +203,8 @@ module _ (program : Program) (is : IsProgram program) (i : ℕ) where
       decide_open (Take pool k) b e =
           let items = items_at (lists_of program i) k in
           take_open (taken_from program pool items c.pools) (includes program (pool_of c.pools pool) items) (plain_place (tries_to_take program c i t pool items) b e)
+      decide_open Any (Number n) e = choice_open (is_choice n) (int_eq n (pos 1)) e
+      decide_open Any _ e = absurd (cc)
 
     peek_open : (x : ℕ) → stmt_at (lines_of program i) t.place ≡ Some (Peek x) → (b : Answer) → peeks program c i t x b ≡ Some m → IsOpen (lines_of program i) m.place
     peek_open x h Plain e = goes_to (none_arm program i t.place + 1) (same_place _ e) (open_none_arm t.place x h)

@@ -1,26 +1,28 @@
 -- An item that is enabled names a step, and the events of a trace are a run.
-use Rattle.std.proofs.Common.{◌≡◌, sym, ℕ, ◌+◌, ◌≤◌, Bool, true, false, if◌then◌else◌, List, [], ◌∷◌, drop, length, length-append, length-drop, replicate, take, Option, Some, None, refl, ap, ◌∙◌, slice_get, inl, inr, ℤ, arith}
+use Rattle.std.proofs.Common.{◌≡◌, sym, ℕ, ◌+◌, ◌≤◌, Bool, true, false, if◌then◌else◌, List, [], ◌∷◌, drop, length, length-append, length-drop, replicate, take, Option, Some, None, refl, ap, ◌∙◌, subst, slice_get, inl, inr, ℤ, arith}
 use Rattle.std.proofs.lemmas.Bool.{le-leb, leb-true, and_parts}
 use Rattle.std.proofs.lemmas.List.{length-replicate, length-take}
 use Rattle.std.proofs.lemmas.Option.{slice_get_past}
 use Rattle.rc_lang.specs.declared.lines.Line.{Line}
 use Rattle.rc_lang.specs.declared.lines.Stmt.{Stmt}
-use Rattle.rc_lang.specs.declared.lines.Stmt.TheVariants.{Else, EndIf, Case, Other, Nothing, EndArm, EndPeek}
+use Rattle.rc_lang.specs.declared.lines.Locks.{Locks}
+use Rattle.rc_lang.specs.declared.lines.Op.TheVariants.{Submit, SubmitAndWait}
+use Rattle.rc_lang.specs.declared.lines.Stmt.TheVariants.{Do, If, Lock, Else, EndIf, Case, Other, Nothing, EndArm, EndPeek}
+use Rattle.rc_lang.specs.declared.lines.Test.TheVariants.{Any}
 use Rattle.rc_lang.specs.Program.{bytes_at, line_at, lines_of}
 use Rattle.rc_lang.specs.Requests.{may_complete}
-use Rattle.rc_world.specs.declared.controls.Next.{Next}
-use Rattle.rc_world.specs.declared.controls.Next.TheVariants.{Ready, TakenLock, Ended}
+use Rattle.rc_world.specs.declared.controls.Next.TheVariants.{Ready, TakenLock}
 use Rattle.rc_world.specs.declared.event.Event.{Event}
 use Rattle.rc_world.specs.declared.event.Item.{Item}
 use Rattle.rc_world.specs.declared.event.Item.TheVariants.{Thread, Kernel}
 use Rattle.rc_world.specs.declared.fault.Fault.{Fault}
-use Rattle.rc_world.specs.Controls.{Standing, next_at, next_line}
+use Rattle.rc_world.specs.Controls.{Standing, are_free, next_at, next_line}
 use Rattle.rc_world.specs.Faults.{clashes, fault_of}
 use Rattle.rc_world.specs.Harm.{IsHarmless}
-use Rattle.rc_world.specs.Items.{filled, is_enabled, is_ready, is_submit, item_bytes, item_step, kernel_item, kernel_may, next_by, next_of, pending_at, pending_place, ready_or_taken, take_of}
+use Rattle.rc_world.specs.Items.{filled, given, given_at, is_enabled, is_given, is_ready, item_bytes, item_step, kernel_item, kernel_may, next_by, next_of, pending_at, pending_place, ready_or_taken, takes, usual}
 use Rattle.rc_world.specs.Kept.{IsKept}
 use Rattle.rc_world.specs.Laws.{EnabledItemsStep, GoesOn, TracesAreRuns}
-use Rattle.rc_world.specs.Machine.{Pending, World, bytes_brought, count_in, is_read, is_take, kernel_step, start_world, thread_step}
+use Rattle.rc_world.specs.Machine.{Pending, World, bytes_brought, count_in, is_read, kernel_step, may_be_given, start_world, thread_step}
 use Rattle.rc_world.specs.Runs.{IsRun, IsStep}
 use Rattle.rc_world.specs.Trace.{at_item, trace_from}
 use Rattle.rc_world.proofs.LawFaultless.{calm_in, harmless_in}
@@ -31,12 +33,34 @@ use Rattle.rc_world.proofs.LawRuns.{IsSound, run_sound, sound_at_start}
 
 -- ---- the items of threads
 
--- an answer that an enabled item gives is one that the submit may give
-take_allowed : (w : World) (take : Option ℤ) (n : Next) → is_ready w take n ≡ true → is_take w (take_of w take) ≡ true
-take_allowed w None (Ready l) e = le-leb (length w.queued) (length w.queued) (omega arith)
-take_allowed w (Some r) (Ready l) e = (and_parts (is_submit l.stmt) (is_take w r) e).1
-take_allowed w take (TakenLock wanted) e = absurd (cc)
-take_allowed w take Ended e = absurd (cc)
+-- a statement may be given what is usual, and the number that an enabled item brings
+pub usual_allowed : (w : World) (s : Stmt) → may_be_given w (usual w s) s ≡ true
+usual_allowed w (Do (Submit x)) = le-leb (length w.queued) (length w.queued) (omega arith)
+usual_allowed w (Do (SubmitAndWait x n)) = le-leb (length w.queued) (length w.queued) (omega arith)
+usual_allowed w (Do _) = refl
+usual_allowed w (If Any) = refl
+usual_allowed w (If _) = refl
+usual_allowed w _ = refl
+
+given_allowed : (w : World) (take : Option ℤ) (s : Stmt) → takes w take s ≡ true → may_be_given w (given w take s) s ≡ true
+given_allowed w None s e = usual_allowed w s
+given_allowed w (Some r) s e = (and_parts (is_given s) (may_be_given w r s) e).1
+
+-- what is enabled takes the number
+free_takes : (w : World) (take : Option ℤ) (l : Line) (wanted : Locks) (free : Bool) → is_ready w take (if free then Ready l else TakenLock wanted) ≡ true → takes w take l.stmt ≡ true
+free_takes w take l wanted true e = e
+free_takes w take l wanted false e = absurd (cc)
+
+ready_takes : (w : World) (take : Option ℤ) (l : Line) (s : Stmt) → is_ready w take (ready_or_taken w.controls.holders l s) ≡ true → takes w take l.stmt ≡ true
+ready_takes w take l (Else o) e = absurd (cc)
+ready_takes w take l (EndIf o) e = absurd (cc)
+ready_takes w take l (Case o u) e = absurd (cc)
+ready_takes w take l (Other o) e = absurd (cc)
+ready_takes w take l (Nothing o) e = absurd (cc)
+ready_takes w take l (EndArm o) e = absurd (cc)
+ready_takes w take l (EndPeek o) e = absurd (cc)
+ready_takes w take l (Lock wanted) e = free_takes w take l wanted (are_free wanted w.controls.holders) e
+ready_takes w take l _ e = e
 
 -- what is enabled is at an event
 ready_rests : (w : World) (take : Option ℤ) (l : Line) (s : Stmt) → is_ready w take (ready_or_taken w.controls.holders l s) ≡ true → may_rest (Some s) ≡ true
@@ -54,13 +78,19 @@ module _ (w : World) (kept : IsKept w) (i : ℕ) (harmless : IsHarmless w i) (ta
   not_ended : next_line w.program w.controls i ≡ None → ⊥
   not_ended e = let d : is_ready w take (next_of w.program w.controls i) ≡ false = ap (λ l. is_ready w take (next_by w.controls.holders l)) e in cc
 
-  goes : GoesOn w i → (s : Event × World) × (thread_step w i (take_of w take) ≡ Some s)
+  -- the step that the item names
+  abbrev Names : ℤ → Type 0
+  Names r = (s : Event × World) × (thread_step w i r ≡ Some s)
+
+  goes : GoesOn w i → Names (given_at w take (next_line w.program w.controls i))
   goes (inl z) = absurd (not_ended (ap (next_at w.program i) z.1 ∙ slice_get_past (lines_of w.program i) z.0.place (let q : z.0.place ≡ length (lines_of w.program i) = z.2 in omega arith)))
   goes (inr (inl z)) =
       let d : is_ready w take (next_of w.program w.controls i) ≡ false =
       ap (λ l. is_ready w take (next_by w.controls.holders l)) z.2 ∙ ap (λ s. is_ready w take (ready_or_taken w.controls.holders z.0 s)) z.3 ∙ ap (λ free. is_ready w take (if free then Ready z.0 else TakenLock z.1)) z.4 in
       absurd (cc)
-  goes (inr (inr step)) = step (take_of w take) (take_allowed w take (next_of w.program w.controls i) ready)
+  goes (inr (inr z)) =
+      let allowed = given_allowed w take z.0.stmt (ready_takes w take z.0 z.0.stmt (sym (ap (λ o. is_ready w take (next_by w.controls.holders o)) z.1) ∙ ready)) in
+      subst Names (sym (ap (given_at w take) z.1)) (z.2 (given w take z.0.stmt) allowed)
 
   at_line : (t : Standing) → slice_get w.controls.threads i ≡ Some t → (o : Option Line) → line_at w.program i t.place ≡ o → GoesOn w i
   at_line t c None e = absurd (not_ended (ap (next_at w.program i) c ∙ e))
@@ -72,7 +102,7 @@ module _ (w : World) (kept : IsKept w) (i : ℕ) (harmless : IsHarmless w i) (ta
   at_thread None e = absurd (not_ended (ap (next_at w.program i) e))
   at_thread (Some t) e = at_line t e (line_at w.program i t.place) refl
 
-  pub thread_steps : (s : Event × World) × (thread_step w i (take_of w take) ≡ Some s)
+  pub thread_steps : Names (given_at w take (next_line w.program w.controls i))
   thread_steps = goes (at_thread (slice_get w.controls.threads i) refl)
 
 -- ---- the items of the kernel
@@ -94,7 +124,7 @@ module _ (w : World) (calm : clashes w.pending ≡ false) (kept : IsKept w) (res
       stands read (Some stood) q =
           let all : length stood ≡ bytes_at w.program.buffers p.request.buffer = (kept.memory.pending k p e).sized stood q in
           let le : p.request.len ≤ bytes_at w.program.buffers p.request.buffer = room in
-          filled_length (count_in res) fill p.request.len stood (count_within p.request.kind p.request.len p.request refl refl res may) (omega arith)
+          filled_length (count_in res) fill p.request.len stood (count_within p.request read res may) (omega arith)
 
       go : (b : Bool) → is_read p.request.kind ≡ b → length (if b then filled (count_in res) fill p.request.len p.bytes else []) ≡ (if b then p.request.len else 0)
       go true r = stands r p.bytes refl
@@ -128,7 +158,7 @@ kernel_made w next e res fill None safe h = absurd (cc)
 kernel_made w next e res fill (Some k) safe h = record { no_fault = safe; step = inr (k, res, item_bytes res fill (slice_get w.pending k), h) }
 
 item_made : (w next : World) (e : Event) (item : Item) → fault_of w ≡ None → item_step w item ≡ Some (e, next) → IsStep w e next
-item_made w next e (Thread i take) safe h = record { no_fault = safe; step = inl (i, take_of w take, h) }
+item_made w next e (Thread i take) safe h = record { no_fault = safe; step = inl (i, given_at w take (next_line w.program w.controls i), h) }
 item_made w next e (Kernel u res fill) safe h = kernel_made w next e res fill (pending_place w u) safe h
 
 trace_runs : (w : World) (i : ℕ) (items : List Item) → IsRun w (trace_from w i items).events (trace_from w i items).world

@@ -26,6 +26,7 @@ pub mod LawGoes
 pub mod LawLeast
 pub mod LawLists
 mod LawLocks
+mod LawWaits
 pub mod LawPlaces
 pub mod LawRuns
 pub mod LawSteps

@@ -3,7 +3,7 @@ use Rattle.std.proofs.Common.{◌≡◌, ℕ, ℤ, ◌+◌, ◌<◌, ◌≤◌, 
 use Rattle.std.proofs.lemmas.List.{get_or-map, length-map}
 use Rattle.std.proofs.lemmas.Option.{same_Some}
 use Rattle.rc_lang.specs.declared.lines.Op.{Op}
-use Rattle.rc_lang.specs.declared.lines.Op.TheVariants.{Set, Assign, Add, Subtract, Load, Store, Fill, Print, PrepRead, PrepWrite, PrepFsync, PrepNop, Submit, SubmitAndWait}
+use Rattle.rc_lang.specs.declared.lines.Op.TheVariants.{Set, Assign, Add, Subtract, Load, Store, Fill, Print, PrepRead, PrepWrite, PrepFsync, PrepNop, PrepOther, Submit, SubmitAndWait}
 use Rattle.rc_lang.specs.declared.lines.Operand.{Operand}
 use Rattle.rc_lang.specs.declared.lines.Operand.TheVariants.{Variable, Number}
 use Rattle.rc_lang.specs.declared.lines.Stmt.{Stmt}
@@ -68,6 +68,7 @@ in_buffers program (Do (PrepRead fd b len off)) h r e k = subst (λ (q : Request
 in_buffers program (Do (PrepWrite fd b len off n)) h r e k = subst (λ (q : Request). q.buffer < length program.buffers) (same_Some _ r e) h.2
 in_buffers program (Do (PrepFsync fd datasync)) h r e k = let n : has_buffer r.kind ≡ false = ap (λ (q : Request). has_buffer q.kind) (sym (same_Some _ r e)) in absurd (cc)
 in_buffers program (Do PrepNop) h r e k = let n : has_buffer r.kind ≡ false = ap (λ (q : Request). has_buffer q.kind) (sym (same_Some _ r e)) in absurd (cc)
+in_buffers program (Do PrepOther) h r e k = let n : has_buffer r.kind ≡ false = ap (λ (q : Request). has_buffer q.kind) (sym (same_Some _ r e)) in absurd (cc)
 in_buffers program _ h r e k = absurd (cc)
 
 pub record IsSameBut (w after : World) : Type 0 where

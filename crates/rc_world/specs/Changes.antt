@@ -5,7 +5,7 @@ use Rattle.rc_lang.specs.declared.lines.Op.TheVariants.{Set, Assign, Add, Subtra
 use Rattle.rc_lang.specs.declared.lines.Stmt.{Stmt}
 use Rattle.rc_lang.specs.declared.lines.Stmt.TheVariants.{Do, If}
 use Rattle.rc_lang.specs.declared.lines.Test.{Test}
-use Rattle.rc_lang.specs.declared.lines.Test.TheVariants.{Compare, ReadyZero, SpaceAtLeast, Take}
+use Rattle.rc_lang.specs.declared.lines.Test.TheVariants.{Compare, ReadyZero, SpaceAtLeast, Take, Any}
 use Rattle.rc_lang.specs.Program.{IsOperand, IsProgram, Items, Program, items_at, lines_of, lists_of, stmt_at}
 use Rattle.rc_split.specs.Pools.{Pools, taken_from}
 use Rattle.rc_world.specs.declared.controls.Answer.{Answer}
@@ -85,6 +85,7 @@ TestIsSmall program i (Compare x comparison n) = x < 64
 TestIsSmall program i ReadyZero = Unit {0}
 TestIsSmall program i (SpaceAtLeast n) = Unit {0}
 TestIsSmall program i (Take pool k) = k < length (lists_of program i)
+TestIsSmall program i Any = Unit {0}
 
 -- The numbers of a statement are small enough: its variables are some of 64, and a prep names a file and a buffer that
 -- may be there.

@@ -6,20 +6,20 @@ use Rattle.rc_lang.specs.Comparisons.{compares}
 use Rattle.rc_lang.specs.declared.lines.Line.{Line}
 use Rattle.rc_lang.specs.declared.lines.Locks.{Locks}
 use Rattle.rc_lang.specs.declared.lines.Op.{Op}
-use Rattle.rc_lang.specs.declared.lines.Op.TheVariants.{Set, Assign, Add, Subtract, Load, Store, Fill, Print, GetSqe, PrepRead, PrepWrite, PrepFsync, PrepNop, SetData64, Submit, SubmitAndWait, CqeSeen}
+use Rattle.rc_lang.specs.declared.lines.Op.TheVariants.{Set, Assign, Add, Subtract, Load, Store, Fill, Print, GetSqe, PrepRead, PrepWrite, PrepFsync, PrepNop, PrepOther, SetData64, Submit, SubmitAndWait, CqeSeen}
 use Rattle.rc_lang.specs.declared.lines.Operand.{Operand}
 use Rattle.rc_lang.specs.declared.lines.Operand.TheVariants.{Variable, Number as Literal}
 use Rattle.rc_lang.specs.declared.lines.Stmt.{Stmt}
 use Rattle.rc_lang.specs.declared.lines.Stmt.TheVariants.{Do, Put, Lock, EndLock, If, Else, EndIf, Peek, Case, Other, Nothing, EndArm, Loop, EndLoop, Break}
 use Rattle.rc_lang.specs.declared.lines.Test.{Test}
-use Rattle.rc_lang.specs.declared.lines.Test.TheVariants.{Compare, ReadyZero, SpaceAtLeast, Take}
+use Rattle.rc_lang.specs.declared.lines.Test.TheVariants.{Compare, ReadyZero, SpaceAtLeast, Take, Any}
 use Rattle.rc_lang.specs.Program.{Program, Items, Thread, items_at, lines_of, line_at, lists_of, end_at, stmt_at}
 use Rattle.rc_split.specs.Pools.{Pools, all_pooled, empty_pools, includes, overfills, pool_of, put_into, taken_from}
 use Rattle.rc_world.specs.declared.controls.Answer.{Answer}
 use Rattle.rc_world.specs.declared.controls.Answer.TheVariants.{Plain, Number, Byte, Front}
 use Rattle.rc_world.specs.declared.controls.Holders.{Holders}
 use Rattle.rc_world.specs.declared.event.Action.{Action}
-use Rattle.rc_world.specs.declared.event.Action.TheVariants.{VariableSet, Loaded, Stored, Filled, Printed, Locked, Released, EntryOpened, ReadPrepared, WritePrepared, FsyncPrepared, NopPrepared, DataSet, Submitted, Peeked, PeekedNone, Reaped, Branched, Looped, LoopLeft, ItemsPut}
+use Rattle.rc_world.specs.declared.event.Action.TheVariants.{VariableSet, Loaded, Stored, Filled, Printed, Locked, Released, EntryOpened, ReadPrepared, WritePrepared, FsyncPrepared, NopPrepared, OtherPrepared, DataSet, Submitted, Peeked, PeekedNone, Reaped, Branched, Looped, LoopLeft, ItemsPut}
 use Rattle.rc_world.specs.declared.event.Event.{Event}
 use Rattle.rc_world.specs.declared.event.Event.TheVariants.{ByThread}
 
@@ -187,6 +187,7 @@ does c t (PrepRead fd b len off) a = plainly (goes_on c t ReadPrepared) a
 does c t (PrepWrite fd b len off k) a = plainly (goes_on c t WritePrepared) a
 does c t (PrepFsync fd datasync) a = plainly (goes_on c t FsyncPrepared) a
 does c t PrepNop a = plainly (goes_on c t NopPrepared) a
+does c t PrepOther a = plainly (goes_on c t OtherPrepared) a
 does c t (SetData64 u) a = plainly (goes_on c t (DataSet u)) a
 does c t (Submit x) a = submits c t x a
 does c t (SubmitAndWait x n) a = submits c t x a
@@ -202,11 +203,19 @@ abbrev pub tries_to_take : Program → Controls → ℕ → Standing → Option 
 tries_to_take program c i t pool items =
     if includes program (pool_of c.pools pool) items then record (branches program c i t true) { pools = taken_from program pool items c.pools } else branches program c i t false
 
+-- A free choice is answered 1 for the first branch and 0 for the second.
+abbrev pub is_choice : ℤ → Bool
+is_choice r = int_eq r (pos 0) || int_eq r (pos 1)
+
+abbrev pub chooses : Program → Controls → ℕ → Standing → ℤ → Option Move
+chooses program c i t r = if is_choice r then Some (branches program c i t (int_eq r (pos 1))) else None
+
 abbrev pub decides : Program → Controls → ℕ → Standing → Test → Answer → Option Move
 decides program c i t (Compare x comparison n) a = plainly (branches program c i t (compares comparison (variable t x) n)) a
 decides program c i t ReadyZero (Number n) = Some (branches program c i t (int_eq n (pos 0)))
 decides program c i t (SpaceAtLeast m) (Number n) = Some (branches program c i t (int_le (pos m) n))
 decides program c i t (Take pool k) a = plainly (tries_to_take program c i t pool (items_at (lists_of program i) k)) a
+decides program c i t Any (Number n) = chooses program c i t n
 decides program c i t _ _ = None
 
 -- io_uring_peek_cqe(3): without a completion the variable is -EAGAIN, else the front's result, and the front is peeked.

@@ -3,13 +3,13 @@ use Rattle.std.specs.Prelude.{ℕ, ◌+◌, Bool, true, false, ◌&&◌, ◌||�
 use Rattle.std.specs.List.{list_any}
 use Rattle.rc_lang.specs.declared.lines.Line.{Line}
 use Rattle.rc_lang.specs.declared.lines.Op.{Op}
-use Rattle.rc_lang.specs.declared.lines.Op.TheVariants.{Set, Assign, Add, Subtract, Load, Store, Fill, Print, GetSqe, PrepRead, PrepWrite, PrepFsync, PrepNop, SetData64, Submit, SubmitAndWait, CqeSeen}
+use Rattle.rc_lang.specs.declared.lines.Op.TheVariants.{Set, Assign, Add, Subtract, Load, Store, Fill, Print, GetSqe, PrepRead, PrepWrite, PrepFsync, PrepNop, PrepOther, SetData64, Submit, SubmitAndWait, CqeSeen}
 use Rattle.rc_lang.specs.declared.lines.Stmt.{Stmt}
 use Rattle.rc_lang.specs.declared.lines.Stmt.TheVariants.{Do, Put, EndLock, If, Peek, Break}
 use Rattle.rc_lang.specs.declared.lines.Test.{Test}
-use Rattle.rc_lang.specs.declared.lines.Test.TheVariants.{Compare, ReadyZero, SpaceAtLeast, Take}
+use Rattle.rc_lang.specs.declared.lines.Test.TheVariants.{Compare, ReadyZero, SpaceAtLeast, Take, Any}
 use Rattle.rc_lang.specs.declared.request.Kind.{Kind}
-use Rattle.rc_lang.specs.declared.request.Kind.TheVariants.{Nop, Fsync, Read, Write}
+use Rattle.rc_lang.specs.declared.request.Kind.TheVariants.{Nop, Fsync, Read, Write, Other}
 use Rattle.rc_lang.specs.declared.request.Request.{Request}
 use Rattle.rc_lang.specs.Program.{Program, bytes_at, items_at, lists_of}
 use Rattle.rc_split.specs.Pools.{all_pooled, overfills}
@@ -57,6 +57,7 @@ has_buffer Nop = false
 has_buffer Fsync = false
 has_buffer Read = true
 has_buffer Write = true
+has_buffer Other = false
 
 abbrev pub names : ℕ → Request → Bool
 names b r = has_buffer r.kind && nat_eq r.buffer b
@@ -191,6 +192,7 @@ is_sq_test (Compare x comparison n) = false
 is_sq_test ReadyZero = true
 is_sq_test (SpaceAtLeast n) = true
 is_sq_test (Take pool k) = is_none pool
+is_sq_test Any = false
 
 abbrev pub is_sq_call : Stmt → Bool
 is_sq_call (Do op) = is_sq_op op
@@ -215,6 +217,7 @@ op_is_raw s (PrepRead fd b len off) = not (is_vacant s)
 op_is_raw s (PrepWrite fd b len off k) = not (is_vacant s)
 op_is_raw s (PrepFsync fd datasync) = not (is_vacant s)
 op_is_raw s PrepNop = not (is_vacant s)
+op_is_raw s PrepOther = not (is_vacant s)
 op_is_raw s (SetData64 u) = not (is_prepared s)
 op_is_raw s (Submit x) = not (is_closed s)
 op_is_raw s (SubmitAndWait x n) = not (is_closed s)

@@ -10,7 +10,7 @@ use Rattle.rc_world.specs.declared.event.Item.{Item}
 use Rattle.rc_world.specs.Controls.{Standing, are_free, next_line}
 use Rattle.rc_world.specs.Faults.{fault_of}
 use Rattle.rc_world.specs.Items.{is_enabled, item_step}
-use Rattle.rc_world.specs.Machine.{Pending, World, bytes_brought, is_take, kernel_step, start_world, thread_step}
+use Rattle.rc_world.specs.Machine.{Pending, World, bytes_brought, kernel_step, may_be_given, start_world, thread_step}
 use Rattle.rc_world.specs.Runs.{IsRun}
 use Rattle.rc_world.specs.Trace.{trace_of}
 
@@ -22,9 +22,10 @@ IsAtEnd w i = (t : Standing) × (slice_get w.controls.threads i ≡ Some t) × (
 abbrev pub WaitsForLock : World → ℕ → Type 0
 WaitsForLock w i = (l : Line) × (wanted : Locks) × (next_line w.program w.controls i ≡ Some l) × (l.stmt ≡ Lock wanted) × (are_free wanted w.controls.holders ≡ false)
 
--- The thread has a step, whatever of the allowed answers its submit gets.
+-- The thread has a step, whatever of the allowed numbers it is given.
 abbrev pub HasStep : World → ℕ → Type 0
-HasStep w i = (r : ℤ) → is_take w r ≡ true → (s : Event × World) × (thread_step w i r ≡ Some s)
+HasStep w i =
+    (l : Line) × (next_line w.program w.controls i ≡ Some l) × ((r : ℤ) → may_be_given w r l.stmt ≡ true → (s : Event × World) × (thread_step w i r ≡ Some s))
 
 abbrev pub GoesOn : World → ℕ → Type 0
 GoesOn w i = IsAtEnd w i ⊎ (WaitsForLock w i ⊎ HasStep w i)

@@ -2,13 +2,13 @@
 use Rattle.std.specs.Prelude.{ℕ, suc, ◌+◌, ◌-◌, Bool, true, false, ◌&&◌, if◌then◌else◌, List, [], ◌∷◌, ◌++◌, take, drop, map, replicate, length, Option, Some, None, nat_eq, nat_lt, nat_le, slice_get, slice_index, slice_index_or, slice_set, ℤ, pos, negsuc}
 use Rattle.rc_lang.specs.declared.lines.Line.{Line}
 use Rattle.rc_lang.specs.declared.lines.Op.{Op}
-use Rattle.rc_lang.specs.declared.lines.Op.TheVariants.{Load, Store, Fill, GetSqe, PrepRead, PrepWrite, PrepFsync, PrepNop, SetData64, Submit, SubmitAndWait, CqeSeen}
+use Rattle.rc_lang.specs.declared.lines.Op.TheVariants.{Load, Store, Fill, GetSqe, PrepRead, PrepWrite, PrepFsync, PrepNop, PrepOther, SetData64, Submit, SubmitAndWait, CqeSeen}
 use Rattle.rc_lang.specs.declared.lines.Stmt.{Stmt}
 use Rattle.rc_lang.specs.declared.lines.Stmt.TheVariants.{Do, If, Peek}
 use Rattle.rc_lang.specs.declared.lines.Test.{Test}
-use Rattle.rc_lang.specs.declared.lines.Test.TheVariants.{Compare, ReadyZero, SpaceAtLeast, Take}
+use Rattle.rc_lang.specs.declared.lines.Test.TheVariants.{Compare, ReadyZero, SpaceAtLeast, Take, Any}
 use Rattle.rc_lang.specs.declared.request.Kind.{Kind}
-use Rattle.rc_lang.specs.declared.request.Kind.TheVariants.{Nop, Fsync, Read, Write}
+use Rattle.rc_lang.specs.declared.request.Kind.TheVariants.{Nop, Fsync, Read, Write, Other}
 use Rattle.rc_lang.specs.declared.request.Request.{Request}
 use Rattle.rc_lang.specs.Program.{Buffer, Program, bytes_at}
 use Rattle.rc_lang.specs.Requests.{may_complete}
@@ -19,7 +19,7 @@ use Rattle.rc_world.specs.declared.event.Event.{Event}
 use Rattle.rc_world.specs.declared.event.Event.TheVariants.{ByKernel}
 use Rattle.rc_world.specs.declared.world.Slot.{Slot}
 use Rattle.rc_world.specs.declared.world.Slot.TheVariants.{Closed, Vacant, Prepared}
-use Rattle.rc_world.specs.Controls.{Controls, Standing, controls_step, low_byte, next_line, start_controls, variable}
+use Rattle.rc_world.specs.Controls.{Controls, Standing, controls_step, is_choice, low_byte, next_line, start_controls, variable}
 
 -- A pending request: a read keeps the bytes of its buffer, which is absent until the read completes.
 pub record Pending : Type 0 where
@@ -80,6 +80,10 @@ new_request kind fd buffer len off = record { serial = 0; kind = kind; fd = fd; 
 abbrev pub prepared_nop : Request
 prepared_nop = new_request Nop (negsuc 0) 0 0 0
 
+-- that of any other request without a buffer
+abbrev pub prepared_other : Request
+prepared_other = new_request Other (negsuc 0) 0 0 0
+
 -- the request moves no more bytes than its buffer has
 abbrev pub fits_buffer : Program → Request → Bool
 fits_buffer program r = nat_le r.len (bytes_at program.buffers r.buffer)
@@ -139,7 +143,15 @@ abbrev pub reaps_front : World → List Completion → Option World
 reaps_front w [] = None
 reaps_front w (c ∷ cs) = Some (record w { completions = cs; completed = without_data c.user_data w.completed })
 
--- What a statement of a thread that is there does to the rings and the buffers; a submit is answered r.
+-- The numbers that a step may be given: a submit its answer, a free choice 1 or 0, and any other statement makes nothing of
+-- it.
+abbrev pub may_be_given : World → ℤ → Stmt → Bool
+may_be_given w r (Do (Submit x)) = is_take w r
+may_be_given w r (Do (SubmitAndWait x n)) = is_take w r
+may_be_given w r (If Any) = is_choice r
+may_be_given w r _ = true
+
+-- What a statement of a thread that is there does to the rings and the buffers; the step is given r.
 abbrev pub op_in_rings : World → Standing → ℤ → Op → Option World
 op_in_rings w t r (Store b i x) = stores w b i (low_byte (variable t x)) (bytes_of w b)
 op_in_rings w t r (Fill b x) = fills w b (low_byte (variable t x)) (bytes_of w b)
@@ -148,6 +160,7 @@ op_in_rings w t r (PrepRead fd b len off) = prepares w (new_request Read (pos fd
 op_in_rings w t r (PrepWrite fd b len off k) = prepares w (new_request Write (pos fd) b len off) w.slot
 op_in_rings w t r (PrepFsync fd datasync) = prepares w (new_request Fsync (pos fd) 0 0 0) w.slot
 op_in_rings w t r PrepNop = prepares w prepared_nop w.slot
+op_in_rings w t r PrepOther = prepares w prepared_other w.slot
 op_in_rings w t r (SetData64 u) = queues w u w.slot
 op_in_rings w t r (Submit x) = submits_by w r
 op_in_rings w t r (SubmitAndWait x n) = submits_by w r
@@ -158,7 +171,7 @@ abbrev pub in_rings : World → Standing → ℤ → Stmt → Option World
 in_rings w t r (Do op) = op_in_rings w t r op
 in_rings w t r _ = Some w
 
--- ---- what the world answers to a statement; a submit is answered r
+-- ---- what the world answers to a statement, where the step is given r
 
 abbrev pub front_of : List Completion → Answer
 front_of [] = Plain
@@ -176,15 +189,16 @@ op_answer w r CqeSeen = front_of w.completions
 op_answer w r _ = Plain
 
 -- io_uring_sq_ready(3), io_uring_sq_space_left(3)
-abbrev pub test_answer : World → Test → Answer
-test_answer w (Compare x comparison n) = Plain
-test_answer w ReadyZero = Number (pos (used_entries w))
-test_answer w (SpaceAtLeast n) = Number (pos (w.program.entries - used_entries w))
-test_answer w (Take pool k) = Plain
+abbrev pub test_answer : World → ℤ → Test → Answer
+test_answer w r (Compare x comparison n) = Plain
+test_answer w r ReadyZero = Number (pos (used_entries w))
+test_answer w r (SpaceAtLeast n) = Number (pos (w.program.entries - used_entries w))
+test_answer w r (Take pool k) = Plain
+test_answer w r Any = Number r
 
 abbrev pub stmt_answer : World → ℤ → Stmt → Answer
 stmt_answer w r (Do op) = op_answer w r op
-stmt_answer w r (If test) = test_answer w test
+stmt_answer w r (If test) = test_answer w r test
 stmt_answer w r (Peek x) = front_of w.completions
 stmt_answer w r _ = Plain
 
@@ -200,7 +214,7 @@ thread_step_at w i r None l = None
 thread_step_at w i r (Some t) None = None
 thread_step_at w i r (Some t) (Some l) = with_controls (in_rings w t r l.stmt) (controls_step w.program w.controls i (stmt_answer w r l.stmt))
 
--- The step of a thread whose submit is answered r: the event, and the world after it. None where it can't be made.
+-- The step of a thread that is given r: the event, and the world after it. None where it can't be made.
 abbrev pub thread_step : World → ℕ → ℤ → Option (Event × World)
 thread_step w i r = thread_step_at w i r (slice_get w.controls.threads i) (next_line w.program w.controls i)
 

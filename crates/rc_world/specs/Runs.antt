@@ -5,7 +5,7 @@ use Rattle.rc_world.specs.declared.event.Event.{Event}
 use Rattle.rc_world.specs.Machine.{World, thread_step, kernel_step, start_world}
 use Rattle.rc_world.specs.Faults.{fault_of}
 
--- One event: a step of any thread, with any answer of a submit, or of the kernel, with any result and any bytes. No step leaves a world with a fault.
+-- One event: a step of any thread, with any answer of a submit and either branch of a free choice, or of the kernel, with any result and any bytes. No step leaves a world with a fault.
 pub record IsStep (w : World) (e : Event) (after : World) : Type 0 where
   pub no_fault : fault_of w ≡ None
   pub step : ((i : ℕ) × (r : ℤ) × (thread_step w i r ≡ Some (e, after))) ⊎ ((k : ℕ) × (res : ℤ) × (bytes : List ℕ) × (kernel_step w k res bytes ≡ Some (e, after)))

@@ -1,16 +1,16 @@
 //! Where each thread is, its variables, who holds the locks, whether the front completion is peeked, and the pools.
 
 ghost use Rattle.std.specs.Prelude.{◌≡◌, ◌<◌, ◌≤◌, ◌&&◌, is_none, length, map, option_map, pos, replicate, ◌+ℤ◌, ◌-ℤ◌, slice_get, IfOk, IsSome, IsOkAnd};
-ghost use Rattle.rc_lang.specs.declared.lines.Stmt.TheVariants.{Do, If};
-ghost use Rattle.rc_lang.specs.Program.{IsProgram, IsOperand, Program as SpecProgram, end_at, lines_of};
-ghost use Rattle.rc_world.specs.Changes.{Acts, CallIsSmall, Decides, StandsAt, TestIsSmall, act_at, hop_at, standing_at, with_pools};
+ghost use Rattle.rc_lang.specs.declared.lines.Stmt.TheVariants.{Do};
+ghost use Rattle.rc_lang.specs.Program.{IsProgram, IsOperand};
+ghost use Rattle.rc_world.specs.Changes.{Acts, CallIsSmall, StandsAt, act_at, standing_at};
 ghost use Rattle.rc_world.specs.Parts.{at_first_line};
 ghost use Rattle.rc_world.specs.Controls as spec;
 ghost use Rattle.rc_world.specs.Readers as readers;
 
 use self::places::{is_holder, ready_or_taken};
 use crate::event::{Action, Completion, Event};
-use rc_lang::lines::{Line, Locks, Op, Operand, Stmt, Test};
+use rc_lang::lines::{Line, Locks, Op, Operand, Stmt};
 use rc_lang::program::{Program, Thread};
 use rc_split::pools::Pools;
 use std::alloc::{AllocError, Global};
@@ -45,8 +45,9 @@ pub enum Next {
 pub enum Answer {
     /// Nothing; to a peek, that there is no completion.
     Plain,
-    /// The answer of a submit, and how many entries are queued (`io_uring_sq_ready(3)`) or free
-    /// (`io_uring_sq_space_left(3)`), to the ifs that ask for it.
+    /// The answer of a submit; how many entries are queued (`io_uring_sq_ready(3)`) or free
+    /// (`io_uring_sq_space_left(3)`), to the ifs that ask for it; and to an `if any` 1 for its first branch, 0 for its
+    /// second.
     Number(i32),
     /// The byte that is loaded.
     Byte(u8),
@@ -328,6 +329,7 @@ impl Controls {
             Op::PrepWrite(_, _, _, _, _) => Action::WritePrepared,
             Op::PrepFsync(_, _) => Action::FsyncPrepared,
             Op::PrepNop => Action::NopPrepared,
+            Op::PrepOther => Action::OtherPrepared,
             Op::SetData64(user_data) => Action::DataSet(user_data),
         };
         self.pass(program, thread, place, action)
@@ -342,28 +344,6 @@ impl Controls {
         match operand {
             Operand::Variable(x) => self.variable(thread, x),
             Operand::Number(n) => n,
-        }
-    }
-
-    // What an if decides. An `if take` that holds takes its items out of the pool that it names.
-    fn decide(&mut self, program: &Program, thread: u32, test: Test, answer: Answer) -> bool
-        requires exists { thread < length self.old.threads }
-        requires within { TestIsSmall program.now thread test }
-        requires step { IsSome (act_at program.now thread self.old (If test) answer) }
-        ensures pools { self.new ≡ with_pools self.old self.new.pools }
-        ensures step { Decides program.now thread self.old test answer result self.new }
-    {
-        match test {
-            Test::Compare(x, comparison, n) => comparison.compares(self.variable(thread, x), n),
-            Test::ReadyZero => match answer {
-                Answer::Number(used) => used == 0,
-                _ => unreachable!(),
-            },
-            Test::SpaceAtLeast(wanted) => match answer {
-                Answer::Number(free) => i64::from(wanted) <= i64::from(free),
-                _ => unreachable!(),
-            },
-            Test::Take(pool, k) => self.take(program, thread, pool, k),
         }
     }
 }
@@ -411,32 +391,4 @@ fn difference(a: i64, b: i64) -> i64
     ensures { result ≡ spec.wrapped (a -ℤ b) }
 {
     a.wrapping_sub(b)
-}
-
-// The place where a thread comes to rest that goes to this one, over lines that are no events, and whether an arm ends
-// on the way.
-fn rest(program: &Program, thread: u32, start: usize) -> (usize, bool)
-    ensures place { result.0 ≡ spec.rest_at program.now thread start }
-    ensures arm { result.1 ≡ spec.passes_arm program.now thread start }
-{
-    let mut place = start;
-    let mut ends_arm = false;
-    while let Some((next, ends)) = hop(program, thread, place) {
-        place = next;
-        ends_arm |= ends;
-    }
-    (place, ends_arm)
-}
-
-// The place to which the line at this place leads, if it is no event, and whether it ends an arm.
-fn hop(program: &Program, thread: u32, place: usize) -> Option<(usize, bool)>
-    ensures value { result ≡ hop_at program.now thread place }
-    ensures made { IsProgram program.now }
-{
-    match program.line_at(thread as usize, place)?.stmt {
-        Stmt::Else(_) => Some((program.end_at(thread as usize, place) + 1, false)),
-        Stmt::EndIf(_) => Some((place + 1, false)),
-        Stmt::EndArm(peek) => Some((program.end_at(thread as usize, peek) + 1, true)),
-        _ => None,
-    }
 }

@@ -38,6 +38,8 @@ pub enum Action {
     FsyncPrepared,
     /// The open entry was made a nop.
     NopPrepared,
+    /// The open entry was made another request without a buffer.
+    OtherPrepared,
     /// The open entry got this user data and was queued.
     DataSet(u64),
     /// A submit answered this: how many were taken, or a negative errno.
@@ -74,7 +76,8 @@ pub enum Event {
 /// One item of a schedule.
 #[derive(Clone, Copy, PartialEq, Eq, Debug)]
 pub enum Item {
-    /// A step of a thread; at a submit its answer, or all that is queued.
+    /// A step of a thread; at a submit its answer, or all that is queued; at an `if any` 1 for its first branch, 0 for
+    /// its second, or the first.
     Thread { thread: u32, take: Option<i32> },
     /// The pending request with this user data completes; the first `res` bytes of a read become `fill`.
     Kernel { user_data: u64, res: i32, fill: u8 },

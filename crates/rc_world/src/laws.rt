@@ -4,7 +4,7 @@ ghost use Rattle.rc_world.specs.Laws.{EnabledItemsStep, NoDeadlock, NoHiddenHarm
 ghost use Rattle.rc_world.specs.LeastFault.{FaultsAreLeast};
 
 /// Harm can't hide as a missing step: in a world without a fault, of any run of a made program, each thread is at its
-/// end, or somebody holds a lock that its next line wants, or it has a step, whatever its submit is answered; and every
+/// end, or somebody holds a lock that its next line wants, or it has a step, whatever number it is given; and every
 /// pending request can complete with each result that it may have, a read with any bytes.
 pub fn no_hidden_harm()
     ensures { NoHiddenHarm }

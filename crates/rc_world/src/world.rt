@@ -1,8 +1,9 @@
 //! The world of a running program.
 
-ghost use Rattle.std.specs.Prelude.{◌≡◌, ◌+◌, ◌<◌, ◌≤◌, ◌^◌, ◌&&◌, Some, true, false, map, replicate, IfOk, IsSome};
+ghost use Rattle.std.specs.Prelude.{◌≡◌, ◌+◌, ◌<◌, ◌≤◌, ◌^◌, ◌&&◌, Some, true, false, map, pos, replicate, IfOk, IsSome};
 ghost use Rattle.rc_lang.specs.Requests as requests;
 ghost use Rattle.rc_world.specs.Applies.{Advances, Applies};
+ghost use Rattle.rc_world.specs.Controls.{is_choice};
 ghost use Rattle.rc_world.specs.Faults as faults;
 ghost use Rattle.rc_world.specs.Harm.{DoesNoHarm};
 ghost use Rattle.rc_world.specs.Items as items;
@@ -224,7 +225,19 @@ impl<'a> World<'a> {
     {
         match take {
             None => true,
-            Some(taken) => is_submit(stmt) && self.is_take(taken),
+            Some(number) => is_given(stmt) && self.may_be_given(number, stmt),
+        }
+    }
+
+    // Whether a statement may be given this number.
+    fn may_be_given(&self, number: i32, stmt: Stmt) -> bool
+        ensures { result ≡ machine.may_be_given self.now number stmt }
+    {
+        match stmt {
+            Stmt::Do(Op::Submit(_)) => self.is_take(number),
+            Stmt::Do(Op::SubmitAndWait(_, _)) => self.is_take(number),
+            Stmt::If(Test::Any) => is_choice(number),
+            _ => true,
         }
     }
 
@@ -238,7 +251,7 @@ impl<'a> World<'a> {
         }
     }
 
-    // The step of a thread whose submit is answered this.
+    // The step of a thread that is given this number.
     fn step(&mut self, thread: u32, take: Option<i32>) -> Result<Event, AllocError>
         requires step { IsSome (item_step self.old (Item.Thread thread take)) }
         requires room { self.old.made + 1 < 2 ^ 64 }
@@ -247,19 +260,29 @@ impl<'a> World<'a> {
         let Some(line) = self.controls.line(self.program, thread) else {
             unreachable!()
         };
-        let taken = self.taken(take);
-        let answer = self.answer(taken, line.stmt);
-        self.rings(thread, line.stmt, taken)?;
+        let given = self.given(take, line.stmt);
+        let answer = self.answer(given, line.stmt);
+        self.rings(thread, line.stmt, given)?;
         Ok(self.controls.step(self.program, thread, answer))
     }
 
-    // What a submit is answered: what the item says, or all that is queued.
-    fn taken(&self, take: Option<i32>) -> i32
-        ensures { result ≡ items.take_of self.now take }
+    // The number that a statement is given: what the item says, or what is usual.
+    fn given(&self, take: Option<i32>, stmt: Stmt) -> i32
+        ensures { result ≡ items.given self.now take stmt }
     {
         match take {
-            Some(taken) => taken,
-            None => self.queued.len() as i32,
+            Some(number) => number,
+            None => self.usual(stmt),
+        }
+    }
+
+    // The number that a statement is given where an item says nothing.
+    fn usual(&self, stmt: Stmt) -> i32
+        ensures { result ≡ items.usual self.now stmt }
+    {
+        match stmt {
+            Stmt::If(Test::Any) => 1,
+            _ => self.queued.len() as i32,
         }
     }
 
@@ -279,17 +302,18 @@ impl<'a> World<'a> {
         self.queued.len() + open
     }
 
-    // What the world answers to a statement.
-    fn answer(&self, taken: i32, stmt: Stmt) -> Answer
-        ensures { result ≡ machine.stmt_answer self.now taken stmt }
+    // What the world answers to a statement that is given this number.
+    fn answer(&self, given: i32, stmt: Stmt) -> Answer
+        ensures { result ≡ machine.stmt_answer self.now given stmt }
     {
         match stmt {
             Stmt::Do(Op::Load(_, buffer, i)) => self.byte(buffer, i),
-            Stmt::Do(Op::Submit(_)) => Answer::Number(taken),
-            Stmt::Do(Op::SubmitAndWait(_, _)) => Answer::Number(taken),
+            Stmt::Do(Op::Submit(_)) => Answer::Number(given),
+            Stmt::Do(Op::SubmitAndWait(_, _)) => Answer::Number(given),
             Stmt::Do(Op::CqeSeen) => self.front(),
             Stmt::If(Test::ReadyZero) => Answer::Number(self.used_entries() as i32),
             Stmt::If(Test::SpaceAtLeast(_)) => self.space_left(),
+            Stmt::If(Test::Any) => Answer::Number(given),
             Stmt::Peek(_) => self.front(),
             _ => Answer::Plain,
         }
@@ -297,7 +321,7 @@ impl<'a> World<'a> {
 
     // How many entries are free.
     fn space_left(&self) -> Answer
-        ensures { result ≡ machine.test_answer self.now (Test.SpaceAtLeast 0) }
+        ensures { result ≡ machine.test_answer self.now (pos 0) (Test.SpaceAtLeast 0) }
     {
         let used = self.used_entries();
         Answer::Number((self.program.entries() as usize - used) as i32)
@@ -338,12 +362,21 @@ fn zeroed(alloc: Global, buffers: &[Buffer]) -> Result<Vec<Option<Bytes>>, Alloc
     Ok(zeroed)
 }
 
-fn is_submit(stmt: Stmt) -> bool
-    ensures { result ≡ items.is_submit stmt }
+// Whether a number says something of the step of a statement.
+fn is_given(stmt: Stmt) -> bool
+    ensures { result ≡ items.is_given stmt }
 {
     match stmt {
         Stmt::Do(Op::Submit(_)) => true,
         Stmt::Do(Op::SubmitAndWait(_, _)) => true,
+        Stmt::If(Test::Any) => true,
         _ => false,
     }
+}
+
+// Whether an `if any` may be given this number.
+fn is_choice(number: i32) -> bool
+    ensures { result ≡ is_choice number }
+{
+    number == 0 || number == 1
 }

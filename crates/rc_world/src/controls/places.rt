@@ -1,7 +1,8 @@
-//! What a thread has next at a place, whether it holds a lock, and to which arm of a peek it goes.
+//! What a thread has next at a place, whether it holds a lock, to which arm of a peek it goes, and where it comes to rest.
 
 ghost use Rattle.std.specs.Prelude.{◌≡◌, ◌<◌, ◌≤◌, length, IfSome};
-ghost use Rattle.rc_lang.specs.Program.{end_at, lines_of};
+ghost use Rattle.rc_lang.specs.Program.{IsProgram, end_at, lines_of};
+ghost use Rattle.rc_world.specs.Changes.{hop_at};
 ghost use Rattle.rc_world.specs.Controls as spec;
 ghost use Rattle.rc_world.specs.Faults.{is_holder};
 ghost use Rattle.rc_world.specs.Items.{ready_or_taken};
@@ -150,5 +151,33 @@ fn is_none_arm(stmt: Stmt, peek: usize) -> bool
     match stmt {
         Stmt::Nothing(place) => place == peek,
         _ => false,
+    }
+}
+
+// The place where a thread comes to rest that goes to this one, over lines that are no events, and whether an arm ends
+// on the way.
+pub(super) fn rest(program: &Program, thread: u32, start: usize) -> (usize, bool)
+    ensures place { result.0 ≡ spec.rest_at program.now thread start }
+    ensures arm { result.1 ≡ spec.passes_arm program.now thread start }
+{
+    let mut place = start;
+    let mut ends_arm = false;
+    while let Some((next, ends)) = hop(program, thread, place) {
+        place = next;
+        ends_arm |= ends;
+    }
+    (place, ends_arm)
+}
+
+// The place to which the line at this place leads, if it is no event, and whether it ends an arm.
+fn hop(program: &Program, thread: u32, place: usize) -> Option<(usize, bool)>
+    ensures value { result ≡ hop_at program.now thread place }
+    ensures made { IsProgram program.now }
+{
+    match program.line_at(thread as usize, place)?.stmt {
+        Stmt::Else(_) => Some((program.end_at(thread as usize, place) + 1, false)),
+        Stmt::EndIf(_) => Some((place + 1, false)),
+        Stmt::EndArm(peek) => Some((program.end_at(thread as usize, peek) + 1, true)),
+        _ => None,
     }
 }

@@ -2,17 +2,17 @@
 
 ghost use Rattle.std.specs.Prelude.{◌≡◌, ◌<◌, ◌≤◌, length, Some, IsSome};
 ghost use Rattle.rc_lang.specs.declared.lines.Op.TheVariants.{CqeSeen, Set, Submit};
-ghost use Rattle.rc_lang.specs.declared.lines.Stmt.TheVariants.{Break, Do, Lock, Peek, Put};
+ghost use Rattle.rc_lang.specs.declared.lines.Stmt.TheVariants.{Break, Do, If, Lock, Peek, Put};
 ghost use Rattle.rc_lang.specs.Program.{end_at, lists_of};
 ghost use Rattle.rc_split.specs.Pools.{includes, pool_of};
 ghost use Rattle.rc_world.specs.declared.controls.Answer.TheVariants.{Plain};
-ghost use Rattle.rc_world.specs.Changes.{Acts, Moves, StandsAt, act_at, after_take, if_rule, gone_to, list_at, standing_at, with_variable};
+ghost use Rattle.rc_world.specs.Changes.{Acts, Decides, Moves, StandsAt, TestIsSmall, act_at, after_take, if_rule, gone_to, list_at, standing_at, with_pools, with_variable};
 ghost use Rattle.rc_world.specs.Controls.{controls_step, goes_on, loads, releases};
 
-use super::places::{arm_for, none_arm, number_of_event};
-use super::{Answer, Controls, rest};
+use super::places::{arm_for, none_arm, number_of_event, rest};
+use super::{Answer, Controls};
 use crate::event::{Action, Event};
-use rc_lang::lines::Locks;
+use rc_lang::lines::{Locks, Test};
 use rc_lang::program::Program;
 
 /// The value of a variable after a peek without a completion: `-EAGAIN` (`io_uring_peek_cqe(3)`).
@@ -199,6 +199,38 @@ impl Controls {
             self.pools.take(pool, program, items);
         }
         holds
+    }
+
+    // What an if decides. An `if take` that holds takes its items out of the pool that it names.
+    pub(super) fn decide(
+        &mut self,
+        program: &Program,
+        thread: u32,
+        test: Test,
+        answer: Answer,
+    ) -> bool
+        requires exists { thread < length self.old.threads }
+        requires within { TestIsSmall program.now thread test }
+        requires step { IsSome (act_at program.now thread self.old (If test) answer) }
+        ensures pools { self.new ≡ with_pools self.old self.new.pools }
+        ensures step { Decides program.now thread self.old test answer result self.new }
+    {
+        match test {
+            Test::Compare(x, comparison, n) => comparison.compares(self.variable(thread, x), n),
+            Test::ReadyZero => match answer {
+                Answer::Number(used) => used == 0,
+                _ => unreachable!(),
+            },
+            Test::SpaceAtLeast(wanted) => match answer {
+                Answer::Number(free) => i64::from(wanted) <= i64::from(free),
+                _ => unreachable!(),
+            },
+            Test::Take(pool, k) => self.take(program, thread, pool, k),
+            Test::Any => match answer {
+                Answer::Number(chosen) => chosen == 1,
+                _ => unreachable!(),
+            },
+        }
     }
 
     // The step of an if that is decided.

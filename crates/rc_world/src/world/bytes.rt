@@ -80,13 +80,16 @@ impl Bytes {
         self.rest = byte;
     }
 
-    // A byte is written at the first places, so many of them.
+    // A byte is written at the first places, so many of them. Where each byte is that one, nothing changes.
     pub(super) fn refill(&mut self, count: usize, fill: u8) -> Result<(), AllocError>
         requires { count ≤ length self.old }
         ensures { Becomes result self.old self.new (refilled count fill) }
     {
         if count == self.len {
             self.fill(fill);
+            return Ok(());
+        }
+        if self.first.is_empty() && self.rest == fill {
             return Ok(());
         }
         grow(&mut self.first, count, self.rest)?;

@@ -262,6 +262,7 @@ pub(super) fn has_buffer(kind: Kind) -> bool
         Kind::Fsync => false,
         Kind::Read => true,
         Kind::Write => true,
+        Kind::Other => false,
     }
 }
 

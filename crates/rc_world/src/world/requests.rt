@@ -2,7 +2,7 @@
 
 ghost use Rattle.std.specs.Prelude.{◌≡◌, ◌<◌, ◌≤◌, ◌&&◌, ◌||◌, length, nat_eq, position, IfSome};
 ghost use Rattle.std.specs.Vec.{vec_capacity, vec_len};
-ghost use Rattle.rc_lang.specs.Requests.{may_complete, most_moved};
+ghost use Rattle.rc_lang.specs.Requests.{largest, may_complete};
 ghost use Rattle.rc_world.specs.Machine.{is_read, without_data};
 
 use super::Pending;
@@ -17,18 +17,20 @@ pub fn is_read(kind: Kind) -> bool
         Kind::Fsync => false,
         Kind::Read => true,
         Kind::Write => false,
+        Kind::Other => false,
     }
 }
 
-/// How many bytes a request moves at most.
-pub fn most_moved(request: Request) -> u32
-    ensures { result ≡ most_moved request.len request.kind }
+/// The largest result of a request.
+pub fn largest(request: Request) -> u32
+    ensures { result ≡ largest request.len request.kind }
 {
     match request.kind {
         Kind::Nop => 0,
         Kind::Fsync => 0,
         Kind::Read => request.len,
         Kind::Write => request.len,
+        Kind::Other => 4096,
     }
 }
 
@@ -37,7 +39,7 @@ pub fn may_complete(request: Request, res: i32) -> bool
     ensures { result ≡ may_complete request res }
 {
     match u32::try_from(res) {
-        Ok(count) => count <= most_moved(request),
+        Ok(count) => count <= largest(request),
         Err(_) => res >= -4095,
     }
 }

@@ -64,6 +64,7 @@ impl<'a> World<'a> {
             }
             Op::PrepFsync(fd, _) => self.prepare(request_of(Kind::Fsync, fd, 0, 0, 0)),
             Op::PrepNop => self.prepare(new_request(Kind::Nop, -1, 0, 0, 0)),
+            Op::PrepOther => self.prepare(new_request(Kind::Other, -1, 0, 0, 0)),
             Op::SetData64(user_data) => self.queue(user_data)?,
             Op::Submit(_) | Op::SubmitAndWait(_, _) => self.hand_over(taken)?,
             Op::CqeSeen => self.reap(),

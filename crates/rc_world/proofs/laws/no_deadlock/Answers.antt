@@ -1,4 +1,4 @@
-use Rattle.rc_world.proofs.LawLocks.{none_deadlocked}
+use Rattle.rc_world.proofs.LawWaits.{none_deadlocked}
 use Rattle.rc_world.proofs.laws.no_deadlock.Goals as goal
 
 pub returns : goal.returns

@@ -128,6 +128,7 @@ fn is_sq_test(test: Test) -> bool
         Test::ReadyZero => true,
         Test::SpaceAtLeast(_) => true,
         Test::Take(pool, _) => pool.is_none(),
+        Test::Any => false,
     }
 }
 
@@ -152,6 +153,7 @@ fn op_is_raw(slot: Slot, op: Op) -> bool
         Op::PrepWrite(_, _, _, _, _) => !is_vacant(slot),
         Op::PrepFsync(_, _) => !is_vacant(slot),
         Op::PrepNop => !is_vacant(slot),
+        Op::PrepOther => !is_vacant(slot),
         Op::SetData64(_) => !is_prepared(slot),
         Op::Submit(_) => !is_closed(slot),
         Op::SubmitAndWait(_, _) => !is_closed(slot),

@@ -2,7 +2,7 @@ use Rattle.std.proofs.Common.{◌≡◌, ◌<◌, ◌≤◌, length, Some, sym, 
 use Rattle.rc_lang.specs.Program.{lines_of, end_at, stmt_of}
 use Rattle.rc_lang.proofs.Lookups.{stands_within}
 use Rattle.rc_world.proofs.Laid.{arm_leads, else_leads, laid}
-use Rattle.rc_world.proofs.controls.hop.Goals as goal
+use Rattle.rc_world.proofs.controls.places.hop.Goals as goal
 
 pub overflow_add-result : goal.overflow_add-result
 overflow_add-result c =

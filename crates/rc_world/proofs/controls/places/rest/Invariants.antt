@@ -1,7 +1,7 @@
 use Rattle.std.proofs.Common.{◌-◌, length}
 use Rattle.rc_lang.specs.Program.{lines_of}
 use Rattle.rc_world.proofs.Settling.{IsOnTheWay}
-use Rattle.rc_world.proofs.controls.rest.Given as goal
+use Rattle.rc_world.proofs.controls.places.rest.Given as goal
 
 abbrev pub invariant-loop-next : goal.invariant-loop-next
 invariant-loop-next l = IsOnTheWay l.program l.thread l.start l.place l.ends_arm

@@ -1,7 +1,7 @@
 use Rattle.std.proofs.Common.{◌<◌, length, sym, ◌∙◌, arith}
 use Rattle.rc_lang.specs.Program.{lines_of}
 use Rattle.rc_world.proofs.Settling.{hops, rests, sets_out}
-use Rattle.rc_world.proofs.controls.rest.Goals as goal
+use Rattle.rc_world.proofs.controls.places.rest.Goals as goal
 
 pub loop-next-init : goal.loop-next-init
 loop-next-init c = sets_out c.args.program.now c.args.thread c.args.start
