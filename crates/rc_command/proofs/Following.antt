@@ -4,6 +4,8 @@ use Rattle.std.proofs.lemmas.Grind.{flat_map-append}
 use Rattle.std.proofs.lemmas.List.{append-nil, map-append, take_more}
 use Rattle.std.specs.List.{flat_map}
 use Rattle.std.specs.Borrow.{Bor}
+use Rattle.std.specs.Global.{Vec}
+use Rattle.std.specs.Io.KnownBytes.{Consumes, IsAtEnd}
 use Rattle.std.specs.Prelude.{IfOk, IsErrAnd, false, true, max, map, option_copied, replicate}
 use Rattle.rc_lang.specs.declared.lines.Line.{Line}
 use Rattle.rc_lang.specs.Program.{Program}
@@ -14,15 +16,21 @@ use Rattle.rc_report.specs.declared.engine_fault.EngineFault.TheVariants.{Read, 
 use Rattle.rc_report.specs.declared.verdict.Verdict.{Verdict}
 use Rattle.rc_report.specs.Checks.{GivesVerdict}
 use Rattle.rc_report.specs.Streams.{Began, OfBytes, Taken, Wrote}
+use Rattle.rc_report.proofs.Answered.{of_text}
 use Rattle.rc_text.specs.Text.{Puts}
 use Rattle.rc_console.specs.declared.command.Following.{Following}
+use Rattle.rc_console.specs.declared.fault.CommandFault.{CommandFault}
+use Rattle.rc_console.specs.declared.fault.CommandFault.TheVariants.{Words, Engine, NoEnd, OtherProgram}
 use Rattle.rc_console.specs.declared.files.Unread.{Unread}
+use Rattle.rc_console.specs.declared.inputs.Extent.TheVariants.{Enough}
 use Rattle.rc_console.specs.Files.{IsTold, Said, greatest, together}
+use Rattle.rc_console.specs.Inputs.{GivesNeeded, IsOfInput, Suffices}
 use Rattle.rc_console.proofs.FileAnswers.{greatest_more}
 use Rattle.rc_command.specs.declared.departures.answer.Answer.{Answer}
 use Rattle.rc_command.specs.declared.departures.ending.Ending.{Ending}
 use Rattle.rc_command.specs.Logs.{Reaches}
 use Rattle.rc_command.specs.Unmade.{unmade, unmade_printed}
+use Rattle.rc_command.proofs.Enough.{enough_answers}
 use Rattle.rc_command.specs.Following.{AnswersWhole, HasSaid, IsReported, SaysAsked, SaysFollowed, SaysLog, SaysLogs, SaysModel, SaysMore, SaysSource, ending_said, is_listed, listed, said_both, said_of, verdict_said, with_unmade}
 
 -- ---- one log
@@ -115,26 +123,35 @@ module _ {E : Type 0} (opens : List ℕ → Result (Option (List ℕ)) Unread �
 
 module _ {S E : Type 0} (state : S → Taken) (old new : S) (told : E → Taken) (before after : E) where
   -- This says that.
-  pub whole_as : (says others : Said → Type 0) (r : Result ℕ EngineFault) → ((said : Said) → says said → others said) → AnswersWhole says state old new told before after r → AnswersWhole others state old new told before after r
+  pub whole_as : (says others : Said → Type 0) (r : Result ℕ CommandFault) → ((said : Said) → says said → others said) → AnswersWhole says state old new told before after r → AnswersWhole others state old new told before after r
   whole_as says others (Ok status) by (said, h, is, wrote, tells) = (said, by said h, is, wrote, tells)
-  whole_as says others (Err Read) by h = h
-  whole_as says others (Err Write) by (said, h, began, same) = (said, by said h, began, same)
-  whole_as says others (Err OutOfMemory) by h = h
+  whole_as says others (Err (Words e)) by h = h
+  whole_as says others (Err (Engine Read)) by h = h
+  whole_as says others (Err (Engine Write)) by (said, h, began, same) = (said, by said h, began, same)
+  whole_as says others (Err (Engine OutOfMemory)) by h = h
+  whole_as says others (Err NoEnd) by h = h
+  whole_as says others (Err OtherProgram) by h = h
 
   -- Nothing was written before this fault.
-  pub whole_nothing : (says : Said → Type 0) (e : EngineFault) (r : Result ℕ EngineFault) → IsErrAnd r (λ y. y ≡ e) → ¬ (e ≡ Write) → state new ≡ state old → told after ≡ told before → AnswersWhole says state old new told before after r
-  whole_nothing says e (Ok status) is no_write same silent = absurd is
-  whole_nothing says e (Err Read) is no_write same silent = (same, silent)
-  whole_nothing says e (Err Write) is no_write same silent = absurd (no_write (sym is))
-  whole_nothing says e (Err OutOfMemory) is no_write same silent = (same, silent)
+  pub whole_nothing : (says : Said → Type 0) (fault : CommandFault) (r : Result ℕ CommandFault) → IsErrAnd r (λ y. y ≡ fault) → IsOfInput fault → new ≡ old → told after ≡ told before → AnswersWhole says state old new told before after r
+  whole_nothing says fault (Ok status) is of same silent = absurd is
+  whole_nothing says fault (Err y) is of same silent = subst (λ (z : CommandFault). AnswersWhole says state old new told before after (Err z)) (sym is) (by fault of)
+    where
+      by : (fault : CommandFault) → IsOfInput fault → AnswersWhole says state old new told before after (Err fault)
+      by (Words e) of = absurd of
+      by (Engine Read) of = (same, silent)
+      by (Engine Write) of = absurd of
+      by (Engine OutOfMemory) of = (same, silent)
+      by NoEnd of = (same, silent)
+      by OtherProgram of = absurd of
 
   -- A write of the answer failed.
-  pub whole_begun : (says : Said → Type 0) (answer : Answer) (e : EngineFault) (r : Result ℕ EngineFault) → IsErrAnd r (λ y. y ≡ e) → HasSaid says answer →
+  pub whole_begun : (says : Said → Type 0) (answer : Answer) (e : EngineFault) (r : Result ℕ CommandFault) → IsErrAnd r (λ y. y ≡ Engine e) → HasSaid says answer →
       (e ≡ Write) × Began (state old) (state new) answer.written.items e → told after ≡ told before → AnswersWhole says state old new told before after r
   whole_begun says answer e (Ok status) is h begun silent = absurd is
   whole_begun says answer e (Err y) is h (write, begun) silent =
       let began : Began (state old) (state new) answer.written.items Write = subst (λ (z : EngineFault). Began (state old) (state new) answer.written.items z) write begun in
-      subst (λ (z : EngineFault). AnswersWhole says state old new told before after (Err z)) (sym (is ∙ write)) (said_of answer, h, began, silent)
+      subst (λ (z : CommandFault). AnswersWhole says state old new told before after (Err z)) (sym (is ∙ ap (λ w. Engine w) write)) (said_of answer, h, began, silent)
 
   -- The whole answer was written, and then what is reported.
   pub whole_written : (says : Said → Type 0) (answer : Answer) (text notes : List ℕ) → HasSaid says answer → text ≡ answer.written.items → notes ≡ answer.reported.items →
@@ -144,20 +161,28 @@ module _ {S E : Type 0} (state : S → Taken) (old new : S) (told : E → Taken)
 
 -- ---- the model
 
--- The model of a file was read.
-pub of_file : (gives : List ℕ → Result (List ℕ) Unread → Type 0) (opens : List ℕ → Result (Option (List ℕ)) Unread → Type 0) (asked : Following) (input : Option (List ℕ)) (file : Bor (List ℕ)) (model : List ℕ) (said : Said) →
-    asked.text ≡ Some file → gives file.now (Ok model) → SaysModel opens asked model said → SaysAsked gives opens asked input said
-of_file gives opens asked input file model said is given h =
-    subst (λ (o : Option (Bor (List ℕ))). SaysSource gives (option_copied o) input (SaysModel opens asked) said) (sym is) (Ok model, given, h)
+-- What is said of enough of a model is said of all of it.
+model_of_all : (opens : List ℕ → Result (Option (List ℕ)) Unread → Type 0) (asked : Following) (kept bytes : List ℕ) (said : Said) → Suffices Enough kept bytes → SaysModel opens asked kept said → SaysModel opens asked bytes said
+model_of_all opens asked kept bytes said enough h = elim h [
+  | inl (program, given, says) ↦ inl (program, subst (λ answer. GivesVerdict answer (Ok program)) (enough_answers kept bytes enough) given, says)
+  | inr (verdict, given, says) ↦ inr (verdict, subst (λ answer. GivesVerdict answer (Err verdict)) (enough_answers kept bytes enough) given, says)
+]
 
--- It can't be.
-pub of_unread : (gives : List ℕ → Result (List ℕ) Unread → Type 0) (opens : List ℕ → Result (Option (List ℕ)) Unread → Type 0) (asked : Following) (input : Option (List ℕ)) (file : Bor (List ℕ)) (unread : Unread) (said : Said) →
-    asked.text ≡ Some file → gives file.now (Err unread) → IsReported file.now said → SaysAsked gives opens asked input said
-of_unread gives opens asked input file unread said is given h =
-    subst (λ (o : Option (Bor (List ℕ))). SaysSource gives (option_copied o) input (SaysModel opens asked) said) (sym is) (Err unread, given, h)
+module _ (gives : List ℕ → Result (List ℕ) Unread → Type 0) (opens : List ℕ → Result (Option (List ℕ)) Unread → Type 0) (asked : Following) (input : Option (List ℕ)) where
+  -- The model of a file was read.
+  pub of_file : (file : Bor (List ℕ)) (model : List ℕ) (said : Said) → asked.text ≡ Some file → GivesNeeded (gives file.now) Enough (Ok model) → SaysModel opens asked model said → SaysAsked gives opens asked input said
+  of_file file model said is (bytes, given, enough) h =
+      subst (λ (o : Option (Bor (List ℕ))). SaysSource gives (option_copied o) input (SaysModel opens asked) said) (sym is) (Ok bytes, given, model_of_all opens asked model bytes said enough h)
 
--- The model is the input.
-pub of_input : (gives : List ℕ → Result (List ℕ) Unread → Type 0) (opens : List ℕ → Result (Option (List ℕ)) Unread → Type 0) (asked : Following) (input : Option (List ℕ)) (said : Said) →
-    asked.text ≡ None → OfBytes input (λ bytes. SaysModel opens asked bytes said) → SaysAsked gives opens asked input said
-of_input gives opens asked input said is h =
-    subst (λ (o : Option (Bor (List ℕ))). SaysSource gives (option_copied o) input (SaysModel opens asked) said) (sym is) h
+  -- It can't be.
+  pub of_unread : (file : Bor (List ℕ)) (unread : Unread) (said : Said) → asked.text ≡ Some file → gives file.now (Err unread) → IsReported file.now said → SaysAsked gives opens asked input said
+  of_unread file unread said is given h =
+      subst (λ (o : Option (Bor (List ℕ))). SaysSource gives (option_copied o) input (SaysModel opens asked) said) (sym is) (Err unread, given, h)
+
+  -- The model is the input.
+  pub of_input : (source left : Option (List ℕ)) (model : Vec ℕ) (said : Said) → asked.text ≡ None → source ≡ input
+      → ((bytes : List ℕ) × Consumes source left bytes × IsAtEnd left × Suffices Enough model.items bytes) → SaysModel opens asked model.items said → SaysAsked gives opens asked input said
+  of_input source left model said is from (bytes, consumed, end, enough) h =
+      let says = of_text source left bytes (λ given. SaysModel opens asked given said) consumed end (model_of_all opens asked model.items bytes said enough h) in
+      subst (λ (o : Option (Bor (List ℕ))). SaysSource gives (option_copied o) input (SaysModel opens asked) said) (sym is)
+      (subst (λ known. OfBytes known (λ given. SaysModel opens asked given said)) from says)

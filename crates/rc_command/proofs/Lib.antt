@@ -1,4 +1,6 @@
 mod Commands
+mod Enough
 pub mod Following
+pub mod Leaving
 pub mod Objects
 pub mod Under

@@ -5,7 +5,6 @@ use Rattle.rc_lang.specs.declared.lines.Line.{Line}
 use Rattle.rc_lang.specs.Program.{Program}
 use Rattle.rc_read.specs.Answer.{answer_of}
 use Rattle.rc_follow.specs.Follower.{Follower}
-use Rattle.rc_report.specs.declared.engine_fault.EngineFault.{EngineFault}
 use Rattle.rc_report.specs.declared.engine_fault.EngineFault.TheVariants.{Read, Write, OutOfMemory}
 use Rattle.rc_report.specs.declared.verdict.Verdict.{Verdict}
 use Rattle.rc_report.specs.Checks.{GivesVerdict}
@@ -13,6 +12,8 @@ use Rattle.rc_report.specs.Files.{printed}
 use Rattle.rc_report.specs.Statuses.{status_of_verdict}
 use Rattle.rc_report.specs.Streams.{Began, OfBytes, Taken}
 use Rattle.rc_console.specs.declared.command.Following.{Following}
+use Rattle.rc_console.specs.declared.fault.CommandFault.{CommandFault}
+use Rattle.rc_console.specs.declared.fault.CommandFault.TheVariants.{Words, Engine, NoEnd, OtherProgram}
 use Rattle.rc_console.specs.declared.files.Unread.{Unread}
 use Rattle.rc_console.specs.Files.{Answered, IsToldWhy, Said, SaysFile, together}
 use Rattle.rc_command.specs.declared.departures.answer.Answer.{Answer}
@@ -109,12 +110,15 @@ SaysAsked gives opens asked input said = SaysSource gives (named asked.text) inp
 
 -- The answer is written whole, and what is reported comes after it. Where a write failed, a beginning of the answer is
 -- written; where memory ran out or the input can't be read, nothing; and nothing is reported then.
-abbrev pub AnswersWhole : {S E : Type 0} → (Said → Type 0) → (S → Taken) → S → S → (E → Taken) → E → E → Result ℕ EngineFault → Type 0
+abbrev pub AnswersWhole : {S E : Type 0} → (Said → Type 0) → (S → Taken) → S → S → (E → Taken) → E → E → Result ℕ CommandFault → Type 0
 AnswersWhole says state old new told before after (Ok status) = Answered says (state old) (state new) (told before) (told after) status
-AnswersWhole says state old new told before after (Err Read) = (state new ≡ state old) × (told after ≡ told before)
-AnswersWhole says state old new told before after (Err Write) =
+AnswersWhole says state old new told before after (Err (Words e)) = ⊥
+AnswersWhole says state old new told before after (Err (Engine Read)) = (new ≡ old) × (told after ≡ told before)
+AnswersWhole says state old new told before after (Err (Engine Write)) =
     (said : Said) × says said × Began (state old) (state new) said.text Write × (told after ≡ told before)
-AnswersWhole says state old new told before after (Err OutOfMemory) = (state new ≡ state old) × (told after ≡ told before)
+AnswersWhole says state old new told before after (Err (Engine OutOfMemory)) = (new ≡ old) × (told after ≡ told before)
+AnswersWhole says state old new told before after (Err NoEnd) = (new ≡ old) × (told after ≡ told before)
+AnswersWhole says state old new told before after (Err OtherProgram) = ⊥
 
 -- ---- an answer that is made in memory
 

@@ -1,18 +1,19 @@
 //! Files are checked, one after another.
 
-ghost use Rattle.std.specs.Prelude.{◌≤◌, IfOk};
-ghost use Rattle.rc_command.specs.Checking.{ChecksFile, TellsAlone, TellsFile, verdict_told};
+ghost use Rattle.std.specs.Prelude.{◌≡◌, ◌≤◌, IfOk};
+ghost use Rattle.rc_command.specs.Checking as spec;
+ghost use Rattle.rc_command.specs.Checking.{ChecksFile, TellsFile};
 ghost use Rattle.rc_console.specs.Files.{AnswersAs, SaysAll};
 ghost use Rattle.rc_report.specs.Streams.{CanWrite};
-ghost use Rattle.rc_report.specs.Text.{Puts, PutsAnswer};
+ghost use Rattle.rc_report.specs.Text.{PutsAnswer};
 
-use rc_console::command::Form;
+use rc_console::command::{Command, Form};
 use rc_console::fault::CommandFault;
 use rc_console::files::{MEMORY, Texts, tell_file, tell_unread};
+use rc_console::inputs::Extent;
 use rc_console::output::write_answer;
 use rc_explain::engine::put_explained;
-use rc_report::check_engine::verdict_on;
-use rc_report::file_verdict::{put_file_object, put_file_verdict};
+use rc_report::check_engine::put_checked;
 use rc_report::streams::Sink;
 use rc_report::verdict::Verdict;
 use std::alloc::{AllocError, Global};
@@ -24,6 +25,17 @@ pub enum Telling {
     Alone { json: bool },
     /// With what explains it, in this form.
     Explained { form: Form },
+}
+
+/// How the verdicts on files are told, if the command checks them.
+pub fn telling_of(command: &Command<'_>) -> Option<Telling>
+    ensures { result ≡ spec.telling_of command.now }
+{
+    match command {
+        Command::Check { json } => Some(Telling::Alone { json: *json }),
+        Command::Explain { form } => Some(Telling::Explained { form: *form }),
+        _ => None,
+    }
 }
 
 /// Checks files one after another, and answers the greatest status. A file that can't be read, or for which memory ran
@@ -62,7 +74,7 @@ fn check_file<T: Texts, S: Sink, E: Sink>(
     ensures answer { AnswersAs (ChecksFile (T.gives texts.now) telling name.now) S.state sink.old sink.new E.state errors.old errors.new result }
     ensures bound { IfOk result (λ status. status ≤ 3) }
 {
-    let text = match texts.read(alloc, name) {
+    let text = match texts.read(alloc, name, Extent::Enough) {
         Ok(text) => text,
         Err(unread) => return Ok(tell_unread(alloc, name, &unread, errors)),
     };
@@ -84,39 +96,7 @@ fn put_file(
     ensures { PutsAnswer (TellsFile name.now telling text.now) answer.old answer.new result }
 {
     match telling {
-        Telling::Alone { json } => put_alone(answer, alloc, name, text, json),
+        Telling::Alone { json } => put_checked(answer, alloc, Some(name), text, json),
         Telling::Explained { form } => put_explained(answer, alloc, Some(name), text, form),
-    }
-}
-
-/// Adds the verdict on the text of a file.
-fn put_alone(
-    answer: &mut Vec<u8>,
-    alloc: Global,
-    name: &str,
-    text: &[u8],
-    json: bool,
-) -> Result<Verdict, AllocError>
-    ensures { PutsAnswer (TellsAlone name.now json text.now) answer.old answer.new result }
-{
-    let verdict = verdict_on(alloc, text)?;
-    put_told(answer, alloc, name, &verdict, json)?;
-    Ok(verdict)
-}
-
-/// Adds the verdict on a file's text, as JSON or as text.
-fn put_told(
-    text: &mut Vec<u8>,
-    alloc: Global,
-    name: &str,
-    verdict: &Verdict,
-    json: bool,
-) -> Result<(), AllocError>
-    ensures { Puts text.old text.new (verdict_told json name.now verdict.now) result }
-{
-    if json {
-        put_file_object(text, alloc, name, verdict)
-    } else {
-        put_file_verdict(text, name, verdict)
     }
 }

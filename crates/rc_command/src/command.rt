@@ -1,87 +1,131 @@
 //! The whole program, over any reader and writers.
 
-ghost use Rattle.std.specs.Prelude.{◌≡◌, ◌≤◌, IfOk};
-ghost use Rattle.rc_command.specs.Answers.{AsksFile, DoesWith, ReadsAsAsked};
-ghost use Rattle.rc_console.specs.Answers.{Does};
-ghost use Rattle.rc_console.specs.Files.{AnswersAs};
-ghost use Rattle.rc_report.specs.Streams.{CanRead, CanWrite};
+ghost use Rattle.std.specs.Prelude.{◌≡◌, ◌≤◌, IfOk, IsErr, []};
+ghost use Rattle.rc_command.specs.Commands.{Answers, Ends, Leaves, LeavesOr, Runs, SaysCommand, SaysModels, SaysMoved, SaysWords, Serves};
+ghost use Rattle.rc_command.specs.Following.{SaysAsked};
+ghost use Rattle.rc_console.specs.Outputs.{put_out, written_by};
+ghost use Rattle.rc_console.specs.Words.{is_server, with_moves};
+ghost use Rattle.rc_report.specs.Buffers.{kept_back};
 
-use crate::checking::{Telling, check_files};
 use crate::departures::answers::follow_logs;
 use crate::departures::logs::Logs;
-use crate::performing::performed;
+use crate::models::{finished, from_files, from_input};
 use crate::running::Host;
-use rc_console::command::{Asked, Command, with_moves};
+use rc_console::command::{Asked, Command, Following, with_moves};
 use rc_console::fault::CommandFault;
 use rc_console::files::{NoTexts, Texts, tell_unread};
-use rc_console::output::{Output, tell_notes, write_answer, written_out};
-use rc_console::words::read_words;
+use rc_console::inputs::Extent;
+use rc_console::output::Output;
+use rc_console::reasons::tell;
+use rc_console::words::WordsFault;
 use rc_lsp::serving::serve_editor;
 use rc_report::buffered::Buffered;
-use rc_report::engine_fault::EngineFault;
-use rc_report::reading::read_text;
-use rc_report::status::{DEVICE_STATUS, GOOD_STATUS};
-use rc_report::streams::{ReadSource, Sink, Source, WriteSink};
-use rc_report::writing::write_piece;
+use rc_report::status::DEVICE_STATUS;
+use rc_report::streams::{Sink, WriteSink};
 use std::alloc::Global;
 use std::io::{Read, Write};
 use std::sync::Wait;
 use std::thread::Threads;
 
-/// Does what the words say, and answers the exit status. Answers go to the writer; wrong words, files that can't be read,
-/// out of memory and devices that failed are told on one line of `errors` each, but a writer that nobody reads any more
-/// isn't told. Nothing is tried again (`read(2)`, `write(2)`).
+/// Standard output, buffered. It notes whether its reader has closed it.
+pub type Written<O> = Buffered<WriteSink<Output<O>>>;
+
+/// Does what the words ask for, and answers the exit status. Answers go to the output. Wrong words, files that can't be read,
+/// out of memory and devices that failed are reported on one line of `errors` each; an output that its reader has closed
+/// isn't. Nothing is tried again (`read(2)`, `write(2)`).
 pub fn command_over<
     'a,
     R: Threads + Wait + Sync,
     T: Texts + Logs,
     I: Read + Drop,
     O: Write + Drop,
-    E: Write + Drop,
->(rt: &R, texts: &T, alloc: Global, words: &'a [&'a str], reader: I, writer: O, errors: E) -> u8
-    ensures { result ≤ 3 }
+    E: Sink,
+>(
+    host: &Host<'_, R>,
+    texts: &T,
+    asked: Result<Asked<'a>, WordsFault>,
+    reader: I,
+    output: &mut Written<O>,
+    errors: &mut E,
+) -> u8
+    requires empty { kept_back output.old ≡ [] }
+    requires writes { output.old.sink.failures ≡ 0 }
+    requires told { (E.state errors.old).failures ≡ 0 }
+    ensures answer { Runs (Answers (T.gives texts.now) (T.opens texts.now) (I.remaining reader) asked.entry (put_out O.contents) output.old output.new (E.state errors.old)) output.new.sink.writer.is_closed (E.state errors.new) result }
+    ensures bound { result ≤ 3 }
 {
-    let mut errors = WriteSink::new(errors);
-    let mut is_closed = false;
-    let output = Output {
-        writer,
-        is_closed: &mut is_closed,
-    };
-    match answered(rt, texts, alloc, words, reader, output, &mut errors) {
+    let answer = answer_words(host, texts, asked, reader, output, errors);
+    ended(host.alloc, answer, output.sink.writer.is_closed, errors)
+}
+
+/// The same where no file can be opened.
+pub fn command<'a, R: Threads + Wait + Sync, I: Read + Drop, O: Write + Drop, E: Sink>(
+    host: &Host<'_, R>,
+    asked: Result<Asked<'a>, WordsFault>,
+    reader: I,
+    output: &mut Written<O>,
+    errors: &mut E,
+) -> u8
+    requires empty { kept_back output.old ≡ [] }
+    requires writes { output.old.sink.failures ≡ 0 }
+    requires told { (E.state errors.old).failures ≡ 0 }
+    ensures answer { Runs (Answers (λ name given. IsErr given) (λ name given. IsErr given) (I.remaining reader) asked.entry (put_out O.contents) output.old output.new (E.state errors.old)) output.new.sink.writer.is_closed (E.state errors.new) result }
+    ensures bound { result ≤ 3 }
+{
+    command_over(host, &NoTexts, asked, reader, output, errors)
+}
+
+/// The exit status of an answer. If there is none, a line of `errors` says why, unless the reader has closed the output.
+fn ended<E: Sink>(
+    alloc: Global,
+    answer: Result<u8, CommandFault>,
+    is_closed: bool,
+    errors: &mut E,
+) -> u8
+    requires { (E.state errors.old).failures ≤ 1 }
+    ensures answer { Ends is_closed answer (E.state errors.old) (E.state errors.new) result }
+    ensures bound { IfOk answer (λ status. status ≤ 3) → result ≤ 3 }
+{
+    match answer {
         Ok(status) => status,
-        Err(CommandFault::Engine(EngineFault::Write)) if is_closed => DEVICE_STATUS,
-        Err(fault) => tell(alloc, &fault, errors.writer),
+        Err(fault) => {
+            if fault.is_hung_up(is_closed) {
+                return DEVICE_STATUS;
+            }
+            tell(alloc, &fault, errors)
+        }
     }
 }
 
-/// Does what the words say where no file can be opened.
-pub fn command<'a, R: Threads + Wait + Sync, I: Read + Drop, O: Write + Drop, E: Write + Drop>(
-    rt: &R,
-    alloc: Global,
-    words: &'a [&'a str],
+/// Does what the words ask, if they are right.
+fn answer_words<
+    'a,
+    R: Threads + Wait + Sync,
+    T: Texts + Logs,
+    I: Read + Drop,
+    O: Write + Drop,
+    E: Sink,
+>(
+    host: &Host<'_, R>,
+    texts: &T,
+    asked: Result<Asked<'a>, WordsFault>,
     reader: I,
-    writer: O,
-    errors: E,
-) -> u8
-    ensures { result ≤ 3 }
+    sink: &mut Buffered<WriteSink<O>>,
+    errors: &mut E,
+) -> Result<u8, CommandFault>
+    requires empty { kept_back sink.old ≡ [] }
+    requires writes { sink.old.sink.failures ≡ 0 }
+    requires told { (E.state errors.old).failures ≡ 0 }
+    ensures answer { Answers (T.gives texts.now) (T.opens texts.now) (I.remaining reader) asked.entry (written_by O.contents) sink.old sink.new (E.state errors.old) (E.state errors.new) result }
+    ensures bound { IfOk result (λ status. status ≤ 3) }
 {
-    command_over(rt, &NoTexts, alloc, words, reader, writer, errors)
+    match asked {
+        Ok(asked) => answered(host, texts, asked, reader, sink, errors),
+        Err(fault) => Err(CommandFault::Words(fault)),
+    }
 }
 
-/// Tells on one line why the program has no answer, and answers its exit status then, which is 3. Where there is no
-/// memory for the line it says that.
-pub fn tell<E: Write + Drop>(alloc: Global, fault: &CommandFault, errors: E) -> u8
-    ensures { result ≡ 3 }
-{
-    let mut sink = WriteSink::new(errors);
-    let _ = match format!(in alloc; "ringcheck: {fault}\n") {
-        Ok(line) => write_piece(&mut sink, line.as_bytes()),
-        Err(_) => write_piece(&mut sink, b"ringcheck: out of memory (20)\n"),
-    };
-    DEVICE_STATUS
-}
-
-/// Does what the words say, and sees that the answer is written out. The words are read before the input.
+/// Does what is asked, and sees that the answer is written out.
 fn answered<
     'a,
     R: Threads + Wait + Sync,
@@ -90,45 +134,82 @@ fn answered<
     O: Write + Drop,
     E: Sink,
 >(
-    rt: &R,
+    host: &Host<'_, R>,
     texts: &T,
-    alloc: Global,
-    words: &'a [&'a str],
+    asked: Asked<'a>,
     reader: I,
-    writer: O,
+    sink: &mut Buffered<WriteSink<O>>,
     errors: &mut E,
 ) -> Result<u8, CommandFault>
-    requires { (E.state errors.old).failures ≡ 0 }
-    ensures { IfOk result (λ status. status ≤ 3) }
+    requires empty { kept_back sink.old ≡ [] }
+    requires writes { sink.old.sink.failures ≡ 0 }
+    requires told { (E.state errors.old).failures ≡ 0 }
+    ensures answer { LeavesOr (is_server asked.entry.command) (Serves (E.state errors.new) result) (Leaves (SaysWords (T.gives texts.now) (T.opens texts.now) (I.remaining reader) asked.entry) (written_by O.contents) sink.old sink.new (E.state errors.old) (E.state errors.new) result) }
+    ensures bound { IfOk result (λ status. status ≤ 3) }
 {
-    let asked = read_words(alloc, words)?;
-    if let Command::Serve = asked.command {
-        return Ok(serve_editor(alloc, reader, writer, errors)?);
+    if asked.command.is_server() {
+        return served(host.alloc, reader, sink, errors);
     }
-    let mut sink = Buffered::new(alloc, WriteSink::new(writer))?;
-    let Asked {
-        command,
-        files,
-        moves,
-    } = asked;
-    let command = match moves {
-        Some(name) => match texts.read(alloc, name) {
-            Ok(moves) => with_moves(command, moves),
-            Err(unread) => return Ok(tell_unread(alloc, name, &unread, errors)),
-        },
-        None => command,
-    };
-    if let Command::Follow(asked) = &command {
-        let status = follow_logs(texts, alloc, reader, asked, &mut sink, errors)?;
-        return written_out(status, &mut sink);
+    match asked.moves {
+        Some(name) => moved(host, texts, asked, name, reader, sink, errors),
+        None => written(
+            host,
+            texts,
+            &asked.command,
+            &asked.files,
+            reader,
+            sink,
+            errors,
+        ),
     }
-    let host = Host { rt, alloc };
-    written(&host, texts, &command, &files, reader, &mut sink, errors)
 }
 
-/// Does what is asked with the texts of files, or with that of the reader, and sees that the answer is written out. What
-/// is to be told besides comes after it.
-fn written<R: Threads + Wait + Sync, T: Texts, I: Read + Drop, O: Write + Drop, E: Sink>(
+/// Answers the messages of an editor.
+fn served<I: Read + Drop, O: Write + Drop, E: Sink>(
+    alloc: Global,
+    reader: I,
+    sink: &mut Buffered<WriteSink<O>>,
+    errors: &mut E,
+) -> Result<u8, CommandFault>
+    requires writes { sink.old.sink.failures ≡ 0 }
+    requires told { (E.state errors.old).failures ≡ 0 }
+    ensures answer { Serves (E.state errors.new) result }
+    ensures bound { IfOk result (λ status. status ≤ 3) }
+{
+    match serve_editor(alloc, reader, &mut sink.sink, errors) {
+        Ok(status) => Ok(status),
+        Err(fault) => Err(CommandFault::Engine(fault)),
+    }
+}
+
+/// Does what is asked with moves that are in a file.
+fn moved<'a, R: Threads + Wait + Sync, T: Texts + Logs, I: Read + Drop, O: Write + Drop, E: Sink>(
+    host: &Host<'_, R>,
+    texts: &T,
+    asked: Asked<'a>,
+    name: &str,
+    reader: I,
+    sink: &mut Buffered<WriteSink<O>>,
+    errors: &mut E,
+) -> Result<u8, CommandFault>
+    requires empty { kept_back sink.old ≡ [] }
+    requires writes { sink.old.sink.failures ≡ 0 }
+    requires told { (E.state errors.old).failures ≡ 0 }
+    ensures answer { Leaves (SaysMoved (T.gives texts.now) (λ moves. SaysCommand (T.gives texts.now) (T.opens texts.now) (I.remaining reader) (with_moves asked.entry.command moves) asked.entry.files.items) name.now) (written_by O.contents) sink.old sink.new (E.state errors.old) (E.state errors.new) result }
+    ensures bound { IfOk result (λ status. status ≤ 3) }
+{
+    let Asked { command, files, .. } = asked;
+    match texts.read(host.alloc, name, Extent::Whole) {
+        Ok(moves) => {
+            let command = with_moves(command, moves);
+            written(host, texts, &command, &files, reader, sink, errors)
+        }
+        Err(unread) => Ok(tell_unread(host.alloc, name, &unread, errors)),
+    }
+}
+
+/// Does what is asked with logs, with the text of the reader, or with those of files.
+fn written<R: Threads + Wait + Sync, T: Texts + Logs, I: Read + Drop, O: Write + Drop, E: Sink>(
     host: &Host<'_, R>,
     texts: &T,
     command: &Command<'_>,
@@ -137,102 +218,55 @@ fn written<R: Threads + Wait + Sync, T: Texts, I: Read + Drop, O: Write + Drop, 
     sink: &mut Buffered<WriteSink<O>>,
     errors: &mut E,
 ) -> Result<u8, CommandFault>
+    requires empty { kept_back sink.old ≡ [] }
     requires writes { sink.old.sink.failures ≡ 0 }
     requires told { (E.state errors.old).failures ≡ 0 }
-    ensures { IfOk result (λ status. status ≤ 3) }
-{
-    let mut notes = Vec::new(host.alloc);
-    let status = if files.is_empty() {
-        let mut source = ReadSource::new(reader);
-        on_input(host, command, &mut source, sink, &mut notes)?
-    } else {
-        on_files(host, texts, command, files, sink, &mut notes, errors)?
-    };
-    let status = written_out(status, sink)?;
-    tell_notes(&notes, errors);
-    Ok(status)
-}
-
-/// Does what is asked with the text of a source. Help and the version are shown without reading.
-fn on_input<R: Threads + Wait + Sync, I: Source, S: Sink>(
-    host: &Host<'_, R>,
-    command: &Command<'_>,
-    source: &mut I,
-    sink: &mut S,
-    notes: &mut Vec<u8>,
-) -> Result<u8, CommandFault>
-    requires reads { CanRead 2097152 (I.state source.old) }
-    requires writes { CanWrite (S.state sink.old) }
-    ensures answer { DoesWith (I.state source.old) command.now S.state sink.old sink.new result }
+    ensures answer { Leaves (SaysCommand (T.gives texts.now) (T.opens texts.now) (I.remaining reader) command.now files.now) (written_by O.contents) sink.old sink.new (E.state errors.old) (E.state errors.new) result }
     ensures bound { IfOk result (λ status. status ≤ 3) }
-    ensures reads { ReadsAsAsked command.now (I.state source.old) (I.state source.new) result }
 {
-    if let Command::Show(text) = command {
-        return write_answer(sink, text.as_bytes(), GOOD_STATUS);
+    match command.following() {
+        Some(asked) => followed(host.alloc, texts, asked, reader, sink, errors),
+        None => on_models(host, texts, command, files, reader, sink, errors),
     }
-    let text = read_text(host.alloc, source)?;
-    performed(host, command, &text, sink, notes)
 }
 
-/// Does what is asked with the texts of files: `check` takes several, the others one.
-fn on_files<R: Threads + Wait + Sync, T: Texts, S: Sink, E: Sink>(
+/// Does what is asked with the text of the reader, or with those of files.
+fn on_models<R: Threads + Wait + Sync, T: Texts, I: Read + Drop, O: Write + Drop, E: Sink>(
     host: &Host<'_, R>,
     texts: &T,
     command: &Command<'_>,
     files: &[&str],
-    sink: &mut S,
-    notes: &mut Vec<u8>,
+    reader: I,
+    sink: &mut Buffered<WriteSink<O>>,
     errors: &mut E,
 ) -> Result<u8, CommandFault>
-    requires writes { CanWrite (S.state sink.old) }
-    requires told { (E.state errors.old).failures ≤ 1 }
-    ensures answer { Does (λ status text. status ≤ 3) S.state sink.old sink.new result }
-{
-    let telling = match command {
-        Command::Check { json } => Telling::Alone { json: *json },
-        Command::Explain { form } => Telling::Explained { form: *form },
-        _ => return on_first(host, texts, command, files, sink, notes, errors),
-    };
-    check_files(host.alloc, texts, files, telling, sink, errors)
-}
-
-/// Does what is asked with the text of the first file.
-fn on_first<R: Threads + Wait + Sync, T: Texts, S: Sink, E: Sink>(
-    host: &Host<'_, R>,
-    texts: &T,
-    command: &Command<'_>,
-    files: &[&str],
-    sink: &mut S,
-    notes: &mut Vec<u8>,
-    errors: &mut E,
-) -> Result<u8, CommandFault>
-    requires writes { CanWrite (S.state sink.old) }
-    requires told { (E.state errors.old).failures ≤ 1 }
-    ensures answer { Does (λ status text. status ≤ 3) S.state sink.old sink.new result }
-{
-    match files.first() {
-        Some(name) => on_file(host, texts, command, name, sink, notes, errors),
-        None => Ok(GOOD_STATUS),
-    }
-}
-
-/// Does what is asked with the text of a file. One that can't be read is told on a line of `errors`.
-fn on_file<R: Threads + Wait + Sync, T: Texts, S: Sink, E: Sink>(
-    host: &Host<'_, R>,
-    texts: &T,
-    command: &Command<'_>,
-    name: &str,
-    sink: &mut S,
-    notes: &mut Vec<u8>,
-    errors: &mut E,
-) -> Result<u8, CommandFault>
-    requires writes { CanWrite (S.state sink.old) }
-    requires told { (E.state errors.old).failures ≤ 1 }
-    ensures answer { AnswersAs (AsksFile (T.gives texts.now) command.now name.now) S.state sink.old sink.new E.state errors.old errors.new result }
+    requires empty { kept_back sink.old ≡ [] }
+    requires writes { sink.old.sink.failures ≡ 0 }
+    requires told { (E.state errors.old).failures ≡ 0 }
+    ensures answer { Leaves (SaysModels (T.gives texts.now) (I.remaining reader) command.now files.now) (written_by O.contents) sink.old sink.new (E.state errors.old) (E.state errors.new) result }
     ensures bound { IfOk result (λ status. status ≤ 3) }
 {
-    match texts.read(host.alloc, name) {
-        Ok(text) => performed(host, command, &text, sink, notes),
-        Err(unread) => Ok(tell_unread(host.alloc, name, &unread, errors)),
+    if files.is_empty() {
+        return from_input(host, command, reader, sink, errors);
     }
+    from_files(host, texts, command, files, sink, errors)
+}
+
+/// Follows logs, and sees that the answer is written out.
+fn followed<T: Texts + Logs, I: Read + Drop, O: Write + Drop, E: Sink>(
+    alloc: Global,
+    texts: &T,
+    asked: &Following<'_>,
+    reader: I,
+    sink: &mut Buffered<WriteSink<O>>,
+    errors: &mut E,
+) -> Result<u8, CommandFault>
+    requires empty { kept_back sink.old ≡ [] }
+    requires writes { sink.old.sink.failures ≡ 0 }
+    requires told { (E.state errors.old).failures ≡ 0 }
+    ensures answer { Leaves (SaysAsked (T.gives texts.now) (T.opens texts.now) asked.now (I.remaining reader)) (written_by O.contents) sink.old sink.new (E.state errors.old) (E.state errors.new) result }
+    ensures bound { IfOk result (λ status. status ≤ 3) }
+{
+    let status = follow_logs(texts, alloc, reader, asked, sink, errors)?;
+    finished(status, sink, b"", errors)
 }

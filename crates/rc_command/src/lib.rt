@@ -7,7 +7,14 @@ pub mod departures;
 pub mod emitting;
 mod formatting;
 pub mod keeping;
+mod models;
 mod performing;
 pub mod running;
 
-pub use rc_console::{fault, files, words};
+pub use rc_console::{fault, files, output, reasons, words};
+
+/// What the program reads and writes by.
+pub mod streams {
+    pub use rc_report::buffered::Buffered;
+    pub use rc_report::streams::{Sink, WriteSink};
+}

@@ -1,7 +1,7 @@
 //! What each command does with a text.
 
-ghost use Rattle.std.specs.Prelude.{IfOk, None};
-ghost use Rattle.rc_command.specs.Answers.{Finds, IsShownAs, Says, SaysSteps};
+ghost use Rattle.std.specs.Prelude.{◌≡◌, IfOk, None, false, option_copied as named};
+ghost use Rattle.rc_command.specs.Answers.{Finds, IsShownAs, Says, SaysSteps, may_report};
 ghost use Rattle.rc_explain.specs.Explains.{Explains};
 ghost use Rattle.rc_console.specs.Answers.{Does, SaysVerdict};
 ghost use Rattle.rc_report.specs.Checks.{TellsVerdict};
@@ -11,7 +11,7 @@ use crate::emitting::emit_text;
 use crate::formatting::format_text;
 use crate::keeping::keep_text;
 use crate::running::{Host, run_text};
-use rc_console::command::{Command, Form, FoundAs};
+use rc_console::command::{Command, Form, FoundAs, Searching};
 use rc_console::fault::CommandFault;
 use rc_console::output::write_answer;
 use rc_explain::engine::put_explained;
@@ -26,32 +26,33 @@ use std::alloc::{AllocError, Global};
 use std::sync::Wait;
 use std::thread::Threads;
 
-/// Does what is asked with a text. What is to be told besides the answer is added to the notes.
+/// Does what is asked with a text, which may be that of a file. What is to be reported besides the answer is added to the
+/// notes.
 pub fn performed<R: Threads + Wait + Sync, S: Sink>(
     host: &Host<'_, R>,
     command: &Command<'_>,
+    file: Option<&str>,
     text: &[u8],
     sink: &mut S,
     notes: &mut Vec<u8>,
 ) -> Result<u8, CommandFault>
     requires { CanWrite (S.state sink.old) }
-    ensures { Does (Says command.now text.now) S.state sink.old sink.new result }
+    ensures answer { Does (Says (named file.entry) command.now text.now) S.state sink.old sink.new result }
+    ensures notes { may_report command.now ≡ false → notes.new.items ≡ notes.old.items }
 {
     let alloc = host.alloc;
     match command {
         Command::Check { json } => checked(alloc, text, *json, sink),
         Command::Explain { form } => explained(alloc, text, *form, sink),
-        Command::Keeps => keep_text(alloc, text, sink),
-        Command::Step(stepping) => stepped(alloc, text, stepping, sink, notes),
-        Command::Find { seed, walks, found } => {
-            found_in(alloc, text, *seed, *walks, *found, sink, notes)
-        }
+        Command::Keeps => keep_text(alloc, file, text, sink),
+        Command::Step(stepping) => stepped(alloc, file, text, stepping, sink, notes),
+        Command::Find(asked) => found_in(alloc, file, text, *asked, sink, notes),
         Command::Run {
             seed,
             limit,
             summary,
-        } => run_text(host, text, *seed, *limit, *summary, sink),
-        Command::Emit => emit_text(alloc, text, sink),
+        } => run_text(host, file, text, *seed, *limit, *summary, sink),
+        Command::Emit => emit_text(alloc, file, text, sink),
         Command::Follow(_) | Command::Serve => write_answer(sink, b"", DEVICE_STATUS),
         Command::Format => format_text(alloc, text, sink),
         Command::Show(shown) => write_answer(sink, shown.as_bytes(), GOOD_STATUS),
@@ -66,10 +67,10 @@ fn checked<S: Sink>(
     sink: &mut S,
 ) -> Result<u8, CommandFault>
     requires { CanWrite (S.state sink.old) }
-    ensures { Does (SaysVerdict (TellsVerdict text.now json)) S.state sink.old sink.new result }
+    ensures { Does (SaysVerdict (TellsVerdict None text.now json)) S.state sink.old sink.new result }
 {
     let mut answer = Vec::new(alloc);
-    let verdict = put_checked(&mut answer, alloc, text, json)?;
+    let verdict = put_checked(&mut answer, alloc, None, text, json)?;
     write_answer(sink, &answer, verdict.status())
 }
 
@@ -91,51 +92,52 @@ fn explained<S: Sink>(
 /// Steps the program of a text, and shows its run.
 fn stepped<S: Sink>(
     alloc: Global,
+    file: Option<&str>,
     text: &[u8],
     stepping: &Stepping<'_>,
     sink: &mut S,
     notes: &mut Vec<u8>,
 ) -> Result<u8, CommandFault>
     requires { CanWrite (S.state sink.old) }
-    ensures { Does (SaysSteps text.now stepping.now) S.state sink.old sink.new result }
+    ensures { Does (SaysSteps (named file.entry) text.now stepping.now) S.state sink.old sink.new result }
 {
-    let end = step(alloc, text, stepping, notes, sink)?;
+    let end = step(alloc, file, text, stepping, notes, sink)?;
     Ok(end.status())
 }
 
 /// Checks a text, and looks for a run of a refused one into a fault.
 fn found_in<S: Sink>(
     alloc: Global,
+    file: Option<&str>,
     text: &[u8],
-    seed: u32,
-    walks: u32,
-    form: FoundAs,
+    asked: Searching,
     sink: &mut S,
     notes: &mut Vec<u8>,
 ) -> Result<u8, CommandFault>
     requires { CanWrite (S.state sink.old) }
-    ensures { Does (SaysVerdict (Finds text.now walks form)) S.state sink.old sink.new result }
+    ensures { Does (SaysVerdict (Finds (named file.entry) text.now asked)) S.state sink.old sink.new result }
 {
-    let found = find(alloc, text, seed, walks)?;
-    let answer = shown_as(alloc, text, &found, form, notes)?;
+    let found = find(alloc, text, asked.seed, asked.walks)?;
+    let answer = shown_as(alloc, file, text, &found, asked.form, notes)?;
     write_answer(sink, &answer, found.verdict.status())
 }
 
 /// What was found of a text in this form.
 fn shown_as(
     alloc: Global,
+    file: Option<&str>,
     text: &[u8],
     found: &Found,
     form: FoundAs,
     notes: &mut Vec<u8>,
 ) -> Result<Vec<u8>, AllocError>
-    ensures { IfOk result (λ answer. IsShownAs form found.now answer.items) }
+    ensures { IfOk result (λ answer. IsShownAs (named file.entry) form found.now answer.items) }
 {
     let mut answer = Vec::new(alloc);
     match form {
-        FoundAs::Words => put_found(&mut answer, found)?,
-        FoundAs::Json => put_found_json(&mut answer, alloc, None, found)?,
-        FoundAs::Picture => put_found_picture(&mut answer, notes, alloc, text, found)?,
+        FoundAs::Words => put_found(&mut answer, alloc, file, found)?,
+        FoundAs::Json => put_found_json(&mut answer, alloc, file, found)?,
+        FoundAs::Picture => put_found_picture(&mut answer, notes, alloc, file, text, found)?,
     }
     Ok(answer)
 }

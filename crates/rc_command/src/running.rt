@@ -1,13 +1,12 @@
 //! A text is run on threads, and the trace of the run is written.
 
-ghost use Rattle.std.specs.Prelude.{◌≡◌, IfErr, IfOk};
+ghost use Rattle.std.specs.Prelude.{◌≡◌, IfErr, IfOk, option_copied as named};
 ghost use Rattle.std.specs.Arc.{arc_value};
-ghost use Rattle.rc_command.specs.Answers.{EndsRun, SaysAdmitted, SaysRun};
+ghost use Rattle.rc_command.specs.Answers.{EndsRun, SaysAdmitted, SaysRun, TellsWhy};
 ghost use Rattle.rc_console.specs.declared.fault.CommandFault.TheVariants.{OtherProgram};
 ghost use Rattle.rc_console.specs.Answers.{Does};
-ghost use Rattle.rc_report.specs.Statuses.{status_of_end, status_of_verdict};
+ghost use Rattle.rc_report.specs.Statuses.{status_of_end};
 ghost use Rattle.rc_report.specs.Streams.{CanWrite};
-ghost use Rattle.rc_report.specs.Verdicts.{verdict_text};
 
 use rc_admit::admitted::Admitted;
 use rc_console::fault::CommandFault;
@@ -20,7 +19,7 @@ use rc_report::source::Lines;
 use rc_report::streams::Sink;
 use rc_report::summary::put_summary;
 use rc_report::trace::{End, trace_text};
-use rc_report::verdict::{Verdict, put_verdict};
+use rc_report::verdict::{Verdict, print_verdict};
 use rc_run::gate::OpenGate;
 use rc_run::report::{RunFault, RunReport};
 use rc_run::runner::run;
@@ -40,6 +39,7 @@ pub struct Host<'a, R> {
 /// is answered with its verdict.
 pub fn run_text<R: Threads + Wait + Sync, S: Sink>(
     host: &Host<'_, R>,
+    file: Option<&str>,
     text: &[u8],
     seed: u32,
     limit: u32,
@@ -47,26 +47,27 @@ pub fn run_text<R: Threads + Wait + Sync, S: Sink>(
     sink: &mut S,
 ) -> Result<u8, CommandFault>
     requires { CanWrite (S.state sink.old) }
-    ensures { Does (SaysAdmitted text.now (λ program. SaysRun program limit summary))
+    ensures { Does (SaysAdmitted (named file.entry) text.now (λ program. SaysRun program limit summary))
         S.state sink.old sink.new result }
 {
     match judged(host.alloc, text)? {
         Ok(admitted) => run_admitted(host, text, admitted, seed, limit, summary, sink),
-        Err(verdict) => tell_verdict(host.alloc, verdict, sink),
+        Err(verdict) => tell_verdict(host.alloc, file, verdict, sink),
     }
 }
 
-/// Writes a verdict, and answers its status.
+/// Writes a verdict, with the name of the model's file if there is one, and answers its status.
 pub fn tell_verdict<S: Sink>(
     alloc: Global,
+    file: Option<&str>,
     verdict: Verdict,
     sink: &mut S,
 ) -> Result<u8, CommandFault>
     requires { CanWrite (S.state sink.old) }
-    ensures { Does (λ status text. (text ≡ verdict_text verdict) × (status ≡ status_of_verdict verdict)) S.state sink.old sink.new result }
+    ensures { Does (TellsWhy (named file.entry) verdict) S.state sink.old sink.new result }
 {
     let mut answer = Vec::new(alloc);
-    put_verdict(&mut answer, &verdict)?;
+    print_verdict(&mut answer, alloc, file, false, &verdict)?;
     write_answer(sink, &answer, verdict.status())
 }
 

@@ -3,11 +3,13 @@ use Rattle.std.proofs.Common.{◌≡◌, ℕ, ◌+◌, ◌<◌, ◌≤◌, List,
 use Rattle.std.proofs.lemmas.Grind.{flat_map-append}
 use Rattle.std.proofs.lemmas.List.{map-append, take_more}
 use Rattle.std.specs.List.{flat_map}
-use Rattle.std.specs.Prelude.{IfOk, max, map}
+use Rattle.std.specs.Prelude.{IsErrAnd, max, map}
 use Rattle.rc_report.specs.Streams.{Taken}
 use Rattle.rc_report.proofs.Pieces.{append-[], appends_both, appends_none, wrote_along, wrote_both, wrote_none}
+use Rattle.rc_report.specs.declared.engine_fault.EngineFault.TheVariants.{Read, Write, OutOfMemory}
 use Rattle.rc_console.specs.declared.fault.CommandFault.{CommandFault}
-use Rattle.rc_console.specs.Answers.{Does}
+use Rattle.rc_console.specs.declared.fault.CommandFault.TheVariants.{Words, Engine, NoEnd, OtherProgram}
+use Rattle.rc_console.specs.Answers.{Does, Fails}
 use Rattle.rc_console.specs.Files.{Answered, AnswersAs, IsTold, Said, SaysAll, SaysEach, greatest}
 
 -- ---- what is told on standard error
@@ -58,16 +60,25 @@ module _ {N : Type 0} (says : N → Said → Type 0) where
         told_along e g _ _ tells (told_both e f g _ _ told told_next),
       )
 
--- ---- of what is said of files, what the program does
+-- One of them stops.
+stops_along : (a b c : Taken) (fault : CommandFault) → b.failures ≡ a.failures → Fails b c fault → Fails a c fault
+stops_along a b c (Words e) same h = absurd h
+stops_along a b c (Engine Read) same h = absurd h
+stops_along a b c (Engine Write) same h = omega (arith, same, h)
+stops_along a b c (Engine OutOfMemory) same h = omega (arith, same, h)
+stops_along a b c NoEnd same h = absurd h
+stops_along a b c OtherProgram same h = omega (arith, same, h)
 
-pub files_do : {S E : Type 0} (says : Said → Type 0) (state : S → Taken) (old new : S) (told : E → Taken) (before after : E) (r : Result ℕ CommandFault) →
-    AnswersAs says state old new told before after r → IfOk r (λ status. status ≤ 3) → Does (λ status text. status ≤ 3) state old new r
-files_do says state old new told before after (Ok status) (said, says_it, is, wrote, tells) within = (said.text, within, wrote)
-files_do says state old new told before after (Err e) h within = h
+module _ {S E : Type 0} (state : S → Taken) (told : E → Taken) where
+  pub one_stops : (first next others : Said → Type 0) (a b c : S) (e f g : E) (status : ℕ) (fault : CommandFault) (r : Result ℕ CommandFault) → IsErrAnd r (λ y. y ≡ fault) →
+      Answered first (state a) (state b) (told e) (told f) status → AnswersAs next state b c told f g (Err fault) → AnswersAs others state a c told e g r
+  one_stops first next others a b c e f g status fault (Ok s) is so_far h = absurd is
+  one_stops first next others a b c e f g status fault (Err y) is (said, says, same, wrote, before) (fails, (some, after)) =
+      subst (λ (z : CommandFault). AnswersAs others state a c told e g (Err z)) (sym is) (stops_along (state a) (state b) (state c) fault wrote.1 fails, (said.told ++ some, told_both (told e) (told f) (told g) said.told some before after))
 
 -- A text that was written is what is said, and nothing is told.
 pub told_nothing : {S E : Type 0} (kind : ℕ → List ℕ → Type 0) (says : Said → Type 0) (state : S → Taken) (old new : S) (told : E → Taken) (errors : E) (r : Result ℕ CommandFault) →
     (told errors).failures ≤ 1 → ((status : ℕ) (text : List ℕ) → kind status text → says (record { status = status; text = text; told = [] })) → Does kind state old new r → AnswersAs says state old new told errors errors r
 told_nothing kind says state old new told errors (Ok status) few by (text, h, wrote) =
     (record { status = status; text = text; told = [] }, by status text h, refl, wrote, told_none (told errors) few)
-told_nothing kind says state old new told errors (Err e) few by h = h
+told_nothing kind says state old new told errors (Err e) few by h = (h, ([], told_none (told errors) few))

@@ -5,7 +5,7 @@ use Rattle.rc_report.specs.declared.verdict.Verdict.{Verdict}
 use Rattle.rc_report.specs.Statuses.{status_of_verdict}
 use Rattle.rc_report.specs.Streams.{Taken, Wrote}
 use Rattle.rc_console.specs.declared.fault.CommandFault.{CommandFault}
-use Rattle.rc_console.specs.declared.fault.CommandFault.TheVariants.{Words, Engine, OtherProgram}
+use Rattle.rc_console.specs.declared.fault.CommandFault.TheVariants.{Words, Engine, NoEnd, OtherProgram}
 
 -- The status is that of a verdict, and what is written tells it.
 abbrev pub SaysVerdict : (Verdict → List ℕ → Type 0) → ℕ → List ℕ → Type 0
@@ -17,6 +17,7 @@ Fails old new (Words e) = ⊥
 Fails old new (Engine Read) = ⊥
 Fails old new (Engine Write) = new.failures ≡ old.failures + 1
 Fails old new (Engine OutOfMemory) = new.failures ≡ old.failures
+Fails old new NoEnd = ⊥
 Fails old new OtherProgram = new.failures ≡ old.failures
 
 -- Such a status is answered, and such a text is written whole.

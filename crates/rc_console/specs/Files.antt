@@ -59,6 +59,10 @@ SaysAll says names said = (each : List Said) × SaysEach says names each × (sai
 abbrev pub IsTold : Taken → Taken → List ℕ → Type 0
 IsTold old new told = (old.failures ≤ new.failures) × (new.failures ≤ 1) × (new.failures ≡ 0 → Appends old.contents new.contents told)
 
+-- Something was told, as of the files before a failure.
+abbrev pub ToldSome : Taken → Taken → Type 0
+ToldSome old new = (told : List ℕ) × IsTold old new told
+
 -- Such an answer has this status, and was written to one sink and told on another.
 abbrev pub Answered : (Said → Type 0) → Taken → Taken → Taken → Taken → ℕ → Type 0
 Answered says old new before after status =
@@ -66,4 +70,4 @@ Answered says old new before after status =
 
 abbrev pub AnswersAs : {S E : Type 0} → (Said → Type 0) → (S → Taken) → S → S → (E → Taken) → E → E → Result ℕ CommandFault → Type 0
 AnswersAs says state old new told before after (Ok status) = Answered says (state old) (state new) (told before) (told after) status
-AnswersAs says state old new told before after (Err e) = Fails (state old) (state new) e
+AnswersAs says state old new told before after (Err e) = Fails (state old) (state new) e × ToldSome (told before) (told after)

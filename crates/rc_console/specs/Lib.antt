@@ -1,3 +1,6 @@
 pub mod Answers
+pub mod Faults
 pub mod Files
+pub mod Inputs
+pub mod Outputs
 pub mod Words

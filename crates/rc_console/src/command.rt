@@ -3,6 +3,7 @@
 ghost use Rattle.std.specs.Prelude.{◌≡◌};
 ghost use Rattle.rc_console.specs.Words as spec;
 
+use crate::inputs::Extent;
 use rc_report::script::{Script, Stepping};
 
 /// How a verdict is explained.
@@ -25,6 +26,17 @@ pub enum FoundAs {
     Json,
     /// As a picture.
     Picture,
+}
+
+/// What `find` is asked for.
+#[derive(Clone, Copy)]
+pub struct Searching {
+    /// The seed of the choices.
+    pub seed: u32,
+    /// How many walks are made at most, from 1.
+    pub walks: u32,
+    /// How the run that is found is shown.
+    pub form: FoundAs,
 }
 
 /// What `follow` is asked for.
@@ -55,12 +67,8 @@ pub enum Command<'a> {
     Keeps,
     /// Step the program, and show its run.
     Step(Stepping<'a>),
-    /// Look for a run of the refused program into a fault: with the choices of this seed, by so many walks at most, from 1.
-    Find {
-        seed: u32,
-        walks: u32,
-        found: FoundAs,
-    },
+    /// Look for a run of the refused program into a fault.
+    Find(Searching),
     /// Run the program on threads: with the choices of this seed, and at most so many events of its threads, from 1.
     /// What happened is written as a summary or as a trace.
     Run {
@@ -78,6 +86,37 @@ pub enum Command<'a> {
     Serve,
     /// Show this text: help, or the version.
     Show(String),
+}
+
+impl<'a> Command<'a> {
+    ghost use Rattle.std.specs.Prelude.{option_copied};
+
+    /// Whether it serves an editor.
+    pub fn is_server(&self) -> bool
+        ensures { result ≡ spec.is_server self.now }
+    {
+        matches!(self, Command::Serve)
+    }
+
+    /// What `follow` is asked for, if it is that.
+    pub fn following(&self) -> Option<&Following<'a>>
+        ensures { option_copied result ≡ spec.following self.now }
+    {
+        match self {
+            Command::Follow(asked) => Some(asked),
+            _ => None,
+        }
+    }
+
+    /// How much of a model the command needs: `keeps` and `fmt` print it.
+    pub fn extent(&self) -> Extent
+        ensures { result ≡ spec.extent self.now }
+    {
+        match self {
+            Command::Keeps | Command::Format => Extent::Whole,
+            _ => Extent::Enough,
+        }
+    }
 }
 
 /// A command and the files that it reads: standard input if there are none.

@@ -1,22 +1,56 @@
 //! Why the program has no answer.
 
+ghost use Rattle.std.specs.Prelude.{◌≡◌};
+ghost use Rattle.rc_console.specs.Faults as spec;
+
+use crate::files::MEMORY;
 use crate::words::WordsFault;
 use rc_report::engine_fault::EngineFault;
 use std::alloc::AllocError;
-use thiserror::Error;
 
 /// Why the program has no answer.
-#[derive(Debug, Drop, Error)]
+#[derive(Debug, Drop)]
 pub enum CommandFault {
     /// The words are no command.
-    #[error(transparent)]
     Words(WordsFault),
     /// A device failed, or memory ran out.
-    #[error(transparent)]
     Engine(EngineFault),
+    /// 2,097,152 reads met no end of the input.
+    NoEnd,
     /// What ran was another program.
-    #[error("other program (31)")]
     OtherProgram,
+}
+
+impl CommandFault {
+    /// Why there is no answer, in words.
+    pub fn why(&self) -> &str
+        ensures { result.now ≡ spec.why_of self.now }
+    {
+        match self {
+            CommandFault::Words(fault) => fault.why(),
+            CommandFault::Engine(fault) => why_of_engine(*fault),
+            CommandFault::NoEnd => "the input has no end",
+            CommandFault::OtherProgram => "other program (31)",
+        }
+    }
+
+    /// Whether the output failed because its reader has closed it, which isn't reported.
+    pub fn is_hung_up(&self, is_closed: bool) -> bool
+        ensures { result ≡ spec.is_hung_up is_closed self.now }
+    {
+        is_closed && matches!(self, CommandFault::Engine(EngineFault::Write))
+    }
+}
+
+/// Why an engine didn't finish, in words.
+fn why_of_engine(fault: EngineFault) -> &'static str
+    ensures { result.now ≡ spec.why_of_engine fault }
+{
+    match fault {
+        EngineFault::Read => "the input can't be read",
+        EngineFault::Write => "the output can't be written",
+        EngineFault::OutOfMemory => MEMORY,
+    }
 }
 
 impl From<WordsFault> for CommandFault {

@@ -3,11 +3,12 @@
 ghost use Rattle.std.specs.Prelude.{◌≡◌, ◌≤◌, ◌++◌, ℕ, IfOk, IfSome, IsErr, List, Result};
 ghost use Rattle.rc_console.specs.declared.files.Unread.{Unread};
 ghost use Rattle.rc_console.specs.Files.{IsTold, bytes_of, line_told};
+ghost use Rattle.rc_console.specs.Inputs.{GivesNeeded, Suffices};
 ghost use Rattle.rc_report.specs.Streams.{CanWrite, Writes};
 ghost use Rattle.rc_text.specs.Text.{Puts};
 
+use crate::inputs::{Extent, read_needed};
 use rc_report::engine_fault::EngineFault;
-use rc_report::reading::read_text;
 use rc_report::shown::{put_shown, write_shown};
 use rc_report::status::DEVICE_STATUS;
 use rc_report::streams::{ReadSource, Sink};
@@ -26,7 +27,7 @@ pub enum Unread {
     #[error("{0}")]
     Failed(io::Error),
     /// 2,097,152 reads met no end of it.
-    #[error("the file has no end")]
+    #[error("the input has no end")]
     NoEnd,
     /// Its name has bytes that aren't text, so it can't be opened.
     #[error("the name isn't UTF-8 text")]
@@ -41,9 +42,10 @@ pub trait Texts {
     // What reading the file of a name may give: its bytes, or why it gives none.
     ghost gives: { Self → List ℕ → Result (List ℕ) Unread → Type 0 };
 
-    /// The bytes of the file of this name, up to its end. Nothing is tried again (`open(2)`, `read(2)`).
-    fn read(&self, alloc: Global, name: &str) -> Result<Vec<u8>, Unread>
-        ensures { gives self.now name.now (bytes_of result) };
+    /// The bytes of the file of this name, up to its end, as many as are needed. Nothing is tried again (`open(2)`,
+    /// `read(2)`).
+    fn read(&self, alloc: Global, name: &str, extent: Extent) -> Result<Vec<u8>, Unread>
+        ensures { GivesNeeded (gives self.now name.now) extent (bytes_of result) };
 }
 
 /// The files of the system. A name with NUL stands for one that isn't text.
@@ -52,17 +54,24 @@ pub struct SystemTexts<'a, R> {
     pub files: &'a R,
 }
 
-impl<'a, R: Files> Texts for SystemTexts<'a, R> {
-    ghost gives = { λ texts name given. Unit {0} };
-
-    fn read(&self, alloc: Global, name: &str) -> Result<Vec<u8>, Unread> {
+impl<'a, R: Files> SystemTexts<'a, R> {
+    /// Opens the file of this name (`open(2)`).
+    pub fn opened(&self, name: &str) -> Result<R::File, Unread> {
         if name.contains('\0') {
             return Err(Unread::NoText);
         }
         match fs::open(self.files, name) {
-            Ok(file) => read_opened(alloc, file),
+            Ok(file) => Ok(file),
             Err(error) => Err(Unread::Failed(error)),
         }
+    }
+}
+
+impl<'a, R: Files> Texts for SystemTexts<'a, R> {
+    ghost gives = { λ texts name given. Unit {0} };
+
+    fn read(&self, alloc: Global, name: &str, extent: Extent) -> Result<Vec<u8>, Unread> {
+        read_opened(alloc, self.opened(name)?, extent)
     }
 }
 
@@ -73,7 +82,7 @@ pub struct NoTexts;
 impl Texts for NoTexts {
     ghost gives = { λ texts name given. IsErr given };
 
-    fn read(&self, _alloc: Global, _name: &str) -> Result<Vec<u8>, Unread> {
+    fn read(&self, _alloc: Global, _name: &str, _extent: Extent) -> Result<Vec<u8>, Unread> {
         Err(Unread::Failed(io::Error::from(io::ErrorKind::NotFound)))
     }
 }
@@ -83,6 +92,20 @@ impl Texts for NoTexts {
 struct Kept<R> {
     reader: R,
     failure: Option<io::Error>,
+}
+
+impl<R> Kept<R> {
+    ghost use Rattle.std.specs.Prelude.{None};
+
+    /// A reader from which nothing has been read yet.
+    fn new(reader: R) -> Kept<R>
+        ensures { result ≡ record { reader = reader; failure = None } }
+    {
+        Kept {
+            reader,
+            failure: None,
+        }
+    }
 }
 
 impl<R: Read> Read for Kept<R> {
@@ -99,22 +122,27 @@ impl<R: Read> Read for Kept<R> {
     }
 }
 
-/// The bytes of an opened file, up to its end.
-pub fn read_opened<R: Read + Drop>(alloc: Global, reader: R) -> Result<Vec<u8>, Unread>
-    ensures { IfOk result (λ text. IfSome (R.remaining reader) (λ bytes. text.items ≡ bytes)) }
+/// The bytes of an opened file, up to its end, as many as are needed.
+pub fn read_opened<R: Read + Drop>(
+    alloc: Global,
+    reader: R,
+    extent: Extent,
+) -> Result<Vec<u8>, Unread>
+    ensures { IfOk result (λ text. IfSome (R.remaining reader) (Suffices extent text.items)) }
 {
-    let kept = Kept {
-        reader,
-        failure: None,
-    };
-    let mut source = ReadSource::new(kept);
-    match read_text(alloc, &mut source) {
+    let mut source = ReadSource::new(Kept::new(reader));
+    match read_needed(alloc, &mut source, extent) {
         Ok(text) => Ok(text),
-        Err(EngineFault::OutOfMemory) => Err(Unread::OutOfMemory),
-        Err(_) => match source.reader.failure {
-            Some(error) => Err(Unread::Failed(error)),
-            None => Err(Unread::NoEnd),
-        },
+        Err(fault) => Err(unread_by(fault, source.reader.failure)),
+    }
+}
+
+/// Why a file wasn't read, by the error of the read that failed, if one did.
+fn unread_by(fault: EngineFault, failure: Option<io::Error>) -> Unread {
+    match (fault, failure) {
+        (EngineFault::OutOfMemory, _) => Unread::OutOfMemory,
+        (_, Some(error)) => Unread::Failed(error),
+        (_, None) => Unread::NoEnd,
     }
 }
 

@@ -3,7 +3,7 @@
 ghost use Rattle.std.specs.Prelude.{IfOk};
 ghost use Rattle.rc_console.specs.Words.{HasRanges};
 
-use crate::command::{Command, Following, Form, FoundAs};
+use crate::command::{Command, Following, Form, FoundAs, Searching};
 use crate::words::WordsFault;
 use clap::ArgMatches;
 use rc_report::script::{Script, Show, Stepping};
@@ -114,12 +114,12 @@ fn find_of<'a>(alloc: Global, find: &ArgMatches<'a>) -> Result<Command<'a>, Word
     if walks < 1 || walks > MOST_WALKS {
         return Err(WordsFault::Wrong(format!(in alloc; "{walks} is no number of walks")?));
     }
-    let found = match (find.get_flag("svg"), find.get_flag("json")) {
+    let form = match (find.get_flag("svg"), find.get_flag("json")) {
         (true, _) => FoundAs::Picture,
         (false, true) => FoundAs::Json,
         (false, false) => FoundAs::Words,
     };
-    Ok(Command::Find { seed, walks, found })
+    Ok(Command::Find(Searching { seed, walks, form }))
 }
 
 /// The command `run`. That its numbers are there and in their ranges was seen before.

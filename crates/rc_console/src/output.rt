@@ -1,9 +1,10 @@
 //! Standard output.
 
-ghost use Rattle.std.specs.Prelude.{◌≡◌, ◌+◌, ◌<◌, ◌≤◌, ◌^◌, IfErr, IfOk};
+ghost use Rattle.std.specs.Prelude.{◌≡◌, ◌+◌, ◌<◌, ◌≤◌, ◌^◌, false, IfErr, IfOk};
 ghost use Rattle.rc_console.specs.declared.fault.CommandFault.TheVariants.{Engine};
 ghost use Rattle.rc_console.specs.Answers.{Does};
 ghost use Rattle.rc_console.specs.Files.{IsTold};
+ghost use Rattle.rc_console.specs.Outputs.{IsWrittenOut};
 ghost use Rattle.rc_report.specs.declared.engine_fault.EngineFault.TheVariants.{Write as FailedWrite};
 ghost use Rattle.rc_report.specs.Streams.{CanWrite};
 
@@ -16,21 +17,33 @@ use std::io::{self, ErrorKind, Write};
 
 /// A writer that notes whether nobody reads what it writes any more, as after `head` has ended (`pipe(7)`).
 #[derive(Drop)]
-pub struct Output<'a, W> {
+pub struct Output<W> {
     /// What is written to.
     pub writer: W,
-    /// Whether a write failed since nobody reads.
-    pub is_closed: &'a mut bool,
+    /// Whether the last write that failed did so because the reader has closed its end (`EPIPE`).
+    pub is_closed: bool,
 }
 
-impl<'a, W: Write> Write for Output<'a, W> {
+impl<W> Output<W> {
+    /// A writer to which nothing has been written yet.
+    pub fn new(writer: W) -> Output<W>
+        ensures { result ≡ record { writer = writer; is_closed = false } }
+    {
+        Output {
+            writer,
+            is_closed: false,
+        }
+    }
+}
+
+impl<W: Write> Write for Output<W> {
     ghost contents = { λ output. W.contents output.writer };
 
     fn write(&mut self, piece: &[u8]) -> io::Result<usize> {
         match self.writer.write(piece) {
             Ok(count) => Ok(count),
             Err(error) => {
-                *self.is_closed = error.kind() == ErrorKind::BrokenPipe;
+                self.is_closed = error.kind() == ErrorKind::BrokenPipe;
                 Err(error)
             }
         }
@@ -40,7 +53,7 @@ impl<'a, W: Write> Write for Output<'a, W> {
         match self.writer.flush() {
             Ok(()) => Ok(()),
             Err(error) => {
-                *self.is_closed = error.kind() == ErrorKind::BrokenPipe;
+                self.is_closed = error.kind() == ErrorKind::BrokenPipe;
                 Err(error)
             }
         }
@@ -62,7 +75,7 @@ pub fn written_out<O: Write + Drop>(
     sink: &mut Buffered<WriteSink<O>>,
 ) -> Result<u8, CommandFault>
     requires { sink.old.sink.failures + 1 < 2 ^ 64 }
-    ensures status { IfOk result (λ s. (s ≡ status) × (sink.new.sink.failures ≡ sink.old.sink.failures)) }
+    ensures status { IfOk result (λ s. (s ≡ status) × IsWrittenOut O.contents sink.old sink.new) }
     ensures fault { IfErr result (λ e. (e ≡ Engine FailedWrite) × (sink.new.sink.failures ≡ sink.old.sink.failures + 1)) }
 {
     match sink.finish() {

@@ -20,7 +20,7 @@ docs/causes.md explains the codes of refused and unreadable lines (V1 to V19, P1
 
 /// What is shown after the help of `follow`.
 const FOLLOW_HELP: &str =
-    "Exit status: 0 followed, 1 departs, 2 unreadable, 3 too many candidates or no answer; the greatest of all logs.
+    "Exit status: 0 followed, 1 departs, 2 unreadable, 3 full, too many candidates or no answer; the greatest of all logs.
 
 Example: ringcheck follow examples/follow/wal.rc wal.log
 

@@ -1,9 +1,11 @@
 //! The words of the command line are read.
 
-ghost use Rattle.std.specs.Prelude.{IfOk};
+ghost use Rattle.std.specs.Prelude.{◌≡◌, IfOk};
+ghost use Rattle.rc_console.specs.Faults.{why_of_words};
 ghost use Rattle.rc_console.specs.Words.{HasRanges};
 
 use crate::command::{Asked, Command};
+use crate::files::MEMORY;
 pub use crate::given::given_words;
 use crate::options::{command_of, moves_file};
 use crate::usage::described;
@@ -11,17 +13,26 @@ use clap::ArgMatches;
 use clap::error::ErrorKind;
 use rc_report::shown::put_shown;
 use std::alloc::{AllocError, AllocFailed, Global};
-use thiserror::Error;
 
 /// Why the words are no command.
-#[derive(Debug, Drop, Error)]
+#[derive(Debug, Drop)]
 pub enum WordsFault {
     /// Wrong words; what is wrong with them, in one line.
-    #[error("{0}")]
     Wrong(String),
     /// A growth was refused (code 20).
-    #[error("out of memory (20)")]
     OutOfMemory,
+}
+
+impl WordsFault {
+    /// Why the words are no command, in words.
+    pub fn why(&self) -> &str
+        ensures { result.now ≡ why_of_words self.now }
+    {
+        match self {
+            WordsFault::Wrong(why) => why.as_str(),
+            WordsFault::OutOfMemory => MEMORY,
+        }
+    }
 }
 
 impl From<AllocError> for WordsFault {

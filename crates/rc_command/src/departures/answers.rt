@@ -11,14 +11,14 @@ use crate::departures::logs::Logs;
 use crate::departures::printed::put_unmade;
 use crate::departures::unmade::unmade_calls;
 use rc_console::command::Following;
+use rc_console::fault::CommandFault;
 use rc_console::files::{Texts, Unread, tell_unread};
+use rc_console::inputs::{Extent, read_input};
 use rc_console::output::tell_notes;
 use rc_follow::follower::Follower;
 use rc_lang::program::Program;
 use rc_log::reader::LogFault;
 use rc_report::check_engine::judged;
-use rc_report::engine_fault::EngineFault;
-use rc_report::reading::read_text;
 use rc_report::source::Lines;
 use rc_report::streams::{ReadSource, Sink};
 use rc_report::verdict::{Verdict, print_verdict};
@@ -37,7 +37,7 @@ pub fn follow_logs<T: Texts + Logs, I: Read + Drop, S: Sink, E: Sink>(
     asked: &Following<'_>,
     sink: &mut S,
     errors: &mut E,
-) -> Result<u8, EngineFault>
+) -> Result<u8, CommandFault>
     requires writes { CanWrite (S.state sink.old) }
     requires told { (E.state errors.old).failures ≤ 1 }
     ensures answer { AnswersWhole (SaysAsked (T.gives texts.now) (T.opens texts.now) asked.now (I.remaining reader)) S.state sink.old sink.new E.state errors.old errors.new result }
@@ -45,12 +45,12 @@ pub fn follow_logs<T: Texts + Logs, I: Read + Drop, S: Sink, E: Sink>(
     ensures failures { IfOk result (λ _. (S.state sink.new).failures ≡ (S.state sink.old).failures) }
 {
     match asked.text {
-        Some(name) => match texts.read(alloc, name) {
+        Some(name) => match texts.read(alloc, name, Extent::Enough) {
             Ok(model) => follow_model(texts, alloc, &model, asked, sink, errors),
             Err(unread) => Ok(tell_unread(alloc, name, &unread, errors)),
         },
         None => {
-            let model = read_text(alloc, &mut ReadSource::new(reader))?;
+            let model = read_input(alloc, &mut ReadSource::new(reader), Extent::Enough)?;
             follow_model(texts, alloc, &model, asked, sink, errors)
         }
     }
@@ -64,7 +64,7 @@ fn follow_model<T: Logs, S: Sink, E: Sink>(
     asked: &Following<'_>,
     sink: &mut S,
     errors: &mut E,
-) -> Result<u8, EngineFault>
+) -> Result<u8, CommandFault>
     requires writes { CanWrite (S.state sink.old) }
     requires told { (E.state errors.old).failures ≤ 1 }
     ensures answer { AnswersWhole (SaysModel (T.opens texts.now) asked.now model.now) S.state sink.old sink.new E.state errors.old errors.new result }

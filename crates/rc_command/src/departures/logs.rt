@@ -5,7 +5,6 @@ ghost use Rattle.rc_console.specs.declared.files.Unread.{Unread};
 ghost use Rattle.rc_command.specs.Following.{opened};
 
 use rc_console::files::{NoTexts, SystemTexts, Unread};
-use std::fs;
 use std::io::{self, Read};
 use std::rt::Files;
 
@@ -28,13 +27,7 @@ impl<'a, R: Files> Logs for SystemTexts<'a, R> {
     ghost opens = { λ texts name given. Unit {0} };
 
     fn open(&self, name: &str) -> Result<R::File, Unread> {
-        if name.contains('\0') {
-            return Err(Unread::NoText);
-        }
-        match fs::open(self.files, name) {
-            Ok(log) => Ok(log),
-            Err(error) => Err(Unread::Failed(error)),
-        }
+        self.opened(name)
     }
 }
 

@@ -81,6 +81,7 @@ fn word_of_op(op: Op) -> &'static str
         Op::PrepWrite(_, _, _, _, _) => "prep_write",
         Op::PrepFsync(_, _) => "prep_fsync",
         Op::PrepNop => "prep_nop",
+        Op::PrepOther => "prep_other",
         Op::SetData64(_) => "set_data64",
         Op::Submit(_) => "submit",
         Op::SubmitAndWait(_, _) => "submit_and_wait",

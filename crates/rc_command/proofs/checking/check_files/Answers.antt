@@ -1,7 +1,8 @@
-use Rattle.std.proofs.Common.{ℕ, List, arith}
+use Rattle.std.proofs.Common.{ℕ, List, arith, take}
 use Rattle.std.specs.Borrow.{Bor}
 use Rattle.rc_command.specs.Checking.{ChecksFile}
-use Rattle.rc_console.proofs.FileAnswers.{none_yet, one_more}
+use Rattle.rc_console.specs.Files.{Said, SaysAll}
+use Rattle.rc_console.proofs.FileAnswers.{none_yet, one_more, one_stops}
 use Rattle.rc_command.proofs.checking.check_files.Goals as goal
 
 pub loop-name-init : goal.loop-name-init
@@ -17,3 +18,9 @@ loop-name-preserved g c = record {
       c.loop-name.status c.in_ok-check_file.field-0 c.max-status.result c.loop-name-test.true c.max-status.ensures c.loop-name.invariant.answer c.in_ok-check_file.ensures.answer;
   bound = omega (arith, c.max-status.ensures, c.loop-name.invariant.bound, c.in_ok-check_file.ensures.bound);
 }
+
+pub returns-in_err-check_file-clause-answer : goal.returns-in_err-check_file-clause-answer
+returns-in_err-check_file-clause-answer g c =
+    let says = λ (name : Bor (List ℕ)). ChecksFile (g.T.Texts.gives c.args.texts.now) c.args.telling name.now in
+    one_stops g.S.Sink.state g.E.Sink.state (SaysAll says (take c.loop-name.name-index c.args.files.now)) (λ (said : Said). Unit {0}) (SaysAll says c.args.files.now) c.args.sink.now c.loop-name.sink c.check_file.new.sink
+    c.args.errors.now c.loop-name.errors c.check_file.new.errors c.loop-name.status _ c.from_residual.result c.from_residual.ensures.1 c.loop-name.invariant.answer c.in_err-check_file.ensures.answer

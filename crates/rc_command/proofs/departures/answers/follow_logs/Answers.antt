@@ -1,7 +1,5 @@
-use Rattle.std.proofs.Common.{[], refl, subst, sym}
-use Rattle.rc_report.proofs.Answered.{of_text}
+use Rattle.std.proofs.Common.{[], ap, refl, sym}
 use Rattle.rc_report.proofs.Pieces.{wrote_none}
-use Rattle.rc_report.specs.Streams.{OfBytes}
 use Rattle.rc_console.specs.Files.{line_told}
 use Rattle.rc_command.specs.Following.{SaysAsked, SaysModel}
 use Rattle.rc_command.proofs.Following.{of_file, of_input, of_unread, whole_as, whole_nothing}
@@ -29,7 +27,7 @@ returns-in-Some-clause-answer g c =
 pub returns-in_err-model-in-None-clause-answer : goal.returns-in_err-model-in-None-clause-answer
 returns-in_err-model-in-None-clause-answer g c =
     whole_nothing g.S.Sink.state c.args.sink.now c.args.sink.now g.E.Sink.state c.args.errors.now c.args.errors.now
-    (SaysAsked (g.T.Texts.gives c.args.texts.now) (g.T.Logs.opens c.args.texts.now) c.args.asked.now (g.I.Read.remaining c.args.reader)) _ c.from_residual.result c.from_residual.ensures.1 c.in_err-model-in-None.ensures.text refl refl
+    (SaysAsked (g.T.Texts.gives c.args.texts.now) (g.T.Logs.opens c.args.texts.now) c.args.asked.now (g.I.Read.remaining c.args.reader)) _ c.from_residual.result c.from_residual.ensures.1 c.in_err-model-in-None.ensures.fault refl refl
 
 pub returns-clause-answer : goal.returns-clause-answer
 returns-clause-answer g c =
@@ -37,9 +35,7 @@ returns-clause-answer g c =
     let opens = g.T.Logs.opens c.args.texts.now in
     let asked = c.args.asked.now in
     let input = g.I.Read.remaining c.args.reader in
-    let model = c.in_ok-model-in-None.model.items in
-    let read = c.in_ok-model-in-None.ensures.text in
-    whole_as g.S.Sink.state c.args.sink.now c.follow_model-in-None.new.sink g.E.Sink.state c.args.errors.now c.follow_model-in-None.new.errors (SaysModel opens asked model) (SaysAsked gives opens asked input) c.follow_model-in-None.result
-    (λ said h. of_input gives opens asked input said c.in-None.is (subst (λ reader. OfBytes (g.I.Read.remaining reader) (λ bytes. SaysModel opens asked bytes said)) c.new.ensures.reader
-    (of_text (g.I.Read.remaining c.new.result.reader) (g.I.Read.remaining c.read_text.new.reader.reader) model (λ bytes. SaysModel opens asked bytes said) read.0 read.1 h)))
+    let model = c.in_ok-model-in-None.model in
+    whole_as g.S.Sink.state c.args.sink.now c.follow_model-in-None.new.sink g.E.Sink.state c.args.errors.now c.follow_model-in-None.new.errors (SaysModel opens asked model.items) (SaysAsked gives opens asked input) c.follow_model-in-None.result
+    (λ said h. of_input gives opens asked input (g.I.Read.remaining c.new.result.reader) (g.I.Read.remaining c.read_input.new.source.reader) model said c.in-None.is (ap (λ reader. g.I.Read.remaining reader) c.new.ensures.reader) c.in_ok-model-in-None.ensures.text h)
     (rw c.deref-in-None.ensures.value at c.follow_model-in-None.ensures.answer)

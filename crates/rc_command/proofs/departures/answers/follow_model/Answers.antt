@@ -1,5 +1,6 @@
 use Rattle.std.proofs.Common.{refl}
 use Rattle.rc_report.specs.declared.engine_fault.EngineFault.TheVariants.{OutOfMemory}
+use Rattle.rc_console.specs.declared.fault.CommandFault.TheVariants.{Engine}
 use Rattle.rc_command.specs.Following.{SaysModel}
 use Rattle.rc_command.proofs.Following.{whole_begun, whole_nothing, whole_written}
 use Rattle.rc_command.proofs.departures.answers.follow_model.Goals as goal
@@ -7,7 +8,7 @@ use Rattle.rc_command.proofs.departures.answers.follow_model.Goals as goal
 pub returns-in_err-answer-clause-answer : goal.returns-in_err-answer-clause-answer
 returns-in_err-answer-clause-answer g c =
     whole_nothing g.S.Sink.state c.args.sink.now c.args.sink.now g.E.Sink.state c.args.errors.now c.args.errors.now (SaysModel (g.T.Logs.opens c.args.texts.now) c.args.asked.now c.args.model.now)
-    OutOfMemory c.from_residual.result c.from_residual.ensures.1 (λ write. absurd cc) refl refl
+    (Engine OutOfMemory) c.from_residual.result c.from_residual.ensures.1 tt refl refl
 
 pub returns-in_err-write_piece-clause-answer : goal.returns-in_err-write_piece-clause-answer
 returns-in_err-write_piece-clause-answer g c =
