@@ -25,6 +25,7 @@ LOOP = re.compile(rb"^([ \t]*loop[ \t]+keeps)([^{#]*)(\{.*)$", re.DOTALL)
 # Models, where `;` ends a line, and the lists that their loops get. All else is printed as it is.
 HEAD = "ringcheck 1; ring 2; buffer a 16 1; token 7 read a; token 8 nop; "
 FLAGGED = "ringcheck 2; ring 2; token 7 nop; token 8 nop; "
+CHOOSING = "ringcheck 5; ring 2; token 7 nop; token 8 other; "
 QUEUE = "ringcheck 1; ring 4 left 4; token 8 nop; "
 TOKENS = [10**12 + n for n in range(15)]
 LONG = "ringcheck 1; ring 1; " + "".join(f"token {token} nop; " for token in TOKENS)
@@ -86,6 +87,16 @@ LISTS = [
         "a list that doesn't fit its line",
         LONG + f"thread t0 holds{MOST} {{; loop keeps c:1 {{  # with a comment after the brace; }}; }}",
         [" c:1 "],
+    ),
+    (
+        "a free choice, of which each branch loses what the next round needs",
+        CHOOSING + "thread t0 holds t:7 t:8 c:1 {; loop keeps {; lock {; if any {; put t:7; } else {; put t:8; }; }; }; }",
+        [" t:7 t:8 c:1 "],
+    ),
+    (
+        "a free choice that loses nothing",
+        CHOOSING + "thread t0 holds t:7 t:8 c:1 {; loop keeps {; if any {; break; }; if any {; x = 1; }; }; }",
+        [" t:7 t:8 c:1 "],
     ),
     (
         "a flag that is set",

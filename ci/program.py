@@ -124,7 +124,7 @@ FOLDER = "Is a directory"
 NO_FOLDER = "Not a directory"
 FORBIDDEN = "Permission denied"
 BROKEN = "Input/output error"
-NO_END = "the file has no end"
+NO_END = "the input has no end"
 MEMORY = "out of memory (20)"
 BESIDE = "'-' stands beside other files (see 'ringcheck --help')"
 NO_EXPLAIN = "the following required arguments were not provided: --explain (see 'ringcheck --help')"
@@ -267,7 +267,7 @@ ROWS = [
     ((*RUN, "good.rc"), b"", 0, ONE_EVENT, ""),
     ((*RUN, "missing.rc"), GOOD, 3, "", f"missing.rc: {MISSING}"),
     ((*RUN, "folder"), GOOD, 3, "", f"folder: {FOLDER}"),
-    (("c", "refused.rc"), GOOD, 1, REFUSAL, ""),
+    (("c", "refused.rc"), GOOD, 1, "refused.rc:4: refused V1 Unlocked\n", ""),
     (("c", "missing.rc"), GOOD, 3, "", f"missing.rc: {MISSING}"),
     # `-` alone is standard input; a file of that name is named otherwise.
     (("check", "-"), REFUSED, 1, REFUSAL, ""),
@@ -290,8 +290,8 @@ MIXED = ("check", "missing.rc", "refused.rc", "folder", "unreadable.rc", "good.r
 MIXED_OUTPUT = "refused.rc:4: refused V1 Unlocked\nunreadable.rc:4: unreadable P3 BadLine\ngood.rc: accepted\n"
 MIXED_TOLD = f"ringcheck: missing.rc: {MISSING}\nringcheck: folder: {FOLDER}\n"
 
-# What a shell does before the program, words, a model, the status and what is reported; nothing is written. Where the input
-# has no end the program can't keep it: memory is bounded.
+# What a shell does before the program, words, a model, the status and what is reported; nothing is written. Memory is
+# bounded, and the input may have no end: `fmt` prints all of it, so it alone keeps it.
 STREAMS = [
     ("exec >&-", ("check",), GOOD, 3, NO_OUTPUT),
     ("exec >/dev/full", ("check",), GOOD, 3, NO_OUTPUT),
@@ -306,8 +306,11 @@ STREAMS = [
     ("exec <folder", ("check",), b"", 3, NO_INPUT),
     ("exec 2>&-", ("check", "missing.rc"), b"", 3, ""),
     ("exec 2>/dev/full", ("check", "missing.rc"), b"", 3, ""),
-    ("ulimit -v 100000; exec </dev/zero", ("check",), b"", 3, MEMORY),
-    ("ulimit -v 100000; exec </dev/zero", RUN, b"", 3, MEMORY),
+    ("ulimit -v 100000; exec </dev/zero", ("check",), b"", 3, NO_END),
+    ("ulimit -v 100000; exec </dev/zero", RUN, b"", 3, NO_END),
+    ("ulimit -v 100000; exec </dev/zero", ("fmt",), b"", 3, MEMORY),
+    ("ulimit -v 100000", ("check", "/dev/zero"), b"", 3, f"/dev/zero: {NO_END}"),
+    ("ulimit -v 100000", ("follow", "/dev/zero", "log"), b"", 3, f"/dev/zero: {NO_END}"),
 ]
 
 HANDED = "t0,t0,t0,t0,t0,t0,t0,t0,t0,k:7=16:65,t1,t1,t1,t1,t1,t1,t1"
@@ -492,10 +495,11 @@ def hold_large(bench):
     for last, status, verdict in LARGE:
         text = large(last)
         (bench.folder / "large.rc").write_bytes(text)
-        run = verdict if status else "1 t0 4 set 1\n..."
-        step = verdict if status == 2 else "stopped after 0 events\n"
         bench.row(("check",), text, status, verdict, "", note)
         for given in ("large.rc", "-"):
+            told = verdict if given == "-" else re.sub(r"^(\w+) line (\d+) ", rf"{given}:\2: \1 ", verdict)
+            run = told if status else "1 t0 4 set 1\n..."
+            step = told if status == 2 else "stopped after 0 events\n"
             bench.row(("step", given), text, status & 2, step, "", note)
             bench.row(("run", "--seed", "1", "--limit", "9000", given), text, status, run, "", note)
         bench.row(("check", "--explain"), text, status, verdict + "...", "", note)
@@ -546,11 +550,14 @@ def hold_seeds(bench):
         bench.hold(f"run --seed {seed}", (f"these aren't the choices of the seed: {answers[1:]}", right))
 
 
-def item_of(event):
-    """The item of a schedule that makes the event of a trace's line again, where reads bring zeros."""
+def item_of(event, choices):
+    """The item of a schedule that makes the event of a trace's line again, where reads bring zeros. At lines with these
+    numbers an if is a free choice."""
     words = event.split(" ")[1:]
     if words[0] == "kernel":
         return f"k:{words[1]}={words[2]}"
+    if words[1] in choices and words[2:] == ["if", "no"]:
+        return f"{words[0]}=0"
     return f"{words[0]}={words[3]}" if words[2] == "submit" else words[0]
 
 
@@ -561,7 +568,8 @@ def hold_run(bench, name, seed):
     *events, end = trace.splitlines() or [""]
     right = (status, end, told) == (0, f"ended after {len(events)} events", "")
     bench.hold(f"run of {name}, seed {seed}", (f"it ends with {status}, {end!r} and {told!r}", right))
-    words = ("step", "--schedule", ",".join(map(item_of, events)))
+    choices = {str(number) for number, line in enumerate(text.splitlines(), 1) if line.split()[:2] == [b"if", b"any"]}
+    words = ("step", "--schedule", ",".join(item_of(event, choices) for event in events))
     status, again, told = bench.ran(words, text)
     right = (status, again, told) == (0, trace, "")
     bench.hold(f"run of {name}, seed {seed}, again", (f"{status}, {again[-200:]!r} and {told!r}", right))
@@ -573,7 +581,7 @@ def hold_run(bench, name, seed):
 def hold_runs(bench):
     """Runs of models, whatever the order in which their threads run."""
     for seed in range(1, 6):
-        for name in ("handoff.rc", "share.rc", "gather.rc", "hand_back.rc", "pool.rc"):
+        for name in ("handoff.rc", "share.rc", "gather.rc", "hand_back.rc", "pool.rc", "gallery/server/server.rc"):
             hold_run(bench, name, seed)
     text = (TOP / "examples/pump.rc").read_bytes()
     status, trace, told = bench.ran(("run", "--seed", "1", "--limit", "50"), text)

@@ -75,8 +75,12 @@ unsigned pool_token_2;
 unsigned pool_token_3;
 unsigned pool_token_4;
 unsigned pool_token_5;
-unsigned pool_token_18446744073709551615;
+unsigned pool_token_6;
+unsigned pool_token_4294967295;
 unsigned pool_credits;
+
+/* Write it: whether an `if any` takes its first branch. Several threads may call it, and with mutexes held. */
+extern int ringcheck_any(void);
 
 #ifdef RINGCHECK_LOG
 /* The buffers that reads fill, by their user data. */
@@ -150,7 +154,7 @@ __attribute__((unused)) static void log_completions(void)
 #define SEE_COMPLETIONS() ((void)0)
 #endif
 
-/* 13: thread t0 holds a:2 b:1 t:1 t:2 t:3 t:4 t:5 c:5 { */
+/* 14: thread t0 holds a:2 b:1 t:1 t:2 t:3 t:4 t:5 t:6 c:6 { */
 static void *body_t0(void *nothing)
 {
     struct io_uring_sqe *sqe = NULL;
@@ -167,166 +171,184 @@ static void *body_t0(void *nothing)
     (void)var_y;
     (void)var_z;
     (void)var_r;
-    /* 14: x = -9223372036854775808 */
+    /* 15: x = -9223372036854775808 */
     var_x = INT64_MIN;
-    EVENT("t0 14 set %" PRId64, var_x);
-    /* 15: y = x */
+    EVENT("t0 15 set %" PRId64, var_x);
+    /* 16: y = x */
     var_y = var_x;
-    EVENT("t0 15 set %" PRId64, var_y);
-    /* 16: x = y + 200 */
+    EVENT("t0 16 set %" PRId64, var_y);
+    /* 17: x = y + 200 */
     var_x = SUM(var_y, INT64_C(200));
-    EVENT("t0 16 set %" PRId64, var_x);
-    /* 17: z = -5 - x */
+    EVENT("t0 17 set %" PRId64, var_x);
+    /* 18: z = -5 - x */
     var_z = DIFFERENCE(-INT64_C(5), var_x);
-    EVENT("t0 17 set %" PRId64, var_z);
-    /* 18: store a 15 z */
+    EVENT("t0 18 set %" PRId64, var_z);
+    /* 19: store a 15 z */
     buffer_a[15] = (unsigned char)var_z;
-    EVENT("t0 18 store %d", buffer_a[15]);
-    /* 19: fill b x */
+    EVENT("t0 19 store %d", buffer_a[15]);
+    /* 20: fill b x */
     memset(buffer_b, (unsigned char)var_x, sizeof buffer_b);
-    EVENT("t0 19 fill %d", buffer_b[0]);
-    /* 20: x = load a 15 */
+    EVENT("t0 20 fill %d", buffer_b[0]);
+    /* 21: x = load a 15 */
     var_x = buffer_a[15];
-    EVENT("t0 20 load %" PRId64, var_x);
-    /* 21: print x */
+    EVENT("t0 21 load %" PRId64, var_x);
+    /* 22: print x */
     printf("%" PRId64 "\n", var_x);
-    EVENT("t0 21 print %" PRId64, var_x);
-    /* 22: lock { */
-    MUST(22, pthread_mutex_lock(&ring_lock));
-    EVENT("t0 22 lock");
+    EVENT("t0 22 print %" PRId64, var_x);
+    /* 23: lock { */
+    MUST(23, pthread_mutex_lock(&ring_lock));
+    EVENT("t0 23 lock");
     SEE_COMPLETIONS();
     {
-        /* 23: if sq_space_left >= 0 { */
+        /* 24: if sq_space_left >= 0 { */
         answer = (int)io_uring_sq_space_left(&ring);
         yes = answer >= 0;
-        EVENT("t0 23 if %s", yes ? "yes" : "no");
+        EVENT("t0 24 if %s", yes ? "yes" : "no");
         if (yes) {
-            /* 24: get_sqe */
+            /* 25: get_sqe */
             sqe = io_uring_get_sqe(&ring);
             if (sqe == NULL)
-                stop(24, "io_uring_get_sqe", 0);
-            EVENT("t0 24 get_sqe");
-            /* 25: prep_read 3 b 16 8 */
+                stop(25, "io_uring_get_sqe", 0);
+            EVENT("t0 25 get_sqe");
+            /* 26: prep_read 3 b 16 8 */
             io_uring_prep_read(sqe, file_3, buffer_b, 16, 8);
-            EVENT("t0 25 prep_read");
-            /* 26: set_data64 1 */
+            EVENT("t0 26 prep_read");
+            /* 27: set_data64 1 */
             io_uring_sqe_set_data64(sqe, UINT64_C(1));
-            EVENT("t0 26 set_data64 1");
-        } else { /* 27: } else { */
-            /* 28: print y */
+            EVENT("t0 27 set_data64 1");
+        } else { /* 28: } else { */
+            /* 29: print y */
             printf("%" PRId64 "\n", var_y);
-            EVENT("t0 28 print %" PRId64, var_y);
-        } /* 29: } */
-        /* 30: get_sqe */
+            EVENT("t0 29 print %" PRId64, var_y);
+        } /* 30: } */
+        /* 31: get_sqe */
         sqe = io_uring_get_sqe(&ring);
         if (sqe == NULL)
-            stop(30, "io_uring_get_sqe", 0);
-        EVENT("t0 30 get_sqe");
-        /* 31: prep_write 3 a 16 0 1 */
+            stop(31, "io_uring_get_sqe", 0);
+        EVENT("t0 31 get_sqe");
+        /* 32: prep_write 3 a 16 0 1 */
         io_uring_prep_write(sqe, file_3, buffer_a, 16, 0);
-        EVENT("t0 31 prep_write");
-        /* 32: set_data64 2 */
+        EVENT("t0 32 prep_write");
+        /* 33: set_data64 2 */
         io_uring_sqe_set_data64(sqe, UINT64_C(2));
-        EVENT("t0 32 set_data64 2");
-        /* 33: get_sqe */
+        EVENT("t0 33 set_data64 2");
+        /* 34: get_sqe */
         sqe = io_uring_get_sqe(&ring);
         if (sqe == NULL)
-            stop(33, "io_uring_get_sqe", 0);
-        EVENT("t0 33 get_sqe");
-        /* 34: prep_fsync 3 0 */
+            stop(34, "io_uring_get_sqe", 0);
+        EVENT("t0 34 get_sqe");
+        /* 35: prep_fsync 3 0 */
         io_uring_prep_fsync(sqe, file_3, 0);
-        EVENT("t0 34 prep_fsync");
-        /* 35: set_data64 3 */
+        EVENT("t0 35 prep_fsync");
+        /* 36: set_data64 3 */
         io_uring_sqe_set_data64(sqe, UINT64_C(3));
-        EVENT("t0 35 set_data64 3");
-        /* 36: get_sqe */
+        EVENT("t0 36 set_data64 3");
+        /* 37: get_sqe */
         sqe = io_uring_get_sqe(&ring);
         if (sqe == NULL)
-            stop(36, "io_uring_get_sqe", 0);
-        EVENT("t0 36 get_sqe");
-        /* 37: prep_fsync 4 1 */
+            stop(37, "io_uring_get_sqe", 0);
+        EVENT("t0 37 get_sqe");
+        /* 38: prep_fsync 4 1 */
         io_uring_prep_fsync(sqe, file_4, IORING_FSYNC_DATASYNC);
-        EVENT("t0 37 prep_fsync");
-        /* 38: set_data64 4 */
+        EVENT("t0 38 prep_fsync");
+        /* 39: set_data64 4 */
         io_uring_sqe_set_data64(sqe, UINT64_C(4));
-        EVENT("t0 38 set_data64 4");
-        /* 39: get_sqe */
+        EVENT("t0 39 set_data64 4");
+        /* 40: get_sqe */
         sqe = io_uring_get_sqe(&ring);
         if (sqe == NULL)
-            stop(39, "io_uring_get_sqe", 0);
-        EVENT("t0 39 get_sqe");
-        /* 40: prep_nop */
+            stop(40, "io_uring_get_sqe", 0);
+        EVENT("t0 40 get_sqe");
+        /* 41: prep_nop */
         io_uring_prep_nop(sqe);
-        EVENT("t0 40 prep_nop");
-        /* 41: set_data64 5 */
+        EVENT("t0 41 prep_nop");
+        /* 42: set_data64 5 */
         io_uring_sqe_set_data64(sqe, UINT64_C(5));
-        EVENT("t0 41 set_data64 5");
-        /* 42: loop keeps a:1 q:5 { */
+        EVENT("t0 42 set_data64 5");
+        /* 43: get_sqe */
+        sqe = io_uring_get_sqe(&ring);
+        if (sqe == NULL)
+            stop(43, "io_uring_get_sqe", 0);
+        EVENT("t0 43 get_sqe");
+        /* 44: prep_other */
+        /* Write the request here, as io_uring_prep_timeout or io_uring_prep_accept. */
+        io_uring_prep_nop(sqe);
+        EVENT("t0 44 prep_other");
+        /* 45: set_data64 6 */
+        io_uring_sqe_set_data64(sqe, UINT64_C(6));
+        EVENT("t0 45 set_data64 6");
+        /* 46: loop keeps a:1 q:6 { */
         for (;;) {
-            EVENT("t0 42 loop");
-            /* 43: r = submit */
+            EVENT("t0 46 loop");
+            /* 47: r = submit */
             var_r = io_uring_submit(&ring);
-            EVENT("t0 43 submit %" PRId64, var_r);
-            SEE_COMPLETIONS();
-            /* 44: if sq_ready == 0 { */
-            yes = io_uring_sq_ready(&ring) == 0;
-            EVENT("t0 44 if %s", yes ? "yes" : "no");
-            if (yes) {
-                /* 45: break */
-                EVENT("t0 45 break");
-                break;
-            } /* 46: } */
-            /* 47: r = submit_and_wait 1 */
-            var_r = io_uring_submit_and_wait(&ring, 1);
             EVENT("t0 47 submit %" PRId64, var_r);
             SEE_COMPLETIONS();
-        } /* 48: } */
-    } /* 49: } */
-    EVENT("t0 49 release");
-    MUST(49, pthread_mutex_unlock(&ring_lock));
-    /* 50: x = load a 15 */
+            /* 48: if sq_ready == 0 { */
+            yes = io_uring_sq_ready(&ring) == 0;
+            EVENT("t0 48 if %s", yes ? "yes" : "no");
+            if (yes) {
+                /* 49: break */
+                EVENT("t0 49 break");
+                break;
+            } /* 50: } */
+            /* 51: r = submit_and_wait 1 */
+            var_r = io_uring_submit_and_wait(&ring, 1);
+            EVENT("t0 51 submit %" PRId64, var_r);
+            SEE_COMPLETIONS();
+        } /* 52: } */
+    } /* 53: } */
+    EVENT("t0 53 release");
+    MUST(53, pthread_mutex_unlock(&ring_lock));
+    /* 54: x = load a 15 */
     var_x = buffer_a[15];
-    EVENT("t0 50 load %" PRId64, var_x);
-    /* 51: loop keeps a:1 { */
+    EVENT("t0 54 load %" PRId64, var_x);
+    /* 55: loop keeps a:1 { */
     for (;;) {
-        EVENT("t0 51 loop");
-        /* 52: lock { */
-        MUST(52, pthread_mutex_lock(&ring_lock));
-        EVENT("t0 52 lock");
+        EVENT("t0 55 loop");
+        /* 56: lock { */
+        MUST(56, pthread_mutex_lock(&ring_lock));
+        EVENT("t0 56 lock");
         SEE_COMPLETIONS();
         {
-            /* 53: if take b:1 t:1 c:1 { */
+            /* 57: if take b:1 t:1 c:1 { */
             yes = true && pool_buffer_b >= 1 && pool_token_1 >= 1 && pool_credits >= 1;
             if (yes) {
                 pool_buffer_b -= 1;
                 pool_token_1 -= 1;
                 pool_credits -= 1;
             }
-            EVENT("t0 53 if %s", yes ? "yes" : "no");
+            EVENT("t0 57 if %s", yes ? "yes" : "no");
             if (yes) {
-                /* 54: break */
-                EVENT("t0 54 break");
-                MUST(54, pthread_mutex_unlock(&ring_lock));
+                /* 58: break */
+                EVENT("t0 58 break");
+                MUST(58, pthread_mutex_unlock(&ring_lock));
                 break;
-            } else { /* 55: } else { */
-            } /* 56: } */
-        } /* 57: } */
-        EVENT("t0 57 release");
-        MUST(57, pthread_mutex_unlock(&ring_lock));
-    } /* 58: } */
-    /* 59: x = load b 0 */
+            } else { /* 59: } else { */
+            } /* 60: } */
+        } /* 61: } */
+        EVENT("t0 61 release");
+        MUST(61, pthread_mutex_unlock(&ring_lock));
+    } /* 62: } */
+    /* 63: x = load b 0 */
     var_x = buffer_b[0];
-    EVENT("t0 59 load %" PRId64, var_x);
-    /* 60: x = x */
+    EVENT("t0 63 load %" PRId64, var_x);
+    /* 64: x = x */
     var_x = (int64_t)var_x;
-    EVENT("t0 60 set %" PRId64, var_x);
-    /* 61: print x */
-    printf("%" PRId64 "\n", var_x);
-    EVENT("t0 61 print %" PRId64, var_x);
+    EVENT("t0 64 set %" PRId64, var_x);
+    /* 65: if any { */
+    yes = ringcheck_any() != 0;
+    EVENT("t0 65 if %s", yes ? "yes" : "no");
+    if (yes) {
+        /* 66: print x */
+        printf("%" PRId64 "\n", var_x);
+        EVENT("t0 66 print %" PRId64, var_x);
+    } else { /* 67: } else { */
+    } /* 68: } */
     return NULL;
 }
 
-/* 63: thread t1 holds { */
+/* 70: thread t1 holds { */
 static void *body_t1(void *nothing)
 {
     struct io_uring_sqe *sqe = NULL;
@@ -341,121 +363,130 @@ static void *body_t1(void *nothing)
     (void)var_r;
     (void)var_n;
     (void)var_m;
-    /* 64: loop keeps { */
+    /* 71: loop keeps { */
     for (;;) {
-        EVENT("t1 64 loop");
-        /* 65: lock { */
-        MUST(65, pthread_mutex_lock(&ring_lock));
-        EVENT("t1 65 lock");
+        EVENT("t1 71 loop");
+        /* 72: lock { */
+        MUST(72, pthread_mutex_lock(&ring_lock));
+        EVENT("t1 72 lock");
         SEE_COMPLETIONS();
         {
-            /* 66: peek_cqe r { */
+            /* 73: peek_cqe r { */
             answer = io_uring_peek_cqe(&ring, &cqe);
             if (answer == 0) {
                 var_r = cqe->res;
                 SEE_COMPLETIONS();
-                EVENT("t1 66 peek_cqe %" PRIu64 " %" PRId64, (uint64_t)cqe->user_data, var_r);
+                EVENT("t1 73 peek_cqe %" PRIu64 " %" PRId64, (uint64_t)cqe->user_data, var_r);
             } else if (answer == -EAGAIN) {
                 cqe = NULL;
                 var_r = -EAGAIN;
-                EVENT("t1 66 peek_cqe none");
+                EVENT("t1 73 peek_cqe none");
                 SEE_COMPLETIONS();
             } else {
-                stop(66, "io_uring_peek_cqe", answer);
+                stop(73, "io_uring_peek_cqe", answer);
             }
-            /* 67: other { */
-            if (cqe != NULL && cqe->user_data != UINT64_C(1) && cqe->user_data != UINT64_C(2) && cqe->user_data != UINT64_C(3) && cqe->user_data != UINT64_C(4) && cqe->user_data != UINT64_C(5)) {
-            } /* 68: } */
-            /* 69: case 1 { */
-            else if (cqe != NULL && cqe->user_data == UINT64_C(1)) {
-                /* 70: cqe_seen */
-                EVENT("t1 70 cqe_seen %" PRIu64, (uint64_t)cqe->user_data);
-                io_uring_cqe_seen(&ring, cqe);
-                /* 71: put b:1 t:1 c:1 */
-                pool_buffer_b += 1;
-                pool_token_1 += 1;
-                pool_credits += 1;
-                EVENT("t1 71 put");
-                /* 72: n = n + 1 */
-                var_n = SUM(var_n, INT64_C(1));
-                EVENT("t1 72 set %" PRId64, var_n);
-            } /* 73: } */
-            /* 74: none { */
-            else if (cqe == NULL) {
+            /* 74: other { */
+            if (cqe != NULL && cqe->user_data != UINT64_C(1) && cqe->user_data != UINT64_C(2) && cqe->user_data != UINT64_C(3) && cqe->user_data != UINT64_C(4) && cqe->user_data != UINT64_C(5) && cqe->user_data != UINT64_C(6)) {
             } /* 75: } */
-            /* 76: case 2 { */
-            else if (cqe != NULL && cqe->user_data == UINT64_C(2)) {
+            /* 76: case 1 { */
+            else if (cqe != NULL && cqe->user_data == UINT64_C(1)) {
                 /* 77: cqe_seen */
                 EVENT("t1 77 cqe_seen %" PRIu64, (uint64_t)cqe->user_data);
                 io_uring_cqe_seen(&ring, cqe);
-                /* 78: n = 1 + n */
-                var_n = SUM(INT64_C(1), var_n);
-                EVENT("t1 78 set %" PRId64, var_n);
-            } /* 79: } */
-            /* 80: case 3 { */
-            else if (cqe != NULL && cqe->user_data == UINT64_C(3)) {
-                /* 81: cqe_seen */
-                EVENT("t1 81 cqe_seen %" PRIu64, (uint64_t)cqe->user_data);
-                io_uring_cqe_seen(&ring, cqe);
-                /* 82: n = n + 1 */
+                /* 78: put b:1 t:1 c:1 */
+                pool_buffer_b += 1;
+                pool_token_1 += 1;
+                pool_credits += 1;
+                EVENT("t1 78 put");
+                /* 79: n = n + 1 */
                 var_n = SUM(var_n, INT64_C(1));
-                EVENT("t1 82 set %" PRId64, var_n);
-            } /* 83: } */
-            /* 84: case 4 { */
-            else if (cqe != NULL && cqe->user_data == UINT64_C(4)) {
-                /* 85: cqe_seen */
-                EVENT("t1 85 cqe_seen %" PRIu64, (uint64_t)cqe->user_data);
+                EVENT("t1 79 set %" PRId64, var_n);
+            } /* 80: } */
+            /* 81: none { */
+            else if (cqe == NULL) {
+            } /* 82: } */
+            /* 83: case 2 { */
+            else if (cqe != NULL && cqe->user_data == UINT64_C(2)) {
+                /* 84: cqe_seen */
+                EVENT("t1 84 cqe_seen %" PRIu64, (uint64_t)cqe->user_data);
                 io_uring_cqe_seen(&ring, cqe);
-                /* 86: put t:4 c:1 */
+                /* 85: n = 1 + n */
+                var_n = SUM(INT64_C(1), var_n);
+                EVENT("t1 85 set %" PRId64, var_n);
+            } /* 86: } */
+            /* 87: case 3 { */
+            else if (cqe != NULL && cqe->user_data == UINT64_C(3)) {
+                /* 88: cqe_seen */
+                EVENT("t1 88 cqe_seen %" PRIu64, (uint64_t)cqe->user_data);
+                io_uring_cqe_seen(&ring, cqe);
+                /* 89: n = n + 1 */
+                var_n = SUM(var_n, INT64_C(1));
+                EVENT("t1 89 set %" PRId64, var_n);
+            } /* 90: } */
+            /* 91: case 4 { */
+            else if (cqe != NULL && cqe->user_data == UINT64_C(4)) {
+                /* 92: cqe_seen */
+                EVENT("t1 92 cqe_seen %" PRIu64, (uint64_t)cqe->user_data);
+                io_uring_cqe_seen(&ring, cqe);
+                /* 93: put t:4 c:1 */
                 pool_token_4 += 1;
                 pool_credits += 1;
-                EVENT("t1 86 put");
-                /* 87: n = n + 1 */
+                EVENT("t1 93 put");
+                /* 94: n = n + 1 */
                 var_n = SUM(var_n, INT64_C(1));
-                EVENT("t1 87 set %" PRId64, var_n);
-            } /* 88: } */
-            /* 89: case 5 { */
+                EVENT("t1 94 set %" PRId64, var_n);
+            } /* 95: } */
+            /* 96: case 5 { */
             else if (cqe != NULL && cqe->user_data == UINT64_C(5)) {
-                /* 90: cqe_seen */
-                EVENT("t1 90 cqe_seen %" PRIu64, (uint64_t)cqe->user_data);
+                /* 97: cqe_seen */
+                EVENT("t1 97 cqe_seen %" PRIu64, (uint64_t)cqe->user_data);
                 io_uring_cqe_seen(&ring, cqe);
-                /* 91: put */
-                EVENT("t1 91 put");
-                /* 92: n = n + 1 */
+                /* 98: put */
+                EVENT("t1 98 put");
+                /* 99: n = n + 1 */
                 var_n = SUM(var_n, INT64_C(1));
-                EVENT("t1 92 set %" PRId64, var_n);
-            } /* 93: } */
-            /* 94: } */
-        } /* 95: } */
-        EVENT("t1 95 release");
-        MUST(95, pthread_mutex_unlock(&ring_lock));
-        /* 96: if n < 5 { */
-        yes = var_n < INT64_C(5);
-        EVENT("t1 96 if %s", yes ? "yes" : "no");
+                EVENT("t1 99 set %" PRId64, var_n);
+            } /* 100: } */
+            /* 101: case 6 { */
+            else if (cqe != NULL && cqe->user_data == UINT64_C(6)) {
+                /* 102: cqe_seen */
+                EVENT("t1 102 cqe_seen %" PRIu64, (uint64_t)cqe->user_data);
+                io_uring_cqe_seen(&ring, cqe);
+                /* 103: n = n + 1 */
+                var_n = SUM(var_n, INT64_C(1));
+                EVENT("t1 103 set %" PRId64, var_n);
+            } /* 104: } */
+            /* 105: } */
+        } /* 106: } */
+        EVENT("t1 106 release");
+        MUST(106, pthread_mutex_unlock(&ring_lock));
+        /* 107: if n < 6 { */
+        yes = var_n < INT64_C(6);
+        EVENT("t1 107 if %s", yes ? "yes" : "no");
         if (yes) {
-            /* 97: if n <= 0 { */
+            /* 108: if n <= 0 { */
             yes = var_n <= INT64_C(0);
-            EVENT("t1 97 if %s", yes ? "yes" : "no");
+            EVENT("t1 108 if %s", yes ? "yes" : "no");
             if (yes) {
-                /* 98: m = m - n */
+                /* 109: m = m - n */
                 var_m = DIFFERENCE(var_m, var_n);
-                EVENT("t1 98 set %" PRId64, var_m);
-            } /* 99: } */
-        } else { /* 100: } else { */
-            /* 101: if n >= 5 { */
-            yes = var_n >= INT64_C(5);
-            EVENT("t1 101 if %s", yes ? "yes" : "no");
+                EVENT("t1 109 set %" PRId64, var_m);
+            } /* 110: } */
+        } else { /* 111: } else { */
+            /* 112: if n >= 6 { */
+            yes = var_n >= INT64_C(6);
+            EVENT("t1 112 if %s", yes ? "yes" : "no");
             if (yes) {
-                /* 102: break */
-                EVENT("t1 102 break");
+                /* 113: break */
+                EVENT("t1 113 break");
                 break;
-            } /* 103: } */
-        } /* 104: } */
-    } /* 105: } */
+            } /* 114: } */
+        } /* 115: } */
+    } /* 116: } */
     return NULL;
 }
 
-/* 107: thread t2 holds t:18446744073709551615 c:1 { */
+/* 118: thread t2 holds t:4294967295 c:1 { */
 static void *body_t2(void *nothing)
 {
     struct io_uring_sqe *sqe = NULL;
@@ -470,107 +501,107 @@ static void *body_t2(void *nothing)
     (void)var_h;
     (void)var_r;
     (void)var_n;
-    /* 108: h = 1 */
+    /* 119: h = 1 */
     var_h = INT64_C(1);
-    EVENT("t2 108 set %" PRId64, var_h);
-    /* 109: loop keeps when h t:18446744073709551615 c:1 { */
+    EVENT("t2 119 set %" PRId64, var_h);
+    /* 120: loop keeps when h t:4294967295 c:1 { */
     for (;;) {
-        EVENT("t2 109 loop");
-        /* 110: lock { */
-        MUST(110, pthread_mutex_lock(&ring_lock));
-        EVENT("t2 110 lock");
+        EVENT("t2 120 loop");
+        /* 121: lock { */
+        MUST(121, pthread_mutex_lock(&ring_lock));
+        EVENT("t2 121 lock");
         SEE_COMPLETIONS();
         {
-            /* 111: if h != 0 { */
+            /* 122: if h != 0 { */
             yes = var_h != INT64_C(0);
-            EVENT("t2 111 if %s", yes ? "yes" : "no");
+            EVENT("t2 122 if %s", yes ? "yes" : "no");
             if (yes) {
-                /* 112: get_sqe */
+                /* 123: get_sqe */
                 sqe = io_uring_get_sqe(&ring);
                 if (sqe == NULL)
-                    stop(112, "io_uring_get_sqe", 0);
-                EVENT("t2 112 get_sqe");
-                /* 113: prep_nop */
+                    stop(123, "io_uring_get_sqe", 0);
+                EVENT("t2 123 get_sqe");
+                /* 124: prep_nop */
                 io_uring_prep_nop(sqe);
-                EVENT("t2 113 prep_nop");
-                /* 114: set_data64 18446744073709551615 */
-                io_uring_sqe_set_data64(sqe, UINT64_C(18446744073709551615));
-                EVENT("t2 114 set_data64 18446744073709551615");
-                /* 115: loop keeps q:1 { */
+                EVENT("t2 124 prep_nop");
+                /* 125: set_data64 4294967295 */
+                io_uring_sqe_set_data64(sqe, UINT64_C(4294967295));
+                EVENT("t2 125 set_data64 4294967295");
+                /* 126: loop keeps q:1 { */
                 for (;;) {
-                    EVENT("t2 115 loop");
-                    /* 116: r = submit */
+                    EVENT("t2 126 loop");
+                    /* 127: r = submit */
                     var_r = io_uring_submit(&ring);
-                    EVENT("t2 116 submit %" PRId64, var_r);
+                    EVENT("t2 127 submit %" PRId64, var_r);
                     SEE_COMPLETIONS();
-                    /* 117: if sq_ready == 0 { */
+                    /* 128: if sq_ready == 0 { */
                     yes = io_uring_sq_ready(&ring) == 0;
-                    EVENT("t2 117 if %s", yes ? "yes" : "no");
-                    if (yes) {
-                        /* 118: break */
-                        EVENT("t2 118 break");
-                        break;
-                    } /* 119: } */
-                } /* 120: } */
-                /* 121: h = 0 */
-                var_h = INT64_C(0);
-                EVENT("t2 121 set %" PRId64, var_h);
-            } else { /* 122: } else { */
-                /* 123: peek_cqe r { */
-                answer = io_uring_peek_cqe(&ring, &cqe);
-                if (answer == 0) {
-                    var_r = cqe->res;
-                    SEE_COMPLETIONS();
-                    EVENT("t2 123 peek_cqe %" PRIu64 " %" PRId64, (uint64_t)cqe->user_data, var_r);
-                } else if (answer == -EAGAIN) {
-                    cqe = NULL;
-                    var_r = -EAGAIN;
-                    EVENT("t2 123 peek_cqe none");
-                    SEE_COMPLETIONS();
-                } else {
-                    stop(123, "io_uring_peek_cqe", answer);
-                }
-                /* 124: case 18446744073709551615 { */
-                if (cqe != NULL && cqe->user_data == UINT64_C(18446744073709551615)) {
-                    /* 125: cqe_seen */
-                    EVENT("t2 125 cqe_seen %" PRIu64, (uint64_t)cqe->user_data);
-                    io_uring_cqe_seen(&ring, cqe);
-                    /* 126: h = 1 */
-                    var_h = INT64_C(1);
-                    EVENT("t2 126 set %" PRId64, var_h);
-                    /* 127: n = n + 1 */
-                    var_n = SUM(var_n, INT64_C(1));
-                    EVENT("t2 127 set %" PRId64, var_n);
-                    /* 128: if n > 2 { */
-                    yes = var_n > INT64_C(2);
                     EVENT("t2 128 if %s", yes ? "yes" : "no");
                     if (yes) {
                         /* 129: break */
                         EVENT("t2 129 break");
-                        MUST(129, pthread_mutex_unlock(&ring_lock));
                         break;
                     } /* 130: } */
                 } /* 131: } */
-                /* 132: other { */
-                else if (cqe != NULL) {
-                    /* 133: if n == -9223372036854775808 { */
-                    yes = var_n == INT64_MIN;
-                    EVENT("t2 133 if %s", yes ? "yes" : "no");
+                /* 132: h = 0 */
+                var_h = INT64_C(0);
+                EVENT("t2 132 set %" PRId64, var_h);
+            } else { /* 133: } else { */
+                /* 134: peek_cqe r { */
+                answer = io_uring_peek_cqe(&ring, &cqe);
+                if (answer == 0) {
+                    var_r = cqe->res;
+                    SEE_COMPLETIONS();
+                    EVENT("t2 134 peek_cqe %" PRIu64 " %" PRId64, (uint64_t)cqe->user_data, var_r);
+                } else if (answer == -EAGAIN) {
+                    cqe = NULL;
+                    var_r = -EAGAIN;
+                    EVENT("t2 134 peek_cqe none");
+                    SEE_COMPLETIONS();
+                } else {
+                    stop(134, "io_uring_peek_cqe", answer);
+                }
+                /* 135: case 4294967295 { */
+                if (cqe != NULL && cqe->user_data == UINT64_C(4294967295)) {
+                    /* 136: cqe_seen */
+                    EVENT("t2 136 cqe_seen %" PRIu64, (uint64_t)cqe->user_data);
+                    io_uring_cqe_seen(&ring, cqe);
+                    /* 137: h = 1 */
+                    var_h = INT64_C(1);
+                    EVENT("t2 137 set %" PRId64, var_h);
+                    /* 138: n = n + 1 */
+                    var_n = SUM(var_n, INT64_C(1));
+                    EVENT("t2 138 set %" PRId64, var_n);
+                    /* 139: if n > 2 { */
+                    yes = var_n > INT64_C(2);
+                    EVENT("t2 139 if %s", yes ? "yes" : "no");
                     if (yes) {
-                        /* 134: n = 0 */
+                        /* 140: break */
+                        EVENT("t2 140 break");
+                        MUST(140, pthread_mutex_unlock(&ring_lock));
+                        break;
+                    } /* 141: } */
+                } /* 142: } */
+                /* 143: other { */
+                else if (cqe != NULL) {
+                    /* 144: if n == -9223372036854775808 { */
+                    yes = var_n == INT64_MIN;
+                    EVENT("t2 144 if %s", yes ? "yes" : "no");
+                    if (yes) {
+                        /* 145: n = 0 */
                         var_n = INT64_C(0);
-                        EVENT("t2 134 set %" PRId64, var_n);
-                    } /* 135: } */
-                } /* 136: } */
-                /* 137: none { */
+                        EVENT("t2 145 set %" PRId64, var_n);
+                    } /* 146: } */
+                } /* 147: } */
+                /* 148: none { */
                 else if (cqe == NULL) {
-                } /* 138: } */
-                /* 139: } */
-            } /* 140: } */
-        } /* 141: } */
-        EVENT("t2 141 release");
-        MUST(141, pthread_mutex_unlock(&ring_lock));
-    } /* 142: } */
+                } /* 149: } */
+                /* 150: } */
+            } /* 151: } */
+        } /* 152: } */
+        EVENT("t2 152 release");
+        MUST(152, pthread_mutex_unlock(&ring_lock));
+    } /* 153: } */
     return NULL;
 }
 

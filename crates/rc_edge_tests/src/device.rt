@@ -60,7 +60,7 @@ type Served = (u32, Asked, i32, i32, [usize; 2], [usize; 3]);
 // What a request asks for: its kind, its file, its place and its length.
 type Asked = (Kind, i32, u64, u32);
 
-const SERVED: [Served; 17] = [
+const SERVED: [Served; 20] = [
     (64, (Kind::Read, 3, 60, 16), 16, 4, [4, 12], [64, 64, 0]),
     (64, (Kind::Read, 3, 64, 16), 16, 0, [0, 16], [64, 64, 0]),
     (64, (Kind::Read, 3, 0, 16), 5, 5, [5, 11], [64, 64, 0]),
@@ -92,6 +92,9 @@ const SERVED: [Served; 17] = [
     (4, (Kind::Fsync, 3, 0, 0), 0, 0, [0, 16], [4, 4, 0]),
     (4, (Kind::Nop, -1, 0, 0), 0, 0, [0, 16], [4, 4, 0]),
     (4, (Kind::Nop, -1, 0, 0), -5, -5, [0, 16], [4, 4, 0]),
+    (4, (Kind::Other, -1, 0, 0), 0, 0, [0, 16], [4, 4, 0]),
+    (4, (Kind::Other, -1, 0, 0), 4096, 4096, [0, 16], [4, 4, 0]),
+    (4, (Kind::Other, -1, 0, 0), -4095, -4095, [0, 16], [4, 4, 0]),
 ];
 
 #[test]

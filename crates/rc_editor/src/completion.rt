@@ -109,7 +109,9 @@ fn may_be_in(row: Row, block: Option<Row>) -> bool {
         Row::Close => true,
         Row::Else => matches!(
             block,
-            Some(Row::If | Row::IfReady | Row::IfSpace | Row::IfTake | Row::IfTakeNamed)
+            Some(
+                Row::If | Row::IfReady | Row::IfSpace | Row::IfTake | Row::IfTakeNamed | Row::IfAny
+            )
         ),
         _ => is_arm == in_peek,
     }

@@ -94,9 +94,8 @@ pub fn beginning_of(alloc: Global, row: Row) -> Result<Vec<u8>, AllocError> {
 /// What a line of a form does, and the page of the manual that says more of it.
 pub fn meaning_of(row: Row) -> &'static str {
     match row {
-        Row::Version | Row::SecondVersion | Row::ThirdVersion | Row::FourthVersion => {
-            "the version of the notation"
-        }
+        Row::Version | Row::SecondVersion | Row::ThirdVersion => "the version of the notation",
+        Row::FourthVersion | Row::FifthVersion => "the version of the notation",
         Row::Ring | Row::RingCq | Row::RingLeft | Row::RingCqLeft => {
             "the entries of the rings, and how many may stay queued where the lock is released: io_uring_setup(2)"
         }
@@ -106,6 +105,9 @@ pub fn meaning_of(row: Row) -> &'static str {
         Row::TokenWrite => "the user data of a write, which owns K shares of B in flight",
         Row::TokenFsync => "the user data of an fsync",
         Row::TokenNop => "the user data of a nop",
+        Row::TokenOther => {
+            "the user data of another request without a buffer, as a poll or a timeout"
+        }
         Row::Pool => "a table that threads put items into and take them from",
         Row::Thread => "a thread, and what it holds at its start",
         Row::Set => "sets a variable",
@@ -138,6 +140,9 @@ fn meaning_in_thread(row: Row) -> &'static str {
             "makes the open entry an fsync, with 1 of the data alone: io_uring_prep_fsync(3)"
         }
         Row::PrepNop => "makes the open entry a nop: io_uring_prep_nop(3)",
+        Row::PrepOther => {
+            "makes the open entry another request without a buffer, as io_uring_prep_timeout(3)"
+        }
         Row::SetData64 => {
             "gives the open entry its user data and queues it: io_uring_sqe_set_data64(3)"
         }
@@ -157,6 +162,7 @@ fn meaning_in_thread(row: Row) -> &'static str {
         Row::If => "compares a variable with a number",
         Row::IfReady => "whether no entry is queued or open: io_uring_sq_ready(3)",
         Row::IfSpace => "whether so many entries are free: io_uring_sq_space_left(3)",
+        Row::IfAny => "a free choice: either branch may be taken",
         Row::Put | Row::PutNamed => "gives the items to the pool",
         Row::IfTake | Row::IfTakeNamed => {
             "whether the pool has all of the items; if so, the thread gets them in the first branch"

@@ -44,7 +44,7 @@ pub struct Page<'a> {
 /// Above the first line.
 fn start() -> Above {
     Above {
-        version: 4,
+        version: 5,
         region: Region::Start,
         scope: 0,
         block: None,
@@ -62,9 +62,10 @@ fn version_in(fit: Option<Fit>) -> u32 {
             Row::Version => 1,
             Row::SecondVersion => 2,
             Row::ThirdVersion => 3,
-            _ => 4,
+            Row::FourthVersion => 4,
+            _ => 5,
         },
-        _ => 4,
+        _ => 5,
     }
 }
 

@@ -62,6 +62,7 @@ fn put_test(text: &mut Vec<u8>, place: Place<'_>, test: Test) -> Result<(), Allo
         Test::ReadyZero => put_line(text, place, &[b"yes = io_uring_sq_ready(&ring) == 0;"]),
         Test::SpaceAtLeast(count) => put_space(text, place, count),
         Test::Take(pool, list) => put_take(text, place, pool, list),
+        Test::Any => put_line(text, place, &[b"yes = ringcheck_any() != 0;"]),
     }
 }
 
@@ -113,7 +114,7 @@ fn put_if(text: &mut Vec<u8>, place: Place<'_>, test: Test) -> Result<(), AllocE
 fn put_after_test(text: &mut Vec<u8>, place: Place<'_>, test: Test) -> Result<(), AllocError> {
     match test {
         Test::Take(pool, _) => put_pool_unlock(text, place, pool),
-        Test::Compare(_, _, _) | Test::ReadyZero | Test::SpaceAtLeast(_) => Ok(()),
+        Test::Compare(_, _, _) | Test::ReadyZero | Test::SpaceAtLeast(_) | Test::Any => Ok(()),
     }
 }
 

@@ -3,7 +3,8 @@
 use crate::fixed::{LOCK_OPENED, MUTEX_OPENED};
 use crate::locks::Guards;
 use crate::terms::{data, number};
-use rc_lang::program::{Program, TokenKind};
+use rc_lang::lines::{Stmt, Test};
+use rc_lang::program::{Program, Thread, TokenKind};
 use rc_text::names::buffer_name;
 use rc_text::text::{put_piece, put_pieces};
 use std::alloc::AllocError;
@@ -37,6 +38,11 @@ struct table {
     pthread_mutex_t lock;
 ";
 
+const ANY: &str = "
+/* Write it: whether an `if any` takes its first branch. Several threads may call it, and with mutexes held. */
+extern int ringcheck_any(void);
+";
+
 const FILLINGS: &str = "
 #ifdef RINGCHECK_LOG
 /* The buffers that reads fill, by their user data. */
@@ -52,6 +58,7 @@ pub fn put_declared(text: &mut Vec<u8>, program: &Program) -> Result<(), AllocEr
     put_files(text, program)?;
     put_buffers(text, program)?;
     put_pools(text, program)?;
+    put_any(text, program)?;
     put_fillings(text, program)
 }
 
@@ -170,6 +177,25 @@ fn put_open_mutexes(text: &mut Vec<u8>, program: &Program, ring: &[u8]) -> Resul
     put_pieces(text, &[MUTEX_OPENED.as_bytes(), ring])?;
     put_each_table(text, program, b"    open_mutex(&", b".lock);\n")?;
     put_piece(text, b"}\n\n")
+}
+
+/// Adds the function that answers for `if any`, in a program that has one.
+fn put_any(text: &mut Vec<u8>, program: &Program) -> Result<(), AllocError> {
+    for thread in program.threads() {
+        if has_any(thread) {
+            return put_piece(text, ANY.as_bytes());
+        }
+    }
+    Ok(())
+}
+
+fn has_any(thread: &Thread) -> bool {
+    for line in &thread.lines {
+        if let Stmt::If(Test::Any) = line.stmt {
+            return true;
+        }
+    }
+    false
 }
 
 /// Adds which buffer the read of a token fills, for what is logged.

@@ -29,6 +29,7 @@ pub fn put_op(text: &mut Vec<u8>, place: Place<'_>, op: Op) -> Result<(), AllocE
         }
         Op::PrepFsync(file, data_alone) => put_prep_fsync(text, place, file, data_alone),
         Op::PrepNop => put_prep_nop(text, place),
+        Op::PrepOther => put_prep_other(text, place),
         Op::SetData64(data) => put_set_data(text, place, data),
         Op::Submit(x) => put_submit(text, place, x),
         Op::SubmitAndWait(x, count) => put_submit_and_wait(text, place, x, count),
@@ -199,6 +200,17 @@ fn put_prep_fsync(
 fn put_prep_nop(text: &mut Vec<u8>, place: Place<'_>) -> Result<(), AllocError> {
     put_line(text, place, &[b"io_uring_prep_nop(sqe);"])?;
     put_event(text, place, &[b"prep_nop\""])
+}
+
+/// Adds that the open entry becomes a nop, in place of the request that is to be written there.
+fn put_prep_other(text: &mut Vec<u8>, place: Place<'_>) -> Result<(), AllocError> {
+    put_line(
+        text,
+        place,
+        &[b"/* Write the request here, as io_uring_prep_timeout or io_uring_prep_accept. */"],
+    )?;
+    put_line(text, place, &[b"io_uring_prep_nop(sqe);"])?;
+    put_event(text, place, &[b"prep_other\""])
 }
 
 /// Adds that the open entry gets its user data.

@@ -1,5 +1,5 @@
 -- What is answered and written where a verdict is explained.
-use Rattle.std.specs.Prelude.{ℕ, ◌≡◌, List, ◌++◌, codes, Option, Some, None}
+use Rattle.std.specs.Prelude.{ℕ, ◌≡◌, false, List, ◌++◌, codes, Option, Some, None}
 use Rattle.json.specs.Lex.{tokens}
 use Rattle.json.specs.Print.{print}
 use Rattle.serde_json.specs.Data.{Data, number, string, unsigned}
@@ -11,9 +11,8 @@ use Rattle.rc_rules.specs.Causes as rules_of
 use Rattle.rc_report.specs.declared.verdict.Verdict.{Verdict}
 use Rattle.rc_report.specs.declared.verdict.Verdict.TheVariants.{Accepted, Refused, Unreadable}
 use Rattle.rc_report.specs.Checks.{IsVerdict}
-use Rattle.rc_report.specs.Files.{file_text}
+use Rattle.rc_report.specs.Files.{printed}
 use Rattle.rc_report.specs.Shown.{shown}
-use Rattle.rc_report.specs.Verdicts.{verdict_text}
 use Rattle.rc_console.specs.declared.command.Form.{Form}
 use Rattle.rc_console.specs.declared.command.Form.TheVariants.{Words, Listing, Json}
 
@@ -52,12 +51,7 @@ IsObjectOf file verdict json =
 abbrev pub IsObjectText : Option (List ℕ) → Verdict → List ℕ → Type 0
 IsObjectText file verdict text = (json : List ℕ) × IsObjectOf file verdict json × (text ≡ shown json ++ codes "\n")
 
--- ---- in words
-
--- the line of the verdict, as it is without an explanation
-abbrev pub first_line : Option (List ℕ) → Verdict → List ℕ
-first_line None verdict = verdict_text verdict
-first_line (Some file) verdict = file_text file verdict
+-- ---- in words: the line of the verdict comes first, as it is without an explanation
 
 abbrev pub BeginsWith : List ℕ → List ℕ → Type 0
 BeginsWith line text = (rest : List ℕ) × (text ≡ line ++ rest)
@@ -65,8 +59,8 @@ BeginsWith line text = (rest : List ℕ) × (text ≡ line ++ rest)
 -- ---- in each form
 
 abbrev pub Tells : Option (List ℕ) → Form → Verdict → List ℕ → Type 0
-Tells file Words verdict text = BeginsWith (first_line file verdict) text
-Tells file Listing verdict text = BeginsWith (first_line file verdict) text
+Tells file Words verdict text = BeginsWith (printed file false verdict) text
+Tells file Listing verdict text = BeginsWith (printed file false verdict) text
 Tells file Json verdict text = IsObjectText file verdict text
 
 -- The verdict on the bytes, which are those of a file if one is named, and a text that explains it.

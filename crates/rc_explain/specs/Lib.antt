@@ -1,3 +1,2 @@
 pub mod Explains
-pub mod Judged
 pub mod Members

@@ -5,10 +5,10 @@ ghost use Rattle.rc_read.specs.Answer.{answer_of};
 ghost use Rattle.rc_report.specs.Checks.{IsVerdict};
 
 use crate::explanation::{Explanation, Walks, explain};
-use crate::judged::verdict_of;
 use crate::notes::{Note, notes_of};
 use crate::span::Span;
 use rc_admit::admitted::{Judged, judge};
+use rc_report::check_engine::verdict_of;
 use rc_report::text::put_pieces;
 use rc_report::verdict::Verdict;
 use std::alloc::{AllocError, Global};
@@ -50,14 +50,9 @@ pub fn diagnose(alloc: Global, text: &[u8]) -> Result<Diagnosis, AllocError>
 
 /// What is shown of a model that was judged.
 fn shown_of(alloc: Global, text: &[u8], judged: &Judged) -> Result<Shown, AllocError> {
-    let explanation = explain(alloc, text, judged, Walks::All)?;
-    drawn(alloc, &explanation)
-}
-
-/// An explanation as it is shown.
-fn drawn(alloc: Global, explanation: &Explanation<'_>) -> Result<Shown, AllocError> {
-    let words = words_of(alloc, explanation)?;
-    Ok((words, notes_of(alloc, explanation)?))
+    let explanation = explain(alloc, text, judged, Walks::None)?;
+    let words = words_of(alloc, &explanation)?;
+    Ok((words, notes_of(alloc, judged, explanation.notes)?))
 }
 
 /// What is said of the line that isn't good.

@@ -1,20 +1,20 @@
 //! A model is checked, and its verdict is printed with what explains it.
 
-ghost use Rattle.std.specs.Prelude.{option_copied as named};
-ghost use Rattle.rc_explain.specs.Explains.{BeginsWith, Explains, IsObjectText, Tells, first_line};
-ghost use Rattle.rc_explain.specs.Judged as spec;
-ghost use Rattle.rc_report.specs.Text.{Puts, PutsAnswer, PutsSome};
+ghost use Rattle.std.specs.Prelude.{false, option_copied as named};
+ghost use Rattle.rc_explain.specs.Explains.{BeginsWith, Explains, IsObjectText, Tells};
+ghost use Rattle.rc_report.specs.Files.{printed as printed_verdict};
+ghost use Rattle.rc_report.specs.Judged as spec;
+ghost use Rattle.rc_report.specs.Text.{PutsAnswer, PutsSome};
 
 use crate::explanation::{Explanation, Walks, explain};
-use crate::judged::verdict_of;
 use crate::object::object_text;
 use crate::printed::printed;
 use rc_admit::admitted::{Judged, judge};
 use rc_console::command::Form;
-use rc_report::file_verdict::put_file_verdict;
+use rc_report::check_engine::verdict_of;
 use rc_report::shown::put_shown;
 use rc_report::text::put_piece;
-use rc_report::verdict::{Verdict, put_verdict};
+use rc_report::verdict::{Verdict, print_verdict};
 use std::alloc::{AllocError, Global};
 
 /// Adds the verdict on a model, with what explains it. If the model is that of a file, its name is printed,
@@ -95,20 +95,10 @@ fn put_lines(
     explanation: &Explanation<'_>,
     is_listed: bool,
 ) -> Result<(), AllocError>
-    ensures { PutsSome (BeginsWith (first_line (named file.entry) explanation.now.verdict))
+    ensures { PutsSome (BeginsWith (printed_verdict (named file.entry) false explanation.now.verdict))
         text.old text.new result }
 {
-    put_first(text, file, &explanation.verdict)?;
+    print_verdict(text, alloc, file, false, &explanation.verdict)?;
     let rest = printed(alloc, explanation, is_listed)?;
     put_piece(text, &rest)
-}
-
-/// Adds the line of a verdict, as it is without an explanation.
-fn put_first(text: &mut Vec<u8>, file: Option<&str>, verdict: &Verdict) -> Result<(), AllocError>
-    ensures { Puts text.old text.new (first_line (named file.entry) verdict.now) result }
-{
-    match file {
-        Some(name) => put_file_verdict(text, name, verdict),
-        None => put_verdict(text, verdict),
-    }
 }

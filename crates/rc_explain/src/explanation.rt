@@ -1,15 +1,15 @@
 //! A verdict and what explains it.
 
 ghost use Rattle.std.specs.Prelude.{◌≡◌, ◌<◌, ◌≤◌, IfOk, length};
-ghost use Rattle.rc_explain.specs.Judged as spec;
+ghost use Rattle.rc_report.specs.Judged as spec;
 
-use crate::judged::verdict_of;
 use crate::span::{Span, span_of_word, span_of_words};
 use rc_admit::admitted::Judged;
 use rc_hints::hint::{hint_on, put_printed};
 use rc_lang::program::Program;
 use rc_read::ReadCause;
 use rc_read::parts::Parts;
+use rc_report::check_engine::verdict_of;
 use rc_report::source::Lines;
 use rc_report::verdict::{Refusal, Verdict};
 use rc_sentences::causes::advice_on_read;
@@ -26,8 +26,6 @@ pub enum Walks {
     None,
     /// Those of an accepted program.
     Accepted,
-    /// These, and those above a refused thread.
-    All,
 }
 
 /// A verdict and what explains it. It is computed once, whatever it is drawn as.
@@ -39,7 +37,7 @@ pub struct Explanation<'a> {
     /// What is said of the line that isn't good, if there is one.
     pub reason: Option<Reason<'a>>,
     pub notes: Vec<Note>,
-    /// The threads that the rules accept, as many as were asked for.
+    /// The threads of an accepted program, if they were asked for.
     pub accepted: Vec<Walked<'a>>,
     /// The thread of a refused line, up to it, unless that is its header.
     pub refused: Option<Walked<'a>>,
@@ -105,7 +103,7 @@ fn known_of<'a>(
 ) -> Result<Known<'a>, AllocError> {
     match judged {
         Judged::Admitted(admitted) => of_accepted(alloc, lines, admitted.program(), walks),
-        Judged::Refused(program, refusal) => of_refused(alloc, lines, program, *refusal, walks),
+        Judged::Refused(program, refusal) => of_refused(alloc, lines, program, *refusal),
         Judged::Unread { line, cause, above } => of_unread(alloc, lines, *line, *cause, above),
     }
 }
@@ -120,7 +118,7 @@ fn of_accepted<'a>(
     let count = program.threads().len() as u32;
     let accepted = match walks {
         Walks::None => Vec::new(alloc),
-        Walks::Accepted | Walks::All => walked_up_to(alloc, program, count)?,
+        Walks::Accepted => walked_up_to(alloc, program, count)?,
     };
     Ok(Known {
         reason: None,
@@ -149,7 +147,6 @@ fn of_refused<'a>(
     lines: &Lines<'_>,
     program: &'a Program,
     refusal: Refusal,
-    walks: Walks,
 ) -> Result<Known<'a>, AllocError> {
     let mut known = Known {
         reason: None,
@@ -159,9 +156,6 @@ fn of_refused<'a>(
         is_empty: false,
     };
     if let Some(at) = line_at(program, refusal.line) {
-        if let Walks::All = walks {
-            known.accepted = walked_up_to(alloc, program, at.thread)?;
-        }
         let sentences = sentences_at(alloc, lines, program, at, refusal, &mut known.refused)?;
         known.reason = Some(Reason {
             sentences,

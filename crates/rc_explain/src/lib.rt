@@ -6,7 +6,6 @@
 pub mod diagnosis;
 pub mod engine;
 mod explanation;
-mod judged;
 mod listing;
 pub mod notes;
 mod object;

@@ -1,8 +1,9 @@
 //! What is known before the lines of a thread.
 
 use rc_lang::lines::{Line, Stmt};
+use rc_lang::program::Thread;
 use rc_rules::state::State;
-use rc_sentences::walked::Walked;
+use rc_sentences::walked::{Walked, is_reached};
 use std::alloc::{AllocError, Global};
 
 /// A part of the listing of a thread.
@@ -34,6 +35,26 @@ pub fn entries_of<'a>(alloc: Global, walked: &'a Walked<'a>) -> Result<Vec<Entry
     Ok(entries)
 }
 
+/// The entries of a thread's listing for lines that nothing reaches, by whether something reaches each line.
+pub fn unreached_of<'a>(
+    alloc: Global,
+    thread: &Thread,
+    reached: &[bool],
+) -> Result<Vec<Entry<'a>>, AllocError> {
+    let mut entries = Vec::new(alloc);
+    let mut run = None;
+    for (line, is_reached) in thread.lines.iter().zip(reached) {
+        if *is_reached {
+            push_run(&mut entries, run)?;
+            run = None;
+        } else {
+            run = Some(longer(run, *line));
+        }
+    }
+    push_run(&mut entries, run)?;
+    Ok(entries)
+}
+
 /// Adds a line if something reaches it, after the lines above it that nothing reaches; answers those that aren't added.
 fn push_line<'a>(
     entries: &mut Vec<Entry<'a>>,
@@ -41,7 +62,7 @@ fn push_line<'a>(
     state: &'a State<'a>,
     run: Option<Run>,
 ) -> Result<Option<Run>, AllocError> {
-    if !state.on(true).is_live() && !state.on(false).is_live() {
+    if !is_reached(state) {
         return Ok(Some(longer(run, line)));
     }
     push_run(entries, run)?;

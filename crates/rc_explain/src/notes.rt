@@ -1,8 +1,13 @@
 //! Notes on the lines of a program.
 
-use crate::explanation::Explanation;
-use crate::listing::{Entry, entries_of};
-use rc_sentences::walked::Walked;
+ghost use Rattle.std.specs.Prelude.{◌<◌, ◌≤◌, IfSome, length};
+
+use crate::listing::{Entry, unreached_of};
+use rc_admit::admitted::Judged;
+use rc_lang::program::Program;
+use rc_sentences::line_at::line_at;
+use rc_sentences::notes as sentences;
+use rc_sentences::walked::reached_lines;
 use std::alloc::{AllocError, Global};
 
 /// What is noted of lines: the first and the last of them, from 1, and a sentence.
@@ -15,18 +20,51 @@ pub struct Note {
     pub is_unreached: bool,
 }
 
-/// The notes on a program: which of its `if take` never find what they ask for, and which lines nothing reaches. Of the
-/// threads from a refused one on nothing is said of the second kind.
-pub fn notes_of(alloc: Global, explanation: &Explanation<'_>) -> Result<Vec<Note>, AllocError> {
-    let mut notes = Vec::new(alloc);
-    for note in &explanation.notes {
-        let text = note.text.to_vec(alloc)?;
-        push(&mut notes, note.line, note.line, text, false)?;
+/// A program, and how many of its threads the rules accept, from the first on.
+#[derive(Clone, Copy)]
+struct Accepted<'a> {
+    program: &'a Program,
+    count: u32,
+}
+
+/// The notes on a model that was judged: which of its `if take` never find what they ask for, which are found already, and
+/// which lines nothing reaches. Of the threads from a refused one on nothing is said of the second kind.
+pub fn notes_of(
+    alloc: Global,
+    judged: &Judged,
+    found: Vec<sentences::Note>,
+) -> Result<Vec<Note>, AllocError> {
+    let mut notes = Vec::with_capacity(alloc, found.len())?;
+    for note in found {
+        push(&mut notes, note.line, note.line, note.text, false)?;
     }
-    for walked in &explanation.accepted {
-        push_unreached(alloc, &mut notes, walked)?;
+    if let Some(accepted) = accepted_of(judged) {
+        push_all_unreached(alloc, &mut notes, accepted)?;
     }
     Ok(notes)
+}
+
+/// The threads that the rules accept, up to the first that they refuse.
+fn accepted_of(judged: &Judged) -> Option<Accepted<'_>>
+    ensures { IfSome result (λ a. a.count ≤ length a.program.now.threads) }
+{
+    match judged {
+        Judged::Admitted(admitted) => {
+            let program = admitted.program();
+            Some(Accepted {
+                program,
+                count: program.threads().len() as u32,
+            })
+        }
+        Judged::Refused(program, refusal) => {
+            let at = line_at(program, refusal.line)?;
+            Some(Accepted {
+                program,
+                count: at.thread,
+            })
+        }
+        Judged::Unread { .. } => None,
+    }
 }
 
 /// Adds a note.
@@ -45,13 +83,32 @@ fn push(
     })?)
 }
 
+/// Adds the lines of the accepted threads that nothing reaches.
+fn push_all_unreached(
+    alloc: Global,
+    notes: &mut Vec<Note>,
+    accepted: Accepted<'_>,
+) -> Result<(), AllocError>
+    requires { accepted.count ≤ length accepted.program.now.threads }
+{
+    for number in 0..accepted.count {
+        push_unreached(alloc, notes, accepted.program, number)?;
+    }
+    Ok(())
+}
+
 /// Adds the lines of a thread that nothing reaches.
 fn push_unreached(
     alloc: Global,
     notes: &mut Vec<Note>,
-    walked: &Walked<'_>,
-) -> Result<(), AllocError> {
-    for entry in entries_of(alloc, walked)? {
+    program: &Program,
+    number: u32,
+) -> Result<(), AllocError>
+    requires { number < length program.now.threads }
+{
+    let reached = reached_lines(alloc, program, number)?;
+    let thread = &program.threads()[number as usize];
+    for entry in unreached_of(alloc, thread, &reached)? {
         if let Entry::Unreached(first, last) = entry {
             push_run(alloc, notes, first, last)?;
         }

@@ -11,7 +11,7 @@ use Rattle.rc_world.specs.Applies.{Advances}
 use Rattle.rc_world.specs.declared.event.Event.{Event}
 use Rattle.rc_world.specs.declared.event.Item.{Item}
 use Rattle.rc_world.specs.declared.event.Item.TheVariants.{Thread, Kernel}
-use Rattle.rc_world.specs.Items.{item_bytes, item_step, kernel_item, pending_place, take_of}
+use Rattle.rc_world.specs.Items.{item_bytes, item_step, kernel_item, pending_place, given_at}
 use Rattle.std.specs.Prelude.{slice_get}
 use Rattle.rc_world.specs.Controls.{next_line}
 use Rattle.rc_world.specs.Machine.{World}
@@ -26,7 +26,7 @@ use Rattle.rc_follow.proofs.Runs.{hides_join}
 -- ---- steps
 
 pub item_is_weak : (w v : World) (i : Item) (e : Event) → item_step w i ≡ Some (e, v) → IsWeakStep w e v
-item_is_weak w v (Thread i take) e h = inl (i, take_of w take, h)
+item_is_weak w v (Thread i take) e h = inl (i, given_at w take (next_line w.program w.controls i), h)
 item_is_weak w v (Kernel u res fill) e h = at (pending_place w u) h
   where
     at : (k : Option ℕ) → kernel_item w res fill k ≡ Some (e, v) → IsWeakStep w e v

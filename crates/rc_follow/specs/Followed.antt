@@ -1,5 +1,5 @@
 -- When a log is followed: a weak run of the program makes each line of it, with nothing but hidden steps in between.
-use Rattle.std.specs.Prelude.{ℕ, ◌≡◌, ◌⊎◌, ◌+◌, ◌-◌, Bool, true, false, ◌&&◌, ◌||◌, not, if◌then◌else◌, min, List, [], ◌∷◌, length, position, replicate, Option, Some, None, nat_eq, slice_get, slice_index_or, slice_set, ℤ, pos, negsuc}
+use Rattle.std.specs.Prelude.{ℕ, ◌≡◌, ◌⊎◌, ◌+◌, ◌-◌, ◌^◌, Bool, true, false, ◌&&◌, ◌||◌, not, if◌then◌else◌, min, List, [], ◌∷◌, length, position, replicate, Option, Some, None, nat_eq, slice_get, slice_index_or, slice_set, ℤ, pos, negsuc}
 use Rattle.std.specs.List.{list_any}
 use Rattle.std.specs.Ordering.{int_eq}
 use Rattle.rc_lang.specs.declared.lines.Line.{Line}
@@ -10,9 +10,10 @@ use Rattle.rc_lang.specs.declared.lines.Stmt.TheVariants as stmt
 use Rattle.rc_lang.specs.declared.lines.Test.TheVariants as test
 use Rattle.rc_lang.specs.declared.program.Share.{Share}
 use Rattle.rc_lang.specs.declared.request.Request.{Request}
+use Rattle.rc_lang.specs.Requests.{largest}
 use Rattle.rc_lang.specs.Program.{Items, Program, items_at, lists_of, shares_at, token_place}
 use Rattle.rc_log.specs.declared.call.Call.{Call}
-use Rattle.rc_log.specs.declared.call.Call.TheVariants.{GetSqe, PrepRead, PrepWrite, PrepFsync, PrepNop, SetData64, Submit, Peek, PeekNone, CqeSeen, SqReady, SqSpaceLeft, Exit, Lock, Unlock, Reads, Writes, Put, Take, Ends}
+use Rattle.rc_log.specs.declared.call.Call.TheVariants.{GetSqe, PrepRead, PrepWrite, PrepFsync, PrepNop, PrepOther, SetData64, Submit, Peek, PeekNone, CqeSeen, SqReady, SqSpaceLeft, Exit, Lock, Unlock, Reads, Writes, Put, Take, Ends}
 use Rattle.rc_log.specs.declared.call.Said.{Said}
 use Rattle.rc_world.specs.declared.controls.Holders.{Holders}
 use Rattle.rc_world.specs.declared.event.Action.{Action}
@@ -28,9 +29,8 @@ use Rattle.rc_follow.specs.Rights.{HasShares}
 
 -- ---- what the log says beside the world
 
--- Who has each mutex of the C program, whether the program has one thread and no mutex was locked yet, how many bytes the
--- open entry is to move there, where it is a read or a write, and of each declared token how many its last request was to
--- move.
+-- Who has each mutex of the C program, whether the program has one thread and no mutex was locked yet, the largest result
+-- that the open entry can have there, if it isn't a nop or an fsync, and of each declared token that of its last request.
 pub record Noted : Type 0 where
   pub mutexes : Holders
   pub alone : Bool
@@ -39,6 +39,10 @@ pub record Noted : Type 0 where
 
 abbrev pub start_noted : Program → Noted
 start_noted P = record { mutexes = nobody; alone = nat_eq (length P.threads) 1; entry = None; lengths = replicate (length P.tokens) None }
+
+-- the largest of C's int
+abbrev pub most_of_int : ℕ
+most_of_int = 2 ^ 31 - 1
 
 abbrev pub names_open : Noted → Option ℕ → Noted
 names_open n None = n
@@ -50,6 +54,7 @@ noted_call P n i (PrepRead file b len) = record n { entry = Some len }
 noted_call P n i (PrepWrite file b len) = record n { entry = Some len }
 noted_call P n i (PrepFsync file datasync) = record n { entry = None }
 noted_call P n i PrepNop = record n { entry = None }
+noted_call P n i PrepOther = record n { entry = Some most_of_int }
 noted_call P n i (SetData64 u) = names_open n (token_place P.tokens u)
 noted_call P n i (Lock wanted) = record n { mutexes = held_by (Some i) wanted n.mutexes; alone = false }
 noted_call P n i (Unlock released) = record n { mutexes = held_by None released n.mutexes }
@@ -86,6 +91,7 @@ is_hidden_action n w i action.ReadPrepared = false
 is_hidden_action n w i action.WritePrepared = false
 is_hidden_action n w i action.FsyncPrepared = false
 is_hidden_action n w i action.NopPrepared = false
+is_hidden_action n w i action.OtherPrepared = false
 is_hidden_action n w i (action.DataSet u) = false
 is_hidden_action n w i (action.Peeked c) = false
 is_hidden_action n w i (action.Reaped u) = false
@@ -113,8 +119,8 @@ Hides n w (e ∷ es) after = (next : World) × IsWeakStep w e next × (is_hidden
 
 -- ---- lines that are steps
 
--- C's result as one of the text. C asked for `len` bytes, and the text asks for `most`: all stays all, some stays some,
--- and none stays none. Where the lengths are the same, or one isn't known, the result stays as it is.
+-- C's result as one of the model. C's is at most `len`, and the model's at most `most`: all stays all, some stays some, and
+-- none stays none. Where these are the same, or one isn't known, the result stays as it is.
 abbrev pub scaled_count : (len most r : ℕ) → ℕ
 scaled_count len most r =
     if nat_eq r 0 || nat_eq len most then r else if nat_eq r len then most else min r (most - 1)
@@ -124,17 +130,17 @@ scaled None most r = r
 scaled (Some len) most (pos r) = pos (scaled_count len most r)
 scaled (Some len) most (negsuc e) = negsuc e
 
--- the length of the first of these requests that has the user data
-abbrev pub len_in : Option Request → ℕ
-len_in None = 0
-len_in (Some r) = r.len
+-- the largest result of the first of these requests that has the user data
+abbrev pub most_in : Option Request → ℕ
+most_in None = 0
+most_in (Some r) = largest r.len r.kind
 
-abbrev pub len_at : List Request → Option ℕ → ℕ
-len_at rs None = 0
-len_at rs (Some k) = len_in (slice_get rs k)
+abbrev pub most_at : List Request → Option ℕ → ℕ
+most_at rs None = 0
+most_at rs (Some k) = most_in (slice_get rs k)
 
-abbrev pub len_of : ℕ → List Request → ℕ
-len_of u rs = len_at rs (position (λ (r : Request). nat_eq r.user_data u) rs)
+abbrev pub most_of : ℕ → List Request → ℕ
+most_of u rs = most_at rs (position (λ (r : Request). nat_eq r.user_data u) rs)
 
 abbrev pub length_at : Noted → Option ℕ → Option ℕ
 length_at n None = None
@@ -143,7 +149,7 @@ length_at n (Some k) = slice_index_or n.lengths k None
 -- what the text's peek finds, where C's finds this
 abbrev pub scaled_peek : Noted → World → ℕ → ℤ → Completion
 scaled_peek n w u r =
-    record { user_data = u; res = scaled (length_at n (token_place w.program.tokens u)) (len_of u w.completed) r }
+    record { user_data = u; res = scaled (length_at n (token_place w.program.tokens u)) (most_of u w.completed) r }
 
 abbrev pub same_completion : Completion → Completion → Bool
 same_completion c d = nat_eq c.user_data d.user_data && int_eq c.res d.res
@@ -180,6 +186,7 @@ fits_action n w (PrepRead file b len) s action.ReadPrepared = is_read_of file b 
 fits_action n w (PrepWrite file b len) s action.WritePrepared = is_write_of file b s
 fits_action n w (PrepFsync file datasync) s action.FsyncPrepared = is_fsync_of file datasync s
 fits_action n w PrepNop s action.NopPrepared = true
+fits_action n w PrepOther s action.OtherPrepared = true
 fits_action n w (SetData64 u) s (action.DataSet v) = nat_eq u v
 fits_action n w (Submit r) s (action.Submitted v) = int_eq r v
 fits_action n w (Peek u r) s (action.Peeked c) = same_completion (scaled_peek n w u r) c

@@ -117,6 +117,7 @@ impl<'a> Follower<'a> {
         self.noted = Noted::start(alloc, program)?;
         self.worlds.clear();
         self.worlds.push(start)?;
+        self.room.forget_all();
         self.calls = 0;
         Ok(())
     }

@@ -36,8 +36,10 @@ pub struct Ground<'g, 'a> {
 /// A step of a thread.
 #[derive(Clone, Copy)]
 pub enum Step {
-    /// The machine's.
+    /// The machine's step. At an `if any` it takes the first branch.
     Own,
+    /// The machine's step at an `if any`, where it takes the second branch.
+    Past,
     /// One that the machine may not have: an `if take` goes to its second branch, or a load gives this byte.
     Stray(u8),
 }
@@ -51,8 +53,8 @@ pub enum Way {
     On(Step),
     /// By its only step, which leads back into the loop at this place.
     Back(usize),
-    /// By the step of an `if take`, which finds its items, or to its second branch.
-    Take,
+    /// By its step into the first branch of an if, or by this step to the second.
+    Both(Step),
     /// By a load into this variable, which is tried with several bytes.
     Load(usize),
 }
@@ -90,19 +92,25 @@ fn way_at(ground: Ground<'_, '_>, world: &World<'_>, place: usize, stmt: Stmt) -
             let takes = reach.leads_into(ground.thread, place, ground.sought)
                 && has_items(ground, world, pool, list);
             let passes = reach.leads_past(ground.thread, place, ground.sought);
-            way_at_take(takes, passes)
+            way_at_branch(takes, passes, Step::Stray(0))
+        }
+        Stmt::If(Test::Any) => {
+            let reach = ground.reach;
+            let enters = reach.leads_into(ground.thread, place, ground.sought);
+            let passes = reach.leads_past(ground.thread, place, ground.sought);
+            way_at_branch(enters, passes, Step::Past)
         }
         stmt if may_hide(ground, world, stmt) => Way::On(Step::Own),
         _ => Way::None,
     }
 }
 
-/// How it goes on at an `if take`, where it may take or may pass.
-fn way_at_take(takes: bool, passes: bool) -> Way {
-    match (takes, passes) {
-        (true, true) => Way::Take,
+/// How it goes on at an if, where it may go into the first branch, or by this step to the second.
+fn way_at_branch(enters: bool, passes: bool, past: Step) -> Way {
+    match (enters, passes) {
+        (true, true) => Way::Both(past),
         (true, false) => Way::On(Step::Own),
-        (false, true) => Way::On(Step::Stray(0)),
+        (false, true) => Way::On(past),
         (false, false) => Way::None,
     }
 }
@@ -137,6 +145,7 @@ fn may_hide(ground: Ground<'_, '_>, world: &World<'_>, stmt: Stmt) -> bool {
             | Op::PrepWrite(_, _, _, _, _)
             | Op::PrepFsync(_, _)
             | Op::PrepNop
+            | Op::PrepOther
             | Op::SetData64(_)
             | Op::CqeSeen,
         ) => false,
@@ -161,6 +170,10 @@ pub fn go(ground: Ground<'_, '_>, node: &mut Node<'_>, step: Step) -> Result<boo
         Step::Own => {
             let thread = ground.thread;
             hide(ground, node, &Item::Thread { thread, take: None })
+        }
+        Step::Past => {
+            let (thread, take) = (ground.thread, Some(0));
+            hide(ground, node, &Item::Thread { thread, take })
         }
         Step::Stray(byte) => Ok(hide_stray(ground, node, byte)),
     }
@@ -209,10 +222,10 @@ pub fn push_hidden<'a>(
         Way::None => room.give(node)?,
         Way::On(step) => push_gone(ground, node, step, room, fresh)?,
         Way::Back(_) => push_gone(ground, node, Step::Own, room, fresh)?,
-        Way::Take => {
+        Way::Both(past) => {
             let again = room.copy(ground.alloc, &node)?;
             push_gone(ground, again, Step::Own, room, fresh)?;
-            push_gone(ground, node, Step::Stray(0), room, fresh)?;
+            push_gone(ground, node, past, room, fresh)?;
         }
         Way::Load(variable) => {
             push_loads(ground, &node, variable, room, fresh)?;

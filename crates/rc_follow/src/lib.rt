@@ -19,5 +19,6 @@ mod reads;
 mod rights;
 mod room;
 mod search;
+mod spent;
 mod step;
 mod visible;

@@ -6,7 +6,7 @@ use rc_lang::program::Thread;
 use std::alloc::{AllocError, Global};
 
 /// How many variables a thread has at most.
-const VARIABLES: usize = 64;
+pub const VARIABLES: usize = 64;
 
 /// Sets of variables, a bit for each.
 type Set = u64;

@@ -15,11 +15,15 @@ use rc_log::call::Call;
 use rc_world::controls::Holders;
 use rc_world::event::{Action, Event};
 use rc_world::world::World;
+use rc_world::world::requests::largest;
 use std::alloc::{AllocError, Global};
 use std::marker::Model;
 
-/// Who has each mutex of the C program, whether the model has one thread and no mutex was locked yet, how many bytes C's
-/// open entry asks for if it is a read or a write, and how many the last request of each declared token asked for.
+/// The largest of C's int.
+const MOST_OF_INT: u64 = i32::MAX as u64;
+
+/// Who has each mutex of the C program, whether the model has one thread and no mutex was locked yet, the largest result
+/// that C's open entry can have, if it isn't a nop or an fsync, and that of the last request of each declared token.
 #[derive(Drop)]
 pub struct Noted {
     mutexes: Holders,
@@ -89,6 +93,7 @@ impl Noted {
             Call::PrepWrite { len, .. } => self.entry = Some(len),
             Call::PrepFsync { .. } => self.entry = None,
             Call::PrepNop => self.entry = None,
+            Call::PrepOther => self.entry = Some(MOST_OF_INT),
             Call::SetData64(user_data) => self.name_open(program.token_place(user_data)),
             Call::Lock(wanted) => self.lock(thread, wanted),
             Call::Unlock(released) => self.give(None, released),
@@ -148,6 +153,7 @@ impl Noted {
             Action::WritePrepared => false,
             Action::FsyncPrepared => false,
             Action::NopPrepared => false,
+            Action::OtherPrepared => false,
             Action::DataSet(_) => false,
             Action::Peeked(_) => false,
             Action::Reaped(_) => false,
@@ -171,7 +177,7 @@ impl Noted {
     {
         match call {
             Call::Peek { user_data, res } => {
-                let most = len_of(user_data, world.completed());
+                let most = most_of(user_data, world.completed());
                 self.scaled(world.program(), user_data, most, res)
             }
             _ => 0,
@@ -233,6 +239,7 @@ impl Noted {
                 is_fsync_of(file, datasync, stmt)
             }
             (Call::PrepNop, Action::NopPrepared) => true,
+            (Call::PrepOther, Action::OtherPrepared) => true,
             (Call::SetData64(wanted), Action::DataSet(given)) => wanted == given,
             (Call::Submit(wanted), Action::Submitted(given)) => wanted == given,
             (Call::Peek { user_data, .. }, Action::Peeked(completion)) => {
@@ -245,7 +252,7 @@ impl Noted {
         }
     }
 
-    /// C's result of the request with this user data, scaled to the text's request, which asks for `most` bytes.
+    /// C's result of the request with this user data, scaled to the text's request, whose largest is `most`.
     pub fn scaled(&self, program: &Program, user_data: u64, most: u32, res: i32) -> i64
         ensures { result ≡ spec.scaled (spec.length_at self.now (token_place program.now.tokens user_data)) most res }
     {
@@ -271,7 +278,7 @@ fn is_holder(holder: Option<u32>, thread: u32) -> bool
     }
 }
 
-// Of a count of C's, which was to move `len` bytes, the one of the text's, which is to move `most`.
+// The model's count, at most `most`, for C's count, at most `len`.
 fn scaled_count(len: u64, most: u32, count: u32) -> u32
     ensures value { result ≡ spec.scaled_count len most count }
 {
@@ -284,7 +291,7 @@ fn scaled_count(len: u64, most: u32, count: u32) -> u32
     }
 }
 
-// What C's result is of a request that was to move `len` bytes.
+// The model's result for C's, whose largest is `len`.
 fn scaled_by(len: u64, most: u32, res: i32) -> i64
     ensures { result ≡ spec.scaled (Some len) most res }
 {
@@ -294,11 +301,11 @@ fn scaled_by(len: u64, most: u32, res: i32) -> i64
     }
 }
 
-fn len_of(user_data: u64, requests: &[Request]) -> u32
-    ensures { result ≡ spec.len_of user_data requests.now }
+fn most_of(user_data: u64, requests: &[Request]) -> u32
+    ensures { result ≡ spec.most_of user_data requests.now }
 {
     match place_of(requests, user_data) {
-        Some(place) => len_at(requests, place),
+        Some(place) => most_at(requests, place),
         None => 0,
     }
 }
@@ -312,11 +319,11 @@ fn place_of(requests: &[Request], user_data: u64) -> Option<usize>
         .position(|request| request.user_data == user_data)
 }
 
-fn len_at(requests: &[Request], place: usize) -> u32
-    ensures { result ≡ spec.len_at requests.now (Some place) }
+fn most_at(requests: &[Request], place: usize) -> u32
+    ensures { result ≡ spec.most_at requests.now (Some place) }
 {
     match requests.get(place) {
-        Some(request) => request.len,
+        Some(request) => largest(*request),
         None => 0,
     }
 }

@@ -39,14 +39,14 @@ pub struct Pass<'p> {
 
 impl<'p> Pass<'p> {
     /// Where the thread is after its next step, if it can make that at any time. It takes no lock, and no if depends on
-    /// what it loads. It takes what it has put just before; other takes pass.
+    /// what it loads. It takes what it has put just before; other takes pass, and so does an `if any`.
     pub fn after(self, at: At) -> Option<At> {
         let next = at.place.saturating_add(1);
         match self.part.lines.get(at.place)?.stmt {
             Stmt::If(Test::Take(pool, list)) if self.has_put(at, pool, list) => {
                 Some(At::place(next))
             }
-            Stmt::If(Test::Take(_, _)) | Stmt::Else(_) => {
+            Stmt::If(Test::Take(_, _) | Test::Any) | Stmt::Else(_) => {
                 Some(at.go(after_end(self.part, at.place)?))
             }
             Stmt::Loop(_) | Stmt::EndIf(_) => Some(at.go(next)),

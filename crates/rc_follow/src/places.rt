@@ -285,6 +285,7 @@ fn is_place(ground: Ground<'_, '_>, stmt: Stmt) -> bool {
             | Op::PrepWrite(_, _, _, _, _)
             | Op::PrepFsync(_, _)
             | Op::PrepNop
+            | Op::PrepOther
             | Op::SetData64(_)
             | Op::Submit(_)
             | Op::SubmitAndWait(_, _)

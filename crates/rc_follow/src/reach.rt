@@ -36,6 +36,8 @@ const RELEASE: u64 = 1 << 10;
 
 const END: u64 = 1 << 11;
 
+const PREP_OTHER: u64 = 1 << 12;
+
 const FIRST_PUT: u64 = 1 << 16;
 
 const FIRST_TAKE: u64 = 1 << 32;
@@ -54,6 +56,7 @@ impl Calls {
             Call::PrepWrite { .. } => PREP_WRITE,
             Call::PrepFsync { .. } => PREP_FSYNC,
             Call::PrepNop => PREP_NOP,
+            Call::PrepOther => PREP_OTHER,
             Call::SetData64(_) => SET_DATA64,
             Call::Submit(_) => SUBMIT,
             Call::Peek { .. } => PEEK,
@@ -75,6 +78,7 @@ impl Calls {
             Stmt::Do(Op::PrepWrite(_, _, _, _, _)) => PREP_WRITE,
             Stmt::Do(Op::PrepFsync(_, _)) => PREP_FSYNC,
             Stmt::Do(Op::PrepNop) => PREP_NOP,
+            Stmt::Do(Op::PrepOther) => PREP_OTHER,
             Stmt::Do(Op::SetData64(_)) => SET_DATA64,
             Stmt::Do(Op::Submit(_) | Op::SubmitAndWait(_, _)) => SUBMIT,
             Stmt::Do(Op::CqeSeen) => CQE_SEEN,
@@ -228,6 +232,7 @@ fn places_after(thread: &Thread, place: usize, stmt: Stmt) -> (Option<usize>, Op
             | Op::PrepWrite(_, _, _, _, _)
             | Op::PrepFsync(_, _)
             | Op::PrepNop
+            | Op::PrepOther
             | Op::SetData64(_)
             | Op::CqeSeen,
         ) => (None, None),

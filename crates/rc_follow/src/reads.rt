@@ -1,13 +1,10 @@
 //! What the ifs of each thread depend on.
 
-use crate::live::{has, live_at, live_variables};
+use crate::live::{VARIABLES, has, live_at, live_variables};
 use rc_lang::lines::{Op, Operand, Stmt, Test};
 use rc_lang::program::{Program, Thread};
 use rc_world::world::World;
 use std::alloc::{AllocError, Global};
-
-/// How many variables a thread has at most.
-const VARIABLES: usize = 64;
 
 /// The variables that a thread's ifs depend on, directly or through others, the bytes that a load of one is tried with,
 /// and which variables can still show at each place.

@@ -1,17 +1,22 @@
-//! Worlds that a search has looked at, and worlds whose memory is used again.
+//! Worlds that searches have looked at, and worlds whose memory is used again.
 
 ghost use Rattle.std.specs.Prelude.{◌≡◌, [], IfOk};
 
 use crate::alike::are_alike;
 use crate::node::Node;
 use crate::reads::Reads;
+use crate::spent::{Purpose, SpentWorlds};
 use rc_world::world::weak::Lists;
 use std::alloc::{AllocError, Global};
 
-/// The worlds that a search has seen, as far as it keeps them in mind, and spare worlds.
+/// The worlds that a search has seen, as far as it keeps them in mind; those from which searches found nothing more; and
+/// spare worlds.
 #[derive(Drop)]
 pub struct Room<'a> {
     seen: Vec<Node<'a>>,
+    // The world in which the search made the call first.
+    first: Option<Node<'a>>,
+    spent: SpentWorlds<'a>,
     spare: Vec<Node<'a>>,
     lists: Lists,
 }
@@ -21,6 +26,8 @@ impl<'a> Room<'a> {
     pub fn new(alloc: Global) -> Room<'a> {
         Room {
             seen: Vec::new(alloc),
+            first: None,
+            spent: SpentWorlds::new(alloc),
             spare: Vec::new(alloc),
             lists: Lists::new(alloc),
         }
@@ -74,7 +81,40 @@ impl<'a> Room<'a> {
 
     /// Another search begins.
     pub fn forget(&mut self) -> Result<(), AllocError> {
+        self.first = None;
         self.spare.append(&mut self.seen)
+    }
+
+    /// Another log begins.
+    pub fn forget_all(&mut self) {
+        self.spent.clear();
+    }
+
+    /// Keeps in mind the world in which the search made the call first.
+    pub fn note_first(&mut self, alloc: Global, node: &Node<'a>) -> Result<(), AllocError> {
+        let again = self.copy(alloc, node)?;
+        self.first = Some(again);
+        Ok(())
+    }
+
+    /// The search has ended. Where it found the one world alone to which the call led first, going on without the call led
+    /// to nothing else.
+    pub fn end_search(&mut self, purpose: Purpose, found: usize) -> Result<(), AllocError> {
+        let Some(first) = self.first.take() else {
+            return Ok(());
+        };
+        if found != 1 {
+            return self.give(first);
+        }
+        match self.spent.keep(purpose, first)? {
+            Some(forgotten) => self.give(forgotten),
+            None => Ok(()),
+        }
+    }
+
+    /// Whether a search for the same went on from a world like this one, without the call, and found nothing more.
+    pub fn is_spent(&self, reads: &Reads, purpose: Purpose, node: &Node<'_>) -> bool {
+        self.spent.has(reads, purpose, node)
     }
 }
 

@@ -12,6 +12,7 @@ use crate::node::Node;
 use crate::onward::{look_further, look_on};
 use crate::rights::{Rights, is_right};
 use crate::room::{Room, is_there};
+use crate::spent::Purpose;
 use crate::visible::{asks, holds_none, may_be_next};
 use rc_lang::lines::Locks;
 use rc_log::call::Call;
@@ -83,6 +84,7 @@ pub fn search<'a>(
             return Ok(false);
         }
         let Some(node) = found.todo.pop() else {
+            room.end_search(purpose_of(ground), found.worlds.len())?;
             drop_covered(ground, &mut found.worlds, room)?;
             return Ok(true);
         };
@@ -178,7 +180,8 @@ fn visit<'a>(
 }
 
 /// Looks at one world, and answers the world after the one way on from it. Where it has none, or the line leads on from
-/// it, there is nothing more to look at.
+/// it, there is nothing more to look at. So a mark of a buffer leads to the first world on each way in which the thread has
+/// the right.
 fn look_at<'a>(
     ground: Ground<'_, 'a>,
     rights: &mut Rights<'_>,
@@ -191,54 +194,18 @@ fn look_at<'a>(
     ensures visits { IfOk result (λ _. Visits rights.old ground.entry.noted.now node.entry ground.entry.thread ground.entry.call found.old found.new) }
     ensures leads { IfOk result (λ next. IfSome next (Leads ground.entry.noted.now node.entry)) }
 {
+    if stays(ground, rights, &node)? {
+        keep(ground.reads, node, found, room)?;
+        return Ok(None);
+    }
     match ground.call {
         Call::Unlock(released) => look_at_unlock(ground, node, is_begun, released, found, room),
-        Call::Reads(_) | Call::Writes(_) => look_at_mark(
-            ground, rights, node, is_begun, found, room,
-        ),
         Call::PeekNone | Call::SqReady(_) | Call::SqSpaceLeft | Call::Lock(_) => {
-            look_at_question(ground, node, found, room)
+            room.give(node)?;
+            Ok(None)
         }
         _ => look_at_call(ground, node, is_begun, found, room),
     }
-}
-
-/// A line that asks.
-fn look_at_question<'a>(
-    ground: Ground<'_, '_>,
-    node: Node<'a>,
-    found: &mut Found<'a>,
-    room: &mut Room<'a>,
-) -> Result<Option<Node<'a>>, AllocError>
-    ensures visits { IfOk result (λ _. (P : Program) → Visits P ground.entry.noted.now node.entry ground.entry.thread ground.entry.call found.old found.new) }
-    ensures leads { IfOk result (λ next. IfSome next (Leads ground.entry.noted.now node.entry)) }
-{
-    if asks(ground.noted, &node, ground.thread, ground.call) {
-        keep(ground.reads, node, found, room)?;
-        return Ok(None);
-    }
-    room.give(node)?;
-    Ok(None)
-}
-
-/// A mark of a buffer leads to the first world on each way in which the thread has the right.
-fn look_at_mark<'a>(
-    ground: Ground<'_, 'a>,
-    rights: &mut Rights<'_>,
-    node: Node<'a>,
-    is_begun: bool,
-    found: &mut Found<'a>,
-    room: &mut Room<'a>,
-) -> Result<Option<Node<'a>>, AllocError>
-    ensures same { rights.new ≡ rights.old }
-    ensures visits { IfOk result (λ _. Visits rights.old ground.entry.noted.now node.entry ground.entry.thread ground.entry.call found.old found.new) }
-    ensures leads { IfOk result (λ next. IfSome next (Leads ground.entry.noted.now node.entry)) }
-{
-    if is_right(rights, &node, ground.thread, ground.call)? {
-        keep(ground.reads, node, found, room)?;
-        return Ok(None);
-    }
-    go_on(ground, node, is_begun, found, room)
 }
 
 /// An unlock leads to the worlds directly after a step by which the thread lets go of the locks.
@@ -264,7 +231,8 @@ fn look_at_unlock<'a>(
     Ok(None)
 }
 
-/// A call leads to the world after the thread's step that is it, where it can make one.
+/// Looks for a call: if the thread can make it next, the world after it is found; if not, the search goes on from here. A
+/// mark of a buffer isn't a call.
 fn look_at_call<'a>(
     ground: Ground<'_, 'a>,
     node: Node<'a>,
@@ -275,10 +243,6 @@ fn look_at_call<'a>(
     ensures visits { IfOk result (λ _. (P : Program) → Visits P ground.entry.noted.now node.entry ground.entry.thread ground.entry.call found.old found.new) }
     ensures leads { IfOk result (λ next. IfSome next (Leads ground.entry.noted.now node.entry)) }
 {
-    if asks(ground.noted, &node, ground.thread, ground.call) {
-        keep(ground.reads, node, found, room)?;
-        return Ok(None);
-    }
     if may_be_next(ground, node.world()) {
         visit_made(ground, node, is_begun, found, room)?;
         return Ok(None);
@@ -335,8 +299,9 @@ fn keep_asked<'a>(
     Ok(true)
 }
 
-/// A world in which the thread's next step may be the call. It may also be hidden. Where the world is like one from which
-/// the search begins, the call is made there.
+/// Makes the call in a world where the thread can make it next. The call may also come later, so the search goes on from
+/// this world as well, unless an earlier search found nothing more from one like it. A world like one that the search began
+/// from was looked at there.
 fn visit_made<'a>(
     ground: Ground<'_, 'a>,
     node: Node<'a>,
@@ -351,13 +316,36 @@ fn visit_made<'a>(
         return Ok(());
     }
     let way = way_besides(ground, node.world());
-    if let Way::None = way {
+    if matches!(way, Way::None) || room.is_spent(ground.reads, purpose_of(ground), &node) {
         keep_made(ground, node, found, room)?;
         return Ok(());
     }
+    let before = found.worlds.len();
     let again = room.copy(ground.alloc, &node)?;
     keep_made(ground, again, found, room)?;
+    note_first(ground, &node, before, found.worlds.len(), room)?;
     look_on(ground, node, way, is_begun, found, room)?;
+    Ok(())
+}
+
+/// What the search is for.
+fn purpose_of(ground: Ground<'_, '_>) -> Purpose {
+    Purpose::of(ground.noted, ground.thread, ground.call)
+}
+
+/// Notes the world from which the search found its first world, if the search began from a single one. The numbers are of
+/// the worlds found before and after the call was made there.
+fn note_first<'a>(
+    ground: Ground<'_, 'a>,
+    node: &Node<'a>,
+    before: usize,
+    now: usize,
+    room: &mut Room<'a>,
+) -> Result<(), AllocError> {
+    let is_first = before == 0 && now == 1;
+    if is_first && ground.begun.len() == 1 && purpose_of(ground).may_go_on() {
+        return room.note_first(ground.alloc, node);
+    }
     Ok(())
 }
 
@@ -366,7 +354,7 @@ fn visit_made<'a>(
 fn way_besides(ground: Ground<'_, '_>, world: &World<'_>) -> Way {
     let way = way_on(ground, world);
     match (ground.call, way) {
-        (Call::Take(_), Way::Take) => Way::On(Step::Stray(0)),
+        (Call::Take(_), Way::Both(past)) => Way::On(past),
         (Call::Take(_), Way::On(Step::Own)) => Way::None,
         (Call::Put(_), _) if world.program().threads().len() == 1 => Way::None,
         _ => way,

@@ -16,6 +16,7 @@ use rc_lang::program::{Program, Share};
 use rc_log::call::Call;
 use rc_world::event::Item;
 use rc_world::world::World;
+use rc_world::world::requests::largest;
 use std::alloc::AllocError;
 
 const SQ: Locks = Locks {
@@ -199,6 +200,7 @@ fn may_be(call: Call, stmt: Stmt) -> bool {
         }
         (Call::PrepFsync { .. }, Stmt::Do(Op::PrepFsync(_, _))) => true,
         (Call::PrepNop, Stmt::Do(Op::PrepNop)) => true,
+        (Call::PrepOther, Stmt::Do(Op::PrepOther)) => true,
         (Call::SetData64(given), Stmt::Do(Op::SetData64(user_data))) => given == user_data,
         (Call::Submit(_), Stmt::Do(Op::Submit(_) | Op::SubmitAndWait(_, _))) => true,
         (Call::Peek { .. }, Stmt::Peek(_)) => true,
@@ -240,6 +242,6 @@ fn scaled_res(ground: Ground<'_, '_>, world: &World<'_>, user_data: u64, res: i3
     let request = pending_of(world, user_data)?;
     let scaled = ground
         .noted
-        .scaled(world.program(), user_data, request.len, res);
+        .scaled(world.program(), user_data, largest(request), res);
     i32::try_from(scaled).ok()
 }

@@ -2,9 +2,8 @@
 
 use crate::hint::Hint;
 use crate::lines::{between, column_of, place_of, word_at};
-use crate::places::{
-    Kind, Place, column_at, has_buffer, has_file, has_pool, has_thread, has_token, word_of,
-};
+use crate::names::{Kind, has_buffer, has_file, has_pool, has_thread, has_token, word_of};
+use crate::places::{Place, column_at};
 use crate::wording::put_framed;
 use rc_read::parts::Parts;
 use rc_read::table::Part;

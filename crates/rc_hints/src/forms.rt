@@ -4,7 +4,7 @@ use crate::fitting::{forms_of, is_reserved, longest, may_be, reach_of};
 use crate::hint::Hint;
 use crate::lines::{column_of, place_of, word_at};
 use crate::near::{Nearest, nearer, none_near};
-use crate::places::thing_of;
+use crate::ranges::thing_of;
 use crate::slips::put_slip;
 use crate::wording::{put_framed, put_word};
 use rc_read::fixed::text_of;
@@ -224,7 +224,7 @@ fn refused_form(alloc: Global, version: u32, words: &[&[u8]]) -> Result<Option<R
     if let Some(row) = put_spots(version, &mut spots, words)? {
         return Ok(Some(row));
     }
-    put_spots(4, &mut spots, words)
+    put_spots(5, &mut spots, words)
 }
 
 /// The version that a line needs whose words are no form that may be there, where a later one has it.

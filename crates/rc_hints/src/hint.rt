@@ -4,11 +4,13 @@ use crate::doubles::put_double_name;
 use crate::forms::{needed_version, put_form};
 use crate::lines::word_at;
 use crate::locks::put_fix;
+use crate::names::put_unknown_name;
 use crate::others::{
     has_two_locks, put_braces, put_case, put_flag, put_head, put_nesting, put_strange,
     put_too_large,
 };
-use crate::places::{places_of, put_bad_number, put_unknown_name};
+use crate::places::places_of;
+use crate::ranges::put_bad_number;
 use rc_read::ReadCause;
 use rc_read::parts::Parts;
 use rc_read::words::{is, put_words};

@@ -44,7 +44,7 @@ pub fn put_head(text: &mut Vec<u8>, parts: &Parts, words: &[&[u8]]) -> Result<()
         ),
         Region::Start => put_piece(
             text,
-            b"the first line with words is 'ringcheck 1', 'ringcheck 2', 'ringcheck 3' or 'ringcheck 4'",
+            b"the first line with words is 'ringcheck 1', 'ringcheck 2', 'ringcheck 3', 'ringcheck 4' or 'ringcheck 5'",
         ),
         _ => put_piece(
             text,

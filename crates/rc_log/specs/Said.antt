@@ -5,13 +5,16 @@ use Rattle.std.specs.Option.{ok_or, option_or}
 use Rattle.std.specs.Str.{bytes_eq}
 use Rattle.rc_lang.specs.declared.lines.Locks.{Locks}
 use Rattle.rc_lang.specs.declared.program.File.{File}
+use Rattle.rc_lang.specs.declared.program.Token.{Token}
+use Rattle.rc_lang.specs.declared.program.TokenKind.{TokenKind}
+use Rattle.rc_lang.specs.declared.program.TokenKind.TheVariants as kind
 use Rattle.rc_lang.specs.Locks.{both_locks}
 use Rattle.rc_lang.specs.Names.{all_name_bytes, is_lower}
 use Rattle.rc_lang.specs.Numbers.{number_of, signed_number_of}
 use Rattle.rc_lang.specs.Program.{Buffer, Program, Thread}
 use Rattle.rc_log.specs.declared.arguments.Transfer.{Transfer}
 use Rattle.rc_log.specs.declared.call.Call.{Call}
-use Rattle.rc_log.specs.declared.call.Call.TheVariants.{GetSqe, PrepRead, PrepWrite, PrepFsync, PrepNop, SetData64, Submit, Peek, PeekNone, CqeSeen, SqReady, SqSpaceLeft, Exit, Lock, Unlock, Reads, Writes, Put, Take, Ends, Foreign}
+use Rattle.rc_log.specs.declared.call.Call.TheVariants.{GetSqe, PrepRead, PrepWrite, PrepFsync, PrepNop, PrepOther, SetData64, Submit, Peek, PeekNone, CqeSeen, SqReady, SqSpaceLeft, Exit, Lock, Unlock, Reads, Writes, Put, Take, Ends, Foreign}
 use Rattle.rc_log.specs.declared.call.Lack.{Lack}
 use Rattle.rc_log.specs.declared.call.Lack.TheVariants.{NoEntry, NoSuchRequest, NoFlags, FsyncFlags, UnsaidFile, NoFile, UnsaidBuffer, PastBuffer, NoBuffer, NoPool}
 use Rattle.rc_log.specs.declared.call.PoolMark.{PoolMark}
@@ -155,8 +158,16 @@ abbrev pub prep_fsync : Program → List (List ℕ) → Option Call
 prep_fsync p ws = option_and_then (λ w. fsync_by (file_of p w.0) (count w.1)) (two_of ws)
 
 -- `prep_other OPCODE` and `flags N`
-abbrev pub foreign : Lack → List (List ℕ) → Option Call
-foreign lack ws = option_and_then (λ w. option_map (λ n. Foreign lack) (number_of 0 255 w)) (one_of ws)
+abbrev pub of_byte : Call → List (List ℕ) → Option Call
+of_byte call ws = option_and_then (λ w. option_map (λ n. call) (number_of 0 255 w)) (one_of ws)
+
+abbrev pub is_other : TokenKind → Bool
+is_other kind.Other = true
+is_other _ = false
+
+-- A program without a token for another request makes none.
+abbrev pub prep_other : Program → Call
+prep_other p = if list_any (λ (t : Token). is_other t.kind) p.tokens then PrepOther else Foreign NoSuchRequest
 
 -- `set_data64 TOKEN` and `cqe_seen TOKEN`; `sq_ready N`, `sq_space_left N` and `exit N`
 abbrev pub of_token : (ℕ → Call) → List (List ℕ) → Option Call
@@ -236,8 +247,8 @@ entry_call p call ws =
     else (if bytes_eq call (codes "prep_write") then Some (option_map write_of (transfer p ws))
     else (if bytes_eq call (codes "prep_fsync") then Some (prep_fsync p ws)
     else (if bytes_eq call (codes "prep_nop") then Some (alone PrepNop ws)
-    else (if bytes_eq call (codes "prep_other") then Some (foreign NoSuchRequest ws)
-    else (if bytes_eq call (codes "flags") then Some (foreign NoFlags ws)
+    else (if bytes_eq call (codes "prep_other") then Some (of_byte (prep_other p) ws)
+    else (if bytes_eq call (codes "flags") then Some (of_byte (Foreign NoFlags) ws)
     else (if bytes_eq call (codes "set_data64") then Some (of_token SetData64 ws)
     else None)))))))
 

@@ -1,6 +1,7 @@
 //! Calls, by the words after their first.
 
 ghost use Rattle.std.specs.Prelude.{◌≡◌, option_map};
+ghost use Rattle.std.specs.List.{list_any};
 ghost use Rattle.rc_log.specs.Cuts.{words_after};
 ghost use Rattle.rc_log.specs.Said as spec;
 
@@ -8,7 +9,7 @@ use crate::call::{Call, Lack};
 use crate::parts::{answer, buffer_of, count, file_of, long};
 use crate::words::{is, is_end, next_word, one_word, two_words};
 use rc_lang::numbers::number_of;
-use rc_lang::program::Program;
+use rc_lang::program::{Program, Token, TokenKind};
 
 /// What a read or a write moves.
 #[derive(Clone, Copy)]
@@ -104,12 +105,43 @@ pub fn prep_fsync(program: &Program, rest: &[u8]) -> Option<Call>
     Some(fsync_of(file, count(flags)?))
 }
 
-/// `prep_other OPCODE` and `flags N`.
-pub fn foreign(lack: Lack, rest: &[u8]) -> Option<Call>
-    ensures { result ≡ spec.foreign lack (words_after rest.now) }
+/// `flags N`, and what else has a byte alone.
+pub fn of_byte(call: Call, rest: &[u8]) -> Option<Call>
+    ensures { result ≡ spec.of_byte call (words_after rest.now) }
 {
     let _ = number_of(0, 255, one_word(rest)?)?;
-    Some(Call::Foreign(lack))
+    Some(call)
+}
+
+// Whether one of the tokens is for another request.
+fn has_other(tokens: &[Token]) -> bool
+    ensures { result ≡ list_any (λ t. spec.is_other t.kind) tokens.now }
+{
+    tokens.iter().any(|token| is_other(token.kind))
+}
+
+fn is_other(kind: TokenKind) -> bool
+    ensures { result ≡ spec.is_other kind }
+{
+    matches!(kind, TokenKind::Other)
+}
+
+/// `prep_other OPCODE`.
+pub fn prep_other(program: &Program, rest: &[u8]) -> Option<Call>
+    ensures { result ≡ spec.of_byte (spec.prep_other program.now) (words_after rest.now) }
+{
+    of_byte(other_in(program), rest)
+}
+
+// What `prep_other` is: a program without a token for it makes no such request.
+fn other_in(program: &Program) -> Call
+    ensures { result ≡ spec.prep_other program.now }
+{
+    if has_other(program.tokens()) {
+        Call::PrepOther
+    } else {
+        Call::Foreign(Lack::NoSuchRequest)
+    }
 }
 
 /// `set_data64 TOKEN`.

@@ -10,7 +10,7 @@ use rc_lang::lines::Locks;
 pub enum Lack {
     /// `get_sqe 0`: no entry was free.
     NoEntry,
-    /// `prep_other OPCODE`: a request of another kind.
+    /// `prep_other OPCODE`: a request of another kind, for which the program has no token.
     NoSuchRequest,
     /// `flags N`: flags of an entry.
     NoFlags,
@@ -57,6 +57,8 @@ pub enum Call {
     PrepFsync { file: u32, datasync: bool },
     /// `prep_nop`: a nop (`io_uring_prep_nop(3)`).
     PrepNop,
+    /// `prep_other OPCODE`: a request of another kind, as a poll, a timeout or a cancel.
+    PrepOther,
     /// `set_data64 TOKEN`: the entry has its user data (`io_uring_sqe_set_data64(3)`).
     SetData64(u64),
     /// `submit ANSWER` and `submit_and_wait WANTED ANSWER`: how many entries were taken, or minus an error's number

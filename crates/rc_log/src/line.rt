@@ -5,8 +5,8 @@ ghost use Rattle.rc_log.specs.Cuts.{words_after};
 ghost use Rattle.rc_log.specs.Said as spec;
 
 use crate::arguments::{
-    alone, cqe_seen, exit, foreign, get_sqe, peek_cqe, prep_fsync, prep_read, prep_write,
-    set_data64, sq_ready, sq_space_left, submit, submit_and_wait,
+    alone, cqe_seen, exit, get_sqe, of_byte, peek_cqe, prep_fsync, prep_other, prep_read,
+    prep_write, set_data64, sq_ready, sq_space_left, submit, submit_and_wait,
 };
 use crate::call::{Call, Lack, Said, Why};
 use crate::marks::{lock, put, reads, take, unlock, writes};
@@ -32,9 +32,9 @@ fn entry_call(program: &Program, call: &[u8], rest: &[u8]) -> Option<Option<Call
     } else if is(call, b"prep_nop") {
         Some(alone(Call::PrepNop, rest))
     } else if is(call, b"prep_other") {
-        Some(foreign(Lack::NoSuchRequest, rest))
+        Some(prep_other(program, rest))
     } else if is(call, b"flags") {
-        Some(foreign(Lack::NoFlags, rest))
+        Some(of_byte(Call::Foreign(Lack::NoFlags), rest))
     } else if is(call, b"set_data64") {
         Some(set_data64(rest))
     } else {

@@ -35,8 +35,8 @@ pub fn judge(alloc: Global, place: Place<'_>, text: &[u8]) -> Result<Judged, All
     ensures reported { IfOk result (λ judged. Tells (finding judged.verdict) (items_view judged.diagnostics.items)) }
 {
     let diagnosis = diagnose(alloc, text)?;
-    let diagnostics = diagnostics_of(alloc, place, &diagnosis)?;
     let verdict = diagnosis.verdict;
+    let diagnostics = diagnostics_of(alloc, place, diagnosis)?;
     Ok(Judged {
         verdict,
         diagnostics,
@@ -47,14 +47,19 @@ pub fn judge(alloc: Global, place: Place<'_>, text: &[u8]) -> Result<Judged, All
 fn diagnostics_of(
     alloc: Global,
     place: Place<'_>,
-    diagnosis: &Diagnosis,
+    diagnosis: Diagnosis,
 ) -> Result<Vec<Value>, AllocError>
-    ensures { IfOk result (λ list. Tells (finding diagnosis.now.verdict) (items_view list.items)) }
+    ensures { IfOk result (λ list. Tells (finding diagnosis.verdict) (items_view list.items)) }
 {
-    let hints = hints_of(alloc, &diagnosis.notes)?;
-    match diagnosis.verdict.finding() {
+    let Diagnosis {
+        verdict,
+        words,
+        notes,
+    } = diagnosis;
+    let hints = hints_of(alloc, notes)?;
+    match verdict.finding() {
         Some(finding) => {
-            let error = error_of(alloc, place, &finding, &diagnosis.words)?;
+            let error = error_of(alloc, place, &finding, &words)?;
             with_first(error, hints)
         }
         None => Ok(hints),
@@ -164,10 +169,10 @@ fn related_of(alloc: Global, place: Place<'_>, words: &Option<Words>) -> Result<
 }
 
 /// The hints of notes.
-fn hints_of(alloc: Global, notes: &[Note]) -> Result<Vec<Value>, AllocError>
+fn hints_of(alloc: Global, notes: Vec<Note>) -> Result<Vec<Value>, AllocError>
     ensures { IfOk result (λ list. AreHints (items_view list.items)) }
 {
-    let mut hints = Vec::new(alloc);
+    let mut hints = Vec::with_capacity(alloc, notes.len())?;
     for note in notes {
         hints.push(hint_of(alloc, note)?)?;
     }
@@ -175,14 +180,23 @@ fn hints_of(alloc: Global, notes: &[Note]) -> Result<Vec<Value>, AllocError>
 }
 
 /// The hint of a note. Lines that nothing reaches are tagged as unnecessary.
-fn hint_of(alloc: Global, note: &Note) -> Result<Value, AllocError>
+fn hint_of(alloc: Global, note: Note) -> Result<Value, AllocError>
     ensures { IfOk result (λ v. IsHint (view v)) }
 {
     let whole = Span { from: 0, to: 0 };
     let range = range_of(alloc, note.first.saturating_sub(1), note.last, whole)?;
-    let message = String::from_utf8_lossy(alloc, &note.text)?;
-    if note.is_unreached {
+    let is_unreached = note.is_unreached;
+    let message = sentence_of(alloc, note.text);
+    if is_unreached {
         return json!(in alloc; {"message": message, "range": range, "severity": 4, "source": "ringcheck", "tags": [1]});
     }
     json!(in alloc; {"message": message, "range": range, "severity": 4, "source": "ringcheck"})
+}
+
+/// The sentence of a note. It has ASCII alone, as the words of each model that can be read.
+fn sentence_of(alloc: Global, text: Vec<u8>) -> String {
+    match String::from_utf8(text) {
+        Ok(sentence) => sentence,
+        Err(_) => String::new(alloc),
+    }
 }

@@ -48,7 +48,7 @@ fn picture_of(alloc: Global, text: &[u8], found: &Found) -> Result<Value, AllocE
         return Ok(Value::Null);
     }
     let (mut picture, mut notes) = (Vec::new(alloc), Vec::new(alloc));
-    put_found_picture(&mut picture, &mut notes, alloc, text, found)?;
+    put_found_picture(&mut picture, &mut notes, alloc, None, text, found)?;
     Ok(Value::String(String::from_utf8_lossy(alloc, &picture)?))
 }
 

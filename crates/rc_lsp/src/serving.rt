@@ -1,6 +1,6 @@
 //! An editor is answered.
 
-ghost use Rattle.std.specs.Prelude.{◌≡◌, ◌≤◌, IfOk};
+ghost use Rattle.std.specs.Prelude.{◌≡◌, ◌+◌, ◌<◌, ◌≤◌, ◌^◌, IfOk};
 
 use crate::stream::{Ended, serve};
 use rc_report::engine_fault::EngineFault;
@@ -12,25 +12,27 @@ use std::io::{Read, Write};
 
 /// Answers the messages of an editor, and then the exit status: 0 where a shutdown came before the end, else 1. What ends
 /// the server besides is reported on a line of `errors`.
-pub fn serve_editor<I: Read + Drop, O: Write + Drop, E: Sink>(
+pub fn serve_editor<I: Read + Drop, O: Write, E: Sink>(
     alloc: Global,
     reader: I,
-    writer: O,
+    sink: &mut WriteSink<O>,
     errors: &mut E,
 ) -> Result<u8, EngineFault>
-    requires { (E.state errors.old).failures ≡ 0 }
-    ensures { IfOk result (λ status. status ≤ 3) }
+    requires writes { sink.old.failures + 1 < 2 ^ 64 }
+    requires told { (E.state errors.old).failures ≡ 0 }
+    ensures status { IfOk result (λ status. status ≤ 1) }
+    ensures told { (E.state errors.new).failures ≤ 1 }
 {
     let mut source = ReadSource::new(reader);
-    let mut sink = WriteSink::new(writer);
-    let ended = serve(alloc, &mut source, &mut sink)?;
+    let ended = serve(alloc, &mut source, sink)?;
     Ok(status_of(ended, errors))
 }
 
 /// The exit status of a server that ended so. What was wrong with its input is reported.
 fn status_of<E: Sink>(ended: Ended, errors: &mut E) -> u8
     requires { (E.state errors.old).failures ≡ 0 }
-    ensures { result ≤ 3 }
+    ensures status { result ≤ 1 }
+    ensures told { (E.state errors.new).failures ≤ 1 }
 {
     let message: &[u8] = match ended {
         Ended::Done { is_clean: true } => return GOOD_STATUS,

@@ -3,7 +3,7 @@ use Rattle.std.proofs.Common.{◌≡◌, ℕ, ◌+◌, ◌≤◌, Bool, true, fa
 use Rattle.std.specs.Prelude.{slice_get}
 use Rattle.rc_lang.specs.declared.lines.Line.{Line}
 use Rattle.rc_lang.specs.declared.lines.Op.{Op}
-use Rattle.rc_lang.specs.declared.lines.Op.TheVariants.{Set, Assign, Add, Subtract, Load, Store, Fill, Print, GetSqe, PrepRead, PrepWrite, PrepFsync, PrepNop, SetData64, Submit, SubmitAndWait, CqeSeen}
+use Rattle.rc_lang.specs.declared.lines.Op.TheVariants.{Set, Assign, Add, Subtract, Load, Store, Fill, Print, GetSqe, PrepRead, PrepWrite, PrepFsync, PrepNop, PrepOther, SetData64, Submit, SubmitAndWait, CqeSeen}
 use Rattle.rc_lang.specs.declared.lines.Stmt.{Stmt}
 use Rattle.rc_lang.specs.declared.lines.Stmt.TheVariants.{Do, Put, Lock, EndLock, If, Else, EndIf, Peek, Case, Other, Nothing, EndArm, EndPeek, Loop, EndLoop, Break}
 use Rattle.rc_lang.specs.declared.request.Request.{Request}
@@ -14,7 +14,7 @@ use Rattle.rc_world.specs.declared.event.Item.TheVariants.{Thread, Kernel}
 use Rattle.rc_world.specs.declared.world.Slot.{Slot}
 use Rattle.rc_world.specs.declared.world.Slot.TheVariants.{Closed, Vacant, Prepared}
 use Rattle.rc_world.specs.Controls.{Controls, Standing, controls_step, next_line}
-use Rattle.rc_world.specs.Items.{item_bytes, item_step, kernel_item, pending_place, take_of}
+use Rattle.rc_world.specs.Items.{given_at, item_bytes, item_step, kernel_item, pending_place}
 use Rattle.rc_world.specs.Machine.{Pending, World, all_begin, begins, count_in, fills, given_back, hands_over, in_rings, kernel_event, kernel_step_of, op_in_rings, opens_entry, prepares, queues, reaps_front, stmt_answer, stores, submits_by, thread_step_at, with_controls}
 
 pub record Grows (w next : World) : Type 0 where
@@ -95,6 +95,7 @@ op_grows w t r (PrepRead fd b len off) = prepares_grow w _ w.slot
 op_grows w t r (PrepWrite fd b len off k) = prepares_grow w _ w.slot
 op_grows w t r (PrepFsync fd datasync) = prepares_grow w _ w.slot
 op_grows w t r PrepNop = prepares_grow w _ w.slot
+op_grows w t r PrepOther = prepares_grow w _ w.slot
 op_grows w t r (SetData64 u) = queues_grow w u w.slot
 op_grows w t r (Submit x) = submits_grow w r
 op_grows w t r (SubmitAndWait x n) = submits_grow w r
@@ -146,7 +147,7 @@ kernel_item_grows w res fill None = tt
 kernel_item_grows w res fill (Some k) = kernel_grows w k res (item_bytes res fill (slice_get w.pending k)) (slice_get w.pending k)
 
 item_grows : (w : World) (item : Item) → IfStep w (item_step w item)
-item_grows w (Thread i take) = thread_grows w i (take_of w take) (slice_get w.controls.threads i) (next_line w.program w.controls i)
+item_grows w (Thread i take) = thread_grows w i (given_at w take (next_line w.program w.controls i)) (slice_get w.controls.threads i) (next_line w.program w.controls i)
 item_grows w (Kernel u res fill) = kernel_item_grows w res fill (pending_place w u)
 
 pub step_grows : (w : World) (item : Item) (e : Event) (next : World) → item_step w item ≡ Some (e, next) → Grows w next

@@ -35,14 +35,10 @@ GivesVerdict answer (Err Accepted) = ⊥
 GivesVerdict answer (Err (Refused r)) = IsVerdict answer (Refused r)
 GivesVerdict answer (Err (Unreadable line cause)) = IsVerdict answer (Unreadable line cause)
 
--- as JSON, or as text
-abbrev pub told : Bool → Verdict → List ℕ
-told json verdict = printed None json verdict
-
--- The verdict on the bytes, and how it is printed.
-abbrev pub TellsVerdict : List ℕ → Bool → Verdict → List ℕ → Type 0
-TellsVerdict bytes json verdict text = IsVerdict (answer_of bytes) verdict × (text ≡ printed None json verdict)
+-- The verdict on the bytes, which are those of a file if one is named, and how it is printed.
+abbrev pub TellsVerdict : Option (List ℕ) → List ℕ → Bool → Verdict → List ℕ → Type 0
+TellsVerdict file bytes json verdict text = IsVerdict (answer_of bytes) verdict × (text ≡ printed file json verdict)
 
 -- The verdict on the bytes of the source is answered and written.
 abbrev pub ChecksAs : {S : Type 0} → Given → Bool → (S → Taken) → S → S → Result Verdict EngineFault → Type 0
-ChecksAs source json state old new r = OfSource source state old new r (λ bytes. Answers (TellsVerdict bytes json) state old new r)
+ChecksAs source json state old new r = OfSource source state old new r (λ bytes. Answers (TellsVerdict None bytes json) state old new r)

@@ -15,11 +15,8 @@ text_after_file (Some f) = joined (codes ":" ∷ decimal f.line ∷ codes ": " �
 abbrev pub file_text : List ℕ → Verdict → List ℕ
 file_text file verdict = shown file ++ text_after_file (finding verdict)
 
--- One JSON object, as it is shown: `\u` and four hex digits stand for the same character in JSON.
-abbrev pub file_json : List ℕ → Verdict → List ℕ
-file_json file verdict = shown (compact_text (finding_object (Some file) (finding verdict))) ++ codes "\n"
-
--- the text of an object and a line feed; of a file as it is shown
+-- the text of an object and a line feed; of a file as it is shown: `\u` and four hex digits stand for the same character
+-- in JSON
 abbrev pub object_line : Option (List ℕ) → List ℕ → List ℕ
 object_line None object = object ++ codes "\n"
 object_line (Some file) object = shown object ++ codes "\n"

@@ -2,6 +2,7 @@ pub mod Buffers
 pub mod Checks
 pub mod Engine
 pub mod Files
+pub mod Judged
 pub mod Made
 pub mod Members
 pub mod Models

@@ -4,7 +4,7 @@ use Rattle.std.specs.Fmt.{signed_decimal}
 use Rattle.std.specs.List.{flat_map}
 use Rattle.rc_lang.specs.Program.{Program}
 use Rattle.rc_world.specs.declared.event.Action.{Action}
-use Rattle.rc_world.specs.declared.event.Action.TheVariants.{VariableSet, Loaded, Stored, Filled, Printed, Locked, Released, EntryOpened, ReadPrepared, WritePrepared, FsyncPrepared, NopPrepared, DataSet, Submitted, Peeked, PeekedNone, Reaped, ItemsPut, Branched, Looped, LoopLeft}
+use Rattle.rc_world.specs.declared.event.Action.TheVariants.{VariableSet, Loaded, Stored, Filled, Printed, Locked, Released, EntryOpened, ReadPrepared, WritePrepared, FsyncPrepared, NopPrepared, OtherPrepared, DataSet, Submitted, Peeked, PeekedNone, Reaped, ItemsPut, Branched, Looped, LoopLeft}
 use Rattle.rc_world.specs.declared.event.Completion.{Completion}
 use Rattle.rc_world.specs.declared.event.Event.{Event}
 use Rattle.rc_world.specs.declared.event.Event.TheVariants.{ByThread, ByKernel}
@@ -40,6 +40,7 @@ action_text ReadPrepared = codes " prep_read"
 action_text WritePrepared = codes " prep_write"
 action_text FsyncPrepared = codes " prep_fsync"
 action_text NopPrepared = codes " prep_nop"
+action_text OtherPrepared = codes " prep_other"
 action_text (DataSet u) = valued (codes " set_data64 ") (decimal u)
 action_text (Submitted r) = valued (codes " submit ") (signed_decimal r)
 action_text (Peeked c) = valued (codes " peek_cqe ") (completion_text c)

@@ -1,10 +1,9 @@
 //! A model is checked, and its verdict is written.
 
-ghost use Rattle.std.specs.Prelude.{◌≡◌, Err, IfOk, List, ℕ};
-ghost use Rattle.rc_admit.specs.Answer.{Admits};
+ghost use Rattle.std.specs.Prelude.{◌≡◌, IfOk, None, option_copied as named};
 ghost use Rattle.rc_read.specs.Answer.{answer_of};
-ghost use Rattle.rc_report.specs.declared.verdict.Verdict.TheVariants.{Accepted};
 ghost use Rattle.rc_report.specs.Checks.{ChecksAs, GivesVerdict, IsVerdict, TellsVerdict};
+ghost use Rattle.rc_report.specs.Judged as spec;
 ghost use Rattle.rc_report.specs.Streams.{Answers, CanRead, CanWrite, CountsReads};
 ghost use Rattle.rc_text.specs.Text.{PutsAnswer};
 
@@ -13,9 +12,7 @@ use crate::reading::read_model;
 use crate::streams::{Sink, Source};
 use crate::verdict::{Verdict, print_verdict};
 use crate::writing::write_piece;
-use rc_admit::admitted::{Admitted, admit};
-use rc_admit::fault::AdmitFault;
-use rc_read::ReadFault;
+use rc_admit::admitted::{Admitted, Judged, judge};
 use std::alloc::{AllocError, Global};
 
 /// Reads a model, and writes the verdict on it, as JSON or as text.
@@ -47,25 +44,26 @@ fn check_bytes<W: Sink>(
     writer: &mut W,
 ) -> Result<Verdict, EngineFault>
     requires { CanWrite (W.state writer.old) }
-    ensures { Answers (TellsVerdict text.now json) W.state writer.old writer.new result }
+    ensures { Answers (TellsVerdict None text.now json) W.state writer.old writer.new result }
 {
     let mut answer = Vec::new(alloc);
-    let verdict = put_checked(&mut answer, alloc, text, json)?;
+    let verdict = put_checked(&mut answer, alloc, None, text, json)?;
     write_piece(writer, &answer)?;
     Ok(verdict)
 }
 
-/// Adds the verdict on a model, as JSON or as text.
+/// Adds the verdict on a model, as JSON or as text, with the name of its file or without.
 pub fn put_checked(
     answer: &mut Vec<u8>,
     alloc: Global,
+    file: Option<&str>,
     text: &[u8],
     json: bool,
 ) -> Result<Verdict, AllocError>
-    ensures { PutsAnswer (TellsVerdict text.now json) answer.old answer.new result }
+    ensures { PutsAnswer (TellsVerdict (named file.entry) text.now json) answer.old answer.new result }
 {
     let verdict = verdict_on(alloc, text)?;
-    print_verdict(answer, alloc, None, json, &verdict)?;
+    print_verdict(answer, alloc, file, json, &verdict)?;
     Ok(verdict)
 }
 
@@ -73,37 +71,31 @@ pub fn put_checked(
 pub fn verdict_on(alloc: Global, text: &[u8]) -> Result<Verdict, AllocError>
     ensures { IfOk result (IsVerdict (answer_of text.now)) }
 {
-    match admit(alloc, text) {
-        Ok(_) => Ok(Verdict::Accepted),
-        Err(fault) => verdict_of(fault),
-    }
+    let judged = judge(alloc, text)?;
+    Ok(verdict_of(&judged))
 }
 
 /// The program of a model, where it is admitted, or the verdict that says why it isn't.
 pub fn judged(alloc: Global, text: &[u8]) -> Result<Result<Admitted, Verdict>, AllocError>
     ensures { IfOk result (GivesVerdict (answer_of text.now)) }
 {
-    match admit(alloc, text) {
-        Ok(admitted) => Ok(Ok(admitted)),
-        Err(AdmitFault::Refused(refusal)) => Ok(Err(Verdict::Refused(refusal))),
-        Err(AdmitFault::Read(ReadFault::Text { line, cause })) => {
-            Ok(Err(Verdict::Unreadable { line, cause }))
-        }
-        Err(AdmitFault::Read(ReadFault::OutOfMemory)) => Err(AllocError),
-        Err(AdmitFault::OutOfMemory) => Err(AllocError),
+    match judge(alloc, text)? {
+        Judged::Admitted(admitted) => Ok(Ok(admitted)),
+        judged => Ok(Err(verdict_of(&judged))),
     }
 }
 
-/// The verdict on a model that isn't admitted. There is none where memory ran out.
-pub fn verdict_of(fault: AdmitFault) -> Result<Verdict, AllocError>
-    ensures verdict { IfOk result (λ verdict. (text : List ℕ) → Admits text (Err fault) → IsVerdict (answer_of text) verdict) }
-    ensures other { IfOk result (λ verdict. ¬ (verdict ≡ Accepted)) }
+/// The verdict on a model that was judged.
+pub fn verdict_of(judged: &Judged) -> Verdict
+    ensures value { result ≡ spec.verdict_of judged.now }
+    ensures verdict { spec.IsVerdictOn judged.now result }
 {
-    match fault {
-        AdmitFault::Refused(refusal) => Ok(Verdict::Refused(refusal)),
-        AdmitFault::Read(ReadFault::Text { line, cause }) => {
-            Ok(Verdict::Unreadable { line, cause })
-        }
-        AdmitFault::Read(ReadFault::OutOfMemory) | AdmitFault::OutOfMemory => Err(AllocError),
+    match judged {
+        Judged::Admitted(_) => Verdict::Accepted,
+        Judged::Refused(_, refusal) => Verdict::Refused(*refusal),
+        Judged::Unread { line, cause, .. } => Verdict::Unreadable {
+            line: *line,
+            cause: *cause,
+        },
     }
 }

@@ -8,7 +8,6 @@ pub mod buffered;
 pub mod check_engine;
 mod coverage;
 pub mod engine_fault;
-pub mod file_verdict;
 pub mod printed;
 pub mod reading;
 pub mod script;

@@ -99,6 +99,7 @@ fn words_of<'a>(action: Action, first: &'a mut Buffer, second: &'a mut Buffer) -
         Action::WritePrepared => valued(b" prep_write", ""),
         Action::FsyncPrepared => valued(b" prep_fsync", ""),
         Action::NopPrepared => valued(b" prep_nop", ""),
+        Action::OtherPrepared => valued(b" prep_other", ""),
         Action::DataSet(data) => valued(b" set_data64 ", first.format(data)),
         Action::Submitted(answer) => valued(b" submit ", first.format(answer)),
         Action::Peeked(completion) => completed(b" peek_cqe ", completion, first, second),

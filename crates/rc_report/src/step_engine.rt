@@ -41,7 +41,7 @@ pub struct Steps {
 
 /// Why a model and a schedule name no steps.
 #[derive(Clone, Copy)]
-pub enum Unread {
+pub enum NoSteps {
     /// The line of the model that can't be read, from 1, and why.
     Text { line: u32, cause: ReadCause },
     /// The item of the schedule with this number, from 1, can't be read.
@@ -75,35 +75,35 @@ pub fn read_steps(
     alloc: Global,
     text: &[u8],
     schedule: &str,
-) -> Result<Result<Steps, Unread>, AllocError>
+) -> Result<Result<Steps, NoSteps>, AllocError>
     ensures { IfOk result (ReadsSteps (answer_of text.now) schedule.now) }
 {
     let program = match read_program(alloc, text) {
         Ok(program) => program,
-        Err(ReadFault::Text { line, cause }) => return Ok(Err(Unread::Text { line, cause })),
+        Err(ReadFault::Text { line, cause }) => return Ok(Err(NoSteps::Text { line, cause })),
         Err(ReadFault::OutOfMemory) => return Err(AllocError),
     };
     match read_schedule(alloc, &program, schedule) {
         Ok(items) => Ok(Ok(Steps { program, items })),
-        Err(ScheduleFault::Unreadable(item)) => Ok(Err(Unread::Schedule(item))),
+        Err(ScheduleFault::Unreadable(item)) => Ok(Err(NoSteps::Schedule(item))),
         Err(ScheduleFault::OutOfMemory) => Err(AllocError),
     }
 }
 
 /// Writes the line that says what can't be read, and answers that this was written.
-pub fn write_unread<W: Sink>(writer: &mut W, unread: Unread) -> Result<StepEnd, EngineFault>
+pub fn write_unread<W: Sink>(writer: &mut W, unread: NoSteps) -> Result<StepEnd, EngineFault>
     requires { CanWrite (W.state writer.old) }
     ensures text { Writes W.state writer.old writer.new (unread_text unread) result }
     ensures end { IfOk result (λ end. end ≡ end_of_unread unread) }
 {
     let mut buffer = Buffer::new();
     match unread {
-        Unread::Text { line, cause } => {
+        NoSteps::Text { line, cause } => {
             let verdict = Verdict::Unreadable { line, cause };
             verdict_text(&verdict, writer)?;
             Ok(StepEnd::Unreadable(ReadFault::Text { line, cause }))
         }
-        Unread::Schedule(item) => {
+        NoSteps::Schedule(item) => {
             let number = buffer.format(item).as_bytes();
             write_pieces(writer, &[b"schedule item ", number, b" unreadable\n"])?;
             Ok(StepEnd::Schedule(item))

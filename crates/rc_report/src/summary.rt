@@ -138,6 +138,7 @@ fn kind_name(kind: TokenKind) -> &'static str {
         TokenKind::Write(_, _) => "write",
         TokenKind::Fsync => "fsync",
         TokenKind::Nop => "nop",
+        TokenKind::Other => "other",
     }
 }
 

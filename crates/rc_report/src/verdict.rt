@@ -8,7 +8,7 @@ ghost use Rattle.rc_report.specs.Streams.{CanWrite, Writes, WritesOrGrows};
 ghost use Rattle.rc_report.specs.Pieces.{line_text};
 ghost use Rattle.rc_text.specs.Text.{Puts};
 ghost use Rattle.rc_report.specs.Verdicts.{cause_line, cause_text, finding, finding_line, finding_object, finding_of, finding_text, verdict_json, verdict_text};
-ghost use Rattle.rc_report.specs.Files.{file_json, file_text, object_line, printed};
+ghost use Rattle.rc_report.specs.Files.{file_text, object_line, printed};
 
 use crate::engine_fault::EngineFault;
 use crate::printed::{Line, short_line};
@@ -179,13 +179,13 @@ pub fn print_verdict(
         return put_object(text, alloc, file, verdict);
     }
     match file {
-        Some(name) => put_file_verdict(text, name, verdict),
-        None => put_verdict(text, verdict),
+        Some(name) => put_with_file(text, name, verdict),
+        None => put_alone(text, verdict),
     }
 }
 
 /// Adds a verdict as text, as [`verdict_text`] writes it.
-pub fn put_verdict(text: &mut Vec<u8>, verdict: &Verdict) -> Result<(), AllocError>
+fn put_alone(text: &mut Vec<u8>, verdict: &Verdict) -> Result<(), AllocError>
     ensures { Puts text.old text.new (verdict_text verdict.now) result }
 {
     let (mut first, mut second) = (Buffer::new(), Buffer::new());
@@ -194,7 +194,7 @@ pub fn put_verdict(text: &mut Vec<u8>, verdict: &Verdict) -> Result<(), AllocErr
 }
 
 /// Adds the verdict on the model of a file as text.
-pub fn put_file_verdict(text: &mut Vec<u8>, file: &str, verdict: &Verdict) -> Result<(), AllocError>
+fn put_with_file(text: &mut Vec<u8>, file: &str, verdict: &Verdict) -> Result<(), AllocError>
     ensures { Puts text.old text.new (file_text file.now verdict.now) result }
 {
     put_shown(text, file)?;
@@ -204,29 +204,6 @@ pub fn put_file_verdict(text: &mut Vec<u8>, file: &str, verdict: &Verdict) -> Re
     put_counted(text, b":", u64::from(finding.line), b": ")?;
     put_pieces(text, &[finding.word.as_bytes(), b" "])?;
     put_cause(text, &finding)
-}
-
-/// Adds a verdict as JSON.
-pub fn put_verdict_json(
-    text: &mut Vec<u8>,
-    alloc: Global,
-    verdict: &Verdict,
-) -> Result<(), AllocError>
-    ensures { Puts text.old text.new (verdict_json verdict.now) result }
-{
-    put_object(text, alloc, None, verdict)
-}
-
-/// Adds the verdict on the model of a file as JSON.
-pub fn put_file_object(
-    text: &mut Vec<u8>,
-    alloc: Global,
-    file: &str,
-    verdict: &Verdict,
-) -> Result<(), AllocError>
-    ensures { Puts text.old text.new (file_json file.now verdict.now) result }
-{
-    put_object(text, alloc, Some(file), verdict)
 }
 
 /// Adds a verdict as JSON.

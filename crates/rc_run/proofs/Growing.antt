@@ -13,7 +13,7 @@ use Rattle.rc_run.specs.declared.live.Turn.TheVariants.{Done}
 use Rattle.rc_run.specs.Jobs.{Job}
 use Rattle.rc_run.specs.Reports.{AllGiven, IsGiven, is_turn}
 use Rattle.rc_run.specs.Lives.{Live, Posted, Turned}
-use Rattle.rc_run.specs.Machine.{brought, completed_at, submit_answer}
+use Rattle.rc_run.specs.Machine.{brought, completed_at, given_in_turn}
 use Rattle.rc_run.proofs.TurnEvents.{of_completion, of_thread}
 use Rattle.rc_run.proofs.Turns.{goes_one_on}
 
@@ -54,8 +54,8 @@ pub turn_more : (gives : ℕ → ℤ → Type 0) (s v : Live) (i : ℕ) (t : ℤ
 turn_more gives s v i t x e is d0 =
     let T : Turn → Type 0 = λ y. Turned s i t y v in
     let d : Turned s i t (Done e) v = subst T is d0 in
-    let turn : is_turn e ≡ true = ap is_turn (of_thread s.world i (submit_answer s.world t) e v.world d.0).is in
-    longer gives s v e 1 (ap (λ (x : Live). x.history) d.1) (turn_is_given gives e turn) (count_one e turn) (λ none. record { no_fault = none; step = inl (i, submit_answer s.world t, d.0) })
+    let turn : is_turn e ≡ true = ap is_turn (of_thread s.world i (given_in_turn s.world i t) e v.world d.0).is in
+    longer gives s v e 1 (ap (λ (x : Live). x.history) d.1) (turn_is_given gives e turn) (count_one e turn) (λ none. record { no_fault = none; step = inl (i, given_in_turn s.world i t, d.0) })
 
 -- The same of a completion.
 pub post_more : (gives : ℕ → ℤ → Type 0) (s v : Live) (j : Job) (r : ℤ) → Posted s j r v → gives j.request.user_data r ⊎ (r ≡ negsuc 11) → IsLonger gives s v 0

@@ -5,7 +5,7 @@ use Rattle.std.proofs.lemmas.Bool.{and_parts, cases_lt, eqb-true, leb-true}
 use Rattle.std.proofs.lemmas.List.{get_or_past}
 use Rattle.std.proofs.lemmas.Option.{same_Some}
 use Rattle.rc_lang.specs.declared.request.Kind.{Kind}
-use Rattle.rc_lang.specs.declared.request.Kind.TheVariants.{Nop, Fsync, Read, Write}
+use Rattle.rc_lang.specs.declared.request.Kind.TheVariants.{Nop, Fsync, Read, Write, Other}
 use Rattle.rc_lang.specs.Program.{Buffer, IsProgram, Program, bytes_at, no_buffer}
 use Rattle.rc_world.specs.declared.fault.FaultKind.TheVariants.{KernelClash}
 use Rattle.rc_world.specs.Faults.{has_buffer, reads_into}
@@ -81,6 +81,7 @@ module _ (w : World) (c : IsCalm w) (k : ℕ) (p : Pending) (here : slice_get w.
   enough : (kind : Kind) → p.request.kind ≡ kind → p.request.len ≤ length (bytes_by w p kind)
   enough Nop is = let z : p.request.len ≡ 0 = c.plain k p here (ap has_buffer is) in omega (arith, z)
   enough Fsync is = let z : p.request.len ≡ 0 = c.plain k p here (ap has_buffer is) in omega (arith, z)
+  enough Other is = let z : p.request.len ≡ 0 = c.plain k p here (ap has_buffer is) in omega (arith, z)
   enough Read is = read_enough is
   enough Write is = write_enough is
 

@@ -1,6 +1,6 @@
 -- Where a thread is at a taken lock, a thread that holds a lock can make an event.
-use Rattle.std.proofs.Common.{◌≡◌, ℕ, pos, Bool, true, false, if◌then◌else◌, List, length, Option, Some, None, refl, ap, ◌∙◌, arith}
-use Rattle.std.proofs.lemmas.Bool.{le-leb}
+use Rattle.std.proofs.Common.{◌≡◌, ℕ, pos, Bool, true, false, if◌then◌else◌, List, Option, Some, None, refl, ap, ◌∙◌, arith}
+use Rattle.std.proofs.lemmas.Int.{ints}
 use Rattle.rc_lang.specs.declared.lines.Line.{Line}
 use Rattle.rc_lang.specs.declared.lines.Locks.{Locks}
 use Rattle.rc_lang.specs.declared.lines.Stmt.{Stmt}
@@ -18,6 +18,8 @@ use Rattle.rc_world.specs.Machine.{World, start_world}
 use Rattle.rc_world.specs.Runs.{IsRun}
 use Rattle.rc_world.proofs.LawSteps.{next_of_standing, stepped}
 use Rattle.rc_run.specs.Lives.{HoldersGo, can_move, is_ready, is_taken_lock}
+use Rattle.rc_run.specs.Machine.{given_by_take}
+use Rattle.rc_run.proofs.Turns.{given_allowed}
 
 -- ---- a taken lock
 
@@ -59,8 +61,9 @@ acts_ready P c i t a m l _ e = refl
 
 can_step : (w : World) (j : ℕ) → HasStep w j → can_move w j ≡ true
 can_step w j step =
-    let h = step (pos 0) (le-leb 0 (length w.queued) (omega arith)) in
-    let s = stepped w j (pos 0) h.0.0 h.0.1 h.1 in
+    let r = given_by_take w (pos 0) step.0.stmt in
+    let h = step.2 r (given_allowed w (pos 0) step.0.stmt (omega (arith, ints))) in
+    let s = stepped w j r h.0.0 h.0.1 h.1 in
     ap (λ l. is_ready (next_by w.controls.holders l)) (next_of_standing w j s.standing s.line s.stands) ∙ acts_ready w.program w.controls j s.standing _ s.move s.line s.line.stmt s.acted
 
 pub holders_go : NoDeadlock → (events : List Event) (w : World) → IsProgram w.program → IsRun (start_world w.program) events w → fault_of w ≡ None → HoldersGo w

@@ -4,7 +4,7 @@ use Rattle.std.proofs.Common.{◌≡◌, ℕ, zero, suc, ◌+◌, ◌<◌, ◌�
 use Rattle.std.proofs.lemmas.List.{map-append, take-append-drop}
 use Rattle.std.proofs.lemmas.Option.{same_Some}
 use Rattle.std.specs.Prelude.{slice_get}
-use Rattle.rc_lang.specs.declared.lines.Op.TheVariants.{PrepRead, PrepWrite, PrepFsync, PrepNop}
+use Rattle.rc_lang.specs.declared.lines.Op.TheVariants.{PrepRead, PrepWrite, PrepFsync, PrepNop, PrepOther}
 use Rattle.rc_lang.specs.declared.lines.Stmt.{Stmt}
 use Rattle.rc_lang.specs.declared.lines.Stmt.TheVariants.{Do}
 use Rattle.rc_lang.specs.declared.request.Request.{Request}
@@ -87,6 +87,7 @@ plain_prepared (Do (PrepRead fd b len off)) r e = subst IsPlain (same_Some _ _ e
 plain_prepared (Do (PrepWrite fd b len off k)) r e = subst IsPlain (same_Some _ _ e) (λ n. absurd (cc))
 plain_prepared (Do (PrepFsync fd datasync)) r e = subst IsPlain (same_Some _ _ e) (λ n. refl)
 plain_prepared (Do PrepNop) r e = subst IsPlain (same_Some _ _ e) (λ n. refl)
+plain_prepared (Do PrepOther) r e = subst IsPlain (same_Some _ _ e) (λ n. refl)
 plain_prepared _ r e = absurd (cc)
 
 module _ (w : World) (h : IsOrderly w) where

@@ -4,7 +4,7 @@ use Rattle.std.proofs.Math.Nat.{mod-lt}
 use Rattle.std.proofs.lemmas.List.{length-map, nil_from_length}
 use Rattle.std.proofs.lemmas.Option.{same_Some, slice_get-map}
 use Rattle.rc_lang.specs.declared.request.Kind.{Kind}
-use Rattle.rc_lang.specs.declared.request.Kind.TheVariants.{Nop, Fsync, Read, Write}
+use Rattle.rc_lang.specs.declared.request.Kind.TheVariants.{Nop, Fsync, Read, Write, Other}
 use Rattle.rc_lang.specs.declared.request.Request.{Request}
 use Rattle.rc_lang.specs.Program.{Program}
 use Rattle.rc_world.specs.declared.event.Event.{Event}
@@ -83,6 +83,7 @@ brings_enough job is = go job.request.kind refl job.starved refl
     go Nop e b s = none Nop e refl
     go Fsync e b s = none Fsync e refl
     go Write e b s = none Write e refl
+    go Other e b s = none Other e refl
     go Read e true s = let w = is.of_write s in absurd (cc)
     go Read e false s =
         let z : bytes_brought job.request ≡ job.request.len = ap (λ b. if b then job.request.len else 0) (ap is_read e) in

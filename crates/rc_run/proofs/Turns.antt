@@ -3,24 +3,26 @@ use Rattle.std.proofs.Common.{◌≡◌, ◌≢◌, ℕ, ℤ, pos, negsuc, ◌�
 use Rattle.std.proofs.lemmas.Bool.{le-leb, lt-ltb}
 use Rattle.std.proofs.lemmas.Int.{ints}
 use Rattle.std.proofs.lemmas.Option.{same_Some, slice_get_past}
+use Rattle.std.specs.Ordering.{int_eq}
 use Rattle.rc_lang.specs.declared.lines.Line.{Line}
 use Rattle.rc_lang.specs.declared.lines.Op.TheVariants.{SetData64, Submit, SubmitAndWait}
 use Rattle.rc_lang.specs.declared.lines.Stmt.{Stmt}
-use Rattle.rc_lang.specs.declared.lines.Stmt.TheVariants.{Do, Lock, Else, EndIf, Case, Other, Nothing, EndArm, EndPeek}
+use Rattle.rc_lang.specs.declared.lines.Stmt.TheVariants.{Do, If, Lock, Else, EndIf, Case, Other, Nothing, EndArm, EndPeek}
+use Rattle.rc_lang.specs.declared.lines.Test.TheVariants.{Any}
 use Rattle.rc_lang.specs.declared.request.Request.{Request}
 use Rattle.rc_lang.specs.Program.{Program, lines_of}
 use Rattle.rc_world.specs.declared.controls.Holders.{Holders}
 use Rattle.rc_world.specs.declared.controls.Next.TheVariants.{Ready, TakenLock}
 use Rattle.rc_world.specs.declared.event.Event.{Event}
-use Rattle.rc_world.specs.Controls.{are_free, next_at, next_line}
+use Rattle.rc_world.specs.Controls.{are_free, is_choice, next_at, next_line}
 use Rattle.rc_world.specs.Faults.{count_of, fault_of}
 use Rattle.rc_world.specs.Items.{next_by, next_of, ready_or_taken}
-use Rattle.rc_world.specs.Laws.{GoesOn, HasStep}
-use Rattle.rc_world.specs.Machine.{World, is_take, start_world, thread_step}
+use Rattle.rc_world.specs.Laws.{GoesOn}
+use Rattle.rc_world.specs.Machine.{World, is_take, may_be_given, start_world, thread_step}
 use Rattle.rc_world.specs.Runs.{IsRun, IsStep}
 use Rattle.rc_run.specs.Calm.{IsCalm}
 use Rattle.rc_run.specs.Held.{AreDistinct}
-use Rattle.rc_run.specs.Machine.{IsClosedAt, IsFreshAt, submit_answer}
+use Rattle.rc_run.specs.Machine.{IsClosedAt, IsFreshAt, given_by_take, submit_answer}
 use Rattle.rc_run.specs.Requests.{data_of}
 use Rattle.rc_world.proofs.LawFaultless.{standing_within}
 
@@ -51,29 +53,42 @@ ready_by h (Some x) l e = ap Some (ready_same h x l x.stmt e)
 pub ready_line : (w : World) (i : ℕ) (l : Line) → next_of w.program w.controls i ≡ Ready l → next_line w.program w.controls i ≡ Some l
 ready_line w i l e = ready_by w.controls.holders (next_line w.program w.controls i) l e
 
--- a thread that is ready has a step
-pub has_step : (w : World) → IsCalm w → (i : ℕ) (l : Line) → next_of w.program w.controls i ≡ Ready l → HasStep w i
+-- a thread that is ready has a step, whatever it may be given
+pub has_step : (w : World) → IsCalm w → (i : ℕ) (l : Line) → next_of w.program w.controls i ≡ Ready l
+    → (r : ℤ) → may_be_given w r l.stmt ≡ true → (s : Event × World) × (thread_step w i r ≡ Some s)
 has_step w c i l e = go (c.goes_on i (standing_within w i l next))
   where
     next : next_line w.program w.controls i ≡ Some l
     next = ready_line w i l e
 
-    go : GoesOn w i → HasStep w i
-    go (inl z) =
+    go : GoesOn w i → (r : ℤ) → may_be_given w r l.stmt ≡ true → (s : Event × World) × (thread_step w i r ≡ Some s)
+    go (inl z) r given =
         let none : next_line w.program w.controls i ≡ None =
         ap (next_at w.program i) z.1 ∙ slice_get_past (lines_of w.program i) z.0.place (let q : z.0.place ≡ length (lines_of w.program i) = z.2 in omega arith) in
         absurd (cc)
-    go (inr (inl z)) =
+    go (inr (inl z)) r given =
         let taken : next_of w.program w.controls i ≡ TakenLock z.1 =
         ap (next_by w.controls.holders) z.2 ∙ ap (ready_or_taken w.controls.holders z.0) z.3 ∙ ap (λ free. if free then Ready z.0 else TakenLock z.1) z.4 in
         absurd (cc)
-    go (inr (inr step)) = step
+    go (inr (inr step)) r given = step.2 r (subst (λ (x : Line). may_be_given w r x.stmt ≡ true) (same_Some l step.0 (sym next ∙ step.1)) given)
 
--- ---- what a submit takes
+-- ---- what a step is given
 
-pub take_allowed : (w : World) (t : ℤ) → negsuc 4094 ≤ℤ t → is_take w (submit_answer w t) ≡ true
+take_allowed : (w : World) (t : ℤ) → negsuc 4094 ≤ℤ t → is_take w (submit_answer w t) ≡ true
 take_allowed w (pos n) h = le-leb (min n (length w.queued)) (length w.queued) (omega arith)
 take_allowed w (negsuc n) h = lt-ltb n 4095 (omega (arith, ints, h))
+
+pub given_allowed : (w : World) (t : ℤ) (s : Stmt) → negsuc 4094 ≤ℤ t → may_be_given w (given_by_take w t s) s ≡ true
+given_allowed w t (Do (Submit x)) h = take_allowed w t h
+given_allowed w t (Do (SubmitAndWait x n)) h = take_allowed w t h
+given_allowed w t (Do _) h = refl
+given_allowed w t (If Any) h = either (int_eq t (pos 0))
+  where
+    either : (b : Bool) → is_choice (if b then pos 0 else pos 1) ≡ true
+    either true = refl
+    either false = refl
+given_allowed w t (If _) h = refl
+given_allowed w t _ h = refl
 
 pub closed_at : (w : World) → IsCalm w → (i : ℕ) (l : Line) → next_line w.program w.controls i ≡ Some l → IsClosedAt w.slot l.stmt
 closed_at w c i l next = go l.stmt refl

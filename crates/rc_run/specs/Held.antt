@@ -1,15 +1,16 @@
--- How a ring and a table of serial numbers stand for a ring of requests.
-use Rattle.std.specs.Prelude.{ℕ, ◌≡◌, ◌≢◌, List, [], ◌∷◌, map, slice_get, Some}
+-- How a ring, a table of serial numbers, and whether the open entry is one of another request than a nop, stand for a
+-- ring of requests.
+use Rattle.std.specs.Prelude.{ℕ, ◌≡◌, ◌≢◌, Bool, List, [], ◌∷◌, map, slice_get, Some}
 use Rattle.rc_entry.specs.Spelling.{sqe_user_data}
 use Rattle.rc_ring.specs.Rings.{Rings}
 use Rattle.rc_run.specs.declared.request_ring.Serial.{Serial}
 use Rattle.rc_run.specs.Requests.{RequestRing, completion_in, is_datasync, is_open, request_in, slot_in}
 
-abbrev pub ring_of : Rings → List Serial → ℕ → RequestRing
-ring_of ring serials made = record {
+abbrev pub ring_of : Rings → List Serial → Bool → ℕ → RequestRing
+ring_of ring serials other made = record {
   entries = ring.entries;
   completion_entries = ring.completion_entries;
-  slot = slot_in ring.slot;
+  slot = slot_in other ring.slot;
   datasync = is_datasync ring.slot;
   queued = map (request_in serials) ring.queued;
   completions = map completion_in ring.completions;

@@ -2,14 +2,14 @@
 use Rattle.std.specs.Prelude.{ℕ, ◌≡◌, ◌<◌, ◌%◌, ℤ, Bool, true, false, ◌||◌, not, List, [], ◌∷◌, ◌++◌, filter, length, nat_eq, Some, slice_get, unwrap_or}
 use Rattle.std.specs.List.{list_any}
 use Rattle.rc_lang.specs.declared.request.Kind.{Kind}
-use Rattle.rc_lang.specs.declared.request.Kind.TheVariants.{Nop, Fsync, Read, Write}
+use Rattle.rc_lang.specs.declared.request.Kind.TheVariants.{Nop, Fsync, Read, Write, Other}
 use Rattle.rc_lang.specs.declared.request.Request.{Request}
 use Rattle.rc_lang.specs.Program.{Program}
 use Rattle.rc_run.specs.declared.live.Turn.{Turn}
 use Rattle.rc_run.specs.declared.live.Turn.TheVariants.{Done, Waits, Ended}
 use Rattle.rc_run.specs.declared.machine.Pending.{Pending as PendingPart}
 use Rattle.rc_run.specs.Jobs.{Job}
-use Rattle.rc_run.specs.Machine.{completed_by, datasync_after, submit_answer}
+use Rattle.rc_run.specs.Machine.{completed_by, datasync_after, given_in_turn}
 use Rattle.rc_world.specs.declared.controls.Next.{Next}
 use Rattle.rc_world.specs.declared.controls.Next.TheVariants as next
 use Rattle.rc_world.specs.declared.event.Event.{Event}
@@ -78,9 +78,9 @@ HoldersGo w = (i : ℕ) → is_at_taken_lock w i ≡ true → (j : ℕ) × Holds
 
 -- ---- turns
 
--- A turn of a thread whose submit is granted t.
+-- A turn of a thread with the take t.
 abbrev pub Turned : Live → ℕ → ℤ → Turn → Live → Type 0
-Turned s i t (Done e) v = (thread_step s.world i (submit_answer s.world t) ≡ Some (e, v.world)) × (v ≡ grown s e v.world (datasync_next s i))
+Turned s i t (Done e) v = (thread_step s.world i (given_in_turn s.world i t) ≡ Some (e, v.world)) × (v ≡ grown s e v.world (datasync_next s i))
 Turned s i t Waits v = (is_at_taken_lock s.world i ≡ true) × (v ≡ s)
 Turned s i t Ended v = (next_of s.world.program s.world.controls i ≡ next.Ended) × (v ≡ s)
 
@@ -103,6 +103,7 @@ bytes_by w p Nop = []
 bytes_by w p Fsync = []
 bytes_by w p Read = unwrap_or p.bytes []
 bytes_by w p Write = unwrap_or (bytes_of w p.request.buffer) []
+bytes_by w p Other = []
 
 abbrev pub bytes_for : World → Pending → List ℕ
 bytes_for w p = bytes_by w p p.request.kind

@@ -1,13 +1,15 @@
 -- The world that a machine's parts stand for.
-use Rattle.std.specs.Prelude.{ℕ, ◌≡◌, ◌+◌, ◌≤◌, Bool, false, List, [], ◌∷◌, ◌++◌, map, Option, Some, None, ℤ, pos, negsuc, min, length, take, drop, slice_get, slice_set}
+use Rattle.std.specs.Prelude.{ℕ, ◌≡◌, ◌+◌, ◌≤◌, Bool, false, if◌then◌else◌, List, [], ◌∷◌, ◌++◌, map, Option, Some, None, ℤ, pos, negsuc, min, length, take, drop, slice_get, slice_set}
 use Rattle.std.specs.Arc.{arc_value}
+use Rattle.std.specs.Ordering.{int_eq}
 use Rattle.rc_world.specs.declared.controls.Answer.{Answer}
 use Rattle.rc_world.specs.declared.event.Event.{Event}
 use Rattle.rc_lang.specs.declared.lines.Op.{Op}
-use Rattle.rc_lang.specs.declared.lines.Op.TheVariants.{GetSqe, PrepRead, PrepWrite, PrepFsync, PrepNop, SetData64, Submit, SubmitAndWait}
+use Rattle.rc_lang.specs.declared.lines.Op.TheVariants.{GetSqe, PrepRead, PrepWrite, PrepFsync, PrepNop, PrepOther, SetData64, Submit, SubmitAndWait}
 use Rattle.rc_lang.specs.declared.lines.Line.{Line}
 use Rattle.rc_lang.specs.declared.lines.Stmt.{Stmt}
-use Rattle.rc_lang.specs.declared.lines.Stmt.TheVariants.{Do}
+use Rattle.rc_lang.specs.declared.lines.Stmt.TheVariants.{Do, If}
+use Rattle.rc_lang.specs.declared.lines.Test.TheVariants.{Any}
 use Rattle.rc_lang.specs.declared.request.Request.{Request}
 use Rattle.rc_world.specs.declared.world.Slot.{Slot}
 use Rattle.rc_world.specs.declared.world.Slot.TheVariants.{Closed}
@@ -48,6 +50,19 @@ abbrev pub submit_answer : World → ℤ → ℤ
 submit_answer w (pos n) = pos (min n (length w.queued))
 submit_answer w (negsuc n) = negsuc n
 
+-- What a turn with this take gives to the step of a statement: to a free choice 0 for 0, and 1 for any other take; else
+-- what a submit answers.
+abbrev pub given_by_take : World → ℤ → Stmt → ℤ
+given_by_take w t (If Any) = if int_eq t (pos 0) then pos 0 else pos 1
+given_by_take w t _ = submit_answer w t
+
+abbrev pub given_at_line : World → ℤ → Option Line → ℤ
+given_at_line w t None = submit_answer w t
+given_at_line w t (Some l) = given_by_take w t l.stmt
+
+abbrev pub given_in_turn : World → ℕ → ℤ → ℤ
+given_in_turn w i t = given_at_line w t (next_line w.program w.controls i)
+
 -- Whether the open entry is an fsync that asks for fdatasync(2), once a statement is made; before, it was this.
 abbrev pub datasync_by_op : Op → Bool → Bool
 datasync_by_op GetSqe b = false
@@ -55,6 +70,7 @@ datasync_by_op (PrepRead fd buffer len off) b = false
 datasync_by_op (PrepWrite fd buffer len off k) b = false
 datasync_by_op (PrepFsync fd datasync) b = datasync
 datasync_by_op PrepNop b = false
+datasync_by_op PrepOther b = false
 datasync_by_op (SetData64 u) b = false
 datasync_by_op _ b = b
 
@@ -129,7 +145,7 @@ job_step m place res bytes = completed_by (world_of m) place res bytes
 abbrev pub next_line_of : Machine → ℕ → Option Line
 next_line_of m i = next_line (arc_value m.admitted) m.controls i
 
--- A thread makes its step, where a submit is answered this: this is its event, and this the machine after it.
+-- A thread makes its step, which is given this: this is its event, and this the machine after it.
 abbrev pub Stepped : Machine → ℕ → ℤ → Event → Machine → Type 0
 Stepped old i taken e new = thread_step (world_of old) i taken ≡ Some (e, world_of new)
 

@@ -3,12 +3,12 @@
 ghost use Rattle.std.specs.Prelude.{◌≡◌, ◌≤◌, false, true, length};
 ghost use Rattle.std.specs.Borrow.{sem};
 ghost use Rattle.rc_lang.specs.declared.request.Kind.TheVariants.{Write};
-ghost use Rattle.rc_lang.specs.Requests.{may_complete};
+ghost use Rattle.rc_lang.specs.Requests.{largest, may_complete};
 ghost use Rattle.rc_run.specs.Jobs.{IsJob, allows, job_of};
 ghost use Rattle.rc_run.specs.Lending.{LendsBytes};
 
 use rc_lang::request::Request;
-use rc_world::world::requests::may_complete;
+use rc_world::world::requests::{largest, may_complete};
 use std::marker::Model;
 
 /// A request that is with a device, and bytes for it. It has to be spent, by `Live::post` or by `give_up`.
@@ -52,6 +52,14 @@ impl Job {
         ensures starved { self.now.starved ≡ true → result.kind ≡ Write }
     {
         self.request
+    }
+
+    /// The largest result that its request may complete with.
+    pub fn largest(&self) -> u32
+        ensures value { result ≡ largest self.now.request.len self.now.request.kind }
+        ensures small { result ≤ 4096 }
+    {
+        largest(self.request)
     }
 
     /// Whether this may be the result: what the request may complete with (`io_uring_enter(2)`), and of a starved job

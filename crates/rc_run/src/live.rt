@@ -192,7 +192,8 @@ impl Live {
         no_deadlock();
     }
 
-    /// The next step of a thread; a submit takes as many as are queued, at most `take`, or fails with a negative one.
+    /// The next step of a thread; a submit takes as many as are queued, at most `take`, or fails with a negative one, and an
+    /// `if any` takes its first branch, or its second with 0.
     pub fn turn(&mut self, thread: u32, take: i32) -> Result<Turn, AllocError>
         requires { negsuc 4094 ≤ℤ take }
         ensures ok { IfOk result (λ t. Turned self.old thread take t self.new) }
@@ -205,8 +206,8 @@ impl Live {
             Next::Ready(line) => line,
         };
         self.history.reserve(self.out.len() + 1)?;
-        let taken = self.machine.taken(take);
-        let event = self.machine.step(thread, line, taken)?;
+        let given = self.machine.given(line.stmt, take);
+        let event = self.machine.step(thread, line, given)?;
         self.history.push_reserved(event);
         Ok(Turn::Done(event))
     }

@@ -6,7 +6,7 @@ ghost use Rattle.rc_lang.specs.Program.{IsProgram};
 ghost use Rattle.rc_world.specs.Items.{next_of};
 ghost use Rattle.rc_world.specs.Kept.{IsKept};
 ghost use Rattle.rc_world.specs.Machine as machine;
-ghost use Rattle.rc_run.specs.Machine.{IsClosedAt, IsFreshAt, IsSameRest, IsSized, Stepped, control_step, datasync_by, next_line_of, submit_answer, views, world_of};
+ghost use Rattle.rc_run.specs.Machine.{IsClosedAt, IsFreshAt, IsSameRest, IsSized, Stepped, control_step, datasync_by, given_by_take, next_line_of, submit_answer, views, world_of};
 
 mod jobs;
 mod rings;
@@ -78,24 +78,24 @@ impl Machine {
         self.controls.next(self.admitted.program(), thread)
     }
 
-    /// The step of the thread, whose next line this is, where a submit is answered this.
-    pub fn step(&mut self, thread: u32, line: Line, taken: i32) -> Result<Event, AllocError>
+    /// The step of the thread, whose next line this is, that is given this.
+    pub fn step(&mut self, thread: u32, line: Line, given: i32) -> Result<Event, AllocError>
         requires line { next_line_of self.old thread ≡ Some line }
         requires kept { IsKept (world_of self.old) }
         requires sized { IsSized self.old }
-        requires step { IsSome (machine.thread_step (world_of self.old) thread taken) }
+        requires step { IsSome (machine.thread_step (world_of self.old) thread given) }
         requires suits { IsClosedAt self.old.ring.slot line.stmt }
         requires fresh { IsFreshAt (world_of self.old) line.stmt }
         requires room { self.old.ring.made + 1 < 2 ^ 64 }
-        ensures ok { IfOk result (λ e. Stepped self.old thread taken e self.new) }
+        ensures ok { IfOk result (λ e. Stepped self.old thread given e self.new) }
         ensures err { OnErr result (world_of self.new ≡ world_of self.old) }
         ensures flag_kept { OnErr result (self.new.ring.datasync ≡ self.old.ring.datasync) }
         ensures flag { OnOk result
             (self.new.ring.datasync ≡ datasync_by line.stmt self.old.ring.datasync) }
         ensures rest { IsSameRest self.old self.new }
     {
-        let answer = self.answer(taken, line.stmt);
-        self.rings(thread, line.stmt, taken)?;
+        let answer = self.answer(given, line.stmt);
+        self.rings(thread, line.stmt, given)?;
         Ok(self.advance(thread, answer))
     }
 
@@ -114,8 +114,18 @@ impl Machine {
         }
     }
 
-    /// What a submit that is granted this answers.
-    pub fn taken(&self, take: i32) -> i32
+    /// What the step of a statement is given in a turn with this take.
+    pub fn given(&self, stmt: Stmt, take: i32) -> i32
+        ensures { result ≡ given_by_take (world_of self.now) take stmt }
+    {
+        match stmt {
+            Stmt::If(Test::Any) => i32::from(take != 0),
+            _ => self.taken(take),
+        }
+    }
+
+    // What a submit that is granted this answers.
+    fn taken(&self, take: i32) -> i32
         ensures { result ≡ submit_answer (world_of self.now) take }
     {
         match u32::try_from(take) {
@@ -124,31 +134,32 @@ impl Machine {
         }
     }
 
-    // What the world answers to a statement.
-    fn answer(&self, taken: i32, stmt: Stmt) -> Answer
+    // What the world answers to a statement that is given this.
+    fn answer(&self, given: i32, stmt: Stmt) -> Answer
         requires { IsSized self.now }
-        ensures { result ≡ machine.stmt_answer (world_of self.now) taken stmt }
+        ensures { result ≡ machine.stmt_answer (world_of self.now) given stmt }
     {
         match stmt {
             Stmt::Do(Op::Load(_, buffer, i)) => self.byte(buffer, i),
-            Stmt::Do(Op::Submit(_)) => Answer::Number(taken),
-            Stmt::Do(Op::SubmitAndWait(_, _)) => Answer::Number(taken),
+            Stmt::Do(Op::Submit(_)) => Answer::Number(given),
+            Stmt::Do(Op::SubmitAndWait(_, _)) => Answer::Number(given),
             Stmt::Do(Op::CqeSeen) => self.front(),
-            Stmt::If(test) => self.test_answer(test),
+            Stmt::If(test) => self.test_answer(given, test),
             Stmt::Peek(_) => self.front(),
             _ => Answer::Plain,
         }
     }
 
-    // What the world answers to a test.
-    fn test_answer(&self, test: Test) -> Answer
+    // What the world answers to a test that is given this.
+    fn test_answer(&self, given: i32, test: Test) -> Answer
         requires { IsSized self.now }
-        ensures { result ≡ machine.test_answer (world_of self.now) test }
+        ensures { result ≡ machine.test_answer (world_of self.now) given test }
     {
         let entries = self.program().entries();
         match test {
             Test::ReadyZero => Answer::Number(self.ring.used() as i32),
             Test::SpaceAtLeast(_) => Answer::Number((entries - self.ring.used()) as i32),
+            Test::Any => Answer::Number(given),
             Test::Compare(_, _, _) | Test::Take(_, _) => Answer::Plain,
         }
     }

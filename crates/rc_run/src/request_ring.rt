@@ -5,9 +5,9 @@ ghost use Rattle.std.specs.Int.{IsPowerOfTwo};
 ghost use Rattle.rc_lang.specs.declared.request.Kind.TheVariants.{Fsync, Read, Write};
 ghost use Rattle.rc_lang.specs.declared.request.Request.{Request as SpecRequest};
 ghost use Rattle.rc_world.specs.declared.world.Slot.TheVariants.{Closed, Vacant, Prepared};
-ghost use Rattle.rc_world.specs.Machine.{new_request, prepared_nop, slot_len};
+ghost use Rattle.rc_world.specs.Machine.{new_request, slot_len};
 ghost use Rattle.rc_run.specs.Held.{AreDistinct};
-ghost use Rattle.rc_run.specs.Requests.{address_of, after_data, buffer_at, data_of, empty_ring, request_of, serial_of, with_prepared};
+ghost use Rattle.rc_run.specs.Requests.{address_of, after_data, buffer_at, data_of, data_of_entry, empty_ring, named, prepared_nop_or_other, request_of, with_prepared};
 
 use rc_entry::{Cqe, Entry, decode_sqe};
 use rc_lang::request::{Kind, Request};
@@ -21,6 +21,8 @@ use std::marker::Model;
 pub struct Serial {
     pub user_data: u64,
     pub serial: u64,
+    /// Whether its entry, a nop's, stands for another request without a buffer.
+    pub other: bool,
 }
 
 /// A ring of entries, with the serial numbers of the queued ones, which no entry carries. Between two calls an open
@@ -29,6 +31,8 @@ pub struct Serial {
 pub struct RequestRing {
     ring: Ring,
     serials: Vec<Serial>,
+    // Whether the open entry, a nop's, stands for another request without a buffer.
+    other: bool,
     made: u64,
 }
 
@@ -40,7 +44,7 @@ impl Model for RequestRing {
 
     ghost use Rattle.rc_run.specs.Held.{IsHeld, ring_of};
 
-    ghost view = { λ a. ring_of a.ring a.serials.items a.made };
+    ghost view = { λ a. ring_of a.ring a.serials.items a.other a.made };
 
     ghost invariant = { λ a. IsHeld a.ring a.serials.items };
 }
@@ -62,6 +66,7 @@ impl RequestRing {
         Ok(RequestRing {
             ring: Ring::with_cq(alloc, entries, completion_entries)?,
             serials: Vec::new(alloc),
+            other: false,
             made: 0,
         })
     }
@@ -74,6 +79,7 @@ impl RequestRing {
     {
         let slot = self.ring.get_sqe().unwrap();
         slot.park(&mut self.ring);
+        self.other = false;
     }
 
     /// Makes the open entry a read.
@@ -106,14 +112,15 @@ impl RequestRing {
         slot.park(&mut self.ring);
     }
 
-    /// Makes the open entry a nop.
-    pub fn prepare_nop(&mut self)
+    /// Makes the open entry a nop, or with `other` one that stands for another request without a buffer.
+    pub fn prepare_nop(&mut self, other: bool)
         requires { self.old.slot ≡ Vacant }
-        ensures { self.new ≡ with_prepared self.old prepared_nop false }
+        ensures { self.new ≡ with_prepared self.old (prepared_nop_or_other other) false }
     {
         let slot = self.ring.resume_vacant();
         let slot = slot.prep_nop(&mut self.ring);
         slot.park(&mut self.ring);
+        self.other = other;
     }
 
     /// Queues the prepared entry with this user data, which no queued one has.
@@ -127,7 +134,11 @@ impl RequestRing {
     {
         let _held = self.ring.queued_sqe(0);
         let serial = self.made + 1;
-        self.serials.push(Serial { user_data, serial })?;
+        self.serials.push(Serial {
+            user_data,
+            serial,
+            other: self.other,
+        })?;
         let slot = self.ring.resume_prepared();
         slot.set_data64(&mut self.ring, user_data);
         self.made = serial;
@@ -234,7 +245,7 @@ fn buffer_at(address: u64) -> u32
 
 // The request that an entry asks for.
 fn request_of(serials: &[Serial], entry: Entry) -> Request
-    ensures { result ≡ request_of serials.now entry }
+    ensures { result ≡ request_of (named (data_of_entry entry) serials.now) entry }
 {
     let (user_data, request) = match entry {
         Entry::Nop { user_data } => (user_data, new_request(Kind::Nop, -1, 0, 0, 0)),
@@ -260,8 +271,14 @@ fn request_of(serials: &[Serial], entry: Entry) -> Request
             new_request(Kind::Write, fd, buffer_at(addr), len, off),
         ),
     };
+    let Serial { serial, other, .. } = named(serials, user_data);
+    let kind = match request.kind {
+        Kind::Nop if other => Kind::Other,
+        kind => kind,
+    };
     Request {
-        serial: serial_of(serials, user_data),
+        serial,
+        kind,
         user_data,
         ..request
     }
@@ -282,14 +299,18 @@ fn new_request(kind: Kind, fd: i32, buffer: u32, len: u32, off: u64) -> Request
     }
 }
 
-// The serial number of a user data, or 0.
-fn serial_of(serials: &[Serial], user_data: u64) -> u64
-    ensures { result ≡ serial_of user_data serials.now }
+// What the table has of a user data.
+fn named(serials: &[Serial], user_data: u64) -> Serial
+    ensures { result ≡ named user_data serials.now }
 {
     for serial in serials {
         if serial.user_data == user_data {
-            return serial.serial;
+            return *serial;
         }
     }
-    0
+    Serial {
+        user_data: 0,
+        serial: 0,
+        other: false,
+    }
 }

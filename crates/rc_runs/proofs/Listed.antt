@@ -1,26 +1,34 @@
 -- What is listed is what is enabled.
-use Rattle.std.proofs.Common.{◌≡◌, ℕ, zero, suc, ◌<◌, ◌≤◌, ◌⊎◌, inl, inr, [], length, get_or, List, Bool, true, false, cond, ◌&&◌, ◌||◌, eqb, leb, Option, Some, None, ℤ, pos, negsuc, refl, sym, ap, ◌∙◌, arith}
+use Rattle.std.proofs.Common.{◌≡◌, ℕ, zero, suc, ◌<◌, ◌≤◌, ◌⊎◌, inl, inr, [], length, get_or, List, Bool, true, false, cond, ◌&&◌, ◌||◌, eqb, leb, Option, Some, None, ℤ, pos, negsuc, refl, sym, ap, subst, ◌∙◌, arith}
 use Rattle.std.proofs.lemmas.Bool.{eq-eqb, eqb-true, ne_eqb}
-use Rattle.std.proofs.lemmas.Bool.Decides.{eqb_tells}
+use Rattle.std.proofs.lemmas.Bool.Decides.{Decides-int_eq, eqb_tells, leb_tells}
 use Rattle.std.proofs.lemmas.List.Folds.{list_any-append}
 use Rattle.std.proofs.lemmas.List.Quantifiers.{position-Some}
 use Rattle.std.proofs.lemmas.Option.{slice_get-get_or, slice_get_cases, slice_get_past}
+use Rattle.std.specs.Ordering.{int_eq}
 use Rattle.std.specs.Prelude.{option_to_list, slice_get}
+use Rattle.std.specs.Bool.{Decides}
 use Rattle.rc_lang.specs.declared.lines.Line.{Line}
+use Rattle.rc_lang.specs.declared.lines.Op.{Op}
+use Rattle.rc_lang.specs.declared.lines.Op.TheVariants as op
+use Rattle.rc_lang.specs.declared.lines.Stmt.{Stmt}
+use Rattle.rc_lang.specs.declared.lines.Stmt.TheVariants as stmt
+use Rattle.rc_lang.specs.declared.lines.Test.{Test}
+use Rattle.rc_lang.specs.declared.lines.Test.TheVariants as test
 use Rattle.rc_lang.specs.Program.{Program, Thread as ThreadOf, lines_in}
-use Rattle.rc_lang.specs.Requests.{most_moved}
+use Rattle.rc_lang.specs.Requests.{largest}
 use Rattle.rc_world.specs.declared.controls.Next.{Next}
 use Rattle.rc_world.specs.declared.controls.Next.TheVariants.{Ready, TakenLock, Ended}
 use Rattle.rc_world.specs.declared.event.Item.{Item}
 use Rattle.rc_world.specs.declared.event.Item.TheVariants.{Thread, Kernel}
 use Rattle.rc_world.specs.declared.controls.Holders.{Holders}
-use Rattle.rc_world.specs.Controls.{Standing, next_at}
+use Rattle.rc_world.specs.Controls.{Standing, is_choice, next_at}
 use Rattle.rc_world.specs.Faults.{has_data}
-use Rattle.rc_world.specs.Items.{is_enabled, is_ready, is_submit, kernel_may, next_by, next_of, pending_at, pending_place, takes}
-use Rattle.rc_world.specs.Machine.{Pending, World, is_take, prepared_nop}
+use Rattle.rc_world.specs.Items.{is_enabled, is_ready, kernel_may, next_by, next_of, pending_at, pending_place, takes}
+use Rattle.rc_world.specs.Machine.{Pending, World, count_in, prepared_nop}
 use Rattle.rc_runs.specs.declared.choices.Choice.{Choice}
 use Rattle.rc_runs.specs.declared.choices.Choice.TheVariants.{Complete, Step, Take}
-use Rattle.rc_runs.specs.Choices.{choice_by, choices_below, choices_in, completion_choice, is_listed, is_place, pending_choice, stands_for, thread_choice}
+use Rattle.rc_runs.specs.Choices.{choice_by, choice_up_to, choices_below, choices_in, completion_choice, is_listed, is_place, most_answer, pending_choice, stands_for, thread_choice}
 use Rattle.rc_runs.specs.Laws.{AreEnabled, HasPlainAnswer, IsCountIfAny, ListedIsEnabled}
 
 -- ---- one of several
@@ -77,10 +85,10 @@ and_true : (b : Bool) → (b && true) ≡ b
 and_true true = refl
 and_true false = refl
 
--- whether the answer of an item may be at a statement that is a submit, or isn't
-abbrev takes_where : World → Bool → Option ℤ → Bool
-takes_where w b None = true
-takes_where w b (Some r) = b && is_take w r
+-- an answer that isn't above the largest, where there is one
+abbrev is_up_to : ℕ → Option ℕ → Bool
+is_up_to n None = false
+is_up_to n (Some most) = leb n most
 
 or_left : (x y z : Bool) → y ≡ x → z ≡ false → x ≡ (y || z)
 or_left x y z e f = rw (e, f) (sym (or_false x))
@@ -90,28 +98,92 @@ or_right x y z e f = rw (e, f) refl
 
 -- ---- threads
 
-ready_by : (w : World) (i : ℕ) (b : Bool) (take : Option ℤ) → IsCountIfAny take → takes_where w b take ≡ stands_for (cond b (Take i (length w.queued)) (Step i)) (Thread i take)
-ready_by w i true None p = rw (eq-eqb i i refl) refl
-ready_by w i false None p = rw (eq-eqb i i refl) refl
-ready_by w i true (Some (pos n)) p = rw (eq-eqb i i refl) refl
-ready_by w i false (Some (pos n)) p = rw (eq-eqb i i refl) refl
-ready_by w i b (Some (negsuc n)) p = absurd p
+not_so : {P : Type 0} (r : Bool) → Decides r P → (P → ⊥) → r ≡ false
+not_so true d h = absurd (h (d.0 refl))
+not_so false d h = refl
 
-ready_at : (w : World) (i : ℕ) (l : Line) (take : Option ℤ) → IsCountIfAny take → takes w take l.stmt ≡ stands_for (cond (is_submit l.stmt) (Take i (length w.queued)) (Step i)) (Thread i take)
-ready_at w i l None p = ready_by w i (is_submit l.stmt) None p
-ready_at w i l (Some r) p = ready_by w i (is_submit l.stmt) (Some r) p
+above_one : (n : ℕ) → (n ≡ 0 → ⊥) → (n ≡ 1 → ⊥) → ((leb n 1 ≡ true) × (n ≤ 1)) ⊎ ((leb n 1 ≡ false) × (1 < n)) → is_choice (pos n) ≡ leb n 1
+above_one n differs other (inl t) = absurd (omega (arith, differs, other, t.1))
+above_one n differs other (inr f) =
+    rw (not_so (int_eq (pos n) (pos 0)) (Decides-int_eq (pos n) (pos 0)) (λ e. differs (ap count_in e)), not_so (int_eq (pos n) (pos 1)) (Decides-int_eq (pos n) (pos 1)) (λ e. other (ap count_in e)), f.0) refl
+
+choice_by_cases : (n : ℕ) → ((eqb n 0 ≡ true) × (n ≡ 0)) ⊎ ((eqb n 0 ≡ false) × (n ≡ 0 → ⊥)) → ((eqb n 1 ≡ true) × (n ≡ 1)) ⊎ ((eqb n 1 ≡ false) × (n ≡ 1 → ⊥)) → is_choice (pos n) ≡ leb n 1
+choice_by_cases n (inl z) one = subst (λ m. is_choice (pos m) ≡ leb m 1) (sym z.1) refl
+choice_by_cases n (inr z) (inl o) = subst (λ m. is_choice (pos m) ≡ leb m 1) (sym o.1) refl
+choice_by_cases n (inr z) (inr o) = above_one n z.1 o.1 (leb_tells n 1)
+
+one_or_none : (n : ℕ) → is_choice (pos n) ≡ leb n 1
+one_or_none n = choice_by_cases n (eqb_tells n 0) (eqb_tells n 1)
+
+op_takes : (w : World) (n : ℕ) (o : Op) → takes w (Some (pos n)) (stmt.Do o) ≡ is_up_to n (most_answer w (stmt.Do o))
+op_takes w n (op.Set x m) = refl
+op_takes w n (op.Assign x y) = refl
+op_takes w n (op.Add x y z) = refl
+op_takes w n (op.Subtract x y z) = refl
+op_takes w n (op.Load x b i) = refl
+op_takes w n (op.Store b i x) = refl
+op_takes w n (op.Fill b x) = refl
+op_takes w n (op.Print x) = refl
+op_takes w n op.GetSqe = refl
+op_takes w n (op.PrepRead fd b len off) = refl
+op_takes w n (op.PrepWrite fd b len off k) = refl
+op_takes w n (op.PrepFsync fd datasync) = refl
+op_takes w n op.PrepNop = refl
+op_takes w n op.PrepOther = refl
+op_takes w n (op.SetData64 u) = refl
+op_takes w n (op.Submit x) = refl
+op_takes w n (op.SubmitAndWait x m) = refl
+op_takes w n op.CqeSeen = refl
+
+test_takes : (w : World) (n : ℕ) (t : Test) → takes w (Some (pos n)) (stmt.If t) ≡ is_up_to n (most_answer w (stmt.If t))
+test_takes w n (test.Compare x comparison m) = refl
+test_takes w n test.ReadyZero = refl
+test_takes w n (test.SpaceAtLeast m) = refl
+test_takes w n (test.Take pool k) = refl
+test_takes w n test.Any = one_or_none n
+
+takes_up_to : (w : World) (n : ℕ) (s : Stmt) → takes w (Some (pos n)) s ≡ is_up_to n (most_answer w s)
+takes_up_to w n (stmt.Do o) = op_takes w n o
+takes_up_to w n (stmt.Put pool k) = refl
+takes_up_to w n (stmt.Lock l) = refl
+takes_up_to w n (stmt.EndLock o l) = refl
+takes_up_to w n (stmt.If t) = test_takes w n t
+takes_up_to w n (stmt.Else o) = refl
+takes_up_to w n (stmt.EndIf o) = refl
+takes_up_to w n (stmt.Peek x) = refl
+takes_up_to w n (stmt.Case o u) = refl
+takes_up_to w n (stmt.Other o) = refl
+takes_up_to w n (stmt.Nothing o) = refl
+takes_up_to w n (stmt.EndArm o) = refl
+takes_up_to w n (stmt.EndPeek o) = refl
+takes_up_to w n (stmt.Loop k) = refl
+takes_up_to w n (stmt.EndLoop o k) = refl
+takes_up_to w n (stmt.Break o releases leaves) = refl
+
+plain_by : (i : ℕ) (most : Option ℕ) → true ≡ stands_for (choice_up_to i most) (Thread i None)
+plain_by i None = rw (eq-eqb i i refl) refl
+plain_by i (Some most) = rw (eq-eqb i i refl) refl
+
+ready_by : (i n : ℕ) (most : Option ℕ) → is_up_to n most ≡ stands_for (choice_up_to i most) (Thread i (Some (pos n)))
+ready_by i n None = rw (eq-eqb i i refl) refl
+ready_by i n (Some most) = rw (eq-eqb i i refl) refl
+
+ready_at : (w : World) (i : ℕ) (l : Line) (take : Option ℤ) → IsCountIfAny take → takes w take l.stmt ≡ stands_for (choice_up_to i (most_answer w l.stmt)) (Thread i take)
+ready_at w i l None p = plain_by i (most_answer w l.stmt)
+ready_at w i l (Some (pos n)) p = takes_up_to w n l.stmt ∙ ready_by i n (most_answer w l.stmt)
+ready_at w i l (Some (negsuc n)) p = absurd p
 
 thread_at : (w : World) (i : ℕ) (take : Option ℤ) (next : Next) → IsCountIfAny take → any_stands_for (choice_by w i next) (Thread i take) ≡ is_ready w take next
 thread_at w i take (Ready l) p = sym (ready_at w i l take p)
 thread_at w i take (TakenLock wanted) p = refl
 thread_at w i take Ended p = refl
 
-other_by : (b : Bool) (k i q : ℕ) (take : Option ℤ) → eqb k i ≡ false → stands_for (cond b (Take k q) (Step k)) (Thread i take) ≡ false
-other_by true k i q take e = rw e refl
-other_by false k i q take e = rw e refl
+other_by : (most : Option ℕ) (k i : ℕ) (take : Option ℤ) → eqb k i ≡ false → stands_for (choice_up_to k most) (Thread i take) ≡ false
+other_by None k i take e = rw e refl
+other_by (Some most) k i take e = rw e refl
 
 other_thread : (w : World) (k i : ℕ) (take : Option ℤ) (next : Next) → (k ≡ i → ⊥) → any_stands_for (choice_by w k next) (Thread i take) ≡ false
-other_thread w k i take (Ready l) differ = other_by (is_submit l.stmt) k i (length w.queued) take (ne_eqb k i differ)
+other_thread w k i take (Ready l) differ = other_by (most_answer w l.stmt) k i take (ne_eqb k i differ)
 other_thread w k i take (TakenLock wanted) differ = refl
 other_thread w k i take Ended differ = refl
 
@@ -126,7 +198,7 @@ no_completion_by false v most i take = refl
 
 no_completion : (w : World) (k i : ℕ) (take : Option ℤ) (o : Option Pending) → any_stands_for (completion_choice w k o) (Thread i take) ≡ false
 no_completion w k i take None = refl
-no_completion w k i take (Some p) = no_completion_by (is_place k (pending_place w p.request.user_data)) p.request.user_data (most_moved p.request.len p.request.kind) i take
+no_completion w k i take (Some p) = no_completion_by (is_place k (pending_place w p.request.user_data)) p.request.user_data (largest p.request.len p.request.kind) i take
 
 no_pending : (w : World) (i : ℕ) (take : Option ℤ) → any_below (length w.pending) (λ k. any_stands_for (pending_choice w k) (Thread i take)) ≡ false
 no_pending w i take = none_below (length w.pending) (λ k. any_stands_for (pending_choice w k) (Thread i take)) (λ k lt. no_completion w k i take (slice_get w.pending k))
@@ -146,12 +218,12 @@ thread_by w i take p (inr (le, none)) =
 
 -- ---- completions
 
-no_step_by : (b : Bool) (i q u : ℕ) (res : ℤ) → stands_for (cond b (Take i q) (Step i)) (Kernel u res 0) ≡ false
-no_step_by true i q u res = refl
-no_step_by false i q u res = refl
+no_step_by : (most : Option ℕ) (i u : ℕ) (res : ℤ) → stands_for (choice_up_to i most) (Kernel u res 0) ≡ false
+no_step_by None i u res = refl
+no_step_by (Some most) i u res = refl
 
 no_step : (w : World) (i u : ℕ) (res : ℤ) (next : Next) → any_stands_for (choice_by w i next) (Kernel u res 0) ≡ false
-no_step w i u res (Ready l) = no_step_by (is_submit l.stmt) i (length w.queued) u res
+no_step w i u res (Ready l) = no_step_by (most_answer w l.stmt) i u res
 no_step w i u res (TakenLock wanted) = refl
 no_step w i u res Ended = refl
 
@@ -171,14 +243,14 @@ elsewhere_by false v u most res h e = refl
 elsewhere : (w : World) (k u : ℕ) (res : ℤ) (o : Option Pending) → is_place k (pending_place w u) ≡ false → any_stands_for (completion_choice w k o) (Kernel u res 0) ≡ false
 elsewhere w k u res None h = refl
 elsewhere w k u res (Some p) h =
-    elsewhere_by (is_place k (pending_place w p.request.user_data)) p.request.user_data u (most_moved p.request.len p.request.kind) res
+    elsewhere_by (is_place k (pending_place w p.request.user_data)) p.request.user_data u (largest p.request.len p.request.kind) res
     (λ same. ap (λ v. is_place k (pending_place w v)) same ∙ h) (eqb_tells p.request.user_data u)
 
 -- at the place of the user data
 here : (w : World) (j u n : ℕ) (p : Pending) → pending_place w u ≡ Some j → slice_get w.pending j ≡ Some p → p.request.user_data ≡ u → any_stands_for (pending_choice w j) (Kernel u (pos n) 0) ≡ kernel_may (pos n) 0 (slice_get w.pending j)
 here w j u n p place at same =
     let is : is_place j (pending_place w p.request.user_data) ≡ true = ap (λ v. is_place j (pending_place w v)) same ∙ ap (is_place j) place ∙ eq-eqb j j refl in
-    let most = most_moved p.request.len p.request.kind in
+    let most = largest p.request.len p.request.kind in
     ap (λ o. any_stands_for (completion_choice w j o) (Kernel u (pos n) 0)) at
     ∙ here_by (is_place j (pending_place w p.request.user_data)) p.request.user_data u most n is same
     ∙ sym (and_true (leb n most)) ∙ sym (ap (kernel_may (pos n) 0) at)

@@ -1,5 +1,5 @@
 -- What is written of a run.
-use Rattle.std.proofs.Common.{◌≡◌, ℕ, List, [], ◌++◌, Bool, true, false, Result, Ok, Err, add-zero, ap, refl, subst, sym, ◌∙◌}
+use Rattle.std.proofs.Common.{◌≡◌, ℕ, List, [], ◌++◌, Bool, true, false, Option, Result, Ok, Err, add-zero, ap, refl, subst, sym, ◌∙◌}
 use Rattle.std.specs.Prelude.{IfOk, IsErrAnd}
 use Rattle.rc_lang.specs.Program.{Program}
 use Rattle.rc_read.specs.Answer.{answer_of}
@@ -15,8 +15,8 @@ use Rattle.rc_report.specs.declared.script.Script.{Script}
 use Rattle.rc_report.specs.declared.script.Show.{Show}
 use Rattle.rc_report.specs.declared.script.Show.TheVariants as shown
 use Rattle.rc_report.specs.declared.step_engine.Steps.{Steps}
-use Rattle.rc_report.specs.declared.step_engine.Unread.{Unread}
-use Rattle.rc_report.specs.declared.step_engine.Unread.TheVariants.{Text, Schedule}
+use Rattle.rc_report.specs.declared.step_engine.NoSteps.{NoSteps}
+use Rattle.rc_report.specs.declared.step_engine.NoSteps.TheVariants.{Text, Schedule}
 use Rattle.rc_report.specs.Engine.{EndsItems, end_of, items_text, text_of_trace}
 use Rattle.rc_report.specs.Steps.{ReadsSteps}
 use Rattle.rc_report.specs.Streams.{Taken, WritesOr, Wrote}
@@ -103,8 +103,8 @@ ends_items : (program : Program) (read : Result (List Item) ℕ) (items : List I
 ends_items program read items end e is = subst (λ read. EndsItems program read end) (sym e) is
 
 module _ (bytes : List ℕ) (script : Script) (program : Program) (items : List Item) (answer : answer_of bytes ≡ Ok program) (read : script_items program script ≡ Ok items) where
-  pub trace_of_script : (traced : Texts) → traced program (trace_of program items) ≡ script_text traced (answer_of bytes) script
-  trace_of_script traced = sym (ap (λ answer. script_text traced answer script) answer ∙ ap (items_text traced program) read)
+  pub trace_of_script : (file : Option (List ℕ)) (traced : Texts) → traced program (trace_of program items) ≡ script_text file traced (answer_of bytes) script
+  trace_of_script file traced = sym (ap (λ answer. script_text file traced answer script) answer ∙ ap (items_text traced program) read)
 
   pub end_of_script : (end : StepEnd) → end ≡ OfTrace (end_of (trace_of program items).ending) → EndsScript (answer_of bytes) script end
   end_of_script end is = subst (λ answer. EndsScript answer script end) (sym answer) (ends_items program (script_items program script) items end read is)
@@ -115,14 +115,14 @@ module _ (bytes : List ℕ) (script : Script) (program : Program) (items : List 
 pub reads_items : (answer : Result Program (ℕ × ℕ)) (schedule : List ℕ) (steps : Steps) (moved : Moved) → ReadsSteps answer schedule (Ok steps) → moved.steps ≡ steps → ReadsItems (λ program. items_of program schedule) answer (Ok moved)
 reads_items answer schedule steps moved read is = rw is read
 
-pub reads_no_items : (answer : Result Program (ℕ × ℕ)) (schedule : List ℕ) (unread : Unread) → ReadsSteps answer schedule (Err unread) → ReadsItems (λ program. items_of program schedule) answer (Err unread)
+pub reads_no_items : (answer : Result Program (ℕ × ℕ)) (schedule : List ℕ) (unread : NoSteps) → ReadsSteps answer schedule (Err unread) → ReadsItems (λ program. items_of program schedule) answer (Err unread)
 reads_no_items (Ok program) schedule (Text line cause) h = h
 reads_no_items (Ok program) schedule (Schedule i) h = h
 reads_no_items (Err (line, number)) schedule (Text l cause) h = h
 reads_no_items (Err (line, number)) schedule (Schedule i) h = h
 
 -- Those that moves spell are the items of the moves.
-pub reads_moved : (answer : Result Program (ℕ × ℕ)) (moves : List ℕ) (read : Result Moved Unread) → ReadsMoved answer moves read → ReadsItems (λ program. moved_items program moves) answer read
+pub reads_moved : (answer : Result Program (ℕ × ℕ)) (moves : List ℕ) (read : Result Moved NoSteps) → ReadsMoved answer moves read → ReadsItems (λ program. moved_items program moves) answer read
 reads_moved answer moves (Ok moved) h = (h.program, ap (spelled_or moved.steps.program) h.moves ∙ ap (λ items. Ok items) (sym h.items))
 reads_moved (Ok program) moves (Err (Text line cause)) h = h
 reads_moved (Ok program) moves (Err (Schedule i)) h = ap (spelled_or program) h

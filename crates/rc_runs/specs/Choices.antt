@@ -1,19 +1,35 @@
 -- What may be done next in a world, as it is listed for a schedule.
 use Rattle.std.specs.Prelude.{ℕ, Bool, true, false, ◌&&◌, if◌then◌else◌, zero, suc, List, [], ◌++◌, length, Option, Some, None, nat_eq, nat_le, option_to_list, slice_get, ℤ, pos, negsuc}
 use Rattle.std.specs.List.{list_any}
-use Rattle.rc_lang.specs.Requests.{most_moved}
+use Rattle.rc_lang.specs.declared.lines.Op.TheVariants as op
+use Rattle.rc_lang.specs.declared.lines.Stmt.{Stmt}
+use Rattle.rc_lang.specs.declared.lines.Stmt.TheVariants as stmt
+use Rattle.rc_lang.specs.declared.lines.Test.TheVariants as test
+use Rattle.rc_lang.specs.Requests.{largest}
 use Rattle.rc_world.specs.declared.controls.Next.{Next}
 use Rattle.rc_world.specs.declared.controls.Next.TheVariants.{Ready, TakenLock, Ended}
 use Rattle.rc_world.specs.declared.event.Item.{Item}
 use Rattle.rc_world.specs.declared.event.Item.TheVariants.{Thread, Kernel}
-use Rattle.rc_world.specs.Items.{is_submit, next_of, pending_place}
+use Rattle.rc_world.specs.Items.{next_of, pending_place}
 use Rattle.rc_world.specs.Machine.{Pending, World}
 use Rattle.rc_runs.specs.declared.choices.Choice.{Choice}
 use Rattle.rc_runs.specs.declared.choices.Choice.TheVariants.{Step, Take, Complete}
 
+-- The largest answer that an item may give a statement, if it may give one: a submit takes up to what is queued, and an
+-- `if any` goes to its second branch by 0 and into its first by 1.
+abbrev pub most_answer : World → Stmt → Option ℕ
+most_answer w (stmt.Do (op.Submit x)) = Some (length w.queued)
+most_answer w (stmt.Do (op.SubmitAndWait x n)) = Some (length w.queued)
+most_answer w (stmt.If test.Any) = Some 1
+most_answer w _ = None
+
 -- the choice of a thread that has this next
+abbrev pub choice_up_to : ℕ → Option ℕ → Choice
+choice_up_to i None = Step i
+choice_up_to i (Some most) = Take i most
+
 abbrev pub choice_by : World → ℕ → Next → Option Choice
-choice_by w i (Ready l) = Some (if is_submit l.stmt then Take i (length w.queued) else Step i)
+choice_by w i (Ready l) = Some (choice_up_to i (most_answer w l.stmt))
 choice_by w i (TakenLock wanted) = None
 choice_by w i Ended = None
 
@@ -28,7 +44,7 @@ is_place k (Some j) = nat_eq j k
 abbrev pub completion_choice : World → ℕ → Option Pending → Option Choice
 completion_choice w k None = None
 completion_choice w k (Some p) =
-    if is_place k (pending_place w p.request.user_data) then Some (Complete p.request.user_data (most_moved p.request.len p.request.kind)) else None
+    if is_place k (pending_place w p.request.user_data) then Some (Complete p.request.user_data (largest p.request.len p.request.kind)) else None
 
 abbrev pub pending_choice : World → ℕ → Option Choice
 pending_choice w k = completion_choice w k (slice_get w.pending k)

@@ -9,7 +9,8 @@ use Rattle.rc_report.specs.declared.verdict.Verdict.{Verdict}
 use Rattle.rc_report.specs.declared.verdict.Verdict.TheVariants.{Refused}
 use Rattle.rc_report.specs.Checks.{IsVerdict}
 use Rattle.rc_report.specs.Shown.{shown}
-use Rattle.rc_report.specs.Verdicts.{Finding, file_member, finding, verdict_text}
+use Rattle.rc_report.specs.Files.{printed}
+use Rattle.rc_report.specs.Verdicts.{Finding, file_member, finding}
 use Rattle.rc_runs.specs.declared.find.Found.{Found}
 use Rattle.rc_runs.specs.declared.find.Searched.{Searched}
 use Rattle.rc_runs.specs.declared.harm.Harm.{Harm}
@@ -63,8 +64,8 @@ abbrev pub searched_text : Option Searched → List ℕ
 searched_text None = []
 searched_text (Some s) = search_text s.search
 
-abbrev pub found_text : Found → List ℕ
-found_text f = verdict_text f.verdict ++ searched_text f.searched
+abbrev pub found_text : Option (List ℕ) → Found → List ℕ
+found_text file f = printed file false f.verdict ++ searched_text f.searched
 
 -- ---- as JSON: one object, its keys in order
 

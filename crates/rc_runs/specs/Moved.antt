@@ -2,8 +2,8 @@
 use Rattle.std.specs.Prelude.{ℕ, ◌≡◌, List, Result, Ok, Err}
 use Rattle.rc_lang.specs.Program.{Program}
 use Rattle.rc_read.specs.Causes.{number_of_cause}
-use Rattle.rc_report.specs.declared.step_engine.Unread.{Unread}
-use Rattle.rc_report.specs.declared.step_engine.Unread.TheVariants.{Text, Schedule}
+use Rattle.rc_report.specs.declared.step_engine.NoSteps.{NoSteps}
+use Rattle.rc_report.specs.declared.step_engine.NoSteps.TheVariants.{Text, Schedule}
 use Rattle.rc_world.specs.declared.event.Item.{Item}
 use Rattle.rc_runs.specs.declared.moves.Move.{Move}
 use Rattle.rc_runs.specs.declared.steps.Moved.{Moved}
@@ -11,7 +11,7 @@ use Rattle.rc_runs.specs.Moves.{moves_of}
 use Rattle.rc_runs.specs.Spelling.{counts_of, schedule_of}
 
 -- This can't be read, of the model or of the moves.
-abbrev pub IsUnread : Result Program (ℕ × ℕ) → List ℕ → Unread → Type 0
+abbrev pub IsUnread : Result Program (ℕ × ℕ) → List ℕ → NoSteps → Type 0
 IsUnread (Ok program) text (Text line cause) = ⊥
 IsUnread (Ok program) text (Schedule i) = moves_of program text ≡ Err i
 IsUnread (Err (line, number)) text (Text l cause) = (l ≡ line) × (number_of_cause cause ≡ number)
@@ -24,7 +24,7 @@ pub record IsMoved (answer : Result Program (ℕ × ℕ)) (text : List ℕ) (mov
   pub items : moved.steps.items.items ≡ schedule_of moved.steps.program moved.moves.items
   pub counts : moved.counts.items ≡ counts_of moved.steps.program moved.moves.items
 
-abbrev pub ReadsMoved : Result Program (ℕ × ℕ) → List ℕ → Result Moved Unread → Type 0
+abbrev pub ReadsMoved : Result Program (ℕ × ℕ) → List ℕ → Result Moved NoSteps → Type 0
 ReadsMoved answer text (Ok moved) = IsMoved answer text moved
 ReadsMoved answer text (Err unread) = IsUnread answer text unread
 

@@ -1,6 +1,6 @@
 -- What a program that is stepped is answered with: the trace of its run, with the world in which it ends or without, or its
 -- picture.
-use Rattle.std.specs.Prelude.{ℕ, ◌≡◌, IfOk, List, ◌++◌, Result}
+use Rattle.std.specs.Prelude.{ℕ, ◌≡◌, IfOk, List, ◌++◌, Option, Result}
 use Rattle.rc_lang.specs.Program.{Program}
 use Rattle.rc_read.specs.Answer.{answer_of}
 use Rattle.rc_report.specs.declared.engine_fault.EngineFault.{EngineFault}
@@ -32,9 +32,9 @@ OfShown shown.State holds = (after : List ℕ) × holds (trace_before after)
 OfShown (shown.Picture from) holds = (drawn : List ℕ) × holds (in_place drawn)
 
 -- The text for the items that the script names is written, and the answer says which.
-abbrev pub AnswersScript : {S : Type 0} → (Program → Trace → List ℕ) → List ℕ → Script → (S → Taken) → S → S → Result StepEnd EngineFault → Type 0
-AnswersScript traced text script taken old new r =
-    WritesOrGrows taken old new (script_text traced (answer_of text) script) r × IfOk r (EndsScript (answer_of text) script)
+abbrev pub AnswersScript : {S : Type 0} → Option (List ℕ) → (Program → Trace → List ℕ) → List ℕ → Script → (S → Taken) → S → S → Result StepEnd EngineFault → Type 0
+AnswersScript file traced text script taken old new r =
+    WritesOrGrows taken old new (script_text file traced (answer_of text) script) r × IfOk r (EndsScript (answer_of text) script)
 
 -- The text for this trace is written, and the answer is its end.
 abbrev pub AnswersTrace : {S : Type 0} → (Program → Trace → List ℕ) → Program → Trace → (S → Taken) → S → S → Result StepEnd EngineFault → Type 0

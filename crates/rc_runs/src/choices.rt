@@ -5,13 +5,13 @@ ghost use Rattle.rc_runs.specs.Choices as spec;
 ghost use Rattle.rc_runs.specs.Choices.{choices_below, choices_in};
 ghost use Rattle.rc_runs.specs.Laws.{AreEnabled};
 
-use rc_lang::lines::{Op, Stmt};
+use rc_lang::lines::{Op, Stmt, Test};
 use rc_lang::program::Program;
 use rc_text::names::thread_name;
 use rc_text::text::{put_counted, put_number, put_piece, put_pieces};
 use rc_world::controls::Next;
 use rc_world::world::World;
-use rc_world::world::requests::most_moved;
+use rc_world::world::requests::largest;
 use std::alloc::{AllocError, Global};
 
 /// What may be chosen next in a world.
@@ -19,7 +19,7 @@ use std::alloc::{AllocError, Global};
 pub enum Choice {
     /// A step of the thread with this number.
     Step(u32),
-    /// A submit of a thread, which takes up to so many entries.
+    /// A submit of a thread, which takes up to so many entries, or an `if any`: 0 is no, 1 is yes.
     Take { thread: u32, most: u64 },
     /// The completion of the request with this user data by a result up to a number.
     Complete { user_data: u64, most: u32 },
@@ -74,6 +74,7 @@ fn thread_choice(world: &World<'_>, thread: u32) -> Option<Choice>
             thread,
             most: world.queued().len() as u64,
         }),
+        Stmt::If(Test::Any) => Some(Choice::Take { thread, most: 1 }),
         _ => Some(Choice::Step(thread)),
     }
 }
@@ -88,7 +89,7 @@ fn pending_choice(world: &World<'_>, place: usize) -> Option<Choice>
     }
     Some(Choice::Complete {
         user_data: request.user_data,
-        most: most_moved(request),
+        most: largest(request),
     })
 }
 

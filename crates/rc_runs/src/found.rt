@@ -11,7 +11,7 @@ use crate::harm::Harm;
 use crate::search::Search;
 use rc_picture::drawing::put_picture;
 use rc_report::shown::put_shown;
-use rc_report::verdict::{Finding, put_verdict};
+use rc_report::verdict::{Finding, print_verdict};
 use rc_text::text::{put_counted, put_piece};
 use rc_world::world::World;
 use serde_json::{Value, json};
@@ -25,12 +25,17 @@ struct RunValues {
     walk: Value,
 }
 
-/// Adds what was found in words: the verdict, and of a refused model the moves and the trace of the run, or that there is
-/// none.
-pub fn put_found(text: &mut Vec<u8>, found: &Found) -> Result<(), AllocError>
-    ensures { Puts text.old text.new (found_text found.now) result }
+/// Adds what was found, in words: the verdict, with the file's name if there is one, and for a refused model the run's moves
+/// and trace, or a line that says that no run was found.
+pub fn put_found(
+    text: &mut Vec<u8>,
+    alloc: Global,
+    file: Option<&str>,
+    found: &Found,
+) -> Result<(), AllocError>
+    ensures { Puts text.old text.new (found_text (named file.entry) found.now) result }
 {
-    put_verdict(text, &found.verdict)?;
+    print_verdict(text, alloc, file, false, &found.verdict)?;
     match &found.searched {
         Some(searched) => put_search(text, &searched.search),
         None => Ok(()),
@@ -182,14 +187,15 @@ pub fn put_found_picture(
     answer: &mut Vec<u8>,
     notes: &mut Vec<u8>,
     alloc: Global,
+    file: Option<&str>,
     bytes: &[u8],
     found: &Found,
 ) -> Result<(), AllocError> {
     let Some(Searched { program, search }) = &found.searched else {
-        return put_found(answer, found);
+        return put_found(answer, alloc, file, found);
     };
     let Some(harm) = &search.harm else {
-        return put_found(answer, found);
+        return put_found(answer, alloc, file, found);
     };
     put_heading(notes, search.walks, harm)?;
     let mut world = World::start(alloc, program)?;

@@ -6,7 +6,7 @@ use crate::steps::Moved;
 use crate::why::{Reason, reason_of};
 use rc_lang::program::Program;
 use rc_report::script::Script;
-use rc_report::step_engine::Unread;
+use rc_report::step_engine::NoSteps;
 use rc_report::trace::End;
 use rc_text::names::{side_of, thread_name};
 use rc_text::text::{put_counted, put_number, put_piece, put_pieces, put_signed};
@@ -110,9 +110,9 @@ fn put_most(
 pub fn put_of_unread(
     notes: &mut Vec<u8>,
     script: &Script<'_>,
-    unread: Unread,
+    unread: NoSteps,
 ) -> Result<(), AllocError> {
-    let Unread::Schedule(number) = unread else {
+    let NoSteps::Schedule(number) = unread else {
         return Ok(());
     };
     match script {
@@ -246,6 +246,9 @@ fn put_reason(text: &mut Vec<u8>, program: &Program, reason: Reason) -> Result<(
         }
         Reason::Ended(thread) => put_pieces(text, &[thread_name(program, thread), b" has ended"]),
         Reason::NoSubmit(line) => put_counted(text, b"line ", u64::from(line), b" is no submit"),
+        Reason::NoChoice(line) => {
+            put_counted(text, b"line ", u64::from(line), b" is answered by 0 or 1")
+        }
         Reason::TooMany(queued) => put_counted(text, b"the queue has only ", queued, b""),
         Reason::NoErrno(answer) => {
             put_signed(text, i64::from(answer))?;

@@ -4,7 +4,7 @@ ghost use Rattle.std.specs.Prelude.{◌≡◌, ◌<◌, ◌≤◌};
 
 use rc_device::chooser::{Chooser, Seeded};
 use rc_lang::request::Request;
-use rc_world::world::requests::{may_complete, most_moved};
+use rc_world::world::requests::{largest, may_complete};
 
 /// How many more steps a thread makes before another may move.
 const STAYS: [u32; 5] = [0, 2, 5, 10, 20];
@@ -82,7 +82,7 @@ impl Random {
     pub fn result(&mut self, request: Request) -> i32 {
         match self.compared() {
             Some(number) if may_complete(request, number) => number,
-            _ => self.moved(most_moved(request).min(MOST_MOVED)),
+            _ => self.moved(largest(request).min(MOST_MOVED)),
         }
     }
 

@@ -6,7 +6,7 @@ use rc_lang::request::Request;
 use rc_world::event::Item;
 use rc_world::fault::Fault;
 use rc_world::world::World;
-use rc_world::world::requests::most_moved;
+use rc_world::world::requests::largest;
 use std::alloc::{AllocError, Global};
 
 /// How many bytes a request moves at most.
@@ -57,7 +57,8 @@ fn line_of(world: &World<'_>, item: Item) -> u32 {
     }
 }
 
-/// An item with nothing odd: a submit that takes all that is queued, and a completion of all bytes.
+/// An item with nothing odd: a submit that takes all that is queued, an `if any` that says yes, and a completion of all
+/// bytes.
 fn plain_form(world: &World<'_>, item: Item) -> Item {
     match item {
         Item::Thread { thread, .. } => Item::Thread { thread, take: None },
@@ -72,7 +73,7 @@ fn plain_form(world: &World<'_>, item: Item) -> Item {
 /// The result of the pending request with this user data where all its bytes are moved.
 fn whole_result(world: &World<'_>, user_data: u64) -> i32 {
     match request_of(world, user_data) {
-        Some(request) => most_moved(request).min(MOST_MOVED) as i32,
+        Some(request) => largest(request).min(MOST_MOVED) as i32,
         None => 0,
     }
 }

@@ -51,6 +51,7 @@ fn put_request(
 fn put_kind(text: &mut Vec<u8>, program: &Program, request: Request) -> Result<(), AllocError> {
     match request.kind {
         Kind::Nop => put_piece(text, b"nop\n"),
+        Kind::Other => put_piece(text, b"other\n"),
         Kind::Fsync => put_piece(text, b"fsync\n"),
         Kind::Read => put_moved(text, b"read ", program, request),
         Kind::Write => put_moved(text, b"write ", program, request),

@@ -10,7 +10,7 @@ use crate::moves::{Move, read_moves};
 use crate::spelling::spell;
 use rc_read::{ReadFault, read_program};
 use rc_report::script::Script;
-use rc_report::step_engine::{Steps, Unread, read_steps};
+use rc_report::step_engine::{NoSteps, Steps, read_steps};
 use rc_world::schedule::ScheduleFault;
 use std::alloc::{AllocError, Global};
 
@@ -27,7 +27,7 @@ pub fn read_script(
     alloc: Global,
     text: &[u8],
     script: &Script<'_>,
-) -> Result<Result<Moved, Unread>, AllocError>
+) -> Result<Result<Moved, NoSteps>, AllocError>
     ensures { IfOk result (ReadsScript (answer_of text.now) script.now) }
 {
     match script {
@@ -41,7 +41,7 @@ fn read_items(
     alloc: Global,
     text: &[u8],
     schedule: &str,
-) -> Result<Result<Moved, Unread>, AllocError>
+) -> Result<Result<Moved, NoSteps>, AllocError>
     ensures { IfOk result (ReadsItems (λ program. items_of program schedule.now) (answer_of text.now)) }
 {
     let read = read_steps(alloc, text, schedule)?;
@@ -60,17 +60,17 @@ pub fn read_moved(
     alloc: Global,
     text: &[u8],
     moves: &[u8],
-) -> Result<Result<Moved, Unread>, AllocError>
+) -> Result<Result<Moved, NoSteps>, AllocError>
     ensures { IfOk result (ReadsMoved (answer_of text.now) moves.now) }
 {
     let program = match read_program(alloc, text) {
         Ok(program) => program,
-        Err(ReadFault::Text { line, cause }) => return Ok(Err(Unread::Text { line, cause })),
+        Err(ReadFault::Text { line, cause }) => return Ok(Err(NoSteps::Text { line, cause })),
         Err(ReadFault::OutOfMemory) => return Err(AllocError),
     };
     let moves = match read_moves(alloc, &program, moves) {
         Ok(moves) => moves,
-        Err(ScheduleFault::Unreadable(piece)) => return Ok(Err(Unread::Schedule(piece))),
+        Err(ScheduleFault::Unreadable(piece)) => return Ok(Err(NoSteps::Schedule(piece))),
         Err(ScheduleFault::OutOfMemory) => return Err(AllocError),
     };
     let spelled = spell(alloc, &program, &moves)?;

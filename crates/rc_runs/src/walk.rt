@@ -4,9 +4,8 @@ ghost use Rattle.std.specs.Prelude.{◌≤◌};
 
 use crate::random::Random;
 use crate::step::{Step, make};
-use rc_lang::lines::{Line, Op, Stmt};
+use rc_lang::lines::{Line, Op, Stmt, Test};
 use rc_lang::program::Program;
-use rc_world::controls::Next;
 use rc_world::event::Item;
 use rc_world::fault::Fault;
 use rc_world::world::World;
@@ -151,9 +150,9 @@ fn next_item(world: &World<'_>, random: &mut Random, turn: &mut Turn) -> Option<
 }
 
 /// The line of the thread that moves next, if one can.
-fn next_line(world: &World<'_>, random: &mut Random, turn: &mut Turn) -> Option<Line> {
+fn next_line<'w>(world: &'w World<'_>, random: &mut Random, turn: &mut Turn) -> Option<&'w Line> {
     if turn.stay > 0
-        && let Next::Ready(line) = world.next(turn.thread)
+        && let Some(line) = ready_line(world, turn.thread)
     {
         turn.stay -= 1;
         return Some(line);
@@ -165,7 +164,7 @@ fn next_line(world: &World<'_>, random: &mut Random, turn: &mut Turn) -> Option<
     let first = random.place(count);
     for place in first..first + count {
         let thread = (place % count) as u32;
-        if let Next::Ready(line) = world.next(thread) {
+        if let Some(line) = ready_line(world, thread) {
             let stay = random.stay();
             *turn = Turn { thread, stay };
             return Some(line);
@@ -174,10 +173,21 @@ fn next_line(world: &World<'_>, random: &mut Random, turn: &mut Turn) -> Option<
     None
 }
 
-/// What the statement of a thread is answered, where it is a submit that doesn't take all.
-fn answer(world: &World<'_>, random: &mut Random, line: Line) -> Option<i32> {
+/// The line that a thread has next, unless it waits for a lock. It isn't copied, since most callers look at its kind alone.
+fn ready_line<'w>(world: &'w World<'_>, thread: u32) -> Option<&'w Line> {
+    let part = world.program().threads().get(thread as usize)?;
+    let line = part.lines.get(world.place(thread)?)?;
+    match line.stmt {
+        Stmt::Lock(wanted) if !world.holders().are_free(wanted) => None,
+        _ => Some(line),
+    }
+}
+
+/// What the statement of a thread is answered, where it is a submit that doesn't take all, or an `if any` that says no.
+fn answer(world: &World<'_>, random: &mut Random, line: &Line) -> Option<i32> {
     match line.stmt {
         Stmt::Do(Op::Submit(_) | Op::SubmitAndWait(_, _)) => random.take(world.queued().len()),
+        Stmt::If(Test::Any) => (random.place(2) == 0).then_some(0),
         _ => None,
     }
 }

@@ -7,11 +7,11 @@ ghost use Rattle.rc_world.specs.declared.event.Item.TheVariants as items;
 ghost use Rattle.rc_world.specs.Faults.{is_holder};
 ghost use Rattle.rc_world.specs.Items.{next_of};
 
-use rc_lang::lines::{Line, Locks, Op, Stmt};
+use rc_lang::lines::{Line, Locks, Op, Stmt, Test};
 use rc_world::controls::{Holders, Next};
 use rc_world::event::Item;
 use rc_world::world::World;
-use rc_world::world::requests::{is_read, may_complete, most_moved};
+use rc_world::world::requests::{is_read, largest, may_complete};
 
 /// Why an item isn't enabled in a world.
 #[derive(Clone, Copy)]
@@ -20,8 +20,10 @@ pub enum Reason {
     LockTaken { holder: u32, taken: Locks },
     /// The thread with this number has ended, or the program has no such thread.
     Ended(u32),
-    /// The item has an answer, and the next line of its thread, with this number, is no submit.
+    /// The item has an answer, and the next line of its thread, with this number, is neither a submit nor an `if any`.
     NoSubmit(u32),
+    /// The answer is neither 0 nor 1, and the next line of the thread, with this number, is an `if any`.
+    NoChoice(u32),
     /// The submit can't take so many: so many entries are queued.
     TooMany(u64),
     /// No submit and no request answers this number, below -4095 (`io_uring_submit(3)`, `io_uring_enter(2)`).
@@ -99,6 +101,10 @@ fn take_reason(world: &World<'_>, line: Line, taken: i32) -> Option<Reason>
             Ok(count) => (count > queued).then_some(Reason::TooMany(queued as u64)),
             Err(_) => (taken < -4095).then_some(Reason::NoErrno(taken)),
         },
+        Stmt::If(Test::Any) => match taken {
+            0 | 1 => None,
+            _ => Some(Reason::NoChoice(line.number)),
+        },
         _ => Some(Reason::NoSubmit(line.number)),
     }
 }
@@ -118,7 +124,7 @@ fn kernel_reason(world: &World<'_>, user_data: u64, res: i32, fill: u8) -> Optio
     if !may_complete(request, res) {
         return Some(Reason::TooManyBytes {
             user_data,
-            most: most_moved(request),
+            most: largest(request),
         });
     }
     (fill != 0 && !is_read(request.kind)).then_some(Reason::NoRead(user_data))

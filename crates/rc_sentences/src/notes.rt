@@ -4,11 +4,14 @@ use crate::parts::put_part;
 use crate::puts::{Puts, count_of, with_count};
 use rc_lang::lines::{Stmt, Test};
 use rc_lang::program::{Program, Thread};
-use rc_read::source::{Lines, opening_words};
+use rc_read::source::{Lines, put_line_words};
 use rc_split::part::Part;
 use rc_text::names::pool_name;
 use rc_text::text::{put_counted, put_piece, put_pieces};
 use std::alloc::{AllocError, Global};
+
+/// How many bytes most notes have at most.
+const MOST_BYTES: usize = 128;
 
 /// A part that is taken from a pool, and how many of it all lines of the program put there, which are fewer.
 #[derive(Clone, Copy)]
@@ -75,11 +78,12 @@ fn push_note(
     number: u32,
     shortage: Shortage,
 ) -> Result<(), AllocError> {
-    let alloc = *notes.allocator();
-    let mut text = Vec::new(alloc);
-    let words = opening_words(alloc, lines, number)?;
+    let mut text = Vec::with_capacity(*notes.allocator(), MOST_BYTES)?;
     put_counted(&mut text, b"line ", u64::from(number), b", ")?;
-    put_pieces(&mut text, &[&words, b": "])?;
+    put_line_words(&mut text, lines, number)?;
+    // The line ends with a blank and a brace.
+    text.truncate(text.len().saturating_sub(2));
+    put_piece(&mut text, b": ")?;
     put_shortage(&mut text, puts, shortage)?;
     put_piece(&mut text, b", so its first branch is never taken")?;
     Ok(notes.push(Note { line: number, text })?)

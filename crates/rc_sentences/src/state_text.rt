@@ -77,6 +77,7 @@ pub fn put_kind(text: &mut Vec<u8>, program: &Program, kind: TokenKind) -> Resul
         TokenKind::Write(buffer, count) => put_write(text, program, buffer, count),
         TokenKind::Fsync => put_piece(text, b"fsync"),
         TokenKind::Nop => put_piece(text, b"nop"),
+        TokenKind::Other => put_piece(text, b"other"),
     }
 }
 

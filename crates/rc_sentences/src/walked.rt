@@ -47,6 +47,29 @@ pub fn walk(alloc: Global, program: &Program, number: u32) -> Result<Walked<'_>,
     })
 }
 
+/// Of each line of a thread whether something reaches it, up to the first that is refused, that line included. Not
+/// inlined, as `walk`.
+#[inline(never)]
+pub fn reached_lines(alloc: Global, program: &Program, number: u32) -> Result<Vec<bool>, AllocError>
+    requires { number < length program.now.threads }
+{
+    let mut labels = Labels::new(program, number);
+    let thread = labels.thread();
+    let mut reached = Vec::with_capacity(alloc, thread.lines.len())?;
+    for _ in &thread.lines {
+        reached.push(is_reached(labels.state()))?;
+        if !matches!(labels.next(), Ok(true)) {
+            break;
+        }
+    }
+    Ok(reached)
+}
+
+/// Whether something reaches a line before which this is known.
+pub fn is_reached(state: &State<'_>) -> bool {
+    state.on(true).is_live() || state.on(false).is_live()
+}
+
 /// A refused line: its thread, walked up to it, and its place there.
 #[derive(Clone, Copy)]
 pub struct Refused<'a> {

@@ -101,7 +101,7 @@ impl Course {
         let request = self.request?;
         match request.kind {
             Kind::Read | Kind::Write => Some(request.buffer as usize),
-            Kind::Fsync | Kind::Nop => None,
+            Kind::Fsync | Kind::Nop | Kind::Other => None,
         }
     }
 
@@ -120,6 +120,7 @@ impl Course {
             Kind::Write => b"write",
             Kind::Fsync => b"fsync",
             Kind::Nop => b"nop",
+            Kind::Other => b"other",
         }
     }
 
@@ -186,6 +187,7 @@ fn mark_of(event: Event) -> (Option<Stage>, u64) {
         Action::EntryOpened => (Some(Stage::Opened), 0),
         Action::ReadPrepared | Action::WritePrepared => (Some(Stage::Prepared), 0),
         Action::FsyncPrepared | Action::NopPrepared => (Some(Stage::Prepared), 0),
+        Action::OtherPrepared => (Some(Stage::Prepared), 0),
         Action::DataSet(user_data) => (Some(Stage::Queued), user_data),
         Action::Reaped(user_data) => (Some(Stage::Reaped), user_data),
         _ => (None, 0),

@@ -129,6 +129,7 @@ pub fn call_of(op: Op) -> &'static [u8] {
         Op::PrepWrite(_, _, _, _, _) => b"prep_write",
         Op::PrepFsync(_, _) => b"prep_fsync",
         Op::PrepNop => b"prep_nop",
+        Op::PrepOther => b"prep_other",
         Op::SetData64(_) => b"set_data64",
         Op::Submit(_) => b"submit",
         Op::SubmitAndWait(_, _) => b"submit_and_wait",

@@ -18,9 +18,9 @@ syntax keyword ringcheckThread thread holds
 syntax keyword ringcheckBlock lock peek_cqe
 syntax keyword ringcheckSide sq cq
 syntax keyword ringcheckArm case other none
-syntax keyword ringcheckBranch if else
+syntax keyword ringcheckBranch if else any
 syntax keyword ringcheckLoop loop keeps when break
-syntax keyword ringcheckCall get_sqe prep_read prep_write prep_fsync prep_nop set_data64
+syntax keyword ringcheckCall get_sqe prep_read prep_write prep_fsync prep_nop prep_other set_data64
 syntax keyword ringcheckCall submit submit_and_wait cqe_seen sq_ready sq_space_left
 syntax keyword ringcheckPool put take
 syntax keyword ringcheckByte load store fill print

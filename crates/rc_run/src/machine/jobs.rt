@@ -42,6 +42,7 @@ impl Machine {
         match pending.request.kind {
             Kind::Nop => Ok(Vec::new(alloc)),
             Kind::Fsync => Ok(Vec::new(alloc)),
+            Kind::Other => Ok(Vec::new(alloc)),
             Kind::Read => copy_of(alloc, &pending.bytes),
             Kind::Write => match self.buffers.get(pending.request.buffer as usize) {
                 Some(bytes) => copy_of(alloc, bytes),

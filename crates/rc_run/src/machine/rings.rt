@@ -76,7 +76,8 @@ impl Machine {
                 self.ring.prepare_write(fd as i32, buffer as u32, len, off);
             }
             Op::PrepFsync(fd, datasync) => self.ring.prepare_fsync(fd as i32, datasync),
-            Op::PrepNop => self.ring.prepare_nop(),
+            Op::PrepNop => self.ring.prepare_nop(false),
+            Op::PrepOther => self.ring.prepare_nop(true),
             Op::SetData64(user_data) => self.ring.queue(user_data)?,
             Op::Submit(_) | Op::SubmitAndWait(_, _) => self.hand_over(taken)?,
             Op::CqeSeen => self.reap(),

@@ -83,8 +83,25 @@ fn wait<D: Device, C, L: Ledger + RunConfig, R: Wait>(
     runs_again.wait_while(rt, guard, |scheduler| scheduler.waits(thread));
 }
 
-// What a submit is to take, of so many queued entries: at most all, or -11 (EAGAIN).
+// What a turn is to take: at a free choice 1 for the first branch or 0 for the second, else what a submit takes of so many
+// queued entries.
 fn draw_take<D: Device, C: Chooser, L: Ledger + RunConfig, R: Wait>(
+    rt: &R,
+    shared: &Shared<D, C, L>,
+    step: Step,
+    queued: u32,
+) -> i32
+    requires { queued ≤ 1024 }
+    ensures { negsuc 4094 ≤ℤ result }
+{
+    match step {
+        Step::Choose => draw(rt, shared, 2) as i32,
+        _ => draw_submit(rt, shared, queued),
+    }
+}
+
+// What a submit is to take, of so many queued entries: at most all, or -11 (EAGAIN).
+fn draw_submit<D: Device, C: Chooser, L: Ledger + RunConfig, R: Wait>(
     rt: &R,
     shared: &Shared<D, C, L>,
     queued: u32,
@@ -106,8 +123,8 @@ fn take_turn<D: Device, C: Chooser, L: Ledger + RunConfig, R: Wait>(
 ) -> (Option<Turn>, Pause) {
     let mut guard = shared.hold(rt);
     let queued = guard.run().live().queued();
-    let take = draw_take(rt, shared, queued);
     let step = Step::of(guard.run().live().next(thread));
+    let take = draw_take(rt, shared, step, queued);
     let (made, mut next) = guard.turn(thread, take, mine);
     let Some(turn) = made else {
         return (None, Pause::None);
@@ -148,6 +165,8 @@ fn workers_after<D: Device, L: Ledger + RunConfig>(run: &LockedRun<D, L>, turn: 
 enum Step {
     // It asks a pool for items.
     Take,
+    // It takes either branch of a free choice.
+    Choose,
     // It returns to the top of a loop.
     Return,
     Other,
@@ -158,6 +177,7 @@ impl Step {
         match next {
             Next::Ready(line) => match line.stmt {
                 Stmt::If(Test::Take(_, _)) => Step::Take,
+                Stmt::If(Test::Any) => Step::Choose,
                 Stmt::EndLoop(_, _) => Step::Return,
                 _ => Step::Other,
             },
@@ -269,7 +289,8 @@ impl Round {
     }
 }
 
-// Whether an event is a look that finds nothing.
+// Whether an event is a look that finds nothing. A free choice isn't: nothing that a thread could wait for changes what
+// comes of the next one.
 fn is_vain(action: Action, step: Step) -> bool {
     match action {
         Action::PeekedNone => true,

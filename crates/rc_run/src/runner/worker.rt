@@ -40,19 +40,19 @@ pub fn work<D: Device, C: Chooser, L: Ledger + RunConfig, R: Wait>(
     mine
 }
 
-// What a device is granted for a request of this length: to move as much, or less, or to fail with -5 (EIO).
+// Draws the grant for a request whose largest result is this: mostly that result, else a smaller one or -5 (EIO).
 fn draw_grant<D: Device, C: Chooser, L: Ledger + RunConfig, R: Wait>(
     rt: &R,
     shared: &Shared<D, C, L>,
-    len: u32,
+    largest: u32,
 ) -> i32
-    requires { len ≤ 4096 }
-    ensures { (result ≡ negsuc 4) ⊎ ((pos 0 ≤ℤ result) × (result ≤ℤ pos len)) }
+    requires { largest ≤ 4096 }
+    ensures { (result ≡ negsuc 4) ⊎ ((pos 0 ≤ℤ result) × (result ≤ℤ pos largest)) }
 {
     match draw(rt, shared, 8) {
         0 => -5,
-        1 => draw(rt, shared, len + 1) as i32,
-        _ => len as i32,
+        1 => draw(rt, shared, largest + 1) as i32,
+        _ => largest as i32,
     }
 }
 
@@ -73,7 +73,7 @@ fn served<D: Device, C: Chooser, L: Ledger + RunConfig, R: Wait>(
     if job.starved() {
         return (job, -12);
     }
-    let grant = draw_grant(rt, shared, job.request().len);
+    let grant = draw_grant(rt, shared, job.largest());
     let (request, mut bytes) = job.into_parts();
     let res = shared
         .device

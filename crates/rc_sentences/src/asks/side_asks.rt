@@ -193,7 +193,8 @@ fn put_lock(text: &mut Vec<u8>, program: &Program, side: &[u8]) -> Result<(), Al
     put_pieces(text, &[b"asks for the lock", side, b"; it isn't held"])
 }
 
-/// Adds how many entries may be queued, and from version 4 on how many tokens may be those of queued requests.
+/// Adds how many entries may be queued, from version 4 on how many tokens may be those of queued requests, and from version
+/// 5 on how many credits may be theirs.
 fn put_room(text: &mut Vec<u8>, side: &Side) -> Result<(), AllocError> {
     let program = side.program();
     let queued = u64::from(sq_on(side).queued);
@@ -202,7 +203,25 @@ fn put_room(text: &mut Vec<u8>, side: &Side) -> Result<(), AllocError> {
     if program.version() < 4 {
         return Ok(());
     }
-    put_out(text, program, side.lacking())
+    put_out(text, program, side.lacking())?;
+    if program.version() < 5 {
+        return Ok(());
+    }
+    put_credits_out(text, program.entries(), side.credits_out())
+}
+
+/// Adds how few credits may be out where the ring has room for certain, and how many are.
+fn put_credits_out(text: &mut Vec<u8>, entries: u32, out: u32) -> Result<(), AllocError> {
+    match entries {
+        1 => put_piece(text, b", or no credit")?,
+        entries => put_counted(text, b", or fewer than ", u64::from(entries), b" credits")?,
+    }
+    let credits: &[u8] = if out == 1 {
+        b" credit is"
+    } else {
+        b" credits are"
+    };
+    put_counted(text, b"; ", u64::from(out), credits)
 }
 
 /// Adds how many tokens aren't held, and how few may be so where the ring has room for certain.

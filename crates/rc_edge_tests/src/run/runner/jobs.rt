@@ -129,6 +129,7 @@ impl Device for Recorder {
         match request.kind {
             Kind::Nop => {}
             Kind::Fsync => {}
+            Kind::Other => {}
             Kind::Read => show(moved, record(65, request), self.written),
             Kind::Write => {
                 self.written = record(moved.get(2).copied().unwrap_or(0), request);
@@ -154,6 +155,77 @@ fn a_device_is_handed_the_request_and_its_bytes(rt: HostRuntime) -> Result<(), F
             .ok()
             .ok_or("ends")?;
         assert_eq!(rt; prints(alloc, &report.history)?.as_slice(), printed);
+    }
+    Ok(())
+}
+
+/// A thread prints which branch of a free choice it took, and what came of a request without a buffer.
+const CHOICE: &str = "ringcheck 5
+ring 1 left 1
+token 4 other
+thread t0 holds t:4 c:1 {
+lock {
+get_sqe
+prep_other
+set_data64 4
+loop keeps q:1 {
+r = submit
+if sq_ready == 0 {
+break
+}
+}
+}
+if any {
+x = 1
+} else {
+x = 2
+}
+print x
+loop keeps {
+lock {
+peek_cqe r {
+case 4 {
+cqe_seen
+print r
+break
+}
+other {
+}
+none {
+}
+}
+}
+}
+}
+";
+
+/// Picks this one of two, and the last but one of more.
+#[derive(Drop)]
+struct OfTwo(u32);
+
+impl Chooser for OfTwo {
+    fn pick(&mut self, n: u32) -> u32 {
+        if n == 2 {
+            self.0.min(1)
+        } else {
+            n.saturating_sub(2)
+        }
+    }
+}
+
+#[test]
+fn a_free_choice_and_the_result_of_any_request_are_chosen(rt: HostRuntime) -> Result<(), Fail> {
+    let alloc = rt.alloc();
+    for (picked, printed) in [(1, [1, 4096]), (0, [2, 4096])] {
+        let admitted = admitted(alloc, CHOICE)?;
+        let disk = Disk::new(alloc, admitted.program())?;
+        let report = run(&rt, alloc, admitted, disk, OfTwo(picked), OpenGate, 1000000)
+            .ok()
+            .ok_or("ends")?;
+        assert_eq!(rt;
+            prints(alloc, &report.history)?.as_slice(),
+            printed.as_slice()
+        );
     }
     Ok(())
 }

@@ -13,5 +13,5 @@ pub returns : goal.returns
 returns c =
     let rest : c.drop.new.self.0.items ≡ drop c.args.count c.self.inside.serials.items = search rules in
     let distinct = subst (λ (r : RequestRing). AreDistinct (data_of r.queued)) (sym c.self.view_is) c.requires.distinct in
-    handed_is _ _ _ _ c.self.inside.made c.args.count c.self.invariant distinct rest c.submit.ensures.after
+    handed_is _ _ _ _ c.self.inside.other c.self.inside.made c.args.count c.self.invariant distinct rest c.submit.ensures.after
     ∙ ap (λ (r : RequestRing). record r { queued = drop c.args.count r.queued }) c.self.view_is
