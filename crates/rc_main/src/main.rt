@@ -2,7 +2,7 @@
 #![tactic(auto)]
 
 ghost use Rattle.std.specs.Prelude.{◌≡◌, ◌≤◌, IfOk, []};
-ghost use Rattle.rc_command.specs.Commands.{kept_back};
+ghost use Rattle.rc_command.specs.Commands.{RunsWords, kept_back, put_out};
 
 use rc_command::command::{Written, command_over};
 use rc_command::departures::logs::Logs;
@@ -37,7 +37,8 @@ fn status_of<
     requires empty { kept_back output.old ≡ [] }
     requires writes { output.old.sink.failures ≡ 0 }
     requires told { (E.state errors.old).failures ≡ 0 }
-    ensures { result ≤ 3 }
+    ensures answer { RunsWords (T.gives texts.now) (T.opens texts.now) (I.remaining reader) (put_out O.contents) output.old output.new (E.state errors.old) output.new.sink.writer.is_closed (E.state errors.new) result }
+    ensures bound { result ≤ 3 }
 {
     let asked = read_words(host.alloc, words);
     command_over(host, texts, asked, reader, output, errors)
